@@ -1,0 +1,101 @@
+//! Numbers as arguments: which values are numbers, and which numbers fit where.
+ghost use Rattle.std.specs.Prelude.{◌≡◌, ◌↔◌, ℕ, Result, IsOk, FitsSigned};
+ghost use Rattle.std.specs.Int.{w64, saturate_signed};
+ghost use Rattle.pybuf_value.specs.declared.faults.Fault.{Fault};
+ghost use Rattle.pybuf_value.specs.Numbers.{number_of, fitted, byte_of, byte_in};
+
+use crate::faults::Fault;
+use crate::values::{Scalar, Value};
+
+/// The number of a whole number or of a truth value, which counts as 0 or 1.
+///
+/// Refused with `TypeError` for every other value.
+pub fn index_of(value: &Value) -> Result<i128, Fault>
+    ensures { result ≡ number_of value.now }
+{
+    match value {
+        Value::One(Scalar::Int(number)) => Ok(*number),
+        Value::One(Scalar::Bool(truth)) => { if *truth { Ok(1) } else { Ok(0) } }
+        _ => Err(Fault::Kind),
+    }
+}
+
+/// The number as an index, where it fits.
+///
+/// Refused with `IndexError` exactly outside `isize::MIN..=isize::MAX`.
+pub fn fit_index(number: i128) -> Result<isize, Fault>
+    ensures fits { IsOk result ↔ FitsSigned w64 number }
+    ensures exact { result ≡ fitted Fault.Index number }
+{
+    if number < isize::MIN as i128 {
+        return Err(Fault::Index);
+    }
+    if number > isize::MAX as i128 {
+        return Err(Fault::Index);
+    }
+    Ok(number as isize)
+}
+
+/// The number as a count, where it fits.
+///
+/// Refused with `OverflowError` exactly outside `isize::MIN..=isize::MAX`.
+pub fn fit_count(number: i128) -> Result<isize, Fault>
+    ensures fits { IsOk result ↔ FitsSigned w64 number }
+    ensures exact { result ≡ fitted Fault.Overflow number }
+{
+    if number < isize::MIN as i128 {
+        return Err(Fault::Overflow);
+    }
+    if number > isize::MAX as i128 {
+        return Err(Fault::Overflow);
+    }
+    Ok(number as isize)
+}
+
+/// The `isize` that is nearest to the number.
+pub fn saturate(number: i128) -> isize
+    ensures { result ≡ saturate_signed w64 number }
+{
+    if number < isize::MIN as i128 {
+        return isize::MIN;
+    }
+    if number > isize::MAX as i128 {
+        return isize::MAX;
+    }
+    number as isize
+}
+
+/// A number that stands for a byte.
+pub trait ByteOr {
+    ghost byte_gives: { Self → Result ℕ Fault };
+
+    /// The byte. Refused with `ValueError` exactly outside `0..256`.
+    fn byte_or(&self) -> Result<u8, Fault>
+        ensures { result ≡ byte_gives self.now };
+}
+
+impl ByteOr for i128 {
+    ghost byte_gives = { byte_of };
+
+    fn byte_or(&self) -> Result<u8, Fault> {
+        let number = *self;
+        if number < 0 {
+            return Err(Fault::Value);
+        }
+        if number > 255 {
+            return Err(Fault::Value);
+        }
+        Ok(number as u8)
+    }
+}
+
+/// The byte that a value stands for.
+///
+/// Refused with `TypeError` where the value is no number, and then with `ValueError` exactly
+/// outside `0..256`.
+pub fn value_from_object(value: &Value) -> Result<u8, Fault>
+    ensures { result ≡ byte_in value.now }
+{
+    let number = index_of(value)?;
+    number.byte_or()
+}

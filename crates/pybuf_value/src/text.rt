@@ -1,0 +1,84 @@
+//! Text, which contracts see as the list of its UTF-8 bytes.
+ghost use Rattle.std.specs.Prelude.{◌≡◌, ◌==◌, ◌++◌, List, [], ℕ, length, OnOk, OnErr, encode_utf8};
+ghost use Rattle.std.specs.String.{string_bytes};
+
+use crate::faults::Made;
+use crate::twin::Twin;
+use std::alloc::Global;
+use std::marker::Model;
+
+/// A text. A clause sees the list of its UTF-8 bytes.
+#[derive(Debug, Drop)]
+pub struct Text {
+    text: String,
+}
+
+impl Model for Text {
+    ghost Value = { List ℕ };
+
+    ghost view = { λ t. string_bytes t.text };
+}
+
+impl Text {
+    /// The empty text. Takes no memory.
+    pub fn new(alloc: Global) -> Text
+        ensures { result ≡ [] }
+    {
+        Text {
+            text: String::new(alloc),
+        }
+    }
+
+    /// The number of bytes.
+    pub fn len(&self) -> usize
+        ensures { result ≡ length self.now }
+    {
+        self.text.len()
+    }
+
+    /// Whether the text is empty.
+    pub fn is_empty(&self) -> bool
+        ensures { result ≡ (length self.now == 0) }
+    {
+        self.text.len() == 0
+    }
+
+    /// The UTF-8 bytes, lent.
+    pub fn as_slice(&self) -> &[u8]
+        ensures { result.now ≡ self.now }
+    {
+        self.text.as_bytes()
+    }
+
+    /// Adds a character at the end. Where memory runs out, the text is as before.
+    pub fn push(&mut self, c: char) -> Made<()>
+        ensures ok { OnOk result (self.new ≡ self.old ++ encode_utf8 c) }
+        ensures err { OnErr result (self.new ≡ self.old) }
+    {
+        self.text.push(c)?;
+        Ok(())
+    }
+
+    /// The same text. Takes no memory.
+    pub fn from_string(text: String) -> Text
+        ensures { result ≡ string_bytes text }
+    {
+        Text { text }
+    }
+
+    /// The same text. Takes no memory.
+    pub fn into_string(self) -> String
+        ensures { string_bytes result ≡ self }
+    {
+        let Text { text } = self;
+        text
+    }
+}
+
+impl Twin for Text {
+    fn copy(&self, alloc: Global) -> Made<Text> {
+        Ok(Text {
+            text: String::from_str(alloc, self.text.as_str())?,
+        })
+    }
+}
