@@ -1,0 +1,49 @@
+-- Items: which place a key names, what an item reads as, and which bytes a value is written as.
+use Rattle.std.specs.Prelude.{ℕ, ◌+◌, ◌-◌, suc, List, [], ◌∷◌, ℤ, pos, negsuc, Bool, true, false, Result, Ok, Err, nat_lt, nat_le, slice_index, if◌then◌else◌}
+use Rattle.pybuf_value.specs.declared.faults.Fault.{Fault}
+use Rattle.pybuf_value.specs.declared.faults.Fault.TheVariants as fault
+use Rattle.pybuf_value.specs.declared.values.Scalar.{Scalar}
+use Rattle.pybuf_value.specs.declared.values.Scalar.TheVariants as scalar
+use Rattle.pybuf_value.specs.declared.values.Item.{Item}
+use Rattle.pybuf_value.specs.declared.values.Item.TheVariants as item
+use Rattle.pybuf_value.specs.declared.values.Value.{Value}
+use Rattle.pybuf_value.specs.declared.values.Value.TheVariants as value
+use Rattle.pybuf_value.specs.Refusing.{◌>>=◌, unless}
+use Rattle.pybuf_value.specs.Numbers.{number_of, fitted, byte_in}
+
+-- the number of a key, which must fit a word
+abbrev pub index_in : Value → Result ℤ Fault
+index_in key = do
+  n ← number_of key
+  fitted fault.Index n
+
+-- the place among so many that an index names: a negative one counts from the end
+abbrev pub place_in : ℕ → ℤ → Result ℕ Fault
+place_in len (pos n) = if nat_lt n len then Ok n else Err fault.Index
+place_in len (negsuc n) = if nat_lt n len then Ok (len - suc n) else Err fault.Index
+
+-- a byte as an item
+abbrev pub byte_item : ℕ → Item
+byte_item b = item.One (scalar.Int (pos b))
+
+-- what an item's bytes read as: an item of the format B is its one byte
+abbrev pub item_of : List ℕ → Item
+item_of bytes = byte_item (slice_index bytes 0)
+
+abbrev pub is_none : Value → Bool
+is_none (value.One scalar.None) = true
+is_none _ = false
+
+-- the byte that an item of the format B is written as: whatever is no such byte is a wrong kind
+abbrev pub kind_fault : Result ℕ Fault → Result ℕ Fault
+kind_fault (Ok b) = Ok b
+kind_fault (Err f) = Err fault.Kind
+
+abbrev pub byte_for_item : Value → Result ℕ Fault
+byte_for_item v = kind_fault (byte_in v)
+
+-- a number, or a truth value
+abbrev pub is_number : Value → Bool
+is_number (value.One (scalar.Int n)) = true
+is_number (value.One (scalar.Bool b)) = true
+is_number _ = false

@@ -1,0 +1,30 @@
+-- `set`: the item at a key is written, and nothing else.
+use Rattle.std.specs.Prelude.{ℕ, [], ◌∷◌, length, slice_index, Result, Ok}
+use Rattle.pybuf_value.specs.declared.faults.Fault.{Fault}
+use Rattle.pybuf_value.specs.declared.faults.Fault.TheVariants as fault
+use Rattle.pybuf_value.specs.declared.values.Value.{Value}
+use Rattle.pybuf_value.specs.Refusing.{◌>>=◌, unless}
+use Rattle.pybuf_view.specs.declared.commands.LocalReply.{LocalReply}
+use Rattle.pybuf_view.specs.declared.commands.LocalReply.TheVariants as reply
+use Rattle.pybuf_value.specs.Numbers.{byte_in}
+use Rattle.pybuf_view.specs.Exporter.{Exporter, live_view, laid}
+use Rattle.pybuf_view.specs.Items.{index_in, place_in, is_none, byte_for_item}
+
+-- in a bytearray: the byte
+abbrev pub set_of_own : Exporter → Value → Value → Result (Exporter × LocalReply) Fault
+set_of_own e key value = do
+  index ← index_in key
+  byte ← byte_in value
+  place ← place_in (length e.bytes) index
+  Ok (record e { bytes = laid e.bytes place (byte ∷ []) }, reply.Ok)
+
+-- through a view: the item's bytes, at its place in the exporter
+abbrev pub set_of_view : Exporter → ℕ → Value → Value → Result (Exporter × LocalReply) Fault
+set_of_view e k key value = do
+  v ← live_view e k
+  _ ← unless v.readonly fault.Kind
+  _ ← unless (is_none value) fault.Kind
+  index ← index_in key
+  place ← place_in (length v.starts) index
+  byte ← byte_for_item value
+  Ok (record e { bytes = laid e.bytes (slice_index v.starts place) (byte ∷ []) }, reply.Ok)

@@ -1,0 +1,90 @@
+-- Worlds: exporters, and the handles that name them and their views.
+use Rattle.std.specs.Prelude.{ℕ, zero, suc, List, [], ◌∷◌, ◌++◌, length, set, slice_get, Option, Some, None, Result, Ok, Err}
+use Rattle.pybuf_value.specs.declared.faults.Fault.{Fault}
+use Rattle.pybuf_value.specs.declared.faults.Fault.TheVariants as fault
+use Rattle.pybuf_value.specs.declared.values.Scalar.{Scalar}
+use Rattle.pybuf_value.specs.declared.values.Scalar.TheVariants as scalar
+use Rattle.pybuf_value.specs.declared.values.Value.{Value}
+use Rattle.pybuf_value.specs.declared.values.Value.TheVariants as value
+use Rattle.pybuf_value.specs.Refusing.{◌>>=◌}
+use Rattle.pybuf_view.specs.declared.kinds.ExporterKind.{ExporterKind}
+use Rattle.pybuf_view.specs.declared.kinds.ExporterKind.TheVariants as kind
+use Rattle.pybuf_view.specs.declared.kinds.Subject.{Subject}
+use Rattle.pybuf_view.specs.declared.kinds.Subject.TheVariants as subject
+use Rattle.pybuf_view.specs.declared.named.Named.{Named}
+use Rattle.pybuf_view.specs.declared.named.Named.TheVariants as named
+use Rattle.pybuf_view.specs.declared.commands.ByteInnerNewOptions.{ByteInnerNewOptions}
+use Rattle.pybuf_view.specs.declared.commands.Verb.{Verb}
+use Rattle.pybuf_view.specs.declared.commands.LocalReply.{LocalReply}
+use Rattle.pybuf_view.specs.declared.commands.LocalReply.TheVariants as local
+use Rattle.pybuf_view.specs.declared.commands.Command.{Command}
+use Rattle.pybuf_view.specs.declared.commands.Command.TheVariants as command
+use Rattle.pybuf_view.specs.declared.commands.Reply.{Reply}
+use Rattle.pybuf_view.specs.declared.commands.Reply.TheVariants as reply
+use Rattle.pybuf_view.specs.Exporter.{Exporter}
+use Rattle.pybuf_view.specs.Step.{estep}
+
+pub record World : Type 0 where
+  pub exporters : List Exporter
+  pub handles : List Named
+
+abbrev pub empty_world : World
+empty_world = record { exporters = []; handles = [] }
+
+-- an exporter of these bytes, with no view
+abbrev pub new_exporter : ExporterKind → List ℕ → Exporter
+new_exporter k bytes = record { kind = k; bytes = bytes; views = [] }
+
+-- the bytes that a new exporter is made of; a spelling that is not built is an unknown name
+abbrev pub bytes_from : ExporterKind → Option Value → Option Value → Option Value → Result (List ℕ) Fault
+bytes_from kind.ByteArray (Some (value.One (scalar.Bytes bytes))) None None = Ok bytes
+bytes_from _ _ _ _ = Err fault.UnknownName
+
+abbrev pub world_with_new : World → ExporterKind → Result (List ℕ) Fault → World × Reply
+world_with_new w k (Ok bytes) = (
+  record {
+    exporters = w.exporters ++ new_exporter k bytes ∷ [];
+    handles = w.handles ++ named.Exporter (length w.exporters) ∷ [];
+  },
+  reply.Handle (length w.handles),
+)
+world_with_new w k (Err f) = (w, reply.Refused f)
+
+-- the world with an exporter as it is after a command, and the reply, where a new view has a handle
+abbrev pub world_after : World → ℕ → Exporter × LocalReply → World × Reply
+world_after w i (e, local.View k) = (
+  record {
+    exporters = set w.exporters i e;
+    handles = w.handles ++ named.View i k ∷ [];
+  },
+  reply.Handle (length w.handles),
+)
+world_after w i (e, local.Ok) = (record w { exporters = set w.exporters i e }, reply.Ok)
+world_after w i (e, local.Item x) = (record w { exporters = set w.exporters i e }, reply.Item x)
+world_after w i (e, local.Bytes bytes) = (record w { exporters = set w.exporters i e }, reply.Bytes bytes)
+world_after w i (e, local.Refused f) = (w, reply.Refused f)
+
+abbrev pub step_of_exporter : World → ℕ → Subject → Verb → Option Exporter → World × Reply
+step_of_exporter w i s v (Some e) = world_after w i (estep e s v)
+step_of_exporter w i s v None = (w, reply.Refused fault.UnknownName)
+
+-- a command on what a handle names, where it was given
+abbrev pub step_of_name : World → Verb → Option Named → World × Reply
+step_of_name w v (Some (named.Exporter i)) = step_of_exporter w i subject.Own v (slice_get w.exporters i)
+step_of_name w v (Some (named.View i k)) = step_of_exporter w i (subject.View k) v (slice_get w.exporters i)
+step_of_name w v None = (w, reply.Refused fault.UnknownName)
+
+-- the world after a command, and its reply
+abbrev pub wstep : World → Command → World × Reply
+wstep w (command.New k options) = world_with_new w k (bytes_from k options.source options.encoding options.errors)
+wstep w (command.Do handle v) = step_of_name w v (slice_get w.handles handle)
+
+-- the world after a list of commands
+abbrev pub world_of : World → List Command → World
+world_of w [] = w
+world_of w (c ∷ cs) = world_of (wstep w c).0 cs
+
+-- the replies to a list of commands, in order
+abbrev pub replies_of : World → List Command → List Reply
+replies_of w [] = []
+replies_of w (c ∷ cs) = (wstep w c).1 ∷ replies_of (wstep w c).0 cs

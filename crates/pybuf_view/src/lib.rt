@@ -1,0 +1,12 @@
+//! Exporters of bytes, the views of them, and worlds of both.
+#![tactic(auto)]
+
+mod commands;
+mod kinds;
+mod named;
+
+pub use commands::{
+    ByteInnerNewOptions, Command, LocalCommand, LocalReply, Reply, ReplyList, Verb,
+};
+pub use kinds::{ExporterKind, Subject};
+pub use named::Named;
