@@ -34,18 +34,21 @@ holds_readonly kind.Bytes = true
 holds_readonly kind.ByteArray = false
 holds_readonly (kind.Vector readonly) = readonly
 
--- the view of all bytes: format B, one dimension
-abbrev pub whole_view : Exporter → View
-whole_view e = record {
-  made_at = length e.bytes;
+-- the view of all of so many bytes: format B, one dimension
+abbrev pub whole_of : ExporterKind → ℕ → View
+whole_of k n = record {
+  made_at = n;
   format = 66 ∷ [];
   itemsize = 1;
-  shape = length e.bytes ∷ [];
-  starts = range_with_len 0 (length e.bytes);
+  shape = n ∷ [];
+  starts = range_with_len 0 n;
   strides = pos 1 ∷ [];
-  readonly = holds_readonly e.kind;
-  released = false;
+  readonly = holds_readonly k;
+  released = false
 }
+
+abbrev pub whole_view : Exporter → View
+whole_view e = whole_of e.kind (length e.bytes)
 
 -- the bytes of the item at a place
 abbrev pub bytes_at : List ℕ → ℕ → ℕ → List ℕ

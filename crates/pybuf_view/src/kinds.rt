@@ -21,3 +21,19 @@ pub enum Subject {
     /// The iterator of this number.
     Iter(usize),
 }
+
+impl ExporterKind {
+    ghost use Rattle.std.specs.Prelude.{◌≡◌};
+    ghost use Rattle.pybuf_view.specs.Exporter.{holds_readonly};
+
+    /// Whether the bytes are never written: those of `bytes` and of read-only vectors.
+    pub fn is_readonly(self) -> bool
+        ensures { result ≡ holds_readonly self }
+    {
+        match self {
+            ExporterKind::Bytes => true,
+            ExporterKind::ByteArray => false,
+            ExporterKind::Vector { readonly } => readonly,
+        }
+    }
+}

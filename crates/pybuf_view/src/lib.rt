@@ -2,8 +2,12 @@
 #![tactic(auto)]
 
 mod commands;
+mod halt;
+mod handles;
+mod items;
 mod kinds;
 mod named;
+mod stored;
 
 pub use commands::{
     ByteInnerNewOptions, Command, LocalCommand, LocalReply, Reply, ReplyList, Verb,

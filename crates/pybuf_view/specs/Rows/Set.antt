@@ -18,13 +18,18 @@ set_of_own e key value = do
   place ← place_in (length e.bytes) index
   Ok (record e { bytes = laid e.bytes place (byte ∷ []) }, reply.Ok)
 
--- through a view: the item's bytes, at its place in the exporter
-abbrev pub set_of_view : Exporter → ℕ → Value → Value → Result (Exporter × LocalReply) Fault
-set_of_view e k key value = do
+-- through a view: the place in the exporter and the byte to write there
+abbrev pub set_target : Exporter → ℕ → Value → Value → Result (ℕ × ℕ) Fault
+set_target e k key value = do
   v ← live_view e k
   _ ← unless v.readonly fault.Kind
   _ ← unless (is_none value) fault.Kind
   index ← index_in key
-  place ← place_in (length v.starts) index
+  item ← place_in (length v.starts) index
   byte ← byte_for_item value
-  Ok (record e { bytes = laid e.bytes (slice_index v.starts place) (byte ∷ []) }, reply.Ok)
+  Ok (slice_index v.starts item, byte)
+
+abbrev pub set_of_view : Exporter → ℕ → Value → Value → Result (Exporter × LocalReply) Fault
+set_of_view e k key value = do
+  target ← set_target e k key value
+  Ok (record e { bytes = laid e.bytes target.0 (target.1 ∷ []) }, reply.Ok)

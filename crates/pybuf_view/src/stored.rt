@@ -1,0 +1,174 @@
+//! A view as it is kept: with the list of its places.
+ghost use Rattle.std.specs.Prelude.{◌≡◌, ◌<◌, [], ◌∷◌, true, length, slice_index, IfOk};
+ghost use Rattle.std.specs.List.{range_with_len};
+
+use crate::kinds::ExporterKind;
+use pybuf_value::{CountList, Made, NumberList, Text, Twin};
+use std::alloc::Global;
+use std::marker::Model;
+
+/// A view of an exporter. A clause sees the whole view record, whatever is kept of it.
+#[derive(Debug, Drop)]
+pub struct StoredView {
+    made_at: usize,
+    format: Text,
+    itemsize: usize,
+    shape: CountList,
+    starts: CountList,
+    strides: NumberList,
+    readonly: bool,
+    released: bool,
+}
+
+impl Model for StoredView {
+    ghost use Rattle.pybuf_view.specs.Exporter.{View};
+
+    ghost Value = { View };
+
+    ghost view = { λ v. record {
+        made_at = v.made_at;
+        format = v.format;
+        itemsize = v.itemsize;
+        shape = v.shape;
+        starts = v.starts;
+        strides = v.strides;
+        readonly = v.readonly;
+        released = v.released
+    } };
+}
+
+fn one_count(alloc: Global, count: usize) -> Made<CountList>
+    ensures { IfOk result (λ list. list ≡ count ∷ []) }
+{
+    let mut list = CountList::new(alloc);
+    list.push(count)?;
+    Ok(list)
+}
+
+fn one_number(alloc: Global, number: i128) -> Made<NumberList>
+    ensures { IfOk result (λ list. list ≡ number ∷ []) }
+{
+    let mut list = NumberList::new(alloc);
+    list.push(number)?;
+    Ok(list)
+}
+
+fn format_of_bytes(alloc: Global) -> Made<Text>
+    ensures { IfOk result (λ text. text ≡ 66 ∷ []) }
+{
+    let mut text = Text::new(alloc);
+    text.push('B')?;
+    Ok(text)
+}
+
+/// The places `0..len`.
+#[tactic(auto, using(crate::proofs::Places::range_more))]
+fn places(alloc: Global, len: usize) -> Made<CountList>
+    ensures { IfOk result (λ list. list ≡ range_with_len 0 len) }
+{
+    let mut places = Vec::with_capacity(alloc, len)?;
+    for place in 0..len {
+        places.push(place)?;
+    }
+    Ok(CountList::from_vec(places))
+}
+
+impl StoredView {
+    ghost use Rattle.pybuf_view.specs.Exporter.{whole_of};
+
+    /// The view of all of `len` bytes of an exporter.
+    pub fn whole(alloc: Global, kind: ExporterKind, len: usize) -> Made<StoredView>
+        ensures { IfOk result (λ v. v ≡ whole_of kind len) }
+    {
+        let format = format_of_bytes(alloc)?;
+        let shape = one_count(alloc, len)?;
+        let starts = places(alloc, len)?;
+        let strides = one_number(alloc, 1)?;
+        Ok(StoredView {
+            made_at: len,
+            format,
+            itemsize: 1,
+            shape,
+            starts,
+            strides,
+            readonly: kind.is_readonly(),
+            released: false,
+        })
+    }
+
+    /// An equal view that is made now, at this length of the exporter.
+    pub fn again(&self, alloc: Global, made_at: usize) -> Made<StoredView>
+        ensures { IfOk result (λ v. v ≡ record self.now { made_at = made_at }) }
+    {
+        let format = self.format.copy(alloc)?;
+        let shape = self.shape.copy(alloc)?;
+        let starts = self.starts.copy(alloc)?;
+        let strides = self.strides.copy(alloc)?;
+        Ok(StoredView {
+            made_at,
+            format,
+            itemsize: self.itemsize,
+            shape,
+            starts,
+            strides,
+            readonly: self.readonly,
+            released: self.released,
+        })
+    }
+
+    /// The number of items.
+    pub fn items(&self) -> usize
+        ensures { result ≡ length self.now.starts }
+    {
+        self.starts.len()
+    }
+
+    /// The first place of an item.
+    pub fn place(&self, item: usize) -> usize
+        requires { item < length self.now.starts }
+        ensures { result ≡ slice_index self.now.starts item }
+    {
+        self.starts.as_slice()[item]
+    }
+
+    /// The first places of the items, in order.
+    pub fn starts(&self) -> &[usize]
+        ensures { result.now ≡ self.now.starts }
+    {
+        self.starts.as_slice()
+    }
+
+    /// The number of bytes of an item.
+    pub fn itemsize(&self) -> usize
+        ensures { result ≡ self.now.itemsize }
+    {
+        self.itemsize
+    }
+
+    /// Whether the view may only be read.
+    pub fn is_readonly(&self) -> bool
+        ensures { result ≡ self.now.readonly }
+    {
+        self.readonly
+    }
+
+    /// Whether the view was released.
+    pub fn is_released(&self) -> bool
+        ensures { result ≡ self.now.released }
+    {
+        self.released
+    }
+
+    /// Releases the view, and changes nothing else of it.
+    pub fn release(&mut self)
+        ensures { self.new ≡ record self.old { released = true } }
+    {
+        self.released = true;
+    }
+}
+
+impl Twin for StoredView {
+    fn copy(&self, alloc: Global) -> Made<StoredView> {
+        self.again(alloc, self.made_at)
+    }
+}
