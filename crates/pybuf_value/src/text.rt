@@ -1,5 +1,5 @@
 //! Text, which contracts see as the list of its UTF-8 bytes.
-ghost use Rattle.std.specs.Prelude.{◌≡◌, ◌==◌, ◌++◌, List, [], ℕ, length, OnOk, OnErr, encode_utf8};
+ghost use Rattle.std.specs.Prelude.{◌≡◌, ◌==◌, ◌<◌, ◌^◌, ◌++◌, List, [], ℕ, length, OnOk, OnErr, encode_utf8};
 ghost use Rattle.std.specs.String.{string_bytes};
 
 use crate::faults::Made;
@@ -29,9 +29,10 @@ impl Text {
         }
     }
 
-    /// The number of bytes.
+    /// The number of bytes, at most `isize::MAX`.
     pub fn len(&self) -> usize
-        ensures { result ≡ length self.now }
+        ensures value { result ≡ length self.now }
+        ensures small { result < 2 ^ 63 }
     {
         self.text.len()
     }

@@ -54,9 +54,13 @@ whole_view e = whole_of e.kind (length e.bytes)
 abbrev pub bytes_at : List ℕ → ℕ → ℕ → List ℕ
 bytes_at bytes size start = take size (drop start bytes)
 
+-- the bytes of the items at places, in order
+abbrev pub bytes_of_items : List ℕ → ℕ → List ℕ → List ℕ
+bytes_of_items bytes size starts = flat_map (λ start. bytes_at bytes size start) starts
+
 -- the bytes of a view's items, in order
 abbrev pub content : List ℕ → View → List ℕ
-content bytes v = flat_map (λ start. bytes_at bytes v.itemsize start) v.starts
+content bytes v = bytes_of_items bytes v.itemsize v.starts
 
 -- the bytes with a piece laid over those from a place on
 abbrev pub laid : List ℕ → ℕ → List ℕ → List ℕ

@@ -5,3 +5,4 @@ pub mod Rows
 pub mod Step
 pub mod World
 pub mod Sound
+pub mod Answers

@@ -7,6 +7,8 @@ mod handles;
 mod items;
 mod kinds;
 mod named;
+mod parts;
+mod rows;
 mod stored;
 
 pub use commands::{

@@ -1,5 +1,5 @@
 //! A view as it is kept: with the list of its places.
-ghost use Rattle.std.specs.Prelude.{◌≡◌, ◌<◌, [], ◌∷◌, true, length, slice_index, IfOk};
+ghost use Rattle.std.specs.Prelude.{◌≡◌, ◌<◌, ◌^◌, [], ◌∷◌, true, length, slice_index, IfOk};
 ghost use Rattle.std.specs.List.{range_with_len};
 
 use crate::kinds::ExporterKind;
@@ -118,7 +118,8 @@ impl StoredView {
 
     /// The number of items.
     pub fn items(&self) -> usize
-        ensures { result ≡ length self.now.starts }
+        ensures value { result ≡ length self.now.starts }
+        ensures small { result < 2 ^ 63 }
     {
         self.starts.len()
     }

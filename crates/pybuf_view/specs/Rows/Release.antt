@@ -12,7 +12,12 @@ use Rattle.pybuf_view.specs.Exporter.{Exporter, View, view_at}
 abbrev pub released_at : Exporter → ℕ → View → Exporter
 released_at e k v = record e { views = set e.views k (record v { released = true }) }
 
+abbrev pub released_in : Exporter → ℕ → Result Exporter Fault
+released_in e k = do
+  v ← view_at e k
+  Ok (released_at e k v)
+
 abbrev pub release_of_view : Exporter → ℕ → Result (Exporter × LocalReply) Fault
 release_of_view e k = do
-  v ← view_at e k
-  Ok (released_at e k v, reply.Ok)
+  after ← released_in e k
+  Ok (after, reply.Ok)

@@ -6,14 +6,19 @@ use Rattle.pybuf_value.specs.declared.values.Value.{Value}
 use Rattle.pybuf_value.specs.Refusing.{◌>>=◌, unless}
 use Rattle.pybuf_view.specs.declared.commands.LocalReply.{LocalReply}
 use Rattle.pybuf_view.specs.declared.commands.LocalReply.TheVariants as reply
-use Rattle.pybuf_view.specs.Exporter.{Exporter, whole_view, live_view, with_view}
+use Rattle.pybuf_view.specs.Exporter.{Exporter, View, whole_view, live_view, with_view}
 
 -- of an exporter: the view of all its bytes
 abbrev pub view_of_own : Exporter → Result (Exporter × LocalReply) Fault
 view_of_own e = Ok (with_view e (whole_view e), reply.View (length e.views))
 
--- of a view: a view equal to it
+-- of a view: a view equal to it, made now
+abbrev pub view_again : Exporter → ℕ → Result View Fault
+view_again e k = do
+  v ← live_view e k
+  Ok (record v { made_at = length e.bytes })
+
 abbrev pub view_of_view : Exporter → ℕ → Result (Exporter × LocalReply) Fault
 view_of_view e k = do
-  v ← live_view e k
-  Ok (with_view e (record v { made_at = length e.bytes }), reply.View (length e.views))
+  v ← view_again e k
+  Ok (with_view e v, reply.View (length e.views))
