@@ -250,3 +250,14 @@ settled_sound e (Err f) sound sound_after = sound
 -- a command keeps an exporter sound
 pub estep_sound : (e : Exporter) (s : Subject) (v : Verb) → IsSoundExporter e → IsSoundExporter (estep e s v).0
 estep_sound e s v sound = settled_sound e (answered e s v) sound (answered_sound e s v sound)
+
+pub answered_is_sound : (old new : Exporter) (s : Subject) (v : Verb) (r : LocalReply) → IsSoundExporter old → answered old s v ≡ Ok (new, r) → IsSoundExporter new
+answered_is_sound old new s v r sound is =
+    done (λ (after : Exporter × LocalReply). IsSoundExporter after.0) (answered old s v) (new, r) (answered_sound old s v sound) is
+
+released_in_done : (e : Exporter) (k : ℕ) → IsSoundExporter e → IfDone IsSoundExporter (released_in e k)
+released_in_done e k sound =
+    done_bind IsSoundExporter (view_at e k) _ (λ v found. released_sound e k v sound (view_at_given e k v found))
+
+pub released_is_sound : (old new : Exporter) (k : ℕ) → IsSoundExporter old → released_in old k ≡ Ok new → IsSoundExporter new
+released_is_sound old new k sound is = done IsSoundExporter (released_in old k) new (released_in_done old k sound) is

@@ -6,3 +6,4 @@ pub mod Step
 pub mod World
 pub mod Sound
 pub mod Answers
+pub mod Tables

@@ -1,9 +1,10 @@
 -- What holds of every exporter and of every world.
-use Rattle.std.specs.Prelude.{◌≡◌, ℕ, ◌+◌, ◌≤◌, List, take, length, false}
+use Rattle.std.specs.Prelude.{◌≡◌, ℕ, ◌+◌, ◌≤◌, ◌<◌, ◌++◌, List, take, length, false}
 use Rattle.std.specs.List.{All}
 use Rattle.pybuf_view.specs.Exporter.{Exporter, View}
-use Rattle.pybuf_view.specs.World.{World, world_of}
+use Rattle.pybuf_view.specs.World.{World, world_of, replies_of}
 use Rattle.pybuf_view.specs.declared.commands.Command.{Command}
+use Rattle.pybuf_view.specs.declared.commands.Reply.{Reply}
 
 -- Each byte of each item of the view lies inside the exporter, and the exporter is as long as when
 -- the view was made.
@@ -25,3 +26,8 @@ pub record IsSoundWorld (w : World) : Type 0 where
 -- the world is sound after each command of the list
 abbrev pub StaysSound : World → List Command → Type 0
 StaysSound w commands = (k : ℕ) → IsSoundWorld (world_of w (take k commands))
+
+-- a run that stopped before its end: world and replies are those of the first k commands
+abbrev pub StopsAt : World → List Command → World → List Reply → List Reply → Type 0
+StopsAt old commands new replies_before replies =
+    (k : ℕ) × (k < length commands) × (new ≡ world_of old (take k commands)) × (replies ≡ replies_before ++ replies_of old (take k commands))

@@ -23,6 +23,7 @@ use Rattle.pybuf_view.specs.declared.commands.Reply.{Reply}
 use Rattle.pybuf_view.specs.declared.commands.Reply.TheVariants as reply
 use Rattle.pybuf_view.specs.Exporter.{Exporter}
 use Rattle.pybuf_view.specs.Step.{estep}
+use Rattle.pybuf_view.specs.Rows.Release.{released_in}
 
 pub record World : Type 0 where
   pub exporters : List Exporter
@@ -50,7 +51,7 @@ world_with_new w k (Ok bytes) = (
 )
 world_with_new w k (Err f) = (w, reply.Refused f)
 
--- the world with an exporter as it is after a command, and the reply, where a new view has a handle
+-- The world with an exporter as it is after a command, and the reply: a new view is given a handle.
 abbrev pub world_after : World → ℕ → Exporter × LocalReply → World × Reply
 world_after w i (e, local.View k) = (
   record {
@@ -62,7 +63,7 @@ world_after w i (e, local.View k) = (
 world_after w i (e, local.Ok) = (record w { exporters = set w.exporters i e }, reply.Ok)
 world_after w i (e, local.Item x) = (record w { exporters = set w.exporters i e }, reply.Item x)
 world_after w i (e, local.Bytes bytes) = (record w { exporters = set w.exporters i e }, reply.Bytes bytes)
-world_after w i (e, local.Refused f) = (w, reply.Refused f)
+world_after w i (e, local.Refused f) = (record w { exporters = set w.exporters i e }, reply.Refused f)
 
 abbrev pub step_of_exporter : World → ℕ → Subject → Verb → Option Exporter → World × Reply
 step_of_exporter w i s v (Some e) = world_after w i (estep e s v)
@@ -88,3 +89,21 @@ world_of w (c ∷ cs) = world_of (wstep w c).0 cs
 abbrev pub replies_of : World → List Command → List Reply
 replies_of w [] = []
 replies_of w (c ∷ cs) = (wstep w c).1 ∷ replies_of (wstep w c).0 cs
+
+-- the world with a view of an exporter released
+abbrev pub world_released : World → ℕ → Result Exporter Fault → Result World Fault
+world_released w i (Ok e) = Ok (record w { exporters = set w.exporters i e })
+world_released w i (Err f) = Err f
+
+abbrev pub released_in_exporter : World → ℕ → ℕ → Option Exporter → Result World Fault
+released_in_exporter w i k (Some e) = world_released w i (released_in e k)
+released_in_exporter w i k None = Err fault.UnknownName
+
+abbrev pub released_name : World → Option Named → Result World Fault
+released_name w (Some (named.View i k)) = released_in_exporter w i k (slice_get w.exporters i)
+released_name w (Some (named.Exporter i)) = Err fault.UnknownName
+released_name w None = Err fault.UnknownName
+
+-- the world with the view that a handle names released, where it names one
+abbrev pub released_by : World → ℕ → Result World Fault
+released_by w handle = released_name w (slice_get w.handles handle)

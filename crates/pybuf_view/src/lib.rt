@@ -2,6 +2,7 @@
 #![tactic(auto)]
 
 mod commands;
+mod exporter;
 mod halt;
 mod handles;
 mod items;
@@ -10,9 +11,13 @@ mod named;
 mod parts;
 mod rows;
 mod stored;
+mod tables;
+//mod world;
 
 pub use commands::{
     ByteInnerNewOptions, Command, LocalCommand, LocalReply, Reply, ReplyList, Verb,
 };
+pub use exporter::ExporterState;
 pub use kinds::{ExporterKind, Subject};
 pub use named::Named;
+//pub use world::World;

@@ -9,8 +9,7 @@ use crate::halt::Halt;
 use crate::parts::Parts;
 use pybuf_value::Fault;
 
-/// Releases a view that was given. The second time changes nothing.
-pub fn release(parts: &mut Parts, view: usize) -> Result<(), Fault>
+fn mark_released(parts: &mut Parts, view: usize) -> Result<(), Fault>
     requires { IsWhole parts.old }
     ensures exact { MatchResult result (λ _. released_in (seen parts.old) view ≡ Ok (seen parts.new)) (λ f. released_in (seen parts.old) view ≡ Err f) }
     ensures err { OnErr result (seen parts.new ≡ seen parts.old) }
@@ -25,6 +24,19 @@ pub fn release(parts: &mut Parts, view: usize) -> Result<(), Fault>
         parts.exports -= 1;
     }
     Ok(())
+}
+
+/// Releases a view that was given. The second time changes nothing.
+pub fn release(parts: &mut Parts, view: usize) -> Result<(), Fault>
+    requires { IsWhole parts.old }
+    ensures exact { MatchResult result (λ _. released_in (seen parts.old) view ≡ Ok (seen parts.new)) (λ f. released_in (seen parts.old) view ≡ Err f) }
+    ensures err { OnErr result (seen parts.new ≡ seen parts.old) }
+    ensures whole { IsWhole parts.new }
+{
+    match mark_released(parts, view) {
+        Ok(()) => Ok(()),
+        Err(fault) => Err(fault),
+    }
 }
 
 /// Releases a view that was given.

@@ -1,0 +1,115 @@
+//! What is kept of a world, and the work on it.
+ghost use Rattle.std.specs.Prelude.{◌≡◌, ◌++◌, [], ◌∷◌, slice_get, length, take, IfOk, OnOk, OnErr, MatchResult};
+ghost use Rattle.pybuf_view.specs.World.{bytes_from};
+
+use crate::commands::{ByteInnerNewOptions, Command, LocalReply, Reply, ReplyList, Verb};
+use crate::exporter::ExporterState;
+use crate::kinds::{ExporterKind, Subject};
+use crate::named::Named;
+use pybuf_value::{ByteList, Fault, Made, NoMemory, Scalar, Twin, Value, push_reserved};
+use std::alloc::Global;
+use std::mem;
+
+/// The exporters and the handles of a world.
+#[derive(Debug, Drop)]
+pub struct Tables {
+    pub exporters: Vec<ExporterState>,
+    pub handles: Vec<Named>,
+    pub alloc: Global,
+}
+
+/// The bytes that a new exporter is made of.
+fn bytes_from(alloc: Global, kind: ExporterKind, options: &ByteInnerNewOptions) -> Made<Result<ByteList, Fault>>
+    ensures { IfOk result (λ r. r ≡ bytes_from kind options.now.source options.now.encoding options.now.errors) }
+{
+    match (kind, &options.source, &options.encoding, &options.errors) {
+        (ExporterKind::ByteArray, Some(Value::One(Scalar::Bytes(bytes))), None, None) => {
+            let bytes = bytes.copy(alloc)?;
+            Ok(Ok(bytes))
+        }
+        _ => Ok(Err(Fault::UnknownName)),
+    }
+}
+
+impl Tables {
+    ghost use Rattle.pybuf_view.specs.Tables.{listed};
+    ghost use Rattle.pybuf_view.specs.World as spec;
+    ghost use Rattle.pybuf_view.specs.Sound.{IsSoundWorld, StopsAt};
+
+    /// Nothing. Takes no memory.
+    pub fn new(alloc: Global) -> Tables
+        ensures { listed result ≡ spec.empty_world }
+    {
+        Tables {
+            exporters: Vec::new(alloc),
+            handles: Vec::new(alloc),
+            alloc,
+        }
+    }
+
+    /// A new exporter and its handle.
+    fn make(&mut self, kind: ExporterKind, options: &ByteInnerNewOptions) -> Made<Reply>
+        ensures ok { IfOk result (λ r. spec.world_with_new (listed self.old) kind (spec.bytes_from kind options.now.source options.now.encoding options.now.errors) ≡ (listed self.new, r)) }
+        ensures err { OnErr result (listed self.new ≡ listed self.old) }
+    {
+        match bytes_from(self.alloc, kind, options)? {
+            Ok(bytes) => {
+                let handle = self.handles.len() as u64;
+                let number = self.exporters.len();
+                self.handles.reserve(1)?;
+                self.exporters
+                    .push(ExporterState::new(self.alloc, kind, bytes))?;
+                push_reserved(&mut self.handles, Named::Exporter(number));
+                Ok(Reply::Handle(handle))
+            }
+            Err(fault) => Ok(Reply::Refused(fault)),
+        }
+    }
+
+    /// What an exporter that was given does; a new view is given a handle.
+    fn work(&mut self, exporter: usize, subject: Subject, verb: &Verb) -> Made<Reply>
+        ensures ok { IfOk result (λ r. spec.step_of_exporter (listed self.old) exporter subject verb.now (slice_get (listed self.old).exporters exporter) ≡ (listed self.new, r)) }
+        ensures err { OnErr result (listed self.new ≡ listed self.old) }
+    {
+        if exporter >= self.exporters.len() {
+            return Ok(Reply::Refused(Fault::UnknownName));
+        }
+        self.handles.reserve(1)?;
+        let worker = &mut self.exporters[exporter];
+        match worker.carry_out(subject, verb)? {
+            LocalReply::Ok => Ok(Reply::Ok),
+            LocalReply::View(view) => {
+                let handle = self.handles.len() as u64;
+                push_reserved(&mut self.handles, Named::View { exporter, view });
+                Ok(Reply::Handle(handle))
+            }
+            LocalReply::Item(item) => Ok(Reply::Item(item)),
+            LocalReply::Bytes(bytes) => Ok(Reply::Bytes(bytes)),
+            LocalReply::Refused(fault) => Ok(Reply::Refused(fault)),
+        }
+    }
+
+    /// A command on what a handle names.
+    fn ask(&mut self, handle: u64, verb: &Verb) -> Made<Reply>
+        ensures ok { IfOk result (λ r. spec.step_of_name (listed self.old) verb.now (slice_get (listed self.old).handles handle) ≡ (listed self.new, r)) }
+        ensures err { OnErr result (listed self.new ≡ listed self.old) }
+    {
+        let named = self.handles.get(handle as usize).copied();
+        match named {
+            Some(Named::Exporter(exporter)) => self.work(exporter, Subject::Own, verb),
+            Some(Named::View { exporter, view }) => self.work(exporter, Subject::View(view), verb),
+            None => Ok(Reply::Refused(Fault::UnknownName)),
+        }
+    }
+
+    /// Carries out a command.
+    pub fn step(&mut self, command: &Command) -> Made<Reply>
+        ensures ok { IfOk result (λ r. spec.wstep (listed self.old) command.now ≡ (listed self.new, r)) }
+        ensures err { OnErr result (listed self.new ≡ listed self.old) }
+    {
+        match command {
+            Command::New { kind, options } => self.make(*kind, options),
+            Command::Do { subject, verb } => self.ask(*subject, verb),
+        }
+    }
+}
