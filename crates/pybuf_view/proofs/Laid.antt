@@ -1,6 +1,5 @@
 -- One byte laid over bytes.
-use Rattle.std.proofs.Common.{◌≡◌, ℕ, ◌<◌, List, [], ◌∷◌, length, set, arith, append_assoc, add-one}
-use Rattle.std.proofs.lemmas.Grind.{common_steps}
+use Rattle.std.proofs.Common.{◌≡◌, ℕ, ◌<◌, List, [], ◌∷◌, length, set, append_assoc, add-one}
 use Rattle.std.proofs.lemmas.List.{set_split}
 use Rattle.pybuf_view.specs.Exporter.{laid}
 

@@ -1,3 +1,5 @@
 pub mod Places
 pub mod Laid
 pub mod Soundness
+pub mod Ran
+pub mod Runs

@@ -1,10 +1,10 @@
 -- Every row keeps an exporter sound.
-use Rattle.std.proofs.Common.{◌≡◌, ℕ, ◌+◌, ◌≤◌, ◌<◌, List, [], ◌∷◌, ◌++◌, length, take, drop, set, get_or, Bool, true, false, true≢false, ap, sym, ◌∙◌, refl, subst, arith, rules}
-use Rattle.std.specs.Prelude.{ℤ, pos, negsuc, if◌then◌else◌, Option, Some, None, Result, Ok, Err, slice_get, slice_index, ◌&&◌, not}
-use Rattle.std.specs.List.{All, range_with_len}
+use Rattle.std.proofs.Common.{◌≡◌, ℕ, ◌<◌, List, [], ◌∷◌, length, Bool, true, false, true≢false, ap, sym, ◌∙◌, refl, subst, arith}
+use Rattle.std.specs.Prelude.{ℤ, pos, negsuc, if◌then◌else◌, Option, Some, None, Result, Ok, Err, slice_get, slice_index}
+use Rattle.std.specs.List.{All}
 use Rattle.std.specs.Option.{ok_or}
 use Rattle.std.proofs.lemmas.Grind.{common_steps}
-use Rattle.std.proofs.lemmas.List.Elements.{All-push, All-set, All-get_or, All-weaker}
+use Rattle.std.proofs.lemmas.List.Elements.{All-push, All-set, All-weaker}
 use Rattle.std.proofs.lemmas.List.FromFn.{length-range_with_len, get_or-range_with_len}
 use Rattle.std.proofs.lemmas.Option.{slice_get_within, get_or_from_slice_get}
 use Rattle.pybuf_value.specs.declared.faults.Fault.{Fault}
@@ -27,7 +27,6 @@ use Rattle.pybuf_view.specs.Step.{row, answered, is_built, estep, settled, set_i
 use Rattle.pybuf_view.specs.Rows.View.{view_of_own, view_of_view, view_again}
 use Rattle.pybuf_view.specs.Rows.Get.{get_of_own, get_of_view}
 use Rattle.pybuf_view.specs.Rows.Set.{set_of_own, set_target, set_of_view}
-use Rattle.pybuf_view.specs.Rows.ToBytes.{bytes_of_own, bytes_of_view}
 use Rattle.pybuf_view.specs.Rows.Release.{released_at, released_in, release_of_view}
 use Rattle.pybuf_view.proofs.Laid.{laid_one}
 
@@ -88,28 +87,28 @@ live_view_bytes e k v sound found =
 pub with_view_sound : (e : Exporter) (v : View) → IsSoundExporter e → v.itemsize ≡ 1 → IsHeld e.bytes v → IsSoundExporter (with_view e v)
 with_view_sound e v sound size held = record {
   items_are_bytes = All-push (λ w. w.itemsize ≡ 1) e.views v sound.items_are_bytes size;
-  views_are_held = All-push (λ w. IsHeldOrReleased e.bytes w) e.views v sound.views_are_held (λ _. held)
+  views_are_held = All-push (λ w. IsHeldOrReleased e.bytes w) e.views v sound.views_are_held (λ _. held);
 }
 
 pub whole_held : (k : ExporterKind) (bytes : List ℕ) → IsHeld bytes (whole_of k (length bytes))
 whole_held k bytes = record {
   inside = λ i d below.
-    let within : i < length bytes = omega (arith, length-range_with_len 0 (length bytes)) in
-    omega (arith, get_or-range_with_len 0 (length bytes) i d within);
-  length_kept = refl
+      let within : i < length bytes = omega (arith, length-range_with_len 0 (length bytes)) in
+      omega (arith, get_or-range_with_len 0 (length bytes) i d within);
+  length_kept = refl;
 }
 
 -- other bytes of the same number
 pub held_by_length : (old new : List ℕ) (v : View) → length new ≡ length old → IsHeldOrReleased old v → IsHeldOrReleased new v
 held_by_length old new v same held unreleased = record {
   inside = λ i d below. omega (arith, (held unreleased).inside i d below, same);
-  length_kept = (held unreleased).length_kept ∙ sym same
+  length_kept = (held unreleased).length_kept ∙ sym same;
 }
 
 pub with_bytes_sound : (e : Exporter) (new : List ℕ) → length new ≡ length e.bytes → IsSoundExporter e → IsSoundExporter (record e { bytes = new })
 with_bytes_sound e new same sound = record {
   items_are_bytes = sound.items_are_bytes;
-  views_are_held = All-weaker (λ w. IsHeldOrReleased e.bytes w) (λ w. IsHeldOrReleased new w) (λ w held. held_by_length e.bytes new w same held) e.views sound.views_are_held
+  views_are_held = All-weaker (λ w. IsHeldOrReleased e.bytes w) (λ w. IsHeldOrReleased new w) (λ w held. held_by_length e.bytes new w same held) e.views sound.views_are_held;
 }
 
 pub length-laid_one : (bytes : List ℕ) (i x : ℕ) → i < length bytes → length (laid bytes i (x ∷ [])) ≡ length bytes
@@ -150,21 +149,21 @@ reads_bind e (Err f) g sound = tt
 pub get_of_own_sound : (e : Exporter) (key : Value) → IsSoundExporter e → IsSoundAfter (get_of_own e key)
 get_of_own_sound e key sound =
     sound_bind (index_in key) _ (λ index _.
-      sound_bind (place_in (length e.bytes) index) _ (λ place _. sound))
+    sound_bind (place_in (length e.bytes) index) _ (λ place _. sound))
 
 pub get_of_view_sound : (e : Exporter) (k : ℕ) (key : Value) → IsSoundExporter e → IsSoundAfter (get_of_view e k key)
 get_of_view_sound e k key sound =
     sound_bind (live_view e k) _ (λ v _.
-      sound_bind (index_in key) _ (λ index _.
-        sound_bind (place_in (length v.starts) index) _ (λ place _. sound)))
+    sound_bind (index_in key) _ (λ index _.
+    sound_bind (place_in (length v.starts) index) _ (λ place _. sound)))
 
 pub set_of_own_sound : (e : Exporter) (key value : Value) → IsSoundExporter e → IsSoundAfter (set_of_own e key value)
 set_of_own_sound e key value sound =
     sound_bind (index_in key) _ (λ index _.
-      sound_bind (byte_in value) _ (λ byte _.
-        sound_bind (place_in (length e.bytes) index) _ (λ place found.
-          with_bytes_sound e (laid e.bytes place (byte ∷ []))
-          (length-laid_one e.bytes place byte (place_in_inside (length e.bytes) index place found)) sound)))
+    sound_bind (byte_in value) _ (λ byte _.
+    sound_bind (place_in (length e.bytes) index) _ (λ place found.
+    with_bytes_sound e (laid e.bytes place (byte ∷ []))
+    (length-laid_one e.bytes place byte (place_in_inside (length e.bytes) index place found)) sound)))
 
 -- the place to write lies inside
 item_inside : (e : Exporter) (k : ℕ) (v : View) (i : ℕ) → IsSoundExporter e → live_view e k ≡ Ok v → i < length v.starts → slice_index v.starts i < length e.bytes
@@ -174,12 +173,12 @@ pub set_target_done : (e : Exporter) (k : ℕ) (key value : Value) → IsSoundEx
 set_target_done e k key value sound =
     let P : ℕ × ℕ → Type 0 = λ t. t.0 < length e.bytes in
     done_bind P (live_view e k) _ (λ v live.
-      done_bind P (unless v.readonly fault.Kind) _ (λ _ _.
-        done_bind P (unless (is_none value) fault.Kind) _ (λ _ _.
-          done_bind P (index_in key) _ (λ index _.
-            done_bind P (place_in (length v.starts) index) _ (λ item found.
-              done_bind P (byte_for_item value) _ (λ byte _.
-                item_inside e k v item sound live (place_in_inside (length v.starts) index item found)))))))
+    done_bind P (unless v.readonly fault.Kind) _ (λ _ _.
+    done_bind P (unless (is_none value) fault.Kind) _ (λ _ _.
+    done_bind P (index_in key) _ (λ index _.
+    done_bind P (place_in (length v.starts) index) _ (λ item found.
+    done_bind P (byte_for_item value) _ (λ byte _.
+    item_inside e k v item sound live (place_in_inside (length v.starts) index item found)))))))
 
 pub set_target_inside : (e : Exporter) (k : ℕ) (key value : Value) (target : ℕ × ℕ) → IsSoundExporter e → set_target e k key value ≡ Ok target → target.0 < length e.bytes
 set_target_inside e k key value target sound found =
@@ -188,13 +187,13 @@ set_target_inside e k key value target sound found =
 pub set_of_view_sound : (e : Exporter) (k : ℕ) (key value : Value) → IsSoundExporter e → IsSoundAfter (set_of_view e k key value)
 set_of_view_sound e k key value sound =
     sound_bind (set_target e k key value) _ (λ target found.
-      with_bytes_sound e (laid e.bytes target.0 (target.1 ∷ []))
-      (length-laid_one e.bytes target.0 target.1 (set_target_inside e k key value target sound found)) sound)
+    with_bytes_sound e (laid e.bytes target.0 (target.1 ∷ []))
+    (length-laid_one e.bytes target.0 target.1 (set_target_inside e k key value target sound found)) sound)
 
 pub released_sound : (e : Exporter) (k : ℕ) (v : View) → IsSoundExporter e → slice_get e.views k ≡ Some v → IsSoundExporter (released_at e k v)
 released_sound e k v sound at = record {
   items_are_bytes = All-set (λ w. w.itemsize ≡ 1) e.views k (record v { released = true }) (All-slice_get (λ w. w.itemsize ≡ 1) e.views k v sound.items_are_bytes at) sound.items_are_bytes;
-  views_are_held = All-set (λ w. IsHeldOrReleased e.bytes w) e.views k (record v { released = true }) (λ unreleased. absurd (true≢false unreleased)) sound.views_are_held
+  views_are_held = All-set (λ w. IsHeldOrReleased e.bytes w) e.views k (record v { released = true }) (λ unreleased. absurd (true≢false unreleased)) sound.views_are_held;
 }
 
 released_bind : (e : Exporter) (k : ℕ) (r : Result View Fault) → IsSoundExporter e → r ≡ view_at e k → IsSoundAfter ((r >>= (λ v. Ok (released_at e k v))) >>= (λ after. Ok (after, reply.Ok)))
@@ -255,7 +254,7 @@ pub answered_is_sound : (old new : Exporter) (s : Subject) (v : Verb) (r : Local
 answered_is_sound old new s v r sound is =
     done (λ (after : Exporter × LocalReply). IsSoundExporter after.0) (answered old s v) (new, r) (answered_sound old s v sound) is
 
-released_in_done : (e : Exporter) (k : ℕ) → IsSoundExporter e → IfDone IsSoundExporter (released_in e k)
+pub released_in_done : (e : Exporter) (k : ℕ) → IsSoundExporter e → IfDone IsSoundExporter (released_in e k)
 released_in_done e k sound =
     done_bind IsSoundExporter (view_at e k) _ (λ v found. released_sound e k v sound (view_at_given e k v found))
 

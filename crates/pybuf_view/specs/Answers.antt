@@ -1,11 +1,11 @@
 -- What the code of a row owes to its definition.
-use Rattle.std.specs.Prelude.{◌≡◌, ℕ, Result, Ok, Err}
+use Rattle.std.specs.Prelude.{◌≡◌, Result, Ok, Err}
 use Rattle.pybuf_value.specs.declared.faults.Fault.{Fault}
 use Rattle.pybuf_view.specs.declared.commands.LocalReply.{LocalReply}
 use Rattle.pybuf_view.specs.declared.halt.Halt.{Halt}
 use Rattle.pybuf_view.specs.declared.halt.Halt.TheVariants as halt
 use Rattle.pybuf_view.specs.declared.parts.Parts.{Parts}
-use Rattle.pybuf_view.specs.Exporter.{Exporter, View, exports_of}
+use Rattle.pybuf_view.specs.Exporter.{Exporter, exports_of}
 use Rattle.pybuf_view.specs.Sound.{IsSoundExporter}
 
 -- the exporter that the parts keep

@@ -1,6 +1,6 @@
 -- Exporters of bytes, and the views of them: what each view shows, as a list of places.
 -- A place is the number of a byte in its exporter.
-use Rattle.std.specs.Prelude.{ℕ, ◌+◌, zero, suc, List, [], ◌∷◌, ◌++◌, length, take, drop, map, set, ℤ, pos, Bool, true, false, not, Result, Ok, Err, slice_get, slice_index, count_by}
+use Rattle.std.specs.Prelude.{ℕ, ◌+◌, List, [], ◌∷◌, ◌++◌, length, take, drop, ℤ, pos, Bool, true, false, not, Result, Ok, slice_get, count_by}
 use Rattle.std.specs.List.{flat_map, range_with_len}
 use Rattle.std.specs.Option.{ok_or}
 use Rattle.pybuf_value.specs.declared.faults.Fault.{Fault}
@@ -44,7 +44,7 @@ whole_of k n = record {
   starts = range_with_len 0 n;
   strides = pos 1 ∷ [];
   readonly = holds_readonly k;
-  released = false
+  released = false;
 }
 
 abbrev pub whole_view : Exporter → View

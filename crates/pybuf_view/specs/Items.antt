@@ -1,14 +1,13 @@
 -- Items: which place a key names, what an item reads as, and which bytes a value is written as.
-use Rattle.std.specs.Prelude.{ℕ, ◌+◌, ◌-◌, suc, List, [], ◌∷◌, ℤ, pos, negsuc, Bool, true, false, Result, Ok, Err, nat_lt, nat_le, slice_index, if◌then◌else◌}
+use Rattle.std.specs.Prelude.{ℕ, ◌-◌, suc, List, ℤ, pos, negsuc, Bool, true, false, Result, Ok, Err, nat_lt, slice_index, if◌then◌else◌}
 use Rattle.pybuf_value.specs.declared.faults.Fault.{Fault}
 use Rattle.pybuf_value.specs.declared.faults.Fault.TheVariants as fault
-use Rattle.pybuf_value.specs.declared.values.Scalar.{Scalar}
 use Rattle.pybuf_value.specs.declared.values.Scalar.TheVariants as scalar
 use Rattle.pybuf_value.specs.declared.values.Item.{Item}
 use Rattle.pybuf_value.specs.declared.values.Item.TheVariants as item
 use Rattle.pybuf_value.specs.declared.values.Value.{Value}
 use Rattle.pybuf_value.specs.declared.values.Value.TheVariants as value
-use Rattle.pybuf_value.specs.Refusing.{◌>>=◌, unless}
+use Rattle.pybuf_value.specs.Refusing.{◌>>=◌}
 use Rattle.pybuf_value.specs.Numbers.{number_of, fitted, byte_in}
 
 -- the number of a key, which must fit a word

@@ -1,19 +1,16 @@
 -- Worlds: exporters, and the handles that name them and their views.
-use Rattle.std.specs.Prelude.{ℕ, zero, suc, List, [], ◌∷◌, ◌++◌, length, set, slice_get, Option, Some, None, Result, Ok, Err}
+use Rattle.std.specs.Prelude.{ℕ, List, [], ◌∷◌, ◌++◌, length, set, slice_get, Option, Some, None, Result, Ok, Err}
 use Rattle.pybuf_value.specs.declared.faults.Fault.{Fault}
 use Rattle.pybuf_value.specs.declared.faults.Fault.TheVariants as fault
-use Rattle.pybuf_value.specs.declared.values.Scalar.{Scalar}
 use Rattle.pybuf_value.specs.declared.values.Scalar.TheVariants as scalar
 use Rattle.pybuf_value.specs.declared.values.Value.{Value}
 use Rattle.pybuf_value.specs.declared.values.Value.TheVariants as value
-use Rattle.pybuf_value.specs.Refusing.{◌>>=◌}
 use Rattle.pybuf_view.specs.declared.kinds.ExporterKind.{ExporterKind}
 use Rattle.pybuf_view.specs.declared.kinds.ExporterKind.TheVariants as kind
 use Rattle.pybuf_view.specs.declared.kinds.Subject.{Subject}
 use Rattle.pybuf_view.specs.declared.kinds.Subject.TheVariants as subject
 use Rattle.pybuf_view.specs.declared.named.Named.{Named}
 use Rattle.pybuf_view.specs.declared.named.Named.TheVariants as named
-use Rattle.pybuf_view.specs.declared.commands.ByteInnerNewOptions.{ByteInnerNewOptions}
 use Rattle.pybuf_view.specs.declared.commands.Verb.{Verb}
 use Rattle.pybuf_view.specs.declared.commands.LocalReply.{LocalReply}
 use Rattle.pybuf_view.specs.declared.commands.LocalReply.TheVariants as local

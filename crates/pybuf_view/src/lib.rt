@@ -12,7 +12,7 @@ mod parts;
 mod rows;
 mod stored;
 mod tables;
-//mod world;
+mod world;
 
 pub use commands::{
     ByteInnerNewOptions, Command, LocalCommand, LocalReply, Reply, ReplyList, Verb,
@@ -20,4 +20,4 @@ pub use commands::{
 pub use exporter::ExporterState;
 pub use kinds::{ExporterKind, Subject};
 pub use named::Named;
-//pub use world::World;
+pub use world::World;

@@ -26,14 +26,14 @@ impl Model for StoredView {
     ghost Value = { View };
 
     ghost view = { λ v. record {
-        made_at = v.made_at;
-        format = v.format;
-        itemsize = v.itemsize;
-        shape = v.shape;
-        starts = v.starts;
-        strides = v.strides;
-        readonly = v.readonly;
-        released = v.released
+      made_at = v.made_at;
+      format = v.format;
+      itemsize = v.itemsize;
+      shape = v.shape;
+      starts = v.starts;
+      strides = v.strides;
+      readonly = v.readonly;
+      released = v.released;
     } };
 }
 

@@ -19,7 +19,11 @@ pub struct Tables {
 }
 
 /// The bytes that a new exporter is made of.
-fn bytes_from(alloc: Global, kind: ExporterKind, options: &ByteInnerNewOptions) -> Made<Result<ByteList, Fault>>
+fn bytes_from(
+    alloc: Global,
+    kind: ExporterKind,
+    options: &ByteInnerNewOptions,
+) -> Made<Result<ByteList, Fault>>
     ensures { IfOk result (λ r. r ≡ bytes_from kind options.now.source options.now.encoding options.now.errors) }
 {
     match (kind, &options.source, &options.encoding, &options.errors) {
@@ -110,6 +114,81 @@ impl Tables {
         match command {
             Command::New { kind, options } => self.make(*kind, options),
             Command::Do { subject, verb } => self.ask(*subject, verb),
+        }
+    }
+
+    /// The same, of a sound world, which stays sound.
+    pub fn step_sound(&mut self, command: &Command) -> Made<Reply>
+        requires { IsSoundWorld (listed self.old) }
+        ensures ok { IfOk result (λ r. spec.wstep (listed self.old) command.now ≡ (listed self.new, r)) }
+        ensures err { OnErr result (listed self.new ≡ listed self.old) }
+        ensures sound { IsSoundWorld (listed self.new) }
+    {
+        match self.step(command) {
+            Ok(reply) => Ok(reply),
+            Err(NoMemory) => Err(NoMemory),
+        }
+    }
+
+    /// Carries out the commands in order, and adds a reply for each.
+    fn run_onto(&mut self, commands: &[Command], replies: &mut Vec<Reply>) -> Made<()>
+        requires { IsSoundWorld (listed self.old) }
+        ensures world { OnOk result (listed self.new ≡ spec.world_of (listed self.old) commands.now) }
+        ensures replies { OnOk result (replies.new.items ≡ replies.old.items ++ spec.replies_of (listed self.old) commands.now) }
+        ensures stopped { OnErr result (StopsAt (listed self.old) commands.now (listed self.new) replies.old.items replies.new.items) }
+        ensures sound { IsSoundWorld (listed self.new) }
+    {
+        for command in commands {
+            replies.reserve(1)?;
+            let reply = self.step_sound(command)?;
+            push_reserved(replies, reply);
+        }
+        Ok(())
+    }
+
+    /// The same, onto a list of replies.
+    pub fn run(&mut self, commands: &[Command], replies: &mut ReplyList) -> Made<()>
+        requires { IsSoundWorld (listed self.old) }
+        ensures world { OnOk result (listed self.new ≡ spec.world_of (listed self.old) commands.now) }
+        ensures replies { OnOk result (replies.new ≡ replies.old ++ spec.replies_of (listed self.old) commands.now) }
+        ensures stopped { OnErr result (StopsAt (listed self.old) commands.now (listed self.new) replies.old replies.new) }
+        ensures sound { IsSoundWorld (listed self.new) }
+    {
+        let mut answered = mem::replace(replies, ReplyList::new(self.alloc)).into_vec();
+        let answer = self.run_onto(commands, &mut answered);
+        *replies = ReplyList::from_vec(answered);
+        answer
+    }
+
+    /// Releases the view that a handle names.
+    fn release_named(&mut self, handle: u64) -> Result<(), Fault>
+        ensures exact { MatchResult result (λ _. spec.released_by (listed self.old) handle ≡ Ok (listed self.new)) (λ f. spec.released_by (listed self.old) handle ≡ Err f) }
+        ensures err { OnErr result (listed self.new ≡ listed self.old) }
+    {
+        let named = self.handles.get(handle as usize).copied();
+        let Some(Named::View { exporter, view }) = named else {
+            return Err(Fault::UnknownName);
+        };
+        if exporter >= self.exporters.len() {
+            return Err(Fault::UnknownName);
+        }
+        let holder = &mut self.exporters[exporter];
+        match holder.release_view(view) {
+            Ok(()) => Ok(()),
+            Err(fault) => Err(fault),
+        }
+    }
+
+    /// The same, of a sound world, which stays sound.
+    pub fn release(&mut self, handle: u64) -> Result<(), Fault>
+        requires { IsSoundWorld (listed self.old) }
+        ensures exact { MatchResult result (λ _. spec.released_by (listed self.old) handle ≡ Ok (listed self.new)) (λ f. spec.released_by (listed self.old) handle ≡ Err f) }
+        ensures err { OnErr result (listed self.new ≡ listed self.old) }
+        ensures sound { IsSoundWorld (listed self.new) }
+    {
+        match self.release_named(handle) {
+            Ok(()) => Ok(()),
+            Err(fault) => Err(fault),
         }
     }
 }

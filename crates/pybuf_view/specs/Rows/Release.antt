@@ -1,9 +1,7 @@
 -- `release`: the view is released, the second time too.
 use Rattle.std.specs.Prelude.{ℕ, true, set, Result, Ok}
 use Rattle.pybuf_value.specs.declared.faults.Fault.{Fault}
-use Rattle.pybuf_value.specs.declared.faults.Fault.TheVariants as fault
-use Rattle.pybuf_value.specs.declared.values.Value.{Value}
-use Rattle.pybuf_value.specs.Refusing.{◌>>=◌, unless}
+use Rattle.pybuf_value.specs.Refusing.{◌>>=◌}
 use Rattle.pybuf_view.specs.declared.commands.LocalReply.{LocalReply}
 use Rattle.pybuf_view.specs.declared.commands.LocalReply.TheVariants as reply
 use Rattle.pybuf_view.specs.Exporter.{Exporter, View, view_at}

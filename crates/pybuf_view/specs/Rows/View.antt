@@ -1,9 +1,7 @@
 -- `view`: a new view of the subject, which is one more unreleased view.
-use Rattle.std.specs.Prelude.{ℕ, length, false, Result, Ok}
+use Rattle.std.specs.Prelude.{ℕ, length, Result, Ok}
 use Rattle.pybuf_value.specs.declared.faults.Fault.{Fault}
-use Rattle.pybuf_value.specs.declared.faults.Fault.TheVariants as fault
-use Rattle.pybuf_value.specs.declared.values.Value.{Value}
-use Rattle.pybuf_value.specs.Refusing.{◌>>=◌, unless}
+use Rattle.pybuf_value.specs.Refusing.{◌>>=◌}
 use Rattle.pybuf_view.specs.declared.commands.LocalReply.{LocalReply}
 use Rattle.pybuf_view.specs.declared.commands.LocalReply.TheVariants as reply
 use Rattle.pybuf_view.specs.Exporter.{Exporter, View, whole_view, live_view, with_view}

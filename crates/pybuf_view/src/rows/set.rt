@@ -46,7 +46,12 @@ fn target(parts: &Parts, view: usize, key: &Value, value: &Value) -> Result<(usi
 
 /// Writes the item of a view at a key.
 #[tactic(auto, using(crate::proofs::Laid::laid_one))]
-pub fn of_view(parts: &mut Parts, view: usize, key: &Value, value: &Value) -> Result<LocalReply, Halt>
+pub fn of_view(
+    parts: &mut Parts,
+    view: usize,
+    key: &Value,
+    value: &Value,
+) -> Result<LocalReply, Halt>
     requires { IsWhole parts.old }
     ensures answer { Answers (set_of_view (seen parts.old) view key.now value.now) (seen parts.old) result (seen parts.new) }
     ensures counted { parts.new.exports ≡ exports_of (seen parts.new) }

@@ -1,4 +1,4 @@
-use Rattle.std.proofs.Common.{◌≡◌, take, drop}
+use Rattle.std.proofs.Common.{◌≡◌, take}
 use Rattle.pybuf_view.specs.Exporter.{bytes_of_items}
 use Rattle.pybuf_view.proofs.rows.to_bytes.gather.Given as goal
 

@@ -1,0 +1,133 @@
+-- Runs: one command more, and every world after a command is sound.
+use Rattle.std.proofs.Common.{◌≡◌, ℕ, ◌+◌, ◌<◌, List, [], ◌∷◌, ◌++◌, length, take, set, get_or, ap, sym, ◌∙◌, refl, subst, append_assoc}
+use Rattle.std.specs.Prelude.{Option, Some, None, Result, Ok, Err, slice_get}
+use Rattle.std.specs.List.{All}
+use Rattle.std.proofs.lemmas.List.{take_more}
+use Rattle.std.proofs.lemmas.List.Elements.{All-push, All-set, All-nil}
+use Rattle.pybuf_value.specs.declared.faults.Fault.{Fault}
+use Rattle.pybuf_view.specs.declared.kinds.ExporterKind.{ExporterKind}
+use Rattle.pybuf_view.specs.declared.kinds.Subject.{Subject}
+use Rattle.pybuf_view.specs.declared.kinds.Subject.TheVariants as subject
+use Rattle.pybuf_view.specs.declared.named.Named.{Named}
+use Rattle.pybuf_view.specs.declared.named.Named.TheVariants as named
+use Rattle.pybuf_view.specs.declared.commands.Verb.{Verb}
+use Rattle.pybuf_view.specs.declared.commands.LocalReply.{LocalReply}
+use Rattle.pybuf_view.specs.declared.commands.LocalReply.TheVariants as local
+use Rattle.pybuf_view.specs.declared.commands.Command.{Command}
+use Rattle.pybuf_view.specs.declared.commands.Command.TheVariants as command
+use Rattle.pybuf_view.specs.declared.commands.Reply.{Reply}
+use Rattle.pybuf_view.specs.Exporter.{Exporter}
+use Rattle.pybuf_view.specs.Step.{estep}
+use Rattle.pybuf_view.specs.World.{World, empty_world, new_exporter, bytes_from, world_with_new, world_after, step_of_exporter, step_of_name, wstep, world_of, replies_of, world_released, released_in_exporter, released_name, released_by}
+use Rattle.pybuf_view.specs.Rows.Release.{released_in}
+use Rattle.pybuf_view.specs.Sound.{IsSoundExporter, IsSoundWorld, StaysSound, IsHeldOrReleased}
+use Rattle.pybuf_view.proofs.Ran.{Ran}
+use Rattle.pybuf_view.proofs.Soundness.{estep_sound, All-slice_get, IfDone, released_in_done}
+
+-- one list of commands after another
+pub world_of-append : (w : World) (xs ys : List Command) → world_of w (xs ++ ys) ≡ world_of (world_of w xs) ys
+world_of-append w [] ys = refl
+world_of-append w (x ∷ xs) ys = world_of-append (wstep w x).0 xs ys
+
+pub replies_of-append : (w : World) (xs ys : List Command) → replies_of w (xs ++ ys) ≡ replies_of w xs ++ replies_of (world_of w xs) ys
+replies_of-append w [] ys = refl
+replies_of-append w (x ∷ xs) ys = ap (λ rs. (wstep w x).1 ∷ rs) (replies_of-append (wstep w x).0 xs ys)
+
+-- the world after one command more
+pub world_of_more : (w : World) (cs : List Command) (i : ℕ) (c : Command) → i < length cs → c ≡ get_or cs i c → world_of w (take (i + 1) cs) ≡ (wstep (world_of w (take i cs)) c).0
+world_of_more w cs i c below is =
+    ap (world_of w) (take_more cs i c below ∙ ap (λ x. take i cs ++ x ∷ []) (sym is)) ∙ world_of-append w (take i cs) (c ∷ [])
+
+pub replies_of_more : (w : World) (cs : List Command) (i : ℕ) (c : Command) → i < length cs → c ≡ get_or cs i c → replies_of w (take (i + 1) cs) ≡ replies_of w (take i cs) ++ (wstep (world_of w (take i cs)) c).1 ∷ []
+replies_of_more w cs i c below is =
+    ap (replies_of w) (take_more cs i c below ∙ ap (λ x. take i cs ++ x ∷ []) (sym is)) ∙ replies_of-append w (take i cs) (c ∷ [])
+
+-- a new exporter has no view
+new_is_sound : (k : ExporterKind) (bytes : List ℕ) → IsSoundExporter (new_exporter k bytes)
+new_is_sound k bytes = record {
+  items_are_bytes = All-nil (λ v. v.itemsize ≡ 1);
+  views_are_held = All-nil (λ v. IsHeldOrReleased bytes v);
+}
+
+world_with_new_sound : (w : World) (k : ExporterKind) (r : Result (List ℕ) Fault) → IsSoundWorld w → IsSoundWorld (world_with_new w k r).0
+world_with_new_sound w k (Ok bytes) sound = record {
+  exporters_are_sound = All-push IsSoundExporter w.exporters (new_exporter k bytes) sound.exporters_are_sound (new_is_sound k bytes);
+}
+world_with_new_sound w k (Err f) sound = sound
+
+with_exporter_sound : (w : World) (i : ℕ) (e : Exporter) → IsSoundWorld w → IsSoundExporter e → All IsSoundExporter (set w.exporters i e)
+with_exporter_sound w i e sound sound_e = All-set IsSoundExporter w.exporters i e sound_e sound.exporters_are_sound
+
+world_after_sound : (w : World) (i : ℕ) (e : Exporter) (r : LocalReply) → IsSoundWorld w → IsSoundExporter e → IsSoundWorld (world_after w i (e, r)).0
+world_after_sound w i e (local.View k) sound sound_e = record { exporters_are_sound = with_exporter_sound w i e sound sound_e }
+world_after_sound w i e local.Ok sound sound_e = record { exporters_are_sound = with_exporter_sound w i e sound sound_e }
+world_after_sound w i e (local.Item x) sound sound_e = record { exporters_are_sound = with_exporter_sound w i e sound sound_e }
+world_after_sound w i e (local.Bytes bytes) sound sound_e = record { exporters_are_sound = with_exporter_sound w i e sound sound_e }
+world_after_sound w i e (local.Refused f) sound sound_e = record { exporters_are_sound = with_exporter_sound w i e sound sound_e }
+
+step_of_exporter_sound : (w : World) (i : ℕ) (s : Subject) (v : Verb) (o : Option Exporter) → o ≡ slice_get w.exporters i → IsSoundWorld w → IsSoundWorld (step_of_exporter w i s v o).0
+step_of_exporter_sound w i s v (Some e) is sound =
+    let sound_e = All-slice_get IsSoundExporter w.exporters i e sound.exporters_are_sound (sym is) in
+    world_after_sound w i (estep e s v).0 (estep e s v).1 sound (estep_sound e s v sound_e)
+step_of_exporter_sound w i s v None is sound = sound
+
+step_of_name_sound : (w : World) (v : Verb) (o : Option Named) → IsSoundWorld w → IsSoundWorld (step_of_name w v o).0
+step_of_name_sound w v (Some (named.Exporter i)) sound = step_of_exporter_sound w i subject.Own v (slice_get w.exporters i) refl sound
+step_of_name_sound w v (Some (named.View i k)) sound = step_of_exporter_sound w i (subject.View k) v (slice_get w.exporters i) refl sound
+step_of_name_sound w v None sound = sound
+
+-- a command keeps a world sound
+pub wstep_sound : (w : World) (c : Command) → IsSoundWorld w → IsSoundWorld (wstep w c).0
+wstep_sound w (command.New k options) sound = world_with_new_sound w k (bytes_from k options.source options.encoding options.errors) sound
+wstep_sound w (command.Do handle v) sound = step_of_name_sound w v (slice_get w.handles handle) sound
+
+-- and so does a run of them
+pub world_of_sound : (w : World) (cs : List Command) → IsSoundWorld w → IsSoundWorld (world_of w cs)
+world_of_sound w [] sound = sound
+world_of_sound w (c ∷ cs) sound = world_of_sound (wstep w c).0 cs (wstep_sound w c sound)
+
+pub stays_sound : (w : World) (cs : List Command) → IsSoundWorld w → StaysSound w cs
+stays_sound w cs sound k = world_of_sound w (take k cs) sound
+
+pub wstep_is_sound : (w w' : World) (c : Command) (r : Reply) → wstep w c ≡ (w', r) → IsSoundWorld w → IsSoundWorld w'
+wstep_is_sound w w' c r is sound = subst IsSoundWorld (ap (λ (p : World × Reply). p.0) is) (wstep_sound w c sound)
+
+pub empty_is_sound : IsSoundWorld empty_world
+empty_is_sound = record { exporters_are_sound = All-nil IsSoundExporter }
+
+-- releasing keeps a world sound
+world_released_sound : (w w' : World) (i : ℕ) (r : Result Exporter Fault) → IsSoundWorld w → IfDone IsSoundExporter r → world_released w i r ≡ Ok w' → IsSoundWorld w'
+world_released_sound w w' i (Ok e) sound sound_e is =
+    let same : record w { exporters = set w.exporters i e } ≡ w' = cc in
+    subst IsSoundWorld same (record { exporters_are_sound = with_exporter_sound w i e sound sound_e })
+world_released_sound w w' i (Err f) sound sound_e is = absurd (cc)
+
+released_in_exporter_sound : (w w' : World) (i k : ℕ) (o : Option Exporter) → o ≡ slice_get w.exporters i → IsSoundWorld w → released_in_exporter w i k o ≡ Ok w' → IsSoundWorld w'
+released_in_exporter_sound w w' i k (Some e) at sound is =
+    let sound_e = All-slice_get IsSoundExporter w.exporters i e sound.exporters_are_sound (sym at) in
+    world_released_sound w w' i (released_in e k) sound (released_in_done e k sound_e) is
+released_in_exporter_sound w w' i k None at sound is = absurd (cc)
+
+released_name_sound : (w w' : World) (o : Option Named) → IsSoundWorld w → released_name w o ≡ Ok w' → IsSoundWorld w'
+released_name_sound w w' (Some (named.View i k)) sound is = released_in_exporter_sound w w' i k (slice_get w.exporters i) refl sound is
+released_name_sound w w' (Some (named.Exporter i)) sound is = absurd (cc)
+released_name_sound w w' None sound is = absurd (cc)
+
+pub released_by_sound : (w w' : World) (handle : ℕ) → IsSoundWorld w → released_by w handle ≡ Ok w' → IsSoundWorld w'
+released_by_sound w w' handle sound is = released_name_sound w w' (slice_get w.handles handle) sound is
+
+-- a run goes on by one command
+pub ran_more : (old w w' : World) (cs : List Command) (i : ℕ) (c : Command) (r : Reply) (before rs rs' : List Reply) → Ran old (take i cs) w before rs → i < length cs → c ≡ get_or cs i c → wstep w c ≡ (w', r) → rs' ≡ rs ++ r ∷ [] → IsSoundWorld w' → Ran old (take (i + 1) cs) w' before rs'
+ran_more old w w' cs i c r before rs rs' ran below at stepped pushed sound =
+    let here : wstep (world_of old (take i cs)) c ≡ (w', r) = ap (λ (x : World). wstep x c) (sym ran.world) ∙ stepped in
+    let world : (wstep (world_of old (take i cs)) c).0 ≡ w' = ap (λ (p : World × Reply). p.0) here in
+    let reply : (wstep (world_of old (take i cs)) c).1 ≡ r = ap (λ (p : World × Reply). p.1) here in
+    record {
+      world = sym (world_of_more old cs i c below at ∙ world);
+      replied =
+          pushed ∙ ap (λ (xs : List Reply). xs ++ r ∷ []) ran.replied
+          ∙ append_assoc before (replies_of old (take i cs)) (r ∷ [])
+          ∙ ap (λ (x : Reply). before ++ (replies_of old (take i cs) ++ x ∷ [])) (sym reply)
+          ∙ ap (λ (xs : List Reply). before ++ xs) (sym (replies_of_more old cs i c below at));
+      sound = sound;
+    }

@@ -1,0 +1,10 @@
+use Rattle.std.proofs.Common.{List, [], ◌∷◌, ◌++◌, ap, ◌∙◌}
+use Rattle.pybuf_view.specs.declared.commands.Reply.{Reply}
+use Rattle.pybuf_view.proofs.Runs.{ran_more}
+use Rattle.pybuf_view.proofs.tables.Tables.run_onto.Goals as goal
+
+pub loop-command-preserved : goal.loop-command-preserved
+loop-command-preserved c =
+    ran_more _ _ _ c.args.commands.now c.loop-command.command-index c.command-item.result c.in_ok-reply.reply _ _ _
+    c.loop-command.invariant c.loop-command-test.true c.command-item.is c.in_ok-reply.ensures.ok
+    (c.push_reserved.ensures ∙ ap (λ (rs : List Reply). rs ++ c.in_ok-reply.reply ∷ []) c.in_ok-reserve.ensures.items) c.in_ok-reply.ensures.sound
