@@ -7,3 +7,4 @@ pub mod World
 pub mod Sound
 pub mod Answers
 pub mod Tables
+pub mod Lending

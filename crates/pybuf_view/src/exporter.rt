@@ -31,7 +31,9 @@ impl Model for ExporterState {
 }
 
 impl ExporterState {
-    ghost use Rattle.pybuf_view.specs.Exporter.{exports_of};
+    ghost use Rattle.std.specs.Borrow.{sem};
+    ghost use Rattle.pybuf_view.specs.Exporter.{exports_of, holds_readonly};
+    ghost use Rattle.pybuf_view.specs.Lending.{LendsBytes};
     ghost use Rattle.pybuf_view.specs.Sound.{IsSoundExporter};
     ghost use Rattle.pybuf_view.specs.World.{new_exporter};
     ghost use Rattle.pybuf_view.specs.Step.{estep};
@@ -94,6 +96,16 @@ impl ExporterState {
         ensures { result.now ≡ self.now.bytes }
     {
         self.parts.bytes.as_slice()
+    }
+
+    /// The bytes, lent to be written: their number and all else of the exporter stay. All views of
+    /// these bytes see the writes.
+    pub fn bytes_mut(&mut self) -> &mut [u8]
+        requires { holds_readonly self.old.kind ≡ false }
+        ensures* writes_back { sem 𝓛 (LendsBytes self.entry result) }
+        ensures value { result.now ≡ self.old.bytes }
+    {
+        self.parts.bytes.as_mut_slice()
     }
 
     /// The number of unreleased views.
