@@ -3,3 +3,5 @@ pub mod Laid
 pub mod Soundness
 pub mod Ran
 pub mod Runs
+pub mod Refusals
+pub mod Releases

@@ -8,3 +8,4 @@ pub mod Sound
 pub mod Answers
 pub mod Tables
 pub mod Lending
+pub mod Laws

@@ -7,6 +7,7 @@ mod halt;
 mod handles;
 mod items;
 mod kinds;
+mod laws;
 mod named;
 mod parts;
 mod rows;
@@ -19,5 +20,6 @@ pub use commands::{
 };
 pub use exporter::ExporterState;
 pub use kinds::{ExporterKind, Subject};
+pub use laws::{handles_stay, refusals_change_nothing, releasing_twice_is_once};
 pub use named::Named;
 pub use world::World;

@@ -1,0 +1,155 @@
+-- A refused command changes nothing, and handles stay.
+use Rattle.std.proofs.Common.{◌≡◌, ℕ, zero, suc, ◌+◌, ◌<◌, List, [], ◌∷◌, ◌++◌, length, take, set, get_or, Bool, true, false, true≢false, ap, sym, ◌∙◌, refl, subst, arith}
+use Rattle.std.specs.Prelude.{Option, Some, None, Result, Ok, Err, slice_get, if◌then◌else◌}
+use Rattle.std.proofs.lemmas.Grind.{common_steps}
+use Rattle.pybuf_value.specs.declared.faults.Fault.{Fault}
+use Rattle.pybuf_value.specs.declared.faults.Fault.TheVariants as fault
+use Rattle.pybuf_value.specs.declared.values.Value.{Value}
+use Rattle.pybuf_value.specs.Refusing.{◌>>=◌, unless}
+use Rattle.pybuf_value.specs.Numbers.{byte_in}
+use Rattle.pybuf_view.specs.declared.kinds.ExporterKind.{ExporterKind}
+use Rattle.pybuf_view.specs.declared.kinds.ExporterKind.TheVariants as kind
+use Rattle.pybuf_view.specs.declared.kinds.Subject.{Subject}
+use Rattle.pybuf_view.specs.declared.kinds.Subject.TheVariants as subject
+use Rattle.pybuf_view.specs.declared.named.Named.{Named}
+use Rattle.pybuf_view.specs.declared.named.Named.TheVariants as named
+use Rattle.pybuf_view.specs.declared.commands.Verb.{Verb}
+use Rattle.pybuf_view.specs.declared.commands.Verb.TheVariants as verb
+use Rattle.pybuf_view.specs.declared.commands.LocalReply.{LocalReply}
+use Rattle.pybuf_view.specs.declared.commands.LocalReply.TheVariants as local
+use Rattle.pybuf_view.specs.declared.commands.Command.{Command}
+use Rattle.pybuf_view.specs.declared.commands.Command.TheVariants as command
+use Rattle.pybuf_view.specs.declared.commands.Reply.{Reply}
+use Rattle.pybuf_view.specs.declared.commands.Reply.TheVariants as reply
+use Rattle.pybuf_view.specs.Exporter.{Exporter, View, view_at, live_view}
+use Rattle.pybuf_view.specs.Items.{index_in, place_in, is_none, byte_for_item}
+use Rattle.pybuf_view.specs.Step.{row, answered, is_built, estep, settled, set_in_kind, get_in_kind}
+use Rattle.pybuf_view.specs.Rows.View.{view_of_own, view_of_view, view_again}
+use Rattle.pybuf_view.specs.Rows.Get.{get_of_own, get_of_view}
+use Rattle.pybuf_view.specs.Rows.Set.{set_of_own, set_target, set_of_view}
+use Rattle.pybuf_view.specs.Rows.ToBytes.{bytes_of_own, bytes_of_view}
+use Rattle.pybuf_view.specs.Rows.Release.{released_at, released_in, release_of_view}
+use Rattle.pybuf_view.specs.World.{World, bytes_from, world_with_new, world_after, step_of_exporter, step_of_name, wstep}
+use Rattle.pybuf_view.proofs.Soundness.{IfDone, done_bind}
+
+-- a reply that is no refusal
+abbrev pub is_answer : LocalReply → Bool
+is_answer (local.Refused f) = false
+is_answer _ = true
+
+-- a row that is not refused answers something else than a refusal
+abbrev pub IsAnswered : Result (Exporter × LocalReply) Fault → Type 0
+IsAnswered r = IfDone (λ (after : Exporter × LocalReply). is_answer after.1 ≡ true) r
+
+bind : {A : Type 0} (r : Result A Fault) (f : A → Result (Exporter × LocalReply) Fault) → ((a : A) → r ≡ Ok a → IsAnswered (f a)) → IsAnswered (r >>= f)
+bind r f after = done_bind (λ (p : Exporter × LocalReply). is_answer p.1 ≡ true) r f after
+
+set_in_kind_answers : (k : ExporterKind) (e : Exporter) (r : Result (Exporter × LocalReply) Fault) → IsAnswered r → IsAnswered (set_in_kind k e r)
+set_in_kind_answers kind.ByteArray e r after = after
+set_in_kind_answers kind.Bytes e r after = tt
+set_in_kind_answers (kind.Vector readonly) e r after = tt
+
+get_in_kind_answers : (k : ExporterKind) (r : Result (Exporter × LocalReply) Fault) → IsAnswered r → IsAnswered (get_in_kind k r)
+get_in_kind_answers kind.ByteArray r after = after
+get_in_kind_answers kind.Bytes r after = after
+get_in_kind_answers (kind.Vector readonly) r after = tt
+
+iterator_row_answers : (e : Exporter) (k : ℕ) (v : Verb) → IsAnswered (row e (subject.Iter k) v)
+iterator_row_answers e k verb.View = tt
+iterator_row_answers e k (verb.Get key) = tt
+iterator_row_answers e k (verb.Set key value) = tt
+iterator_row_answers e k verb.ToBytes = tt
+iterator_row_answers e k verb.Release = tt
+
+row_answers : (e : Exporter) (s : Subject) (v : Verb) → IsAnswered (row e s v)
+row_answers e subject.Own verb.View = refl
+row_answers e (subject.View k) verb.View = bind (view_again e k) _ (λ v _. refl)
+row_answers e subject.Own (verb.Get key) =
+    get_in_kind_answers e.kind (get_of_own e key) (bind (index_in key) _ (λ index _. bind (place_in (length e.bytes) index) _ (λ place _. refl)))
+row_answers e (subject.View k) (verb.Get key) =
+    bind (live_view e k) _ (λ v _. bind (index_in key) _ (λ index _. bind (place_in (length v.starts) index) _ (λ place _. refl)))
+row_answers e subject.Own (verb.Set key value) =
+    set_in_kind_answers e.kind e (set_of_own e key value)
+    (bind (index_in key) _ (λ index _. bind (byte_in value) _ (λ byte _. bind (place_in (length e.bytes) index) _ (λ place _. refl))))
+row_answers e (subject.View k) (verb.Set key value) = bind (set_target e k key value) _ (λ target _. refl)
+row_answers e subject.Own verb.ToBytes = refl
+row_answers e (subject.View k) verb.ToBytes = bind (live_view e k) _ (λ v _. refl)
+row_answers e subject.Own verb.Release = tt
+row_answers e (subject.View k) verb.Release = bind (released_in e k) _ (λ after _. refl)
+row_answers e (subject.Iter k) v = iterator_row_answers e k v
+
+built_answers : (b : Bool) (r : Result (Exporter × LocalReply) Fault) → IsAnswered r → IsAnswered (if b then r else Err fault.UnknownName)
+built_answers true r after = after
+built_answers false r after = tt
+
+-- where the reply is a refusal, the exporter is as before
+settled_refusal : (e : Exporter) (r : Result (Exporter × LocalReply) Fault) (f : Fault) → IsAnswered r → (settled e r).1 ≡ local.Refused f → (settled e r).0 ≡ e
+settled_refusal e (Ok after) f answers is = absurd (true≢false (sym answers ∙ ap is_answer is))
+settled_refusal e (Err g) f answers is = refl
+
+pub estep_refusal : (e : Exporter) (s : Subject) (v : Verb) (f : Fault) → (estep e s v).1 ≡ local.Refused f → (estep e s v).0 ≡ e
+estep_refusal e s v f is = settled_refusal e (answered e s v) f (built_answers (is_built v) (row e s v) (row_answers e s v)) is
+
+-- a list with one of its own elements set at its place
+pub set-slice_get : {X : Type 0} (xs : List X) (i : ℕ) (x : X) → slice_get xs i ≡ Some x → set xs i x ≡ xs
+set-slice_get [] i x at = absurd (cc)
+set-slice_get (y ∷ ys) zero x at = let same : y ≡ x = cc in ap (λ z. z ∷ ys) (sym same)
+set-slice_get (y ∷ ys) (suc i) x at = ap (λ zs. y ∷ zs) (set-slice_get ys i x at)
+
+world_after_refusal : (w : World) (i : ℕ) (e : Exporter) (r : LocalReply) (f : Fault) → (r ≡ local.Refused f → set w.exporters i e ≡ w.exporters) → (world_after w i (e, r)).1 ≡ reply.Refused f → (world_after w i (e, r)).0 ≡ w
+world_after_refusal w i e (local.View k) f kept is = absurd (cc)
+world_after_refusal w i e local.Ok f kept is = absurd (cc)
+world_after_refusal w i e (local.Item x) f kept is = absurd (cc)
+world_after_refusal w i e (local.Bytes bytes) f kept is = absurd (cc)
+world_after_refusal w i e (local.Refused g) f kept is =
+    let same : g ≡ f = cc in
+    ap (λ (xs : List Exporter). record w { exporters = xs }) (kept (ap local.Refused same))
+
+exporter_refusal : (w : World) (i : ℕ) (s : Subject) (v : Verb) (o : Option Exporter) (f : Fault) → o ≡ slice_get w.exporters i → (step_of_exporter w i s v o).1 ≡ reply.Refused f → (step_of_exporter w i s v o).0 ≡ w
+exporter_refusal w i s v (Some e) f at is =
+    world_after_refusal w i (estep e s v).0 (estep e s v).1 f
+    (λ refused. ap (set w.exporters i) (estep_refusal e s v f refused) ∙ set-slice_get w.exporters i e (sym at)) is
+exporter_refusal w i s v None f at is = refl
+
+name_refusal : (w : World) (v : Verb) (o : Option Named) (f : Fault) → (step_of_name w v o).1 ≡ reply.Refused f → (step_of_name w v o).0 ≡ w
+name_refusal w v (Some (named.Exporter i)) f is = exporter_refusal w i subject.Own v (slice_get w.exporters i) f refl is
+name_refusal w v (Some (named.View i k)) f is = exporter_refusal w i (subject.View k) v (slice_get w.exporters i) f refl is
+name_refusal w v None f is = refl
+
+new_refusal : (w : World) (k : ExporterKind) (r : Result (List ℕ) Fault) (f : Fault) → (world_with_new w k r).1 ≡ reply.Refused f → (world_with_new w k r).0 ≡ w
+new_refusal w k (Ok bytes) f is = absurd (cc)
+new_refusal w k (Err g) f is = refl
+
+pub wstep_refusal : (w : World) (c : Command) (f : Fault) → (wstep w c).1 ≡ reply.Refused f → (wstep w c).0 ≡ w
+wstep_refusal w (command.New k options) f is = new_refusal w k (bytes_from k options.source options.encoding options.errors) f is
+wstep_refusal w (command.Do handle v) f is = name_refusal w v (slice_get w.handles handle) f is
+
+-- an element that was there before more were added
+pub slice_get-append : {X : Type 0} (xs ys : List X) (i : ℕ) → i < length xs → slice_get (xs ++ ys) i ≡ slice_get xs i
+slice_get-append [] ys i below = absurd (omega arith)
+slice_get-append (x ∷ xs) ys zero below = refl
+slice_get-append (x ∷ xs) ys (suc i) below = let less : i < length xs = omega arith in slice_get-append xs ys i less
+
+after_handles : (w : World) (i : ℕ) (e : Exporter) (r : LocalReply) (h : ℕ) → h < length w.handles → slice_get (world_after w i (e, r)).0.handles h ≡ slice_get w.handles h
+after_handles w i e (local.View k) h below = slice_get-append w.handles (named.View i k ∷ []) h below
+after_handles w i e local.Ok h below = refl
+after_handles w i e (local.Item x) h below = refl
+after_handles w i e (local.Bytes bytes) h below = refl
+after_handles w i e (local.Refused g) h below = refl
+
+exporter_handles : (w : World) (i : ℕ) (s : Subject) (v : Verb) (o : Option Exporter) (h : ℕ) → h < length w.handles → slice_get (step_of_exporter w i s v o).0.handles h ≡ slice_get w.handles h
+exporter_handles w i s v (Some e) h below = after_handles w i (estep e s v).0 (estep e s v).1 h below
+exporter_handles w i s v None h below = refl
+
+name_handles : (w : World) (v : Verb) (o : Option Named) (h : ℕ) → h < length w.handles → slice_get (step_of_name w v o).0.handles h ≡ slice_get w.handles h
+name_handles w v (Some (named.Exporter i)) h below = exporter_handles w i subject.Own v (slice_get w.exporters i) h below
+name_handles w v (Some (named.View i k)) h below = exporter_handles w i (subject.View k) v (slice_get w.exporters i) h below
+name_handles w v None h below = refl
+
+new_handles : (w : World) (k : ExporterKind) (r : Result (List ℕ) Fault) (h : ℕ) → h < length w.handles → slice_get (world_with_new w k r).0.handles h ≡ slice_get w.handles h
+new_handles w k (Ok bytes) h below = slice_get-append w.handles (named.Exporter (length w.exporters) ∷ []) h below
+new_handles w k (Err g) h below = refl
+
+pub wstep_handles : (w : World) (c : Command) (h : ℕ) → h < length w.handles → slice_get (wstep w c).0.handles h ≡ slice_get w.handles h
+wstep_handles w (command.New k options) h below = new_handles w k (bytes_from k options.source options.encoding options.errors) h below
+wstep_handles w (command.Do handle v) h below = name_handles w v (slice_get w.handles handle) h below
