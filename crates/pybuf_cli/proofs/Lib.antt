@@ -1,1 +1,7 @@
 pub mod Taking
+pub mod Digits
+pub mod Joined
+pub mod Outcomes
+pub mod Sending
+pub mod Commands
+pub mod Parts

@@ -25,3 +25,9 @@ Rose old new = (old < new) ⊎ (new ≡ 2 ^ 64 - 1)
 pub record Counts (old new : ℕ) : Type 0 where
   pub later : old ≤ new
   pub bounded : new < 2 ^ 64
+
+-- What was put of a text, with what waits behind it to be put.
+pub record Sends (old : Option (List ℕ)) (text waiting : List ℕ) (new : Option (List ℕ)) : Type 0 where
+  pub sent : List ℕ
+  pub whole : text ≡ sent ++ waiting
+  pub put : Put old sent new

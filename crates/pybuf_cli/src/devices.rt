@@ -3,6 +3,7 @@ ghost use Rattle.std.specs.Prelude.{◌≡◌, ◌<◌, ◌≤◌, ℕ, List, Op
 ghost use Rattle.pybuf_cli.specs.declared.devices.PutFault.{PutFault};
 ghost use Rattle.pybuf_cli.specs.Devices.{Took, AtEnd, Put, Rose, Counts};
 
+use pybuf_value::NoMemory;
 use std::alloc::AllocError;
 
 /// A device failed.
@@ -22,6 +23,14 @@ impl From<AllocError> for PutFault {
     ghost from_gives = { λ _ fault. fault ≡ PutFault.NoMemory };
 
     fn from(_e: AllocError) -> PutFault {
+        PutFault::NoMemory
+    }
+}
+
+impl From<NoMemory> for PutFault {
+    ghost from_gives = { λ _ fault. fault ≡ PutFault.NoMemory };
+
+    fn from(_e: NoMemory) -> PutFault {
         PutFault::NoMemory
     }
 }

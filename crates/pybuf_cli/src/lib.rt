@@ -3,9 +3,17 @@
 
 mod adapters;
 mod devices;
+mod inputs;
 mod loops;
 mod memory;
+mod parsing;
+mod splitting;
 mod status;
+mod texts;
+mod unread;
+mod values;
+mod words;
+mod writing;
 
 pub use adapters::{ReaderSource, WriterSink};
 pub use devices::{Failed, PutFault, Sink, Source};

@@ -11,7 +11,7 @@ use std::alloc::{AllocError, Global};
 pub const MOST: usize = 1_048_576;
 
 /// As many bytes are taken or put in one call at most.
-const PIECE: usize = 4096;
+pub const PIECE: usize = 4096;
 
 /// Why an input wasn't read to its end.
 #[derive(Clone, Copy, Debug, PartialEq, Eq)]
