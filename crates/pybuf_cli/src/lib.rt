@@ -7,6 +7,7 @@ mod inputs;
 mod loops;
 mod memory;
 mod parsing;
+mod serving;
 mod splitting;
 mod status;
 mod texts;
@@ -18,6 +19,7 @@ mod writing;
 pub use adapters::{ReaderSource, WriterSink};
 pub use devices::{Failed, PutFault, Sink, Source};
 pub use memory::{QuietSink, QuietSource};
+pub use serving::{serve, serve_alone};
 pub use status::Status;
 
 #[cfg(test)]
