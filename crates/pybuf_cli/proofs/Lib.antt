@@ -6,3 +6,4 @@ pub mod Served
 pub mod Sending
 pub mod Commands
 pub mod Parts
+pub mod LineLaws

@@ -5,3 +5,4 @@ pub mod Lines
 pub mod Replies
 pub mod Reading
 pub mod Program
+pub mod Laws
