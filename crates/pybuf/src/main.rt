@@ -1,0 +1,43 @@
+//! The program `pybuf`: it hands the words after its name, its input and its output to the top
+//! call, and ends with the number of the status.
+#![tactic(auto)]
+
+use pybuf_cli::{ReaderSource, Status, WriterSink, serve};
+use pybuf_value::Text;
+use std::env;
+use std::env::Env;
+use std::io::ErrorKind;
+use std::process::ExitCode;
+
+/// The words after the program's name. A word that isn't UTF-8 is a wrong command line.
+fn words<R: Env + AllocGlobal>(rt: &R) -> Result<Vec<Text>, Status> {
+    let mut words = Vec::new(rt.alloc());
+    match env::args(rt) {
+        Ok(all) => {
+            for word in all.skip(1) {
+                if words.push(Text::from_string(word)).is_err() {
+                    return Err(Status::NoMemory);
+                }
+            }
+            Ok(words)
+        }
+        Err(e) => {
+            if e.kind() == ErrorKind::OutOfMemory {
+                return Err(Status::NoMemory);
+            }
+            Err(Status::Usage)
+        }
+    }
+}
+
+fn main(rt: HostRuntime) -> ExitCode {
+    let status = match words(&rt) {
+        Ok(words) => {
+            let mut source = ReaderSource::new(rt.stdin());
+            let mut sink = WriterSink::new(rt.stdout());
+            serve(&rt, rt.alloc(), words.as_slice(), &mut source, &mut sink)
+        }
+        Err(status) => status,
+    };
+    ExitCode::from(status.number())
+}

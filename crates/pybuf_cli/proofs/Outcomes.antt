@@ -1,0 +1,10 @@
+-- What holds of one outcome holds with what follows from it.
+use Rattle.std.proofs.Common.{Result, Ok, Err, OnOk, OnErr}
+
+pub on_err : {T E P : Type 0} (r : Result T E) → P → OnErr r P
+on_err (Ok x) h = tt
+on_err (Err e) h = h
+
+pub follows_on_ok : {T E P Q : Type 0} (r : Result T E) → (P → Q) → OnOk r P → OnOk r Q
+follows_on_ok (Ok x) f h = f h
+follows_on_ok (Err e) f h = tt

@@ -1,0 +1,19 @@
+use Rattle.std.proofs.Common.{◌≤◌, ◌-◌, length, vec_len}
+use Rattle.pybuf_cli.specs.Devices.{Took}
+use Rattle.pybuf_cli.proofs.loops.read_all.Given as goal
+
+-- what was taken so far, and how much
+pub record Reads (Bytes Later Limit : Type 0) : Type 0 where
+  pub bytes : Bytes
+  pub later : Later
+  pub limit : Limit
+
+abbrev pub invariant-reading : goal.invariant-reading
+invariant-reading g l =
+    Reads
+    (Took (g.S.Source.bytes_left l.fn.source) l.input.items (g.S.Source.bytes_left l.source))
+    (g.S.Source.faults l.fn.source ≤ g.S.Source.faults l.source)
+    (vec_len l.input ≤ 1048576)
+
+abbrev pub decreases-reading : goal.decreases-reading
+decreases-reading g l = 1048577 - vec_len l.input

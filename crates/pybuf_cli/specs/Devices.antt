@@ -1,0 +1,33 @@
+-- What is taken from a source and put into a sink, where these tell their bytes, and the counts of their faults.
+use Rattle.std.specs.Prelude.{◌≡◌, ℕ, ◌-◌, ◌<◌, ◌≤◌, ◌^◌, ◌⊎◌, List, ◌++◌, length, take, Option, Some, Result, Ok, Err}
+
+-- The source had the bytes before what is left.
+abbrev pub Took : Option (List ℕ) → List ℕ → Option (List ℕ) → Type 0
+Took old bytes new = (left : List ℕ) → old ≡ Some left → (rest : List ℕ) × (left ≡ bytes ++ rest) × (new ≡ Some rest)
+
+-- Nothing is left in the source.
+abbrev pub AtEnd : Option (List ℕ) → Type 0
+AtEnd left = (rest : List ℕ) → left ≡ Some rest → length rest ≡ 0
+
+-- The sink has the bytes after those that it had.
+abbrev pub Put : Option (List ℕ) → List ℕ → Option (List ℕ) → Type 0
+Put old bytes new = (held : List ℕ) → old ≡ Some held → new ≡ Some (held ++ bytes)
+
+-- The sink has the first bytes of the text, as many as it took, after those that it had.
+abbrev pub PutPrefix : Option (List ℕ) → List ℕ → Option (List ℕ) → Type 0
+PutPrefix old text new = (count : ℕ) × (count ≤ length text) × Put old (take count text) new
+
+-- A count of faults rose in a call. One that stands at its end can't rise.
+abbrev pub Rose : ℕ → ℕ → Type 0
+Rose old new = (old < new) ⊎ (new ≡ 2 ^ 64 - 1)
+
+-- A count of faults before and after a call.
+pub record Counts (old new : ℕ) : Type 0 where
+  pub later : old ≤ new
+  pub bounded : new < 2 ^ 64
+
+-- What was put of a text, with what waits behind it to be put.
+pub record Sends (old : Option (List ℕ)) (text waiting : List ℕ) (new : Option (List ℕ)) : Type 0 where
+  pub sent : List ℕ
+  pub whole : text ≡ sent ++ waiting
+  pub put : Put old sent new

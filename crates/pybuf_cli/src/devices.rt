@@ -1,0 +1,78 @@
+//! Where bytes come from and where they go, with a count of what failed.
+ghost use Rattle.std.specs.Prelude.{◌≡◌, ◌<◌, ◌≤◌, ℕ, List, Option, IfOk, IfErr, OnErr, length, take};
+ghost use Rattle.pybuf_cli.specs.declared.devices.PutFault.{PutFault};
+ghost use Rattle.pybuf_cli.specs.Devices.{Took, AtEnd, Put, Rose, Counts};
+
+use pybuf_value::NoMemory;
+use std::alloc::AllocError;
+
+/// A device failed.
+#[derive(Clone, Copy, Debug, PartialEq, Eq)]
+pub struct Failed;
+
+/// Why a sink put nothing.
+#[derive(Clone, Copy, Debug, PartialEq, Eq)]
+pub enum PutFault {
+    /// The sink failed.
+    Failed,
+    /// The sink found no memory for the bytes.
+    NoMemory,
+}
+
+impl From<AllocError> for PutFault {
+    ghost from_gives = { λ _ fault. fault ≡ PutFault.NoMemory };
+
+    fn from(_e: AllocError) -> PutFault {
+        PutFault::NoMemory
+    }
+}
+
+impl From<NoMemory> for PutFault {
+    ghost from_gives = { λ _ fault. fault ≡ PutFault.NoMemory };
+
+    fn from(_e: NoMemory) -> PutFault {
+        PutFault::NoMemory
+    }
+}
+
+/// Where bytes come from.
+pub trait Source {
+    // The bytes that are left, where the source tells them.
+    ghost bytes_left: { Self → Option (List ℕ) };
+
+    // How often the source failed. The count stands still at `2^64 - 1`.
+    ghost faults: { Self → ℕ };
+
+    /// Moves the next bytes into the front of the room, and says how many: none only at the end,
+    /// or where there is no room.
+    ///
+    /// `Failed` only where the count of faults rose. The bytes that are left are as before then.
+    fn take(&mut self, room: &mut [u8]) -> Result<usize, Failed>
+        ensures within { IfOk result (λ count. count ≤ length room.old) }
+        ensures took { IfOk result (λ count. Took (bytes_left self.old) (take count room.new) (bytes_left self.new)) }
+        ensures end { IfOk result (λ count. count ≡ 0 → 0 < length room.old → AtEnd (bytes_left self.new)) }
+        ensures failed { OnErr result (bytes_left self.new ≡ bytes_left self.old) }
+        ensures rose { OnErr result (Rose (faults self.old) (faults self.new)) }
+        ensures counts { Counts (faults self.old) (faults self.new) };
+}
+
+/// Where bytes go.
+pub trait Sink {
+    // The bytes that were put so far, where the sink tells them.
+    ghost bytes_held: { Self → Option (List ℕ) };
+
+    // How often the sink failed. The count stands still at `2^64 - 1`.
+    ghost faults: { Self → ℕ };
+
+    /// Puts the first bytes of the piece, and says how many: none only of an empty piece.
+    ///
+    /// `Failed` only where the count of faults rose. Where it failed or found no memory, nothing
+    /// was put.
+    fn put(&mut self, piece: &[u8]) -> Result<usize, PutFault>
+        ensures within { IfOk result (λ count. count ≤ length piece.now) }
+        ensures some { IfOk result (λ count. 0 < length piece.now → 0 < count) }
+        ensures put { IfOk result (λ count. Put (bytes_held self.old) (take count piece.now) (bytes_held self.new)) }
+        ensures failed { OnErr result (bytes_held self.new ≡ bytes_held self.old) }
+        ensures rose { IfErr result (λ fault. fault ≡ PutFault.Failed → Rose (faults self.old) (faults self.new)) }
+        ensures counts { Counts (faults self.old) (faults self.new) };
+}

@@ -1,0 +1,28 @@
+//! What the program `pybuf` does, from the bytes that it reads to the bytes that it writes.
+#![tactic(auto)]
+
+mod adapters;
+mod devices;
+mod inputs;
+mod laws;
+mod loops;
+mod memory;
+mod parsing;
+mod serving;
+mod splitting;
+mod status;
+mod texts;
+mod unread;
+mod values;
+mod words;
+mod writing;
+
+pub use adapters::{ReaderSource, WriterSink};
+pub use devices::{Failed, PutFault, Sink, Source};
+pub use laws::{commands_are_of_lines, lines_are_the_input, words_are_the_line};
+pub use memory::{QuietSink, QuietSource};
+pub use serving::{serve, serve_alone, serve_bytes};
+pub use status::Status;
+
+#[cfg(test)]
+mod tests;

@@ -1,0 +1,114 @@
+//! Sources and sinks in memory, which never fail.
+ghost use Rattle.std.specs.Prelude.{◌≡◌, ◌≤◌, ◌⊎◌, List, ℕ, [], Some, drop, take, length, vec_len};
+
+use crate::devices::{Failed, PutFault, Sink, Source};
+use pybuf_value::ByteList;
+use std::alloc::Global;
+use std::marker::Model;
+
+/// A source of bytes in memory. It never fails. A clause sees the list of the bytes that are left.
+#[derive(Debug, Drop)]
+pub struct QuietSource {
+    bytes: Vec<u8>,
+    taken: usize,
+}
+
+impl Model for QuietSource {
+    ghost Value = { List ℕ };
+
+    ghost view = { λ source. drop source.taken source.bytes.items };
+
+    ghost invariant = { λ source. source.taken ≤ vec_len source.bytes };
+}
+
+impl QuietSource {
+    /// A source of these bytes. Takes no memory.
+    pub fn new(bytes: ByteList) -> QuietSource
+        ensures { result ≡ bytes }
+    {
+        QuietSource {
+            bytes: bytes.into_vec(),
+            taken: 0,
+        }
+    }
+
+    /// The bytes that are left.
+    pub fn left(&self) -> &[u8]
+        ensures { result.now ≡ self.now }
+    {
+        &self.bytes[self.taken..]
+    }
+}
+
+impl Source for QuietSource {
+    ghost bytes_left = { λ source. Some source };
+
+    ghost faults = { λ _. 0 };
+
+    fn take(&mut self, room: &mut [u8]) -> Result<usize, Failed> {
+        let count = move_front(&self.bytes[self.taken..], room);
+        self.taken += count;
+        Ok(count)
+    }
+}
+
+/// Copies the front of a slice to the front of the room, as much as there is and fits.
+fn move_front(from: &[u8], room: &mut [u8]) -> usize
+    ensures fits { result ≤ length room.old }
+    ensures there { result ≤ length from.now }
+    ensures all { length room.old ≤ result ⊎ length from.now ≤ result }
+    ensures copied { take result room.new ≡ take result from.now }
+{
+    let count = from.len().min(room.len());
+    room[..count].copy_from_slice(&from[..count]);
+    count
+}
+
+/// A sink that keeps its bytes in memory. It never fails. A clause sees the list of the bytes.
+#[derive(Debug, Drop)]
+pub struct QuietSink {
+    bytes: Vec<u8>,
+}
+
+impl Model for QuietSink {
+    ghost Value = { List ℕ };
+
+    ghost view = { λ sink. sink.bytes.items };
+}
+
+impl QuietSink {
+    /// A sink that holds nothing. Takes no memory.
+    pub fn new(alloc: Global) -> QuietSink
+        ensures { result ≡ [] }
+    {
+        QuietSink {
+            bytes: Vec::new(alloc),
+        }
+    }
+
+    /// The bytes that were put.
+    pub fn bytes(&self) -> &[u8]
+        ensures { result.now ≡ self.now }
+    {
+        self.bytes.as_slice()
+    }
+
+    /// The bytes that were put. Takes no memory.
+    pub fn into_bytes(self) -> ByteList
+        ensures { result ≡ self }
+    {
+        let QuietSink { bytes } = self;
+        ByteList::from_vec(bytes)
+    }
+}
+
+impl Sink for QuietSink {
+    ghost bytes_held = { λ sink. Some sink };
+
+    ghost faults = { λ _. 0 };
+
+    fn put(&mut self, piece: &[u8]) -> Result<usize, PutFault> {
+        self.bytes.extend_from_slice(piece)?;
+        Ok(piece.len())
+    }
+}

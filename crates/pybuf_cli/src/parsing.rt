@@ -1,0 +1,107 @@
+//! The commands that lines spell.
+ghost use Rattle.std.specs.Prelude.{◌≡◌, ◌+◌, ◌≤◌, ◌<◌, ◌^◌, map, vec_items, Ok, Err};
+ghost use Rattle.pybuf_cli.specs.Reading.{Reads};
+ghost use Rattle.pybuf_cli.specs.Lines.{verb_in, new_in, do_in, command_of_words, command_in};
+
+use crate::splitting::words_of;
+use crate::unread::Unread;
+use crate::values::{handle, value_of_bytes, value_of_number};
+use crate::words::{Word, first_word, kind_named};
+use pybuf_view::{ByteInnerNewOptions, Command, Verb};
+use std::alloc::Global;
+
+/// The verb of a word with its arguments.
+fn verb_of(word: Word, arguments: &[&[u8]]) -> Result<Verb, Unread>
+    ensures { Reads result (verb_in word (map (λ argument. argument.now) arguments.now)) }
+{
+    match word {
+        Word::View => match arguments {
+            [] => Ok(Verb::View),
+            _ => Err(Unread::NoCommand),
+        },
+        Word::Get => match arguments {
+            [key] => {
+                let key = value_of_number(key)?;
+                Ok(Verb::Get { key })
+            }
+            _ => Err(Unread::NoCommand),
+        },
+        Word::Set => match arguments {
+            [key, item] => {
+                let key = value_of_number(key)?;
+                let value = value_of_number(item)?;
+                Ok(Verb::Set { key, value })
+            }
+            _ => Err(Unread::NoCommand),
+        },
+        Word::ToBytes => match arguments {
+            [] => Ok(Verb::ToBytes),
+            _ => Err(Unread::NoCommand),
+        },
+        Word::Release => match arguments {
+            [] => Ok(Verb::Release),
+            _ => Err(Unread::NoCommand),
+        },
+        Word::New => Err(Unread::NoCommand),
+    }
+}
+
+/// `new`, by the words after it.
+fn new_of(alloc: Global, rest: &[&[u8]]) -> Result<Command, Unread>
+    ensures { Reads result (new_in (map (λ word. word.now) rest.now)) }
+{
+    match rest {
+        [kind, source] => {
+            let Some(kind) = kind_named(kind) else {
+                return Err(Unread::NoCommand);
+            };
+            let source = value_of_bytes(alloc, source)?;
+            let options = ByteInnerNewOptions {
+                source: Some(source),
+                encoding: None,
+                errors: None,
+            };
+            Ok(Command::New { kind, options })
+        }
+        _ => Err(Unread::NoCommand),
+    }
+}
+
+/// What is asked of a handle, by the words after the first.
+fn do_of(word: Word, rest: &[&[u8]]) -> Result<Command, Unread>
+    ensures { Reads result (do_in word (map (λ word. word.now) rest.now)) }
+{
+    match rest {
+        [subject, arguments @ ..] => {
+            let Some(subject) = handle(subject) else {
+                return Err(Unread::NoCommand);
+            };
+            let verb = verb_of(word, arguments)?;
+            Ok(Command::Do { subject, verb })
+        }
+        [] => Err(Unread::NoCommand),
+    }
+}
+
+/// The command that words spell.
+fn command_of(alloc: Global, words: &[&[u8]]) -> Result<Command, Unread>
+    ensures { Reads result (command_of_words (map (λ word. word.now) words.now)) }
+{
+    match words {
+        [first, rest @ ..] => match first_word(first) {
+            None => Err(Unread::NoCommand),
+            Some(Word::New) => new_of(alloc, rest),
+            Some(word) => do_of(word, rest),
+        },
+        [] => Err(Unread::NoCommand),
+    }
+}
+
+/// The one command that a line spells.
+#[tactic(auto, unfolding(crate::specs::Lines::command_in))]
+pub fn command(alloc: Global, line: &[u8]) -> Result<Command, Unread>
+    ensures { Reads result (command_in line.now) }
+{
+    let words = words_of(alloc, line)?;
+    command_of(alloc, &words)
+}

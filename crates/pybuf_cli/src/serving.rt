@@ -1,0 +1,211 @@
+//! The top call: from the words and the input to the output and the status.
+ghost use Rattle.std.specs.Prelude.{◌≡◌, ◌≢◌, ◌≤◌, ◌⊎◌, ◌^◌, List, ℕ, ◌↔◌, IfOk, Some, Ok, Err, length, take, true, false};
+ghost use Rattle.pybuf_view.specs.declared.commands.Command.{Command};
+ghost use Rattle.pybuf_view.specs.World.{empty_world, replies_of};
+ghost use Rattle.pybuf_view.specs.Sound.{StaysSound};
+ghost use Rattle.pybuf_cli.specs.Devices.{Put, PutPrefix, Rose};
+ghost use Rattle.pybuf_cli.specs.Lines.{commands_in};
+ghost use Rattle.pybuf_cli.specs.Replies.{reply_lines, bad_line_text};
+ghost use Rattle.pybuf_cli.specs.Program.{asks_run, program, due_for, ending_for, text_due, ending, IsDone, IsBadLine, IsTooLong};
+
+use crate::devices::{PutFault, Sink, Source};
+use crate::inputs::commands_of;
+use crate::loops::{ReadStop, read_all, write_all};
+use crate::memory::{QuietSink, QuietSource};
+use crate::status::Status;
+use crate::texts::push_bad_line;
+use crate::unread::Misread;
+use crate::words::is_word;
+use crate::writing::write_replies;
+use pybuf_value::{ByteList, Made, Text};
+use pybuf_view::{Command, ReplyList, World};
+use std::alloc::Global;
+use std::sync::Wait;
+use std::thread::Threads;
+
+/// Whether the words ask for a run.
+fn is_run(words: &[Text]) -> bool
+    ensures { result ≡ asks_run words.now }
+{
+    match words {
+        [] => true,
+        [word] => is_word(word.as_slice(), "run"),
+        _ => false,
+    }
+}
+
+/// The replies of a world that begins empty.
+fn replies_of_run(alloc: Global, commands: &[Command]) -> Made<ReplyList>
+    ensures replies { IfOk result (λ replies. replies ≡ replies_of empty_world commands.now) }
+    ensures sound { StaysSound empty_world commands.now }
+{
+    let mut world = World::new(alloc);
+    let mut replies = ReplyList::new(alloc);
+    world.run(commands, &mut replies)?;
+    Ok(replies)
+}
+
+/// Runs the commands and puts their replies.
+fn run_commands<K: Sink>(alloc: Global, sink: &mut K, commands: &[Command]) -> Status
+    ensures put { result ≡ Status.Done → Put (K.bytes_held sink.old) (program commands.now) (K.bytes_held sink.new) }
+    ensures sound { StaysSound empty_world commands.now }
+    ensures prefix { PutPrefix (K.bytes_held sink.old) (program commands.now) (K.bytes_held sink.new) }
+    ensures rose { result ≡ Status.WriteFault → Rose (K.faults sink.old) (K.faults sink.new) }
+    ensures ending { (result ≡ Status.Done) ⊎ ((result ≡ Status.NoMemory) ⊎ (result ≡ Status.WriteFault)) }
+{
+    match replies_of_run(alloc, commands) {
+        Ok(replies) => match write_replies(alloc, sink, replies.as_slice()) {
+            Ok(()) => Status::Done,
+            Err(PutFault::Failed) => Status::WriteFault,
+            Err(PutFault::NoMemory) => Status::NoMemory,
+        },
+        Err(_) => Status::NoMemory,
+    }
+}
+
+/// The text that tells which line is no command.
+fn bad_line(alloc: Global, number: u64) -> Made<Vec<u8>>
+    ensures { IfOk result (λ text. text.items ≡ bad_line_text number) }
+{
+    let mut text = Vec::new(alloc);
+    push_bad_line(&mut text, number)?;
+    Ok(text)
+}
+
+/// Puts which line is no command.
+fn write_bad_line<K: Sink>(alloc: Global, sink: &mut K, number: u64) -> Status
+    ensures put { result ≡ Status.BadLine → Put (K.bytes_held sink.old) (bad_line_text number) (K.bytes_held sink.new) }
+    ensures prefix { PutPrefix (K.bytes_held sink.old) (bad_line_text number) (K.bytes_held sink.new) }
+    ensures rose { result ≡ Status.WriteFault → Rose (K.faults sink.old) (K.faults sink.new) }
+    ensures ending { (result ≡ Status.BadLine) ⊎ ((result ≡ Status.NoMemory) ⊎ (result ≡ Status.WriteFault)) }
+{
+    match bad_line(alloc, number) {
+        Ok(text) => match write_all(sink, text.as_slice()) {
+            Ok(()) => Status::BadLine,
+            Err(PutFault::Failed) => Status::WriteFault,
+            Err(PutFault::NoMemory) => Status::NoMemory,
+        },
+        Err(_) => Status::NoMemory,
+    }
+}
+
+/// Answers an input: runs its lines, or tells the first that is no command.
+fn answer<K: Sink>(alloc: Global, sink: &mut K, input: &[u8]) -> Status
+    ensures done { result ≡ Status.Done → (commands : List Command) × (commands_in input.now ≡ Ok commands)
+        × StaysSound empty_world commands × Put (K.bytes_held sink.old) (program commands) (K.bytes_held sink.new) }
+    ensures bad_line { result ≡ Status.BadLine → (line : ℕ) × (commands_in input.now ≡ Err line)
+        × Put (K.bytes_held sink.old) (bad_line_text line) (K.bytes_held sink.new) }
+    ensures prefix { PutPrefix (K.bytes_held sink.old) (due_for (commands_in input.now)) (K.bytes_held sink.new) }
+    ensures rose { result ≡ Status.WriteFault → Rose (K.faults sink.old) (K.faults sink.new) }
+    ensures ending { (result ≡ ending_for (commands_in input.now)) ⊎ ((result ≡ Status.NoMemory) ⊎ (result ≡ Status.WriteFault)) }
+{
+    match commands_of(alloc, input) {
+        Ok(commands) => run_commands(alloc, sink, &commands),
+        Err(Misread::BadLine(number)) => write_bad_line(alloc, sink, number),
+        Err(Misread::NoMemory) => Status::NoMemory,
+    }
+}
+
+/// Does all that the program `pybuf` does, but for forms of words that need more than one thread.
+///
+/// With no word, or with the one word `run`, it reads the whole input, at most 1,048,576 bytes,
+/// makes a command of each line, runs them in order in a new world, and puts one line for each
+/// reply. What it needs more memory for is given up with `NoMemory` at any point; what was put then
+/// is the front of what was due.
+pub fn serve_alone<S: Source, K: Sink>(
+    alloc: Global,
+    words: &[Text],
+    source: &mut S,
+    sink: &mut K,
+) -> Status
+    // Other words are refused before anything is read or written.
+    ensures usage { (result ≡ Status.Usage) ↔ (asks_run words.now ≡ false) }
+    ensures usage_reads_nothing { result ≡ Status.Usage → source.new ≡ source.old }
+    ensures usage_writes_nothing { result ≡ Status.Usage → sink.new ≡ sink.old }
+
+    // Where the source tells its bytes.
+    ensures done { result ≡ Status.Done → (input : List ℕ) → S.bytes_left source.old ≡ Some input →
+        IsDone input (S.bytes_left source.new) (K.bytes_held sink.old) (K.bytes_held sink.new) }
+    ensures bad_line { result ≡ Status.BadLine → (input : List ℕ) → S.bytes_left source.old ≡ Some input →
+        IsBadLine input (S.bytes_left source.new) (K.bytes_held sink.old) (K.bytes_held sink.new) }
+    ensures too_long { result ≡ Status.TooLong → (input : List ℕ) → S.bytes_left source.old ≡ Some input →
+        IsTooLong input (S.bytes_left source.new) }
+    ensures prefix { (input : List ℕ) → S.bytes_left source.old ≡ Some input →
+        PutPrefix (K.bytes_held sink.old) (text_due input) (K.bytes_held sink.new) }
+    ensures complete { (input : List ℕ) → S.bytes_left source.old ≡ Some input → asks_run words.now ≡ true →
+        ¬ (Rose (S.faults source.old) (S.faults source.new)) → ¬ (Rose (K.faults sink.old) (K.faults sink.new)) →
+        (result ≡ ending input) ⊎ (result ≡ Status.NoMemory) }
+
+    // Faults are the devices'.
+    ensures read_fault { result ≡ Status.ReadFault → Rose (S.faults source.old) (S.faults source.new) }
+    ensures write_fault { result ≡ Status.WriteFault → Rose (K.faults sink.old) (K.faults sink.new) }
+    ensures read_fault_writes_nothing { result ≡ Status.ReadFault → sink.new ≡ sink.old }
+    ensures too_long_writes_nothing { result ≡ Status.TooLong → sink.new ≡ sink.old }
+    ensures disagree { result ≢ Status.Disagree }
+{
+    if !is_run(words) {
+        return Status::Usage;
+    }
+    match read_all(alloc, source) {
+        Ok(input) => answer(alloc, sink, input.as_slice()),
+        Err(ReadStop::NoMemory) => Status::NoMemory,
+        Err(ReadStop::Failed) => Status::ReadFault,
+        Err(ReadStop::TooLong) => Status::TooLong,
+    }
+}
+
+/// Does what `serve_alone` does with bytes in memory: gives the bytes that it puts, and its status.
+/// Nothing can fail but memory.
+pub fn serve_bytes(alloc: Global, words: &[Text], input: ByteList) -> (ByteList, Status)
+    ensures usage { (result.1 ≡ Status.Usage) ↔ (asks_run words.now ≡ false) }
+    ensures complete { asks_run words.now ≡ true → (result.1 ≡ ending input) ⊎ (result.1 ≡ Status.NoMemory) }
+    ensures done { result.1 ≡ Status.Done →
+        (commands : List Command) × (commands_in input ≡ Ok commands) × (result.0 ≡ program commands) }
+    ensures bad_line { result.1 ≡ Status.BadLine →
+        (line : ℕ) × (commands_in input ≡ Err line) × (result.0 ≡ bad_line_text line) }
+    ensures prefix { (count : ℕ) × (count ≤ length (text_due input)) × (result.0 ≡ take count (text_due input)) }
+    ensures no_read_fault { result.1 ≢ Status.ReadFault }
+    ensures no_write_fault { result.1 ≢ Status.WriteFault }
+{
+    let mut source = QuietSource::new(input);
+    let mut sink = QuietSink::new(alloc);
+    let status = serve_alone(alloc, words, &mut source, &mut sink);
+    (sink.into_bytes(), status)
+}
+
+/// Does all that the program `pybuf` does. Other threads are started only for the forms of words
+/// that need them, of which none is built.
+pub fn serve<R: Threads + Wait + Sync, S: Source, K: Sink>(
+    _rt: &R,
+    alloc: Global,
+    words: &[Text],
+    source: &mut S,
+    sink: &mut K,
+) -> Status
+    // Other words are refused before anything is read or written.
+    ensures usage { (result ≡ Status.Usage) ↔ (asks_run words.now ≡ false) }
+    ensures usage_reads_nothing { result ≡ Status.Usage → source.new ≡ source.old }
+    ensures usage_writes_nothing { result ≡ Status.Usage → sink.new ≡ sink.old }
+
+    // Where the source tells its bytes.
+    ensures done { result ≡ Status.Done → (input : List ℕ) → S.bytes_left source.old ≡ Some input →
+        IsDone input (S.bytes_left source.new) (K.bytes_held sink.old) (K.bytes_held sink.new) }
+    ensures bad_line { result ≡ Status.BadLine → (input : List ℕ) → S.bytes_left source.old ≡ Some input →
+        IsBadLine input (S.bytes_left source.new) (K.bytes_held sink.old) (K.bytes_held sink.new) }
+    ensures too_long { result ≡ Status.TooLong → (input : List ℕ) → S.bytes_left source.old ≡ Some input →
+        IsTooLong input (S.bytes_left source.new) }
+    ensures prefix { (input : List ℕ) → S.bytes_left source.old ≡ Some input →
+        PutPrefix (K.bytes_held sink.old) (text_due input) (K.bytes_held sink.new) }
+    ensures complete { (input : List ℕ) → S.bytes_left source.old ≡ Some input → asks_run words.now ≡ true →
+        ¬ (Rose (S.faults source.old) (S.faults source.new)) → ¬ (Rose (K.faults sink.old) (K.faults sink.new)) →
+        (result ≡ ending input) ⊎ (result ≡ Status.NoMemory) }
+
+    // Faults are the devices'.
+    ensures read_fault { result ≡ Status.ReadFault → Rose (S.faults source.old) (S.faults source.new) }
+    ensures write_fault { result ≡ Status.WriteFault → Rose (K.faults sink.old) (K.faults sink.new) }
+    ensures read_fault_writes_nothing { result ≡ Status.ReadFault → sink.new ≡ sink.old }
+    ensures too_long_writes_nothing { result ≡ Status.TooLong → sink.new ≡ sink.old }
+    ensures disagree { result ≢ Status.Disagree }
+{
+    serve_alone(alloc, words, source, sink)
+}

@@ -1,0 +1,42 @@
+//! How a run of the program ends.
+ghost use Rattle.std.specs.Prelude.{◌≡◌};
+ghost use Rattle.pybuf_cli.specs.Endings.{exit_number};
+
+/// How a run of the program ended.
+#[derive(Clone, Copy, Debug, PartialEq, Eq)]
+pub enum Status {
+    /// All was read, run and written.
+    Done,
+    /// A line of the input is outside the grammar. Nothing was run.
+    BadLine,
+    /// Memory ran out.
+    NoMemory,
+    /// The input could not be read.
+    ReadFault,
+    /// The output could not be written.
+    WriteFault,
+    /// The words of the command line are none that the program knows.
+    Usage,
+    /// The input is longer than the program reads.
+    TooLong,
+    /// Sessions that share an exporter disagree with its history.
+    Disagree,
+}
+
+impl Status {
+    /// The exit status of the process: 0 for `Done`, and 2 to 8 for the others in their order.
+    pub fn number(self) -> u8
+        ensures { result ≡ exit_number self }
+    {
+        match self {
+            Status::Done => 0,
+            Status::BadLine => 2,
+            Status::NoMemory => 3,
+            Status::ReadFault => 4,
+            Status::WriteFault => 5,
+            Status::Usage => 6,
+            Status::TooLong => 7,
+            Status::Disagree => 8,
+        }
+    }
+}

@@ -1,0 +1,216 @@
+//! The texts of replies.
+ghost use Rattle.std.specs.Prelude.{◌≡◌, ◌<◌, ◌==◌, ◌++◌, ◌∷◌, [], OnOk, slice_index, decimal};
+ghost use Rattle.std.specs.Fmt.{signed_decimal};
+ghost use Rattle.std.specs.List.{list_any, flat_map};
+ghost use Rattle.hex.specs.Hex.{lower_digits};
+ghost use Rattle.pybuf_cli.specs.Replies.{quote_of, escaped, quoted, bytes_text, truth_text, scalar_text, next_part_text, tuple_text, item_text, reply_text, reply_line, bad_line_text};
+
+use itoa::Buffer;
+use pybuf_value::{Item, Made, Scalar};
+use pybuf_view::Reply;
+
+/// Adds a decimal number.
+fn push_decimal(out: &mut Vec<u8>, number: u64) -> Made<()>
+    ensures { OnOk result (out.new.items ≡ out.old.items ++ decimal number) }
+{
+    let mut buffer = Buffer::new();
+    out.extend_from_slice(buffer.format(number).as_bytes())?;
+    Ok(())
+}
+
+/// Adds a decimal number with its sign.
+fn push_signed_decimal(out: &mut Vec<u8>, number: i128) -> Made<()>
+    ensures { OnOk result (out.new.items ≡ out.old.items ++ signed_decimal number) }
+{
+    let mut buffer = Buffer::new();
+    out.extend_from_slice(buffer.format(number).as_bytes())?;
+    Ok(())
+}
+
+/// Whether the bytes hold a byte.
+fn holds(bytes: &[u8], byte: u8) -> bool
+    ensures { result ≡ list_any (λ b. b == byte) bytes.now }
+{
+    bytes.iter().any(|b| *b == byte)
+}
+
+/// The quote round the bytes.
+fn quote(bytes: &[u8]) -> u8
+    ensures { result ≡ quote_of bytes.now }
+{
+    if holds(bytes, b'\'') {
+        if !holds(bytes, b'"') {
+            return b'"';
+        }
+    }
+    b'\''
+}
+
+/// The hexadecimal digit of a value.
+fn hex_digit(value: u8) -> u8
+    requires { value < 16 }
+    ensures { result ≡ slice_index lower_digits value }
+{
+    b"0123456789abcdef"[value as usize]
+}
+
+/// Adds a byte as it stands between quotes.
+fn push_escaped(out: &mut Vec<u8>, quote: u8, byte: u8) -> Made<()>
+    ensures { OnOk result (out.new.items ≡ out.old.items ++ escaped quote byte) }
+{
+    if byte == quote {
+        out.extend_from_slice(&[b'\\', byte])?;
+        return Ok(());
+    }
+    if byte == b'\\' {
+        out.extend_from_slice(b"\\\\")?;
+        return Ok(());
+    }
+    if byte == b'\t' {
+        out.extend_from_slice(b"\\t")?;
+        return Ok(());
+    }
+    if byte == b'\n' {
+        out.extend_from_slice(b"\\n")?;
+        return Ok(());
+    }
+    if byte == b'\r' {
+        out.extend_from_slice(b"\\r")?;
+        return Ok(());
+    }
+    if byte >= 32 {
+        if byte <= 126 {
+            out.push(byte)?;
+            return Ok(());
+        }
+    }
+    out.extend_from_slice(&[b'\\', b'x', hex_digit(byte / 16), hex_digit(byte % 16)])?;
+    Ok(())
+}
+
+/// Adds bytes between quotes.
+fn push_quoted(out: &mut Vec<u8>, bytes: &[u8]) -> Made<()>
+    ensures { OnOk result (out.new.items ≡ out.old.items ++ quoted bytes.now) }
+{
+    let quote = quote(bytes);
+    out.push(quote)?;
+    for byte in bytes {
+        push_escaped(out, quote, *byte)?;
+    }
+    out.push(quote)?;
+    Ok(())
+}
+
+/// Adds bytes as Python's `repr` writes them.
+fn push_bytes(out: &mut Vec<u8>, bytes: &[u8]) -> Made<()>
+    ensures { OnOk result (out.new.items ≡ out.old.items ++ bytes_text bytes.now) }
+{
+    out.push(b'b')?;
+    push_quoted(out, bytes)
+}
+
+/// Adds a value without parts.
+fn push_scalar(out: &mut Vec<u8>, scalar: &Scalar) -> Made<()>
+    ensures { OnOk result (out.new.items ≡ out.old.items ++ scalar_text scalar.now) }
+{
+    match scalar {
+        Scalar::None => out.extend_from_slice(b"None")?,
+        Scalar::Bool(truth) => {
+            if *truth {
+                out.extend_from_slice(b"True")?;
+            } else {
+                out.extend_from_slice(b"False")?;
+            }
+        }
+        Scalar::Int(number) => push_signed_decimal(out, *number)?,
+        Scalar::Text(text) => push_quoted(out, text.as_slice())?,
+        Scalar::Bytes(bytes) => push_bytes(out, bytes.as_slice())?,
+        Scalar::Ellipsis => out.extend_from_slice(b"Ellipsis")?,
+        Scalar::Handle(handle) => {
+            out.push(b'h')?;
+            push_decimal(out, *handle)?;
+        }
+    }
+    Ok(())
+}
+
+/// Adds the parts of a tuple after the first.
+fn push_next_parts(out: &mut Vec<u8>, parts: &[Scalar]) -> Made<()>
+    ensures { OnOk result (out.new.items ≡ out.old.items ++ flat_map next_part_text parts.now) }
+{
+    for part in parts {
+        out.extend_from_slice(b", ")?;
+        push_scalar(out, part)?;
+    }
+    Ok(())
+}
+
+/// Adds a tuple.
+fn push_tuple(out: &mut Vec<u8>, parts: &[Scalar]) -> Made<()>
+    ensures { OnOk result (out.new.items ≡ out.old.items ++ tuple_text parts.now) }
+{
+    match parts {
+        [] => out.extend_from_slice(b"()")?,
+        [part] => {
+            out.push(b'(')?;
+            push_scalar(out, part)?;
+            out.extend_from_slice(b",)")?;
+        }
+        [part, more @ ..] => {
+            out.push(b'(')?;
+            push_scalar(out, part)?;
+            push_next_parts(out, more)?;
+            out.push(b')')?;
+        }
+    }
+    Ok(())
+}
+
+/// Adds an item.
+fn push_item(out: &mut Vec<u8>, item: &Item) -> Made<()>
+    ensures { OnOk result (out.new.items ≡ out.old.items ++ item_text item.now) }
+{
+    match item {
+        Item::One(part) => push_scalar(out, part),
+        Item::Many(parts) => push_tuple(out, parts.as_slice()),
+    }
+}
+
+/// Adds a reply.
+fn push_reply(out: &mut Vec<u8>, reply: &Reply) -> Made<()>
+    ensures { OnOk result (out.new.items ≡ out.old.items ++ reply_text reply.now) }
+{
+    match reply {
+        Reply::Ok => out.extend_from_slice(b"ok")?,
+        Reply::Handle(handle) => {
+            out.push(b'h')?;
+            push_decimal(out, *handle)?;
+        }
+        Reply::Item(item) => push_item(out, item)?,
+        Reply::Bytes(bytes) => push_bytes(out, bytes.as_slice())?,
+        Reply::Refused(fault) => {
+            out.extend_from_slice(b"! ")?;
+            out.extend_from_slice(fault.python_name().as_bytes())?;
+        }
+    }
+    Ok(())
+}
+
+/// Adds a reply and its line feed.
+pub fn push_reply_line(out: &mut Vec<u8>, reply: &Reply) -> Made<()>
+    ensures { OnOk result (out.new.items ≡ out.old.items ++ reply_line reply.now) }
+{
+    push_reply(out, reply)?;
+    out.push(b'\n')?;
+    Ok(())
+}
+
+/// Adds what is written of an input whose line of this number is no command.
+pub fn push_bad_line(out: &mut Vec<u8>, number: u64) -> Made<()>
+    ensures { OnOk result (out.new.items ≡ out.old.items ++ bad_line_text number) }
+{
+    out.extend_from_slice(b"line ")?;
+    push_decimal(out, number)?;
+    out.extend_from_slice(b" is not a command\n")?;
+    Ok(())
+}
