@@ -2,7 +2,9 @@
 #![tactic(auto)]
 
 mod iter;
+mod keys;
 mod saturated;
 
 pub use iter::SaturatedSliceIter;
+pub use keys::{OptionalRangeArgs, SequenceIndex, SequenceIndexOp, SliceIndices};
 pub use saturated::SaturatedSlice;
