@@ -121,7 +121,7 @@ picks_span n parts h = picks_span_at n parts.start parts.stop parts.step h
 
 -- ---- how many indices
 
-length-falling : (k top s : ℕ) → length (falling top s k) ≡ k
+pub length-falling : (k top s : ℕ) → length (falling top s k) ≡ k
 length-falling zero top s = refl
 length-falling (suc k) top s = ap suc (length-falling k (top - s) s)
 

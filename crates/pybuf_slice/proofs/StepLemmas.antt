@@ -101,7 +101,7 @@ how_many_down low high t h =
     how_many_far low high t h
     ∙ ap suc (how_many_some (low + suc t) high (suc t) h ∙ ap (λ x. x / suc t + 1) same ∙ sym (how_many_some low (high - suc t) (suc t) inner))
 
-how_many_last : (low high t : ℕ) → low < high → high ≤ low + suc t → how_many low high (suc t) ≡ 1
+pub how_many_last : (low high t : ℕ) → low < high → high ≤ low + suc t → how_many low high (suc t) ≡ 1
 how_many_last low high t h near =
     how_many_near low high t h near ∙ ap suc (how_many_none (low + suc t) high (suc t) near)
 

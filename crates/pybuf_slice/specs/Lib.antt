@@ -3,3 +3,5 @@ pub mod Parts
 pub mod Runs
 pub mod Places
 pub mod Indices
+pub mod Laws
+pub mod Reads
