@@ -1,19 +1,24 @@
 -- The laws of index lists.
-use Rattle.std.proofs.Common.{◌≡◌, ◌≢◌, ℕ, zero, suc, ◌+◌, ◌-◌, ◌*◌, ◌/◌, ◌%◌, ◌^◌, ◌<◌, ◌≤◌, Bool, true, false, List, [], ◌∷◌, ◌++◌, length, ℤ, pos, negsuc, refl, ap, sym, ◌∙◌, arith, ◌⊎◌, inl, inr, Option, None, Some, get_or}
-use Rattle.std.specs.Prelude.{◌↔◌, ◌+ℤ◌, ◌*ℤ◌, neg_ℤ, nat_abs, nat_lt, min, IsTrue, slice_index, if◌then◌else◌, All, AllPairs, Contains}
+use Rattle.std.proofs.Common.{◌≡◌, ◌≢◌, ℕ, zero, suc, ◌+◌, ◌-◌, ◌*◌, ◌/◌, ◌%◌, ◌^◌, ◌<◌, ◌≤◌, Bool, true, false, List, [], ◌∷◌, ◌++◌, length, ℤ, pos, negsuc, refl, ap, sym, ◌∙◌, arith, ◌⊎◌, inl, inr, Option, None, Some, get_or, take, drop, append_assoc}
+use Rattle.std.specs.Prelude.{◌↔◌, ◌+ℤ◌, ◌*ℤ◌, neg_ℤ, nat_abs, nat_lt, min, IsTrue, slice_index, slice_get, slice_range, if◌then◌else◌, All, AllPairs, Contains}
 use Rattle.std.specs.Int.{w64, saturate_signed}
 use Rattle.std.proofs.lemmas.Int.{ints, clamps}
 use Rattle.std.proofs.lemmas.Bool.{cases_lt}
 use Rattle.std.proofs.lemmas.Bool.Decides.{nat_tests}
 use Rattle.std.proofs.lemmas.Nat.{div-add-mod', le-div, mul-le}
 use Rattle.std.proofs.lemmas.List.{get_or_default}
-use Rattle.std.proofs.Math.Nat.{suc-mul}
+use Rattle.std.proofs.Math.Nat.{suc-mul, div-one}
+use Rattle.std.specs.List.{cons_option}
+use Rattle.std.specs.Prelude.{FitsSigned}
+use Rattle.std.proofs.Common.{of_z}
+use Rattle.std.proofs.lemmas.List.Elements.{All-head, All-same, All-rest}
 use Rattle.pybuf_slice.specs.Picks.{adjusted, start_of, stop_of, picks, comes_before}
 use Rattle.pybuf_slice.specs.Parts.{clamped, clamped_part}
-use Rattle.pybuf_slice.specs.Runs.{rising, how_many}
+use Rattle.pybuf_slice.specs.Runs.{rising, how_many, picks_in_span}
+use Rattle.pybuf_slice.specs.Reads.{signed_step, elements_at}
 use Rattle.pybuf_slice.specs.Laws.{IsPick, PicksAre, SameWhenClamped}
 use Rattle.pybuf_slice.proofs.StepLemmas.{how_many_none, how_many_some, how_many_last, below, below-is, falling, length-rising}
-use Rattle.pybuf_slice.proofs.SpanLemmas.{UpTo, DownFrom, start_up, stop_up, start_down, stop_down, picks_up, picks_down, rising_at, length-falling, last_below}
+use Rattle.pybuf_slice.proofs.SpanLemmas.{UpTo, DownFrom, start_up, stop_up, start_down, stop_down, picks_up, picks_down, span_rises, span_falls, rising_at, length-falling, last_below}
 
 -- ---- clamping
 
@@ -251,3 +256,69 @@ picks_are n start stop (negsuc t) moves =
       inside = rw list (inside_down n a.top b.top t a.within);
       ordered = rw list (ordered_down a.top b.top t);
     }
+
+-- ---- the indices of a span are places in the sequence
+
+pub span_inside : (n low high : ℕ) (step : ℤ) → step ≢ pos 0 → high ≤ n → All (λ i. i < n) (picks_in_span low high step)
+span_inside n low high (pos zero) moves h = absurd (moves refl)
+span_inside n low high (pos (suc t)) moves h = rw (span_rises low high t) (inside_up n low high t h)
+span_inside n low high (negsuc t) moves h = rw (span_falls low high t) (inside_down n high low t h)
+
+pub stride_inside : (n low high stride : ℕ) (falls : Bool) → 0 < stride → high ≤ n → All (λ i. i < n) (picks_in_span low high (signed_step falls stride))
+stride_inside n low high zero falls some h = absurd (omega arith)
+stride_inside n low high (suc t) false some h = rw (span_rises low high t) (inside_up n low high t h)
+stride_inside n low high (suc t) true some h = rw (span_falls low high t) (inside_down n high low t h)
+
+-- ---- reading
+
+pub slice_get_read : {X : Type 0} (xs : List X) (i : ℕ) (x : X) → i < length xs → x ≡ get_or xs i x → slice_get xs i ≡ Some x
+slice_get_read [] i x h e = absurd (omega arith)
+slice_get_read (y ∷ ys) zero x h e = ap Some (sym e)
+slice_get_read (y ∷ ys) (suc i) x h e = slice_get_read ys i x (omega arith) e
+
+pub gather_step : {X : Type 0} (items out new all : List X) (before rest : List ℕ) (i : ℕ) (x : X) → out ++ elements_at items before ≡ all → before ≡ i ∷ rest → i < length items → x ≡ get_or items i x → new ≡ out ++ x ∷ [] → new ++ elements_at items rest ≡ all
+gather_step {X} items out new all before rest i x inv first h read pushed =
+    let found_at : slice_get items i ≡ Some x = slice_get_read items i x h read in
+    let more : elements_at items before ≡ x ∷ elements_at items rest =
+    ap (elements_at items) first ∙ ap (λ (o : Option X). cons_option o (elements_at items rest)) found_at in
+    ap (λ (xs : List X). xs ++ elements_at items rest) pushed
+    ∙ append_assoc out (x ∷ []) (elements_at items rest)
+    ∙ ap (λ (xs : List X). out ++ xs) (sym more) ∙ inv
+
+drop_step : {X : Type 0} (xs : List X) (i : ℕ) → i < length xs → (x : X) × (slice_get xs i ≡ Some x) × (drop i xs ≡ x ∷ drop (suc i) xs)
+drop_step [] i h = absurd (omega arith)
+drop_step (y ∷ ys) zero h = (y, refl, refl)
+drop_step (y ∷ ys) (suc i) h = drop_step ys i (omega arith)
+
+elements_rising : {X : Type 0} (items : List X) (k low : ℕ) → low + k ≤ length items → elements_at items (rising low 1 k) ≡ take k (drop low items)
+elements_rising items zero low h = refl
+elements_rising {X} items (suc k) low h =
+    let s = drop_step items low (omega arith) in
+    let next : low + 1 ≡ suc low = omega arith in
+    ap (λ (o : Option X). cons_option o (elements_at items (rising (low + 1) 1 k))) s.1
+    ∙ ap (λ (xs : List X). s.0 ∷ xs) (ap (λ n. elements_at items (rising n 1 k)) next ∙ elements_rising items k (suc low) (omega arith))
+    ∙ sym (ap (take (suc k)) s.2)
+
+how_many_one : (low high : ℕ) → how_many low high 1 ≡ high - low
+how_many_one low high =
+    elim (cases_lt low high) [
+      | inl under ↦ rw (how_many_some low high 1 under, div-one (high - low - 1)) (omega arith)
+      | inr over ↦ rw (how_many_none low high 1 over) (omega arith)
+    ]
+
+-- a step of 1 reads a range
+pub elements_by_one : {X : Type 0} (items : List X) (low high : ℕ) (step : ℤ) → step ≡ pos 1 → low ≤ high → high ≤ length items → elements_at items (picks_in_span low high step) ≡ slice_range items low high
+elements_by_one {X} items low high step one ordered inside =
+    ap (λ z. elements_at items (picks_in_span low high z)) one
+    ∙ ap (elements_at items) (span_rises low high 0 ∙ ap (rising low 1) (how_many_one low high))
+    ∙ elements_rising items (high - low) low (omega arith)
+
+-- the test of the code for a step of 1
+pub one_from_bits : (z : ℤ) → FitsSigned w64 z → of_z w64 z ≡ 1 → z ≡ pos 1
+one_from_bits z fits e = omega (arith, ints, e)
+
+pub first_inside : (n : ℕ) (before rest : List ℕ) (i : ℕ) → before ≡ i ∷ rest → All (λ k. k < n) before → i < n
+first_inside n before rest i e all = All-head (λ k. k < n) i rest (All-same (λ k. k < n) (i ∷ rest) before (sym e) all)
+
+pub rest_inside : (n : ℕ) (before rest : List ℕ) (i : ℕ) → before ≡ i ∷ rest → All (λ k. k < n) before → All (λ k. k < n) rest
+rest_inside n before rest i e all = All-rest (λ k. k < n) i rest before e all

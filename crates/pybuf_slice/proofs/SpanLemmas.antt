@@ -11,6 +11,7 @@ use Rattle.std.proofs.lemmas.Bool.Decides.{nat_tests}
 use Rattle.pybuf_slice.specs.Picks.{steps_to, adjusted, start_of, stop_of, picks, is_negative}
 use Rattle.pybuf_slice.specs.Parts.{SliceParts, picks_of}
 use Rattle.pybuf_slice.specs.Runs.{rising, run_low, run_of, how_many, picks_in_span, span_start, span_limit, span_end}
+use Rattle.pybuf_slice.specs.Reads.{signed_step}
 use Rattle.pybuf_slice.proofs.StepLemmas.{how_many_none, below, below-is, how_many_some, steps_up, steps_down, falling, falling-is, length-rising, rising_push, reverse-rising}
 
 -- a place from 0 to n
@@ -153,7 +154,7 @@ last_below low high t k h =
 
 -- ---- a run for the indices of a span
 
-pub run-span : (low high : ℕ) (step : ℤ) (count : ℕ) → step ≢ pos 0 → count ≡ length (picks_in_span low high step) → run_of (is_negative step) (run_low low high step count) (nat_abs step) count ≡ picks_in_span low high step
+pub run-span : (low high : ℕ) (step : ℤ) (count : ℕ) → step ≢ pos 0 → count ≡ length (picks_in_span low high step) → run_of (is_negative step) (run_low (is_negative step) low high (nat_abs step) count) (nat_abs step) count ≡ picks_in_span low high step
 run-span low high (pos zero) count h c = absurd (h refl)
 run-span low high (pos (suc t)) count h c =
     let e : count ≡ how_many low high (suc t) = c ∙ length-picks_in_span low high (pos (suc t)) h in
@@ -192,9 +193,25 @@ pub is_negative-lt : (z : ℤ) → int_lt z (pos 0) ≡ is_negative z
 is_negative-lt (pos n) = grind (arith, nat_tests)
 is_negative-lt (negsuc n) = refl
 
-pub run_of_span : (low high : ℕ) (step : ℤ) (count least stride : ℕ) (falls : Bool) → step ≢ pos 0 → count ≡ length (picks_in_span low high step) → least ≡ run_low low high step count → stride ≡ nat_abs step → falls ≡ is_negative step → run_of falls least stride count ≡ picks_in_span low high step
+pub run_of_span : (low high : ℕ) (step : ℤ) (count least stride : ℕ) (falls : Bool) → step ≢ pos 0 → count ≡ length (picks_in_span low high step) → least ≡ run_low falls low high stride count → stride ≡ nat_abs step → falls ≡ is_negative step → run_of falls least stride count ≡ picks_in_span low high step
 run_of_span low high step count least stride falls moves c l s f =
     rw (l, s, f) (run-span low high step count moves c)
+
+-- the same for a stride up or down
+pub run_of_stride : (low high stride count least : ℕ) (falls : Bool) → 0 < stride → count ≡ how_many low high stride → least ≡ run_low falls low high stride count → run_of falls least stride count ≡ picks_in_span low high (signed_step falls stride)
+run_of_stride low high zero count least falls some c l = absurd (omega arith)
+run_of_stride low high (suc t) count least false some c l =
+    let moves : pos (suc t) ≢ pos 0 = λ e. omega (arith, ints, e) in
+    run_of_span low high (pos (suc t)) count least (suc t) false moves (c ∙ sym (length-picks_in_span low high (pos (suc t)) moves)) l refl refl
+run_of_stride low high (suc t) count least true some c l =
+    let moves : negsuc t ≢ pos 0 = λ e. omega (arith, ints, e) in
+    run_of_span low high (negsuc t) count least (suc t) true moves (c ∙ sym (length-picks_in_span low high (negsuc t) moves)) l refl refl
+
+pub stride_fits : (low high stride count : ℕ) → 0 < stride → low ≤ high → count ≡ how_many low high stride → low + (count - 1) * stride ≤ high
+stride_fits low high zero count some ordered c = absurd (omega arith)
+stride_fits low high (suc t) count some ordered c =
+    let moves : pos (suc t) ≢ pos 0 = λ e. omega (arith, ints, e) in
+    run_fits low high (pos (suc t)) count moves ordered (c ∙ sym (length-picks_in_span low high (pos (suc t)) moves))
 
 -- ---- taking from a run
 

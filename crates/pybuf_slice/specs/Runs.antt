@@ -44,5 +44,5 @@ picks_in_span low high step =
     else steps_to (high - low) (pos low) (pos high) step
 
 -- the least number of a run of so many indices in a span: where they fall, the last of them
-abbrev pub run_low : ℕ → ℕ → ℤ → ℕ → ℕ
-run_low low high step count = if is_negative step then high - 1 - (count - 1) * nat_abs step else low
+abbrev pub run_low : Bool → ℕ → ℕ → ℕ → ℕ → ℕ
+run_low falls low high stride count = if falls then high - 1 - (count - 1) * stride else low

@@ -4,8 +4,9 @@ ghost use Rattle.std.specs.List.Sorted.{IsStrictlyIncreasing};
 ghost use Rattle.std.specs.Iterator.{YieldsFirst, YieldsLast, item_count};
 ghost use Rattle.pybuf_slice.specs.Parts.{picks_of};
 ghost use Rattle.pybuf_slice.specs.Runs.{picks_in_span, run_low};
+ghost use Rattle.pybuf_slice.specs.Reads.{signed_step};
 
-use crate::saturated::SaturatedSlice;
+use crate::saturated::{SaturatedSlice, count_between};
 use std::iter::FusedIterator;
 use std::marker::Model;
 use std::ops::Range;
@@ -53,11 +54,28 @@ impl SaturatedSliceIter {
     {
         let stride = step.unsigned_abs();
         let falls = step < 0;
-        let low = lowest(range.start, range.end, step, len);
+        let low = lowest(range.start, range.end, stride, len, falls);
         SaturatedSliceIter {
             low,
             stride,
             left: len,
+            falls,
+        }
+    }
+
+    /// The indices of a span, one stride apart: from its first place up, or from its last one down.
+    pub(crate) fn in_span(range: Range<usize>, stride: usize, falls: bool) -> SaturatedSliceIter
+        requires ordered { range.start ≤ range.end }
+        requires within { range.end < 2 ^ 63 }
+        requires moves { 0 < stride }
+        ensures { result ≡ picks_in_span range.start range.end (signed_step falls stride) }
+    {
+        let left = count_between(range.start, range.end, stride);
+        let low = lowest(range.start, range.end, stride, left, falls);
+        SaturatedSliceIter {
+            low,
+            stride,
+            left,
             falls,
         }
     }
@@ -76,17 +94,15 @@ impl SaturatedSliceIter {
     }
 }
 
-/// The least index of a span.
-fn lowest(low: usize, high: usize, step: isize, count: usize) -> usize
-    requires ordered { low ≤ high }
+/// The least of so many indices in a span.
+fn lowest(low: usize, high: usize, stride: usize, count: usize, falls: bool) -> usize
     requires within { high < 2 ^ 63 }
-    requires moves { step ≢ pos 0 }
-    requires count { count ≡ length (picks_in_span low high step) }
-    ensures least { result ≡ run_low low high step count }
-    ensures last { result + (count - 1) * nat_abs step ≤ high }
+    requires fits { low + (count - 1) * stride ≤ high }
+    ensures least { result ≡ run_low falls low high stride count }
+    ensures last { result + (count - 1) * stride ≤ high }
 {
-    if step < 0 {
-        high.saturating_sub(1 + count.saturating_sub(1) * step.unsigned_abs())
+    if falls {
+        high.saturating_sub(1 + count.saturating_sub(1) * stride)
     } else {
         low
     }

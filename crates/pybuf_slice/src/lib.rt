@@ -5,6 +5,7 @@ mod iter;
 mod keys;
 mod laws;
 mod saturated;
+pub mod slices;
 
 pub use iter::SaturatedSliceIter;
 pub use keys::{OptionalRangeArgs, SequenceIndex, SequenceIndexOp, SliceIndices};
