@@ -5,9 +5,11 @@ mod iter;
 mod keys;
 mod laws;
 mod saturated;
+mod sequence;
 pub mod slices;
 
 pub use iter::SaturatedSliceIter;
 pub use keys::{OptionalRangeArgs, SequenceIndex, SequenceIndexOp, SliceIndices};
 pub use laws::{clamping_changes_no_index, indices_of_a_slice};
 pub use saturated::SaturatedSlice;
+pub use sequence::SliceableSequenceOp;
