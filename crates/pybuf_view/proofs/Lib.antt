@@ -5,3 +5,4 @@ pub mod Ran
 pub mod Runs
 pub mod Refusals
 pub mod Releases
+pub mod Backward

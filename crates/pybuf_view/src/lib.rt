@@ -20,7 +20,9 @@ pub use commands::{
 };
 pub use exporter::ExporterState;
 pub use kinds::{ExporterKind, Subject};
-pub use laws::{handles_stay, refusals_change_nothing, releasing_twice_is_once};
+pub use laws::{
+    handles_stay, refusals_change_nothing, releasing_twice_is_once, slicing_back_twice_is_nothing,
+};
 pub use named::Named;
 pub use world::World;
 
