@@ -13,3 +13,6 @@ pub use keys::{OptionalRangeArgs, SequenceIndex, SequenceIndexOp, SliceIndices};
 pub use laws::{clamping_changes_no_index, indices_of_a_slice};
 pub use saturated::SaturatedSlice;
 pub use sequence::SliceableSequenceOp;
+
+#[cfg(test)]
+mod tests;
