@@ -1,7 +1,7 @@
 -- The laws of index lists.
-use Rattle.std.proofs.Common.{◌≡◌, ◌≢◌, ℕ, zero, suc, ◌+◌, ◌-◌, ◌*◌, ◌/◌, ◌%◌, ◌^◌, ◌<◌, ◌≤◌, Bool, true, false, List, [], ◌∷◌, ◌++◌, length, ℤ, pos, negsuc, refl, ap, sym, ◌∙◌, arith, ◌⊎◌, inl, inr, Option, None, Some, get_or, take, drop, append_assoc}
-use Rattle.std.specs.Prelude.{◌↔◌, ◌+ℤ◌, ◌*ℤ◌, neg_ℤ, nat_abs, nat_lt, min, IsTrue, slice_index, slice_get, slice_range, if◌then◌else◌, All, AllPairs, Contains}
-use Rattle.std.specs.Int.{w64, saturate_signed}
+use Rattle.std.proofs.Common.{◌≡◌, ◌≢◌, ℕ, zero, suc, ◌+◌, ◌-◌, ◌*◌, ◌/◌, ◌^◌, ◌<◌, ◌≤◌, Bool, true, false, List, [], ◌∷◌, ◌++◌, length, ℤ, pos, negsuc, refl, ap, sym, ◌∙◌, arith, ◌⊎◌, inl, inr, Option, None, Some, get_or, take, drop, append_assoc}
+use Rattle.std.specs.Prelude.{◌↔◌, ◌+ℤ◌, ◌*ℤ◌, neg_ℤ, IsTrue, slice_index, slice_get, slice_range, All, AllPairs, Contains}
+use Rattle.std.specs.Int.{w64}
 use Rattle.std.proofs.lemmas.Int.{ints, clamps}
 use Rattle.std.proofs.lemmas.Bool.{cases_lt}
 use Rattle.std.proofs.lemmas.Bool.Decides.{nat_tests}
@@ -16,9 +16,9 @@ use Rattle.pybuf_slice.specs.Picks.{adjusted, start_of, stop_of, picks, comes_be
 use Rattle.pybuf_slice.specs.Parts.{clamped, clamped_part}
 use Rattle.pybuf_slice.specs.Runs.{rising, how_many, picks_in_span}
 use Rattle.pybuf_slice.specs.Reads.{signed_step, elements_at}
-use Rattle.pybuf_slice.specs.Laws.{IsPick, PicksAre, SameWhenClamped}
+use Rattle.pybuf_slice.specs.Laws.{PicksAre, SameWhenClamped}
 use Rattle.pybuf_slice.proofs.StepLemmas.{how_many_none, how_many_some, how_many_last, below, below-is, falling, length-rising}
-use Rattle.pybuf_slice.proofs.SpanLemmas.{UpTo, DownFrom, start_up, stop_up, start_down, stop_down, picks_up, picks_down, span_rises, span_falls, rising_at, length-falling, last_below}
+use Rattle.pybuf_slice.proofs.SpanLemmas.{start_up, stop_up, start_down, stop_down, picks_up, picks_down, span_rises, span_falls, rising_at, length-falling}
 
 -- ---- clamping
 

@@ -1,3 +1,4 @@
 pub mod StepLemmas
 pub mod SpanLemmas
 pub mod LawLemmas
+pub mod PartLemmas

@@ -1,6 +1,6 @@
 -- A slice's indices lie in its span, and are a run of numbers.
-use Rattle.std.proofs.Common.{◌≡◌, ◌≢◌, ℕ, zero, suc, ◌+◌, ◌-◌, ◌*◌, ◌/◌, ◌%◌, ◌^◌, ◌<◌, ◌≤◌, Bool, true, false, List, [], ◌∷◌, ◌++◌, length, ℤ, pos, negsuc, refl, ap, sym, ◌∙◌, arith, reverse, ◌⊎◌, inl, inr, Option, None, Some}
-use Rattle.std.specs.Prelude.{◌+ℤ◌, nat_abs, nat_lt, max, int_lt, slice_index, if◌then◌else◌}
+use Rattle.std.proofs.Common.{◌≡◌, ◌≢◌, ℕ, zero, suc, ◌+◌, ◌-◌, ◌*◌, ◌/◌, ◌%◌, ◌<◌, ◌≤◌, Bool, true, false, [], ◌∷◌, ◌++◌, length, ℤ, pos, negsuc, refl, ap, sym, ◌∙◌, arith, reverse, inl, inr, Option, None, Some}
+use Rattle.std.specs.Prelude.{◌+ℤ◌, nat_abs, max, int_lt, slice_index}
 use Rattle.std.specs.List.Sorted.{IsStrictlyIncreasing}
 use Rattle.std.proofs.Math.Nat.{suc-mul}
 use Rattle.std.proofs.lemmas.Int.{ints, clamps}
@@ -8,7 +8,7 @@ use Rattle.std.proofs.lemmas.List.{length-reverse}
 use Rattle.std.proofs.lemmas.Nat.{div-add-mod'}
 use Rattle.std.proofs.lemmas.Bool.{cases_lt}
 use Rattle.std.proofs.lemmas.Bool.Decides.{nat_tests}
-use Rattle.pybuf_slice.specs.Picks.{steps_to, adjusted, start_of, stop_of, picks, is_negative}
+use Rattle.pybuf_slice.specs.Picks.{adjusted, start_of, stop_of, picks, is_negative}
 use Rattle.pybuf_slice.specs.Parts.{SliceParts, picks_of}
 use Rattle.pybuf_slice.specs.Runs.{rising, run_low, run_of, how_many, picks_in_span, span_start, span_limit, span_end}
 use Rattle.pybuf_slice.specs.Reads.{signed_step}

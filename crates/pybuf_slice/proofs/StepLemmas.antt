@@ -1,11 +1,10 @@
 -- The steps of the slice rule are runs of numbers at one distance.
-use Rattle.std.proofs.Common.{◌≡◌, ℕ, zero, suc, ◌+◌, ◌-◌, ◌*◌, ◌/◌, ◌<◌, ◌≤◌, Bool, true, false, List, [], ◌∷◌, ◌++◌, length, ℤ, pos, negsuc, refl, ap, sym, ◌∙◌, arith, reverse, ◌⊎◌, inl, inr}
-use Rattle.std.proofs.Common.{cond}
-use Rattle.std.specs.Prelude.{◌+ℤ◌, nat_abs, nat_lt, if◌then◌else◌}
+use Rattle.std.proofs.Common.{◌≡◌, ℕ, zero, suc, ◌+◌, ◌-◌, ◌*◌, ◌/◌, ◌<◌, ◌≤◌, true, false, List, [], ◌∷◌, ◌++◌, length, ℤ, pos, negsuc, refl, ap, sym, ◌∙◌, arith, reverse, inl, inr}
+use Rattle.std.specs.Prelude.{◌+ℤ◌, nat_abs}
 use Rattle.std.proofs.lemmas.Int.{ints}
 use Rattle.std.proofs.lemmas.Bool.{cases_lt}
 use Rattle.std.proofs.lemmas.Bool.Decides.{nat_tests}
-use Rattle.std.proofs.lemmas.List.{reverse-append, append-nil}
+use Rattle.std.proofs.lemmas.List.{reverse-append}
 use Rattle.std.proofs.Math.Nat.{add-div_right, div-eq_of_lt, suc-mul}
 use Rattle.pybuf_slice.specs.Picks.{steps_to, comes_before}
 use Rattle.pybuf_slice.specs.Runs.{rising, how_many}

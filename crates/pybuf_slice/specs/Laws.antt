@@ -1,7 +1,9 @@
 -- What the index list of a slice is, beside its definition.
-use Rattle.std.specs.Prelude.{◌≡◌, ◌≢◌, ◌↔◌, ℕ, ◌<◌, ◌^◌, ℤ, pos, ◌+ℤ◌, ◌*ℤ◌, List, Option, IsTrue, All, AllPairs, Contains}
-use Rattle.pybuf_slice.specs.Picks.{start_of, stop_of, comes_before, picks}
-use Rattle.pybuf_slice.specs.Parts.{clamped, clamped_part}
+use Rattle.std.specs.Prelude.{◌≡◌, ◌≢◌, ◌↔◌, ℕ, ◌<◌, ◌^◌, ℤ, pos, ◌+ℤ◌, ◌*ℤ◌, Option, IsTrue, All, AllPairs, Contains, IfOk}
+use Rattle.pybuf_slice.specs.Picks.{start_of, stop_of, comes_before, steps_to, picks}
+use Rattle.pybuf_slice.specs.Parts.{SliceParts, clamped, clamped_part, parts_of, saturated_parts_of, picks_of}
+use Rattle.pybuf_slice.specs.Indices.{indices_of}
+use Rattle.pybuf_value.specs.declared.values.PySlice.{PySlice}
 
 -- a number of steps from the start, and before the stop in the direction of the step
 abbrev pub IsPick : ℕ → Option ℤ → Option ℤ → ℤ → ℕ → Type 0
@@ -24,3 +26,14 @@ SameWhenClamped n start stop step =
 
 abbrev pub EachSlice : (ℕ → Option ℤ → Option ℤ → ℤ → Type 0) → Type 0
 EachSlice P = (n : ℕ) (start stop : Option ℤ) (step : ℤ) → step ≢ pos 0 → P n start stop step
+
+-- the clamped parts of a slice have the indices of its own parts
+abbrev pub SameAsItsParts : PySlice → SliceParts → Type 0
+SameAsItsParts slice saturated =
+    IfOk (parts_of slice) (λ parts. (n : ℕ) → n < 2 ^ 63 → picks_of n saturated ≡ picks_of n parts)
+
+-- the start, stop and step that `indices` gives lead to the indices of the clamped slice
+abbrev pub IndicesAgree : PySlice → ℕ → Type 0
+IndicesAgree slice n =
+    n < 2 ^ 63
+    → IfOk (saturated_parts_of slice) (λ saturated. IfOk (indices_of (pos n) slice) (λ at. steps_to n at.0 at.1 at.2 ≡ picks_of n saturated))

@@ -1,5 +1,7 @@
 //! What holds of the indices of every slice.
-ghost use Rattle.pybuf_slice.specs.Laws.{EachSlice, PicksAre, SameWhenClamped};
+ghost use Rattle.std.specs.Prelude.{ℕ};
+ghost use Rattle.pybuf_value.specs.declared.values.PySlice.{PySlice};
+ghost use Rattle.pybuf_slice.specs.Laws.{EachSlice, PicksAre, SameWhenClamped, IndicesAgree};
 
 /// The indices of a slice are exactly the numbers that lie so many steps from its start and before
 /// its stop, each is the place of an item, and they rise or fall strictly with the step.
@@ -11,4 +13,11 @@ pub fn indices_of_a_slice()
 /// parts is at the nearest `isize`.
 pub fn clamping_changes_no_index()
     ensures { EachSlice SameWhenClamped }
+{}
+
+/// In a sequence of at most `isize::MAX` items, the start, stop and step that
+/// `SliceIndices::indices` gives lead to the very indices that a `SaturatedSlice` of the same slice
+/// has, whose number `adjust_indices` gives.
+pub fn indices_and_adjust_indices_agree()
+    ensures { (slice : PySlice) (n : ℕ) → IndicesAgree slice n }
 {}

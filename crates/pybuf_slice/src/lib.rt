@@ -10,6 +10,9 @@ pub mod slices;
 
 pub use iter::SaturatedSliceIter;
 pub use keys::{OptionalRangeArgs, SequenceIndex, SequenceIndexOp, SliceIndices};
-pub use laws::{clamping_changes_no_index, indices_of_a_slice};
+pub use laws::{clamping_changes_no_index, indices_and_adjust_indices_agree, indices_of_a_slice};
 pub use saturated::SaturatedSlice;
 pub use sequence::SliceableSequenceOp;
+
+#[cfg(test)]
+mod tests;

@@ -1,7 +1,8 @@
 //! Slices whose parts fit `isize`.
-ghost use Rattle.std.specs.Prelude.{◌≡◌, ◌<◌, ◌≤◌, ◌^◌, ◌≤ℤ◌, ◌<ℤ◌, ◌+ℤ◌, pos, negsuc, ℤ, Option, Result, length, nat_abs};
+ghost use Rattle.std.specs.Prelude.{◌≡◌, ◌<◌, ◌≤◌, ◌^◌, ◌≤ℤ◌, ◌<ℤ◌, ◌+ℤ◌, pos, negsuc, ℤ, Option, Result, IfOk, length, nat_abs};
 ghost use Rattle.pybuf_value.specs.declared.faults.Fault.{Fault};
 ghost use Rattle.pybuf_slice.specs.Parts.{SliceParts, IsSaturated, FitsPart, saturated_parts_of, part_in, step_in, clamped_part, picks_of};
+ghost use Rattle.pybuf_slice.specs.Laws.{SameAsItsParts};
 ghost use Rattle.pybuf_slice.specs.Picks.{adjusted, start_of, stop_of, lower_bound, upper_bound};
 ghost use Rattle.pybuf_slice.specs.Runs.{span_start, span_limit, span_end, how_many, picks_in_span};
 
@@ -39,6 +40,7 @@ impl SaturatedSlice {
     /// neither `None` nor a number.
     pub fn with_slice(slice: &PySlice) -> Result<SaturatedSlice, Fault>
         ensures parts { result ≡ saturated_parts_of slice.now }
+        ensures indices { IfOk result (λ saturated. SameAsItsParts slice.now saturated) }
     {
         let step = step_of(&slice.step)?;
         let start = part_of(&slice.start)?;

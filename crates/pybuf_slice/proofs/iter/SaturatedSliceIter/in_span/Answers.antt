@@ -1,5 +1,5 @@
 -- The run that the code keeps is the indices of the span.
-use Rattle.pybuf_slice.proofs.SpanLemmas.{run_of_stride, stride_fits}
+use Rattle.pybuf_slice.proofs.SpanLemmas.{run_of_stride}
 use Rattle.pybuf_slice.proofs.iter.SaturatedSliceIter.in_span.Goals as goal
 
 pub returns : goal.returns

@@ -1,5 +1,5 @@
 -- The last of a rising run is its greatest number.
-use Rattle.std.proofs.Common.{◌≡◌, ◌-◌, ◌∙◌, sym, length, ap, arith}
+use Rattle.std.proofs.Common.{◌-◌, ◌∙◌, sym, length, ap, arith}
 use Rattle.pybuf_slice.proofs.SpanLemmas.{run_top_last, length-run}
 use Rattle.pybuf_slice.proofs.iter.SaturatedSliceIterDoubleEndedIterator.next_back.Goals as goal
 

@@ -1,5 +1,5 @@
 -- The first of a falling run is its greatest number.
-use Rattle.std.proofs.Common.{◌≡◌, ◌-◌, ◌∙◌, sym, length, ap, arith}
+use Rattle.std.proofs.Common.{◌-◌, ◌∙◌, sym, length, ap, arith}
 use Rattle.pybuf_slice.proofs.SpanLemmas.{run_top_first, length-run}
 use Rattle.pybuf_slice.proofs.iter.SaturatedSliceIterIterator.next.Goals as goal
 

@@ -1,5 +1,5 @@
 -- A run has as many numbers as are left.
-use Rattle.std.proofs.Common.{◌≡◌, length, ap, sym, ◌∙◌, arith}
+use Rattle.std.proofs.Common.{length, ap, arith}
 use Rattle.pybuf_slice.proofs.SpanLemmas.{length-run}
 use Rattle.pybuf_slice.proofs.iter.SaturatedSliceIterIterator.size_hint.Goals as goal
 
