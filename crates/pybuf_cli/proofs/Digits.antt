@@ -1,5 +1,5 @@
 -- Numbers of few digits are small.
-use Rattle.std.proofs.Common.{ℕ, ◌<◌, ◌≤◌, ◌*◌, ◌+◌, ◌^◌, arith}
+use Rattle.std.proofs.Common.{ℕ, ◌<◌, ◌≤◌, ◌^◌, arith}
 use Rattle.std.proofs.Math.Nat.{pow-le-pow_right}
 
 pub few_digits : (n i : ℕ) → n < 10 ^ i → i < 18 → n < 100_000_000_000_000_000

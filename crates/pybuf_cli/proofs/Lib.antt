@@ -7,3 +7,4 @@ pub mod Sending
 pub mod Commands
 pub mod Parts
 pub mod LineLaws
+pub mod ReplyLaws

@@ -1,8 +1,9 @@
 -- Laws of lines, of their commands and of the texts of replies.
-use Rattle.std.specs.Prelude.{◌≡◌, ◌⊎◌, ℕ, ◌+◌, List, [], ◌∷◌, ◌++◌, length, map, ◌==◌, Bool, false, Option, Some, None, Ok, Err}
+use Rattle.std.specs.Prelude.{◌≡◌, ◌⊎◌, ℕ, ◌+◌, List, [], ◌∷◌, ◌++◌, length, map, ◌==◌, false, Option, Some, None, Ok, Err}
 use Rattle.std.specs.List.{flat_map, join_with_byte, list_any, AllByRecursion}
 use Rattle.pybuf_view.specs.declared.commands.Command.{Command}
 use Rattle.pybuf_view.specs.declared.commands.Reply.{Reply}
+use Rattle.pybuf_cli.specs.Replies.{reply_text}
 use Rattle.pybuf_cli.specs.Lines.{lines, words, command_in, commands_in}
 
 -- a line with its line feed
@@ -33,3 +34,7 @@ abbrev pub BadLineIsFirst : Type 0
 BadLineIsFirst = (input : List ℕ) (n : ℕ) → commands_in input ≡ Err n →
     (before : List Command) × (rest : List (Option Command))
     × (map command_in (lines input) ≡ map Some before ++ None ∷ rest) × (n ≡ length before + 1)
+
+-- the text of a reply holds no line feed, so there is one line for each reply
+abbrev pub RepliesAreSingle : Type 0
+RepliesAreSingle = (reply : Reply) → IsOneLine (reply_text reply)

@@ -2,7 +2,6 @@
 use Rattle.std.specs.Prelude.{ℕ, ◌+◌, List, [], ◌∷◌, length, codes, ◌==◌, Option, Some, None, Result, Ok, Err, if◌then◌else◌}
 use Rattle.std.specs.List.{slice_split}
 use Rattle.std.specs.Str.{bytes_eq}
-use Rattle.pybuf_value.specs.declared.values.Value.{Value}
 use Rattle.pybuf_view.specs.declared.kinds.ExporterKind.{ExporterKind}
 use Rattle.pybuf_view.specs.declared.kinds.ExporterKind.TheVariants as kind
 use Rattle.pybuf_view.specs.declared.commands.Verb.{Verb}

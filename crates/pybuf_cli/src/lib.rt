@@ -19,7 +19,9 @@ mod writing;
 
 pub use adapters::{ReaderSource, WriterSink};
 pub use devices::{Failed, PutFault, Sink, Source};
-pub use laws::{commands_are_of_lines, lines_are_the_input, words_are_the_line};
+pub use laws::{
+    commands_are_of_lines, lines_are_the_input, replies_are_single_lines, words_are_the_line,
+};
 pub use memory::{QuietSink, QuietSource};
 pub use serving::{serve, serve_alone, serve_bytes};
 pub use status::Status;

@@ -1,4 +1,4 @@
-use Rattle.std.proofs.Common.{◌<◌, arith}
+use Rattle.std.proofs.Common.{arith}
 use Rattle.pybuf_cli.proofs.Digits.{few_digits}
 use Rattle.pybuf_cli.proofs.values.value_of_digits.Goals as goal
 
