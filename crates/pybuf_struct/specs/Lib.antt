@@ -1,0 +1,4 @@
+pub mod Table
+pub mod Digits
+pub mod Formats
+pub mod Values

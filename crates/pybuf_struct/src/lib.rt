@@ -1,0 +1,8 @@
+//! The formats of Python's `struct` module: texts to formats, and bytes to values by them.
+#![tactic(auto)]
+
+mod format;
+mod table;
+
+pub use format::{FormatCode, FormatSpec};
+pub use table::{Endianness, FormatType};
