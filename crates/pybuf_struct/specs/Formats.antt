@@ -1,9 +1,9 @@
--- Formats: the grammar of their text, and where their fields lie.
-use Rattle.std.specs.Prelude.{◌≡◌, ◌<◌, length, ℕ, zero, suc, ◌+◌, ◌-◌, ◌*◌, ◌%◌, ◌^◌, ◌==◌, Bool, true, false, List, [], ◌∷◌, ◌++◌, Option, Some, None, Result, Ok, Err, nat_lt, ◌&&◌, unwrap_or, if◌then◌else◌}
+-- Formats: the grammar of their text, and where their fields lie. A format is an optional prefix and then any number
+-- of codes, each with an optional decimal count.
+use Rattle.std.specs.Prelude.{◌≡◌, ◌<◌, length, ℕ, zero, suc, ◌+◌, ◌-◌, ◌*◌, ◌%◌, ◌^◌, ◌==◌, Bool, true, false, List, [], ◌∷◌, ◌++◌, Option, Some, None, Result, ok_or, nat_lt, unwrap_or, if◌then◌else◌}
 use Rattle.std.specs.Char.{is_ascii_digit}
 use Rattle.pybuf_value.specs.declared.faults.Fault.{Fault}
 use Rattle.pybuf_value.specs.declared.faults.Fault.TheVariants as fault
-use Rattle.pybuf_value.specs.Refusing.{◌>>=◌}
 use Rattle.pybuf_struct.specs.declared.table.Endianness.{Endianness}
 use Rattle.pybuf_struct.specs.declared.table.Endianness.TheVariants as order
 use Rattle.pybuf_struct.specs.declared.table.FormatType.{FormatType}
@@ -23,10 +23,19 @@ prefix_of (b ∷ rest) =
   else if b == 0x21 then (order.Big, rest) -- !
   else (order.Native, b ∷ rest)
 
--- the code that a byte spells under a prefix
-abbrev pub code_in : Endianness → Option FormatType → Result FormatType Fault
-code_in o None = Err fault.Struct
-code_in o (Some c) = if is_allowed o c then Ok c else Err fault.Struct
+-- one step after another: none where one of them gives none
+infixl 10 ◌>>=◌
+abbrev pub ◌>>=◌ : {A B : Type 0} → Option A → (A → Option B) → Option B
+(Some x) >>= f = f x
+None >>= f = None
+
+-- the code, where formats of this prefix have it
+abbrev pub allowed : Endianness → FormatType → Option FormatType
+allowed o c = if is_allowed o c then Some c else None
+
+-- the code that a byte spells, where formats of this prefix have it
+abbrev pub allowed_code : Endianness → ℕ → Option FormatType
+allowed_code o b = code_of b >>= allowed o
 
 -- a code of the text with its count
 pub record Counted : Type 0 where
@@ -34,16 +43,16 @@ pub record Counted : Type 0 where
   pub code : FormatType
 
 -- The codes of a text that goes on after the digits of a count, if there are such: a count is 1 where none is
--- written, and a count without a code is refused.
-unfoldable pub counted : Endianness → List ℕ → Option ℕ → Result (List Counted) Fault
-counted o [] None = Ok []
-counted o [] (Some n) = Err fault.Struct
+-- written. There are none where a count has no code, or where a byte is neither a digit nor an allowed code.
+unfoldable pub counted : Endianness → List ℕ → Option ℕ → Option (List Counted)
+counted o [] None = Some []
+counted o [] (Some n) = None
 counted o (b ∷ text) count =
   if is_ascii_digit b then counted o text (Some (unwrap_or count 0 * 10 + (b - 48)))
   else (do
-    c ← code_in o (code_of b)
+    c ← allowed_code o b
     others ← counted o text None
-    Ok (record { repeat = unwrap_or count 1; code = c } ∷ others))
+    Some (record { repeat = unwrap_or count 1; code = c } ∷ others))
 
 -- ---- the layout
 
@@ -72,26 +81,35 @@ abbrev pub extent : Endianness → List Code → ℕ
 extent o [] = 0
 extent o (c ∷ codes) = c.pre_padding + span o c + extent o codes
 
+-- a code that stands after an offset
 abbrev pub placed : Endianness → ℕ → Counted → Code
 placed o offset item = record { repeat = item.repeat; code = item.code; pre_padding = padding (alignment_of o item.code) offset }
 
--- The codes from an offset on, each after its padding, and the last offset, which is the total size. An offset past
--- `isize::MAX` is refused, and so is a count past it, since each unit of a count takes a byte or more.
-unfoldable pub laid : Endianness → ℕ → List Counted → Result (List Code × ℕ) Fault
-laid o offset [] = Ok ([], offset)
-laid o offset (item ∷ items) =
-  if nat_lt (offset + (placed o offset item).pre_padding + span o (placed o offset item)) (2 ^ 63)
-  then (do
-    others ← laid o (offset + (placed o offset item).pre_padding + span o (placed o offset item)) items
-    Ok (placed o offset item ∷ others.0, others.1))
-  else Err fault.Struct
+-- the offset after a code
+abbrev pub offset_after : Endianness → ℕ → Code → ℕ
+offset_after o offset c = offset + c.pre_padding + span o c
 
--- the format that a text spells, or `StructError`
-unfoldable pub format_of : List ℕ → Result Format Fault
-format_of text = do
-  items ← counted (prefix_of text).0 (prefix_of text).1 None
-  layout ← laid (prefix_of text).0 0 items
-  Ok (record { order = (prefix_of text).0; codes = layout.0; size = layout.1 })
+-- The codes from an offset on, each after its padding, and the last offset, which is the total size. There are none
+-- where an offset passes `isize::MAX`; so does a count that passes it, since each unit takes a byte or more.
+unfoldable pub laid : Endianness → ℕ → List Counted → Option (List Code × ℕ)
+laid o offset [] = Some ([], offset)
+laid o offset (item ∷ items) =
+  if nat_lt (offset_after o offset (placed o offset item)) (2 ^ 63)
+  then (do
+    others ← laid o (offset_after o offset (placed o offset item)) items
+    Some (placed o offset item ∷ others.0, others.1))
+  else None
+
+-- the format whose codes a text spells after a prefix
+unfoldable pub spelled : Endianness → List ℕ → Option Format
+spelled o text = do
+  items ← counted o text None
+  layout ← laid o 0 items
+  Some (record { order = o; codes = layout.0; size = layout.1 })
+
+-- the format that a text spells; `StructError` where it spells none
+abbrev pub format_of : List ℕ → Result Format Fault
+format_of text = ok_or (spelled (prefix_of text).0 (prefix_of text).1) fault.Struct
 
 -- ---- fields
 
@@ -118,7 +136,7 @@ abbrev pub fields_from : Endianness → ℕ → List Code → List Field
 fields_from o offset [] = []
 fields_from o offset (c ∷ codes) =
   fields_of_code c.code (size_of o c.code) (offset + c.pre_padding) c.repeat
-    ++ fields_from o (offset + c.pre_padding + span o c) codes
+    ++ fields_from o (offset_after o offset c) codes
 
 -- the fields of a format, in order
 abbrev pub fields : Format → List Field

@@ -93,6 +93,23 @@ impl Model for FormatSpec {
 }
 
 impl FormatSpec {
+    pub(crate) fn new(
+        order: Endianness,
+        codes: Vec<FormatCode>,
+        size: usize,
+        arg_count: usize,
+    ) -> FormatSpec
+        requires { IsKept order codes.items size arg_count }
+        ensures { result ≡ record { order = order; codes = codes.items; size = size } }
+    {
+        FormatSpec {
+            order,
+            codes,
+            size,
+            arg_count,
+        }
+    }
+
     /// The total size in bytes: that of the fields, of the alignment before codes, and of `x`
     /// codes. There is no alignment at the end.
     pub fn size(&self) -> usize

@@ -2,6 +2,7 @@
 #![tactic(auto)]
 
 mod format;
+mod parse;
 mod table;
 
 pub use format::{FormatCode, FormatSpec};
