@@ -1,3 +1,4 @@
 pub mod Extents
 pub mod Grammar
 pub mod Spelling
+pub mod Words

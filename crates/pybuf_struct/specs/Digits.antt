@@ -1,5 +1,5 @@
 -- Numbers from digits in base 256.
-use Rattle.std.specs.Prelude.{ℕ, zero, suc, ◌+◌, ◌*◌, ◌^◌, Bool, true, false, ◌&&◌, List, [], ◌∷◌, length, nat_le, if◌then◌else◌, ℤ, pos, ◌-ℤ◌}
+use Rattle.std.specs.Prelude.{ℕ, zero, suc, ◌+◌, ◌*◌, ◌^◌, Bool, true, false, ◌&&◌, ◌||◌, ◌==◌, List, [], ◌∷◌, length, nat_le, if◌then◌else◌, ℤ, pos, ◌-ℤ◌}
 
 -- the digits times powers of 256, where the first is worth 256 to the power i and each further one 256 times more
 abbrev pub low_first : ℕ → List ℕ → ℕ
@@ -27,3 +27,7 @@ signed_as signed len n = if signed && has_top_bit len n then pos n -ℤ pos (256
 -- the number that bytes spell, the first of them worth most (big) or least, signed or not
 abbrev pub number : Bool → Bool → List ℕ → ℤ
 number big signed bytes = signed_as signed (length bytes) (unsigned_number big bytes)
+
+-- the sizes that numbers have
+abbrev pub is_width : ℕ → Bool
+is_width n = n == 1 || (n == 2 || (n == 4 || n == 8))

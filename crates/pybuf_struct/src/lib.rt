@@ -1,6 +1,7 @@
 //! The formats of Python's `struct` module: texts to formats, and bytes to values by them.
 #![tactic(auto)]
 
+mod digits;
 mod format;
 mod parse;
 mod table;
