@@ -2,3 +2,4 @@ pub mod Extents
 pub mod Grammar
 pub mod Spelling
 pub mod Words
+pub mod Rows

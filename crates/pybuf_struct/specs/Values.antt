@@ -1,5 +1,5 @@
 -- Reading bytes by a format.
-use Rattle.std.specs.Prelude.{ℕ, ◌==◌, Bool, not, List, [], ◌∷◌, take, drop, map, length, slice_index, Result, Ok, Err, if◌then◌else◌}
+use Rattle.std.specs.Prelude.{ℕ, ◌==◌, Bool, true, not, List, [], ◌∷◌, take, drop, map, length, slice_index, Result, Ok, Err, if◌then◌else◌}
 use Rattle.pybuf_value.specs.declared.faults.Fault.{Fault}
 use Rattle.pybuf_value.specs.declared.faults.Fault.TheVariants as fault
 use Rattle.pybuf_value.specs.declared.values.Scalar.{Scalar}
@@ -11,7 +11,7 @@ use Rattle.pybuf_value.specs.declared.faults.Outcome.TheVariants as outcome
 use Rattle.pybuf_struct.specs.declared.table.Endianness.{Endianness}
 use Rattle.pybuf_struct.specs.declared.table.FormatType.{FormatType}
 use Rattle.pybuf_struct.specs.declared.table.FormatType.TheVariants as code
-use Rattle.pybuf_struct.specs.Table.{is_big, is_signed}
+use Rattle.pybuf_struct.specs.Table.{is_big, is_signed, size_of}
 use Rattle.pybuf_struct.specs.Digits.{number}
 use Rattle.pybuf_struct.specs.Formats.{Format, Field, fields}
 
@@ -49,3 +49,9 @@ item_of vs = item.Many vs
 abbrev pub outcome_of : {A : Type 0} → Result A Fault → Outcome A
 outcome_of (Ok x) = outcome.Done x
 outcome_of (Err f) = outcome.Refused f
+
+-- whether a field of a code may have so many bytes: `s` and `p` any, and every other code those of one unit
+abbrev pub is_length : Endianness → FormatType → ℕ → Bool
+is_length o code.Str n = true
+is_length o code.Pascal n = true
+is_length o c n = n == size_of o c

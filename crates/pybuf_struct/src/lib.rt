@@ -5,6 +5,7 @@ mod digits;
 mod format;
 mod parse;
 mod table;
+mod unpack;
 
 pub use format::{FormatCode, FormatSpec};
 pub use table::{Endianness, FormatType};
