@@ -3,3 +3,4 @@ pub mod Grammar
 pub mod Spelling
 pub mod Words
 pub mod Rows
+pub mod Walks

@@ -1,6 +1,6 @@
 //! Formats, as their texts spell them.
 ghost use Rattle.std.specs.Prelude.{◌≡◌, ◌<◌, ◌^◌, length};
-ghost use Rattle.pybuf_struct.specs.Formats.{Code, Format, fields, field_count, extent, IsKept};
+ghost use Rattle.pybuf_struct.specs.Formats.{Code, Format, fields, field_count, span, extent, IsKept};
 
 use crate::table::{Endianness, FormatType};
 use pybuf_value::{Made, Twin, copy_all};
@@ -53,6 +53,14 @@ impl FormatCode {
         ensures { result ≡ self.now.pre_padding }
     {
         self.pre_padding
+    }
+
+    /// The bytes of the code without its padding.
+    pub(crate) fn span(&self, order: Endianness) -> usize
+        requires { span order self.now < 2 ^ 64 }
+        ensures { result ≡ span order self.now }
+    {
+        self.repeat * self.code.size(order)
     }
 
     /// The number of fields that the code gives: none for `x`, one for `s` and `p`, and as many as
@@ -118,6 +126,13 @@ impl FormatSpec {
         ensures laid_out { extent self.now.order self.now.codes ≡ result }
     {
         self.size
+    }
+
+    /// The order of the bytes, as the text's prefix says it.
+    pub fn endianness(&self) -> Endianness
+        ensures { result ≡ self.now.order }
+    {
+        self.order
     }
 
     /// The number of fields, which is the number of values that the format reads or writes.

@@ -88,3 +88,41 @@ fn push_code(
         _ => push_row(alloc, out, order, kind, bytes, offset, repeat),
     }
 }
+
+/// Adds the values of the fields of codes that follow one another.
+fn push_all(
+    alloc: Global,
+    out: &mut Vec<Scalar>,
+    order: Endianness,
+    codes: &[FormatCode],
+    bytes: &[u8],
+) -> Made<()>
+    requires { extent order codes.now ≤ length bytes.now }
+    ensures { OnOk result (out.new.items ≡ out.old.items ++ map (value_in order bytes.now) (fields_from order 0 codes.now)) }
+{
+    let mut at = 0;
+    for code in codes {
+        let start = at + code.pre_padding();
+        push_code(alloc, out, order, code, bytes, start)?;
+        at = start + code.span(order);
+    }
+    Ok(())
+}
+
+impl FormatSpec {
+    /// The values of the bytes, one for each field, in order: numbers as whole numbers, truth
+    /// values for `?`, and bytes values for `c`, `s` and `p`. Bytes of `x` and of alignment are
+    /// not looked at.
+    ///
+    /// Refused with `StructError` exactly where the number of bytes isn't the format's size.
+    pub fn unpack(&self, alloc: Global, bytes: &[u8]) -> Tried<ScalarList>
+        ensures { IfOk result (λ o. o ≡ outcome_of (unpacked self.now bytes.now)) }
+    {
+        if bytes.len() != self.size() {
+            return Ok(Outcome::Refused(Fault::Struct));
+        }
+        let mut out = Vec::with_capacity(alloc, self.arg_count())?;
+        push_all(alloc, &mut out, self.endianness(), self.codes(), bytes)?;
+        Ok(Outcome::Done(ScalarList::from_vec(out)))
+    }
+}
