@@ -30,7 +30,7 @@ reads_more o bytes code size offset count at done before out v reads lt v_is =
     let left : count - done ≡ suc (count - (done + 1)) = omega arith in
     record {
       same = rw v_is (append_assoc out (value_of o code (take size (drop at bytes)) ∷ []) (map (value_in o bytes) (fields_in_row code size (at + size) (count - (done + 1))))
-        ∙ ap (λ (n : ℕ). out ++ map (value_in o bytes) (fields_in_row code size at n)) (sym left) ∙ reads.same);
+          ∙ ap (λ (n : ℕ). out ++ map (value_in o bytes) (fields_in_row code size at n)) (sym left) ∙ reads.same);
       within = unit_within o bytes code size offset count at done before out reads lt;
     }
 

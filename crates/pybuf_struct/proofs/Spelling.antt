@@ -38,7 +38,7 @@ spells_code o text codes offset arg_count count i c n made end more s lt other a
     let item : Counted = record { repeat = n; code = c } in
     let after : end ≡ offset_after o offset made = end_is ∙ ap (offset_after o offset) (sym made_is) in
     let step : finished o codes offset (counted o (drop i text) count) ≡ finished o (codes ++ placed o offset item ∷ []) (offset_after o offset (placed o offset item)) (counted o (drop (i + 1) text) None)
-      = ap (finished o codes offset) (counted_code o text count i c n lt other allowed n_is) ∙ goes_on o codes offset item (counted o (drop (i + 1) text) None) (omega (arith, end_is)) in
+    = ap (finished o codes offset) (counted_code o text count i c n lt other allowed n_is) ∙ goes_on o codes offset item (counted o (drop (i + 1) text) None) (omega (arith, end_is)) in
     record {
       same = rw (made_is, end_is) (sym step ∙ s.same);
       filled = omega (arith, extent_push o codes made, s.filled, after);

@@ -16,12 +16,12 @@ use Rattle.pybuf_struct.specs.Table.{code_of, is_allowed, size_of, alignment_of}
 abbrev pub prefix_of : List ℕ → Endianness × List ℕ
 prefix_of [] = (order.Native, [])
 prefix_of (b ∷ rest) =
-  if b == 0x40 then (order.Native, rest) -- @
-  else if b == 0x3d then (order.Host, rest) -- =
-  else if b == 0x3c then (order.Little, rest) -- <
-  else if b == 0x3e then (order.Big, rest) -- >
-  else if b == 0x21 then (order.Big, rest) -- !
-  else (order.Native, b ∷ rest)
+    if b == 0x40 then (order.Native, rest)  -- @
+    else if b == 0x3d then (order.Host, rest)  -- =
+    else if b == 0x3c then (order.Little, rest)  -- <
+    else if b == 0x3e then (order.Big, rest)  -- >
+    else if b == 0x21 then (order.Big, rest)  -- !
+    else (order.Native, b ∷ rest)
 
 -- one step after another: none where one of them gives none
 infixl 10 ◌>>=◌
@@ -48,11 +48,11 @@ unfoldable pub counted : Endianness → List ℕ → Option ℕ → Option (List
 counted o [] None = Some []
 counted o [] (Some n) = None
 counted o (b ∷ text) count =
-  if is_ascii_digit b then counted o text (Some (unwrap_or count 0 * 10 + (b - 48)))
-  else (do
-    c ← allowed_code o b
-    others ← counted o text None
-    Some (record { repeat = unwrap_or count 1; code = c } ∷ others))
+    if is_ascii_digit b then counted o text (Some (unwrap_or count 0 * 10 + (b - 48)))
+    else (do
+      c ← allowed_code o b
+      others ← counted o text None
+      Some (record { repeat = unwrap_or count 1; code = c } ∷ others))
 
 -- ---- the layout
 
@@ -94,11 +94,11 @@ offset_after o offset c = offset + c.pre_padding + span o c
 unfoldable pub laid : Endianness → ℕ → List Counted → Option (List Code × ℕ)
 laid o offset [] = Some ([], offset)
 laid o offset (item ∷ items) =
-  if nat_lt (offset_after o offset (placed o offset item)) (2 ^ 63)
-  then (do
-    others ← laid o (offset_after o offset (placed o offset item)) items
-    Some (placed o offset item ∷ others.0, others.1))
-  else None
+    if nat_lt (offset_after o offset (placed o offset item)) (2 ^ 63)
+    then (do
+      others ← laid o (offset_after o offset (placed o offset item)) items
+      Some (placed o offset item ∷ others.0, others.1))
+    else None
 
 -- the format whose codes a text spells after a prefix
 unfoldable pub spelled : Endianness → List ℕ → Option Format
@@ -135,7 +135,7 @@ fields_of_code c size offset n = fields_in_row c size offset n
 abbrev pub fields_from : Endianness → ℕ → List Code → List Field
 fields_from o offset [] = []
 fields_from o offset (c ∷ codes) =
-  fields_of_code c.code (size_of o c.code) (offset + c.pre_padding) c.repeat
+    fields_of_code c.code (size_of o c.code) (offset + c.pre_padding) c.repeat
     ++ fields_from o (offset_after o offset c) codes
 
 -- the fields of a format, in order

@@ -11,28 +11,28 @@ use Rattle.pybuf_struct.specs.declared.table.FormatType.TheVariants as code
 
 -- the byte that spells a code
 abbrev pub letter : FormatType → ℕ
-letter code.Pad = 0x78 -- x
-letter code.SByte = 0x62 -- b
-letter code.UByte = 0x42 -- B
-letter code.Char = 0x63 -- c
-letter code.Bool = 0x3f -- ?
-letter code.Short = 0x68 -- h
-letter code.UShort = 0x48 -- H
-letter code.Int = 0x69 -- i
-letter code.UInt = 0x49 -- I
-letter code.Long = 0x6c -- l
-letter code.ULong = 0x4c -- L
-letter code.LongLong = 0x71 -- q
-letter code.ULongLong = 0x51 -- Q
-letter code.SSizeT = 0x6e -- n
-letter code.SizeT = 0x4e -- N
-letter code.WideChar = 0x75 -- u
-letter code.Str = 0x73 -- s
-letter code.Pascal = 0x70 -- p
+letter code.Pad = 0x78  -- x
+letter code.SByte = 0x62  -- b
+letter code.UByte = 0x42  -- B
+letter code.Char = 0x63  -- c
+letter code.Bool = 0x3f  -- ?
+letter code.Short = 0x68  -- h
+letter code.UShort = 0x48  -- H
+letter code.Int = 0x69  -- i
+letter code.UInt = 0x49  -- I
+letter code.Long = 0x6c  -- l
+letter code.ULong = 0x4c  -- L
+letter code.LongLong = 0x71  -- q
+letter code.ULongLong = 0x51  -- Q
+letter code.SSizeT = 0x6e  -- n
+letter code.SizeT = 0x4e  -- N
+letter code.WideChar = 0x75  -- u
+letter code.Str = 0x73  -- s
+letter code.Pascal = 0x70  -- p
 
 abbrev pub every_code : List FormatType
 every_code =
-  code.Pad ∷ code.SByte ∷ code.UByte ∷ code.Char ∷ code.Bool ∷ code.Short ∷ code.UShort ∷ code.Int ∷ code.UInt
+    code.Pad ∷ code.SByte ∷ code.UByte ∷ code.Char ∷ code.Bool ∷ code.Short ∷ code.UShort ∷ code.Int ∷ code.UInt
     ∷ code.Long ∷ code.ULong ∷ code.LongLong ∷ code.ULongLong ∷ code.SSizeT ∷ code.SizeT ∷ code.WideChar ∷ code.Str
     ∷ code.Pascal ∷ []
 

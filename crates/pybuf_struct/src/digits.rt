@@ -11,15 +11,27 @@ pub(crate) fn unsigned_number(big: bool, bytes: &[u8]) -> u64
         [a] => u64::from(*a),
         [a, b] => {
             let word = [*a, *b];
-            u64::from(if big { u16::from_be_bytes(word) } else { u16::from_le_bytes(word) })
+            u64::from(if big {
+                u16::from_be_bytes(word)
+            } else {
+                u16::from_le_bytes(word)
+            })
         }
         [a, b, c, d] => {
             let word = [*a, *b, *c, *d];
-            u64::from(if big { u32::from_be_bytes(word) } else { u32::from_le_bytes(word) })
+            u64::from(if big {
+                u32::from_be_bytes(word)
+            } else {
+                u32::from_le_bytes(word)
+            })
         }
         [a, b, c, d, e, f, g, h] => {
             let word = [*a, *b, *c, *d, *e, *f, *g, *h];
-            if big { u64::from_be_bytes(word) } else { u64::from_le_bytes(word) }
+            if big {
+                u64::from_be_bytes(word)
+            } else {
+                u64::from_le_bytes(word)
+            }
         }
         _ => 0,
     }
@@ -37,5 +49,9 @@ pub(crate) fn number(big: bool, signed: bool, bytes: &[u8]) -> i128
         4 => 0x1_0000_0000,
         _ => 0x1_0000_0000_0000_0000,
     };
-    if signed && 2 * n >= modulus { n - modulus } else { n }
+    if signed && 2 * n >= modulus {
+        n - modulus
+    } else {
+        n
+    }
 }

@@ -9,3 +9,6 @@ mod unpack;
 
 pub use format::{FormatCode, FormatSpec};
 pub use table::{Endianness, FormatType};
+
+#[cfg(test)]
+mod tests;

@@ -102,10 +102,8 @@ impl FormatType {
             FormatType::Short | FormatType::UShort => 2,
             FormatType::Int | FormatType::UInt | FormatType::WideChar => 4,
             FormatType::Long | FormatType::ULong => { if order.is_native() { 8 } else { 4 } }
-            FormatType::LongLong
-            | FormatType::ULongLong
-            | FormatType::SSizeT
-            | FormatType::SizeT => 8,
+            FormatType::LongLong | FormatType::ULongLong | FormatType::SSizeT | FormatType::SizeT =>
+                8,
             _ => 1,
         }
     }
