@@ -4,3 +4,4 @@ pub mod Spelling
 pub mod Words
 pub mod Rows
 pub mod Walks
+pub mod CursorSteps

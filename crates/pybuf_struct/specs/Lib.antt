@@ -2,3 +2,5 @@ pub mod Table
 pub mod Digits
 pub mod Formats
 pub mod Values
+pub mod Packing
+pub mod Cursor

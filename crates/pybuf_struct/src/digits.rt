@@ -1,5 +1,5 @@
 //! Numbers from their bytes.
-ghost use Rattle.std.specs.Prelude.{◌≡◌, length, IsTrue};
+ghost use Rattle.std.specs.Prelude.{◌≡◌, ◌^◌, length, pos, IsTrue};
 ghost use Rattle.pybuf_struct.specs.Digits.{is_width, unsigned_number, number};
 
 /// The number that bytes spell without a sign.
@@ -37,18 +37,26 @@ pub(crate) fn unsigned_number(big: bool, bytes: &[u8]) -> u64
     }
 }
 
+/// How many numbers so many bytes can spell.
+pub(crate) fn modulus_of(size: usize) -> i128
+    requires { IsTrue (is_width size) }
+    ensures { result ≡ pos (256 ^ size) }
+{
+    match size {
+        1 => 0x100,
+        2 => 0x1_0000,
+        4 => 0x1_0000_0000,
+        _ => 0x1_0000_0000_0000_0000,
+    }
+}
+
 /// The number that bytes spell, in two's complement where it is signed.
 pub(crate) fn number(big: bool, signed: bool, bytes: &[u8]) -> i128
     requires { IsTrue (is_width (length bytes.now)) }
     ensures { result ≡ number big signed bytes.now }
 {
     let n = i128::from(unsigned_number(big, bytes));
-    let modulus: i128 = match bytes.len() {
-        1 => 0x100,
-        2 => 0x1_0000,
-        4 => 0x1_0000_0000,
-        _ => 0x1_0000_0000_0000_0000,
-    };
+    let modulus = modulus_of(bytes.len());
     if signed && 2 * n >= modulus {
         n - modulus
     } else {

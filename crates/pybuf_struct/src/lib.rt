@@ -1,8 +1,10 @@
 //! The formats of Python's `struct` module: texts to formats, and bytes to values by them.
 #![tactic(auto)]
 
+mod cursor;
 mod digits;
 mod format;
+mod pack;
 mod parse;
 mod table;
 mod unpack;
