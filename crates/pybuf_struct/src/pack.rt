@@ -1,9 +1,10 @@
 //! Bytes from values.
-ghost use Rattle.std.specs.Prelude.{◌≡◌, ◌<◌, ◌^◌, Ok, Err, IfOk, IfErr, IsTrue};
+ghost use Rattle.std.specs.Prelude.{◌≡◌, true, false, ◌||◌, length, Ok, Err, IfOk, IfErr, IsOk, IsTrue};
 ghost use Rattle.pybuf_value.specs.Numbers.{number_in};
 ghost use Rattle.pybuf_value.specs.Snaps.{bytes_like, bytes_alone};
 ghost use Rattle.pybuf_struct.specs.Digits.{is_width};
-ghost use Rattle.pybuf_struct.specs.Packing.{is_in_range, complement_of, digits_of, truth_byte};
+ghost use Rattle.pybuf_struct.specs.Values.{is_length};
+ghost use Rattle.pybuf_struct.specs.Packing.{is_in_range, complement_of, digits_of, truth_byte, fitted_to, bytes_of, checked};
 
 use crate::digits::modulus_of;
 use crate::table::{Endianness, FormatType};
@@ -90,5 +91,90 @@ fn is_in_range(signed: bool, size: usize, number: i128) -> bool
         if number < 0 { -1 - number < modulus / 2 } else { number < modulus / 2 }
     } else {
         if number < 0 { false } else { number < modulus }
+    }
+}
+
+/// The number in two's complement of so many bytes.
+fn complement_of(size: usize, number: i128) -> u64
+    requires width { IsTrue (is_width size) }
+    requires range { IsTrue (is_in_range true size number || is_in_range false size number) }
+    ensures { result ≡ complement_of size number }
+{
+    if number < 0 {
+        (number + modulus_of(size)) as u64
+    } else {
+        number as u64
+    }
+}
+
+/// Writes the digits of a number in base 256.
+fn put_digits(big: bool, number: u64, place: &mut [u8])
+    requires { IsTrue (is_width (length place.old)) }
+    ensures { place.new ≡ digits_of big (length place.old) number }
+{
+    let size = place.len();
+    if big {
+        let word = number.to_be_bytes();
+        place.copy_from_slice(&word[8 - size..]);
+    } else {
+        let word = number.to_le_bytes();
+        place.copy_from_slice(&word[..size]);
+    }
+}
+
+/// Writes the first of the bytes, or all of them and then zeros.
+fn put_fitted(bytes: &[u8], place: &mut [u8])
+    ensures { place.new ≡ fitted_to (length place.old) bytes.now }
+{
+    let len = bytes.len().min(place.len());
+    let (front, back) = place.split_at_mut(len);
+    front.copy_from_slice(&bytes[..len]);
+    back.fill(0);
+}
+
+/// Whether a field of a code and a length takes a value.
+fn check_field<L: Lender>(
+    order: Endianness,
+    code: FormatType,
+    length: usize,
+    value: &Scalar,
+    lender: &L,
+) -> Result<(), Fault>
+    requires { IsTrue (is_length order code length) }
+    ensures { result ≡ checked (bytes_of order (L.pairs lender.now) code length value.now) }
+{
+    match code {
+        FormatType::Pad => Err(Fault::Struct),
+        FormatType::Char => {
+            if bytes_alone(value, lender)?.len() != 1 {
+                return Err(Fault::Struct);
+            }
+            Ok(())
+        }
+        FormatType::Bool => {
+            truth_byte(value)?;
+            Ok(())
+        }
+        FormatType::Str => {
+            bytes_like(value, lender)?;
+            Ok(())
+        }
+        FormatType::Pascal => {
+            if length != 0 {
+                bytes_like(value, lender)?;
+            }
+            Ok(())
+        }
+        _ => {
+            match number_of(value) {
+                Ok(number) => {
+                    if !is_in_range(code.is_signed(), length, number) {
+                        return Err(Fault::Struct);
+                    }
+                    Ok(())
+                }
+                Err(_) => Err(Fault::Struct),
+            }
+        }
     }
 }
