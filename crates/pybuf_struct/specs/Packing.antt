@@ -61,6 +61,12 @@ single bytes = if length bytes == 1 then Ok bytes else Err fault.Struct
 abbrev pub pascal_bytes : ℕ → List ℕ → List ℕ
 pascal_bytes room bytes = min (length bytes) (min room 255) ∷ fitted_to room bytes
 
+-- a Pascal string in a field of a length: one of no length looks at no value
+abbrev pub pascal_field : ℕ → Result (List ℕ) Fault → Result (List ℕ) Fault
+pascal_field len content = if len == 0 then Ok [] else (do
+  bytes ← content
+  Ok (pascal_bytes (len - 1) bytes))
+
 -- ---- fields
 
 -- the bytes that a field of a code and a length gets of a value, or why the value is refused
@@ -75,10 +81,7 @@ bytes_of o pairs code.Bool len v = do
 bytes_of o pairs code.Str len v = do
   bytes ← bytes_like pairs v
   Ok (fitted_to len bytes)
-bytes_of o pairs code.Pascal zero v = Ok []
-bytes_of o pairs code.Pascal (suc room) v = do
-  bytes ← bytes_like pairs v
-  Ok (pascal_bytes room bytes)
+bytes_of o pairs code.Pascal len v = pascal_field len (bytes_like pairs v)
 bytes_of o pairs c len v = number_bytes (is_big o) (is_signed c) len (number_in v)
 
 -- the bytes of each field, or the first refusal

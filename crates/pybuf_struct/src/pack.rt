@@ -1,10 +1,10 @@
 //! Bytes from values.
-ghost use Rattle.std.specs.Prelude.{◌≡◌, true, false, ◌||◌, length, Ok, Err, IfOk, IfErr, IsOk, IsTrue};
+ghost use Rattle.std.specs.Prelude.{◌≡◌, ◌<◌, ◌-◌, true, false, ◌||◌, length, Ok, Err, IfOk, IfErr, IsOk, IsTrue};
 ghost use Rattle.pybuf_value.specs.Numbers.{number_in};
 ghost use Rattle.pybuf_value.specs.Snaps.{bytes_like, bytes_alone};
 ghost use Rattle.pybuf_struct.specs.Digits.{is_width};
 ghost use Rattle.pybuf_struct.specs.Values.{is_length};
-ghost use Rattle.pybuf_struct.specs.Packing.{is_in_range, complement_of, digits_of, truth_byte, fitted_to, bytes_of, checked};
+ghost use Rattle.pybuf_struct.specs.Packing.{is_in_range, complement_of, digits_of, truth_byte, fitted_to, pascal_bytes, bytes_of, checked};
 
 use crate::digits::modulus_of;
 use crate::table::{Endianness, FormatType};
@@ -174,6 +174,61 @@ fn check_field<L: Lender>(
                     Ok(())
                 }
                 Err(_) => Err(Fault::Struct),
+            }
+        }
+    }
+}
+
+/// Writes a Pascal string: its length in one byte, and then its bytes.
+fn put_pascal(bytes: &[u8], place: &mut [u8])
+    requires { 0 < length place.old }
+    ensures { place.new ≡ pascal_bytes (length place.old - 1) bytes.now }
+{
+    let room = place.len() - 1;
+    let (first, rest) = place.split_at_mut(1);
+    first.copy_from_slice(&[bytes.len().min(room.min(255)) as u8]);
+    put_fitted(bytes, rest);
+}
+
+/// Writes a value that the field takes.
+fn write_field<L: Lender>(
+    order: Endianness,
+    code: FormatType,
+    value: &Scalar,
+    lender: &L,
+    place: &mut [u8],
+)
+    requires fits { IsTrue (is_length order code (length place.old)) }
+    requires accepted { IsOk (bytes_of order (L.pairs lender.now) code (length place.old) value.now) }
+    ensures { bytes_of order (L.pairs lender.now) code (length place.old) value.now ≡ Ok place.new }
+{
+    match code {
+        FormatType::Pad => {}
+        FormatType::Char => {
+            if let Ok(bytes) = bytes_alone(value, lender) {
+                place.copy_from_slice(bytes);
+            }
+        }
+        FormatType::Bool => {
+            if let Ok(byte) = truth_byte(value) {
+                place.copy_from_slice(&[byte]);
+            }
+        }
+        FormatType::Str => {
+            if let Ok(bytes) = bytes_like(value, lender) {
+                put_fitted(bytes, place);
+            }
+        }
+        FormatType::Pascal => {
+            if place.len() != 0 {
+                if let Ok(bytes) = bytes_like(value, lender) {
+                    put_pascal(bytes, place);
+                }
+            }
+        }
+        _ => {
+            if let Ok(number) = number_of(value) {
+                put_digits(order.is_big(), complement_of(place.len(), number), place);
             }
         }
     }
