@@ -5,3 +5,5 @@ pub mod Words
 pub mod Rows
 pub mod Walks
 pub mod CursorSteps
+pub mod Fields
+pub mod Packs

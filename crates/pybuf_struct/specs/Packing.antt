@@ -96,7 +96,7 @@ contents_of o pairs (f ∷ fs) (v ∷ vs) = do
 
 -- bytes written over a list's from an offset on
 abbrev pub written_at : ℕ → List ℕ → List ℕ → List ℕ
-written_at offset bytes room = take offset room ++ bytes ++ drop (offset + length bytes) room
+written_at offset bytes room = take offset room ++ (bytes ++ drop (offset + length bytes) room)
 
 -- the bytes of each field written at its place
 abbrev pub written : List Field → List (List ℕ) → List ℕ → List ℕ
@@ -104,11 +104,13 @@ written (f ∷ fs) (bytes ∷ others) room = written fs others (written_at f.off
 written [] contents room = room
 written (f ∷ fs) [] room = room
 
+-- each field's bytes written at its place, where no field refuses its value
+abbrev pub filled : List Field → Result (List (List ℕ)) Fault → List ℕ → Result (List ℕ) Fault
+filled fs contents room = contents >>= λ all. Ok (written fs all room)
+
 -- the bytes of the format's size that hold each field's bytes at its place, and zeros elsewhere
 abbrev pub packed_values : Format → List (ℕ × Snap) → List Scalar → Result (List ℕ) Fault
-packed_values f pairs values = do
-  contents ← contents_of f.order pairs (fields f) values
-  Ok (written (fields f) contents (replicate f.size 0))
+packed_values f pairs values = filled (fields f) (contents_of f.order pairs (fields f) values) (replicate f.size 0)
 
 -- The bytes of values by a format. A wrong number of values is refused first, and then the first value from the left
 -- that its field refuses.

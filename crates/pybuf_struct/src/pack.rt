@@ -1,12 +1,15 @@
 //! Bytes from values.
-ghost use Rattle.std.specs.Prelude.{◌≡◌, ◌<◌, ◌-◌, true, false, ◌||◌, length, Ok, Err, IfOk, IfErr, IsOk, IsTrue};
+ghost use Rattle.std.specs.Prelude.{◌≡◌, ◌<◌, ◌≤◌, ◌-◌, ◌^◌, true, false, ◌||◌, length, Ok, Err, IfOk, IfErr, IsOk, IsTrue};
 ghost use Rattle.pybuf_value.specs.Numbers.{number_in};
 ghost use Rattle.pybuf_value.specs.Snaps.{bytes_like, bytes_alone};
 ghost use Rattle.pybuf_struct.specs.Digits.{is_width};
+ghost use Rattle.pybuf_struct.specs.Formats.{extent, fields_from};
 ghost use Rattle.pybuf_struct.specs.Values.{is_length};
-ghost use Rattle.pybuf_struct.specs.Packing.{is_in_range, complement_of, digits_of, truth_byte, fitted_to, pascal_bytes, bytes_of, checked};
+ghost use Rattle.pybuf_struct.specs.Packing.{is_in_range, complement_of, digits_of, truth_byte, fitted_to, pascal_bytes, bytes_of, contents_of, filled, checked};
 
+use crate::cursor::Cursor;
 use crate::digits::modulus_of;
+use crate::format::FormatCode;
 use crate::table::{Endianness, FormatType};
 use pybuf_value::{Fault, Lender, Scalar, SnapKind};
 
@@ -231,5 +234,52 @@ fn write_field<L: Lender>(
                 put_digits(order.is_big(), complement_of(place.len(), number), place);
             }
         }
+    }
+}
+
+/// Whether the fields take values, one each.
+fn check_all<L: Lender>(
+    order: Endianness,
+    codes: &[FormatCode],
+    values: &[Scalar],
+    lender: &L,
+) -> Result<(), Fault>
+    requires bound { extent order codes.now < 2 ^ 63 }
+    requires count { length values.now ≡ length (fields_from order 0 codes.now) }
+    ensures { result ≡ checked (contents_of order (L.pairs lender.now) (fields_from order 0 codes.now) values.now) }
+{
+    let mut cursor = Cursor::new(order, codes);
+    for value in values {
+        let Some(field) = cursor.next() else {
+            return Err(Fault::Struct);
+        };
+        let checked = check_field(order, field.code, field.length, value, lender);
+        if checked.is_err() {
+            return checked;
+        }
+    }
+    Ok(())
+}
+
+/// Writes values that the fields take, one each.
+fn write_all<L: Lender>(
+    order: Endianness,
+    codes: &[FormatCode],
+    values: &[Scalar],
+    lender: &L,
+    room: &mut [u8],
+)
+    requires bound { extent order codes.now < 2 ^ 63 }
+    requires within { extent order codes.now ≤ length room.old }
+    requires accepted { IsOk (contents_of order (L.pairs lender.now) (fields_from order 0 codes.now) values.now) }
+    ensures { filled (fields_from order 0 codes.now) (contents_of order (L.pairs lender.now) (fields_from order 0 codes.now) values.now) room.old ≡ Ok room.new }
+{
+    let mut cursor = Cursor::new(order, codes);
+    for value in values {
+        let Some(field) = cursor.next() else {
+            return;
+        };
+        let end = field.offset + field.length;
+        write_field(order, field.code, value, lender, &mut room[field.offset..end]);
     }
 }
