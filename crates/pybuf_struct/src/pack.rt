@@ -1,17 +1,18 @@
 //! Bytes from values.
-ghost use Rattle.std.specs.Prelude.{◌≡◌, ◌<◌, ◌≤◌, ◌-◌, ◌^◌, true, false, ◌||◌, length, Ok, Err, IfOk, IfErr, IsOk, IsTrue};
+ghost use Rattle.std.specs.Prelude.{◌≡◌, ◌<◌, ◌≤◌, ◌-◌, ◌^◌, true, false, ◌||◌, length, Ok, Err, IfOk, IfErr, OnOk, OnErr, IsOk, IsTrue};
 ghost use Rattle.pybuf_value.specs.Numbers.{number_in};
 ghost use Rattle.pybuf_value.specs.Snaps.{bytes_like, bytes_alone};
 ghost use Rattle.pybuf_struct.specs.Digits.{is_width};
 ghost use Rattle.pybuf_struct.specs.Formats.{extent, fields_from};
-ghost use Rattle.pybuf_struct.specs.Values.{is_length};
-ghost use Rattle.pybuf_struct.specs.Packing.{is_in_range, complement_of, digits_of, truth_byte, fitted_to, pascal_bytes, bytes_of, contents_of, filled, checked};
+ghost use Rattle.pybuf_struct.specs.Values.{is_length, outcome_of};
+ghost use Rattle.pybuf_struct.specs.Packing.{is_in_range, complement_of, digits_of, truth_byte, fitted_to, pascal_bytes, bytes_of, contents_of, filled, checked, packed, items_of};
 
 use crate::cursor::Cursor;
 use crate::digits::modulus_of;
-use crate::format::FormatCode;
+use crate::format::{FormatCode, FormatSpec};
 use crate::table::{Endianness, FormatType};
-use pybuf_value::{Fault, Lender, Scalar, SnapKind};
+use pybuf_value::{Fault, Lender, Outcome, Scalar, ScalarList, SnapKind, Tried};
+use std::alloc::Global;
 
 /// The number of an argument.
 fn number_of(value: &Scalar) -> Result<i128, Fault>
@@ -281,5 +282,90 @@ fn write_all<L: Lender>(
         };
         let end = field.offset + field.length;
         write_field(order, field.code, value, lender, &mut room[field.offset..end]);
+    }
+}
+
+impl FormatSpec {
+    /// Why values are refused, if they are.
+    fn check<L: Lender>(&self, args: &ScalarList, lender: &L) -> Result<(), Fault>
+        ensures { result ≡ checked (packed self.now (L.pairs lender.now) args.now) }
+    {
+        let _ = self.size();
+        if args.len() != self.arg_count() {
+            return Err(Fault::Struct);
+        }
+        check_all(self.endianness(), self.codes(), args.as_slice(), lender)
+    }
+
+    /// The bytes of the values, one for each field: as many bytes as the format's size, with zeros
+    /// in alignment and at `x`. A handle counts as the bytes that it names.
+    ///
+    /// Refused with `StructError` where the number of values isn't that of the fields. Else the
+    /// first value from the left that its field refuses decides:
+    ///
+    /// - a number code takes a whole number, or a truth value as 0 or 1, in the code's range;
+    ///   else `StructError`;
+    /// - `?` takes a truth value or a whole number, of which every one but 0 is written as 1;
+    ///   else `TypeError`;
+    /// - `c` takes a bytes value, or a handle of kind bytes; else `TypeError`. Its length is 1, else
+    ///   `StructError`;
+    /// - `s` and `p` take a bytes value, a handle of an exporter, or one of a view whose items lie
+    ///   one after another; a released view is `ValueError`, else `TypeError`. `s` cuts the bytes
+    ///   or fills them with zeros. `p` does so after a first byte, which is the least of the number
+    ///   of bytes, the field's length less 1, and 255. A `p` of length 0 takes every value;
+    /// - a handle that `c`, `s` or `p` looks at and the lender hasn't is `UnknownName`.
+    pub fn pack<L: Lender>(
+        &self,
+        alloc: Global,
+        args: &ScalarList,
+        lender: &L,
+    ) -> Tried<Vec<u8>>
+        ensures { IfOk result (λ o. items_of o ≡ outcome_of (packed self.now (L.pairs lender.now) args.now)) }
+    {
+        let checked = self.check(args, lender);
+        if let Err(fault) = checked {
+            return Ok(Outcome::Refused(fault));
+        }
+        let mut room = vec![in alloc; 0u8; self.size()]?;
+        write_all(
+            self.endianness(),
+            self.codes(),
+            args.as_slice(),
+            lender,
+            room.as_mut_slice(),
+        );
+        Ok(Outcome::Done(room))
+    }
+
+    /// Writes into the room the bytes that `pack` gives of the values, zeros in alignment and at
+    /// `x` too. Takes no memory.
+    ///
+    /// Refused as `pack` is, before a byte is written.
+    pub fn pack_into<L: Lender>(
+        &self,
+        room: &mut [u8],
+        args: &ScalarList,
+        lender: &L,
+    ) -> Result<(), Fault>
+        // A room of another size is the caller's mistake.
+        requires { length room.old ≡ self.now.size }
+        ensures refusal { result ≡ checked (packed self.now (L.pairs lender.now) args.now) }
+        ensures ok { OnOk result (packed self.now (L.pairs lender.now) args.now ≡ Ok room.new) }
+        ensures err { OnErr result (room.new ≡ room.old) }
+    {
+        let checked = self.check(args, lender);
+        if checked.is_err() {
+            return checked;
+        }
+        let _ = self.size();
+        room.fill(0);
+        write_all(
+            self.endianness(),
+            self.codes(),
+            args.as_slice(),
+            lender,
+            room,
+        );
+        Ok(())
     }
 }
