@@ -7,3 +7,5 @@ pub mod Walks
 pub mod CursorSteps
 pub mod Fields
 pub mod Packs
+pub mod NumbersAgain
+pub mod FieldsAgain

@@ -4,3 +4,4 @@ pub mod Formats
 pub mod Values
 pub mod Packing
 pub mod Cursor
+pub mod Laws
