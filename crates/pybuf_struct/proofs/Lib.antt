@@ -9,3 +9,4 @@ pub mod Fields
 pub mod Packs
 pub mod NumbersAgain
 pub mod FieldsAgain
+pub mod Places
