@@ -10,3 +10,5 @@ pub mod Packs
 pub mod NumbersAgain
 pub mod FieldsAgain
 pub mod Places
+pub mod Whole
+pub mod RoundTrips

@@ -52,7 +52,7 @@ Fills [] contents = Unit {0}
 Fills (f ∷ fs) [] = ⊥
 Fills (f ∷ fs) (bytes ∷ contents) = (length bytes ≡ f.length) × Fills fs contents
 
-length-written_at : (offset : ℕ) (bytes room : List ℕ) → offset + length bytes ≤ length room → length (written_at offset bytes room) ≡ length room
+pub length-written_at : (offset : ℕ) (bytes room : List ℕ) → offset + length bytes ≤ length room → length (written_at offset bytes room) ≡ length room
 length-written_at offset bytes room le =
     omega (arith, length-append (take offset room) (bytes ++ drop (offset + length bytes) room), length-append bytes (drop (offset + length bytes) room), length-take offset room, length-drop (offset + length bytes) room)
 
@@ -66,7 +66,7 @@ part-written_at offset bytes room within =
 
 -- ---- all fields
 
-Spread-le : (p : ℕ) (fs : List Field) (q : ℕ) → Spread p fs q → p ≤ q
+pub Spread-le : (p : ℕ) (fs : List Field) (q : ℕ) → Spread p fs q → p ≤ q
 Spread-le p [] q s = s
 Spread-le p (f ∷ fs) q s = omega (arith, s.0, Spread-le (f.offset + f.length) fs q s.1)
 
