@@ -4,6 +4,7 @@
 mod faults;
 mod list;
 mod numbers;
+mod snaps;
 mod text;
 mod twin;
 mod values;
@@ -14,6 +15,7 @@ pub use list::{
     ValueList, push_reserved,
 };
 pub use numbers::{ByteOr, fit_count, fit_index, index_of, saturate, value_from_object};
+pub use snaps::{Lender, Snap, SnapKind, SnapList};
 pub use text::Text;
 pub use twin::{Twin, copy_all};
 pub use values::{CompareOp, Item, PySlice, Scalar, Value};

@@ -1,0 +1,14 @@
+pub mod Extents
+pub mod Grammar
+pub mod Spelling
+pub mod Words
+pub mod Rows
+pub mod Walks
+pub mod CursorSteps
+pub mod Fields
+pub mod Packs
+pub mod NumbersAgain
+pub mod FieldsAgain
+pub mod Places
+pub mod Whole
+pub mod RoundTrips

@@ -1,0 +1,78 @@
+-- A format that a text spells fills its size.
+use Rattle.std.proofs.Common.{◌≡◌, ℕ, zero, suc, ◌+◌, ◌-◌, ◌*◌, ◌^◌, ◌<◌, ◌≤◌, Bool, true, false, cond, eqb, ltb, List, [], ◌∷◌, ◌++◌, length, get_or, take, drop, replicate, map, Option, Some, None, Result, Ok, Err, refl, sym, ap, subst, ◌∙◌, arith, inl, inr}
+use Rattle.std.specs.Prelude.{IsTrue, ok_or}
+use Rattle.std.specs.List.{All, AllByRecursion}
+use Rattle.std.proofs.lemmas.Bool.{eqb-true, eq-eqb, cases_lt}
+use Rattle.std.proofs.lemmas.List.{length-take, length-drop, length-replicate, length-map, get_or-take, get_or-drop, get_or_past}
+use Rattle.pybuf_value.specs.declared.faults.Fault.{Fault}
+use Rattle.pybuf_value.specs.declared.faults.Fault.TheVariants as fault
+use Rattle.pybuf_value.specs.declared.values.Scalar.{Scalar}
+use Rattle.pybuf_value.specs.declared.snaps.Snap.{Snap}
+use Rattle.pybuf_struct.specs.declared.table.Endianness.{Endianness}
+use Rattle.pybuf_struct.specs.declared.table.FormatType.{FormatType}
+use Rattle.pybuf_struct.specs.declared.table.FormatType.TheVariants as code
+use Rattle.pybuf_struct.specs.Table.{size_of}
+use Rattle.pybuf_struct.specs.Formats.{◌>>=◌, Counted, Code, Format, Field, counted, laid, spelled, format_of, prefix_of, placed, offset_after, extent, fields_in_row, fields_of_code, fields_from, fields}
+use Rattle.pybuf_struct.specs.Values.{is_length, value_of, value_in, values, unpacked}
+use Rattle.pybuf_struct.specs.Packing.{bytes_of, contents_of, written, written_at, filled, packed, packed_values}
+use Rattle.pybuf_struct.specs.Laws.{normal_of, normal_values, is_exact, AreExact}
+use Rattle.pybuf_struct.proofs.NumbersAgain.{IsBytes}
+use Rattle.pybuf_struct.proofs.FieldsAgain.{GivesBack, field_gives, field_back}
+use Rattle.pybuf_struct.proofs.Fields.{IsSound, fields_sound}
+use Rattle.pybuf_struct.proofs.Places.{Spread, Spread-fields, Fills, length-written, field_kept, Tiles, Tiles-fields, part, written_parts}
+
+abbrev some : {A : Type 0} → A → Option A
+some x = Some x
+
+abbrev with_code : Code → List Code × ℕ → Option (List Code × ℕ)
+with_code c l = Some (c ∷ l.0, l.1)
+
+abbrev Fills-from : Endianness → ℕ → List Code × ℕ → Type 0
+Fills-from o offset l = offset + extent o l.0 ≡ l.1
+
+laid_by : (o : Endianness) (offset : ℕ) (c : Code) (r : Bool) (rest : Option (List Code × ℕ)) (l : List Code × ℕ) → ((k : List Code × ℕ) → rest ≡ some k → Fills-from o (offset_after o offset c) k) → cond r (rest >>= with_code c) None ≡ some l → Fills-from o offset l
+laid_by o offset c false rest l after is = absurd cc
+laid_by o offset c true None l after is = absurd cc
+laid_by o offset c true (Some k) l after is =
+    let same : (c ∷ k.0, k.1) ≡ l = cc in
+    let rest_fills : offset_after o offset c + extent o k.0 ≡ k.1 = after k refl in
+    subst (Fills-from o offset) same (omega (arith, rest_fills))
+
+laid_fills : (o : Endianness) (offset : ℕ) (items : List Counted) (l : List Code × ℕ) → laid o offset items ≡ some l → Fills-from o offset l
+unfolding laid
+laid_fills o offset [] l is =
+    let nothing : List Code × ℕ = ([], offset) in
+    let same : nothing ≡ l = cc in
+    subst (Fills-from o offset) same (omega arith)
+laid_fills o offset (item ∷ items) l is =
+    laid_by o offset (placed o offset item) (ltb (offset_after o offset (placed o offset item)) (2 ^ 63)) (laid o (offset_after o offset (placed o offset item)) items) l
+      (λ k e. laid_fills o (offset_after o offset (placed o offset item)) items k e) is
+
+abbrev format_with : Endianness → List Code × ℕ → Format
+format_with o l = record { order = o; codes = l.0; size = l.1 }
+
+abbrev laid_format : Endianness → List Counted → Option Format
+laid_format o items = laid o 0 items >>= λ l. Some (format_with o l)
+
+spelled_by : (o : Endianness) (layout : Option (List Code × ℕ)) (f : Format) → ((k : List Code × ℕ) → layout ≡ some k → Fills-from o 0 k) → (layout >>= λ l. Some (format_with o l)) ≡ some f → extent f.order f.codes ≡ f.size
+spelled_by o None f fills is = absurd cc
+spelled_by o (Some l) f fills is =
+    let same : format_with o l ≡ f = cc in
+    let whole : 0 + extent o l.0 ≡ l.1 = fills l refl in
+    subst (λ (g : Format). extent g.order g.codes ≡ g.size) same (omega (arith, whole))
+
+spelled_items : (o : Endianness) (items : Option (List Counted)) (f : Format) → (items >>= laid_format o) ≡ some f → extent f.order f.codes ≡ f.size
+spelled_items o None f is = absurd cc
+spelled_items o (Some items) f is = spelled_by o (laid o 0 items) f (λ k e. laid_fills o 0 items k e) is
+
+spelled_fills : (o : Endianness) (text : List ℕ) (f : Format) → spelled o text ≡ some f → extent f.order f.codes ≡ f.size
+unfolding spelled
+spelled_fills o text f is = spelled_items o (counted o text None) f is
+
+ok_or_some : (o : Option Format) (f : Format) → ok_or o fault.Struct ≡ Ok f → o ≡ some f
+ok_or_some None f is = absurd cc
+ok_or_some (Some g) f is = ap some (let same : g ≡ f = cc in same)
+
+pub format_fills : (text : List ℕ) (f : Format) → format_of text ≡ Ok f → extent f.order f.codes ≡ f.size
+format_fills text f is = spelled_fills (prefix_of text).0 (prefix_of text).1 f (ok_or_some (spelled (prefix_of text).0 (prefix_of text).1) f is)
+

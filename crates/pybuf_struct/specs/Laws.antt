@@ -1,0 +1,54 @@
+-- What reading gives of what was written.
+use Rattle.std.specs.Prelude.{IsTrue, Bool, true, false, ℕ, ◌==◌, ◌-◌, ◌≡◌, min, not, List, [], ◌∷◌, take, ℤ, Result, Ok, Err, if◌then◌else◌}
+use Rattle.std.specs.List.{AllByRecursion}
+use Rattle.pybuf_value.specs.declared.faults.Fault.{Fault}
+use Rattle.pybuf_value.specs.declared.values.Scalar.{Scalar}
+use Rattle.pybuf_value.specs.declared.values.Scalar.TheVariants as scalar
+use Rattle.pybuf_value.specs.declared.snaps.Snap.{Snap}
+use Rattle.pybuf_value.specs.Numbers.{number_in}
+use Rattle.pybuf_value.specs.Snaps.{bytes_like, bytes_alone}
+use Rattle.pybuf_struct.specs.declared.table.FormatType.{FormatType}
+use Rattle.pybuf_struct.specs.declared.table.FormatType.TheVariants as code
+use Rattle.pybuf_struct.specs.Formats.{Code, Field}
+use Rattle.pybuf_struct.specs.Packing.{truth_byte, fitted_to}
+
+abbrev pub normal_number : Result ℤ Fault → Scalar
+normal_number (Ok n) = scalar.Int n
+normal_number (Err f) = scalar.None
+
+abbrev pub normal_truth : Result ℕ Fault → Scalar
+normal_truth (Ok byte) = scalar.Bool (not (byte == 0))
+normal_truth (Err f) = scalar.None
+
+abbrev pub normal_bytes : (List ℕ → List ℕ) → Result (List ℕ) Fault → Scalar
+normal_bytes cut (Ok bytes) = scalar.Bytes (cut bytes)
+normal_bytes cut (Err f) = scalar.None
+
+abbrev pub normal_pascal : ℕ → Result (List ℕ) Fault → Scalar
+normal_pascal len content = if len == 0 then scalar.Bytes [] else normal_bytes (take (min (len - 1) 255)) content
+
+-- What a field of a code and a length gives back of a value that it took: a number as a whole number, a truth value for
+-- `?`, the bytes of `s` cut or filled with zeros, and those of `p` cut to the least of the length less 1 and 255.
+abbrev pub normal_of : List (ℕ × Snap) → FormatType → ℕ → Scalar → Scalar
+normal_of pairs code.Pad len v = scalar.None
+normal_of pairs code.Char len v = normal_bytes (λ bytes. bytes) (bytes_alone pairs v)
+normal_of pairs code.Bool len v = normal_truth (truth_byte v)
+normal_of pairs code.Str len v = normal_bytes (fitted_to len) (bytes_like pairs v)
+normal_of pairs code.Pascal len v = normal_pascal len (bytes_like pairs v)
+normal_of pairs c len v = normal_number (number_in v)
+
+abbrev pub normal_values : List (ℕ × Snap) → List Field → List Scalar → List Scalar
+normal_values pairs (f ∷ fs) (v ∷ vs) = normal_of pairs f.code f.length v ∷ normal_values pairs fs vs
+normal_values pairs [] vs = []
+normal_values pairs (f ∷ fs) [] = []
+
+-- a code whose every byte comes back as it was: neither `x`, `?` nor `p`
+abbrev pub is_exact : FormatType → Bool
+is_exact code.Pad = false
+is_exact code.Bool = false
+is_exact code.Pascal = false
+is_exact _ = true
+
+-- codes without padding whose every byte comes back as it was
+abbrev pub AreExact : List Code → Type 0
+AreExact codes = AllByRecursion (λ c. (c.pre_padding ≡ 0) × IsTrue (is_exact c.code)) codes

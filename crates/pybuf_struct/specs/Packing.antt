@@ -1,0 +1,131 @@
+-- Writing values by a format.
+use Rattle.std.specs.Prelude.{ℕ, zero, suc, ◌+◌, ◌-◌, ◌*◌, ◌^◌, ◌==◌, min, Bool, true, false, not, List, [], ◌∷◌, ◌++◌, take, drop, length, replicate, ℤ, pos, negsuc, nat_lt, Result, Ok, Err, if◌then◌else◌}
+use Rattle.std.specs.Global.{Vec}
+use Rattle.std.specs.Int.{bytes_low_first, bytes_high_first}
+use Rattle.pybuf_value.specs.declared.faults.Fault.{Fault}
+use Rattle.pybuf_value.specs.declared.faults.Fault.TheVariants as fault
+use Rattle.pybuf_value.specs.declared.values.Scalar.{Scalar}
+use Rattle.pybuf_value.specs.declared.values.Scalar.TheVariants as scalar
+use Rattle.pybuf_value.specs.declared.faults.Outcome.{Outcome}
+use Rattle.pybuf_value.specs.declared.faults.Outcome.TheVariants as outcome
+use Rattle.pybuf_value.specs.declared.snaps.Snap.{Snap}
+use Rattle.pybuf_value.specs.Numbers.{number_in}
+use Rattle.pybuf_value.specs.Refusing.{◌>>=◌}
+use Rattle.pybuf_value.specs.Snaps.{bytes_like, bytes_alone}
+use Rattle.pybuf_struct.specs.declared.table.Endianness.{Endianness}
+use Rattle.pybuf_struct.specs.declared.table.FormatType.{FormatType}
+use Rattle.pybuf_struct.specs.declared.table.FormatType.TheVariants as code
+use Rattle.pybuf_struct.specs.Table.{is_big, is_signed}
+use Rattle.pybuf_struct.specs.Formats.{Format, Field, fields}
+
+-- ---- numbers
+
+-- whether a number, signed or not, has a place in so many bytes
+abbrev pub is_in_range : Bool → ℕ → ℤ → Bool
+is_in_range true size (pos n) = nat_lt (2 * n) (256 ^ size)
+is_in_range true size (negsuc n) = nat_lt (2 * n) (256 ^ size)
+is_in_range false size (pos n) = nat_lt n (256 ^ size)
+is_in_range false size (negsuc n) = false
+
+-- a number as it stands in so many bytes: a negative one in two's complement
+abbrev pub complement_of : ℕ → ℤ → ℕ
+complement_of size (pos n) = n
+complement_of size (negsuc n) = 256 ^ size - suc n
+
+-- the digits of a number in base 256, so many of them, the first of them worth most (big) or least
+abbrev pub digits_of : Bool → ℕ → ℕ → List ℕ
+digits_of true size n = bytes_high_first size n
+digits_of false size n = bytes_low_first 0 size n
+
+-- the bytes of a number, which is refused where it is none or out of range
+abbrev pub number_bytes : Bool → Bool → ℕ → Result ℤ Fault → Result (List ℕ) Fault
+number_bytes big signed size (Ok n) = if is_in_range signed size n then Ok (digits_of big size (complement_of size n)) else Err fault.Struct
+number_bytes big signed size (Err f) = Err fault.Struct
+
+-- ---- truth values and bytes
+
+-- 1 for True and every number but 0
+abbrev pub truth_byte : Scalar → Result ℕ Fault
+truth_byte (scalar.Bool true) = Ok 1
+truth_byte (scalar.Bool false) = Ok 0
+truth_byte (scalar.Int (pos zero)) = Ok 0
+truth_byte (scalar.Int _) = Ok 1
+truth_byte _ = Err fault.Kind
+
+-- so many bytes: the first ones, or all and then zeros
+abbrev pub fitted_to : ℕ → List ℕ → List ℕ
+fitted_to n bytes = take n bytes ++ replicate (n - length bytes) 0
+
+-- one byte
+abbrev pub single : List ℕ → Result (List ℕ) Fault
+single bytes = if length bytes == 1 then Ok bytes else Err fault.Struct
+
+-- a Pascal string: its length in one byte, and then its bytes
+abbrev pub pascal_bytes : ℕ → List ℕ → List ℕ
+pascal_bytes room bytes = min (length bytes) (min room 255) ∷ fitted_to room bytes
+
+-- a Pascal string in a field of a length: one of no length looks at no value
+abbrev pub pascal_field : ℕ → Result (List ℕ) Fault → Result (List ℕ) Fault
+pascal_field len content = if len == 0 then Ok [] else (do
+  bytes ← content
+  Ok (pascal_bytes (len - 1) bytes))
+
+-- ---- fields
+
+-- the bytes that a field of a code and a length gets of a value, or why the value is refused
+abbrev pub bytes_of : Endianness → List (ℕ × Snap) → FormatType → ℕ → Scalar → Result (List ℕ) Fault
+bytes_of o pairs code.Pad len v = Err fault.Struct
+bytes_of o pairs code.Char len v = do
+  bytes ← bytes_alone pairs v
+  single bytes
+bytes_of o pairs code.Bool len v = do
+  byte ← truth_byte v
+  Ok (byte ∷ [])
+bytes_of o pairs code.Str len v = do
+  bytes ← bytes_like pairs v
+  Ok (fitted_to len bytes)
+bytes_of o pairs code.Pascal len v = pascal_field len (bytes_like pairs v)
+bytes_of o pairs c len v = number_bytes (is_big o) (is_signed c) len (number_in v)
+
+-- the bytes of each field, or the first refusal
+unfoldable pub contents_of : Endianness → List (ℕ × Snap) → List Field → List Scalar → Result (List (List ℕ)) Fault
+contents_of o pairs [] [] = Ok []
+contents_of o pairs [] (v ∷ vs) = Err fault.Struct
+contents_of o pairs (f ∷ fs) [] = Err fault.Struct
+contents_of o pairs (f ∷ fs) (v ∷ vs) = do
+  bytes ← bytes_of o pairs f.code f.length v
+  others ← contents_of o pairs fs vs
+  Ok (bytes ∷ others)
+
+-- bytes written over a list's from an offset on
+abbrev pub written_at : ℕ → List ℕ → List ℕ → List ℕ
+written_at offset bytes room = take offset room ++ (bytes ++ drop (offset + length bytes) room)
+
+-- the bytes of each field written at its place
+abbrev pub written : List Field → List (List ℕ) → List ℕ → List ℕ
+written (f ∷ fs) (bytes ∷ others) room = written fs others (written_at f.offset bytes room)
+written [] contents room = room
+written (f ∷ fs) [] room = room
+
+-- each field's bytes written at its place, where no field refuses its value
+abbrev pub filled : List Field → Result (List (List ℕ)) Fault → List ℕ → Result (List ℕ) Fault
+filled fs contents room = contents >>= λ all. Ok (written fs all room)
+
+-- the bytes of the format's size that hold each field's bytes at its place, and zeros elsewhere
+abbrev pub packed_values : Format → List (ℕ × Snap) → List Scalar → Result (List ℕ) Fault
+packed_values f pairs values = filled (fields f) (contents_of f.order pairs (fields f) values) (replicate f.size 0)
+
+-- The bytes of values by a format. A wrong number of values is refused first, and then the first value from the left
+-- that its field refuses.
+abbrev pub packed : Format → List (ℕ × Snap) → List Scalar → Result (List ℕ) Fault
+packed f pairs values = if length values == length (fields f) then packed_values f pairs values else Err fault.Struct
+
+-- whether a call is refused, and why
+abbrev pub checked : {A : Type 0} → Result A Fault → Result (Unit {0}) Fault
+checked (Ok x) = Ok tt
+checked (Err f) = Err f
+
+-- the bytes that a call gave
+abbrev pub items_of : Outcome (Vec ℕ) → Outcome (List ℕ)
+items_of (outcome.Done v) = outcome.Done v.items
+items_of (outcome.Refused f) = outcome.Refused f

@@ -1,0 +1,105 @@
+-- The table of codes: the letter of each, where it is allowed, its size and its alignment.
+-- Native sizes and alignments, and the native order of bytes, are those of a 64-bit little-endian machine.
+use Rattle.std.specs.Prelude.{◌≡◌, ℕ, Bool, true, false, List, [], ◌∷◌, Option, Some, None, ◌==◌, ◌&&◌, ok_or, Result, Ok, Err}
+use Rattle.std.specs.List.{find}
+use Rattle.pybuf_value.specs.declared.faults.Fault.{Fault}
+use Rattle.pybuf_value.specs.declared.faults.Fault.TheVariants as fault
+use Rattle.pybuf_struct.specs.declared.table.Endianness.{Endianness}
+use Rattle.pybuf_struct.specs.declared.table.Endianness.TheVariants as order
+use Rattle.pybuf_struct.specs.declared.table.FormatType.{FormatType}
+use Rattle.pybuf_struct.specs.declared.table.FormatType.TheVariants as code
+
+-- the byte that spells a code
+abbrev pub letter : FormatType → ℕ
+letter code.Pad = 0x78  -- x
+letter code.SByte = 0x62  -- b
+letter code.UByte = 0x42  -- B
+letter code.Char = 0x63  -- c
+letter code.Bool = 0x3f  -- ?
+letter code.Short = 0x68  -- h
+letter code.UShort = 0x48  -- H
+letter code.Int = 0x69  -- i
+letter code.UInt = 0x49  -- I
+letter code.Long = 0x6c  -- l
+letter code.ULong = 0x4c  -- L
+letter code.LongLong = 0x71  -- q
+letter code.ULongLong = 0x51  -- Q
+letter code.SSizeT = 0x6e  -- n
+letter code.SizeT = 0x4e  -- N
+letter code.WideChar = 0x75  -- u
+letter code.Str = 0x73  -- s
+letter code.Pascal = 0x70  -- p
+
+abbrev pub every_code : List FormatType
+every_code =
+    code.Pad ∷ code.SByte ∷ code.UByte ∷ code.Char ∷ code.Bool ∷ code.Short ∷ code.UShort ∷ code.Int ∷ code.UInt
+    ∷ code.Long ∷ code.ULong ∷ code.LongLong ∷ code.ULongLong ∷ code.SSizeT ∷ code.SizeT ∷ code.WideChar ∷ code.Str
+    ∷ code.Pascal ∷ []
+
+-- the code that a byte spells
+abbrev pub code_of : ℕ → Option FormatType
+code_of b = find (λ c. letter c == b) every_code
+
+-- no prefix and `@`, against the prefixes of standard formats
+abbrev pub is_native : Endianness → Bool
+is_native order.Native = true
+is_native _ = false
+
+-- whether the first byte of a number is worth most
+abbrev pub is_big : Endianness → Bool
+is_big order.Big = true
+is_big _ = false
+
+-- `n`, `N` and `u` have no standard size
+abbrev pub is_allowed : Endianness → FormatType → Bool
+is_allowed o code.SSizeT = is_native o
+is_allowed o code.SizeT = is_native o
+is_allowed o code.WideChar = is_native o
+is_allowed o _ = true
+
+-- the bytes that one unit of a code's count takes
+abbrev pub size_of : Endianness → FormatType → ℕ
+size_of o code.Short = 2
+size_of o code.UShort = 2
+size_of o code.Int = 4
+size_of o code.UInt = 4
+size_of order.Native code.Long = 8
+size_of _ code.Long = 4
+size_of order.Native code.ULong = 8
+size_of _ code.ULong = 4
+size_of o code.LongLong = 8
+size_of o code.ULongLong = 8
+size_of o code.SSizeT = 8
+size_of o code.SizeT = 8
+size_of o code.WideChar = 4
+size_of o _ = 1
+
+-- what an offset is raised to a multiple of before a code; 1 where there is no alignment
+abbrev pub native_alignment : FormatType → ℕ
+native_alignment code.Short = 2
+native_alignment code.UShort = 2
+native_alignment code.Int = 4
+native_alignment code.UInt = 4
+native_alignment code.Long = 8
+native_alignment code.ULong = 8
+native_alignment code.LongLong = 8
+native_alignment code.ULongLong = 8
+native_alignment code.SSizeT = 8
+native_alignment code.SizeT = 8
+native_alignment code.WideChar = 4
+native_alignment _ = 1
+
+abbrev pub alignment_of : Endianness → FormatType → ℕ
+alignment_of order.Native c = native_alignment c
+alignment_of _ c = 1
+
+-- whether a number of this code is in two's complement
+abbrev pub is_signed : FormatType → Bool
+is_signed code.SByte = true
+is_signed code.Short = true
+is_signed code.Int = true
+is_signed code.Long = true
+is_signed code.LongLong = true
+is_signed code.SSizeT = true
+is_signed code.WideChar = true
+is_signed _ = false

@@ -1,0 +1,57 @@
+-- Reading bytes by a format.
+use Rattle.std.specs.Prelude.{ℕ, ◌==◌, Bool, true, not, List, [], ◌∷◌, take, drop, map, length, slice_index, Result, Ok, Err, if◌then◌else◌}
+use Rattle.pybuf_value.specs.declared.faults.Fault.{Fault}
+use Rattle.pybuf_value.specs.declared.faults.Fault.TheVariants as fault
+use Rattle.pybuf_value.specs.declared.values.Scalar.{Scalar}
+use Rattle.pybuf_value.specs.declared.values.Scalar.TheVariants as scalar
+use Rattle.pybuf_value.specs.declared.values.Item.{Item}
+use Rattle.pybuf_value.specs.declared.values.Item.TheVariants as item
+use Rattle.pybuf_value.specs.declared.faults.Outcome.{Outcome}
+use Rattle.pybuf_value.specs.declared.faults.Outcome.TheVariants as outcome
+use Rattle.pybuf_struct.specs.declared.table.Endianness.{Endianness}
+use Rattle.pybuf_struct.specs.declared.table.FormatType.{FormatType}
+use Rattle.pybuf_struct.specs.declared.table.FormatType.TheVariants as code
+use Rattle.pybuf_struct.specs.Table.{is_big, is_signed, size_of}
+use Rattle.pybuf_struct.specs.Digits.{number}
+use Rattle.pybuf_struct.specs.Formats.{Format, Field, fields}
+
+-- the bytes of a Pascal string: as many as its first byte says, at most the rest of the field
+abbrev pub pascal_content : List ℕ → List ℕ
+pascal_content [] = []
+pascal_content (len ∷ rest) = take len rest
+
+-- the value of a field's bytes
+abbrev pub value_of : Endianness → FormatType → List ℕ → Scalar
+value_of o code.Pad bytes = scalar.None
+value_of o code.Char bytes = scalar.Bytes bytes
+value_of o code.Bool bytes = scalar.Bool (not (slice_index bytes 0 == 0))
+value_of o code.Str bytes = scalar.Bytes bytes
+value_of o code.Pascal bytes = scalar.Bytes (pascal_content bytes)
+value_of o c bytes = scalar.Int (number (is_big o) (is_signed c) bytes)
+
+abbrev pub value_in : Endianness → List ℕ → Field → Scalar
+value_in o bytes field = value_of o field.code (take field.length (drop field.offset bytes))
+
+-- the value of each field, in order
+abbrev pub values : Format → List ℕ → List Scalar
+values f bytes = map (value_in f.order bytes) (fields f)
+
+-- the values of bytes of the format's size; of any other length `StructError`
+abbrev pub unpacked : Format → List ℕ → Result (List Scalar) Fault
+unpacked f bytes = if length bytes == f.size then Ok (values f bytes) else Err fault.Struct
+
+-- an item of exactly one value reads as that value, of any other number as a tuple
+abbrev pub item_of : List Scalar → Item
+item_of (v ∷ []) = item.One v
+item_of vs = item.Many vs
+
+-- what a call answers that may be refused
+abbrev pub outcome_of : {A : Type 0} → Result A Fault → Outcome A
+outcome_of (Ok x) = outcome.Done x
+outcome_of (Err f) = outcome.Refused f
+
+-- whether a field of a code may have so many bytes: `s` and `p` any, and every other code those of one unit
+abbrev pub is_length : Endianness → FormatType → ℕ → Bool
+is_length o code.Str n = true
+is_length o code.Pascal n = true
+is_length o c n = n == size_of o c

@@ -1,0 +1,51 @@
+-- What handles name, and the bytes that a value or a handle stands for.
+use Rattle.std.specs.Prelude.{ℕ, ◌==◌, Bool, true, false, List, [], ◌∷◌, Option, Some, None, Result, Ok, Err, if◌then◌else◌}
+use Rattle.pybuf_value.specs.declared.faults.Fault.{Fault}
+use Rattle.pybuf_value.specs.declared.faults.Fault.TheVariants as fault
+use Rattle.pybuf_value.specs.declared.values.Scalar.{Scalar}
+use Rattle.pybuf_value.specs.declared.values.Scalar.TheVariants as scalar
+use Rattle.pybuf_value.specs.declared.snaps.Snap.{Snap}
+use Rattle.pybuf_value.specs.declared.snaps.SnapKind.{SnapKind}
+use Rattle.pybuf_value.specs.declared.snaps.SnapKind.TheVariants as kind
+
+-- the snap of the first pair of a handle
+abbrev pub snap_of : List (ℕ × Snap) → ℕ → Option Snap
+snap_of [] h = None
+snap_of (pair ∷ pairs) h = if pair.0 == h then Some pair.1 else snap_of pairs h
+
+-- the bytes of an exporter, and of a view that is not released and whose items lie one after another
+abbrev pub content_of_view : Bool → Bool → List ℕ → Result (List ℕ) Fault
+content_of_view true contiguous content = Err fault.Value
+content_of_view false true content = Ok content
+content_of_view false false content = Err fault.Kind
+
+abbrev pub content_of_kind : SnapKind → Bool → Bool → List ℕ → Result (List ℕ) Fault
+content_of_kind kind.Iterator released contiguous content = Err fault.Kind
+content_of_kind kind.View released contiguous content = content_of_view released contiguous content
+content_of_kind _ released contiguous content = Ok content
+
+-- a handle that was never given is refused first
+abbrev pub content_of : Option Snap → Result (List ℕ) Fault
+content_of None = Err fault.UnknownName
+content_of (Some snap) = content_of_kind snap.kind snap.released snap.contiguous snap.content
+
+-- the bytes of a bytes value, or of the exporter or view that a handle names
+abbrev pub bytes_like : List (ℕ × Snap) → Scalar → Result (List ℕ) Fault
+bytes_like pairs (scalar.Bytes bytes) = Ok bytes
+bytes_like pairs (scalar.Handle h) = content_of (snap_of pairs h)
+bytes_like pairs _ = Err fault.Kind
+
+-- the bytes of an exporter of kind bytes alone
+abbrev pub content_if_bytes : SnapKind → List ℕ → Result (List ℕ) Fault
+content_if_bytes kind.Bytes content = Ok content
+content_if_bytes _ content = Err fault.Kind
+
+abbrev pub content_of_bytes : Option Snap → Result (List ℕ) Fault
+content_of_bytes None = Err fault.UnknownName
+content_of_bytes (Some snap) = content_if_bytes snap.kind snap.content
+
+-- the bytes of a bytes value, or of the exporter of kind bytes that a handle names
+abbrev pub bytes_alone : List (ℕ × Snap) → Scalar → Result (List ℕ) Fault
+bytes_alone pairs (scalar.Bytes bytes) = Ok bytes
+bytes_alone pairs (scalar.Handle h) = content_of_bytes (snap_of pairs h)
+bytes_alone pairs _ = Err fault.Kind
