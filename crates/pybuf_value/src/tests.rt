@@ -113,3 +113,27 @@ fn the_text_of_a_fault_is_its_name(rt: HostRuntime) -> Result<(), Fail> {
     }
     Ok(())
 }
+
+fn snap(alloc: Global) -> Result<Snap, Fail> {
+    Ok(Snap {
+        kind: SnapKind::View,
+        format: Text::new(alloc),
+        itemsize: 1,
+        shape: CountList::new(alloc),
+        content: bytes(alloc)?,
+        contiguous: true,
+        released: false,
+    })
+}
+
+#[test]
+fn snaps_are_copied_and_lent(rt: HostRuntime) -> Result<(), Fail> {
+    let mut snaps = SnapList::new(rt.alloc());
+    snaps.push((7, snap(rt.alloc())?.copy(rt.alloc())?))?;
+    assert!(rt; snaps.lend(8).is_none());
+    let Some(found) = snaps.lend(7) else {
+        return Err(Fail::from("a snap"));
+    };
+    assert_eq!(rt; found.content.as_slice(), [7u8, 255].as_slice());
+    Ok(())
+}
