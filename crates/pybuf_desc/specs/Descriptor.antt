@@ -1,0 +1,33 @@
+-- What a descriptor of a buffer says, and the part of a view that it stands for.
+use Rattle.std.specs.Prelude.{ℕ, ◌*◌, ℤ, Bool, List, [], ◌∷◌, map}
+
+-- A dimension is a triple: its number of entries, the distance in bytes from one entry to the next
+-- (its stride), and its suboffset.
+pub record Descriptor : Type 0 where
+  pub len : ℕ
+  pub readonly : Bool
+  pub itemsize : ℕ
+  pub format : List ℕ
+  pub dims : List (ℕ × ℤ × ℤ)
+
+-- the entries of the shape
+abbrev pub shape_of : List (ℕ × ℤ × ℤ) → List ℕ
+shape_of dims = map (λ dim. dim.0) dims
+
+abbrev pub strides_of : List (ℕ × ℤ × ℤ) → List ℤ
+strides_of dims = map (λ dim. dim.1) dims
+
+-- how many items a shape has
+abbrev pub product : List ℕ → ℕ
+product [] = 1
+product (n ∷ shape) = n * product shape
+
+-- A view as its user knows it: the first byte's place of each item, row-major, and the strides that
+-- it shows.
+pub record Layout : Type 0 where
+  pub format : List ℕ
+  pub itemsize : ℕ
+  pub shape : List ℕ
+  pub starts : List ℕ
+  pub strides : List ℤ
+  pub readonly : Bool

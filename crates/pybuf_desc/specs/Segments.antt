@@ -1,0 +1,2 @@
+-- The bytes of the items as ranges.
+use Rattle.std.specs.Prelude.{ℕ}

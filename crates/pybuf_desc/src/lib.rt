@@ -1,0 +1,6 @@
+//! Descriptors of buffers: shape, strides and a start as a value that stands for a list of places.
+#![tactic(auto)]
+
+mod descriptor;
+
+pub use descriptor::BufferDescriptor;
