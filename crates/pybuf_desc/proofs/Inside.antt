@@ -1,5 +1,6 @@
 -- All bytes of all items lie inside exactly where those of the least and of the greatest place do.
-use Rattle.std.proofs.Common.{◌≡◌, ℕ, zero, suc, ◌+◌, ◌-◌, ◌*◌, ◌<◌, ◌≤◌, ℤ, pos, negsuc, ◌+ℤ◌, ◌*ℤ◌, ◌≤ℤ◌, List, [], ◌∷◌, ◌++◌, length, refl, ap, sym, ◌∙◌, subst, arith}
+use Rattle.std.proofs.Common.{◌≡◌, ℕ, zero, suc, ◌+◌, ◌-◌, ◌*◌, ◌<◌, ◌≤◌, ℤ, pos, negsuc, ◌+ℤ◌, ◌*ℤ◌, ◌≤ℤ◌, List, [], ◌∷◌, ◌++◌, length, get_or, drop, drop-cons, refl, ap, sym, ◌∙◌, subst, arith, IsTrue, true, false, ◌↔◌, All, unsigned_abs, true≢false}
+use Rattle.std.proofs.lemmas.List.Elements.{All-from_recursion, recursion_from_All, All-head, All-tail}
 use Rattle.std.proofs.lemmas.Int.{ints}
 use Rattle.std.specs.List.{AllByRecursion}
 use Rattle.pybuf_desc.specs.Places.{places}
@@ -108,3 +109,41 @@ reach_from_inside size room [] p some h = let i = h.0 in let l = i.low in let g 
 reach_from_inside size room (dim ∷ dims) p some h =
     laid_inside_n size room (back_reach dims) (forth_reach dims) (places dims) (λ q k. reach_from_inside size room dims q some.1 k) dim.0 p dim.1 some.0
     (subst (AllByRecursion (IsInside size room)) (places-cons dim dims p) h)
+
+pub AreNonzero-from_All : (dims : List (ℕ × ℤ × ℤ)) → All (λ dim. 0 < dim.0) dims → AreNonzero dims
+AreNonzero-from_All [] h = tt
+AreNonzero-from_All (dim ∷ dims) h = (All-head (λ d. 0 < d.0) dim dims h, AreNonzero-from_All dims (All-tail (λ d. 0 < d.0) dim dims h))
+
+pub inside_in_reach : (size room start : ℕ) (dims : List (ℕ × ℤ × ℤ)) → back_reach dims ≤ start → start + forth_reach dims + size ≤ room → IsTrue true ↔ All (IsInside size room) (places dims (pos start))
+inside_in_reach size room start dims low high =
+    (λ _. All-from_recursion (IsInside size room) (places dims (pos start)) (inside_from_reach size room dims (pos start) (record { least = omega (arith, ints); greatest = omega (arith, ints) })), λ _. refl)
+
+pub outside_of_reach : (size room start : ℕ) (dims : List (ℕ × ℤ × ℤ)) → All (λ dim. 0 < dim.0) dims → (back_reach dims ≤ start → start + forth_reach dims + size ≤ room → ⊥) → IsTrue false ↔ All (IsInside size room) (places dims (pos start))
+outside_of_reach size room start dims some out =
+    (λ wrong. absurd (true≢false (sym wrong)), λ h.
+      let r : Reaches size room (back_reach dims) (forth_reach dims) (pos start) = reach_from_inside size room dims (pos start) (AreNonzero-from_All dims some) (recursion_from_All (IsInside size room) (places dims (pos start)) h) in
+      let low = r.least in let high = r.greatest in absurd (out (omega (arith, ints)) (omega (arith, ints))))
+
+back_reach-drop : (dims : List (ℕ × ℤ × ℤ)) (i : ℕ) → i < length dims → back_reach (drop i dims) ≡ gaps (get_or dims i (0, pos 0, pos 0)).0 * back (get_or dims i (0, pos 0, pos 0)).1 + back_reach (drop (suc i) dims)
+back_reach-drop dims i h = ap back_reach (drop-cons dims i (0, pos 0, pos 0) h)
+
+forth_reach-drop : (dims : List (ℕ × ℤ × ℤ)) (i : ℕ) → i < length dims → forth_reach (drop i dims) ≡ gaps (get_or dims i (0, pos 0, pos 0)).0 * forth (get_or dims i (0, pos 0, pos 0)).1 + forth_reach (drop (suc i) dims)
+forth_reach-drop dims i h = ap forth_reach (drop-cons dims i (0, pos 0, pos 0) h)
+
+gaps_is : (n : ℕ) → gaps n ≡ n - 1
+gaps_is zero = omega arith
+gaps_is (suc n) = omega arith
+
+-- a dimension whose `n` entries lead further than is left on both sides
+pub too_far : (n : ℕ) (z : ℤ) (before after most : ℕ) → before ≤ most → after ≤ most → (((n - 1) * unsigned_abs z ≤ most) → ⊥) → (gaps n * back z ≤ before → gaps n * forth z ≤ after → ⊥)
+too_far n (pos k) before after most b a far low high = far (rw (← gaps_is n) (omega (arith, high, a)))
+too_far n (negsuc k) before after most b a far low high = far (rw (← gaps_is n) (omega (arith, low, b)))
+
+pub outside_at : (size room start before after i : ℕ) (dims : List (ℕ × ℤ × ℤ)) → All (λ dim. 0 < dim.0) dims → i < length dims
+  → before + back_reach dims ≡ start + back_reach (drop i dims)
+  → after + forth_reach dims + size + start ≡ room + forth_reach (drop i dims)
+  → (gaps (get_or dims i (0, pos 0, pos 0)).0 * back (get_or dims i (0, pos 0, pos 0)).1 ≤ before → gaps (get_or dims i (0, pos 0, pos 0)).0 * forth (get_or dims i (0, pos 0, pos 0)).1 ≤ after → ⊥)
+  → IsTrue false ↔ All (IsInside size room) (places dims (pos start))
+outside_at size room start before after i dims some h eb ea far =
+    outside_of_reach size room start dims some
+    (λ low high. far (omega (arith, back_reach-drop dims i h, eb)) (omega (arith, forth_reach-drop dims i h, ea)))

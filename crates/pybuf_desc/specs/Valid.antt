@@ -1,5 +1,5 @@
 -- When a descriptor describes items that lie inside an exporter's bytes.
-use Rattle.std.specs.Prelude.{◌≡◌, ◌≢◌, ℕ, ◌+◌, ◌*◌, ◌^◌, ◌<◌, ◌≤◌, ℤ, pos, ◌+ℤ◌, ◌≤ℤ◌, List, nat_lt, length, drop, filter, All}
+use Rattle.std.specs.Prelude.{◌≡◌, ◌≢◌, ℕ, ◌+◌, ◌*◌, ◌^◌, ◌<◌, ◌≤◌, ℤ, pos, ◌+ℤ◌, ◌≤ℤ◌, List, [], ◌∷◌, zero, suc, length, drop, All}
 use Rattle.pybuf_desc.specs.Descriptor.{Descriptor, shape_of, product}
 use Rattle.pybuf_desc.specs.Places.{places}
 
@@ -10,7 +10,9 @@ pub record IsInside (itemsize room : ℕ) (place : ℤ) : Type 0 where
 
 -- the entries that aren't 0
 abbrev pub nonzero : List ℕ → List ℕ
-nonzero shape = filter (λ n. nat_lt 0 n) shape
+nonzero [] = []
+nonzero (zero ∷ shape) = nonzero shape
+nonzero (suc n ∷ shape) = suc n ∷ nonzero shape
 
 pub record IsValid (d : Descriptor) (start room : ℕ) : Type 0 where
   pub some_size : 0 < d.itemsize
@@ -18,7 +20,7 @@ pub record IsValid (d : Descriptor) (start room : ℕ) : Type 0 where
   pub few_dimensions : length d.dims ≤ 64
   pub strides : All (λ dim. dim.1 ≢ pos 0) d.dims
   pub suboffsets : All (λ dim. dim.2 ≡ pos 0) d.dims
-  pub later_entries : All (λ n. 0 < n) (drop 1 (shape_of d.dims))
+  pub later_entries : All (λ dim. 0 < dim.0) (drop 1 d.dims)
   pub extent_fits : d.itemsize * product (nonzero (shape_of d.dims)) < 2 ^ 63
   pub len : d.itemsize * product (shape_of d.dims) ≡ d.len
   pub inside : All (IsInside d.itemsize room) (places d.dims (pos start))
