@@ -1,10 +1,11 @@
 -- All bytes of all items lie inside exactly where those of the least and of the greatest place do.
 use Rattle.std.proofs.Common.{◌≡◌, ℕ, zero, suc, ◌+◌, ◌-◌, ◌*◌, ◌<◌, ◌≤◌, ℤ, pos, negsuc, ◌+ℤ◌, ◌*ℤ◌, ◌≤ℤ◌, List, [], ◌∷◌, ◌++◌, length, get_or, drop, drop-cons, refl, ap, sym, ◌∙◌, subst, arith, IsTrue, true, false, ◌↔◌, All, unsigned_abs, true≢false}
-use Rattle.std.proofs.lemmas.List.Elements.{All-from_recursion, recursion_from_All, All-head, All-tail}
+use Rattle.std.proofs.lemmas.List.Elements.{All-from_recursion, recursion_from_All}
 use Rattle.std.proofs.lemmas.Int.{ints}
 use Rattle.std.specs.List.{AllByRecursion}
 use Rattle.pybuf_desc.specs.Places.{places}
 use Rattle.pybuf_desc.specs.Valid.{IsInside}
+use Rattle.pybuf_desc.proofs.Products.{AreNonzero, AreNonzero-from_All}
 use Rattle.pybuf_desc.proofs.Steps.{laid, places-cons}
 
 pub ByRec-append : {X : Type 0} (P : X → Type 0) (xs ys : List X) → AllByRecursion P xs → AllByRecursion P ys → AllByRecursion P (xs ++ ys)
@@ -84,11 +85,6 @@ inside_from_reach size room (dim ∷ dims) p r =
     subst (AllByRecursion (IsInside size room)) (sym (places-cons dim dims p))
     (inside_laid size room (back_reach dims) (forth_reach dims) (places dims) (inside_from_reach size room dims) dim.0 p dim.1 r)
 
--- each entry of the shape is above 0
-abbrev pub AreNonzero : List (ℕ × ℤ × ℤ) → Type 0
-AreNonzero [] = Unit {0}
-AreNonzero (dim ∷ dims) = (0 < dim.0) × AreNonzero dims
-
 first_block : (size room a b k l : ℕ) (p : ℤ) → Reaches size room a b p → Reaches size room (0 * k + a) (0 * l + b) p
 first_block size room a b k l p r = let low = r.least in let high = r.greatest in record { least = omega (arith, ints); greatest = omega (arith, ints) }
 
@@ -109,10 +105,6 @@ reach_from_inside size room [] p some h = let i = h.0 in let l = i.low in let g 
 reach_from_inside size room (dim ∷ dims) p some h =
     laid_inside_n size room (back_reach dims) (forth_reach dims) (places dims) (λ q k. reach_from_inside size room dims q some.1 k) dim.0 p dim.1 some.0
     (subst (AllByRecursion (IsInside size room)) (places-cons dim dims p) h)
-
-pub AreNonzero-from_All : (dims : List (ℕ × ℤ × ℤ)) → All (λ dim. 0 < dim.0) dims → AreNonzero dims
-AreNonzero-from_All [] h = tt
-AreNonzero-from_All (dim ∷ dims) h = (All-head (λ d. 0 < d.0) dim dims h, AreNonzero-from_All dims (All-tail (λ d. 0 < d.0) dim dims h))
 
 pub inside_in_reach : (size room start : ℕ) (dims : List (ℕ × ℤ × ℤ)) → back_reach dims ≤ start → start + forth_reach dims + size ≤ room → IsTrue true ↔ All (IsInside size room) (places dims (pos start))
 inside_in_reach size room start dims low high =

@@ -1,3 +1,4 @@
 pub mod Steps
 pub mod Inside
 pub mod Products
+pub mod Validity

@@ -1,7 +1,8 @@
 -- Places by adding the stride once for each index, which inductions can use.
-use Rattle.std.proofs.Common.{◌≡◌, ℕ, zero, suc, ◌+◌, ◌*◌, ◌<◌, ℤ, pos, negsuc, ◌+ℤ◌, ◌*ℤ◌, List, [], ◌∷◌, ◌++◌, refl, ap, ap₂, sym, ◌∙◌, arith}
+use Rattle.std.proofs.Common.{◌≡◌, ℕ, zero, suc, ◌+◌, ◌*◌, ◌<◌, ℤ, pos, negsuc, ◌+ℤ◌, ◌*ℤ◌, List, [], ◌∷◌, ◌++◌, refl, ap, ap₂, sym, ◌∙◌, arith, length, length-append, zero-mul}
 use Rattle.std.proofs.lemmas.Int.{ints}
 use Rattle.std.specs.List.{flat_map, range_with_len}
+use Rattle.pybuf_desc.specs.Descriptor.{shape_of, product}
 use Rattle.pybuf_desc.specs.Places.{places}
 
 -- `n` blocks, the first at `p` and each `t` after the one before
@@ -27,3 +28,13 @@ flat_map-laid block (suc n) i p t =
 
 pub places-cons : (dim : ℕ × ℤ × ℤ) (dims : List (ℕ × ℤ × ℤ)) (p : ℤ) → places (dim ∷ dims) p ≡ laid (places dims) dim.0 p dim.1
 places-cons dim dims p = flat_map-laid (places dims) dim.0 0 p dim.1 ∙ ap (λ q. laid (places dims) dim.0 q dim.1) (zeroth_place p dim.1)
+
+length-laid : (block : ℤ → List ℤ) (size : ℕ) → ((q : ℤ) → length (block q) ≡ size) → (n : ℕ) (p t : ℤ) → length (laid block n p t) ≡ n * size
+length-laid block size each zero p t = sym (zero-mul size)
+length-laid block size each (suc n) p t =
+    length-append (block p) (laid block n (p +ℤ t) t) ∙ (let one = each p in let rest = length-laid block size each n (p +ℤ t) t in omega (arith, one, rest))
+
+-- a place for each item
+pub length-places : (dims : List (ℕ × ℤ × ℤ)) (p : ℤ) → length (places dims p) ≡ product (shape_of dims)
+length-places [] p = refl
+length-places (dim ∷ dims) p = ap length (places-cons dim dims p) ∙ length-laid (places dims) (product (shape_of dims)) (length-places dims) dim.0 p dim.1

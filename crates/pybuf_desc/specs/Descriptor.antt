@@ -1,5 +1,5 @@
 -- What a descriptor of a buffer says, and the part of a view that it stands for.
-use Rattle.std.specs.Prelude.{ℕ, ◌*◌, ℤ, Bool, List, [], ◌∷◌, map}
+use Rattle.std.specs.Prelude.{ℕ, ◌*◌, ℤ, pos, Bool, List, [], ◌∷◌, map}
 
 -- A dimension is a triple: its number of entries, the distance in bytes from one entry to the next
 -- (its stride), and its suboffset.
@@ -9,6 +9,17 @@ pub record Descriptor : Type 0 where
   pub itemsize : ℕ
   pub format : List ℕ
   pub dims : List (ℕ × ℤ × ℤ)
+
+-- one dimension of `count` items, one after the other
+abbrev pub flat : List ℕ → ℕ → ℕ → Bool → Descriptor
+flat format itemsize count readonly =
+    record {
+      len = count * itemsize;
+      readonly = readonly;
+      itemsize = itemsize;
+      format = format;
+      dims = (count, pos itemsize, pos 0) ∷ [];
+    }
 
 -- the entries of the shape
 abbrev pub shape_of : List (ℕ × ℤ × ℤ) → List ℕ

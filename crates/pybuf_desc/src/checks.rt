@@ -1,5 +1,5 @@
 //! Checks of dimensions, without trust in their numbers.
-ghost use Rattle.std.specs.Prelude.{◌≡◌, ◌≢◌, ◌*◌, ◌^◌, ◌<◌, ◌↔◌, pos, SomeIff, IsTrue, All};
+ghost use Rattle.std.specs.Prelude.{◌≡◌, ◌≢◌, ◌*◌, ◌^◌, ◌<◌, ◌↔◌, pos, SomeIff, IsTrue, All, drop};
 ghost use Rattle.std.specs.List.{Any};
 ghost use Rattle.pybuf_desc.specs.Descriptor.{shape_of, product};
 ghost use Rattle.pybuf_desc.specs.Places.{places};
@@ -26,11 +26,14 @@ pub fn has_zero(dims: &[(usize, isize, isize)]) -> bool
     dims.iter().any(|dim| dim.0 == 0)
 }
 
-/// Whether each dimension has an entry.
-pub fn has_entries(dims: &[(usize, isize, isize)]) -> bool
-    ensures { IsTrue result ↔ All (λ dim. 0 < dim.0) dims.now }
+/// Whether each dimension after the first has an entry.
+pub fn has_later_entries(dims: &[(usize, isize, isize)]) -> bool
+    ensures { IsTrue result ↔ All (λ dim. 0 < dim.0) (drop 1 dims.now) }
 {
-    dims.iter().all(|dim| dim.0 != 0)
+    match dims.split_first() {
+        None => true,
+        Some((_, later)) => later.iter().all(|dim| dim.0 != 0),
+    }
 }
 
 /// The item size times the entries that aren't 0, where it is at most `isize::MAX`.

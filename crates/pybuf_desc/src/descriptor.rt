@@ -1,9 +1,10 @@
 //! The descriptor, how one is made, and what it says of itself.
-ghost use Rattle.std.specs.Prelude.{◌≡◌, ◌==◌, ◌*◌, ◌/◌, ◌%◌, ◌^◌, ◌<◌, ◌≤◌, ◌↔◌, [], ◌∷◌, pos, true, length, IfOk, IsTrue, codes};
+ghost use Rattle.std.specs.Prelude.{◌≡◌, ◌==◌, ◌*◌, ◌/◌, ◌%◌, ◌^◌, ◌<◌, ◌≤◌, ◌↔◌, [], ◌∷◌, pos, true, length, IfOk, IfErr, IsOk, IsTrue, codes};
 ghost use Rattle.std.specs.List.{Any};
-ghost use Rattle.pybuf_desc.specs.Descriptor.{shape_of};
+ghost use Rattle.pybuf_value.specs.declared.faults.Fault.{Fault};
 
-use pybuf_value::{DimList, Made, Text, Twin};
+use crate::checks::{are_inside, extent, has_later_entries, has_strides, has_zero, is_direct};
+use pybuf_value::{DimList, Fault, Made, Text, Twin};
 use std::alloc::Global;
 use std::marker::Model;
 
@@ -31,7 +32,7 @@ impl Model for BufferDescriptor {
 }
 
 impl BufferDescriptor {
-    ghost use Rattle.pybuf_desc.specs.Descriptor.{Descriptor};
+    ghost use Rattle.pybuf_desc.specs.Descriptor.{Descriptor, flat};
     ghost use Rattle.pybuf_desc.specs.Places.{places};
     ghost use Rattle.pybuf_desc.specs.Valid.{IsValid};
 
@@ -82,6 +83,100 @@ impl BufferDescriptor {
         ensures { result ≡ length self.now.dims }
     {
         self.dim_desc.len()
+    }
+
+    /// Whether a dimension has no entry.
+    pub fn is_zero_in_shape(&self) -> bool
+        ensures { IsTrue result ↔ Any (λ dim. dim.0 ≡ 0) self.now.dims }
+    {
+        has_zero(self.dim_desc.as_slice())
+    }
+
+    /// Whether the descriptor, with its first item at `start`, describes items that lie in a
+    /// buffer of `room` bytes.
+    ///
+    /// Refused with `ValueError` exactly where the item size is 0 or past `isize::MAX`; there are
+    /// over 64 dimensions; a stride is 0; a suboffset isn't 0; an entry after the first is 0; the
+    /// item size times the entries that aren't 0 passes `isize::MAX`; the item size times all
+    /// entries isn't `len`; or a byte of an item would lie outside `0..room`. Whatever the numbers
+    /// are, none of this overflows.
+    pub fn validate(&self, start: usize, room: usize) -> Result<(), Fault>
+        ensures valid { IsOk result ↔ IsValid self.now start room }
+        ensures refused { IfErr result (λ fault. fault ≡ Fault.Value) }
+    {
+        let dims = self.dim_desc.as_slice();
+        if self.itemsize == 0 {
+            return Err(Fault::Value);
+        }
+        if self.itemsize > isize::MAX as usize {
+            return Err(Fault::Value);
+        }
+        if dims.len() > 64 {
+            return Err(Fault::Value);
+        }
+        if !has_strides(dims) {
+            return Err(Fault::Value);
+        }
+        if !is_direct(dims) {
+            return Err(Fault::Value);
+        }
+        if !has_later_entries(dims) {
+            return Err(Fault::Value);
+        }
+        match extent(self.itemsize, dims) {
+            None => Err(Fault::Value),
+            Some(extent) => {
+                if has_zero(dims) {
+                    if self.len != 0 {
+                        return Err(Fault::Value);
+                    }
+                    return Ok(());
+                }
+                if self.len != extent {
+                    return Err(Fault::Value);
+                }
+                if !are_inside(dims, self.itemsize, start, room) {
+                    return Err(Fault::Value);
+                }
+                Ok(())
+            }
+        }
+    }
+
+    /// One dimension of bytes: format `B`, and as many items as bytes.
+    pub fn simple(alloc: Global, bytes_len: usize, readonly: bool) -> Made<BufferDescriptor>
+        requires { bytes_len < 2 ^ 63 }
+        ensures made { IfOk result (λ d. d ≡ flat (codes "B") 1 bytes_len readonly) }
+        ensures valid { IfOk result (λ d. IsValid d 0 bytes_len) }
+    {
+        let text = String::from_str(alloc, "B")?;
+        BufferDescriptor::format(alloc, bytes_len, readonly, 1, Text::from_string(text))
+    }
+
+    /// One dimension of items, one after the other.
+    pub fn format(
+        alloc: Global,
+        bytes_len: usize,
+        readonly: bool,
+        itemsize: usize,
+        format: Text,
+    ) -> Made<BufferDescriptor>
+        requires some_size { 0 < itemsize }
+        requires size_fits { itemsize < 2 ^ 63 }
+        requires len_fits { bytes_len < 2 ^ 63 }
+        requires whole_items { bytes_len % itemsize ≡ 0 }
+        ensures made { IfOk result (λ d. d ≡ flat format itemsize (bytes_len / itemsize) readonly) }
+        ensures valid { IfOk result (λ d. IsValid d 0 bytes_len) }
+    {
+        let mut dim_desc = DimList::new(alloc);
+        dim_desc.push((bytes_len / itemsize, itemsize as isize, 0))?;
+        Ok(BufferDescriptor {
+            len: bytes_len,
+            readonly,
+            itemsize,
+            format,
+            dim_desc,
+        })
     }
 
     /// The record as given. Takes no memory.
