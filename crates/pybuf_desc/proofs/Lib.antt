@@ -2,3 +2,4 @@ pub mod Steps
 pub mod Inside
 pub mod Products
 pub mod Validity
+pub mod Runs
