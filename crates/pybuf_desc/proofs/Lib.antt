@@ -3,3 +3,4 @@ pub mod Inside
 pub mod Products
 pub mod Validity
 pub mod Runs
+pub mod Track

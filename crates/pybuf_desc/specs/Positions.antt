@@ -27,14 +27,10 @@ abbrev pub wrapped : ℕ → ℤ → Result ℕ Fault
 wrapped n (pos index) = if nat_lt index n then Ok index else Err fault.Index
 wrapped n (negsuc index) = if nat_lt index n then Ok (n - suc index) else Err fault.Index
 
-abbrev pub wrapped_all : List ℤ → List (ℕ × ℤ × ℤ) → Result (List ℕ) Fault
-wrapped_all (index ∷ indices) (dim ∷ dims) = do
-  first ← wrapped dim.0 index
-  others ← wrapped_all indices dims
-  Ok (first ∷ others)
-wrapped_all _ _ = Ok []
-
+-- the sum of index times stride, each index wrapped
 abbrev pub position_of : List ℤ → List (ℕ × ℤ × ℤ) → Result ℤ Fault
-position_of indices dims = do
-  wrapped ← wrapped_all indices dims
-  Ok (offset_of wrapped dims)
+position_of (index ∷ indices) (dim ∷ dims) = do
+  first ← wrapped dim.0 index
+  others ← position_of indices dims
+  Ok (pos first *ℤ dim.1 +ℤ others)
+position_of _ _ = Ok (pos 0)
