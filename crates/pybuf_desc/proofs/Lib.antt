@@ -4,3 +4,6 @@ pub mod Products
 pub mod Validity
 pub mod Runs
 pub mod Track
+pub mod Indices
+pub mod Moves
+pub mod Wrapped

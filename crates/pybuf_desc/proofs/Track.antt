@@ -27,7 +27,7 @@ here size room dims p some h =
     let r : Reaches size room (back_reach dims) (forth_reach dims) p = reach_from_inside size room dims p some h in
     let low = r.least in let high = r.greatest in (omega (arith, ints), omega (arith, ints))
 
-next_multiple' : (i : ℕ) (t : ℤ) → pos (suc i) *ℤ t ≡ pos i *ℤ t +ℤ t
+pub next_multiple' : (i : ℕ) (t : ℤ) → pos (suc i) *ℤ t ≡ pos i *ℤ t +ℤ t
 next_multiple' i (pos n) = omega (arith, ints)
 next_multiple' i (negsuc n) = omega (arith, ints)
 

@@ -2,6 +2,8 @@
 #![tactic(auto)]
 
 mod checks;
+mod contiguous;
 mod descriptor;
+mod positions;
 
 pub use descriptor::BufferDescriptor;
