@@ -1,5 +1,5 @@
 use Rattle.std.proofs.Common.{◌≡◌, ◌+ℤ◌, ◌*ℤ◌, ℤ, ℕ, pos, Some, Ok, Err, slice_get, get_or, drop, length, arith, rules, SFits, w64, ◌<◌, ◌^◌, ◌∙◌, sym, ap, subst, ap₂}
-use Rattle.std.proofs.lemmas.Int.{ints}
+use Rattle.std.proofs.lemmas.Int.{ints, to_z-of_z}
 use Rattle.pybuf_desc.specs.Places.{places}
 use Rattle.pybuf_desc.specs.Positions.{wrapped, position_of}
 use Rattle.pybuf_desc.proofs.Indices.{moved-0}
@@ -23,7 +23,14 @@ loop-k-init c =
      moved-0 (position_of c.args.indices.now c.dim_desc-dims.result.now))
 
 pub returns-in_err-index-clause-sum : goal.returns-in_err-index-clause-sum
-returns-in_err-index-clause-sum c = let h = c.in_err-index.ensures in let g = c.from_residual.ensures in ?
+returns-in_err-index-clause-sum c =
+    let z : SFits w64 (get_or c.args.indices.now c.loop-k.k (pos 0)) = search rules in
+    let w : wrapped (get_or c.dim_desc-dims.result.now c.loop-k.k (0, pos 0, pos 0)).0 (get_or c.args.indices.now c.loop-k.k (pos 0)) ≡ Err c.in_err-index.field-0.0 = simp to_z-of_z at (sym c.in_err-index.ensures) in
+    let whole : position_of c.args.indices.now c.args.self.now.dims ≡ Err c.in_err-index.field-0.0 =
+      ap (λ ds. position_of c.args.indices.now ds) (sym c.dim_desc-dims.ensures)
+      ∙ position_refused c.args.indices.now c.dim_desc-dims.result.now c.loop-k.k _ c.in_err-index.field-0.0 _
+        (c.requires.one_each ∙ ap (λ ds. length ds) (sym c.dim_desc-dims.ensures)) c.loop-k-test.true w c.loop-k.invariant.1 in
+    search (rules, whole)
 
 pub overflow_cast-offset : goal.overflow_cast-offset
 overflow_cast-offset c =
@@ -40,7 +47,13 @@ overflow_add-offset c =
     (moves c.dim_desc-dims.result.now c.loop-k.k _ c.in_ok-index.index c.loop-k-test.true f (wrapped_below _ _ _ (sym c.in_ok-index.ensures)) c.loop-k.invariant.0).sum_fits
 
 pub loop-k-preserved : goal.loop-k-preserved
-loop-k-preserved c = let h = c.in_ok-index.ensures in ?
+loop-k-preserved c =
+    let f : SFits w64 (get_or c.dim_desc-dims.result.now c.loop-k.k (0, pos 0, pos 0)).1 = search rules in
+    let z : SFits w64 (get_or c.args.indices.now c.loop-k.k (pos 0)) = search rules in
+    let w : wrapped (get_or c.dim_desc-dims.result.now c.loop-k.k (0, pos 0, pos 0)).0 (get_or c.args.indices.now c.loop-k.k (pos 0)) ≡ Ok c.in_ok-index.index = simp to_z-of_z at (sym c.in_ok-index.ensures) in
+    let m = moves c.dim_desc-dims.result.now c.loop-k.k _ c.in_ok-index.index c.loop-k-test.true f (wrapped_below _ _ _ (sym c.in_ok-index.ensures)) c.loop-k.invariant.0 in
+    (m.track, position_more c.args.indices.now c.dim_desc-dims.result.now c.loop-k.k c.in_ok-index.index _ _ _
+      (c.requires.one_each ∙ ap (λ ds. length ds) (sym c.dim_desc-dims.ensures)) c.loop-k-test.true w m.result_is c.loop-k.invariant.1)
 
 pub returns-clause-place : goal.returns-clause-place
 returns-clause-place c =
