@@ -7,3 +7,4 @@ pub mod Track
 pub mod Indices
 pub mod Moves
 pub mod Wrapped
+pub mod Strides
