@@ -8,3 +8,4 @@ pub mod Indices
 pub mod Moves
 pub mod Wrapped
 pub mod Strides
+pub mod Flat

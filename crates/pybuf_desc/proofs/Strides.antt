@@ -7,7 +7,7 @@ use Rattle.pybuf_desc.specs.Valid.{IsPlaceable}
 use Rattle.pybuf_desc.specs.Contiguous.{IsContiguous, AreRowMajorStrides}
 use Rattle.pybuf_desc.proofs.Steps.{length-places}
 use Rattle.pybuf_desc.proofs.Moves.{dim_at}
-use Rattle.pybuf_desc.proofs.Products.{AreNonzero, AreNonzero-from_All, product-pos}
+use Rattle.pybuf_desc.proofs.Products.{AreNonzero, AreNonzero-from_All, product-pos, product-extent}
 use Rattle.pybuf_desc.proofs.Runs.{places_from_strides, strides_from_places, contiguous_from_run, run_from_contiguous}
 
 pub product-drop-le : (k : ℕ) (dims : List (ℕ × ℤ × ℤ)) → AreNonzero dims → product (shape_of (drop k dims)) ≤ product (shape_of dims)
@@ -76,3 +76,12 @@ some_product size (suc n) len e h = omega arith
 pub no_product : (size n len : ℕ) → size * n ≡ len → 0 < size → len ≡ 0 → n ≡ 0
 no_product size zero len e h z = refl
 no_product size (suc n) len e h z = absurd (let more : 0 < size * suc n = mul-pos h (zero-lt-suc n) in omega (arith, more, e, z))
+
+pub entries_of : (d : Descriptor) → IsPlaceable d → (d.len ≡ 0 → ⊥) → AreNonzero d.dims
+entries_of d can some = some_entries d.dims (some_product d.itemsize (product (shape_of d.dims)) d.len can.placed.valid.len (pos_of_ne-zero some))
+
+pub bytes_fit : (d : Descriptor) → IsPlaceable d → AreNonzero d.dims → d.itemsize * product (shape_of d.dims) < 2 ^ 63
+bytes_fit d can some = subst (λ n. d.itemsize * n < 2 ^ 63) (sym (product-extent d.dims some)) can.placed.valid.extent_fits
+
+pub no_item : (d : Descriptor) → IsPlaceable d → d.len ≡ 0 → product (shape_of d.dims) ≡ 0
+no_item d can e = no_product d.itemsize (product (shape_of d.dims)) d.len can.placed.valid.len can.placed.valid.some_size e

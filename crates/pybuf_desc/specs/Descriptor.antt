@@ -1,5 +1,6 @@
 -- What a descriptor of a buffer says, and the part of a view that it stands for.
-use Rattle.std.specs.Prelude.{ℕ, ◌*◌, ℤ, pos, Bool, List, [], ◌∷◌, map}
+use Rattle.std.specs.Prelude.{ℕ, ◌*◌, ℤ, pos, Bool, List, [], ◌∷◌, map, codes}
+use Rattle.std.specs.List.{range_with_len}
 
 -- A dimension is a triple: its number of entries, the distance in bytes from one entry to the next
 -- (its stride), and its suboffset.
@@ -42,3 +43,27 @@ pub record Layout : Type 0 where
   pub starts : List ℕ
   pub strides : List ℤ
   pub readonly : Bool
+
+-- items one after the other from place 0 on
+abbrev pub flat_layout : List ℕ → ℕ → ℕ → Bool → Layout
+flat_layout format itemsize count readonly =
+    record {
+      format = format;
+      itemsize = itemsize;
+      shape = count ∷ [];
+      starts = map (λ k. k * itemsize) (range_with_len 0 count);
+      strides = pos itemsize ∷ [];
+      readonly = readonly;
+    }
+
+-- bytes from place 0 on
+abbrev pub bytes_layout : ℕ → Bool → Layout
+bytes_layout count readonly =
+    record {
+      format = codes "B";
+      itemsize = 1;
+      shape = count ∷ [];
+      starts = range_with_len 0 count;
+      strides = pos 1 ∷ [];
+      readonly = readonly;
+    }

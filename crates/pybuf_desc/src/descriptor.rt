@@ -32,8 +32,8 @@ impl Model for BufferDescriptor {
 }
 
 impl BufferDescriptor {
-    ghost use Rattle.pybuf_desc.specs.Descriptor.{Descriptor, flat};
-    ghost use Rattle.pybuf_desc.specs.Places.{places};
+    ghost use Rattle.pybuf_desc.specs.Descriptor.{Descriptor, flat, flat_layout, bytes_layout};
+    ghost use Rattle.pybuf_desc.specs.Places.{Stands};
     ghost use Rattle.pybuf_desc.specs.Valid.{IsValid};
 
     /// The number of bytes of all items.
@@ -148,6 +148,7 @@ impl BufferDescriptor {
         requires { bytes_len < 2 ^ 63 }
         ensures made { IfOk result (λ d. d ≡ flat (codes "B") 1 bytes_len readonly) }
         ensures valid { IfOk result (λ d. IsValid d 0 bytes_len) }
+        ensures stands { IfOk result (λ d. Stands d 0 (bytes_layout bytes_len readonly)) }
     {
         let text = String::from_str(alloc, "B")?;
         BufferDescriptor::format(alloc, bytes_len, readonly, 1, Text::from_string(text))
@@ -167,6 +168,7 @@ impl BufferDescriptor {
         requires whole_items { bytes_len % itemsize ≡ 0 }
         ensures made { IfOk result (λ d. d ≡ flat format itemsize (bytes_len / itemsize) readonly) }
         ensures valid { IfOk result (λ d. IsValid d 0 bytes_len) }
+        ensures stands { IfOk result (λ d. Stands d 0 (flat_layout format itemsize (bytes_len / itemsize) readonly)) }
     {
         let mut dim_desc = DimList::new(alloc);
         dim_desc.push((bytes_len / itemsize, itemsize as isize, 0))?;
