@@ -9,3 +9,4 @@ pub mod Moves
 pub mod Wrapped
 pub mod Strides
 pub mod Flat
+pub mod Cuts

@@ -3,4 +3,5 @@ pub mod Places
 pub mod Valid
 pub mod Contiguous
 pub mod Positions
+pub mod Slices
 pub mod Segments
