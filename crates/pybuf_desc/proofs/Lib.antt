@@ -10,3 +10,5 @@ pub mod Wrapped
 pub mod Strides
 pub mod Flat
 pub mod Cuts
+pub mod Sliced
+pub mod SlicedValid

@@ -29,7 +29,7 @@ flat_map-laid block (suc n) i p t =
 pub places-cons : (dim : ℕ × ℤ × ℤ) (dims : List (ℕ × ℤ × ℤ)) (p : ℤ) → places (dim ∷ dims) p ≡ laid (places dims) dim.0 p dim.1
 places-cons dim dims p = flat_map-laid (places dims) dim.0 0 p dim.1 ∙ ap (λ q. laid (places dims) dim.0 q dim.1) (zeroth_place p dim.1)
 
-length-laid : (block : ℤ → List ℤ) (size : ℕ) → ((q : ℤ) → length (block q) ≡ size) → (n : ℕ) (p t : ℤ) → length (laid block n p t) ≡ n * size
+pub length-laid : (block : ℤ → List ℤ) (size : ℕ) → ((q : ℤ) → length (block q) ≡ size) → (n : ℕ) (p t : ℤ) → length (laid block n p t) ≡ n * size
 length-laid block size each zero p t = sym (zero-mul size)
 length-laid block size each (suc n) p t =
     length-append (block p) (laid block n (p +ℤ t) t) ∙ (let one = each p in let rest = length-laid block size each n (p +ℤ t) t in omega (arith, one, rest))
