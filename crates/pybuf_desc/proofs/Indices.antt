@@ -83,12 +83,12 @@ offset_of-end indices dims k offset h =
 
 -- ---- the place of an item
 
-slice_get-left : (xs ys : List ℤ) (k : ℕ) → k < length xs → slice_get (xs ++ ys) k ≡ slice_get xs k
+pub slice_get-left : (xs ys : List ℤ) (k : ℕ) → k < length xs → slice_get (xs ++ ys) k ≡ slice_get xs k
 slice_get-left [] ys k h = absurd (omega arith)
 slice_get-left (x ∷ xs) ys zero h = refl
 slice_get-left (x ∷ xs) ys (suc k) h = slice_get-left xs ys k (omega arith)
 
-slice_get-right : (xs ys : List ℤ) (k : ℕ) → slice_get (xs ++ ys) (length xs + k) ≡ slice_get ys k
+pub slice_get-right : (xs ys : List ℤ) (k : ℕ) → slice_get (xs ++ ys) (length xs + k) ≡ slice_get ys k
 slice_get-right [] ys k = ap (λ j. slice_get ys j) (let z : 0 + k ≡ k = omega arith in z)
 slice_get-right (x ∷ xs) ys k = ap (λ j. slice_get ((x ∷ xs) ++ ys) j) (let z : length (x ∷ xs) + k ≡ suc (length xs + k) = suc-add (length xs) k in z) ∙ slice_get-right xs ys k
 

@@ -12,3 +12,4 @@ pub mod Flat
 pub mod Cuts
 pub mod Sliced
 pub mod SlicedValid
+pub mod Lines
