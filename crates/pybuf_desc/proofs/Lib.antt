@@ -13,3 +13,4 @@ pub mod Cuts
 pub mod Sliced
 pub mod SlicedValid
 pub mod Lines
+pub mod WalkLemmas

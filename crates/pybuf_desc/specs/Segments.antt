@@ -1,10 +1,11 @@
 -- The bytes of the items as ranges.
-use Rattle.std.specs.Prelude.{◌≡◌, ℕ, zero, suc, ◌+◌, ◌-◌, ◌*◌, Bool, true, false, ◌&&◌, ◌==◌, ℤ, pos, negsuc, ◌+ℤ◌, nat_abs, List, [], ◌∷◌, ◌++◌, length, take, map, Option, None, Some, slice_get, if◌then◌else◌}
+use Rattle.std.specs.Prelude.{◌≡◌, ℕ, zero, suc, ◌+◌, ◌-◌, ◌*◌, Bool, true, false, ◌&&◌, ◌==◌, ℤ, pos, negsuc, ◌+ℤ◌, nat_abs, List, [], ◌∷◌, ◌++◌, length, take, drop, ◌^◌, ◌<◌, ◌≤◌, map, Option, None, Some, slice_get, if◌then◌else◌}
 use Rattle.std.specs.Ordering.{int_eq}
-use Rattle.std.specs.List.{flat_map, range_with_len}
+use Rattle.std.specs.List.{flat_map, range_with_len, AllByRecursion}
 use Rattle.std.specs.declared.ops.Range.{Range}
 use Rattle.pybuf_desc.specs.Descriptor.{Descriptor, shape_of, product}
 use Rattle.pybuf_desc.specs.Places.{places}
+use Rattle.pybuf_desc.specs.Valid.{IsInside}
 
 -- so many bytes from a place on
 abbrev pub range_at : ℕ → ℤ → Range ℕ
@@ -52,3 +53,22 @@ item_bytes d start = flat_map (λ place. range_with_len (nat_abs place) d.itemsi
 abbrev pub line : ℤ → ℤ → ℕ → List ℤ
 line place stride zero = []
 line place stride (suc n) = place ∷ line (place +ℤ stride) stride n
+
+-- Each place of the dimensions is a number that fits `isize`, and so are their entries.
+pub record HasPlaces (dims : List (ℕ × ℤ × ℤ)) (start : ℕ) : Type 0 where
+  pub entries : AllByRecursion (λ dim. (0 < dim.0) × (dim.0 < 2 ^ 63)) dims
+  pub inside : AllByRecursion (IsInside 0 9223372036854775807) (places dims (pos start))
+
+-- what a walk has left: the rest of a row, and the rows after it
+abbrev pub places_left : List (ℕ × ℤ × ℤ) → ℕ → ℕ → ℕ → ℤ → ℕ → ℕ → List ℤ
+places_left rows start row place stride left row_len =
+    line (pos place) stride left ++ flat_map (λ p. line p stride row_len) (drop row (places rows (pos start)))
+
+-- a walk stays inside what `isize` can tell
+pub record IsWalk (rows : List (ℕ × ℤ × ℤ)) (start row row_count place : ℕ) (stride : ℤ) (left row_len size : ℕ) : Type 0 where
+  pub rows_placed : HasPlaces rows start
+  pub count : row_count ≡ product (shape_of rows)
+  pub row_within : row ≤ row_count
+  pub row_some : row < row_count → 0 < row_len
+  pub row_fits : row_len < 2 ^ 63
+  pub inside : AllByRecursion (IsInside size 9223372036854775807) (places_left rows start row place stride left row_len)
