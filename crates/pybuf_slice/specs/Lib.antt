@@ -1,2 +1,5 @@
 pub mod Picks
 pub mod Parts
+pub mod Runs
+pub mod Places
+pub mod Indices

@@ -1,0 +1,17 @@
+-- The run that the code keeps is the indices of the span.
+use Rattle.std.proofs.Common.{◌≡◌, pos, ap, ◌∙◌}
+use Rattle.std.specs.Int.{w64}
+use Rattle.std.specs.Prelude.{int_lt, nat_abs}
+use Rattle.std.proofs.lemmas.Int.{to_z-of_z}
+use Rattle.pybuf_slice.specs.Runs.{run_low}
+use Rattle.pybuf_slice.proofs.SpanLemmas.{run_of_span, is_negative-lt}
+use Rattle.pybuf_slice.proofs.iter.SaturatedSliceIter.from_adjust_indices.Goals as goal
+
+pub returns : goal.returns
+returns c =
+    let same = to_z-of_z w64 c.args.step c.ranges.step in
+    run_of_span c.args.range.start c.args.range.end c.args.step c.args.len c.lowest-low.result c.unsigned_abs-stride.result _
+    c.requires.moves c.requires.count
+    (c.lowest-low.ensures.least ∙ ap (λ z. run_low c.args.range.start c.args.range.end z c.args.len) same)
+    (c.unsigned_abs-stride.ensures.value ∙ ap nat_abs same)
+    (ap (λ z. int_lt z (pos 0)) same ∙ is_negative-lt c.args.step)
