@@ -10,7 +10,8 @@ pub mod Wrapped
 pub mod Strides
 pub mod Flat
 pub mod Cuts
-pub mod Sliced
-pub mod SlicedValid
+pub mod SliceFacts
+pub mod SliceValidity
+pub mod SliceMade
 pub mod Lines
 pub mod WalkLemmas

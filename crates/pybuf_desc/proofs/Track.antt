@@ -50,7 +50,7 @@ pub record Step (dim : ℕ × ℤ × ℤ) (dims : List (ℕ × ℤ × ℤ)) (off
   pub sum_fits : SFits w64 (offset +ℤ pos i *ℤ dim.1)
   pub track : Track dims (offset +ℤ pos i *ℤ dim.1)
 
-difference_fits : (p q m : ℤ) (room : ℕ) → room < 2 ^ 63 → pos 0 ≤ℤ p → p ≤ℤ pos room → pos 0 ≤ℤ q → q ≤ℤ pos room → q ≡ p +ℤ m → SFits w64 m
+pub difference_fits : (p q m : ℤ) (room : ℕ) → room < 2 ^ 63 → pos 0 ≤ℤ p → p ≤ℤ pos room → pos 0 ≤ℤ q → q ≤ℤ pos room → q ≡ p +ℤ m → SFits w64 m
 difference_fits p q m room f a b c d e = omega (arith, ints)
 
 move_fits : (start room : ℕ) (q s : ℤ) → room < 2 ^ 63 → start ≤ room → pos 0 ≤ℤ q → q ≤ℤ pos room → q ≡ pos start +ℤ s → SFits w64 s
@@ -71,7 +71,7 @@ step dim dims offset i h t =
         inside = subst (λ q. AllByRecursion (IsInside t.size t.room) (places dims q)) (let e : p +ℤ m ≡ pos t.start +ℤ (offset +ℤ m) = omega (arith, ints) in e) all };
     }
 
-entries_fit : (e : ℕ) (dims : List (ℕ × ℤ × ℤ)) → 0 < e → e * extent_of dims < 2 ^ 63 → AllByRecursion (λ (dim : ℕ × ℤ × ℤ). dim.0 < 2 ^ 63) dims
+pub entries_fit : (e : ℕ) (dims : List (ℕ × ℤ × ℤ)) → 0 < e → e * extent_of dims < 2 ^ 63 → AllByRecursion (λ (dim : ℕ × ℤ × ℤ). dim.0 < 2 ^ 63) dims
 entries_fit e [] h f = tt
 entries_fit e ((zero, z, u) ∷ dims) h f = (omega arith, entries_fit e dims h f)
 entries_fit e ((suc n, z, u) ∷ dims) h f = 

@@ -5,5 +5,6 @@ mod checks;
 mod contiguous;
 mod descriptor;
 mod positions;
+mod sliced;
 
 pub use descriptor::BufferDescriptor;

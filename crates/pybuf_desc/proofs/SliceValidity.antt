@@ -12,7 +12,7 @@ use Rattle.pybuf_desc.proofs.Inside.{ByRec-append}
 use Rattle.pybuf_desc.proofs.Track.{inside_entry, here, Track, Step, step}
 use Rattle.pybuf_desc.proofs.Products.{AreNonzero, AreNonzero-from_All, extent_of}
 use Rattle.pybuf_desc.proofs.Cuts.{times_sum, Walks}
-use Rattle.pybuf_desc.proofs.Sliced.{IsCut, cut_of, places_cut, clamped_fits, clamped_nonzero}
+use Rattle.pybuf_desc.proofs.SliceFacts.{IsCut, cut_of, places_cut, clamped_fits, clamped_nonzero}
 
 inside_picks : (size room n : ℕ) (dims : List (ℕ × ℤ × ℤ)) (dim : ℕ × ℤ × ℤ) (p step before : ℤ) (picks : List ℕ) → Walks dim.0 step before picks
   → AllByRecursion (IsInside size room) (places (dim ∷ dims) p) → AllByRecursion (IsInside size room) (flat_map (λ i. places dims (p +ℤ pos i *ℤ dim.1)) picks)

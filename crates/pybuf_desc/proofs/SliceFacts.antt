@@ -118,7 +118,7 @@ places_cut dims dim start step picks next stride u cut =
     places-cons (length picks, stride, u) dims (pos next) ∙ laid_cut (places dims) dim start step picks next stride cut
 
 -- blocks of the right size: where there is a pick, the first entry isn't 0
-block_size : (n size len : ℕ) → len ≡ n * size → 0 < n → len / n ≡ size
+pub block_size : (n size len : ℕ) → len ≡ n * size → 0 < n → len / n ≡ size
 block_size n size len e h = ap (λ k. k / n) (e ∙ mul_comm n size) ∙ mul-div_cancel size h
 
 starts_cut : (dims : List (ℕ × ℤ × ℤ)) (dim : ℕ × ℤ × ℤ) (start : ℕ) (step before : ℤ) (starts picks : List ℕ)
