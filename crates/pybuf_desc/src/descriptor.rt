@@ -1,5 +1,5 @@
 //! The descriptor, how one is made, and what it says of itself.
-ghost use Rattle.std.specs.Prelude.{◌≡◌, ◌==◌, ◌*◌, ◌/◌, ◌%◌, ◌^◌, ◌<◌, ◌≤◌, ◌↔◌, [], ◌∷◌, pos, true, length, IfOk, IfErr, IsOk, IsTrue, codes};
+ghost use Rattle.std.specs.Prelude.{◌≡◌, ◌==◌, ◌*◌, ◌/◌, ◌%◌, ◌^◌, ◌<◌, ◌≤◌, ◌↔◌, [], ◌∷◌, pos, true, length, IfOk, IfErr, IsOk, IsTrue, slice_set, slice_index_or, codes};
 ghost use Rattle.std.specs.List.{Any};
 ghost use Rattle.pybuf_value.specs.declared.faults.Fault.{Fault};
 
@@ -178,6 +178,30 @@ impl BufferDescriptor {
             itemsize,
             format,
             dim_desc,
+        })
+    }
+
+    /// The same but for its length, and the entries and the stride of its first dimension.
+    pub(crate) fn with_first(
+        &self,
+        alloc: Global,
+        len: usize,
+        count: usize,
+        stride: isize,
+    ) -> Made<BufferDescriptor>
+        requires { 0 < length self.now.dims }
+        ensures { IfOk result (λ d. d ≡ record self.now { len = len; dims = slice_set self.now.dims 0 (count, stride, (slice_index_or self.now.dims 0 (0, pos 0, pos 0)).2) }) }
+    {
+        let format = self.format.copy(alloc)?;
+        let mut dims = self.dim_desc.copy(alloc)?.into_vec();
+        let suboffset = dims[0].2;
+        dims[0] = (count, stride, suboffset);
+        Ok(BufferDescriptor {
+            len,
+            readonly: self.readonly,
+            itemsize: self.itemsize,
+            format,
+            dim_desc: DimList::from_vec(dims),
         })
     }
 
