@@ -13,5 +13,6 @@ pub mod Cuts
 pub mod SliceFacts
 pub mod SliceValidity
 pub mod SliceMade
+pub mod SliceBits
 pub mod Lines
 pub mod WalkLemmas

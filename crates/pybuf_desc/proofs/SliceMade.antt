@@ -163,3 +163,16 @@ pub made_exact : (d : Descriptor) (start : ℕ) (parts : SliceParts) (low high c
   → 1 < count → clamped ((dim_at d.dims 0).1 *ℤ parts.step) ≡ (dim_at d.dims 0).1 *ℤ parts.step
 made_exact d start parts low high count next c e h =
     (cut_made d start parts low high count next c e).stride_is (subst (λ n. 1 < n) c.count_is h)
+
+-- with two entries or more, the stride is exact
+pub first_of_made : (d x : Descriptor) (start : ℕ) (parts : SliceParts) (low high count next len : ℕ) → IsCall d start parts low high count
+  → (0 < count → pos next ≡ pos start +ℤ span_first low high parts.step *ℤ (dim_at d.dims 0).1)
+  → made_of d len count (clamped ((dim_at d.dims 0).1 *ℤ parts.step)) ≡ x
+  → 1 < first_entry (shape_of x.dims) → first_stride (strides_of x.dims) ≡ first_stride (strides_of d.dims) *ℤ parts.step
+first_of_made d x start parts low high count next len c e made h =
+    let dim : ℕ × ℤ × ℤ = dim_at d.dims 0 in
+    let cut : x ≡ cut_of d (drop 1 d.dims) len count (clamped (dim.1 *ℤ parts.step)) dim.2 = sym made ∙ made_is d len count (clamped (dim.1 *ℤ parts.step)) c.some in
+    let more : 1 < count = subst (λ y. 1 < first_entry (shape_of y.dims)) cut h in
+    ap (λ y. first_stride (strides_of y.dims)) cut
+    ∙ made_exact d start parts low high count next c e more
+    ∙ ap (λ ds. first_stride (strides_of ds) *ℤ parts.step) (sym (dims_are d c.some))
