@@ -16,3 +16,4 @@ pub mod SliceMade
 pub mod SliceBits
 pub mod Lines
 pub mod WalkLemmas
+pub mod Numbers

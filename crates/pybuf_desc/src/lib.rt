@@ -5,6 +5,8 @@ mod checks;
 mod contiguous;
 mod descriptor;
 mod positions;
+mod segments;
 mod sliced;
 
 pub use descriptor::BufferDescriptor;
+pub use segments::Segments;
