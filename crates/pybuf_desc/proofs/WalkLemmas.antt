@@ -60,3 +60,60 @@ pub next_fits : (rows : List (ℕ × ℤ × ℤ)) (start row row_count place : �
   → (pos 0 ≤ℤ (pos place +ℤ stride)) × ((pos place +ℤ stride) ≤ℤ pos 9223372036854775807)
 next_fits rows start row row_count place stride zero row_len size w h = absurd (omega arith)
 next_fits rows start row row_count place stride (suc left) row_len size w h = let i = w.inside.1.0 in let low = i.low in let high = i.high in (low, omega (arith, ints))
+
+-- ---- one step, with what is left as the code counts it
+
+pub record Taken (rows : List (ℕ × ℤ × ℤ)) (start row row_count place : ℕ) (stride : ℤ) (left row_len size : ℕ) : Type 0 where
+  pub place_fits : place < 2 ^ 63
+  pub range_fits : place + size < 2 ^ 63
+  pub next_low : 0 < left - 1 → pos 0 ≤ℤ (pos place +ℤ stride)
+  pub next_high : 0 < left - 1 → (pos place +ℤ stride) ≤ℤ pos 9223372036854775807
+  pub walk : (next : ℕ) → (0 < left - 1 → pos next ≡ pos place +ℤ stride) → IsWalk rows start row row_count next stride (left - 1) row_len size
+  pub view : (next : ℕ) → (0 < left - 1 → pos next ≡ pos place +ℤ stride)
+    → map (range_at size) (places_left rows start row place stride left row_len) ≡ range_at size (pos place) ∷ map (range_at size) (places_left rows start row next stride (left - 1) row_len)
+
+taken_suc : (rows : List (ℕ × ℤ × ℤ)) (start row row_count place : ℕ) (stride : ℤ) (left m row_len size : ℕ) → left ≡ suc m → left - 1 ≡ m
+  → IsWalk rows start row row_count place stride left row_len size → Taken rows start row row_count place stride left row_len size
+taken_suc rows start row row_count place stride left m row_len size e f w =
+    let w' : IsWalk rows start row row_count place stride (suc m) row_len size = subst (λ n. IsWalk rows start row row_count place stride n row_len size) e w in
+    let fits : place + size < 2 ^ 63 = range_fits rows start row row_count place stride m row_len size w' in
+    record {
+      place_fits = omega (arith, fits);
+      range_fits = fits;
+      next_low = λ h. (next_fits rows start row row_count place stride m row_len size w' (subst (λ n. 0 < n) f h)).0;
+      next_high = λ h. (next_fits rows start row row_count place stride m row_len size w' (subst (λ n. 0 < n) f h)).1;
+      walk = λ next h. subst (λ n. IsWalk rows start row row_count next stride n row_len size) (sym f)
+        (walk_after rows start row row_count place next stride m row_len size (λ g. h (subst (λ n. 0 < n) (sym f) g)) w');
+      view = λ next h.
+        ap (λ n. map (range_at size) (places_left rows start row place stride n row_len)) e
+        ∙ ap (λ (xs : List ℤ). map (range_at size) xs) (left_after rows start row place next stride m row_len (λ g. h (subst (λ n. 0 < n) (sym f) g)))
+        ∙ ap (λ n. range_at size (pos place) ∷ map (range_at size) (places_left rows start row next stride n row_len)) (sym f);
+    }
+
+pub taken : (rows : List (ℕ × ℤ × ℤ)) (start row row_count place : ℕ) (stride : ℤ) (left row_len size : ℕ) → 0 < left
+  → IsWalk rows start row row_count place stride left row_len size → Taken rows start row row_count place stride left row_len size
+taken rows start row row_count place stride left row_len size h w =
+    taken_suc rows start row row_count place stride left (left - 1) row_len size (let e : left ≡ suc (left - 1) = omega (arith, h) in e) refl w
+
+-- a row is begun and its first item taken
+pub begun : (rows : List (ℕ × ℤ × ℤ)) (start row row_count place old : ℕ) (stride : ℤ) (left row_len size : ℕ) → left ≡ 0 → (row ≡ row_count → ⊥)
+  → slice_get (places rows (pos start)) row ≡ Some (pos place) → IsWalk rows start row row_count old stride left row_len size
+  → Taken rows start (row + 1) row_count place stride row_len row_len size
+begun rows start row row_count place old stride left row_len size z ne e w =
+    let w' : IsWalk rows start row row_count old stride 0 row_len size = subst (λ n. IsWalk rows start row row_count old stride n row_len size) z w in
+    let within = w'.row_within in
+    let h : row < row_count = omega (arith, within, ne) in
+    rw add-one (taken rows start (suc row) row_count place stride row_len row_len size (w'.row_some h) (walk_begun rows start row row_count place old stride row_len size h e w'))
+
+pub begun_view : (rows : List (ℕ × ℤ × ℤ)) (start row place old : ℕ) (stride : ℤ) (left row_len size : ℕ) → left ≡ 0
+  → slice_get (places rows (pos start)) row ≡ Some (pos place)
+  → map (range_at size) (places_left rows start row old stride left row_len) ≡ map (range_at size) (places_left rows start (row + 1) place stride row_len row_len)
+begun_view rows start row place old stride left row_len size z e =
+    ap (λ n. map (range_at size) (places_left rows start row old stride n row_len)) z
+    ∙ ap (λ (xs : List ℤ). map (range_at size) xs) (rw add-one (left_begun rows start row place old stride row_len e))
+
+pub none_left : (rows : List (ℕ × ℤ × ℤ)) (start row row_count place : ℕ) (stride : ℤ) (left row_len size : ℕ) → left ≡ 0 → row ≡ row_count
+  → IsWalk rows start row row_count place stride left row_len size → map (range_at size) (places_left rows start row place stride left row_len) ≡ []
+none_left rows start row row_count place stride left row_len size z e w =
+    ap (λ n. map (range_at size) (places_left rows start row place stride n row_len)) z
+    ∙ ap (λ (xs : List ℤ). map (range_at size) xs) (left_none rows start row place stride row_len (let c = w.count in omega (arith, c, e)))
