@@ -17,3 +17,4 @@ pub mod SliceBits
 pub mod Lines
 pub mod WalkLemmas
 pub mod Numbers
+pub mod SegmentFacts

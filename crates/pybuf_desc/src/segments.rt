@@ -1,11 +1,11 @@
 //! The walk over the bytes of the items.
-ghost use Rattle.std.specs.Prelude.{◌≡◌, ◌*◌, ◌^◌, ◌<◌, ◌≤◌, ℤ, pos, ◌+ℤ◌, ◌≤ℤ◌, Some, slice_get, IsTrue, ◌↔◌, Bool, length};
+ghost use Rattle.std.specs.Prelude.{◌≡◌, ◌*◌, ◌^◌, ◌<◌, ◌≤◌, ℤ, pos, ◌+ℤ◌, ◌≤ℤ◌, Some, slice_get, IsTrue, ◌↔◌, Bool, [], map, length};
 ghost use Rattle.std.specs.Iterator.{YieldsFirst, item_count};
 ghost use Rattle.std.specs.List.{flat_map};
 ghost use Rattle.pybuf_desc.specs.Descriptor.{shape_of, product};
 ghost use Rattle.pybuf_desc.specs.Places.{places};
 ghost use Rattle.pybuf_desc.specs.Valid.{IsPlaced};
-ghost use Rattle.pybuf_desc.specs.Segments.{HasPlaces, ranges_of, item_bytes, bytes_of};
+ghost use Rattle.pybuf_desc.specs.Segments.{HasPlaces, IsWalk, places_left, range_at, ranges_of, item_bytes, bytes_of};
 
 use crate::checks::has_zero;
 use crate::descriptor::BufferDescriptor;
@@ -95,5 +95,79 @@ impl<'a> Iterator for Segments<'a> {
         self.left = left;
         self.place = next_place(place, self.stride, left);
         Some(place..place + self.size)
+    }
+}
+
+impl BufferDescriptor {
+    /// The bytes of the items that start at `start`, as ranges, row-major. Takes no memory.
+    ///
+    /// Each range is one item, or, with `join`, one row where the items of a row lie one after the
+    /// other. There is no range where a dimension has no entry.
+    pub fn segments(&self, start: usize, join: bool) -> Segments<'_>
+        requires { IsPlaced self.now start }
+        ensures ranges { result ≡ ranges_of self.now (pos start) join }
+        ensures bytes { flat_map bytes_of result ≡ item_bytes self.now (pos start) }
+    {
+        let dims = self.dim_desc();
+        let itemsize = self.itemsize();
+        match dims.split_last() {
+            None => walk(dims, start, 1, 0, 1, itemsize),
+            Some((last, rows)) => {
+                if has_zero(dims) {
+                    return no_segments(rows, itemsize);
+                }
+                let row_len = last.0;
+                let row_count = self.len() / itemsize / row_len;
+                if !join {
+                    return walk(rows, start, row_count, last.1, row_len, itemsize);
+                }
+                if !self.is_last_dim_contiguous() {
+                    return walk(rows, start, row_count, last.1, row_len, itemsize);
+                }
+                walk(rows, start, row_count, 0, 1, row_len * itemsize)
+            }
+        }
+    }
+}
+
+/// A walk over whole rows.
+fn walk(
+    rows: &[(usize, isize, isize)],
+    start: usize,
+    row_count: usize,
+    stride: isize,
+    row_len: usize,
+    size: usize,
+) -> Segments<'_>
+    requires { IsWalk rows.now start 0 row_count 0 stride 0 row_len size }
+    ensures { result ≡ map (range_at size) (places_left rows.now start 0 0 stride 0 row_len) }
+{
+    Segments {
+        rows,
+        start,
+        row: 0,
+        row_count,
+        place: 0,
+        stride,
+        left: 0,
+        row_len,
+        size,
+    }
+}
+
+/// A walk with nothing left.
+fn no_segments(dims: &[(usize, isize, isize)], size: usize) -> Segments<'_>
+    ensures { result ≡ [] }
+{
+    Segments {
+        rows: &dims[..0],
+        start: 0,
+        row: 1,
+        row_count: 1,
+        place: 0,
+        stride: 0,
+        left: 0,
+        row_len: 1,
+        size,
     }
 }
