@@ -10,3 +10,6 @@ mod sliced;
 
 pub use descriptor::BufferDescriptor;
 pub use segments::Segments;
+
+#[cfg(test)]
+mod tests;
