@@ -6,158 +6,129 @@
 //! places, and an item of such a slice less its first item gives the position.
 use super::*;
 use pybuf_slice::SaturatedSlice;
-use pybuf_value::{DimList, Fault, Made, PySlice, Scalar, Text, Twin};
+use pybuf_value::{DimList, Made, PySlice, Scalar, Text, Twin};
 use std::alloc::Global;
 use std::test::Fail;
 
-/// `[[row[1:3] for row in plane[::2]] for plane in m[::-1]]`
-const CUT: [(usize, isize, isize); 3] = [(2, -12, 0), (2, 8, 0), (2, 1, 0)];
+/// Entries and strides, start, whether rows are joined, how many ranges there are, and their
+/// checksum: from 0 on, `h = (h * 31 + place + 7 * length) % 1000003` for each range.
+const WALKS: [([(usize, isize); 3], usize, bool, usize, usize); 5] = [
+    ([(2, -12), (2, 8), (2, 1)], 13, false, 8, 796200),
+    ([(2, -12), (2, 8), (2, 1)], 13, true, 4, 838480),
+    ([(2, -12), (3, -4), (4, -1)], 23, false, 24, 282322),
+    ([(2, -12), (3, -4), (4, -1)], 23, true, 24, 282322),
+    ([(0, 12), (3, 4), (4, 1)], 0, true, 0, 0),
+];
 
-/// `[[row[::-1] for row in plane[::-1]] for plane in m[::-1]]`
-const REVERSED: [(usize, isize, isize); 3] = [(2, -12, 0), (3, -4, 0), (4, -1, 0)];
+/// Indices, and the position or -99 where Python raises `IndexError`.
+const POSITIONS: [([isize; 3], isize); 7] = [
+    ([0, 0, 0], 0),
+    ([1, 1, 1], -3),
+    ([-1, -1, -1], -3),
+    ([-2, 0, 1], 1),
+    ([0, -2, -1], 1),
+    ([0, 2, 0], -99),
+    ([-3, 0, 0], -99),
+];
 
-/// `m[2:]`
-const NONE: [(usize, isize, isize); 3] = [(0, 12, 0), (3, 4, 0), (4, 1, 0)];
-
-fn described(
-    alloc: Global,
-    len: usize,
-    itemsize: usize,
-    dims: &[(usize, isize, isize)],
-) -> Made<BufferDescriptor> {
+fn described(alloc: Global, len: usize, dims: &[(usize, isize)]) -> Made<BufferDescriptor> {
     let mut list = DimList::new(alloc);
-    for dim in dims {
-        list.push(*dim)?;
+    for (shape, stride) in dims {
+        list.push((*shape, *stride, 0))?;
     }
     Ok(BufferDescriptor::raw(
         len,
         false,
-        itemsize,
+        1,
         Text::new(alloc),
         list,
     ))
 }
 
-/// Start and length of each range; nothing where the descriptor isn't valid.
-fn ranges(
-    alloc: Global,
-    d: &BufferDescriptor,
-    start: usize,
-    room: usize,
-    join: bool,
-) -> Made<Vec<(usize, usize)>> {
-    let mut all = Vec::new(alloc);
-    if room > isize::MAX as usize {
-        return Ok(all);
+/// The number of ranges and their checksum; none where the descriptor isn't valid.
+fn ranges(d: &BufferDescriptor, start: usize, join: bool) -> (usize, usize) {
+    if d.validate(start, 24).is_err() {
+        return (0, 0);
     }
-    if d.validate(start, room).is_err() {
-        return Ok(all);
-    }
+    let mut count: usize = 0;
+    let mut sum: usize = 0;
     for range in d.segments(start, join) {
-        all.push((range.start, range.end.wrapping_sub(range.start)))?;
+        let length = range.end.wrapping_sub(range.start);
+        count = count.wrapping_add(1);
+        sum = sum
+            .wrapping_mul(31)
+            .wrapping_add(range.start)
+            .wrapping_add(length.wrapping_mul(7))
+            % 1000003;
     }
-    Ok(all)
-}
-
-fn position(
-    d: &BufferDescriptor,
-    start: usize,
-    room: usize,
-    indices: &[isize],
-) -> Result<isize, Fault> {
-    if room > isize::MAX as usize {
-        return Err(Fault::Value);
-    }
-    d.validate(start, room)?;
-    if indices.len() != d.ndim() {
-        return Err(Fault::Kind);
-    }
-    d.position(indices)
-}
-
-/// The ranges of the slice `[::step]`.
-fn stepped_ranges(
-    alloc: Global,
-    d: &BufferDescriptor,
-    start: usize,
-    room: usize,
-    step: i128,
-) -> Made<Vec<(usize, usize)>> {
-    let none = Vec::new(alloc);
-    let slice = PySlice {
-        start: Scalar::None,
-        stop: Scalar::None,
-        step: Scalar::Int(step),
-    };
-    match SaturatedSlice::with_slice(&slice) {
-        Err(_) => Ok(none),
-        Ok(slice) => {
-            if room > isize::MAX as usize {
-                return Ok(none);
-            }
-            if d.validate(start, room).is_err() {
-                return Ok(none);
-            }
-            if d.ndim() == 0 {
-                return Ok(none);
-            }
-            let (cut, next) = d.sliced(alloc, start, &slice)?;
-            ranges(alloc, &cut, next, room, false)
-        }
-    }
+    (count, sum)
 }
 
 #[test]
 fn ranges_are_the_places_of_python(rt: HostRuntime) -> Result<(), Fail> {
-    let cut = described(rt.alloc(), 8, 1, CUT.as_slice())?;
-    assert_eq!(rt;
-        ranges(rt.alloc(), &cut, 13, 24, false)?.as_slice(),
-        [(13usize, 1usize), (14, 1), (21, 1), (22, 1), (1, 1), (2, 1), (9, 1), (10, 1)].as_slice()
-    );
-    assert_eq!(rt;
-        ranges(rt.alloc(), &cut, 13, 24, true)?.as_slice(),
-        [(13usize, 2usize), (21, 2), (1, 2), (9, 2)].as_slice()
-    );
-    let reversed = described(rt.alloc(), 24, 1, REVERSED.as_slice())?;
-    assert_eq!(rt;
-        ranges(rt.alloc(), &reversed, 23, 24, true)?.as_slice().last(),
-        Some(&(0usize, 1usize))
-    );
-    assert_eq!(rt; ranges(rt.alloc(), &reversed, 23, 24, true)?.len(), 24);
-    let none = described(rt.alloc(), 0, 1, NONE.as_slice())?;
-    assert_eq!(rt; ranges(rt.alloc(), &none, 0, 24, true)?.len(), 0);
-    let single = described(rt.alloc(), 2, 2, &CUT[..0])?;
-    assert_eq!(rt;
-        ranges(rt.alloc(), &single, 5, 24, true)?.as_slice(),
-        [(5usize, 2usize)].as_slice()
-    );
+    for (dims, start, join, count, sum) in WALKS.iter() {
+        let len = dims[0].0.wrapping_mul(dims[1].0).wrapping_mul(dims[2].0);
+        let d = described(rt.alloc(), len, dims.as_slice())?;
+        assert_eq!(rt; ranges(&d, *start, *join), (*count, *sum), "start {start}");
+    }
     Ok(())
 }
 
 #[test]
-fn positions_are_those_of_python(rt: HostRuntime) -> Result<(), Fail> {
-    let cut = described(rt.alloc(), 8, 1, CUT.as_slice())?;
-    assert_eq!(rt; position(&cut, 13, 24, [1isize, 1, 1].as_slice()), Ok(-3));
-    assert_eq!(rt; position(&cut, 13, 24, [-2isize, 0, 1].as_slice()), Ok(1));
-    assert_eq!(rt; position(&cut, 13, 24, [0isize, -2, -1].as_slice()), Ok(1));
-    assert_eq!(rt;
-        position(&cut, 13, 24, [0isize, 2, 0].as_slice()),
-        Err(Fault::Index)
-    );
+fn one_item_has_one_range(rt: HostRuntime) -> Result<(), Fail> {
+    let d = described(rt.alloc(), 1, [].as_slice())?;
+    assert_eq!(rt; ranges(&d, 5, true), (1, 12));
     Ok(())
+}
+
+fn position(d: &BufferDescriptor, start: usize, indices: &[isize]) -> isize {
+    if d.validate(start, 24).is_err() {
+        return -98;
+    }
+    if indices.len() != d.ndim() {
+        return -97;
+    }
+    match d.position(indices) {
+        Err(_) => -99,
+        Ok(position) => position,
+    }
+}
+
+#[test]
+fn positions_are_those_of_python(rt: HostRuntime) -> Result<(), Fail> {
+    let d = described(rt.alloc(), 8, WALKS[0].0.as_slice())?;
+    for (indices, wanted) in POSITIONS.iter() {
+        assert_eq!(rt; position(&d, 13, indices.as_slice()), *wanted);
+    }
+    Ok(())
+}
+
+/// The last item of `[::step]`, as the number of ranges and their checksum.
+fn stepped(alloc: Global, d: &BufferDescriptor, slice: &SaturatedSlice) -> Made<(usize, usize)> {
+    if d.validate(0, 24).is_err() {
+        return Ok((0, 0));
+    }
+    if d.ndim() == 0 {
+        return Ok((0, 0));
+    }
+    let (cut, next) = d.sliced(alloc, 0, slice)?;
+    Ok(ranges(&cut, next, false))
 }
 
 #[test]
 fn makers_succeed_with_ample_memory(rt: HostRuntime) -> Result<(), Fail> {
     let bytes = BufferDescriptor::simple(rt.alloc(), 5, true)?;
-    assert_eq!(rt; bytes.validate(0, 5), Ok(()));
-    assert_eq!(rt; bytes.format_text().as_slice(), b"B".as_slice());
+    assert_eq!(rt; ranges(&bytes, 0, true), (1, 35));
     let words = BufferDescriptor::format(rt.alloc(), 6, false, 2, Text::new(rt.alloc()))?;
     let twin = words.copy(rt.alloc())?;
-    assert_eq!(rt; twin.dim_desc(), [(3usize, 2isize, 0isize)].as_slice());
-    assert_eq!(rt;
-        stepped_ranges(rt.alloc(), &words, 0, 6, -2)?.as_slice(),
-        [(4usize, 2usize), (0, 2)].as_slice()
-    );
+    assert_eq!(rt; twin.dim_desc().len(), 1);
+    let slice = PySlice {
+        start: Scalar::None,
+        stop: Scalar::None,
+        step: Scalar::Int(-2),
+    };
+    if let Ok(slice) = SaturatedSlice::with_slice(&slice) {
+        assert_eq!(rt; stepped(rt.alloc(), &words, &slice)?, (2, 572));
+    }
     Ok(())
 }
