@@ -1,0 +1,72 @@
+-- One dimension of items one after the other is valid.
+use Rattle.std.proofs.Common.{◌≡◌, ◌≢◌, ℕ, zero, suc, ◌+◌, ◌*◌, ◌/◌, ◌%◌, ◌^◌, ◌<◌, ◌≤◌, ℤ, pos, ◌+ℤ◌, ◌≤ℤ◌, lit≤, Bool, List, [], ◌∷◌, length, map, drop, All, refl, ap, ap₂, codes, sym, ◌∙◌, subst, arith, div-add-mod', mul-one, mul-zero, mul_comm}
+use Rattle.std.proofs.lemmas.Int.{ints}
+use Rattle.std.specs.List.{range_with_len, AllByRecursion}
+use Rattle.std.proofs.lemmas.List.Elements.{All-nil, All-cons, All-from_recursion}
+use Rattle.pybuf_desc.specs.Descriptor.{Descriptor, flat, flat_layout, bytes_layout, shape_of, product}
+use Rattle.pybuf_desc.specs.Places.{places, Stands}
+use Rattle.pybuf_desc.specs.Valid.{IsInside, IsValid}
+use Rattle.pybuf_desc.proofs.Inside.{inside_from_reach}
+use Rattle.pybuf_desc.proofs.Products.{extent_of}
+use Rattle.pybuf_desc.proofs.Runs.{run, map-run-0, places_from_strides}
+
+pos_some : (n : ℕ) → 0 < n → pos n ≢ pos 0
+pos_some zero h e = omega arith
+pos_some (suc n) h e = cc
+
+extent_flat : (size count len : ℕ) → count * size ≡ len → size < 2 ^ 63 → len < 2 ^ 63 → size * extent_of ((count, pos size, pos 0) ∷ []) < 2 ^ 63
+extent_flat size zero len e f g = subst (λ n. n < 2 ^ 63) (sym (mul-one size)) f
+extent_flat size (suc n) len e f g = subst (λ n. n < 2 ^ 63) (let z : len ≡ size * (suc n * 1) = omega (arith, e) in z) g
+
+reach_back : (n : ℕ) → pos (n * 0 + 0) ≤ℤ pos 0
+reach_back n = omega (arith, ints)
+
+reach_forth : (size n len : ℕ) → suc n * size ≡ len → (pos 0 +ℤ pos (n * size + 0 + size)) ≤ℤ pos len
+reach_forth size n len e = omega (arith, ints, e)
+
+inside_flat : (size count len : ℕ) → count * size ≡ len → All (IsInside size len) (places ((count, pos size, pos 0) ∷ []) (pos 0))
+inside_flat size zero len e = All-nil (IsInside size len)
+inside_flat size (suc n) len e =
+    All-from_recursion (IsInside size len) (places ((suc n, pos size, pos 0) ∷ []) (pos 0))
+    (inside_from_reach size len ((suc n, pos size, pos 0) ∷ []) (pos 0)
+      (record { least = reach_back n; greatest = reach_forth size n len e }))
+
+pub valid_flat : (format : List ℕ) (size count len : ℕ) (readonly : Bool) → 0 < size → size < 2 ^ 63 → count * size ≡ len → len < 2 ^ 63 → IsValid (flat format size count readonly) 0 len
+valid_flat format size count len readonly some fits e len_fits =
+    record {
+      some_size = some;
+      size_fits = fits;
+      few_dimensions = lit≤ tt;
+      strides = All-cons (λ dim. dim.1 ≢ pos 0) (count, pos size, pos 0) [] (pos_some size some) (All-nil (λ dim. dim.1 ≢ pos 0));
+      suboffsets = All-cons (λ dim. dim.2 ≡ pos 0) (count, pos size, pos 0) [] refl (All-nil (λ dim. dim.2 ≡ pos 0));
+      later_entries = All-nil (λ dim. 0 < dim.0);
+      extent_fits = extent_flat size count len e fits len_fits;
+      len = (let z : size * (count * 1) ≡ count * size = omega arith in z);
+      inside = inside_flat size count len e;
+    }
+
+pub whole_items : (len size : ℕ) → 0 < size → len % size ≡ 0 → len / size * size ≡ len
+whole_items len size some e = let d = div-add-mod' len size in omega (arith, d, e)
+
+pub places-flat : (size count : ℕ) (start : ℤ) → places ((count, pos size, pos 0) ∷ []) start ≡ map (λ k. start +ℤ pos (k * size)) (range_with_len 0 count)
+places-flat size count start =
+    places_from_strides size ((count, pos size, pos 0) ∷ []) ((λ _. ap (λ n. pos n) (sym (mul-one size))), tt) start
+    ∙ ap (λ n. run size start n) (mul-one count) ∙ sym (map-run-0 size count start)
+
+map-pos : (size n i : ℕ) → map (λ k. pos 0 +ℤ pos (k * size)) (range_with_len i n) ≡ map pos (map (λ k. k * size) (range_with_len i n))
+map-pos size zero i = refl
+map-pos size (suc n) i = ap₂ (λ (x : ℤ) (xs : List ℤ). x ∷ xs) (let e : pos 0 +ℤ pos (i * size) ≡ pos (i * size) = omega (arith, ints) in e) (map-pos size n (i + 1))
+
+map-times-1 : (n i : ℕ) → map (λ k. k * 1) (range_with_len i n) ≡ range_with_len i n
+map-times-1 zero i = refl
+map-times-1 (suc n) i = ap₂ (λ (x : ℕ) (xs : List ℕ). x ∷ xs) (mul-one i) (map-times-1 n (i + 1))
+
+pub stands_flat : (format : List ℕ) (size count : ℕ) (readonly : Bool) → Stands (flat format size count readonly) 0 (flat_layout format size count readonly)
+stands_flat format size count readonly =
+    record { format = refl; itemsize = refl; shape = refl; strides = refl; readonly = refl;
+      starts = places-flat size count (pos 0) ∙ map-pos size count 0 }
+
+pub stands_bytes : (count : ℕ) (readonly : Bool) → Stands (flat (codes "B") 1 count readonly) 0 (bytes_layout count readonly)
+stands_bytes count readonly =
+    record { format = refl; itemsize = refl; shape = refl; strides = refl; readonly = refl;
+      starts = places-flat 1 count (pos 0) ∙ map-pos 1 count 0 ∙ ap (λ (xs : List ℕ). map pos xs) (map-times-1 count 0) }

@@ -1,0 +1,20 @@
+-- Where the items of a descriptor lie.
+use Rattle.std.specs.Prelude.{◌≡◌, ℕ, ℤ, pos, ◌+ℤ◌, ◌*ℤ◌, List, [], ◌∷◌, map}
+use Rattle.std.specs.List.{flat_map, range_with_len}
+use Rattle.pybuf_desc.specs.Descriptor.{Descriptor, Layout, shape_of, strides_of}
+
+-- The place of each item, row-major: for each index of the first dimension, in order, the places of
+-- the other dimensions from `start` plus the index times the stride.
+abbrev pub places : List (ℕ × ℤ × ℤ) → ℤ → List ℤ
+places [] start = start ∷ []
+places (dim ∷ dims) start =
+    flat_map (λ index. places dims (start +ℤ pos index *ℤ dim.1)) (range_with_len 0 dim.0)
+
+-- a descriptor with a start stands for a view
+pub record Stands (d : Descriptor) (start : ℕ) (view : Layout) : Type 0 where
+  pub format : d.format ≡ view.format
+  pub itemsize : d.itemsize ≡ view.itemsize
+  pub shape : shape_of d.dims ≡ view.shape
+  pub strides : strides_of d.dims ≡ view.strides
+  pub readonly : d.readonly ≡ view.readonly
+  pub starts : places d.dims (pos start) ≡ map pos view.starts

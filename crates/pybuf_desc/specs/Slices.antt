@@ -1,0 +1,32 @@
+-- The slice of a view along its first dimension.
+use Rattle.std.specs.Prelude.{◌≡◌, ℕ, ◌*◌, ◌/◌, ℤ, pos, ◌*ℤ◌, List, [], ◌∷◌, length, take, drop}
+use Rattle.std.specs.List.{flat_map}
+use Rattle.pybuf_slice.specs.Parts.{SliceParts, picks_of, clamped}
+use Rattle.pybuf_desc.specs.Descriptor.{Layout}
+
+-- the first entry of a shape
+abbrev pub first_entry : List ℕ → ℕ
+first_entry [] = 1
+first_entry (n ∷ shape) = n
+
+abbrev pub first_stride : List ℤ → ℤ
+first_stride [] = pos 0
+first_stride (stride ∷ strides) = stride
+
+-- the i-th of the blocks of so many places
+abbrev pub block_at : ℕ → List ℕ → ℕ → List ℕ
+block_at size starts i = take size (drop (i * size) starts)
+
+-- The starts are cut into as many equal blocks as the first entry says. The slice has the blocks at
+-- the picks, in that order, and their number as its first entry. Its first shown stride is the old
+-- one times the step clamped to `isize`, itself clamped. All else stays.
+abbrev pub slice_at : Layout → List ℕ → ℤ → Layout
+slice_at view picks step =
+    record view {
+      shape = length picks ∷ drop 1 view.shape;
+      starts = flat_map (λ i. block_at (length view.starts / first_entry view.shape) view.starts i) picks;
+      strides = clamped (first_stride view.strides *ℤ clamped step) ∷ drop 1 view.strides;
+    }
+
+abbrev pub slice_of : Layout → SliceParts → Layout
+slice_of view parts = slice_at view (picks_of (first_entry view.shape) parts) parts.step

@@ -1,0 +1,62 @@
+//! Items one after the other without a gap.
+ghost use Rattle.std.specs.Prelude.{◌≡◌, ◌*◌, ◌-◌, ◌^◌, ◌<◌, ◌↔◌, ℤ, pos, length, All, IsTrue, IsSomeAnd, slice_get};
+ghost use Rattle.pybuf_desc.specs.Descriptor.{shape_of, product};
+ghost use Rattle.pybuf_desc.specs.Places.{places};
+ghost use Rattle.pybuf_desc.specs.Valid.{IsPlaceable};
+ghost use Rattle.pybuf_desc.specs.Contiguous.{IsContiguous, AreRowMajorStrides};
+
+use crate::descriptor::BufferDescriptor;
+
+/// Whether each dimension of more than one entry has as stride the item size times the number of
+/// items of the later dimensions.
+fn has_row_major_strides(dims: &[(usize, isize, isize)], itemsize: usize) -> bool
+    requires entries { All (λ dim. 0 < dim.0) dims.now }
+    requires fits { itemsize * product (shape_of dims.now) < 2 ^ 63 }
+    ensures { IsTrue result ↔ AreRowMajorStrides itemsize dims.now }
+{
+    let mut size = itemsize;
+    let mut k = dims.len();
+    while k > 0 {
+        k -= 1;
+        let shape = dims[k].0;
+        if shape > 1 {
+            if dims[k].1 != size as isize {
+                return false;
+            }
+            size *= shape;
+        }
+    }
+    true
+}
+
+impl BufferDescriptor {
+    /// Whether the items lie one after the other, row-major, without a gap: C-contiguous, as
+    /// Python's C API has it under "Buffer Protocol", "Contiguity requests". Without items this is
+    /// so. Takes no memory.
+    pub fn is_contiguous(&self) -> bool
+        requires { IsPlaceable self.now }
+        ensures places { (start : ℤ) → (IsTrue result ↔ IsContiguous self.now.itemsize start (places self.now.dims start)) }
+        ensures strides { 0 < self.now.len → (IsTrue result ↔ AreRowMajorStrides self.now.itemsize self.now.dims) }
+    {
+        if self.len() == 0 {
+            return true;
+        }
+        has_row_major_strides(self.dim_desc(), self.itemsize())
+    }
+
+    /// Whether the items of a row, which differ in the last index alone, lie one after the other.
+    pub fn is_last_dim_contiguous(&self) -> bool
+        requires { 0 < length self.now.dims }
+        ensures last { IsTrue result ↔ IsSomeAnd (slice_get self.now.dims (length self.now.dims - 1)) (λ dim. (dim.1 ≡ pos self.now.itemsize) × (dim.2 ≡ pos 0)) }
+    {
+        let dims = self.dim_desc();
+        let last = dims[dims.len() - 1];
+        if last.2 != 0 {
+            return false;
+        }
+        if last.1 < 0 {
+            return false;
+        }
+        last.1 as usize == self.itemsize()
+    }
+}

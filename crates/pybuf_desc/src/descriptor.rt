@@ -1,0 +1,240 @@
+//! The descriptor, how one is made, and what it says of itself.
+ghost use Rattle.std.specs.Prelude.{◌≡◌, ◌==◌, ◌*◌, ◌/◌, ◌%◌, ◌^◌, ◌<◌, ◌≤◌, ◌↔◌, [], ◌∷◌, pos, true, length, IfOk, IfErr, IsOk, IsTrue, slice_set, slice_index_or, codes};
+ghost use Rattle.std.specs.List.{Any};
+ghost use Rattle.pybuf_value.specs.declared.faults.Fault.{Fault};
+
+use crate::checks::{are_inside, extent, has_later_entries, has_strides, has_zero, is_direct};
+use pybuf_value::{DimList, Fault, Made, Text, Twin};
+use std::alloc::Global;
+use std::marker::Model;
+
+/// What the items of a buffer are and how they are laid out, as Python's C API has it under
+/// "Buffer Protocol", "Buffer structure" and "NumPy-style: shape and strides". Where the items
+/// start is no part of it.
+///
+/// Lengths, sizes and strides are in bytes. Each dimension has its number of entries, its stride,
+/// and its suboffset, which is 0 in a valid descriptor.
+#[derive(Debug, Drop)]
+pub struct BufferDescriptor {
+    len: usize,
+    readonly: bool,
+    itemsize: usize,
+    format: Text,
+    dim_desc: DimList,
+}
+
+impl Model for BufferDescriptor {
+    ghost use Rattle.pybuf_desc.specs.Descriptor.{Descriptor};
+
+    ghost Value = { Descriptor };
+
+    ghost view = { λ d. record { len = d.len; readonly = d.readonly; itemsize = d.itemsize; format = d.format; dims = d.dim_desc } };
+}
+
+impl BufferDescriptor {
+    ghost use Rattle.pybuf_desc.specs.Descriptor.{Descriptor, flat, flat_layout, bytes_layout};
+    ghost use Rattle.pybuf_desc.specs.Places.{Stands};
+    ghost use Rattle.pybuf_desc.specs.Valid.{IsValid};
+
+    /// The number of bytes of all items.
+    pub fn len(&self) -> usize
+        ensures { result ≡ self.now.len }
+    {
+        self.len
+    }
+
+    /// Whether there are no bytes.
+    pub fn is_empty(&self) -> bool
+        ensures { result ≡ (self.now.len == 0) }
+    {
+        self.len == 0
+    }
+
+    /// Whether the items can only be read.
+    pub fn readonly(&self) -> bool
+        ensures { result ≡ self.now.readonly }
+    {
+        self.readonly
+    }
+
+    /// The number of bytes of one item.
+    pub fn itemsize(&self) -> usize
+        ensures { result ≡ self.now.itemsize }
+    {
+        self.itemsize
+    }
+
+    /// The format of one item, in the syntax of Python's `struct` module.
+    pub fn format_text(&self) -> &Text
+        ensures { result.now ≡ self.now.format }
+    {
+        &self.format
+    }
+
+    /// The number of entries, the stride and the suboffset of each dimension, from the outermost.
+    pub fn dim_desc(&self) -> &[(usize, isize, isize)]
+        ensures { result.now ≡ self.now.dims }
+    {
+        self.dim_desc.as_slice()
+    }
+
+    /// The number of dimensions.
+    pub fn ndim(&self) -> usize
+        ensures { result ≡ length self.now.dims }
+    {
+        self.dim_desc.len()
+    }
+
+    /// Whether a dimension has no entry.
+    pub fn is_zero_in_shape(&self) -> bool
+        ensures { IsTrue result ↔ Any (λ dim. dim.0 ≡ 0) self.now.dims }
+    {
+        has_zero(self.dim_desc.as_slice())
+    }
+
+    /// Whether the descriptor, with its first item at `start`, describes items that lie in a
+    /// buffer of `room` bytes.
+    ///
+    /// Refused with `ValueError` exactly where the item size is 0 or past `isize::MAX`; there are
+    /// over 64 dimensions; a stride is 0; a suboffset isn't 0; an entry after the first is 0; the
+    /// item size times the entries that aren't 0 passes `isize::MAX`; the item size times all
+    /// entries isn't `len`; or a byte of an item would lie outside `0..room`. Whatever the numbers
+    /// are, none of this overflows.
+    pub fn validate(&self, start: usize, room: usize) -> Result<(), Fault>
+        ensures valid { IsOk result ↔ IsValid self.now start room }
+        ensures refused { IfErr result (λ fault. fault ≡ Fault.Value) }
+    {
+        let dims = self.dim_desc.as_slice();
+        if self.itemsize == 0 {
+            return Err(Fault::Value);
+        }
+        if self.itemsize > isize::MAX as usize {
+            return Err(Fault::Value);
+        }
+        if dims.len() > 64 {
+            return Err(Fault::Value);
+        }
+        if !has_strides(dims) {
+            return Err(Fault::Value);
+        }
+        if !is_direct(dims) {
+            return Err(Fault::Value);
+        }
+        if !has_later_entries(dims) {
+            return Err(Fault::Value);
+        }
+        match extent(self.itemsize, dims) {
+            None => Err(Fault::Value),
+            Some(extent) => {
+                if has_zero(dims) {
+                    if self.len != 0 {
+                        return Err(Fault::Value);
+                    }
+                    return Ok(());
+                }
+                if self.len != extent {
+                    return Err(Fault::Value);
+                }
+                if !are_inside(dims, self.itemsize, start, room) {
+                    return Err(Fault::Value);
+                }
+                Ok(())
+            }
+        }
+    }
+
+    /// One dimension of bytes: format `B`, and as many items as bytes.
+    pub fn simple(alloc: Global, bytes_len: usize, readonly: bool) -> Made<BufferDescriptor>
+        requires { bytes_len < 2 ^ 63 }
+        ensures made { IfOk result (λ d. d ≡ flat (codes "B") 1 bytes_len readonly) }
+        ensures valid { IfOk result (λ d. IsValid d 0 bytes_len) }
+        ensures stands { IfOk result (λ d. Stands d 0 (bytes_layout bytes_len readonly)) }
+    {
+        let text = String::from_str(alloc, "B")?;
+        BufferDescriptor::format(alloc, bytes_len, readonly, 1, Text::from_string(text))
+    }
+
+    /// One dimension of items, one after the other.
+    pub fn format(
+        alloc: Global,
+        bytes_len: usize,
+        readonly: bool,
+        itemsize: usize,
+        format: Text,
+    ) -> Made<BufferDescriptor>
+        requires some_size { 0 < itemsize }
+        requires size_fits { itemsize < 2 ^ 63 }
+        requires len_fits { bytes_len < 2 ^ 63 }
+        requires whole_items { bytes_len % itemsize ≡ 0 }
+        ensures made { IfOk result (λ d. d ≡ flat format itemsize (bytes_len / itemsize) readonly) }
+        ensures valid { IfOk result (λ d. IsValid d 0 bytes_len) }
+        ensures stands { IfOk result (λ d. Stands d 0 (flat_layout format itemsize (bytes_len / itemsize) readonly)) }
+    {
+        let mut dim_desc = DimList::new(alloc);
+        dim_desc.push((bytes_len / itemsize, itemsize as isize, 0))?;
+        Ok(BufferDescriptor {
+            len: bytes_len,
+            readonly,
+            itemsize,
+            format,
+            dim_desc,
+        })
+    }
+
+    /// The same but for its length, and the entries and the stride of its first dimension.
+    pub(crate) fn with_first(
+        &self,
+        alloc: Global,
+        len: usize,
+        count: usize,
+        stride: isize,
+    ) -> Made<BufferDescriptor>
+        requires { 0 < length self.now.dims }
+        ensures { IfOk result (λ d. d ≡ record self.now { len = len; dims = slice_set self.now.dims 0 (count, stride, (slice_index_or self.now.dims 0 (0, pos 0, pos 0)).2) }) }
+    {
+        let format = self.format.copy(alloc)?;
+        let mut dims = self.dim_desc.copy(alloc)?.into_vec();
+        let suboffset = dims[0].2;
+        dims[0] = (count, stride, suboffset);
+        Ok(BufferDescriptor {
+            len,
+            readonly: self.readonly,
+            itemsize: self.itemsize,
+            format,
+            dim_desc: DimList::from_vec(dims),
+        })
+    }
+
+    /// The record as given. Takes no memory.
+    pub fn raw(
+        len: usize,
+        readonly: bool,
+        itemsize: usize,
+        format: Text,
+        dim_desc: DimList,
+    ) -> BufferDescriptor
+        ensures { result ≡ record { len = len; readonly = readonly; itemsize = itemsize; format = format; dims = dim_desc } }
+    {
+        BufferDescriptor {
+            len,
+            readonly,
+            itemsize,
+            format,
+            dim_desc,
+        }
+    }
+}
+
+impl Twin for BufferDescriptor {
+    fn copy(&self, alloc: Global) -> Made<BufferDescriptor> {
+        let format = self.format.copy(alloc)?;
+        let dim_desc = self.dim_desc.copy(alloc)?;
+        Ok(BufferDescriptor {
+            len: self.len,
+            readonly: self.readonly,
+            itemsize: self.itemsize,
+            format,
+            dim_desc,
+        })
+    }
+}

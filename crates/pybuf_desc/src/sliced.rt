@@ -1,0 +1,86 @@
+//! The slice of a descriptor along its first dimension.
+ghost use Rattle.std.specs.Prelude.{◌≡◌, ◌+◌, ◌*◌, ◌^◌, ◌<◌, ◌≤◌, ℕ, ℤ, pos, [], ◌∷◌, ◌+ℤ◌, ◌*ℤ◌, ◌≤ℤ◌, ◌<ℤ◌, FitsSigned, IfOk, length, slice_set, slice_index_or};
+ghost use Rattle.std.specs.Int.{w64};
+ghost use Rattle.pybuf_slice.specs.Parts.{picks_of, clamped};
+ghost use Rattle.pybuf_desc.specs.Descriptor.{Descriptor, Layout, shape_of, strides_of};
+ghost use Rattle.pybuf_desc.specs.Places.{Stands};
+ghost use Rattle.pybuf_desc.specs.Valid.{IsValid, IsPlaced};
+ghost use Rattle.pybuf_desc.specs.Slices.{first_entry, first_stride, slice_of};
+
+use crate::descriptor::BufferDescriptor;
+use pybuf_slice::SaturatedSlice;
+use pybuf_value::{Made, saturate};
+use std::alloc::Global;
+
+/// The place of an entry of a dimension.
+fn entry_place(start: usize, index: usize, stride: isize) -> usize
+    requires index_fits { index < 2 ^ 63 }
+    requires start_fits { start < 2 ^ 63 }
+    requires product_fits { FitsSigned w64 (pos index *ℤ stride) }
+    requires low { pos 0 ≤ℤ (pos start +ℤ pos index *ℤ stride) }
+    requires high { (pos start +ℤ pos index *ℤ stride) <ℤ pos (2 ^ 63) }
+    ensures { pos result ≡ pos start +ℤ pos index *ℤ stride }
+{
+    (start as isize + index as isize * stride) as usize
+}
+
+/// The bytes of `count` of the `shape` entries that a dimension has.
+fn len_of_entries(len: usize, shape: usize, count: usize) -> usize
+    requires { count ≤ shape }
+    ensures { (entry : ℕ) → len ≡ shape * entry → result ≡ count * entry }
+{
+    if count == 0 { 0 } else { len / shape * count }
+}
+
+/// The first index of a span, which is the last of its places where the step is negative.
+fn first_of_span(low: usize, high: usize, step: isize) -> usize
+    requires { low < high }
+    ensures rises { pos 0 ≤ℤ step → result ≡ low }
+    ensures falls { step <ℤ pos 0 → result + 1 ≡ high }
+{
+    if step < 0 { high - 1 } else { low }
+}
+
+/// A stride times a step, as the nearest that fits `isize`.
+fn stepped(stride: isize, step: isize) -> isize
+    ensures { result ≡ clamped (stride *ℤ step) }
+{
+    saturate(stride as i128 * step as i128)
+}
+
+impl BufferDescriptor {
+    /// The slice along the first dimension of the items that start at `start`, and where its own
+    /// items start.
+    ///
+    /// The first dimension has the entries at the indices of the slice, in that order: its number
+    /// of entries is theirs, and its stride is the old one times the step, clamped to `isize`. Two
+    /// items or more show that stride, and then it is exact; elsewhere no place depends on it. A
+    /// slice without indices leaves the start where it was. All else stays: Python's reference has
+    /// it under "memoryview", where a slice of a view is a subview.
+    pub fn sliced(
+        &self,
+        alloc: Global,
+        start: usize,
+        slice: &SaturatedSlice,
+    ) -> Made<(BufferDescriptor, usize)>
+        requires placed { IsPlaced self.now start }
+        requires some_dimension { 0 < length self.now.dims }
+        ensures stands { IfOk result (λ r. (view : Layout) → Stands self.now start view → Stands r.0 r.1 (slice_of view slice.now)) }
+        ensures valid { IfOk result (λ r. (room : ℕ) → IsValid self.now start room → IsValid r.0 r.1 room) }
+        ensures exact { IfOk result (λ r. 1 < first_entry (shape_of r.0.dims) → first_stride (strides_of r.0.dims) ≡ first_stride (strides_of self.now.dims) *ℤ slice.now.step) }
+        ensures unmoved { IfOk result (λ r. first_entry (shape_of r.0.dims) ≡ 0 → r.1 ≡ start) }
+    {
+        let dims = self.dim_desc();
+        let shape = dims[0].0;
+        let stride = dims[0].1;
+        let (range, step, count) = slice.adjust_indices(shape);
+        let len = len_of_entries(self.len(), shape, count);
+        let descriptor = self.with_first(alloc, len, count, stepped(stride, step))?;
+        if count == 0 {
+            return Ok((descriptor, start));
+        }
+        let first = first_of_span(range.start, range.end, step);
+        let next = entry_place(start, first, stride);
+        Ok((descriptor, next))
+    }
+}

@@ -1,0 +1,134 @@
+//! Places and positions against those of Python's nested lists, and that the calls succeed with
+//! ample memory.
+//!
+//! The expected places were made by Python 3: `m = memoryview(bytes(range(24))).cast('B', (2, 3,
+//! 4)).tolist()` holds at each item its own place; slices of these nested lists, flattened, give the
+//! places, and an item of such a slice less its first item gives the position.
+use super::*;
+use pybuf_slice::SaturatedSlice;
+use pybuf_value::{DimList, Made, PySlice, Scalar, Text, Twin};
+use std::alloc::Global;
+use std::test::Fail;
+
+/// Entries and strides, start, whether rows are joined, how many ranges there are, and their
+/// checksum: from 0 on, `h = (h * 31 + place + 7 * length) % 1000003` for each range.
+const WALKS: [([(usize, isize); 3], usize, bool, usize, usize); 5] = [
+    ([(2, -12), (2, 8), (2, 1)], 13, false, 8, 796200),
+    ([(2, -12), (2, 8), (2, 1)], 13, true, 4, 838480),
+    ([(2, -12), (3, -4), (4, -1)], 23, false, 24, 282322),
+    ([(2, -12), (3, -4), (4, -1)], 23, true, 24, 282322),
+    ([(0, 12), (3, 4), (4, 1)], 0, true, 0, 0),
+];
+
+/// Indices, and the position or -99 where Python raises `IndexError`.
+const POSITIONS: [([isize; 3], isize); 7] = [
+    ([0, 0, 0], 0),
+    ([1, 1, 1], -3),
+    ([-1, -1, -1], -3),
+    ([-2, 0, 1], 1),
+    ([0, -2, -1], 1),
+    ([0, 2, 0], -99),
+    ([-3, 0, 0], -99),
+];
+
+fn described(alloc: Global, len: usize, dims: &[(usize, isize)]) -> Made<BufferDescriptor> {
+    let mut list = DimList::new(alloc);
+    for (shape, stride) in dims {
+        list.push((*shape, *stride, 0))?;
+    }
+    Ok(BufferDescriptor::raw(
+        len,
+        false,
+        1,
+        Text::new(alloc),
+        list,
+    ))
+}
+
+/// The number of ranges and their checksum; none where the descriptor isn't valid.
+fn ranges(d: &BufferDescriptor, start: usize, join: bool) -> (usize, usize) {
+    if d.validate(start, 24).is_err() {
+        return (0, 0);
+    }
+    let mut count: usize = 0;
+    let mut sum: usize = 0;
+    for range in d.segments(start, join) {
+        let length = range.end.wrapping_sub(range.start);
+        count = count.wrapping_add(1);
+        sum = sum
+            .wrapping_mul(31)
+            .wrapping_add(range.start)
+            .wrapping_add(length.wrapping_mul(7))
+            % 1000003;
+    }
+    (count, sum)
+}
+
+#[test]
+fn ranges_are_the_places_of_python(rt: HostRuntime) -> Result<(), Fail> {
+    for (dims, start, join, count, sum) in WALKS.iter() {
+        let len = dims[0].0.wrapping_mul(dims[1].0).wrapping_mul(dims[2].0);
+        let d = described(rt.alloc(), len, dims.as_slice())?;
+        assert_eq!(rt; ranges(&d, *start, *join), (*count, *sum), "start {start}");
+    }
+    Ok(())
+}
+
+#[test]
+fn one_item_has_one_range(rt: HostRuntime) -> Result<(), Fail> {
+    let d = described(rt.alloc(), 1, [].as_slice())?;
+    assert_eq!(rt; ranges(&d, 5, true), (1, 12));
+    Ok(())
+}
+
+fn position(d: &BufferDescriptor, start: usize, indices: &[isize]) -> isize {
+    if d.validate(start, 24).is_err() {
+        return -98;
+    }
+    if indices.len() != d.ndim() {
+        return -97;
+    }
+    match d.position(indices) {
+        Err(_) => -99,
+        Ok(position) => position,
+    }
+}
+
+#[test]
+fn positions_are_those_of_python(rt: HostRuntime) -> Result<(), Fail> {
+    let d = described(rt.alloc(), 8, WALKS[0].0.as_slice())?;
+    for (indices, wanted) in POSITIONS.iter() {
+        assert_eq!(rt; position(&d, 13, indices.as_slice()), *wanted);
+    }
+    Ok(())
+}
+
+/// The last item of `[::step]`, as the number of ranges and their checksum.
+fn stepped(alloc: Global, d: &BufferDescriptor, slice: &SaturatedSlice) -> Made<(usize, usize)> {
+    if d.validate(0, 24).is_err() {
+        return Ok((0, 0));
+    }
+    if d.ndim() == 0 {
+        return Ok((0, 0));
+    }
+    let (cut, next) = d.sliced(alloc, 0, slice)?;
+    Ok(ranges(&cut, next, false))
+}
+
+#[test]
+fn makers_succeed_with_ample_memory(rt: HostRuntime) -> Result<(), Fail> {
+    let bytes = BufferDescriptor::simple(rt.alloc(), 5, true)?;
+    assert_eq!(rt; ranges(&bytes, 0, true), (1, 35));
+    let words = BufferDescriptor::format(rt.alloc(), 6, false, 2, Text::new(rt.alloc()))?;
+    let twin = words.copy(rt.alloc())?;
+    assert_eq!(rt; twin.dim_desc().len(), 1);
+    let slice = PySlice {
+        start: Scalar::None,
+        stop: Scalar::None,
+        step: Scalar::Int(-2),
+    };
+    if let Ok(slice) = SaturatedSlice::with_slice(&slice) {
+        assert_eq!(rt; stepped(rt.alloc(), &words, &slice)?, (2, 572));
+    }
+    Ok(())
+}
