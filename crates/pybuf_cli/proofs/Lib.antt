@@ -5,4 +5,8 @@ pub mod Outcomes
 pub mod Served
 pub mod Sending
 pub mod Commands
-pub mod Parts
+pub mod LineParts
+pub mod Spelled
+pub mod Commas
+pub mod Colons
+pub mod Printed

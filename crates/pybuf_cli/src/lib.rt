@@ -7,12 +7,13 @@ mod inputs;
 mod loops;
 mod memory;
 mod parsing;
+mod scalars;
 mod serving;
+mod spellings;
 mod splitting;
 mod status;
 mod texts;
 mod unread;
-mod values;
 mod words;
 mod writing;
 
