@@ -10,3 +10,4 @@ pub mod Spelled
 pub mod Commas
 pub mod Colons
 pub mod Printed
+pub mod LineLaws

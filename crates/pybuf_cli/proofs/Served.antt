@@ -1,13 +1,13 @@
 -- What was read and put, where the source tells its bytes.
-use Rattle.std.proofs.Common.{◌≡◌, ℕ, ◌<◌, ◌≤◌, suc, List, [], ◌++◌, length, drop, Option, Some, Result, Ok, Err, refl, sym, ◌∙◌, ap, subst, arith}
+use Rattle.std.proofs.Common.{◌≡◌, ℕ, ◌<◌, ◌≤◌, suc, List, [], ◌++◌, length, take, drop, Option, Some, Result, Ok, Err, refl, sym, ◌∙◌, ap, subst, arith}
 use Rattle.std.proofs.lemmas.List.{append-nil, nil_from_length, length-append, drop_at}
 use Rattle.pybuf_view.specs.declared.commands.Command.{Command}
 use Rattle.pybuf_view.specs.World.{empty_world}
 use Rattle.pybuf_view.specs.Sound.{StaysSound}
-use Rattle.pybuf_cli.specs.Devices.{Took, AtEnd, Put}
+use Rattle.pybuf_cli.specs.Devices.{Took, AtEnd, Put, PutPrefix}
 use Rattle.pybuf_cli.specs.Lines.{commands_in}
 use Rattle.pybuf_cli.specs.Replies.{bad_line_text}
-use Rattle.pybuf_cli.specs.Program.{most, program, IsDone, IsBadLine, IsTooLong}
+use Rattle.pybuf_cli.specs.Program.{most, program, text_due, IsDone, IsBadLine, IsTooLong}
 
 -- what was taken up to the end is all that there was
 pub took_all : (old new : Option (List ℕ)) (input bytes : List ℕ) → Took old bytes new → AtEnd new → old ≡ Some input →
@@ -55,3 +55,32 @@ took_too_many old new input taken told =
       long = omega (arith, ap length t.1, length-append taken.0 t.0, taken.1);
       rest = t.2 ∙ ap Some (sym rest);
     }
+
+-- over an empty sink, what it holds is what was put
+pub held_is : (held_before held text : List ℕ) → held_before ≡ [] → Put (Some held_before) text (Some held) → held ≡ text
+held_is held_before held text empty put =
+    let same : Some held ≡ Some (held_before ++ text) = put held_before refl in
+    let whole : held ≡ held_before ++ text = cc in
+    whole ∙ ap (λ x. x ++ text) empty
+
+pub quiet_ran : (input told held_before held out : List ℕ) (left : Option (List ℕ)) → told ≡ input → held_before ≡ [] → out ≡ held →
+    IsDone told left (Some held_before) (Some held) →
+    (commands : List Command) × (commands_in input ≡ Ok commands) × (out ≡ program commands)
+quiet_ran input told held_before held out left same empty kept done =
+    (done.commands, sym (ap commands_in same) ∙ done.spelled, kept ∙ held_is held_before held (program done.commands) empty done.put)
+
+pub quiet_refused : (input told held_before held out : List ℕ) (left : Option (List ℕ)) → told ≡ input → held_before ≡ [] → out ≡ held →
+    IsBadLine told left (Some held_before) (Some held) →
+    (line : ℕ) × (commands_in input ≡ Err line) × (out ≡ bad_line_text line)
+quiet_refused input told held_before held out left same empty kept bad =
+    (bad.line, sym (ap commands_in same) ∙ bad.first, kept ∙ held_is held_before held (bad_line_text bad.line) empty bad.put)
+
+pub quiet_front : (input told held_before held out : List ℕ) → told ≡ input → held_before ≡ [] → out ≡ held →
+    PutPrefix (Some held_before) (text_due told) (Some held) →
+    (count : ℕ) × (count ≤ length (text_due input)) × (out ≡ take count (text_due input))
+quiet_front input told held_before held out same empty kept front =
+    let n = front.0 in (
+      n,
+      omega (arith, front.1, ap (λ x. length (text_due x)) same),
+      kept ∙ (held_is held_before held (take n (text_due told)) empty front.2 ∙ ap (λ x. take n (text_due x)) same),
+    )

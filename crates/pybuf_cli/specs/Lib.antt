@@ -7,3 +7,4 @@ pub mod Lines
 pub mod Replies
 pub mod Reading
 pub mod Program
+pub mod Laws

@@ -77,4 +77,4 @@ reply_lines replies = flat_map reply_line replies
 
 -- what is written of an input whose line of this number is no command
 abbrev pub bad_line_text : ℕ → List ℕ
-bad_line_text n = codes "line " ++ decimal n ++ codes " is not a command" ++ 10 ∷ []
+bad_line_text n = codes "line " ++ decimal n ++ codes " is not a command\n"

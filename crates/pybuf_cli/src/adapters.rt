@@ -1,9 +1,18 @@
 //! The standard library's readers and writers as sources and sinks.
-ghost use Rattle.std.specs.Prelude.{◌≡◌, ℕ, None};
+ghost use Rattle.std.specs.Prelude.{◌≡◌, ◌≤◌, ℕ, None};
+ghost use Rattle.pybuf_cli.specs.Devices.{Rose};
 
 use crate::devices::{Failed, PutFault, Sink, Source};
-use std::io::{ErrorKind, Read, Write};
+use std::io::{Read, Write};
 use std::marker::Model;
+
+/// A count of faults after one more, which stands still at its end.
+fn one_more(faults: u64) -> u64
+    ensures later { faults ≤ result }
+    ensures rose { Rose faults result }
+{
+    faults.saturating_add(1)
+}
 
 /// A reader as a source. It tells no bytes. A clause sees the count of its faults.
 #[derive(Drop)]
@@ -45,7 +54,7 @@ impl<R: Read> Source for ReaderSource<R> {
         match self.reader.read(room) {
             Ok(count) => Ok(count),
             Err(_) => {
-                self.faults = faults.saturating_add(1);
+                self.faults = one_more(faults);
                 Err(Failed)
             }
         }
@@ -95,12 +104,12 @@ impl<W: Write> Sink for WriterSink<W> {
         }
         match self.writer.write(piece) {
             Ok(0) => {
-                self.faults = faults.saturating_add(1);
+                self.faults = one_more(faults);
                 Err(PutFault::Failed)
             }
             Ok(count) => Ok(count),
             Err(_) => {
-                self.faults = faults.saturating_add(1);
+                self.faults = one_more(faults);
                 Err(PutFault::Failed)
             }
         }

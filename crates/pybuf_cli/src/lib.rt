@@ -4,6 +4,7 @@
 mod adapters;
 mod devices;
 mod inputs;
+mod laws;
 mod loops;
 mod memory;
 mod parsing;
@@ -19,8 +20,9 @@ mod writing;
 
 pub use adapters::{ReaderSource, WriterSink};
 pub use devices::{Failed, PutFault, Sink, Source};
+pub use laws::{commands_are_of_lines, lines_are_the_input, words_are_the_line};
 pub use memory::{QuietSink, QuietSource};
-pub use serving::{serve, serve_alone};
+pub use serving::{serve, serve_alone, serve_bytes};
 pub use status::Status;
 
 #[cfg(test)]

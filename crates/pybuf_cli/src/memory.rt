@@ -92,6 +92,14 @@ impl QuietSink {
     {
         self.bytes.as_slice()
     }
+
+    /// The bytes that were put. Takes no memory.
+    pub fn into_bytes(self) -> ByteList
+        ensures { result ≡ self }
+    {
+        let QuietSink { bytes } = self;
+        ByteList::from_vec(bytes)
+    }
 }
 
 impl Sink for QuietSink {

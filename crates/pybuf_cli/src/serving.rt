@@ -1,5 +1,5 @@
 //! The top call: from the words and the input to the output and the status.
-ghost use Rattle.std.specs.Prelude.{◌≡◌, ◌≢◌, ◌≤◌, ◌⊎◌, ◌^◌, List, ℕ, ◌↔◌, IfOk, Some, Ok, Err, true, false};
+ghost use Rattle.std.specs.Prelude.{◌≡◌, ◌≢◌, ◌≤◌, ◌⊎◌, ◌^◌, List, ℕ, ◌↔◌, IfOk, Some, Ok, Err, length, take, true, false};
 ghost use Rattle.pybuf_view.specs.declared.commands.Command.{Command};
 ghost use Rattle.pybuf_view.specs.World.{empty_world, replies_of};
 ghost use Rattle.pybuf_view.specs.Sound.{StaysSound};
@@ -11,12 +11,13 @@ ghost use Rattle.pybuf_cli.specs.Program.{asks_run, program, due_for, ending_for
 use crate::devices::{PutFault, Sink, Source};
 use crate::inputs::commands_of;
 use crate::loops::{ReadStop, read_all, write_all};
+use crate::memory::{QuietSink, QuietSource};
 use crate::status::Status;
 use crate::texts::push_bad_line;
 use crate::unread::Misread;
 use crate::words::is_word;
 use crate::writing::write_replies;
-use pybuf_value::{Made, Text};
+use pybuf_value::{ByteList, Made, Text};
 use pybuf_view::{Command, ReplyList, World};
 use std::alloc::Global;
 use std::sync::Wait;
@@ -151,6 +152,25 @@ pub fn serve_alone<S: Source, K: Sink>(
         Err(ReadStop::Failed) => Status::ReadFault,
         Err(ReadStop::TooLong) => Status::TooLong,
     }
+}
+
+/// Does what `serve_alone` does with bytes in memory: gives the bytes that it puts, and its status.
+/// Nothing can fail but memory.
+pub fn serve_bytes(alloc: Global, words: &[Text], input: ByteList) -> (ByteList, Status)
+    ensures usage { (result.1 ≡ Status.Usage) ↔ (asks_run words.now ≡ false) }
+    ensures complete { asks_run words.now ≡ true → (result.1 ≡ ending input) ⊎ (result.1 ≡ Status.NoMemory) }
+    ensures done { result.1 ≡ Status.Done →
+        (commands : List Command) × (commands_in input ≡ Ok commands) × (result.0 ≡ program commands) }
+    ensures bad_line { result.1 ≡ Status.BadLine →
+        (line : ℕ) × (commands_in input ≡ Err line) × (result.0 ≡ bad_line_text line) }
+    ensures prefix { (count : ℕ) × (count ≤ length (text_due input)) × (result.0 ≡ take count (text_due input)) }
+    ensures no_read_fault { result.1 ≢ Status.ReadFault }
+    ensures no_write_fault { result.1 ≢ Status.WriteFault }
+{
+    let mut source = QuietSource::new(input);
+    let mut sink = QuietSink::new(alloc);
+    let status = serve_alone(alloc, words, &mut source, &mut sink);
+    (sink.into_bytes(), status)
 }
 
 /// Does all that the program `pybuf` does. Other threads are started only for the forms of words

@@ -211,7 +211,6 @@ pub fn push_bad_line(out: &mut Vec<u8>, number: u64) -> Made<()>
 {
     out.extend_from_slice(b"line ")?;
     push_decimal(out, number)?;
-    out.extend_from_slice(b" is not a command")?;
-    out.push(b'\n')?;
+    out.extend_from_slice(b" is not a command\n")?;
     Ok(())
 }

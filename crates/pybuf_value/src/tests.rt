@@ -1,12 +1,115 @@
-//! What no clause says: that the calls succeed with ample memory, and the derived texts.
+//! What no clause says: that the calls succeed with ample memory, and the text that is derived for
+//! a fault.
 use super::*;
+use std::alloc::Global;
 use std::test::Fail;
 
-#[test]
-fn lists_copy_with_ample_memory(rt: HostRuntime) -> Result<(), Fail> {
-    let mut bytes = ByteList::new(rt.alloc());
+fn bytes(alloc: Global) -> Result<ByteList, Fail> {
+    let mut bytes = ByteList::new(alloc);
     bytes.push(7)?;
-    let twin = bytes.copy(rt.alloc())?;
-    assert_eq!(rt; twin.as_slice(), [7u8].as_slice());
+    bytes.push(255)?;
+    Ok(bytes)
+}
+
+fn slice(alloc: Global) -> Result<PySlice, Fail> {
+    Ok(PySlice {
+        start: Scalar::Int(-1),
+        stop: Scalar::Bytes(bytes(alloc)?),
+        step: Scalar::None,
+    })
+}
+
+fn has_both_bytes(scalar: &Scalar) -> bool {
+    match scalar {
+        Scalar::Bytes(bytes) => bytes.as_slice() == [7, 255].as_slice(),
+        _ => false,
+    }
+}
+
+#[test]
+fn lists_and_texts_are_copied(rt: HostRuntime) -> Result<(), Fail> {
+    let twin = bytes(rt.alloc())?.copy(rt.alloc())?;
+    assert_eq!(rt; twin.as_slice(), [7u8, 255].as_slice());
+    let mut lists = ByteLists::new(rt.alloc());
+    lists.push(twin)?;
+    assert_eq!(rt; lists.copy(rt.alloc())?.len(), 1);
+    let mut text = Text::new(rt.alloc());
+    text.push('é')?;
+    assert_eq!(rt; text.copy(rt.alloc())?.as_slice(), "é".as_bytes());
+    assert_eq!(rt; Text::from_string(text.into_string()).len(), 2);
+    let mut dims = DimList::new(rt.alloc());
+    dims.push((3, -1, 0))?;
+    assert_eq!(rt; dims.copy(rt.alloc())?.into_vec().len(), 1);
+    let mut counts = CountList::from_vec(Vec::new(rt.alloc()));
+    counts.push(5)?;
+    assert_eq!(rt; counts.copy(rt.alloc())?.as_slice(), [5usize].as_slice());
+    let mut numbers = NumberList::new(rt.alloc());
+    numbers.push(-5)?;
+    assert_eq!(rt; numbers.copy(rt.alloc())?.as_slice(), [-5i128].as_slice());
+    Ok(())
+}
+
+fn parts(alloc: Global) -> Result<ScalarList, Fail> {
+    let mut parts = ScalarList::new(alloc);
+    parts.push(Scalar::Bytes(bytes(alloc)?))?;
+    parts.push(Scalar::Ellipsis)?;
+    Ok(parts)
+}
+
+#[test]
+fn slices_are_copied(rt: HostRuntime) -> Result<(), Fail> {
+    let copied = Value::Slice(slice(rt.alloc())?).copy(rt.alloc())?;
+    let Value::Slice(parts) = copied else {
+        return Err(Fail::from("a slice"));
+    };
+    assert!(rt; has_both_bytes(&parts.stop));
+    Ok(())
+}
+
+#[test]
+fn items_are_copied(rt: HostRuntime) -> Result<(), Fail> {
+    let Item::Many(parts) = Item::Many(parts(rt.alloc())?).copy(rt.alloc())? else {
+        return Err(Fail::from("a tuple"));
+    };
+    assert_eq!(rt; parts.len(), 2);
+    Ok(())
+}
+
+#[test]
+fn tuples_are_copied(rt: HostRuntime) -> Result<(), Fail> {
+    let Value::Tuple(parts) = Value::Tuple(parts(rt.alloc())?).copy(rt.alloc())? else {
+        return Err(Fail::from("a tuple"));
+    };
+    assert_eq!(rt; parts.len(), 2);
+    Ok(())
+}
+
+#[test]
+fn tuples_of_slices_are_copied(rt: HostRuntime) -> Result<(), Fail> {
+    let mut slices = SliceList::new(rt.alloc());
+    slices.push(slice(rt.alloc())?)?;
+    let Value::Slices(slices) = Value::Slices(slices).copy(rt.alloc())? else {
+        return Err(Fail::from("slices"));
+    };
+    assert_eq!(rt; slices.len(), 1);
+    Ok(())
+}
+
+#[test]
+fn the_text_of_a_fault_is_its_name(rt: HostRuntime) -> Result<(), Fail> {
+    let all = [
+        Fault::Index,
+        Fault::Value,
+        Fault::Kind,
+        Fault::Buffer,
+        Fault::Struct,
+        Fault::Overflow,
+        Fault::NotImplemented,
+        Fault::UnknownName,
+    ];
+    for fault in all {
+        let text = format!(in rt.alloc(); "{fault}")?;
+        assert_eq!(rt; text.as_str(), fault.python_name());
+    }
     Ok(())
 }

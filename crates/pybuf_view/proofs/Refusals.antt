@@ -60,6 +60,7 @@ iterator_row_answers e k (verb.Get key) = tt
 iterator_row_answers e k (verb.Set key value) = tt
 iterator_row_answers e k verb.ToBytes = tt
 iterator_row_answers e k verb.Release = tt
+iterator_row_answers e k verb.Len = tt
 
 row_answers : (e : Exporter) (s : Subject) (v : Verb) → IsAnswered (row e s v)
 row_answers e subject.Own verb.View = refl
@@ -76,6 +77,8 @@ row_answers e subject.Own verb.ToBytes = refl
 row_answers e (subject.View k) verb.ToBytes = bind (live_view e k) _ (λ v _. refl)
 row_answers e subject.Own verb.Release = tt
 row_answers e (subject.View k) verb.Release = bind (released_in e k) _ (λ after _. refl)
+row_answers e subject.Own verb.Len = refl
+row_answers e (subject.View k) verb.Len = bind (live_view e k) _ (λ v _. refl)
 row_answers e (subject.Iter k) v = iterator_row_answers e k v
 
 built_answers : (b : Bool) (r : Result (Exporter × LocalReply) Fault) → IsAnswered r → IsAnswered (if b then r else Err fault.UnknownName)
@@ -88,7 +91,7 @@ settled_refusal e (Ok after) f answers is = absurd (true≢false (sym answers �
 settled_refusal e (Err g) f answers is = refl
 
 pub estep_refusal : (e : Exporter) (s : Subject) (v : Verb) (f : Fault) → (estep e s v).1 ≡ local.Refused f → (estep e s v).0 ≡ e
-estep_refusal e s v f is = settled_refusal e (answered e s v) f (built_answers (is_built v) (row e s v) (row_answers e s v)) is
+estep_refusal e s v f is = settled_refusal e (answered e s v) f (built_answers (is_built s v) (row e s v) (row_answers e s v)) is
 
 -- a list with one of its own elements set at its place
 pub set-slice_get : {X : Type 0} (xs : List X) (i : ℕ) (x : X) → slice_get xs i ≡ Some x → set xs i x ≡ xs

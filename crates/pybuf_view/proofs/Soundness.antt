@@ -219,6 +219,7 @@ iterator_row_sound e k (verb.Get key) = tt
 iterator_row_sound e k (verb.Set key value) = tt
 iterator_row_sound e k verb.ToBytes = tt
 iterator_row_sound e k verb.Release = tt
+iterator_row_sound e k verb.Len = tt
 
 built_sound : (b : Bool) (r : Result (Exporter × LocalReply) Fault) → IsSoundAfter r → IsSoundAfter (if b then r else Err fault.UnknownName)
 built_sound true r after = after
@@ -236,11 +237,13 @@ row_sound e subject.Own verb.ToBytes sound = sound
 row_sound e (subject.View k) verb.ToBytes sound = sound_bind (live_view e k) _ (λ v _. sound)
 row_sound e subject.Own verb.Release sound = tt
 row_sound e (subject.View k) verb.Release sound = release_of_view_sound e k sound
+row_sound e subject.Own verb.Len sound = sound
+row_sound e (subject.View k) verb.Len sound = sound_bind (live_view e k) _ (λ v _. sound)
 row_sound e (subject.Iter k) v sound = iterator_row_sound e k v
 
 -- a spelling that is not built is refused
 pub answered_sound : (e : Exporter) (s : Subject) (v : Verb) → IsSoundExporter e → IsSoundAfter (answered e s v)
-answered_sound e s v sound = built_sound (is_built v) (row e s v) (row_sound e s v sound)
+answered_sound e s v sound = built_sound (is_built s v) (row e s v) (row_sound e s v sound)
 
 settled_sound : (e : Exporter) (r : Result (Exporter × LocalReply) Fault) → IsSoundExporter e → IsSoundAfter r → IsSoundExporter (settled e r).0
 settled_sound e (Ok after) sound sound_after = sound_after

@@ -1,6 +1,7 @@
 pub mod Exporter
 pub mod Handles
 pub mod Items
+pub mod Slices
 pub mod Rows
 pub mod Step
 pub mod World

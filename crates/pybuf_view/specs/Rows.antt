@@ -5,3 +5,4 @@ pub mod Get
 pub mod Set
 pub mod ToBytes
 pub mod Release
+pub mod Len

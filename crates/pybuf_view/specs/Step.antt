@@ -12,21 +12,22 @@ use Rattle.pybuf_view.specs.declared.commands.LocalReply.{LocalReply}
 use Rattle.pybuf_view.specs.declared.commands.LocalReply.TheVariants as reply
 use Rattle.pybuf_view.specs.Exporter.{Exporter}
 use Rattle.pybuf_view.specs.Handles.{holds_handle}
-use Rattle.pybuf_view.specs.Items.{is_number}
+use Rattle.pybuf_view.specs.Items.{is_tuple, is_slice}
 use Rattle.pybuf_view.specs.Rows.View.{view_of_own, view_of_view}
 use Rattle.pybuf_view.specs.Rows.Get.{get_of_own, get_of_view}
 use Rattle.pybuf_view.specs.Rows.Set.{set_of_own, set_of_view}
 use Rattle.pybuf_view.specs.Rows.ToBytes.{bytes_of_own, bytes_of_view}
 use Rattle.pybuf_view.specs.Rows.Release.{release_of_view}
+use Rattle.pybuf_view.specs.Rows.Len.{len_of_own, len_of_view}
 
--- Which spellings of a command are built: a key is a number, and no value is or holds a handle.
--- Every other spelling is answered as an unknown name.
-abbrev pub is_built : Verb → Bool
-is_built verb.View = true
-is_built (verb.Get key) = is_number key
-is_built (verb.Set key value) = is_number key && not (holds_handle value)
-is_built verb.ToBytes = true
-is_built verb.Release = true
+-- Which spellings of a command are built for a subject: no value is or holds a handle, a key of a
+-- view is no tuple, and a key that is written at is neither a tuple nor a slice. Every other
+-- spelling is answered as an unknown name.
+abbrev pub is_built : Subject → Verb → Bool
+is_built (subject.View k) (verb.Get key) = not (holds_handle key) && not (is_tuple key) && not (is_slice key)
+is_built s (verb.Get key) = not (holds_handle key) && not (is_slice key)
+is_built s (verb.Set key value) = not (holds_handle key) && not (holds_handle value) && not (is_tuple key) && not (is_slice key)
+is_built s _ = true
 
 -- only a bytearray is written by itself
 abbrev pub set_in_kind : ExporterKind → Exporter → Result (Exporter × LocalReply) Fault → Result (Exporter × LocalReply) Fault
@@ -49,10 +50,12 @@ row e (subject.View k) (verb.Set key value) = set_of_view e k key value
 row e subject.Own verb.ToBytes = bytes_of_own e
 row e (subject.View k) verb.ToBytes = bytes_of_view e k
 row e (subject.View k) verb.Release = release_of_view e k
+row e subject.Own verb.Len = len_of_own e
+row e (subject.View k) verb.Len = len_of_view e k
 row e _ _ = Err fault.UnknownName
 
 abbrev pub answered : Exporter → Subject → Verb → Result (Exporter × LocalReply) Fault
-answered e s v = if is_built v then row e s v else Err fault.UnknownName
+answered e s v = if is_built s v then row e s v else Err fault.UnknownName
 
 -- a refusal leaves the exporter as it was
 abbrev pub settled : Exporter → Result (Exporter × LocalReply) Fault → Exporter × LocalReply

@@ -36,6 +36,7 @@ new_exporter k bytes = record { kind = k; bytes = bytes; views = [] }
 -- the bytes that a new exporter is made of; a spelling that is not built is an unknown name
 abbrev pub bytes_from : ExporterKind → Option Value → Option Value → Option Value → Result (List ℕ) Fault
 bytes_from kind.ByteArray (Some (value.One (scalar.Bytes bytes))) None None = Ok bytes
+bytes_from kind.Bytes (Some (value.One (scalar.Bytes bytes))) None None = Ok bytes
 bytes_from _ _ _ _ = Err fault.UnknownName
 
 abbrev pub world_with_new : World → ExporterKind → Result (List ℕ) Fault → World × Reply

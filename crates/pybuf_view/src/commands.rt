@@ -26,6 +26,8 @@ pub enum Verb {
     ToBytes,
     /// Releases a view, as `view.release()`.
     Release,
+    /// The number of items, as `len(subject)`.
+    Len,
 }
 
 /// A command for one exporter.
@@ -123,6 +125,7 @@ impl Twin for Verb {
             }
             Verb::ToBytes => Ok(Verb::ToBytes),
             Verb::Release => Ok(Verb::Release),
+            Verb::Len => Ok(Verb::Len),
         }
     }
 }

@@ -5,7 +5,7 @@ use crate::commands::{LocalCommand, LocalReply, Verb};
 use crate::kinds::{ExporterKind, Subject};
 use crate::parts::Parts;
 use crate::rows;
-use pybuf_value::{ByteList, Fault, Made};
+use pybuf_value::{ByteList, Fault, Made, Twin, copy_all};
 use std::alloc::Global;
 use std::marker::Model;
 
@@ -121,5 +121,21 @@ impl ExporterState {
         ensures { result ≡ length self.now.views }
     {
         self.parts.views.len()
+    }
+}
+
+impl Twin for ExporterState {
+    fn copy(&self, alloc: Global) -> Made<ExporterState> {
+        let bytes = Vec::from_slice(alloc, self.parts.bytes.as_slice())?;
+        let views = copy_all(alloc, self.parts.views.as_slice())?;
+        Ok(ExporterState {
+            parts: Parts {
+                kind: self.parts.kind,
+                bytes,
+                views,
+                exports: self.parts.exports,
+                alloc,
+            },
+        })
     }
 }

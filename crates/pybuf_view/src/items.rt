@@ -59,13 +59,23 @@ pub fn byte_for_item(value: &Value) -> Result<u8, Fault>
     }
 }
 
-/// Whether a value is a whole number or a truth value.
-pub fn is_number(value: &Value) -> bool
-    ensures { result ≡ spec.is_number value.now }
+/// Whether a value is a tuple, of values or of slices.
+pub fn is_tuple(value: &Value) -> bool
+    ensures { result ≡ spec.is_tuple value.now }
 {
     match value {
-        Value::One(Scalar::Int(_)) => true,
-        Value::One(Scalar::Bool(_)) => true,
+        Value::Tuple(_) => true,
+        Value::Slices(_) => true,
+        _ => false,
+    }
+}
+
+/// Whether a value is a slice.
+pub fn is_slice(value: &Value) -> bool
+    ensures { result ≡ spec.is_slice value.now }
+{
+    match value {
+        Value::Slice(_) => true,
         _ => false,
     }
 }

@@ -23,3 +23,6 @@ pub use kinds::{ExporterKind, Subject};
 pub use laws::{handles_stay, refusals_change_nothing, releasing_twice_is_once};
 pub use named::Named;
 pub use world::World;
+
+#[cfg(test)]
+mod tests;

@@ -1,5 +1,6 @@
 //! The rows of the command table: a module for each command, a function for each kind of subject.
 pub mod get;
+pub mod len;
 pub mod pick;
 pub mod release;
 pub mod set;

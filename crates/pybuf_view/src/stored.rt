@@ -124,6 +124,16 @@ impl StoredView {
         self.starts.len()
     }
 
+    /// The first entry of the shape, or 0 where there is none.
+    pub fn first_entry(&self) -> usize
+        ensures { result ≡ slice_index self.now.shape 0 }
+    {
+        match self.shape.as_slice() {
+            [first, ..] => *first,
+            [] => 0,
+        }
+    }
+
     /// The first place of an item.
     pub fn place(&self, item: usize) -> usize
         requires { item < length self.now.starts }

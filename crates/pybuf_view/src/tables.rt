@@ -31,6 +31,10 @@ fn bytes_from(
             let bytes = bytes.copy(alloc)?;
             Ok(Ok(bytes))
         }
+        (ExporterKind::Bytes, Some(Value::One(Scalar::Bytes(bytes))), None, None) => {
+            let bytes = bytes.copy(alloc)?;
+            Ok(Ok(bytes))
+        }
         _ => Ok(Err(Fault::UnknownName)),
     }
 }

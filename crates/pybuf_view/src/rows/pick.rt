@@ -1,5 +1,7 @@
 //! Which row a command has.
-ghost use Rattle.std.specs.Prelude.{◌≡◌, IfOk, OnErr};
+ghost use Rattle.std.specs.Prelude.{◌≡◌, IfOk, OnErr, not};
+ghost use Rattle.pybuf_view.specs.Handles.{holds_handle};
+ghost use Rattle.pybuf_view.specs.declared.commands.Verb.TheVariants as verbs;
 ghost use Rattle.pybuf_view.specs.Exporter.{exports_of};
 ghost use Rattle.pybuf_view.specs.Answers.{seen, IsWhole, Answers, Reads};
 ghost use Rattle.pybuf_view.specs.Rows.Get.{get_of_own};
@@ -9,27 +11,59 @@ ghost use Rattle.pybuf_view.specs.Step as spec;
 use crate::commands::{LocalReply, Verb};
 use crate::halt::Halt;
 use crate::handles::holds_handle;
-use crate::items::is_number;
+use crate::items::{is_slice, is_tuple};
 use crate::kinds::{ExporterKind, Subject};
 use crate::parts::Parts;
-use crate::rows::{get, release, set, to_bytes, view};
+use crate::rows::{get, len, release, set, to_bytes, view};
 use pybuf_value::{Fault, Made, NoMemory, Value};
 
-/// Whether a command's spelling is built.
-fn is_built(verb: &Verb) -> bool
-    ensures { result ≡ spec.is_built verb.now }
+/// Whether a value is or holds no handle.
+fn is_plain(value: &Value) -> bool
+    ensures { result ≡ not (holds_handle value.now) }
+{
+    !holds_handle(value)
+}
+
+/// Whether `get` with a key is built for a subject.
+fn is_get_built(subject: Subject, key: &Value) -> bool
+    ensures { result ≡ spec.is_built subject (verbs.Get key.now) }
+{
+    if !is_plain(key) {
+        return false;
+    }
+    if is_slice(key) {
+        return false;
+    }
+    match subject {
+        Subject::View(_) => !is_tuple(key),
+        _ => true,
+    }
+}
+
+/// Whether `set` with a key and a value is built.
+fn is_set_built(subject: Subject, key: &Value, value: &Value) -> bool
+    ensures { result ≡ spec.is_built subject (verbs.Set key.now value.now) }
+{
+    if !is_plain(key) {
+        return false;
+    }
+    if !is_plain(value) {
+        return false;
+    }
+    if is_tuple(key) {
+        return false;
+    }
+    !is_slice(key)
+}
+
+/// Whether a command's spelling is built for a subject.
+fn is_built(subject: Subject, verb: &Verb) -> bool
+    ensures { result ≡ spec.is_built subject verb.now }
 {
     match verb {
-        Verb::View => true,
-        Verb::Get { key } => is_number(key),
-        Verb::Set { key, value } => {
-            if !is_number(key) {
-                return false;
-            }
-            !holds_handle(value)
-        }
-        Verb::ToBytes => true,
-        Verb::Release => true,
+        Verb::Get { key } => is_get_built(subject, key),
+        Verb::Set { key, value } => is_set_built(subject, key, value),
+        _ => true,
     }
 }
 
@@ -69,6 +103,8 @@ fn row(parts: &mut Parts, subject: Subject, verb: &Verb) -> Result<LocalReply, H
         (Subject::Own, Verb::ToBytes) => to_bytes::of_own(parts),
         (Subject::View(k), Verb::ToBytes) => to_bytes::of_view(parts, k),
         (Subject::View(k), Verb::Release) => release::of_view(parts, k),
+        (Subject::Own, Verb::Len) => len::of_own(parts),
+        (Subject::View(k), Verb::Len) => len::of_view(parts, k),
         _ => Err(Halt::Refused(Fault::UnknownName)),
     }
 }
@@ -78,7 +114,7 @@ fn answered(parts: &mut Parts, subject: Subject, verb: &Verb) -> Result<LocalRep
     ensures answer { Answers (spec.answered (seen parts.old) subject verb.now) (seen parts.old) result (seen parts.new) }
     ensures counted { parts.new.exports ≡ exports_of (seen parts.new) }
 {
-    if !is_built(verb) {
+    if !is_built(subject, verb) {
         return Err(Halt::Refused(Fault::UnknownName));
     }
     row(parts, subject, verb)

@@ -56,7 +56,7 @@ pub fn of_view(
     ensures answer { Answers (set_of_view (seen parts.old) view key.now value.now) (seen parts.old) result (seen parts.new) }
     ensures counted { parts.new.exports ≡ exports_of (seen parts.new) }
 {
-    let (place, byte) = target(parts, view, key, value)?;
-    parts.bytes[place] = byte;
+    let (target, byte) = target(parts, view, key, value)?;
+    parts.bytes[target] = byte;
     Ok(LocalReply::Ok)
 }

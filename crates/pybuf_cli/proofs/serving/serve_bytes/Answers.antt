@@ -1,0 +1,18 @@
+use Rattle.std.proofs.Common.{refl}
+use Rattle.pybuf_cli.proofs.Served.{quiet_ran, quiet_refused, quiet_front}
+use Rattle.pybuf_cli.proofs.serving.serve_bytes.Goals as goal
+
+pub returns-clause-done : goal.returns-clause-done
+returns-clause-done c =
+    λ done. quiet_ran c.args.input c.new-source.result c.new-sink.result c.serve_alone-status.new.sink c.into_bytes.result _
+    c.new-source.ensures c.new-sink.ensures c.into_bytes.ensures (c.serve_alone-status.ensures.done done c.new-source.result refl)
+
+pub returns-clause-bad_line : goal.returns-clause-bad_line
+returns-clause-bad_line c =
+    λ bad. quiet_refused c.args.input c.new-source.result c.new-sink.result c.serve_alone-status.new.sink c.into_bytes.result _
+    c.new-source.ensures c.new-sink.ensures c.into_bytes.ensures (c.serve_alone-status.ensures.bad_line bad c.new-source.result refl)
+
+pub returns-clause-prefix : goal.returns-clause-prefix
+returns-clause-prefix c =
+    quiet_front c.args.input c.new-source.result c.new-sink.result c.serve_alone-status.new.sink c.into_bytes.result c.new-source.ensures
+    c.new-sink.ensures c.into_bytes.ensures (c.serve_alone-status.ensures.prefix c.new-source.result refl)

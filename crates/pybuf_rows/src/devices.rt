@@ -1,0 +1,71 @@
+//! Readers and writers that fail in mid-stream, under the top call.
+use pybuf_cli::{QuietSink, QuietSource, ReaderSource, Status, WriterSink, serve_alone};
+use pybuf_value::ByteList;
+use std::io::{Error, ErrorKind, Read, Write};
+use std::test::Fail;
+
+/// The six lines of the program's stored run.
+const INPUT: &[u8] =
+    b"new bytearray x616263\nview h0\nset h1 0 65\nget h1 0\nbytes h1\nrelease h1\n";
+
+/// Gives the first bytes of the input, and fails at the call after.
+#[derive(Drop)]
+struct FaultyReader {
+    calls: u8,
+}
+
+impl Read for FaultyReader {
+    fn read(&mut self, buf: &mut [u8]) -> std::io::Result<usize> {
+        self.calls = self.calls.saturating_add(1);
+        if self.calls > 1 {
+            return Err(Error::from(ErrorKind::Other));
+        }
+        let count = buf.len().min(22);
+        buf[..count].copy_from_slice(&INPUT[..count]);
+        Ok(count)
+    }
+}
+
+/// Keeps the first byte that it is given, and fails at the call after.
+#[derive(Drop)]
+struct FaultyWriter {
+    first: Option<u8>,
+}
+
+impl Write for FaultyWriter {
+    fn write(&mut self, buf: &[u8]) -> std::io::Result<usize> {
+        if self.first.is_some() {
+            return Err(Error::from(ErrorKind::Other));
+        }
+        self.first = buf.first().copied();
+        Ok(buf.len().min(1))
+    }
+
+    fn flush(&mut self) -> std::io::Result<()> {
+        Ok(())
+    }
+}
+
+#[test]
+fn a_source_that_fails(rt: HostRuntime) {
+    let mut source = ReaderSource::new(FaultyReader { calls: 0 });
+    let mut sink = QuietSink::new(rt.alloc());
+    assert_eq!(rt;
+        serve_alone(rt.alloc(), &[], &mut source, &mut sink),
+        Status::ReadFault
+    );
+    assert!(rt; sink.bytes().is_empty());
+    assert_eq!(rt; source.faults(), 1);
+}
+
+#[test]
+fn a_sink_that_fails(rt: HostRuntime) -> Result<(), Fail> {
+    let mut source = QuietSource::new(ByteList::from_vec(Vec::from_slice(rt.alloc(), INPUT)?));
+    let mut sink = WriterSink::new(FaultyWriter { first: None });
+    assert_eq!(rt;
+        serve_alone(rt.alloc(), &[], &mut source, &mut sink),
+        Status::WriteFault
+    );
+    assert_eq!(rt; sink.faults(), 1);
+    Ok(())
+}
