@@ -25,7 +25,7 @@ if_some false true x ps qs rs = ([], qs, refl)
 if_some false false x ps qs rs = onto_some x rs
 
 -- there is always a first part
-some_part : (quoted : Bool) (text : List ℕ) → (first : List ℕ) × (more : List (List ℕ)) × (parts_from quoted text ≡ first ∷ more)
+pub some_part : (quoted : Bool) (text : List ℕ) → (first : List ℕ) × (more : List (List ℕ)) × (parts_from quoted text ≡ first ∷ more)
 some_part quoted [] = ([], [], refl)
 some_part quoted (b ∷ rest) =
     if_some (b == 39) (b == 44 && not quoted) b (parts_from (not quoted) rest) (parts_from quoted rest) (parts_from quoted rest)
@@ -57,14 +57,14 @@ byte_on all done text start i quoted next within here h cuts =
     ∙ (ap (onto_parts done begun) cuts
     ∙ (onto_byte done begun (get_or text i 0) rest ∙ ap (λ l. onto_parts done l rest) (sym (begun_more text start i within here)))))
 
-quote_cuts : (b : ℕ) (quoted : Bool) (rest : List ℕ) → b ≡ 39 → parts_from quoted (b ∷ rest) ≡ onto_first b (parts_from (not quoted) rest)
+pub quote_cuts : (b : ℕ) (quoted : Bool) (rest : List ℕ) → b ≡ 39 → parts_from quoted (b ∷ rest) ≡ onto_first b (parts_from (not quoted) rest)
 quote_cuts b quoted rest e = grind (arith, tests)
 
 comma_cuts : (b : ℕ) (quoted : Bool) (rest : List ℕ) → (b == 39) ≡ false → (b == 44 && not quoted) ≡ true →
     parts_from quoted (b ∷ rest) ≡ [] ∷ parts_from quoted rest
 comma_cuts b quoted rest q c = grind (arith, tests)
 
-other_cuts : (b : ℕ) (quoted : Bool) (rest : List ℕ) → (b == 39) ≡ false → (b == 44 && not quoted) ≡ false →
+pub other_cuts : (b : ℕ) (quoted : Bool) (rest : List ℕ) → (b == 39) ≡ false → (b == 44 && not quoted) ≡ false →
     parts_from quoted (b ∷ rest) ≡ onto_first b (parts_from quoted rest)
 other_cuts b quoted rest q c = grind (arith, tests)
 

@@ -11,3 +11,4 @@ pub mod Commas
 pub mod Colons
 pub mod Printed
 pub mod LineLaws
+pub mod SpellingLaws

@@ -20,7 +20,10 @@ mod writing;
 
 pub use adapters::{ReaderSource, WriterSink};
 pub use devices::{Failed, PutFault, Sink, Source};
-pub use laws::{commands_are_of_lines, lines_are_the_input, words_are_the_line};
+pub use laws::{
+    commands_are_of_lines, enclosed_is_between, lines_are_the_input, parts_are_the_text,
+    scalars_read_back, words_are_the_line,
+};
 pub use memory::{QuietSink, QuietSource};
 pub use serving::{serve, serve_alone, serve_bytes};
 pub use status::Status;
