@@ -38,10 +38,14 @@ word_in text =
     else if bytes_eq text (codes "set") then Some word.Set
     else if bytes_eq text (codes "bytes") then Some word.ToBytes
     else if bytes_eq text (codes "release") then Some word.Release
+    else if bytes_eq text (codes "len") then Some word.Len
     else None
 
 abbrev pub kind_in : List ℕ → Option ExporterKind
-kind_in text = if bytes_eq text (codes "bytearray") then Some kind.ByteArray else None
+kind_in text =
+    if bytes_eq text (codes "bytes") then Some kind.Bytes
+    else if bytes_eq text (codes "bytearray") then Some kind.ByteArray
+    else None
 
 -- the keys that `set` takes: tuples and slices are none
 abbrev pub written_key : Value → Option Value
@@ -66,9 +70,10 @@ verb_in word.Set (key ∷ item ∷ []) = do
   Some (verb.Set k v)
 verb_in word.ToBytes [] = Some verb.ToBytes
 verb_in word.Release [] = Some verb.Release
+verb_in word.Len [] = Some verb.Len
 verb_in _ _ = None
 
--- `new bytearray xHEX`
+-- `new bytes xHEX` and `new bytearray xHEX`
 abbrev pub new_in : List (List ℕ) → Option Command
 new_in (kind ∷ source ∷ []) = do
   k ← kind_in kind

@@ -55,6 +55,10 @@ fn verb_of(alloc: Global, word: Word, arguments: &[&[u8]]) -> Result<Verb, Unrea
             [] => Ok(Verb::Release),
             _ => Err(Unread::NoCommand),
         },
+        Word::Len => match arguments {
+            [] => Ok(Verb::Len),
+            _ => Err(Unread::NoCommand),
+        },
         Word::New => Err(Unread::NoCommand),
     }
 }
