@@ -5,6 +5,7 @@ use Rattle.std.proofs.lemmas.Grind.{common_steps}
 use Rattle.pybuf_value.specs.declared.faults.Fault.{Fault}
 use Rattle.pybuf_value.specs.declared.faults.Fault.TheVariants as fault
 use Rattle.pybuf_value.specs.declared.values.Value.{Value}
+use Rattle.pybuf_value.specs.declared.values.Value.TheVariants as value
 use Rattle.pybuf_value.specs.Refusing.{◌>>=◌, unless}
 use Rattle.pybuf_value.specs.Numbers.{byte_in}
 use Rattle.pybuf_view.specs.declared.kinds.ExporterKind.{ExporterKind}
@@ -25,7 +26,8 @@ use Rattle.pybuf_view.specs.Exporter.{Exporter, View, view_at, live_view}
 use Rattle.pybuf_view.specs.Items.{index_in, place_in, is_none, byte_for_item}
 use Rattle.pybuf_view.specs.Step.{row, answered, is_built, estep, settled, set_in_kind, get_in_kind}
 use Rattle.pybuf_view.specs.Rows.View.{view_of_own, view_of_view, view_again}
-use Rattle.pybuf_view.specs.Rows.Get.{get_of_own, get_of_view}
+use Rattle.pybuf_slice.specs.Parts.{saturated_parts_of}
+use Rattle.pybuf_view.specs.Rows.Get.{byte_of_own, get_of_own, item_of_view, slice_of_view, get_of_view}
 use Rattle.pybuf_view.specs.Rows.Set.{set_of_own, set_target, set_of_view}
 use Rattle.pybuf_view.specs.Rows.ToBytes.{bytes_of_own, bytes_of_view}
 use Rattle.pybuf_view.specs.Rows.Release.{released_at, released_in, release_of_view}
@@ -62,13 +64,31 @@ iterator_row_answers e k verb.ToBytes = tt
 iterator_row_answers e k verb.Release = tt
 iterator_row_answers e k verb.Len = tt
 
+byte_of_own_answers : (e : Exporter) (key : Value) → IsAnswered (byte_of_own e key)
+byte_of_own_answers e key = bind (index_in key) _ (λ index _. bind (place_in (length e.bytes) index) _ (λ place _. refl))
+
+get_of_own_answers : (e : Exporter) (key : Value) → IsAnswered (get_of_own e key)
+get_of_own_answers e (value.Slice slice) = bind (saturated_parts_of slice) _ (λ parts _. refl)
+get_of_own_answers e (value.One s) = byte_of_own_answers e (value.One s)
+get_of_own_answers e (value.Tuple parts) = byte_of_own_answers e (value.Tuple parts)
+get_of_own_answers e (value.List parts) = byte_of_own_answers e (value.List parts)
+get_of_own_answers e (value.Slices slices) = byte_of_own_answers e (value.Slices slices)
+
+item_of_view_answers : (e : Exporter) (k : ℕ) (key : Value) → IsAnswered (item_of_view e k key)
+item_of_view_answers e k key = bind (live_view e k) _ (λ v _. bind (index_in key) _ (λ index _. bind (place_in (length v.starts) index) _ (λ place _. refl)))
+
+get_of_view_answers : (e : Exporter) (k : ℕ) (key : Value) → IsAnswered (get_of_view e k key)
+get_of_view_answers e k (value.Slice slice) = bind (slice_of_view e k slice) _ (λ v _. refl)
+get_of_view_answers e k (value.One s) = item_of_view_answers e k (value.One s)
+get_of_view_answers e k (value.Tuple parts) = item_of_view_answers e k (value.Tuple parts)
+get_of_view_answers e k (value.List parts) = item_of_view_answers e k (value.List parts)
+get_of_view_answers e k (value.Slices slices) = item_of_view_answers e k (value.Slices slices)
+
 row_answers : (e : Exporter) (s : Subject) (v : Verb) → IsAnswered (row e s v)
 row_answers e subject.Own verb.View = refl
 row_answers e (subject.View k) verb.View = bind (view_again e k) _ (λ v _. refl)
-row_answers e subject.Own (verb.Get key) =
-    get_in_kind_answers e.kind (get_of_own e key) (bind (index_in key) _ (λ index _. bind (place_in (length e.bytes) index) _ (λ place _. refl)))
-row_answers e (subject.View k) (verb.Get key) =
-    bind (live_view e k) _ (λ v _. bind (index_in key) _ (λ index _. bind (place_in (length v.starts) index) _ (λ place _. refl)))
+row_answers e subject.Own (verb.Get key) = get_in_kind_answers e.kind (get_of_own e key) (get_of_own_answers e key)
+row_answers e (subject.View k) (verb.Get key) = get_of_view_answers e k key
 row_answers e subject.Own (verb.Set key value) =
     set_in_kind_answers e.kind e (set_of_own e key value)
     (bind (index_in key) _ (λ index _. bind (byte_in value) _ (λ byte _. bind (place_in (length e.bytes) index) _ (λ place _. refl))))

@@ -1,15 +1,17 @@
 -- Every row keeps an exporter sound.
-use Rattle.std.proofs.Common.{◌≡◌, ℕ, ◌<◌, List, [], ◌∷◌, length, Bool, true, false, true≢false, ap, sym, ◌∙◌, refl, subst, arith}
+use Rattle.std.proofs.Common.{◌≡◌, ℕ, ◌+◌, ◌≤◌, ◌<◌, List, [], ◌∷◌, length, Bool, true, false, true≢false, ap, sym, ◌∙◌, refl, subst, arith}
 use Rattle.std.specs.Prelude.{ℤ, pos, negsuc, if◌then◌else◌, Option, Some, None, Result, Ok, Err, slice_get, slice_index}
-use Rattle.std.specs.List.{All}
+use Rattle.std.specs.List.{All, cons_option}
 use Rattle.std.specs.Option.{ok_or}
 use Rattle.std.proofs.lemmas.Grind.{common_steps}
-use Rattle.std.proofs.lemmas.List.Elements.{All-push, All-set, All-weaker}
+use Rattle.std.proofs.lemmas.List.Elements.{All-push, All-nil, All-cons, All-set, All-weaker}
 use Rattle.std.proofs.lemmas.List.FromFn.{length-range_with_len, get_or-range_with_len}
 use Rattle.std.proofs.lemmas.Option.{slice_get_within, get_or_from_slice_get}
 use Rattle.pybuf_value.specs.declared.faults.Fault.{Fault}
 use Rattle.pybuf_value.specs.declared.faults.Fault.TheVariants as fault
 use Rattle.pybuf_value.specs.declared.values.Value.{Value}
+use Rattle.pybuf_value.specs.declared.values.Value.TheVariants as value
+use Rattle.pybuf_value.specs.declared.values.PySlice.{PySlice}
 use Rattle.pybuf_value.specs.Refusing.{◌>>=◌, unless}
 use Rattle.pybuf_value.specs.Numbers.{byte_in}
 use Rattle.pybuf_view.specs.declared.kinds.ExporterKind.{ExporterKind}
@@ -25,7 +27,10 @@ use Rattle.pybuf_view.specs.Items.{index_in, place_in, is_none, byte_for_item}
 use Rattle.pybuf_view.specs.Sound.{IsHeld, IsHeldOrReleased, IsSoundExporter}
 use Rattle.pybuf_view.specs.Step.{row, answered, is_built, estep, settled, set_in_kind, get_in_kind}
 use Rattle.pybuf_view.specs.Rows.View.{view_of_own, view_of_view, view_again}
-use Rattle.pybuf_view.specs.Rows.Get.{get_of_own, get_of_view}
+use Rattle.pybuf_slice.specs.Parts.{SliceParts, saturated_parts_of, picks_of}
+use Rattle.pybuf_slice.specs.Reads.{elements_at}
+use Rattle.pybuf_view.specs.Slices.{sliced}
+use Rattle.pybuf_view.specs.Rows.Get.{byte_of_own, get_of_own, item_of_view, slice_of_view, get_of_view}
 use Rattle.pybuf_view.specs.Rows.Set.{set_of_own, set_target, set_of_view}
 use Rattle.pybuf_view.specs.Rows.Release.{released_at, released_in, release_of_view}
 use Rattle.pybuf_view.proofs.Laid.{laid_one}
@@ -146,16 +151,58 @@ pub reads_bind : {A : Type 0} (e : Exporter) (r : Result A Fault) (f : A → Loc
 reads_bind e (Ok a) f sound = sound
 reads_bind e (Err f) g sound = tt
 
-pub get_of_own_sound : (e : Exporter) (key : Value) → IsSoundExporter e → IsSoundAfter (get_of_own e key)
-get_of_own_sound e key sound =
+byte_of_own_sound : (e : Exporter) (key : Value) → IsSoundExporter e → IsSoundAfter (byte_of_own e key)
+byte_of_own_sound e key sound =
     sound_bind (index_in key) _ (λ index _.
     sound_bind (place_in (length e.bytes) index) _ (λ place _. sound))
 
-pub get_of_view_sound : (e : Exporter) (k : ℕ) (key : Value) → IsSoundExporter e → IsSoundAfter (get_of_view e k key)
-get_of_view_sound e k key sound =
+pub get_of_own_sound : (e : Exporter) (key : Value) → IsSoundExporter e → IsSoundAfter (get_of_own e key)
+get_of_own_sound e (value.Slice slice) sound = sound_bind (saturated_parts_of slice) _ (λ parts _. sound)
+get_of_own_sound e (value.One s) sound = byte_of_own_sound e (value.One s) sound
+get_of_own_sound e (value.Tuple parts) sound = byte_of_own_sound e (value.Tuple parts) sound
+get_of_own_sound e (value.List parts) sound = byte_of_own_sound e (value.List parts) sound
+get_of_own_sound e (value.Slices slices) sound = byte_of_own_sound e (value.Slices slices) sound
+
+item_of_view_sound : (e : Exporter) (k : ℕ) (key : Value) → IsSoundExporter e → IsSoundAfter (item_of_view e k key)
+item_of_view_sound e k key sound =
     sound_bind (live_view e k) _ (λ v _.
     sound_bind (index_in key) _ (λ index _.
     sound_bind (place_in (length v.starts) index) _ (λ place _. sound)))
+
+found_element : {X : Type 0} (P : X → Type 0) (xs : List X) (i : ℕ) (indices : List ℕ) → All P xs → (o : Option X) → slice_get xs i ≡ o → All P (elements_at xs indices) → All P (cons_option o (elements_at xs indices))
+found_element P xs i indices all None at rest = rest
+found_element P xs i indices all (Some x) at rest = All-cons P x (elements_at xs indices) (All-slice_get P xs i x all at) rest
+
+-- what holds of each element holds of those at any indices
+pub All-elements_at : {X : Type 0} (P : X → Type 0) (xs : List X) (indices : List ℕ) → All P xs → All P (elements_at xs indices)
+All-elements_at P xs [] all = All-nil P
+All-elements_at P xs (i ∷ indices) all = found_element P xs i indices all (slice_get xs i) refl (All-elements_at P xs indices all)
+
+sliced_held : (bytes : List ℕ) (v : View) (parts : SliceParts) → IsHeld bytes v → IsHeld bytes (sliced v (length bytes) parts)
+sliced_held bytes v parts held = record {
+  inside = All-elements_at (λ start. start + v.itemsize ≤ length bytes) v.starts (picks_of (length v.starts) parts) held.inside;
+  length_kept = refl;
+}
+
+slice_of_view_done : (e : Exporter) (k : ℕ) (slice : PySlice) → IsSoundExporter e → IfDone (λ (v : View). (v.itemsize ≡ 1) × IsHeld e.bytes v) (slice_of_view e k slice)
+slice_of_view_done e k slice sound =
+    let P : View → Type 0 = λ v. (v.itemsize ≡ 1) × IsHeld e.bytes v in
+    done_bind P (live_view e k) _ (λ v live.
+    done_bind P (saturated_parts_of slice) _ (λ parts _.
+    (live_view_bytes e k v sound live, sliced_held e.bytes v parts (live_view_held e k v sound live))))
+
+slice_row_sound : (e : Exporter) (k : ℕ) (slice : PySlice) → IsSoundExporter e → IsSoundAfter (get_of_view e k (value.Slice slice))
+slice_row_sound e k slice sound =
+    sound_bind (slice_of_view e k slice) _ (λ v found.
+    let held = done (λ (w : View). (w.itemsize ≡ 1) × IsHeld e.bytes w) (slice_of_view e k slice) v (slice_of_view_done e k slice sound) found in
+    with_view_sound e v sound held.0 held.1)
+
+pub get_of_view_sound : (e : Exporter) (k : ℕ) (key : Value) → IsSoundExporter e → IsSoundAfter (get_of_view e k key)
+get_of_view_sound e k (value.Slice slice) sound = slice_row_sound e k slice sound
+get_of_view_sound e k (value.One s) sound = item_of_view_sound e k (value.One s) sound
+get_of_view_sound e k (value.Tuple parts) sound = item_of_view_sound e k (value.Tuple parts) sound
+get_of_view_sound e k (value.List parts) sound = item_of_view_sound e k (value.List parts) sound
+get_of_view_sound e k (value.Slices slices) sound = item_of_view_sound e k (value.Slices slices) sound
 
 pub set_of_own_sound : (e : Exporter) (key value : Value) → IsSoundExporter e → IsSoundAfter (set_of_own e key value)
 set_of_own_sound e key value sound =

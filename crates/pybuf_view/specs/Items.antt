@@ -1,5 +1,5 @@
 -- Items: which place a key names, what an item reads as, and which bytes a value is written as.
-use Rattle.std.specs.Prelude.{ℕ, map, ◌-◌, suc, List, ℤ, pos, negsuc, Bool, true, false, Result, Ok, Err, nat_lt, slice_index, if◌then◌else◌}
+use Rattle.std.specs.Prelude.{ℕ, ◌-◌, suc, List, ℤ, pos, negsuc, Bool, true, false, Result, Ok, Err, nat_lt, slice_index, if◌then◌else◌}
 use Rattle.pybuf_value.specs.declared.faults.Fault.{Fault}
 use Rattle.pybuf_value.specs.declared.faults.Fault.TheVariants as fault
 use Rattle.pybuf_value.specs.declared.values.Scalar.TheVariants as scalar
@@ -50,7 +50,3 @@ is_tuple _ = false
 abbrev pub is_slice : Value → Bool
 is_slice (value.Slice s) = true
 is_slice _ = false
-
--- the elements at indices, in their order
-abbrev pub picked : List ℕ → List ℕ → List ℕ
-picked xs indices = map (λ i. slice_index xs i) indices

@@ -24,8 +24,8 @@ use Rattle.pybuf_view.specs.Rows.Len.{len_of_own, len_of_view}
 -- view is no tuple, and a key that is written at is neither a tuple nor a slice. Every other
 -- spelling is answered as an unknown name.
 abbrev pub is_built : Subject → Verb → Bool
-is_built (subject.View k) (verb.Get key) = not (holds_handle key) && not (is_tuple key) && not (is_slice key)
-is_built s (verb.Get key) = not (holds_handle key) && not (is_slice key)
+is_built (subject.View k) (verb.Get key) = not (holds_handle key) && not (is_tuple key)
+is_built s (verb.Get key) = not (holds_handle key)
 is_built s (verb.Set key value) = not (holds_handle key) && not (holds_handle value) && not (is_tuple key) && not (is_slice key)
 is_built s _ = true
 

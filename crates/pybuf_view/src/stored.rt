@@ -1,9 +1,13 @@
 //! A view as it is kept: with the list of its places.
-ghost use Rattle.std.specs.Prelude.{◌≡◌, ◌<◌, ◌^◌, [], ◌∷◌, true, length, slice_index, IfOk};
+ghost use Rattle.std.specs.Prelude.{◌≡◌, ◌<◌, ◌^◌, ◌*ℤ◌, [], ◌∷◌, true, length, slice_index, IfOk};
 ghost use Rattle.std.specs.List.{range_with_len};
+ghost use Rattle.pybuf_slice.specs.Parts.{clamped};
+ghost use Rattle.pybuf_view.specs.Slices.{strides_after};
 
 use crate::kinds::ExporterKind;
-use pybuf_value::{CountList, Made, NumberList, Text, Twin};
+use pybuf_slice::SaturatedSlice;
+use pybuf_slice::slices::getitem_by_slice;
+use pybuf_value::{CountList, Made, Text, Twin, saturate};
 use std::alloc::Global;
 use std::marker::Model;
 
@@ -15,7 +19,7 @@ pub struct StoredView {
     itemsize: usize,
     shape: CountList,
     starts: CountList,
-    strides: NumberList,
+    strides: Vec<isize>,
     readonly: bool,
     released: bool,
 }
@@ -31,7 +35,7 @@ impl Model for StoredView {
       itemsize = v.itemsize;
       shape = v.shape;
       starts = v.starts;
-      strides = v.strides;
+      strides = v.strides.items;
       readonly = v.readonly;
       released = v.released;
     } };
@@ -45,12 +49,30 @@ fn one_count(alloc: Global, count: usize) -> Made<CountList>
     Ok(list)
 }
 
-fn one_number(alloc: Global, number: i128) -> Made<NumberList>
-    ensures { IfOk result (λ list. list ≡ number ∷ []) }
+fn one_stride(alloc: Global, stride: isize) -> Made<Vec<isize>>
+    ensures { IfOk result (λ list. list.items ≡ stride ∷ []) }
 {
-    let mut list = NumberList::new(alloc);
-    list.push(number)?;
+    let mut list = Vec::new(alloc);
+    list.push(stride)?;
     Ok(list)
+}
+
+/// The strides after a step.
+fn strides_after(alloc: Global, step: isize, strides: &[isize]) -> Made<Vec<isize>>
+    ensures { IfOk result (λ after. after.items ≡ strides_after step strides.now) }
+{
+    let mut after = Vec::from_slice(alloc, strides)?;
+    if let Some(first) = strides.first() {
+        after[0] = scaled(*first, step);
+    }
+    Ok(after)
+}
+
+/// A stride times a step, at the nearest `isize`.
+fn scaled(stride: isize, step: isize) -> isize
+    ensures { result ≡ clamped (stride *ℤ step) }
+{
+    saturate(stride as i128 * step as i128)
 }
 
 fn format_of_bytes(alloc: Global) -> Made<Text>
@@ -75,6 +97,7 @@ fn places(alloc: Global, len: usize) -> Made<CountList>
 
 impl StoredView {
     ghost use Rattle.pybuf_view.specs.Exporter.{whole_of};
+    ghost use Rattle.pybuf_view.specs.Slices as spec;
 
     /// The view of all of `len` bytes of an exporter.
     pub fn whole(alloc: Global, kind: ExporterKind, len: usize) -> Made<StoredView>
@@ -83,7 +106,7 @@ impl StoredView {
         let format = format_of_bytes(alloc)?;
         let shape = one_count(alloc, len)?;
         let starts = places(alloc, len)?;
-        let strides = one_number(alloc, 1)?;
+        let strides = one_stride(alloc, 1)?;
         Ok(StoredView {
             made_at: len,
             format,
@@ -103,13 +126,34 @@ impl StoredView {
         let format = self.format.copy(alloc)?;
         let shape = self.shape.copy(alloc)?;
         let starts = self.starts.copy(alloc)?;
-        let strides = self.strides.copy(alloc)?;
+        let strides = Vec::from_slice(alloc, self.strides.as_slice())?;
         Ok(StoredView {
             made_at,
             format,
             itemsize: self.itemsize,
             shape,
             starts,
+            strides,
+            readonly: self.readonly,
+            released: self.released,
+        })
+    }
+
+    /// The view of the places that a slice picks, made at this length of the exporter.
+    pub fn sliced(&self, alloc: Global, made_at: usize, slice: SaturatedSlice) -> Made<StoredView>
+        ensures { IfOk result (λ v. v ≡ spec.sliced self.now made_at slice) }
+    {
+        let (_, step, count) = slice.adjust_indices(self.items());
+        let format = self.format.copy(alloc)?;
+        let shape = one_count(alloc, count)?;
+        let starts = getitem_by_slice(alloc, self.starts.as_slice(), slice)?;
+        let strides = strides_after(alloc, step, self.strides.as_slice())?;
+        Ok(StoredView {
+            made_at,
+            format,
+            itemsize: self.itemsize,
+            shape,
+            starts: CountList::from_vec(starts),
             strides,
             readonly: self.readonly,
             released: self.released,

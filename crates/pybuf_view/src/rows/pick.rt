@@ -31,9 +31,6 @@ fn is_get_built(subject: Subject, key: &Value) -> bool
     if !is_plain(key) {
         return false;
     }
-    if is_slice(key) {
-        return false;
-    }
     match subject {
         Subject::View(_) => !is_tuple(key),
         _ => true,

@@ -1,0 +1,26 @@
+-- What the index list of a slice is, beside its definition.
+use Rattle.std.specs.Prelude.{◌≡◌, ◌≢◌, ◌↔◌, ℕ, ◌<◌, ◌^◌, ℤ, pos, ◌+ℤ◌, ◌*ℤ◌, List, Option, IsTrue, All, AllPairs, Contains}
+use Rattle.pybuf_slice.specs.Picks.{start_of, stop_of, comes_before, picks}
+use Rattle.pybuf_slice.specs.Parts.{clamped, clamped_part}
+
+-- a number of steps from the start, and before the stop in the direction of the step
+abbrev pub IsPick : ℕ → Option ℤ → Option ℤ → ℤ → ℕ → Type 0
+IsPick n start stop step i =
+    (k : ℕ)
+    × (pos i ≡ start_of n start step +ℤ pos k *ℤ step)
+    × IsTrue (comes_before (pos i) (stop_of n stop step) step)
+
+-- which numbers the indices are: those and no others, each a place of an item, and each before
+-- all later ones in the direction of the step
+pub record PicksAre (n : ℕ) (start stop : Option ℤ) (step : ℤ) : Type 0 where
+  pub members : (i : ℕ) → Contains (picks n start stop step) i ↔ IsPick n start stop step i
+  pub inside : All (λ i. i < n) (picks n start stop step)
+  pub ordered : AllPairs (λ i j. IsTrue (comes_before (pos i) (pos j) step)) (picks n start stop step)
+
+-- a sequence that fits in memory has the same indices where each part is the nearest `isize`
+abbrev pub SameWhenClamped : ℕ → Option ℤ → Option ℤ → ℤ → Type 0
+SameWhenClamped n start stop step =
+    n < 2 ^ 63 → picks n (clamped_part start) (clamped_part stop) (clamped step) ≡ picks n start stop step
+
+abbrev pub EachSlice : (ℕ → Option ℤ → Option ℤ → ℤ → Type 0) → Type 0
+EachSlice P = (n : ℕ) (start stop : Option ℤ) (step : ℤ) → step ≢ pos 0 → P n start stop step

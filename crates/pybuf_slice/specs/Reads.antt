@@ -1,0 +1,26 @@
+-- What is read of a sequence.
+use Rattle.std.specs.Prelude.{ℕ, ℤ, pos, neg_ℤ, Bool, true, false, List, length, Option, None, Some, slice_get}
+use Rattle.std.specs.List.{filter_map}
+use Rattle.std.specs.Option.{option_and_then}
+use Rattle.pybuf_value.specs.declared.faults.Fault.TheVariants as fault
+use Rattle.pybuf_value.specs.declared.faults.Outcome.{Outcome}
+use Rattle.pybuf_value.specs.declared.faults.Outcome.TheVariants as outcome
+use Rattle.pybuf_slice.specs.Places.{item_place}
+
+-- the elements at the indices, in their order
+abbrev pub elements_at : {X : Type 0} → List X → List ℕ → List X
+elements_at items indices = filter_map (slice_get items) indices
+
+-- refused with `IndexError` where there is nothing
+abbrev pub item_or_index_error : {X : Type 0} → Option X → Outcome X
+item_or_index_error None = outcome.Refused fault.Index
+item_or_index_error (Some item) = outcome.Done item
+
+-- the element that a number names; a negative one counts from the end
+abbrev pub item_at : {X : Type 0} → List X → ℤ → Outcome X
+item_at items number = item_or_index_error (option_and_then (slice_get items) (item_place (length items) number))
+
+-- a step of this size, up or down
+abbrev pub signed_step : Bool → ℕ → ℤ
+signed_step false size = pos size
+signed_step true size = neg_ℤ (pos size)

@@ -1,0 +1,148 @@
+//! Reading a sequence by indices.
+ghost use Rattle.std.specs.Prelude.{◌≡◌, ◌<◌, ◌≤◌, ◌^◌, ℕ, ℤ, List, [], length, reverse, IfOk, OnErr, IsSome, Some, true, false, slice_get, slice_range};
+ghost use Rattle.pybuf_slice.specs.Parts.{SliceParts, picks_of};
+ghost use Rattle.pybuf_slice.specs.Places.{saturated_place, item_place};
+ghost use Rattle.pybuf_slice.specs.Runs.{picks_in_span};
+ghost use Rattle.pybuf_slice.specs.Reads.{elements_at, item_at, signed_step};
+
+use crate::saturated::SaturatedSlice;
+use crate::slices;
+use pybuf_value::{Made, Tried, Twin};
+use std::alloc::Global;
+use std::ops::Range;
+
+/// A sequence whose elements are read by numbers and slices. An element that is read is an equal
+/// copy. Only want of memory makes a call fail.
+pub trait SliceableSequenceOp: Sized {
+    type Item;
+
+    ghost elements: { Self → List Self.Item };
+
+    /// The element at a place.
+    fn do_get(&self, alloc: Global, index: usize) -> Made<Self::Item>
+        requires { index < length (elements self.now) }
+        ensures { IfOk result (λ item. Some item ≡ slice_get (elements self.now) index) };
+
+    /// The elements of a range.
+    fn do_slice(&self, alloc: Global, range: Range<usize>) -> Made<Vec<Self::Item>>
+        requires ordered { range.start ≤ range.end }
+        requires inside { range.end ≤ length (elements self.now) }
+        ensures { IfOk result (λ list. list.items ≡ slice_range (elements self.now) range.start range.end) };
+
+    /// The elements of a range, the last first.
+    fn do_slice_reverse(&self, alloc: Global, range: Range<usize>) -> Made<Vec<Self::Item>>
+        requires ordered { range.start ≤ range.end }
+        requires inside { range.end ≤ length (elements self.now) }
+        ensures { IfOk result (λ list. list.items ≡ reverse (slice_range (elements self.now) range.start range.end)) };
+
+    /// Every `step`-th element of a range, from its first.
+    fn do_stepped_slice(
+        &self,
+        alloc: Global,
+        range: Range<usize>,
+        step: usize,
+    ) -> Made<Vec<Self::Item>>
+        requires ordered { range.start ≤ range.end }
+        requires inside { range.end ≤ length (elements self.now) }
+        requires in_memory { length (elements self.now) < 2 ^ 63 }
+        requires moves { 0 < step }
+        ensures { IfOk result (λ list. list.items ≡ elements_at (elements self.now) (picks_in_span range.start range.end (signed_step false step))) };
+
+    /// Every `step`-th element of a range, from its last down.
+    fn do_stepped_slice_reverse(
+        &self,
+        alloc: Global,
+        range: Range<usize>,
+        step: usize,
+    ) -> Made<Vec<Self::Item>>
+        requires ordered { range.start ≤ range.end }
+        requires inside { range.end ≤ length (elements self.now) }
+        requires in_memory { length (elements self.now) < 2 ^ 63 }
+        requires moves { 0 < step }
+        ensures { IfOk result (λ list. list.items ≡ elements_at (elements self.now) (picks_in_span range.start range.end (signed_step true step))) };
+
+    /// No elements. Takes no memory.
+    fn empty(alloc: Global) -> Vec<Self::Item>
+        ensures { result.items ≡ [] };
+
+    /// The number of elements.
+    fn len(&self) -> usize
+        ensures { result ≡ length (elements self.now) };
+
+    /// The place of the element that a number names: `None` exactly where there is none.
+    fn wrap_index(&self, p: isize) -> Option<usize>
+        requires { length (elements self.now) < 2 ^ 63 }
+        ensures { result ≡ item_place (length (elements self.now)) p };
+
+    /// The place from 0 to the length that is nearest to a number.
+    fn saturate_index(&self, p: isize) -> usize
+        requires { length (elements self.now) < 2 ^ 63 }
+        ensures { result ≡ saturated_place (length (elements self.now)) p };
+
+    /// The elements at the indices of a slice, in their order.
+    fn getitem_by_slice(&self, alloc: Global, slice: SaturatedSlice) -> Made<Vec<Self::Item>>
+        requires { length (elements self.now) < 2 ^ 63 }
+        ensures { IfOk result (λ list. list.items ≡ elements_at (elements self.now) (picks_of (length (elements self.now)) slice)) };
+
+    /// The element that a number names. Refused with `IndexError` exactly where there is none,
+    /// and memory is taken only where there is one.
+    fn getitem_by_index(&self, alloc: Global, index: isize) -> Tried<Self::Item>
+        requires { length (elements self.now) < 2 ^ 63 }
+        ensures item { IfOk result (λ outcome. outcome ≡ item_at (elements self.now) index) }
+        ensures memory { OnErr result (IsSome (item_place (length (elements self.now)) index)) };
+}
+
+impl<T: Twin + Drop> SliceableSequenceOp for Vec<T> {
+    type Item = T;
+
+    ghost elements = { λ list. list.items };
+
+    fn do_get(&self, alloc: Global, index: usize) -> Made<T> {
+        slices::do_get(alloc, self.as_slice(), index)
+    }
+
+    fn do_slice(&self, alloc: Global, range: Range<usize>) -> Made<Vec<T>> {
+        slices::do_slice(alloc, self.as_slice(), range)
+    }
+
+    fn do_slice_reverse(&self, alloc: Global, range: Range<usize>) -> Made<Vec<T>> {
+        slices::do_slice_reverse(alloc, self.as_slice(), range)
+    }
+
+    fn do_stepped_slice(&self, alloc: Global, range: Range<usize>, step: usize) -> Made<Vec<T>> {
+        slices::do_stepped_slice(alloc, self.as_slice(), range, step)
+    }
+
+    fn do_stepped_slice_reverse(
+        &self,
+        alloc: Global,
+        range: Range<usize>,
+        step: usize,
+    ) -> Made<Vec<T>> {
+        slices::do_stepped_slice_reverse(alloc, self.as_slice(), range, step)
+    }
+
+    fn empty(alloc: Global) -> Vec<T> {
+        slices::empty(alloc)
+    }
+
+    fn len(&self) -> usize {
+        self.as_slice().len()
+    }
+
+    fn wrap_index(&self, p: isize) -> Option<usize> {
+        slices::wrap_index(self.as_slice(), p)
+    }
+
+    fn saturate_index(&self, p: isize) -> usize {
+        slices::saturate_index(self.as_slice(), p)
+    }
+
+    fn getitem_by_slice(&self, alloc: Global, slice: SaturatedSlice) -> Made<Vec<T>> {
+        slices::getitem_by_slice(alloc, self.as_slice(), slice)
+    }
+
+    fn getitem_by_index(&self, alloc: Global, index: isize) -> Tried<T> {
+        slices::getitem_by_index(alloc, self.as_slice(), index)
+    }
+}
