@@ -1,6 +1,6 @@
 -- Commands of lines, one line on.
-use Rattle.std.proofs.Common.{◌≡◌, ℕ, ◌+◌, ◌<◌, List, [], ◌∷◌, ◌++◌, length, drop, map, refl, sym, ◌∙◌, ap, Bor, Result, Ok, Err, Option, Some, None}
-use Rattle.std.proofs.lemmas.List.{append_assoc, drop_more, append-nil, drop_all}
+use Rattle.std.proofs.Common.{◌≡◌, ℕ, ◌+◌, List, [], ◌∷◌, ◌++◌, drop, map, refl, sym, ◌∙◌, ap, Bor, Result, Ok, Err, Some, None}
+use Rattle.std.proofs.lemmas.List.{append_assoc}
 use Rattle.pybuf_view.specs.declared.commands.Command.{Command}
 use Rattle.pybuf_cli.specs.Lines.{command_in, commands_from, before}
 

@@ -12,3 +12,4 @@ pub mod Colons
 pub mod Printed
 pub mod LineLaws
 pub mod SpellingLaws
+pub mod ReplyLaws

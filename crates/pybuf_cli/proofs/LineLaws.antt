@@ -1,11 +1,11 @@
 -- The laws of lines, words and commands.
-use Rattle.std.proofs.Common.{◌≡◌, ◌⊎◌, inl, inr, ℕ, ◌+◌, zero, suc, List, [], ◌∷◌, ◌++◌, length, map, Bool, true, false, cond, ◌==◌, ◌||◌, Option, Some, None, Result, Ok, Err, refl, sym, ◌∙◌, ap, arith, tests}
-use Rattle.std.specs.List.{flat_map, join_with_byte, list_any, slice_split, onto_first, AllByRecursion}
+use Rattle.std.proofs.Common.{◌≡◌, ◌⊎◌, inl, inr, ℕ, ◌+◌, List, [], ◌∷◌, ◌++◌, length, map, Bool, true, false, cond, ◌==◌, ◌||◌, Option, Some, None, Result, Ok, Err, refl, sym, ◌∙◌, ap, arith, tests}
+use Rattle.std.specs.List.{flat_map, join_with_byte, list_any, onto_first, AllByRecursion}
 use Rattle.std.proofs.lemmas.List.{append_assoc, append-nil}
 use Rattle.std.proofs.lemmas.List.Splits.{join_with_byte-slice_split}
 use Rattle.pybuf_view.specs.declared.commands.Command.{Command}
 use Rattle.pybuf_cli.specs.Parts.{parts_at}
-use Rattle.pybuf_cli.specs.Lines.{lines, words, without_empty_last, command_in, commands_in, commands_from, before}
+use Rattle.pybuf_cli.specs.Lines.{lines, without_empty_last, command_in, commands_from, before}
 use Rattle.pybuf_cli.specs.Laws.{ended, LinesJoin, IsOneLine, LinesAreSingle, WordsJoin, CommandsAreOfLines, BadLineIsFirst}
 
 pub words_join : WordsJoin

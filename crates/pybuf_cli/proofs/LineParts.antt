@@ -1,7 +1,6 @@
 -- The parts of an input, with and without an empty last one.
 use Rattle.std.proofs.Common.{◌≡◌, ◌≢◌, ℕ, List, [], ◌∷◌, ◌++◌, length, map, refl, sym, ◌∙◌, ap, arith, tests, append-nil, Bool, true, false, ◌==◌, Bor}
 use Rattle.std.proofs.lemmas.List.{map-append, nil_from_length}
-use Rattle.std.specs.Prelude.{Option, Some, None}
 use Rattle.pybuf_cli.specs.Parts.{parts_at}
 use Rattle.pybuf_cli.specs.Lines.{lines, without_empty_last}
 

@@ -2,7 +2,6 @@
 use Rattle.std.proofs.Common.{◌≡◌, ◌<◌, ℕ, ◌+◌, ◌≤◌, List, [], ◌∷◌, ◌++◌, take, drop, length, Option, Some, get_or, refl, sym, ◌∙◌, ap, subst, arith}
 use Rattle.std.proofs.lemmas.List.{append_assoc, append-nil, length-append, take-append-drop, take_at, take_all, take_more}
 use Rattle.std.proofs.lemmas.Grind.{flat_map-append}
-use Rattle.std.specs.List.{flat_map}
 use Rattle.pybuf_view.specs.declared.commands.Reply.{Reply}
 use Rattle.pybuf_cli.specs.Devices.{Put, PutPrefix, Sends}
 use Rattle.pybuf_cli.specs.Replies.{reply_line, reply_lines}

@@ -1,5 +1,5 @@
 -- What was read and put, where the source tells its bytes.
-use Rattle.std.proofs.Common.{◌≡◌, ℕ, ◌<◌, ◌≤◌, suc, List, [], ◌++◌, length, take, drop, Option, Some, Result, Ok, Err, refl, sym, ◌∙◌, ap, subst, arith}
+use Rattle.std.proofs.Common.{◌≡◌, ℕ, ◌≤◌, List, [], ◌++◌, length, take, drop, Option, Some, Ok, Err, refl, sym, ◌∙◌, ap, arith}
 use Rattle.std.proofs.lemmas.List.{append-nil, nil_from_length, length-append, drop_at}
 use Rattle.pybuf_view.specs.declared.commands.Command.{Command}
 use Rattle.pybuf_view.specs.World.{empty_world}
@@ -7,7 +7,7 @@ use Rattle.pybuf_view.specs.Sound.{StaysSound}
 use Rattle.pybuf_cli.specs.Devices.{Took, AtEnd, Put, PutPrefix}
 use Rattle.pybuf_cli.specs.Lines.{commands_in}
 use Rattle.pybuf_cli.specs.Replies.{bad_line_text}
-use Rattle.pybuf_cli.specs.Program.{most, program, text_due, IsDone, IsBadLine, IsTooLong}
+use Rattle.pybuf_cli.specs.Program.{most, program, text_due, IsRun, IsDone, IsBadLine, IsTooLong}
 
 -- what was taken up to the end is all that there was
 pub took_all : (old new : Option (List ℕ)) (input bytes : List ℕ) → Took old bytes new → AtEnd new → old ≡ Some input →
@@ -31,6 +31,21 @@ ran old new held_before held input bytes lent took end short same done told =
       sound = done.2;
       put = done.3;
     }
+
+pub ran_some : (old new held_before held : Option (List ℕ)) (bytes lent : List ℕ) → Took old bytes new → AtEnd new →
+    length bytes ≤ most → lent ≡ bytes →
+    ((commands : List Command) × (commands_in lent ≡ Ok commands) × StaysSound empty_world commands × Put held_before (program commands) held) →
+    IsRun old new held_before held
+ran_some old new held_before held bytes lent took end short same done = record {
+  input = bytes;
+  taken = took;
+  ended = end;
+  short = short;
+  commands = done.0;
+  spelled = sym (ap commands_in same) ∙ done.1;
+  sound = done.2;
+  put = done.3;
+}
 
 pub refused : (old new held_before held : Option (List ℕ)) (input bytes lent : List ℕ) → Took old bytes new → AtEnd new →
     length bytes ≤ most → lent ≡ bytes →

@@ -1,5 +1,5 @@
 -- What is taken from a source and put into a sink, where these tell their bytes, and the counts of their faults.
-use Rattle.std.specs.Prelude.{◌≡◌, ℕ, ◌-◌, ◌<◌, ◌≤◌, ◌^◌, ◌⊎◌, List, ◌++◌, length, take, Option, Some, Result, Ok, Err}
+use Rattle.std.specs.Prelude.{◌≡◌, ℕ, ◌-◌, ◌<◌, ◌≤◌, ◌^◌, ◌⊎◌, List, ◌++◌, length, take, Option, Some}
 
 -- The source had the bytes before what is left.
 abbrev pub Took : Option (List ℕ) → List ℕ → Option (List ℕ) → Type 0

@@ -1,5 +1,5 @@
 -- Laws of lines, of their commands and values, and of the texts of replies.
-use Rattle.std.specs.Prelude.{◌≡◌, ◌⊎◌, ℕ, ◌+◌, ◌^◌, ◌<◌, ℤ, pos, negsuc, IsTrue, codes, decimal, List, [], ◌∷◌, ◌++◌, length, map, ◌==◌, Bool, false, Option, Some, None, Ok, Err}
+use Rattle.std.specs.Prelude.{◌≡◌, ◌⊎◌, ℕ, ◌+◌, ◌^◌, ◌<◌, ℤ, pos, negsuc, IsTrue, codes, decimal, List, [], ◌∷◌, ◌++◌, length, map, ◌==◌, false, Option, Some, None, Ok, Err}
 use Rattle.std.specs.Str.{byte}
 use Rattle.std.specs.Fmt.{signed_decimal}
 use Rattle.std.specs.List.{flat_map, join_with_byte, list_any, AllByRecursion}
@@ -11,7 +11,7 @@ use Rattle.hex.specs.Hex.{IsBytes, encode_lower}
 use Rattle.pybuf_cli.specs.Lines.{lines, words, command_in, commands_in}
 use Rattle.pybuf_cli.specs.Parts.{parts_outside_quotes}
 use Rattle.pybuf_cli.specs.Scalars.{enclosed, is_text, scalar_in}
-use Rattle.pybuf_cli.specs.Replies.{truth_text}
+use Rattle.pybuf_cli.specs.Replies.{truth_text, reply_text}
 
 -- a line with its line feed
 abbrev pub ended : List ℕ → List ℕ
@@ -41,6 +41,10 @@ abbrev pub BadLineIsFirst : Type 0
 BadLineIsFirst = (input : List ℕ) (n : ℕ) → commands_in input ≡ Err n →
     (before : List Command) × (rest : List (Option Command))
     × (map command_in (lines input) ≡ map Some before ++ None ∷ rest) × (n ≡ length before + 1)
+
+-- the text of a reply holds no line feed, so there is one line for each reply
+abbrev pub RepliesAreSingle : Type 0
+RepliesAreSingle = (reply : Reply) → IsOneLine (reply_text reply)
 
 -- The parts between commas, with a comma between each two, are the text.
 abbrev pub PartsJoin : Type 0

@@ -1,5 +1,5 @@
 -- What the program does with its words and its input.
-use Rattle.std.specs.Prelude.{◌≡◌, ℕ, ◌<◌, ◌≤◌, ◌⊎◌, suc, List, [], ◌∷◌, length, drop, codes, nat_lt, Bool, true, false, Option, Some, Result, Ok, Err, if◌then◌else◌}
+use Rattle.std.specs.Prelude.{◌≡◌, ℕ, ◌<◌, ◌≤◌, suc, List, [], ◌∷◌, length, drop, codes, nat_lt, Bool, true, false, Option, Some, Result, Ok, Err, if◌then◌else◌}
 use Rattle.std.specs.Str.{bytes_eq}
 use Rattle.pybuf_view.specs.declared.commands.Command.{Command}
 use Rattle.pybuf_view.specs.World.{empty_world, replies_of}
@@ -8,7 +8,7 @@ use Rattle.pybuf_cli.specs.declared.status.Status.{Status}
 use Rattle.pybuf_cli.specs.declared.status.Status.TheVariants as status
 use Rattle.pybuf_cli.specs.Lines.{commands_in}
 use Rattle.pybuf_cli.specs.Replies.{reply_lines, bad_line_text}
-use Rattle.pybuf_cli.specs.Devices.{Put}
+use Rattle.pybuf_cli.specs.Devices.{Took, AtEnd, Put}
 
 -- the greatest length of an input
 abbrev pub most : ℕ
@@ -41,9 +41,20 @@ text_due input = if nat_lt most (length input) then [] else due_for (commands_in
 abbrev pub ending : List ℕ → Status
 ending input = if nat_lt most (length input) then status.TooLong else ending_for (commands_in input)
 
--- All of an input was read, each of its lines is a command, and the text of the replies was put, no
--- more and no less. After each of the commands each byte of each unreleased view lies inside its
--- exporter, and that exporter is as long as when the view was made.
+-- Some input was read to its end, each of its lines is a command, and the text of the replies was
+-- put, no more and no less. After each of the commands each byte of each unreleased view lies inside
+-- its exporter, and that exporter is as long as when the view was made.
+pub record IsRun (left_before left held_before held : Option (List ℕ)) : Type 0 where
+  pub input : List ℕ
+  pub taken : Took left_before input left
+  pub ended : AtEnd left
+  pub short : length input ≤ most
+  pub commands : List Command
+  pub spelled : commands_in input ≡ Ok commands
+  pub sound : StaysSound empty_world commands
+  pub put : Put held_before (program commands) held
+
+-- The same of an input that the source told: nothing is left of it.
 pub record IsDone (input : List ℕ) (left held_before held : Option (List ℕ)) : Type 0 where
   pub all_read : left ≡ Some []
   pub short : length input ≤ most

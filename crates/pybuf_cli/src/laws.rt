@@ -1,5 +1,5 @@
 //! Laws of the definitions that the contracts cite. Each stands on a function with an empty body.
-ghost use Rattle.pybuf_cli.specs.Laws.{LinesJoin, LinesAreSingle, WordsJoin, CommandsAreOfLines, BadLineIsFirst, PartsJoin, PartsAreSingle, EnclosedIsBetween, BetweenIsEnclosed, ScalarsReadBack};
+ghost use Rattle.pybuf_cli.specs.Laws.{LinesJoin, LinesAreSingle, WordsJoin, CommandsAreOfLines, BadLineIsFirst, RepliesAreSingle, PartsJoin, PartsAreSingle, EnclosedIsBetween, BetweenIsEnclosed, ScalarsReadBack};
 
 /// The lines of an input, each with its line feed, are the input, which may lack the last one. No
 /// line holds a line feed.
@@ -18,6 +18,11 @@ pub fn words_are_the_line()
 pub fn commands_are_of_lines()
     ensures each { CommandsAreOfLines }
     ensures first { BadLineIsFirst }
+{}
+
+/// The text of a reply is one line.
+pub fn replies_are_single_lines()
+    ensures { RepliesAreSingle }
 {}
 
 /// The parts of a text between the commas outside quotes, with a comma between each two, are the

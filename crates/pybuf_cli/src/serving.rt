@@ -6,7 +6,7 @@ ghost use Rattle.pybuf_view.specs.Sound.{StaysSound};
 ghost use Rattle.pybuf_cli.specs.Devices.{Put, PutPrefix, Rose};
 ghost use Rattle.pybuf_cli.specs.Lines.{commands_in};
 ghost use Rattle.pybuf_cli.specs.Replies.{reply_lines, bad_line_text};
-ghost use Rattle.pybuf_cli.specs.Program.{asks_run, program, due_for, ending_for, text_due, ending, IsDone, IsBadLine, IsTooLong};
+ghost use Rattle.pybuf_cli.specs.Program.{asks_run, program, due_for, ending_for, text_due, ending, IsRun, IsDone, IsBadLine, IsTooLong};
 
 use crate::devices::{PutFault, Sink, Source};
 use crate::inputs::commands_of;
@@ -123,6 +123,10 @@ pub fn serve_alone<S: Source, K: Sink>(
     ensures usage_reads_nothing { result ≡ Status.Usage → source.new ≡ source.old }
     ensures usage_writes_nothing { result ≡ Status.Usage → sink.new ≡ sink.old }
 
+    // Whether or not the source tells its bytes.
+    ensures run { result ≡ Status.Done →
+        IsRun (S.bytes_left source.old) (S.bytes_left source.new) (K.bytes_held sink.old) (K.bytes_held sink.new) }
+
     // Where the source tells its bytes.
     ensures done { result ≡ Status.Done → (input : List ℕ) → S.bytes_left source.old ≡ Some input →
         IsDone input (S.bytes_left source.new) (K.bytes_held sink.old) (K.bytes_held sink.new) }
@@ -186,6 +190,10 @@ pub fn serve<R: Threads + Wait + Sync, S: Source, K: Sink>(
     ensures usage { (result ≡ Status.Usage) ↔ (asks_run words.now ≡ false) }
     ensures usage_reads_nothing { result ≡ Status.Usage → source.new ≡ source.old }
     ensures usage_writes_nothing { result ≡ Status.Usage → sink.new ≡ sink.old }
+
+    // Whether or not the source tells its bytes.
+    ensures run { result ≡ Status.Done →
+        IsRun (S.bytes_left source.old) (S.bytes_left source.new) (K.bytes_held sink.old) (K.bytes_held sink.new) }
 
     // Where the source tells its bytes.
     ensures done { result ≡ Status.Done → (input : List ℕ) → S.bytes_left source.old ≡ Some input →

@@ -3,7 +3,7 @@
 //! The replies are those of Python 3's own `bytearray` and `memoryview`, written by a loop over the
 //! same lines; that a handle was never given, and that a view refuses 256 as a wrong kind, is this
 //! program's own.
-use pybuf_cli::{QuietSink, QuietSource, Status, serve, serve_alone};
+use pybuf_cli::{QuietSink, QuietSource, Status, serve, serve_alone, serve_bytes};
 use pybuf_value::{ByteList, Text};
 use std::alloc::Global;
 use std::process::Abort;
@@ -162,5 +162,14 @@ fn the_words(rt: HostRuntime) -> Result<(), Fail> {
         serve(&rt, rt.alloc(), words.as_slice(), &mut source, &mut sink),
         Status::Usage
     );
+    Ok(())
+}
+
+#[test]
+fn bytes_to_bytes(rt: HostRuntime) -> Result<(), Fail> {
+    let input = ByteList::from_vec(Vec::from_slice(rt.alloc(), b"new bytearray x61\nbytes h0\n")?);
+    let (output, status) = serve_bytes(rt.alloc(), &[], input);
+    assert_eq!(rt; status, Status::Done);
+    assert_eq!(rt; output.as_slice(), b"h0\nb'a'\n".as_slice());
     Ok(())
 }

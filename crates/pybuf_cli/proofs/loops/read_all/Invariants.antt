@@ -1,4 +1,4 @@
-use Rattle.std.proofs.Common.{◌≤◌, ◌-◌, length, vec_len}
+use Rattle.std.proofs.Common.{◌≤◌, ◌-◌, vec_len}
 use Rattle.pybuf_cli.specs.Devices.{Took}
 use Rattle.pybuf_cli.proofs.loops.read_all.Given as goal
 

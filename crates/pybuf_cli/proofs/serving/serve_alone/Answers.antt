@@ -1,4 +1,4 @@
-use Rattle.pybuf_cli.proofs.Served.{ran, refused, took_too_many}
+use Rattle.pybuf_cli.proofs.Served.{ran, ran_some, refused, took_too_many}
 use Rattle.pybuf_cli.proofs.serving.serve_alone.Goals as goal
 
 pub returns-in-Ok-clause-done : goal.returns-in-Ok-clause-done
@@ -14,3 +14,8 @@ returns-in-Ok-clause-bad_line g c =
 pub returns-in-Err-TooLong-clause-too_long : goal.returns-in-Err-TooLong-clause-too_long
 returns-in-Err-TooLong-clause-too_long g c =
     λ _ input told. took_too_many _ _ input (c.in-Err-TooLong.ensures.too_long c.in-Err-TooLong.field-0-is) told
+
+pub returns-in-Ok-clause-run : goal.returns-in-Ok-clause-run
+returns-in-Ok-clause-run g c =
+    λ done. ran_some _ _ _ _ c.in-Ok.input.items c.as_slice.result.now c.in-Ok.ensures.took c.in-Ok.ensures.end c.in-Ok.ensures.limit
+    c.as_slice.ensures.value (c.answer.ensures.done done)

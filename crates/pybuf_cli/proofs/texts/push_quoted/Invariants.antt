@@ -1,6 +1,6 @@
-use Rattle.std.proofs.Common.{◌≡◌, ◌++◌, ◌∷◌, [], take}
+use Rattle.std.proofs.Common.{◌≡◌, ◌++◌, take}
 use Rattle.std.specs.List.{flat_map}
-use Rattle.pybuf_cli.specs.Replies.{escaped, quote_of}
+use Rattle.pybuf_cli.specs.Replies.{escaped}
 use Rattle.pybuf_cli.proofs.texts.push_quoted.Given as goal
 
 abbrev pub invariant-loop-byte : goal.invariant-loop-byte

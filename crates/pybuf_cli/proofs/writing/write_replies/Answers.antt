@@ -1,4 +1,4 @@
-use Rattle.std.proofs.Common.{arith, ◌+◌}
+use Rattle.std.proofs.Common.{arith}
 use Rattle.pybuf_cli.proofs.Outcomes.{on_err, follows_on_ok}
 use Rattle.std.proofs.lemmas.Result.{on_err_weaker}
 use Rattle.pybuf_cli.proofs.Sending.{stops_between, stops_in_line, line_more, all_lines, stops_in_last}
