@@ -5,6 +5,11 @@ pub mod Outcomes
 pub mod Served
 pub mod Sending
 pub mod Commands
-pub mod Parts
+pub mod LineParts
+pub mod Spelled
+pub mod Commas
+pub mod Colons
+pub mod Printed
 pub mod LineLaws
+pub mod SpellingLaws
 pub mod ReplyLaws

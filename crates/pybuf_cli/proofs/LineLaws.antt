@@ -4,7 +4,8 @@ use Rattle.std.specs.List.{flat_map, join_with_byte, list_any, onto_first, AllBy
 use Rattle.std.proofs.lemmas.List.{append_assoc, append-nil}
 use Rattle.std.proofs.lemmas.List.Splits.{join_with_byte-slice_split}
 use Rattle.pybuf_view.specs.declared.commands.Command.{Command}
-use Rattle.pybuf_cli.specs.Lines.{parts_at, lines, without_empty_last, command_in, commands_from, before}
+use Rattle.pybuf_cli.specs.Parts.{parts_at}
+use Rattle.pybuf_cli.specs.Lines.{lines, without_empty_last, command_in, commands_from, before}
 use Rattle.pybuf_cli.specs.Laws.{ended, LinesJoin, IsOneLine, LinesAreSingle, WordsJoin, CommandsAreOfLines, BadLineIsFirst}
 
 pub words_join : WordsJoin

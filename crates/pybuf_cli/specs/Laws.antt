@@ -1,10 +1,17 @@
--- Laws of lines, of their commands and of the texts of replies.
-use Rattle.std.specs.Prelude.{◌≡◌, ◌⊎◌, ℕ, ◌+◌, List, [], ◌∷◌, ◌++◌, length, map, ◌==◌, false, Option, Some, None, Ok, Err}
+-- Laws of lines, of their commands and values, and of the texts of replies.
+use Rattle.std.specs.Prelude.{◌≡◌, ◌⊎◌, ℕ, ◌+◌, ◌^◌, ◌<◌, ℤ, pos, negsuc, IsTrue, codes, decimal, List, [], ◌∷◌, ◌++◌, length, map, ◌==◌, false, Option, Some, None, Ok, Err}
+use Rattle.std.specs.Str.{byte}
+use Rattle.std.specs.Fmt.{signed_decimal}
 use Rattle.std.specs.List.{flat_map, join_with_byte, list_any, AllByRecursion}
 use Rattle.pybuf_view.specs.declared.commands.Command.{Command}
 use Rattle.pybuf_view.specs.declared.commands.Reply.{Reply}
-use Rattle.pybuf_cli.specs.Replies.{reply_text}
+use Rattle.pybuf_value.specs.declared.values.Scalar.{Scalar}
+use Rattle.pybuf_value.specs.declared.values.Scalar.TheVariants as scalar
+use Rattle.hex.specs.Hex.{IsBytes, encode_lower}
 use Rattle.pybuf_cli.specs.Lines.{lines, words, command_in, commands_in}
+use Rattle.pybuf_cli.specs.Parts.{parts_outside_quotes}
+use Rattle.pybuf_cli.specs.Scalars.{enclosed, is_text, scalar_in}
+use Rattle.pybuf_cli.specs.Replies.{truth_text, reply_text}
 
 -- a line with its line feed
 abbrev pub ended : List ℕ → List ℕ
@@ -38,3 +45,47 @@ BadLineIsFirst = (input : List ℕ) (n : ℕ) → commands_in input ≡ Err n �
 -- the text of a reply holds no line feed, so there is one line for each reply
 abbrev pub RepliesAreSingle : Type 0
 RepliesAreSingle = (reply : Reply) → IsOneLine (reply_text reply)
+
+-- The parts between commas, with a comma between each two, are the text.
+abbrev pub PartsJoin : Type 0
+PartsJoin = (text : List ℕ) → join_with_byte (byte ",") (parts_outside_quotes text) ≡ text
+
+-- No part has a comma but between quotes: it is its own only part.
+abbrev pub IsOnePart : List ℕ → Type 0
+IsOnePart part = parts_outside_quotes part ≡ part ∷ []
+
+abbrev pub PartsAreSingle : Type 0
+PartsAreSingle = (text : List ℕ) → AllByRecursion IsOnePart (parts_outside_quotes text)
+
+-- What stands between two bytes, with these bytes round it, is the text.
+abbrev pub EnclosedIsBetween : Type 0
+EnclosedIsBetween = (opening closing : ℕ) (text inner : List ℕ) → enclosed opening closing text ≡ Some inner → text ≡ opening ∷ inner ++ closing ∷ []
+
+abbrev pub BetweenIsEnclosed : Type 0
+BetweenIsEnclosed = (opening closing : ℕ) (inner : List ℕ) → enclosed opening closing (opening ∷ inner ++ closing ∷ []) ≡ Some inner
+
+-- how a value without parts is written: a number without leading zeros, bytes in lower case
+abbrev pub written : Scalar → List ℕ
+written scalar.None = codes "None"
+written (scalar.Bool truth) = truth_text truth
+written (scalar.Int number) = signed_decimal number
+written (scalar.Text text) = byte "'" ∷ text ++ byte "'" ∷ []
+written (scalar.Bytes bytes) = byte "x" ∷ encode_lower bytes
+written scalar.Ellipsis = codes "..."
+written (scalar.Handle handle) = byte "h" ∷ decimal handle
+
+abbrev pub Is128Bits : ℤ → Type 0
+Is128Bits (pos n) = n < 2 ^ 127
+Is128Bits (negsuc n) = n < 2 ^ 127
+
+-- the values without parts that lines spell: a handle is none
+abbrev pub IsSpelled : Scalar → Type 0
+IsSpelled (scalar.Int number) = Is128Bits number
+IsSpelled (scalar.Text text) = IsTrue (is_text text)
+IsSpelled (scalar.Bytes bytes) = IsBytes bytes
+IsSpelled (scalar.Handle handle) = ⊥
+IsSpelled _ = Unit {0}
+
+-- A value that was written is read back.
+abbrev pub ScalarsReadBack : Type 0
+ScalarsReadBack = (s : Scalar) → IsSpelled s → scalar_in (written s) ≡ Some s

@@ -1,6 +1,8 @@
 pub mod Devices
 pub mod Endings
-pub mod Values
+pub mod Parts
+pub mod Scalars
+pub mod Spellings
 pub mod Lines
 pub mod Replies
 pub mod Reading

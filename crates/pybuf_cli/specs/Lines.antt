@@ -1,7 +1,8 @@
 -- The lines of an input, and the command that a line spells.
 use Rattle.std.specs.Prelude.{ℕ, ◌+◌, List, [], ◌∷◌, length, codes, ◌==◌, Option, Some, None, Result, Ok, Err, if◌then◌else◌}
-use Rattle.std.specs.List.{slice_split}
 use Rattle.std.specs.Str.{bytes_eq}
+use Rattle.pybuf_value.specs.declared.values.Value.{Value}
+use Rattle.pybuf_value.specs.declared.values.Value.TheVariants as value
 use Rattle.pybuf_view.specs.declared.kinds.ExporterKind.{ExporterKind}
 use Rattle.pybuf_view.specs.declared.kinds.ExporterKind.TheVariants as kind
 use Rattle.pybuf_view.specs.declared.commands.Verb.{Verb}
@@ -10,17 +11,15 @@ use Rattle.pybuf_view.specs.declared.commands.Command.{Command}
 use Rattle.pybuf_view.specs.declared.commands.Command.TheVariants as command
 use Rattle.pybuf_cli.specs.declared.words.Word.{Word}
 use Rattle.pybuf_cli.specs.declared.words.Word.TheVariants as word
-use Rattle.pybuf_cli.specs.Values.{◌>>=◌, handle_in, number_value, bytes_value}
+use Rattle.pybuf_cli.specs.Parts.{◌>>=◌, parts_at}
+use Rattle.pybuf_cli.specs.Scalars.{handle_in, bytes_in}
+use Rattle.pybuf_cli.specs.Spellings.{value_in}
 
 -- the parts, without an empty last one
 abbrev pub without_empty_last : List (List ℕ) → List (List ℕ)
 without_empty_last [] = []
 without_empty_last (part ∷ []) = if length part == 0 then [] else part ∷ []
 without_empty_last (part ∷ next ∷ more) = part ∷ without_empty_last (next ∷ more)
-
--- the parts of a text between the places of a byte
-abbrev pub parts_at : ℕ → List ℕ → List (List ℕ)
-parts_at byte text = slice_split (λ b. b == byte) text
 
 -- The lines of an input end with a line feed; the last line may lack it.
 abbrev pub lines : List ℕ → List (List ℕ)
@@ -39,31 +38,47 @@ word_in text =
     else if bytes_eq text (codes "set") then Some word.Set
     else if bytes_eq text (codes "bytes") then Some word.ToBytes
     else if bytes_eq text (codes "release") then Some word.Release
+    else if bytes_eq text (codes "len") then Some word.Len
     else None
 
 abbrev pub kind_in : List ℕ → Option ExporterKind
-kind_in text = if bytes_eq text (codes "bytearray") then Some kind.ByteArray else None
+kind_in text =
+    if bytes_eq text (codes "bytes") then Some kind.Bytes
+    else if bytes_eq text (codes "bytearray") then Some kind.ByteArray
+    else None
+
+-- the keys that `set` takes: tuples and slices are none
+abbrev pub written_key : Value → Option Value
+written_key (value.One scalar) = Some (value.One scalar)
+written_key (value.List parts) = Some (value.List parts)
+written_key _ = None
+
+abbrev pub written_key_in : List ℕ → Option Value
+written_key_in text = do
+  key ← value_in text
+  written_key key
 
 -- A line `WORD hN ARGS` by its word and its arguments: the place where a new verb goes.
 abbrev pub verb_in : Word → List (List ℕ) → Option Verb
 verb_in word.View [] = Some verb.View
 verb_in word.Get (key ∷ []) = do
-  k ← number_value key
+  k ← value_in key
   Some (verb.Get k)
 verb_in word.Set (key ∷ item ∷ []) = do
-  k ← number_value key
-  v ← number_value item
+  k ← written_key_in key
+  v ← value_in item
   Some (verb.Set k v)
 verb_in word.ToBytes [] = Some verb.ToBytes
 verb_in word.Release [] = Some verb.Release
+verb_in word.Len [] = Some verb.Len
 verb_in _ _ = None
 
--- `new bytearray xHEX`
+-- `new bytes xHEX` and `new bytearray xHEX`
 abbrev pub new_in : List (List ℕ) → Option Command
 new_in (kind ∷ source ∷ []) = do
   k ← kind_in kind
-  bytes ← bytes_value source
-  Some (command.New k (record { source = Some bytes; encoding = None; errors = None }))
+  bytes ← bytes_in source
+  Some (command.New k (record { source = Some (value.One bytes); encoding = None; errors = None }))
 new_in _ = None
 
 abbrev pub do_in : Word → List (List ℕ) → Option Command

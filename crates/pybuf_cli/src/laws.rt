@@ -1,5 +1,5 @@
 //! Laws of the definitions that the contracts cite. Each stands on a function with an empty body.
-ghost use Rattle.pybuf_cli.specs.Laws.{LinesJoin, LinesAreSingle, WordsJoin, CommandsAreOfLines, BadLineIsFirst, RepliesAreSingle};
+ghost use Rattle.pybuf_cli.specs.Laws.{LinesJoin, LinesAreSingle, WordsJoin, CommandsAreOfLines, BadLineIsFirst, RepliesAreSingle, PartsJoin, PartsAreSingle, EnclosedIsBetween, BetweenIsEnclosed, ScalarsReadBack};
 
 /// The lines of an input, each with its line feed, are the input, which may lack the last one. No
 /// line holds a line feed.
@@ -23,4 +23,22 @@ pub fn commands_are_of_lines()
 /// The text of a reply is one line.
 pub fn replies_are_single_lines()
     ensures { RepliesAreSingle }
+{}
+
+/// The parts of a text between the commas outside quotes, with a comma between each two, are the
+/// text. No part has a comma but between quotes.
+pub fn parts_are_the_text()
+    ensures joined { PartsJoin }
+    ensures single { PartsAreSingle }
+{}
+
+/// What stands between a first byte and a last one is read exactly where both are there.
+pub fn enclosed_is_between()
+    ensures there { EnclosedIsBetween }
+    ensures read { BetweenIsEnclosed }
+{}
+
+/// A value without parts that was written is read back, but for handles, which no line spells.
+pub fn scalars_read_back()
+    ensures { ScalarsReadBack }
 {}

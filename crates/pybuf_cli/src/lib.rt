@@ -8,19 +8,21 @@ mod laws;
 mod loops;
 mod memory;
 mod parsing;
+mod scalars;
 mod serving;
+mod spellings;
 mod splitting;
 mod status;
 mod texts;
 mod unread;
-mod values;
 mod words;
 mod writing;
 
 pub use adapters::{ReaderSource, WriterSink};
 pub use devices::{Failed, PutFault, Sink, Source};
 pub use laws::{
-    commands_are_of_lines, lines_are_the_input, replies_are_single_lines, words_are_the_line,
+    commands_are_of_lines, enclosed_is_between, lines_are_the_input, parts_are_the_text,
+    replies_are_single_lines, scalars_read_back, words_are_the_line,
 };
 pub use memory::{QuietSink, QuietSource};
 pub use serving::{serve, serve_alone, serve_bytes};

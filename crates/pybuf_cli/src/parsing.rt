@@ -1,17 +1,30 @@
 //! The commands that lines spell.
 ghost use Rattle.std.specs.Prelude.{◌≡◌, ◌+◌, ◌≤◌, ◌<◌, ◌^◌, map, vec_items, Ok, Err};
 ghost use Rattle.pybuf_cli.specs.Reading.{Reads};
-ghost use Rattle.pybuf_cli.specs.Lines.{verb_in, new_in, do_in, command_of_words, command_in};
+ghost use Rattle.pybuf_cli.specs.Lines.{written_key_in, verb_in, new_in, do_in, command_of_words, command_in};
 
+use crate::scalars::{bytes, handle};
+use crate::spellings::value;
 use crate::splitting::words_of;
 use crate::unread::Unread;
-use crate::values::{handle, value_of_bytes, value_of_number};
 use crate::words::{Word, first_word, kind_named};
+use pybuf_value::Value;
 use pybuf_view::{ByteInnerNewOptions, Command, Verb};
 use std::alloc::Global;
 
+/// The key that a text spells for `set`, which takes no tuple and no slice.
+fn written(alloc: Global, text: &[u8]) -> Result<Value, Unread>
+    ensures { Reads result (written_key_in text.now) }
+{
+    match value(alloc, text)? {
+        Value::One(scalar) => Ok(Value::One(scalar)),
+        Value::List(parts) => Ok(Value::List(parts)),
+        _ => Err(Unread::NoCommand),
+    }
+}
+
 /// The verb of a word with its arguments.
-fn verb_of(word: Word, arguments: &[&[u8]]) -> Result<Verb, Unread>
+fn verb_of(alloc: Global, word: Word, arguments: &[&[u8]]) -> Result<Verb, Unread>
     ensures { Reads result (verb_in word (map (λ argument. argument.now) arguments.now)) }
 {
     match word {
@@ -21,15 +34,15 @@ fn verb_of(word: Word, arguments: &[&[u8]]) -> Result<Verb, Unread>
         },
         Word::Get => match arguments {
             [key] => {
-                let key = value_of_number(key)?;
+                let key = value(alloc, key)?;
                 Ok(Verb::Get { key })
             }
             _ => Err(Unread::NoCommand),
         },
         Word::Set => match arguments {
             [key, item] => {
-                let key = value_of_number(key)?;
-                let value = value_of_number(item)?;
+                let key = written(alloc, key)?;
+                let value = value(alloc, item)?;
                 Ok(Verb::Set { key, value })
             }
             _ => Err(Unread::NoCommand),
@@ -40,6 +53,10 @@ fn verb_of(word: Word, arguments: &[&[u8]]) -> Result<Verb, Unread>
         },
         Word::Release => match arguments {
             [] => Ok(Verb::Release),
+            _ => Err(Unread::NoCommand),
+        },
+        Word::Len => match arguments {
+            [] => Ok(Verb::Len),
             _ => Err(Unread::NoCommand),
         },
         Word::New => Err(Unread::NoCommand),
@@ -55,9 +72,9 @@ fn new_of(alloc: Global, rest: &[&[u8]]) -> Result<Command, Unread>
             let Some(kind) = kind_named(kind) else {
                 return Err(Unread::NoCommand);
             };
-            let source = value_of_bytes(alloc, source)?;
+            let source = bytes(alloc, source)?;
             let options = ByteInnerNewOptions {
-                source: Some(source),
+                source: Some(Value::One(source)),
                 encoding: None,
                 errors: None,
             };
@@ -68,7 +85,7 @@ fn new_of(alloc: Global, rest: &[&[u8]]) -> Result<Command, Unread>
 }
 
 /// What is asked of a handle, by the words after the first.
-fn do_of(word: Word, rest: &[&[u8]]) -> Result<Command, Unread>
+fn do_of(alloc: Global, word: Word, rest: &[&[u8]]) -> Result<Command, Unread>
     ensures { Reads result (do_in word (map (λ word. word.now) rest.now)) }
 {
     match rest {
@@ -76,7 +93,7 @@ fn do_of(word: Word, rest: &[&[u8]]) -> Result<Command, Unread>
             let Some(subject) = handle(subject) else {
                 return Err(Unread::NoCommand);
             };
-            let verb = verb_of(word, arguments)?;
+            let verb = verb_of(alloc, word, arguments)?;
             Ok(Command::Do { subject, verb })
         }
         [] => Err(Unread::NoCommand),
@@ -91,7 +108,7 @@ fn command_of(alloc: Global, words: &[&[u8]]) -> Result<Command, Unread>
         [first, rest @ ..] => match first_word(first) {
             None => Err(Unread::NoCommand),
             Some(Word::New) => new_of(alloc, rest),
-            Some(word) => do_of(word, rest),
+            Some(word) => do_of(alloc, word, rest),
         },
         [] => Err(Unread::NoCommand),
     }

@@ -14,6 +14,7 @@ pub enum Word {
     Set,
     ToBytes,
     Release,
+    Len,
 }
 
 /// Whether a text is a word, byte by byte.
@@ -46,6 +47,9 @@ pub fn first_word(text: &[u8]) -> Option<Word>
     if is_word(text, "release") {
         return Some(Word::Release);
     }
+    if is_word(text, "len") {
+        return Some(Word::Len);
+    }
     None
 }
 
@@ -53,6 +57,9 @@ pub fn first_word(text: &[u8]) -> Option<Word>
 pub fn kind_named(text: &[u8]) -> Option<ExporterKind>
     ensures { result ≡ kind_in text.now }
 {
+    if is_word(text, "bytes") {
+        return Some(ExporterKind::Bytes);
+    }
     if is_word(text, "bytearray") {
         return Some(ExporterKind::ByteArray);
     }

@@ -4,4 +4,8 @@
 #[cfg(test)]
 mod devices;
 #[cfg(test)]
+mod keys;
+#[cfg(test)]
 mod rows;
+#[cfg(test)]
+mod spellings;

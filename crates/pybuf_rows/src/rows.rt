@@ -5,6 +5,8 @@
 //! program's own.
 use pybuf_cli::{QuietSink, QuietSource, Status, serve, serve_alone, serve_bytes};
 use pybuf_value::{ByteList, Text};
+use std::alloc::Global;
+use std::process::Abort;
 use std::test::Fail;
 
 /// An input, its output, and the number of its status.
@@ -62,24 +64,71 @@ const ROWS: [(&str, &str, u8); 14] = [
     ("new bytearray x61\n\nget\n", "line 2 is not a command\n", 2),
     ("new bytearray x6\n", "line 1 is not a command\n", 2),
     (
-        "new bytearray x\nget h0 1234567890123456789\n",
+        "new bytearray x\nget h0 170141183460469231731687303715884105728\n",
         "line 2 is not a command\n",
         2,
     ),
     ("new bytearray x\r\n", "line 1 is not a command\n", 2),
 ];
 
-#[test]
-fn whole_inputs(rt: HostRuntime) -> Result<(), Fail> {
-    for (input, output, number) in ROWS {
-        let bytes = Vec::from_slice(rt.alloc(), input.as_bytes())?;
-        let mut source = QuietSource::new(ByteList::from_vec(bytes));
-        let mut sink = QuietSink::new(rt.alloc());
-        let status = serve_alone(rt.alloc(), &[], &mut source, &mut sink);
-        assert_eq!(rt; sink.bytes(), output.as_bytes(), "{input}");
-        assert_eq!(rt; status.number(), number, "{input}");
+/// Compares what is written for an input, and the number of the status.
+pub fn ends(
+    rt: &impl Abort,
+    alloc: Global,
+    input: &str,
+    output: &str,
+    number: u8,
+) -> Result<(), Fail> {
+    let bytes = Vec::from_slice(alloc, input.as_bytes())?;
+    let mut source = QuietSource::new(ByteList::from_vec(bytes));
+    let mut sink = QuietSink::new(alloc);
+    let status = serve_alone(alloc, &[], &mut source, &mut sink);
+    assert_eq!(rt; sink.bytes(), output.as_bytes(), "{input}");
+    assert_eq!(rt; status.number(), number, "{input}");
+    Ok(())
+}
+
+/// Compares each row.
+pub fn judge(rt: &impl Abort, alloc: Global, rows: &[(&str, &str, u8)]) -> Result<(), Fail> {
+    for (input, output, number) in rows {
+        ends(rt, alloc, input, output, *number)?;
     }
     Ok(())
+}
+
+#[test]
+fn whole_inputs(rt: HostRuntime) -> Result<(), Fail> {
+    judge(&rt, rt.alloc(), &ROWS)
+}
+
+/// A bytearray of nothing, so many lines that ask for its length, and one more bytearray of nothing.
+fn lengths(rt: &HostRuntime, count: usize) -> Result<String, Fail> {
+    let mut input = String::from_str(rt.alloc(), "new bytearray x\n")?;
+    for _ in 0..count {
+        input.push_str("len h0\n")?;
+    }
+    input.push_str("new bytearray x\n")?;
+    Ok(input)
+}
+
+/// What is written for these.
+fn lengths_written(rt: &HostRuntime, count: usize) -> Result<String, Fail> {
+    let mut output = String::from_str(rt.alloc(), "h0\n")?;
+    for _ in 0..count {
+        output.push_str("0\n")?;
+    }
+    output.push_str("h1\n")?;
+    Ok(output)
+}
+
+#[test]
+fn as_many_lines_as_an_input_can_hold(rt: HostRuntime) -> Result<(), Fail> {
+    let mut input = lengths(&rt, 149_792)?;
+    assert_eq!(rt; input.len(), 1_048_576);
+    let output = lengths_written(&rt, 149_792)?;
+    ends(&rt, rt.alloc(), &input, &output, 0)?;
+    input.push('\n')?;
+    ends(&rt, rt.alloc(), &input, "", 7)
 }
 
 /// The status of a run over so many equal bytes, which are no command.

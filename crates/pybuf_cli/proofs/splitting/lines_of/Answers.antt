@@ -1,5 +1,5 @@
 use Rattle.std.proofs.Common.{arith}
-use Rattle.pybuf_cli.proofs.Parts.{lines_without, lines_with, lines_none, is_some_length, is_no_length}
+use Rattle.pybuf_cli.proofs.LineParts.{lines_without, lines_with, lines_none, is_some_length, is_no_length}
 use Rattle.pybuf_cli.proofs.splitting.lines_of.Goals as goal
 use Rattle.pybuf_cli.proofs.splitting.lines_of.Goals.{in-Some+then-not-is_empty+in_ok-push, in-Some+else-not-is_empty, in_default}
 

@@ -1,7 +1,8 @@
 -- The parts of an input, with and without an empty last one.
 use Rattle.std.proofs.Common.{◌≡◌, ◌≢◌, ℕ, List, [], ◌∷◌, ◌++◌, length, map, refl, sym, ◌∙◌, ap, arith, tests, append-nil, Bool, true, false, ◌==◌, Bor}
 use Rattle.std.proofs.lemmas.List.{map-append, nil_from_length}
-use Rattle.pybuf_cli.specs.Lines.{parts_at, lines, without_empty_last}
+use Rattle.pybuf_cli.specs.Parts.{parts_at}
+use Rattle.pybuf_cli.specs.Lines.{lines, without_empty_last}
 
 pub without_empty : (parts : List (List ℕ)) (last : List ℕ) → length last ≡ 0 → without_empty_last (parts ++ last ∷ []) ≡ parts
 without_empty [] [] h = refl

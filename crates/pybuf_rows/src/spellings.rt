@@ -1,0 +1,94 @@
+//! Spellings of values: those that are none, and those that a reader may take for others.
+use crate::rows::{ends, judge};
+use std::alloc::Global;
+use std::process::Abort;
+use std::test::Fail;
+
+/// Lines that are no commands.
+const NONE: [&str; 38] = [
+    "get h0 ''",
+    "get h0 'a",
+    "get h0 a'",
+    "get h0 '",
+    "get h0 'a'b'",
+    "get h0 1:2",
+    "get h0 1:2:3:4",
+    "get h0 1::2",
+    "get h0 ::",
+    "get h0 1:'a':2",
+    "get h0 1:(1):2",
+    "get h0 (1,)",
+    "get h0 (,)",
+    "get h0 (1,,2)",
+    "get h0 (1,2",
+    "get h0 (1,2]",
+    "get h0 1,2",
+    "get h0 ((1))",
+    "get h0 ([1])",
+    "get h0 (1,0:1:2)",
+    "get h0 (0:1:2,1)",
+    "get h0 [0:1:2]",
+    "get h0 ('a,b)",
+    "get h0 +1",
+    "get h0 -",
+    "get h0 --1",
+    "get h0 1_0",
+    "get h0 1.0",
+    "get h0 170141183460469231731687303715884105728",
+    "get h0 -170141183460469231731687303715884105729",
+    "get h0 x6",
+    "get h0 X61",
+    "get h0 none",
+    "get h0 ....",
+    "get h0 h0",
+    "set h0 (0) 1",
+    "set h0 0:1:1 1",
+    "set h0 (0:1:1) 1",
+];
+
+/// Lines that are none for another reason than a value.
+const OTHER: [&str; 8] = [
+    "get h18446744073709551616 0",
+    "get h-1 0",
+    "get h 0",
+    "len h0 1",
+    "len",
+    "new bytes",
+    "new bytes 3",
+    "new Bytes x",
+];
+
+fn each_ends(rt: &impl Abort, alloc: Global, lines: &[&str]) -> Result<(), Fail> {
+    for line in lines {
+        let input = format!(in alloc; "new bytearray x616263\n{line}\n")?;
+        ends(rt, alloc, &input, "line 2 is not a command\n", 2)?;
+    }
+    Ok(())
+}
+
+#[test]
+fn lines_that_are_no_commands(rt: HostRuntime) -> Result<(), Fail> {
+    each_ends(&rt, rt.alloc(), &NONE)?;
+    each_ends(&rt, rt.alloc(), &OTHER)
+}
+
+/// What is spelled in more than one way, and what looks like something else.
+const SPELLED: [(&str, &str, u8); 2] = [
+    // signs and zeros in front, and handles with zeros in front
+    (
+        "new bytearray x616263\nget h0 -0\nget h00 -0000\nget h00000000000000000000000 -003\nget h0 000000000000000000000000000000000000000000000000000000000000000000002\nget h18446744073709551615 0\n",
+        "h0\n97\n97\n97\n99\n! UnknownName\n",
+        0,
+    ),
+    // texts that hold what stands between values, a tuple of none, and bytes of either case
+    (
+        "new bytearray xaBCd\nget h0 'a:b:c'\nget h0 ('a,b')\nget h0 [',','(',')','[',']']\nget h0 ('x,y',-1,xAb,...,None,True)\nget h0 'None'\nget h0 ()\nget h0 []\nset h0 0 ['a,b']\nget h0 (0:1:1,None:None:None)\nbytes h0\n",
+        "h0\n! TypeError\n! TypeError\n! TypeError\n! TypeError\n! TypeError\n! TypeError\n! TypeError\n! TypeError\n! TypeError\nb'\\xab\\xcd'\n",
+        0,
+    ),
+];
+
+#[test]
+fn spellings(rt: HostRuntime) -> Result<(), Fail> {
+    judge(&rt, rt.alloc(), &SPELLED)
+}
