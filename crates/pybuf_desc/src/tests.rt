@@ -36,13 +36,7 @@ fn described(alloc: Global, len: usize, dims: &[(usize, isize)]) -> Made<BufferD
     for (shape, stride) in dims {
         list.push((*shape, *stride, 0))?;
     }
-    Ok(BufferDescriptor::raw(
-        len,
-        false,
-        1,
-        Text::new(alloc),
-        list,
-    ))
+    Ok(BufferDescriptor::raw(len, false, 1, Text::new(alloc), list))
 }
 
 /// The number of ranges and their checksum; none where the descriptor isn't valid.

@@ -13,5 +13,5 @@ abbrev pub invariant-loop-i : goal.invariant-loop-i
 invariant-loop-i l =
     Cuts
     (parts_from false l.text ≡
-      onto_parts (map (λ part. part.now) l.parts.items) (take (l.i - l.start) (drop l.start l.text)) (parts_from l.quoted (drop l.i l.text)))
+    onto_parts (map (λ part. part.now) l.parts.items) (take (l.i - l.start) (drop l.start l.text)) (parts_from l.quoted (drop l.i l.text)))
     (l.start ≤ l.i)
