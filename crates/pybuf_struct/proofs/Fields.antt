@@ -37,5 +37,5 @@ pub fields_sound : (o : Endianness) (size offset : ℕ) (codes : List Code) → 
 fields_sound o size offset [] within = tt
 fields_sound o size offset (c ∷ codes) within =
     both o size (fields_of_code c.code (size_of o c.code) (offset + c.pre_padding) c.repeat) (fields_from o (offset_after o offset c) codes)
-      (code_sound o size c.code (offset + c.pre_padding) c.repeat (omega (arith, within)))
-      (fields_sound o size (offset_after o offset c) codes (omega (arith, within)))
+    (code_sound o size c.code (offset + c.pre_padding) c.repeat (omega (arith, within)))
+    (fields_sound o size (offset_after o offset c) codes (omega (arith, within)))

@@ -52,7 +52,7 @@ again_cons : (o : Endianness) (pairs : List (ℕ × Snap)) (f : Field) (fs : Lis
     → Again o pairs (f ∷ fs) (v ∷ vs) room (bytes ∷ others)
 again_cons o pairs f fs q v vs bytes others room spread le gives rest =
     let here : value_in o (written fs others (written_at f.offset bytes room)) f ≡ normal_of pairs f.code f.length v
-      = ap (value_of o f.code) (field_kept f fs q bytes others room spread le gives.1 rest.1) ∙ gives.0 in
+    = ap (value_of o f.code) (field_kept f fs q bytes others room spread le gives.1 rest.1) ∙ gives.0 in
     (cc (here, rest.0), (gives.1, rest.1))
 
 values_again : (o : Endianness) (pairs : List (ℕ × Snap)) (size p : ℕ) (fs : List Field) (q : ℕ) (vs : List Scalar) (contents : List (List ℕ)) (room : List ℕ) → AllByRecursion (IsSound o size) fs → Spread p fs q → q ≤ length room → contents_of o pairs fs vs ≡ okay contents
@@ -149,9 +149,9 @@ unpacked_again f pairs vs bytes whole exact small is =
     let room = replicate f.size 0 in
     let room_long : length room ≡ f.size = length-replicate {A = ℕ} f.size 0 in
     let contents : contents_of f.order pairs (fields f) (values f bytes) ≡ okay (map (part bytes) (fields f))
-      = contents_back f.order pairs bytes (fields f) (fields_sound f.order (length bytes) 0 f.codes (omega (arith, from_zero))) (exact-fields f.order 0 f.codes exact) (IsBytes-from bytes small) in
+    = contents_back f.order pairs bytes (fields f) (fields_sound f.order (length bytes) 0 f.codes (omega (arith, from_zero))) (exact-fields f.order 0 f.codes exact) (IsBytes-from bytes small) in
     let tiles : Tiles 0 (fields f) (length bytes) = subst (Tiles 0 (fields f)) from_zero (Tiles-fields f.order 0 f.codes exact) in
     let back : written (fields f) (map (part bytes) (fields f)) room ≡ bytes = written_parts bytes 0 (fields f) (length bytes) room tiles refl (omega arith) in
     let counts : length (values f bytes) ≡ length (fields f) = length-map (fields f) (value_in f.order bytes) in
     subst (λ (ws : List Scalar). packed f pairs ws ≡ Ok bytes) values_are
-      (rw (eq-eqb (length (values f bytes)) (length (fields f)) counts, contents) (ap okay back))
+    (rw (eq-eqb (length (values f bytes)) (length (fields f)) counts, contents) (ap okay back))

@@ -46,7 +46,7 @@ laid_fills o offset [] l is =
     subst (Fills-from o offset) same (omega arith)
 laid_fills o offset (item ∷ items) l is =
     laid_by o offset (placed o offset item) (ltb (offset_after o offset (placed o offset item)) (2 ^ 63)) (laid o (offset_after o offset (placed o offset item)) items) l
-      (λ k e. laid_fills o (offset_after o offset (placed o offset item)) items k e) is
+    (λ k e. laid_fills o (offset_after o offset (placed o offset item)) items k e) is
 
 abbrev format_with : Endianness → List Code × ℕ → Format
 format_with o l = record { order = o; codes = l.0; size = l.1 }
@@ -75,4 +75,3 @@ ok_or_some (Some g) f is = ap some (let same : g ≡ f = cc in same)
 
 pub format_fills : (text : List ℕ) (f : Format) → format_of text ≡ Ok f → extent f.order f.codes ≡ f.size
 format_fills text f is = spelled_fills (prefix_of text).0 (prefix_of text).1 f (ok_or_some (spelled (prefix_of text).0 (prefix_of text).1) f is)
-

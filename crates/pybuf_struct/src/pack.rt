@@ -92,7 +92,11 @@ fn is_in_range(signed: bool, size: usize, number: i128) -> bool
 {
     let modulus: i128 = modulus_of(size);
     if signed {
-        if number < 0 { -1 - number < modulus / 2 } else { number < modulus / 2 }
+        if number < 0 {
+            -1 - number < modulus / 2
+        } else {
+            number < modulus / 2
+        }
     } else {
         if number < 0 { false } else { number < modulus }
     }
@@ -281,7 +285,13 @@ fn write_all<L: Lender>(
             return;
         };
         let end = field.offset + field.length;
-        write_field(order, field.code, value, lender, &mut room[field.offset..end]);
+        write_field(
+            order,
+            field.code,
+            value,
+            lender,
+            &mut room[field.offset..end],
+        );
     }
 }
 
@@ -314,12 +324,7 @@ impl FormatSpec {
     ///   or fills them with zeros. `p` does so after a first byte, which is the least of the number
     ///   of bytes, the field's length less 1, and 255. A `p` of length 0 takes every value;
     /// - a handle that `c`, `s` or `p` looks at and the lender hasn't is `UnknownName`.
-    pub fn pack<L: Lender>(
-        &self,
-        alloc: Global,
-        args: &ScalarList,
-        lender: &L,
-    ) -> Tried<Vec<u8>>
+    pub fn pack<L: Lender>(&self, alloc: Global, args: &ScalarList, lender: &L) -> Tried<Vec<u8>>
         ensures { IfOk result (λ o. items_of o ≡ outcome_of (packed self.now (L.pairs lender.now) args.now)) }
     {
         let checked = self.check(args, lender);
