@@ -9,14 +9,9 @@ use Rattle.pybuf_struct.specs.declared.table.FormatType.TheVariants as code
 use Rattle.pybuf_struct.specs.Table.{size_of}
 use Rattle.pybuf_struct.specs.Formats.{Code, Field, span, extent, offset_after, fields_in_row, fields_of_code, fields_from}
 use Rattle.pybuf_struct.specs.Packing.{written, written_at}
-use Rattle.pybuf_struct.specs.Laws.{is_exact, AreExact}
+use Rattle.pybuf_struct.specs.Laws.{is_exact, AreExact, Spread}
 
 -- ---- where fields lie
-
--- fields in order, from p to q
-abbrev pub Spread : ℕ → List Field → ℕ → Type 0
-Spread p [] q = p ≤ q
-Spread p (f ∷ fs) q = (p ≤ f.offset) × Spread (f.offset + f.length) fs q
 
 Spread-from : (p r : ℕ) (fs : List Field) (q : ℕ) → r ≤ p → Spread p fs q → Spread r fs q
 Spread-from p r [] q le s = omega arith

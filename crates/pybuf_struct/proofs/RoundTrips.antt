@@ -16,12 +16,12 @@ use Rattle.pybuf_value.specs.Refusing.{◌>>=◌}
 use Rattle.pybuf_struct.specs.Formats.{Counted, Code, Format, Field, counted, laid, spelled, format_of, prefix_of, placed, offset_after, extent, fields_in_row, fields_of_code, fields_from, fields}
 use Rattle.pybuf_struct.specs.Values.{is_length, value_of, value_in, values, unpacked}
 use Rattle.pybuf_struct.specs.Packing.{bytes_of, contents_of, written, written_at, filled, packed, packed_values}
-use Rattle.pybuf_struct.specs.Laws.{normal_of, normal_values, is_exact, AreExact}
+use Rattle.pybuf_struct.specs.Laws.{Spread, normal_of, normal_values, is_exact, AreExact}
 use Rattle.pybuf_struct.proofs.NumbersAgain.{IsBytes}
 use Rattle.pybuf_struct.proofs.FieldsAgain.{GivesBack, field_gives, field_back}
 use Rattle.pybuf_struct.proofs.Fields.{IsSound, fields_sound}
 use Rattle.pybuf_struct.proofs.Whole.{format_fills}
-use Rattle.pybuf_struct.proofs.Places.{Spread, Spread-le, Spread-fields, Fills, length-written_at, length-written, field_kept, Tiles, Tiles-fields, part, written_parts}
+use Rattle.pybuf_struct.proofs.Places.{Spread-le, Spread-fields, Fills, length-written_at, length-written, field_kept, Tiles, Tiles-fields, part, written_parts}
 
 -- ---- reading what was written
 

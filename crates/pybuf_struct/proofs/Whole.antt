@@ -19,7 +19,7 @@ use Rattle.pybuf_struct.specs.Laws.{normal_of, normal_values, is_exact, AreExact
 use Rattle.pybuf_struct.proofs.NumbersAgain.{IsBytes}
 use Rattle.pybuf_struct.proofs.FieldsAgain.{GivesBack, field_gives, field_back}
 use Rattle.pybuf_struct.proofs.Fields.{IsSound, fields_sound}
-use Rattle.pybuf_struct.proofs.Places.{Spread, Spread-fields, Fills, length-written, field_kept, Tiles, Tiles-fields, part, written_parts}
+use Rattle.pybuf_struct.proofs.Places.{Spread-fields, Fills, length-written, field_kept, Tiles, Tiles-fields, part, written_parts}
 
 abbrev some : {A : Type 0} → A → Option A
 some x = Some x
@@ -69,7 +69,7 @@ spelled_fills : (o : Endianness) (text : List ℕ) (f : Format) → spelled o te
 unfolding spelled
 spelled_fills o text f is = spelled_items o (counted o text None) f is
 
-ok_or_some : (o : Option Format) (f : Format) → ok_or o fault.Struct ≡ Ok f → o ≡ some f
+pub ok_or_some : (o : Option Format) (f : Format) → ok_or o fault.Struct ≡ Ok f → o ≡ Some f
 ok_or_some None f is = absurd cc
 ok_or_some (Some g) f is = ap some (let same : g ≡ f = cc in same)
 

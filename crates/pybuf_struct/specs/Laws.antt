@@ -1,5 +1,5 @@
 -- What reading gives of what was written.
-use Rattle.std.specs.Prelude.{IsTrue, Bool, true, false, ℕ, ◌==◌, ◌-◌, ◌≡◌, ◌<◌, min, not, List, [], ◌∷◌, take, ℤ, Result, Ok, Err, if◌then◌else◌}
+use Rattle.std.specs.Prelude.{IsTrue, Bool, true, false, ℕ, ◌==◌, ◌+◌, ◌-◌, ◌%◌, ◌≡◌, ◌<◌, ◌≤◌, min, not, List, [], ◌∷◌, take, ℤ, Result, Ok, Err, if◌then◌else◌}
 use Rattle.std.specs.List.{All, AllByRecursion}
 use Rattle.pybuf_value.specs.declared.faults.Fault.{Fault}
 use Rattle.pybuf_value.specs.declared.values.Scalar.{Scalar}
@@ -7,8 +7,10 @@ use Rattle.pybuf_value.specs.declared.values.Scalar.TheVariants as scalar
 use Rattle.pybuf_value.specs.declared.snaps.Snap.{Snap}
 use Rattle.pybuf_value.specs.Numbers.{number_in}
 use Rattle.pybuf_value.specs.Snaps.{bytes_like, bytes_alone}
+use Rattle.pybuf_struct.specs.declared.table.Endianness.{Endianness}
 use Rattle.pybuf_struct.specs.declared.table.FormatType.{FormatType}
 use Rattle.pybuf_struct.specs.declared.table.FormatType.TheVariants as code
+use Rattle.pybuf_struct.specs.Table.{alignment_of}
 use Rattle.pybuf_struct.specs.Formats.{Code, Format, Field, format_of, fields}
 use Rattle.pybuf_struct.specs.Values.{unpacked}
 use Rattle.pybuf_struct.specs.Packing.{truth_byte, fitted_to, packed}
@@ -54,6 +56,19 @@ is_exact _ = true
 -- codes without padding whose every byte comes back as it was
 abbrev pub AreExact : List Code → Type 0
 AreExact codes = AllByRecursion (λ c. (c.pre_padding ≡ 0) × IsTrue (is_exact c.code)) codes
+
+-- fields that begin at p or later, each at or after the end of the one before it, and end at q at the latest
+abbrev pub Spread : ℕ → List Field → ℕ → Type 0
+Spread p [] q = p ≤ q
+Spread p (f ∷ fs) q = (p ≤ f.offset) × Spread (f.offset + f.length) fs q
+
+-- a field that begins at a multiple of its code's alignment
+abbrev pub IsAligned : Endianness → Field → Type 0
+IsAligned o f = f.offset % alignment_of o f.code ≡ 0
+
+-- The fields of a format that a text spells follow one another within its size, at multiples of their alignment.
+abbrev pub FieldsLieInOrder : Type 0
+FieldsLieInOrder = (text : List ℕ) (f : Format) → format_of text ≡ Ok f → Spread 0 (fields f) f.size × AllByRecursion (IsAligned f.order) (fields f)
 
 -- Reading by a format gives of values that were written by it what each field gives back.
 abbrev pub ReadsWhatWasWritten : Type 0

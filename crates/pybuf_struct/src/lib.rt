@@ -11,7 +11,7 @@ mod table;
 mod unpack;
 
 pub use format::{FormatCode, FormatSpec};
-pub use laws::{reads_what_was_written, writes_what_was_read};
+pub use laws::{fields_lie_in_order, reads_what_was_written, writes_what_was_read};
 pub use table::{Endianness, FormatType};
 
 #[cfg(test)]

@@ -90,16 +90,12 @@ fn is_in_range(signed: bool, size: usize, number: i128) -> bool
     requires { IsTrue (is_width size) }
     ensures { result ≡ is_in_range signed size number }
 {
-    let modulus: i128 = modulus_of(size);
-    if signed {
-        if number < 0 {
-            -1 - number < modulus / 2
-        } else {
-            number < modulus / 2
-        }
-    } else {
-        if number < 0 { false } else { number < modulus }
+    let modulus = modulus_of(size);
+    if !signed {
+        return number >= 0 && number < modulus;
     }
+    let half = modulus / 2;
+    -half <= number && number < half
 }
 
 /// The number in two's complement of so many bytes.
@@ -327,8 +323,7 @@ impl FormatSpec {
     pub fn pack<L: Lender>(&self, alloc: Global, args: &ScalarList, lender: &L) -> Tried<Vec<u8>>
         ensures { IfOk result (λ o. items_of o ≡ outcome_of (packed self.now (L.pairs lender.now) args.now)) }
     {
-        let checked = self.check(args, lender);
-        if let Err(fault) = checked {
+        if let Err(fault) = self.check(args, lender) {
             return Ok(Outcome::Refused(fault));
         }
         let mut room = vec![in alloc; 0u8; self.size()]?;
