@@ -1,5 +1,5 @@
 -- Values checked, and then written, one field after another.
-use Rattle.std.proofs.Common.{◌≡◌, ℕ, zero, suc, ◌+◌, ◌-◌, ◌<◌, ◌≤◌, Bool, true, false, List, [], ◌∷◌, ◌++◌, length, get_or, take, drop, Result, Ok, Err, refl, sym, ap, subst, ◌∙◌, add-one, arith}
+use Rattle.std.proofs.Common.{◌≡◌, ℕ, suc, ◌+◌, ◌-◌, ◌<◌, ◌≤◌, true, false, List, [], ◌∷◌, ◌++◌, length, get_or, take, drop, Result, Ok, Err, refl, sym, ap, ◌∙◌, add-one, arith}
 use Rattle.std.proofs.Math.Seq.{drop-cons}
 use Rattle.std.proofs.lemmas.List.{drop_all, length-take, length-drop, drop-drop}
 use Rattle.std.specs.Prelude.{IsOk, is_err}
@@ -10,7 +10,7 @@ use Rattle.pybuf_value.specs.declared.snaps.Snap.{Snap}
 use Rattle.pybuf_value.specs.Refusing.{◌>>=◌}
 use Rattle.pybuf_struct.specs.declared.table.Endianness.{Endianness}
 use Rattle.pybuf_struct.specs.Formats.{Code, Field, extent, fields_from}
-use Rattle.pybuf_struct.specs.Packing.{bytes_of, contents_of, written, written_at, filled, checked}
+use Rattle.pybuf_struct.specs.Packing.{bytes_of, contents_of, written_at, filled, checked}
 use Rattle.pybuf_struct.proofs.Fields.{IsSound, fields_sound}
 
 -- ---- one more value
