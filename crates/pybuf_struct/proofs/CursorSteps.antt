@@ -1,8 +1,8 @@
 -- The first of the fields that are left.
-use Rattle.std.proofs.Common.{◌≡◌, ◌≢◌, ℕ, zero, suc, ◌+◌, ◌-◌, ◌*◌, List, [], ◌∷◌, ◌++◌, refl, sym, ap, ◌∙◌, arith}
+use Rattle.std.proofs.Common.{◌≡◌, ◌≢◌, ℕ, zero, suc, ◌+◌, ◌-◌, ◌*◌, List, ◌∷◌, refl, arith}
 use Rattle.pybuf_struct.specs.declared.table.Endianness.{Endianness}
 use Rattle.pybuf_struct.specs.declared.table.FormatType.{FormatType}
-use Rattle.pybuf_struct.specs.Formats.{Code, Field, fields_in_row, fields_from}
+use Rattle.pybuf_struct.specs.Formats.{Code}
 use Rattle.pybuf_struct.specs.Cursor.{fields_left}
 
 pub first_left : (o : Endianness) (code : FormatType) (len left offset : ℕ) (codes : List Code) → left ≢ 0

@@ -1,12 +1,12 @@
 -- Codes one after another: their bytes and their fields.
-use Rattle.std.proofs.Common.{◌≡◌, ℕ, zero, suc, ◌+◌, ◌*◌, ◌^◌, ◌<◌, ◌≤◌, List, [], ◌∷◌, ◌++◌, length, refl, sym, ap, ◌∙◌, append_assoc, length-append, arith}
+use Rattle.std.proofs.Common.{◌≡◌, ℕ, zero, suc, ◌+◌, ◌≤◌, List, [], ◌∷◌, ◌++◌, length, refl, ap, length-append, arith}
 use Rattle.std.proofs.Math.Nat.{mul-le-mul_left}
 use Rattle.pybuf_struct.specs.declared.table.Endianness.{Endianness}
 use Rattle.pybuf_struct.specs.declared.table.Endianness.TheVariants as order
 use Rattle.pybuf_struct.specs.declared.table.FormatType.{FormatType}
 use Rattle.pybuf_struct.specs.declared.table.FormatType.TheVariants as code
 use Rattle.pybuf_struct.specs.Table.{size_of}
-use Rattle.pybuf_struct.specs.Formats.{Code, Field, span, extent, offset_after, fields_in_row, fields_of_code, fields_from, field_count, field_count_of}
+use Rattle.pybuf_struct.specs.Formats.{Code, span, extent, offset_after, fields_in_row, fields_of_code, fields_from, field_count, field_count_of}
 
 -- a unit of a code takes a byte or more
 pub one-le-size : (c : FormatType) (o : Endianness) → 1 ≤ size_of o c

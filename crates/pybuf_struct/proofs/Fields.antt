@@ -1,5 +1,5 @@
 -- Fields lie within their format, and have the lengths of their codes.
-use Rattle.std.proofs.Common.{◌≡◌, ℕ, zero, suc, ◌+◌, ◌*◌, ◌<◌, ◌≤◌, Bool, true, eqb, List, [], ◌∷◌, ◌++◌, length, refl, sym, ap, ◌∙◌, arith}
+use Rattle.std.proofs.Common.{ℕ, zero, suc, ◌+◌, ◌*◌, ◌≤◌, List, [], ◌∷◌, ◌++◌, refl, arith}
 use Rattle.std.specs.Prelude.{IsTrue}
 use Rattle.std.specs.List.{AllByRecursion}
 use Rattle.std.proofs.lemmas.Bool.{eq-eqb}
@@ -7,7 +7,7 @@ use Rattle.pybuf_struct.specs.declared.table.Endianness.{Endianness}
 use Rattle.pybuf_struct.specs.declared.table.FormatType.{FormatType}
 use Rattle.pybuf_struct.specs.declared.table.FormatType.TheVariants as code
 use Rattle.pybuf_struct.specs.Table.{size_of}
-use Rattle.pybuf_struct.specs.Formats.{Code, Field, span, extent, offset_after, fields_in_row, fields_of_code, fields_from}
+use Rattle.pybuf_struct.specs.Formats.{Code, Field, extent, offset_after, fields_in_row, fields_of_code, fields_from}
 use Rattle.pybuf_struct.specs.Values.{is_length}
 
 pub record IsSound (o : Endianness) (size : ℕ) (f : Field) : Type 0 where
@@ -37,5 +37,5 @@ pub fields_sound : (o : Endianness) (size offset : ℕ) (codes : List Code) → 
 fields_sound o size offset [] within = tt
 fields_sound o size offset (c ∷ codes) within =
     both o size (fields_of_code c.code (size_of o c.code) (offset + c.pre_padding) c.repeat) (fields_from o (offset_after o offset c) codes)
-      (code_sound o size c.code (offset + c.pre_padding) c.repeat (omega (arith, within)))
-      (fields_sound o size (offset_after o offset c) codes (omega (arith, within)))
+    (code_sound o size c.code (offset + c.pre_padding) c.repeat (omega (arith, within)))
+    (fields_sound o size (offset_after o offset c) codes (omega (arith, within)))

@@ -12,3 +12,4 @@ pub mod FieldsAgain
 pub mod Places
 pub mod Whole
 pub mod RoundTrips
+pub mod Aligned

@@ -1,5 +1,5 @@
 -- Values checked, and then written, one field after another.
-use Rattle.std.proofs.Common.{◌≡◌, ℕ, zero, suc, ◌+◌, ◌-◌, ◌<◌, ◌≤◌, Bool, true, false, List, [], ◌∷◌, ◌++◌, length, get_or, take, drop, Result, Ok, Err, refl, sym, ap, subst, ◌∙◌, add-one, arith}
+use Rattle.std.proofs.Common.{◌≡◌, ℕ, suc, ◌+◌, ◌-◌, ◌<◌, ◌≤◌, true, false, List, [], ◌∷◌, ◌++◌, length, get_or, take, drop, Result, Ok, Err, refl, sym, ap, ◌∙◌, add-one, arith}
 use Rattle.std.proofs.Math.Seq.{drop-cons}
 use Rattle.std.proofs.lemmas.List.{drop_all, length-take, length-drop, drop-drop}
 use Rattle.std.specs.Prelude.{IsOk, is_err}
@@ -10,7 +10,7 @@ use Rattle.pybuf_value.specs.declared.snaps.Snap.{Snap}
 use Rattle.pybuf_value.specs.Refusing.{◌>>=◌}
 use Rattle.pybuf_struct.specs.declared.table.Endianness.{Endianness}
 use Rattle.pybuf_struct.specs.Formats.{Code, Field, extent, fields_from}
-use Rattle.pybuf_struct.specs.Packing.{bytes_of, contents_of, written, written_at, filled, checked}
+use Rattle.pybuf_struct.specs.Packing.{bytes_of, contents_of, written_at, filled, checked}
 use Rattle.pybuf_struct.proofs.Fields.{IsSound, fields_sound}
 
 -- ---- one more value
@@ -67,7 +67,7 @@ pub checks_more : (o : Endianness) (pairs : List (ℕ × Snap)) (size : ℕ) (al
     → i < length values → v ≡ get_or values i v → left ≡ f ∷ rest → checked (bytes_of o pairs f.code f.length v) ≡ Ok tt → Checks o pairs size all values rest (i + 1)
 checks_more o pairs size all values left rest f v i checks lt is left_is accepted =
     let here : checked (contents_of o pairs left (drop i values)) ≡ checked (contents_of o pairs rest (drop (i + 1) values))
-      = ap checked (contents_at o pairs values left rest f v i lt is left_is) ∙ checked_first (bytes_of o pairs f.code f.length v) (contents_of o pairs rest (drop (i + 1) values)) accepted in
+    = ap checked (contents_at o pairs values left rest f v i lt is left_is) ∙ checked_first (bytes_of o pairs f.code f.length v) (contents_of o pairs rest (drop (i + 1) values)) accepted in
     let sound : AllByRecursion (IsSound o size) (f ∷ rest) = rw left_is at checks.sound in
     record { same = sym here ∙ checks.same; counts = omega (arith, checks.counts, ap length left_is); sound = sound.1 }
 
@@ -142,7 +142,7 @@ writes_more o pairs size all values before room after left rest f v i bytes writ
     let others = contents_of o pairs rest (drop (i + 1) values) in
     let here : contents_of o pairs left (drop i values) ≡ (others >>= with_bytes bytes) = contents_at o pairs values left rest f v i lt is left_is ∙ rw bytes_is refl in
     let step : filled left (contents_of o pairs left (drop i values)) room ≡ filled rest others after
-      = ap (λ (fs : List Field). filled fs (contents_of o pairs left (drop i values)) room) left_is ∙ ap (λ (r : Result (List (List ℕ)) Fault). filled (f ∷ rest) r room) here ∙ written_one f rest bytes others room ∙ ap (filled rest others) (sym after_is) in
+    = ap (λ (fs : List Field). filled fs (contents_of o pairs left (drop i values)) room) left_is ∙ ap (λ (r : Result (List (List ℕ)) Fault). filled (f ∷ rest) r room) here ∙ written_one f rest bytes others room ∙ ap (filled rest others) (sym after_is) in
     let sound : AllByRecursion (IsSound o size) (f ∷ rest) = rw left_is at writes.sound in
     record {
       same = sym step ∙ writes.same;

@@ -1,22 +1,16 @@
 -- Fields written one after another: none touches another.
-use Rattle.std.proofs.Common.{◌≡◌, ℕ, zero, suc, ◌+◌, ◌-◌, ◌*◌, ◌<◌, ◌≤◌, List, [], ◌∷◌, ◌++◌, length, take, drop, map, refl, sym, ap, subst, ◌∙◌, append_assoc, arith}
+use Rattle.std.proofs.Common.{◌≡◌, ℕ, zero, suc, ◌+◌, ◌*◌, ◌≤◌, List, [], ◌∷◌, ◌++◌, length, take, drop, map, refl, sym, ap, subst, ◌∙◌, append_assoc, arith}
 use Rattle.std.specs.Prelude.{IsTrue}
-use Rattle.std.specs.List.{AllByRecursion}
 use Rattle.std.proofs.lemmas.List.{length-take, length-drop, length-append, take_at, drop_at, take-append-le, take-take, drop-take, drop-drop, take_all, drop_all, take-append-drop, append-nil}
 use Rattle.pybuf_struct.specs.declared.table.Endianness.{Endianness}
 use Rattle.pybuf_struct.specs.declared.table.FormatType.{FormatType}
 use Rattle.pybuf_struct.specs.declared.table.FormatType.TheVariants as code
 use Rattle.pybuf_struct.specs.Table.{size_of}
-use Rattle.pybuf_struct.specs.Formats.{Code, Field, span, extent, offset_after, fields_in_row, fields_of_code, fields_from}
+use Rattle.pybuf_struct.specs.Formats.{Code, Field, extent, offset_after, fields_in_row, fields_of_code, fields_from}
 use Rattle.pybuf_struct.specs.Packing.{written, written_at}
-use Rattle.pybuf_struct.specs.Laws.{is_exact, AreExact}
+use Rattle.pybuf_struct.specs.Laws.{is_exact, AreExact, Spread}
 
 -- ---- where fields lie
-
--- fields in order, from p to q
-abbrev pub Spread : ℕ → List Field → ℕ → Type 0
-Spread p [] q = p ≤ q
-Spread p (f ∷ fs) q = (p ≤ f.offset) × Spread (f.offset + f.length) fs q
 
 Spread-from : (p r : ℕ) (fs : List Field) (q : ℕ) → r ≤ p → Spread p fs q → Spread r fs q
 Spread-from p r [] q le s = omega arith
@@ -42,8 +36,8 @@ Spread-fields o offset (c ∷ codes) =
     let own = fields_of_code c.code (size_of o c.code) (offset + c.pre_padding) c.repeat in
     let end : offset_after o offset c + extent o codes ≡ offset + extent o (c ∷ codes) = omega arith in
     Spread-append offset own (offset_after o offset c) (fields_from o (offset_after o offset c) codes) (offset + extent o (c ∷ codes))
-      (Spread-from (offset + c.pre_padding) offset own (offset_after o offset c) (omega arith) (Spread-code o c.code (offset + c.pre_padding) c.repeat))
-      (subst (λ (q : ℕ). Spread (offset_after o offset c) (fields_from o (offset_after o offset c) codes) q) end (Spread-fields o (offset_after o offset c) codes))
+    (Spread-from (offset + c.pre_padding) offset own (offset_after o offset c) (omega arith) (Spread-code o c.code (offset + c.pre_padding) c.repeat))
+    (subst (λ (q : ℕ). Spread (offset_after o offset c) (fields_from o (offset_after o offset c) codes) q) end (Spread-fields o (offset_after o offset c) codes))
 
 -- ---- one field
 
@@ -130,8 +124,8 @@ Tiles-fields o offset (c ∷ codes) exact =
     let begin : offset + c.pre_padding ≡ offset = omega (arith, exact.0.0) in
     let end : offset_after o offset c + extent o codes ≡ offset + extent o (c ∷ codes) = omega arith in
     Tiles-append offset own (offset_after o offset c) (fields_from o (offset_after o offset c) codes) (offset + extent o (c ∷ codes))
-      (subst (λ (p : ℕ). Tiles p own (offset_after o offset c)) begin (Tiles-code o c.code (offset + c.pre_padding) c.repeat exact.0.1))
-      (subst (λ (q : ℕ). Tiles (offset_after o offset c) (fields_from o (offset_after o offset c) codes) q) end (Tiles-fields o (offset_after o offset c) codes exact.1))
+    (subst (λ (p : ℕ). Tiles p own (offset_after o offset c)) begin (Tiles-code o c.code (offset + c.pre_padding) c.repeat exact.0.1))
+    (subst (λ (q : ℕ). Tiles (offset_after o offset c) (fields_from o (offset_after o offset c) codes) q) end (Tiles-fields o (offset_after o offset c) codes exact.1))
 
 Tiles-le : (p : ℕ) (fs : List Field) (q : ℕ) → Tiles p fs q → p ≤ q
 Tiles-le p [] q t = omega (arith, t)
@@ -154,8 +148,8 @@ written_parts bytes p (f ∷ fs) q room t whole same =
     let after = written_at p content room in
     let after_long : length after ≡ length room = length-written_at p content room (omega arith) in
     let front : take (p + f.length) after ≡ take p room ++ content
-      = ap (take (p + f.length)) (sym (append_assoc (take p room) content (drop (p + length content) room))) ∙ take_at (take p room ++ content) (drop (p + length content) room) (p + f.length) (omega (arith, length-append (take p room) content, length-take p room)) in
+    = ap (take (p + f.length)) (sym (append_assoc (take p room) content (drop (p + length content) room))) ∙ take_at (take p room ++ content) (drop (p + length content) room) (p + f.length) (omega (arith, length-append (take p room) content, length-take p room)) in
     let back : content ++ drop (p + f.length) bytes ≡ drop p bytes
-      = ap (λ (rest : List ℕ). content ++ rest) (sym (drop-drop f.length p bytes)) ∙ take-append-drop f.length (drop p bytes) in
+    = ap (λ (rest : List ℕ). content ++ rest) (sym (drop-drop f.length p bytes)) ∙ take-append-drop f.length (drop p bytes) in
     rw (t.0) (written_parts bytes (p + f.length) fs q after t.1 whole (omega arith)
-      ∙ ap (λ (l : List ℕ). l ++ drop (p + f.length) bytes) front ∙ append_assoc (take p room) content (drop (p + f.length) bytes) ∙ ap (λ (rest : List ℕ). take p room ++ rest) back)
+    ∙ ap (λ (l : List ℕ). l ++ drop (p + f.length) bytes) front ∙ append_assoc (take p room) content (drop (p + f.length) bytes) ∙ ap (λ (rest : List ℕ). take p room ++ rest) back)

@@ -1,6 +1,6 @@
 -- Reading gives back what was written, and writing what was read.
-use Rattle.std.proofs.Common.{◌≡◌, ℕ, zero, suc, ◌+◌, ◌-◌, ◌*◌, ◌^◌, ◌<◌, ◌≤◌, Bool, true, false, cond, eqb, ltb, List, [], ◌∷◌, ◌++◌, length, get_or, take, drop, replicate, map, Option, Some, None, Result, Ok, Err, refl, sym, ap, subst, ◌∙◌, arith, inl, inr}
-use Rattle.std.specs.Prelude.{IsTrue, ok_or}
+use Rattle.std.proofs.Common.{◌≡◌, ℕ, zero, suc, ◌+◌, ◌<◌, ◌≤◌, Bool, true, false, cond, eqb, List, [], ◌∷◌, ◌++◌, length, drop, replicate, map, Result, Ok, Err, refl, ap, subst, ◌∙◌, arith, inl, inr}
+use Rattle.std.specs.Prelude.{IsTrue}
 use Rattle.std.specs.List.{All, AllByRecursion}
 use Rattle.std.proofs.lemmas.Bool.{eqb-true, eq-eqb, cases_lt}
 use Rattle.std.proofs.lemmas.List.{length-take, length-drop, length-replicate, length-map, get_or-take, get_or-drop, get_or_past}
@@ -13,15 +13,14 @@ use Rattle.pybuf_struct.specs.declared.table.FormatType.{FormatType}
 use Rattle.pybuf_struct.specs.declared.table.FormatType.TheVariants as code
 use Rattle.pybuf_struct.specs.Table.{size_of}
 use Rattle.pybuf_value.specs.Refusing.{◌>>=◌}
-use Rattle.pybuf_struct.specs.Formats.{Counted, Code, Format, Field, counted, laid, spelled, format_of, prefix_of, placed, offset_after, extent, fields_in_row, fields_of_code, fields_from, fields}
-use Rattle.pybuf_struct.specs.Values.{is_length, value_of, value_in, values, unpacked}
+use Rattle.pybuf_struct.specs.Formats.{Code, Format, Field, offset_after, extent, fields_in_row, fields_of_code, fields_from, fields}
+use Rattle.pybuf_struct.specs.Values.{value_of, value_in, values, unpacked}
 use Rattle.pybuf_struct.specs.Packing.{bytes_of, contents_of, written, written_at, filled, packed, packed_values}
-use Rattle.pybuf_struct.specs.Laws.{normal_of, normal_values, is_exact, AreExact}
+use Rattle.pybuf_struct.specs.Laws.{Spread, normal_of, normal_values, is_exact, AreExact}
 use Rattle.pybuf_struct.proofs.NumbersAgain.{IsBytes}
 use Rattle.pybuf_struct.proofs.FieldsAgain.{GivesBack, field_gives, field_back}
 use Rattle.pybuf_struct.proofs.Fields.{IsSound, fields_sound}
-use Rattle.pybuf_struct.proofs.Whole.{format_fills}
-use Rattle.pybuf_struct.proofs.Places.{Spread, Spread-le, Spread-fields, Fills, length-written_at, length-written, field_kept, Tiles, Tiles-fields, part, written_parts}
+use Rattle.pybuf_struct.proofs.Places.{Spread-le, Spread-fields, Fills, length-written_at, length-written, field_kept, Tiles, Tiles-fields, part, written_parts}
 
 -- ---- reading what was written
 
@@ -52,7 +51,7 @@ again_cons : (o : Endianness) (pairs : List (ℕ × Snap)) (f : Field) (fs : Lis
     → Again o pairs (f ∷ fs) (v ∷ vs) room (bytes ∷ others)
 again_cons o pairs f fs q v vs bytes others room spread le gives rest =
     let here : value_in o (written fs others (written_at f.offset bytes room)) f ≡ normal_of pairs f.code f.length v
-      = ap (value_of o f.code) (field_kept f fs q bytes others room spread le gives.1 rest.1) ∙ gives.0 in
+    = ap (value_of o f.code) (field_kept f fs q bytes others room spread le gives.1 rest.1) ∙ gives.0 in
     (cc (here, rest.0), (gives.1, rest.1))
 
 values_again : (o : Endianness) (pairs : List (ℕ × Snap)) (size p : ℕ) (fs : List Field) (q : ℕ) (vs : List Scalar) (contents : List (List ℕ)) (room : List ℕ) → AllByRecursion (IsSound o size) fs → Spread p fs q → q ≤ length room → contents_of o pairs fs vs ≡ okay contents
@@ -149,9 +148,9 @@ unpacked_again f pairs vs bytes whole exact small is =
     let room = replicate f.size 0 in
     let room_long : length room ≡ f.size = length-replicate {A = ℕ} f.size 0 in
     let contents : contents_of f.order pairs (fields f) (values f bytes) ≡ okay (map (part bytes) (fields f))
-      = contents_back f.order pairs bytes (fields f) (fields_sound f.order (length bytes) 0 f.codes (omega (arith, from_zero))) (exact-fields f.order 0 f.codes exact) (IsBytes-from bytes small) in
+    = contents_back f.order pairs bytes (fields f) (fields_sound f.order (length bytes) 0 f.codes (omega (arith, from_zero))) (exact-fields f.order 0 f.codes exact) (IsBytes-from bytes small) in
     let tiles : Tiles 0 (fields f) (length bytes) = subst (Tiles 0 (fields f)) from_zero (Tiles-fields f.order 0 f.codes exact) in
     let back : written (fields f) (map (part bytes) (fields f)) room ≡ bytes = written_parts bytes 0 (fields f) (length bytes) room tiles refl (omega arith) in
     let counts : length (values f bytes) ≡ length (fields f) = length-map (fields f) (value_in f.order bytes) in
     subst (λ (ws : List Scalar). packed f pairs ws ≡ Ok bytes) values_are
-      (rw (eq-eqb (length (values f bytes)) (length (fields f)) counts, contents) (ap okay back))
+    (rw (eq-eqb (length (values f bytes)) (length (fields f)) counts, contents) (ap okay back))

@@ -1,13 +1,13 @@
 -- A text read up to an index, and what each further byte makes of that.
-use Rattle.std.proofs.Common.{◌≡◌, ℕ, zero, suc, ◌+◌, ◌-◌, ◌*◌, ◌^◌, ◌<◌, ◌≤◌, Bool, true, false, List, [], ◌∷◌, ◌++◌, length, get_or, drop, Option, Some, None, refl, sym, ap, ◌∙◌, arith}
+use Rattle.std.proofs.Common.{◌≡◌, ℕ, ◌+◌, ◌-◌, ◌*◌, ◌^◌, ◌<◌, ◌≤◌, true, false, List, [], ◌∷◌, ◌++◌, length, get_or, drop, Option, Some, None, refl, sym, ap, ◌∙◌, arith}
 use Rattle.std.specs.Prelude.{unwrap_or, is_some, if◌then◌else◌}
 use Rattle.std.specs.Char.{is_ascii_digit}
 use Rattle.std.proofs.lemmas.List.{append-nil, drop_all}
 use Rattle.pybuf_struct.specs.declared.table.Endianness.{Endianness}
 use Rattle.pybuf_struct.specs.declared.table.FormatType.{FormatType}
-use Rattle.pybuf_struct.specs.Formats.{Counted, Code, Format, counted, laid, spelled, extent, fields_from, field_count, span, allowed_code, placed, offset_after}
+use Rattle.pybuf_struct.specs.Formats.{Counted, Code, counted, laid, spelled, extent, fields_from, field_count, allowed_code, placed, offset_after}
 use Rattle.pybuf_struct.proofs.Extents.{extent_push, length-fields_push, field_count-le-span, field_count-le-span_one}
-use Rattle.pybuf_struct.proofs.Grammar.{finished, with_item, begins, counted_digit, counted_code, counted_refused, goes_on, passes, too_many}
+use Rattle.pybuf_struct.proofs.Grammar.{finished, begins, counted_digit, counted_code, counted_refused, goes_on, passes, too_many}
 
 pub record Spells (o : Endianness) (text : List ℕ) (codes : List Code) (offset arg_count : ℕ) (count : Option ℕ) (i : ℕ) : Type 0 where
   pub same : finished o codes offset (counted o (drop i text) count) ≡ spelled o text

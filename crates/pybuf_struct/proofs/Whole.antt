@@ -1,25 +1,9 @@
 -- A format that a text spells fills its size.
-use Rattle.std.proofs.Common.{◌≡◌, ℕ, zero, suc, ◌+◌, ◌-◌, ◌*◌, ◌^◌, ◌<◌, ◌≤◌, Bool, true, false, cond, eqb, ltb, List, [], ◌∷◌, ◌++◌, length, get_or, take, drop, replicate, map, Option, Some, None, Result, Ok, Err, refl, sym, ap, subst, ◌∙◌, arith, inl, inr}
-use Rattle.std.specs.Prelude.{IsTrue, ok_or}
-use Rattle.std.specs.List.{All, AllByRecursion}
-use Rattle.std.proofs.lemmas.Bool.{eqb-true, eq-eqb, cases_lt}
-use Rattle.std.proofs.lemmas.List.{length-take, length-drop, length-replicate, length-map, get_or-take, get_or-drop, get_or_past}
-use Rattle.pybuf_value.specs.declared.faults.Fault.{Fault}
+use Rattle.std.proofs.Common.{◌≡◌, ℕ, ◌+◌, ◌^◌, Bool, true, false, cond, ltb, List, [], ◌∷◌, Option, Some, None, Ok, refl, ap, subst, arith}
+use Rattle.std.specs.Prelude.{ok_or}
 use Rattle.pybuf_value.specs.declared.faults.Fault.TheVariants as fault
-use Rattle.pybuf_value.specs.declared.values.Scalar.{Scalar}
-use Rattle.pybuf_value.specs.declared.snaps.Snap.{Snap}
 use Rattle.pybuf_struct.specs.declared.table.Endianness.{Endianness}
-use Rattle.pybuf_struct.specs.declared.table.FormatType.{FormatType}
-use Rattle.pybuf_struct.specs.declared.table.FormatType.TheVariants as code
-use Rattle.pybuf_struct.specs.Table.{size_of}
-use Rattle.pybuf_struct.specs.Formats.{◌>>=◌, Counted, Code, Format, Field, counted, laid, spelled, format_of, prefix_of, placed, offset_after, extent, fields_in_row, fields_of_code, fields_from, fields}
-use Rattle.pybuf_struct.specs.Values.{is_length, value_of, value_in, values, unpacked}
-use Rattle.pybuf_struct.specs.Packing.{bytes_of, contents_of, written, written_at, filled, packed, packed_values}
-use Rattle.pybuf_struct.specs.Laws.{normal_of, normal_values, is_exact, AreExact}
-use Rattle.pybuf_struct.proofs.NumbersAgain.{IsBytes}
-use Rattle.pybuf_struct.proofs.FieldsAgain.{GivesBack, field_gives, field_back}
-use Rattle.pybuf_struct.proofs.Fields.{IsSound, fields_sound}
-use Rattle.pybuf_struct.proofs.Places.{Spread, Spread-fields, Fills, length-written, field_kept, Tiles, Tiles-fields, part, written_parts}
+use Rattle.pybuf_struct.specs.Formats.{◌>>=◌, Counted, Code, Format, counted, laid, spelled, format_of, prefix_of, placed, offset_after, extent}
 
 abbrev some : {A : Type 0} → A → Option A
 some x = Some x
@@ -46,7 +30,7 @@ laid_fills o offset [] l is =
     subst (Fills-from o offset) same (omega arith)
 laid_fills o offset (item ∷ items) l is =
     laid_by o offset (placed o offset item) (ltb (offset_after o offset (placed o offset item)) (2 ^ 63)) (laid o (offset_after o offset (placed o offset item)) items) l
-      (λ k e. laid_fills o (offset_after o offset (placed o offset item)) items k e) is
+    (λ k e. laid_fills o (offset_after o offset (placed o offset item)) items k e) is
 
 abbrev format_with : Endianness → List Code × ℕ → Format
 format_with o l = record { order = o; codes = l.0; size = l.1 }
@@ -69,10 +53,9 @@ spelled_fills : (o : Endianness) (text : List ℕ) (f : Format) → spelled o te
 unfolding spelled
 spelled_fills o text f is = spelled_items o (counted o text None) f is
 
-ok_or_some : (o : Option Format) (f : Format) → ok_or o fault.Struct ≡ Ok f → o ≡ some f
+pub ok_or_some : (o : Option Format) (f : Format) → ok_or o fault.Struct ≡ Ok f → o ≡ Some f
 ok_or_some None f is = absurd cc
 ok_or_some (Some g) f is = ap some (let same : g ≡ f = cc in same)
 
 pub format_fills : (text : List ℕ) (f : Format) → format_of text ≡ Ok f → extent f.order f.codes ≡ f.size
 format_fills text f is = spelled_fills (prefix_of text).0 (prefix_of text).1 f (ok_or_some (spelled (prefix_of text).0 (prefix_of text).1) f is)
-

@@ -1,5 +1,5 @@
 -- Numbers from digits in base 256.
-use Rattle.std.specs.Prelude.{ℕ, zero, suc, ◌+◌, ◌*◌, ◌^◌, Bool, true, false, ◌&&◌, ◌||◌, ◌==◌, List, [], ◌∷◌, length, nat_le, if◌then◌else◌, ℤ, pos, ◌-ℤ◌}
+use Rattle.std.specs.Prelude.{ℕ, suc, ◌+◌, ◌*◌, ◌^◌, Bool, true, false, ◌&&◌, ◌||◌, ◌==◌, List, [], ◌∷◌, length, nat_le, if◌then◌else◌, ℤ, pos, ◌-ℤ◌}
 
 -- the digits times powers of 256, where the first is worth 256 to the power i and each further one 256 times more
 abbrev pub low_first : ℕ → List ℕ → ℕ

@@ -1,16 +1,19 @@
 -- What reading gives of what was written.
-use Rattle.std.specs.Prelude.{IsTrue, Bool, true, false, ℕ, ◌==◌, ◌-◌, ◌≡◌, min, not, List, [], ◌∷◌, take, ℤ, Result, Ok, Err, if◌then◌else◌}
-use Rattle.std.specs.List.{AllByRecursion}
+use Rattle.std.specs.Prelude.{IsTrue, Bool, true, false, ℕ, ◌==◌, ◌+◌, ◌-◌, ◌%◌, ◌≡◌, ◌<◌, ◌≤◌, min, not, List, [], ◌∷◌, take, ℤ, Result, Ok, Err, if◌then◌else◌}
+use Rattle.std.specs.List.{All, AllByRecursion}
 use Rattle.pybuf_value.specs.declared.faults.Fault.{Fault}
 use Rattle.pybuf_value.specs.declared.values.Scalar.{Scalar}
 use Rattle.pybuf_value.specs.declared.values.Scalar.TheVariants as scalar
 use Rattle.pybuf_value.specs.declared.snaps.Snap.{Snap}
 use Rattle.pybuf_value.specs.Numbers.{number_in}
 use Rattle.pybuf_value.specs.Snaps.{bytes_like, bytes_alone}
+use Rattle.pybuf_struct.specs.declared.table.Endianness.{Endianness}
 use Rattle.pybuf_struct.specs.declared.table.FormatType.{FormatType}
 use Rattle.pybuf_struct.specs.declared.table.FormatType.TheVariants as code
-use Rattle.pybuf_struct.specs.Formats.{Code, Field}
-use Rattle.pybuf_struct.specs.Packing.{truth_byte, fitted_to}
+use Rattle.pybuf_struct.specs.Table.{alignment_of}
+use Rattle.pybuf_struct.specs.Formats.{Code, Format, Field, format_of, fields}
+use Rattle.pybuf_struct.specs.Values.{unpacked}
+use Rattle.pybuf_struct.specs.Packing.{truth_byte, fitted_to, packed}
 
 abbrev pub normal_number : Result ℤ Fault → Scalar
 normal_number (Ok n) = scalar.Int n
@@ -37,6 +40,7 @@ normal_of pairs code.Str len v = normal_bytes (fitted_to len) (bytes_like pairs 
 normal_of pairs code.Pascal len v = normal_pascal len (bytes_like pairs v)
 normal_of pairs c len v = normal_number (number_in v)
 
+-- the same of each field, in order
 abbrev pub normal_values : List (ℕ × Snap) → List Field → List Scalar → List Scalar
 normal_values pairs (f ∷ fs) (v ∷ vs) = normal_of pairs f.code f.length v ∷ normal_values pairs fs vs
 normal_values pairs [] vs = []
@@ -52,3 +56,28 @@ is_exact _ = true
 -- codes without padding whose every byte comes back as it was
 abbrev pub AreExact : List Code → Type 0
 AreExact codes = AllByRecursion (λ c. (c.pre_padding ≡ 0) × IsTrue (is_exact c.code)) codes
+
+-- fields that begin at p or later, each at or after the end of the one before it, and end at q at the latest
+abbrev pub Spread : ℕ → List Field → ℕ → Type 0
+Spread p [] q = p ≤ q
+Spread p (f ∷ fs) q = (p ≤ f.offset) × Spread (f.offset + f.length) fs q
+
+-- a field that begins at a multiple of its code's alignment
+abbrev pub IsAligned : Endianness → Field → Type 0
+IsAligned o f = f.offset % alignment_of o f.code ≡ 0
+
+-- The fields of a format that a text spells follow one another within its size, at multiples of their alignment.
+abbrev pub FieldsLieInOrder : Type 0
+FieldsLieInOrder = (text : List ℕ) (f : Format) → format_of text ≡ Ok f → Spread 0 (fields f) f.size × AllByRecursion (IsAligned f.order) (fields f)
+
+-- Reading by a format gives of values that were written by it what each field gives back.
+abbrev pub ReadsWhatWasWritten : Type 0
+ReadsWhatWasWritten =
+    (text : List ℕ) (f : Format) (pairs : List (ℕ × Snap)) (args : List Scalar) (bytes : List ℕ)
+    → format_of text ≡ Ok f → packed f pairs args ≡ Ok bytes → unpacked f bytes ≡ Ok (normal_values pairs (fields f) args)
+
+-- Writing by an exact format gives the bytes that the values were read from.
+abbrev pub WritesWhatWasRead : Type 0
+WritesWhatWasRead =
+    (text : List ℕ) (f : Format) (pairs : List (ℕ × Snap)) (args : List Scalar) (bytes : List ℕ)
+    → format_of text ≡ Ok f → AreExact f.codes → All (λ b. b < 256) bytes → unpacked f bytes ≡ Ok args → packed f pairs args ≡ Ok bytes

@@ -1,5 +1,5 @@
 -- Writing values by a format.
-use Rattle.std.specs.Prelude.{ℕ, zero, suc, ◌+◌, ◌-◌, ◌*◌, ◌^◌, ◌==◌, min, Bool, true, false, not, List, [], ◌∷◌, ◌++◌, take, drop, length, replicate, ℤ, pos, negsuc, nat_lt, Result, Ok, Err, if◌then◌else◌}
+use Rattle.std.specs.Prelude.{ℕ, zero, suc, ◌+◌, ◌-◌, ◌*◌, ◌^◌, ◌==◌, min, Bool, true, false, List, [], ◌∷◌, ◌++◌, take, drop, length, replicate, ℤ, pos, negsuc, nat_lt, Result, Ok, Err, if◌then◌else◌}
 use Rattle.std.specs.Global.{Vec}
 use Rattle.std.specs.Int.{bytes_low_first, bytes_high_first}
 use Rattle.pybuf_value.specs.declared.faults.Fault.{Fault}

@@ -1,9 +1,7 @@
 -- The table of codes: the letter of each, where it is allowed, its size and its alignment.
 -- Native sizes and alignments, and the native order of bytes, are those of a 64-bit little-endian machine.
-use Rattle.std.specs.Prelude.{◌≡◌, ℕ, Bool, true, false, List, [], ◌∷◌, Option, Some, None, ◌==◌, ◌&&◌, ok_or, Result, Ok, Err}
+use Rattle.std.specs.Prelude.{ℕ, Bool, true, false, List, [], ◌∷◌, Option, ◌==◌}
 use Rattle.std.specs.List.{find}
-use Rattle.pybuf_value.specs.declared.faults.Fault.{Fault}
-use Rattle.pybuf_value.specs.declared.faults.Fault.TheVariants as fault
 use Rattle.pybuf_struct.specs.declared.table.Endianness.{Endianness}
 use Rattle.pybuf_struct.specs.declared.table.Endianness.TheVariants as order
 use Rattle.pybuf_struct.specs.declared.table.FormatType.{FormatType}

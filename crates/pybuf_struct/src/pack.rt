@@ -90,12 +90,12 @@ fn is_in_range(signed: bool, size: usize, number: i128) -> bool
     requires { IsTrue (is_width size) }
     ensures { result ≡ is_in_range signed size number }
 {
-    let modulus: i128 = modulus_of(size);
-    if signed {
-        if number < 0 { -1 - number < modulus / 2 } else { number < modulus / 2 }
-    } else {
-        if number < 0 { false } else { number < modulus }
+    let modulus = modulus_of(size);
+    if !signed {
+        return number >= 0 && number < modulus;
     }
+    let half = modulus / 2;
+    -half <= number && number < half
 }
 
 /// The number in two's complement of so many bytes.
@@ -281,7 +281,13 @@ fn write_all<L: Lender>(
             return;
         };
         let end = field.offset + field.length;
-        write_field(order, field.code, value, lender, &mut room[field.offset..end]);
+        write_field(
+            order,
+            field.code,
+            value,
+            lender,
+            &mut room[field.offset..end],
+        );
     }
 }
 
@@ -314,16 +320,10 @@ impl FormatSpec {
     ///   or fills them with zeros. `p` does so after a first byte, which is the least of the number
     ///   of bytes, the field's length less 1, and 255. A `p` of length 0 takes every value;
     /// - a handle that `c`, `s` or `p` looks at and the lender hasn't is `UnknownName`.
-    pub fn pack<L: Lender>(
-        &self,
-        alloc: Global,
-        args: &ScalarList,
-        lender: &L,
-    ) -> Tried<Vec<u8>>
+    pub fn pack<L: Lender>(&self, alloc: Global, args: &ScalarList, lender: &L) -> Tried<Vec<u8>>
         ensures { IfOk result (λ o. items_of o ≡ outcome_of (packed self.now (L.pairs lender.now) args.now)) }
     {
-        let checked = self.check(args, lender);
-        if let Err(fault) = checked {
+        if let Err(fault) = self.check(args, lender) {
             return Ok(Outcome::Refused(fault));
         }
         let mut room = vec![in alloc; 0u8; self.size()]?;

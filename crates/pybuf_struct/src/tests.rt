@@ -1,9 +1,12 @@
-//! Vectors from outside: sizes and values by the `struct` module of CPython 3.11 on a 64-bit
-//! little-endian machine (`struct.calcsize(format)`; `struct.pack(format, number)` at the ends of
-//! each code's range, and `struct.unpack(format, bytes)`). By hand: what is refused, and `u`, which
-//! that module hasn't.
+//! Vectors from outside, by the `struct` module of CPython 3.11 on a 64-bit little-endian machine:
+//! `struct.calcsize(format)` (`SIZES`), `struct.pack(format, *values)` at the ends of each code's
+//! range and with alignment (`NUMBERS`, `WRITES`, `STRINGS`), the numbers that it refuses (`PAST`),
+//! and `struct.unpack(format, bytes)` (`NUMBERS`, `READS`, `CONTENTS`, `TRUTHS`). By hand: the texts
+//! that are refused, `u`, handles, and Pascal strings past 255 bytes.
 use super::*;
-use pybuf_value::{Fault, Outcome, Scalar, ScalarList, Twin};
+use pybuf_value::{
+    ByteList, CountList, Fault, Outcome, Scalar, ScalarList, Snap, SnapKind, SnapList, Text, Twin,
+};
 use std::test::Fail;
 
 const SIZES: [(&str, usize); 91] = [
@@ -100,7 +103,7 @@ const SIZES: [(&str, usize); 91] = [
     (">1152921504606846975q", 9223372036854775800),
 ];
 
-const NUMBERS: [(&str, &[u8], &[i128]); 98] = [
+const NUMBERS: [(&str, &[u8], &[i128]); 84] = [
     ("<b", b"\x80", &[-128]),
     ("<b", b"\x7f", &[127]),
     ("<b", b"\xfe", &[-2]),
@@ -253,6 +256,9 @@ const NUMBERS: [(&str, &[u8], &[i128]); 98] = [
         b"\xff\xff\xff\xff\xff\xff\xff\xff",
         &[18446744073709551615],
     ),
+];
+
+const READS: [(&str, &[u8], &[i128]); 14] = [
     (">H", b"\x01\x02", &[258]),
     ("<H", b"\x01\x02", &[513]),
     ("<hB", b"\xfe\xff\xff", &[-2, 255]),
@@ -271,6 +277,107 @@ const NUMBERS: [(&str, &[u8], &[i128]); 98] = [
     ("<0h", b"", &[]),
     ("b0hh", b"\x7f\x55\xff\x7f", &[127, 32767]),
     ("i0q", b"\x01\x02\x03\x04\xaa\xaa\xaa\xaa", &[67305985]),
+];
+
+const WRITES: [(&str, &[i128], &[u8]); 20] = [
+    ("<hB", &[-2, 255], b"\xfe\xff\xff"),
+    ("bi", &[-1, 5], b"\xff\x00\x00\x00\x05\x00\x00\x00"),
+    ("=bi", &[-1, 5], b"\xff\x05\x00\x00\x00"),
+    ("3xh", &[-2], b"\x00\x00\x00\x00\xfe\xff"),
+    ("h3x", &[258], b"\x02\x01\x00\x00\x00"),
+    ("<2xHxB", &[65535, 7], b"\x00\x00\xff\xff\x00\x07"),
+    ("b0i", &[1], b"\x01\x00\x00\x00"),
+    ("b0q", &[2], b"\x02\x00\x00\x00\x00\x00\x00\x00"),
+    ("i0q", &[3], b"\x03\x00\x00\x00\x00\x00\x00\x00"),
+    (
+        "b2h3i",
+        &[1, 2, 3, 4, 5, 6],
+        b"\x01\x00\x02\x00\x03\x00\x00\x00\x04\x00\x00\x00\x05\x00\x00\x00\x06\x00\x00\x00",
+    ),
+    (
+        "4xb4xh4xi",
+        &[1, 2, 3],
+        b"\x00\x00\x00\x00\x01\x00\x00\x00\x00\x00\x02\x00\x00\x00\x00\x00\x03\x00\x00\x00",
+    ),
+    (
+        "?q",
+        &[1, -1],
+        b"\x01\x00\x00\x00\x00\x00\x00\x00\xff\xff\xff\xff\xff\xff\xff\xff",
+    ),
+    ("x0q", &[], b"\x00\x00\x00\x00\x00\x00\x00\x00"),
+    ("", &[], b""),
+    (">3h", &[1, -32768, -2], b"\x00\x01\x80\x00\xff\xfe"),
+    ("!2I", &[1, 4294967295], b"\x00\x00\x00\x01\xff\xff\xff\xff"),
+    ("b0hh", &[127, 32767], b"\x7f\x00\xff\x7f"),
+    ("0i", &[], b""),
+    ("2x?x?", &[0, 9], b"\x00\x00\x00\x00\x01"),
+    (
+        "@nN",
+        &[-1, 18446744073709551615],
+        b"\xff\xff\xff\xff\xff\xff\xff\xff\xff\xff\xff\xff\xff\xff\xff\xff",
+    ),
+];
+
+const STRINGS: [(&str, &[u8], &[u8]); 18] = [
+    ("c", b"\x00", b"\x00"),
+    (">c", b"\xff", b"\xff"),
+    ("3s", b"\x61\x62\x63", b"\x61\x62\x63"),
+    ("3s", b"\x61\x62", b"\x61\x62\x00"),
+    ("3s", b"\x61\x62\x63\x64", b"\x61\x62\x63"),
+    ("0s", b"\x61\x62\x63", b""),
+    ("s", b"", b"\x00"),
+    ("5s", b"\x80\xff", b"\x80\xff\x00\x00\x00"),
+    ("3p", b"\x61\x62\x63", b"\x02\x61\x62"),
+    ("3p", b"\x61", b"\x01\x61\x00"),
+    ("3p", b"", b"\x00\x00\x00"),
+    ("p", b"\x61\x62\x63", b"\x00"),
+    ("2p", b"\x61\x62\x63", b"\x01\x61"),
+    ("=4p", b"\x78\x79\x7a", b"\x03\x78\x79\x7a"),
+    (
+        "<10p",
+        b"\x30\x31\x32\x33\x34\x35\x36\x37\x38\x39",
+        b"\x09\x30\x31\x32\x33\x34\x35\x36\x37\x38",
+    ),
+    ("x3s2x", b"\x61\x62\x63", b"\x00\x61\x62\x63\x00\x00"),
+    ("3s", b"\x7a\x7a", b"\x7a\x7a\x00"),
+    ("4xs", b"\x71", b"\x00\x00\x00\x00\x71"),
+];
+
+const PAST: [(&str, i128); 34] = [
+    ("<b", -129),
+    ("<b", 128),
+    ("<B", -1),
+    ("<B", 256),
+    ("<h", -32769),
+    ("<h", 32768),
+    ("<H", -1),
+    ("<H", 65536),
+    ("<i", -2147483649),
+    ("<i", 2147483648),
+    ("<I", -1),
+    ("<I", 4294967296),
+    ("<l", -2147483649),
+    ("<l", 2147483648),
+    ("<L", -1),
+    ("<L", 4294967296),
+    ("<q", -9223372036854775809),
+    ("<q", 9223372036854775808),
+    ("<Q", -1),
+    ("<Q", 18446744073709551616),
+    (">h", -32769),
+    (">h", 32768),
+    (">I", -1),
+    (">I", 4294967296),
+    (">q", -9223372036854775809),
+    (">q", 9223372036854775808),
+    ("@l", -9223372036854775809),
+    ("@l", 9223372036854775808),
+    ("@L", -1),
+    ("@L", 18446744073709551616),
+    ("@q", -9223372036854775809),
+    ("@q", 9223372036854775808),
+    ("@Q", -1),
+    ("@Q", 18446744073709551616),
 ];
 
 const CONTENTS: [(&str, &[u8], &[u8]); 15] = [
@@ -392,6 +499,10 @@ fn numbers_are_those_of_python(rt: HostRuntime) -> Result<(), Fail> {
         let values = values(&rt, format.as_bytes(), bytes)?;
         assert!(rt; are_numbers(&values, numbers), "{format}");
     }
+    for (format, bytes, numbers) in &READS {
+        let values = values(&rt, format.as_bytes(), bytes)?;
+        assert!(rt; are_numbers(&values, numbers), "{format}");
+    }
     Ok(())
 }
 
@@ -459,5 +570,214 @@ fn wide_characters_and_accessors(rt: HostRuntime) -> Result<(), Fail> {
             Outcome::Refused(Fault::Struct)
         )
     );
+    Ok(())
+}
+
+fn numbers_list(rt: &impl AllocGlobal, numbers: &[i128]) -> Result<ScalarList, Fail> {
+    let mut list = ScalarList::new(rt.alloc());
+    for number in numbers {
+        list.push(Scalar::Int(*number))?;
+    }
+    Ok(list)
+}
+
+fn bytes_value(rt: &impl AllocGlobal, bytes: &[u8]) -> Result<Scalar, Fail> {
+    Ok(Scalar::Bytes(ByteList::from_vec(Vec::from_slice(rt.alloc(), bytes)?)))
+}
+
+/// Whether `pack` gives the bytes, and `pack_into` leaves them in a room that held others.
+fn gives(
+    rt: &impl AllocGlobal,
+    format: &[u8],
+    args: &ScalarList,
+    lender: &SnapList,
+    bytes: &[u8],
+) -> Result<bool, Fail> {
+    let spec = parsed(rt, format)?;
+    let mut room = vec![in rt.alloc(); 0xaau8; spec.size()]?;
+    let written = spec.pack_into(room.as_mut_slice(), args, lender).is_ok();
+    let packed = spec.pack(rt.alloc(), args, lender)?;
+    let same = match &packed {
+        Outcome::Done(b) => b.as_slice() == bytes,
+        Outcome::Refused(_) => false,
+    };
+    Ok(same && written && room.as_slice() == bytes)
+}
+
+/// Whether both calls refuse so, and the room is as it was.
+fn refuses(
+    rt: &impl AllocGlobal,
+    format: &[u8],
+    args: &ScalarList,
+    lender: &SnapList,
+    fault: Fault,
+) -> Result<bool, Fail> {
+    let spec = parsed(rt, format)?;
+    let mut room = vec![in rt.alloc(); 0xaau8; spec.size()]?;
+    let written = spec.pack_into(room.as_mut_slice(), args, lender);
+    let packed = spec.pack(rt.alloc(), args, lender)?;
+    let same = match &packed {
+        Outcome::Done(_) => false,
+        Outcome::Refused(f) => *f == fault,
+    };
+    Ok(same && written == Err(fault) && room.as_slice().iter().all(|b| *b == 0xaa))
+}
+
+#[test]
+fn packed_bytes_are_those_of_python(rt: HostRuntime) -> Result<(), Fail> {
+    let none = SnapList::new(rt.alloc());
+    for (format, bytes, numbers) in &NUMBERS {
+        let args = numbers_list(&rt, numbers)?;
+        assert!(rt;
+            gives(&rt, format.as_bytes(), &args, &none, bytes)?,
+            "{format}"
+        );
+    }
+    for (format, numbers, bytes) in &WRITES {
+        let args = numbers_list(&rt, numbers)?;
+        assert!(rt;
+            gives(&rt, format.as_bytes(), &args, &none, bytes)?,
+            "{format}"
+        );
+    }
+    for (format, content, bytes) in &STRINGS {
+        let mut args = ScalarList::new(rt.alloc());
+        args.push(bytes_value(&rt, content)?)?;
+        assert!(rt;
+            gives(&rt, format.as_bytes(), &args, &none, bytes)?,
+            "{format}"
+        );
+    }
+    for (format, number) in &PAST {
+        let args = numbers_list(&rt, &[*number])?;
+        assert!(rt;
+            refuses(&rt, format.as_bytes(), &args, &none, Fault::Struct)?,
+            "{format}"
+        );
+    }
+    Ok(())
+}
+
+#[test]
+fn long_pascal_strings_and_wide_characters(rt: HostRuntime) -> Result<(), Fail> {
+    let none = SnapList::new(rt.alloc());
+    let long = [b'a'; 299];
+    let mut field = [b'a'; 300];
+    field[0] = 255;
+    let mut args = ScalarList::new(rt.alloc());
+    args.push(bytes_value(&rt, &long)?)?;
+    assert!(rt; gives(&rt, b"300p", &args, &none, &field)?);
+    let args = numbers_list(&rt, &[-2147483648])?;
+    assert!(rt; gives(&rt, b"u", &args, &none, &[0, 0, 0, 128])?);
+    let args = numbers_list(&rt, &[2147483648])?;
+    assert!(rt; refuses(&rt, b"u", &args, &none, Fault::Struct)?);
+    Ok(())
+}
+
+/// Handle, kind, content, whether contiguous, whether released.
+const SNAPS: [(u64, SnapKind, &[u8], bool, bool); 8] = [
+    (1, SnapKind::Bytes, b"k", true, false),
+    (2, SnapKind::ByteArray, b"xyz", true, false),
+    (3, SnapKind::View, b"v", true, false),
+    (4, SnapKind::View, b"w", false, false),
+    (5, SnapKind::View, b"r", true, true),
+    (6, SnapKind::Iterator, b"", true, false),
+    (7, SnapKind::Bytes, b"kk", true, false),
+    (1, SnapKind::Bytes, b"second", true, false),
+];
+
+/// What a field of the format gets of a handle.
+const TAKEN: [(&[u8], u64, &[u8]); 5] = [
+    (b"c", 1, b"k"),
+    (b"2s", 2, b"xy"),
+    (b"3s", 3, b"v\x00\x00"),
+    (b"3p", 2, b"\x02xy"),
+    (b"0p", 99, b""),
+];
+
+/// Why a field of the format refuses a handle.
+const REFUSED_HANDLES: [(&[u8], u64, Fault); 13] = [
+    (b"b", 1, Fault::Struct),
+    (b"Q", 99, Fault::Struct),
+    (b"?", 1, Fault::Kind),
+    (b"?", 99, Fault::Kind),
+    (b"c", 2, Fault::Kind),
+    (b"c", 3, Fault::Kind),
+    (b"c", 7, Fault::Struct),
+    (b"c", 99, Fault::UnknownName),
+    (b"s", 4, Fault::Kind),
+    (b"s", 5, Fault::Value),
+    (b"s", 6, Fault::Kind),
+    (b"s", 99, Fault::UnknownName),
+    (b"1p", 5, Fault::Value),
+];
+
+/// Why handle 99, which the lender hasn't, and the number 300 are refused.
+const REFUSED_PAIRS: [(&[u8], Fault); 4] = [
+    (b"sb", Fault::UnknownName),
+    (b"bs", Fault::Struct),
+    (b"s", Fault::Struct),
+    (b"?b", Fault::Kind),
+];
+
+fn snap(
+    rt: &impl AllocGlobal,
+    kind: SnapKind,
+    content: &[u8],
+    contiguous: bool,
+    released: bool,
+) -> Result<Snap, Fail> {
+    let mut shape = CountList::new(rt.alloc());
+    shape.push(content.len())?;
+    let content = ByteList::from_vec(Vec::from_slice(rt.alloc(), content)?);
+    let snap = Snap {
+        kind,
+        format: Text::new(rt.alloc()),
+        itemsize: 1,
+        shape,
+        content,
+        contiguous,
+        released,
+    };
+    Ok(snap.copy(rt.alloc())?)
+}
+
+fn lender(rt: &impl AllocGlobal) -> Result<SnapList, Fail> {
+    let mut lender = SnapList::new(rt.alloc());
+    for (handle, kind, content, contiguous, released) in &SNAPS {
+        let snap = snap(rt, *kind, content, *contiguous, *released)?;
+        lender.push((*handle, snap))?;
+    }
+    Ok(lender)
+}
+
+fn handle_list(rt: &impl AllocGlobal, handle: u64) -> Result<ScalarList, Fail> {
+    let mut list = ScalarList::new(rt.alloc());
+    list.push(Scalar::Handle(handle))?;
+    Ok(list)
+}
+
+#[test]
+fn handles_count_as_their_bytes(rt: HostRuntime) -> Result<(), Fail> {
+    let lender = lender(&rt)?;
+    for (format, handle, bytes) in &TAKEN {
+        let args = handle_list(&rt, *handle)?;
+        assert!(rt; gives(&rt, format, &args, &lender, bytes)?, "{handle}");
+    }
+    Ok(())
+}
+
+#[test]
+fn the_first_refusal_decides(rt: HostRuntime) -> Result<(), Fail> {
+    let lender = lender(&rt)?;
+    for (format, handle, fault) in &REFUSED_HANDLES {
+        let args = handle_list(&rt, *handle)?;
+        assert!(rt; refuses(&rt, format, &args, &lender, *fault)?, "{handle}");
+    }
+    for (format, fault) in &REFUSED_PAIRS {
+        let mut args = handle_list(&rt, 99)?;
+        args.push(Scalar::Int(300))?;
+        assert!(rt; refuses(&rt, format, &args, &lender, *fault)?, "{fault}");
+    }
     Ok(())
 }

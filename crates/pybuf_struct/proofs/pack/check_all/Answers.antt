@@ -1,4 +1,4 @@
-use Rattle.std.proofs.Common.{sym, ap, ◌∙◌, arith}
+use Rattle.std.proofs.Common.{sym, ◌∙◌, arith}
 use Rattle.pybuf_struct.proofs.Packs.{checks_nothing, checks_more, checks_stopped, is_accepted, checks_all}
 use Rattle.pybuf_struct.proofs.pack.check_all.Goals as goal
 

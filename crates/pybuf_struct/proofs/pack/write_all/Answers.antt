@@ -1,4 +1,4 @@
-use Rattle.std.proofs.Common.{◌≡◌, ◌+◌, ◌-◌, ◌≤◌, length, take, drop, sym, ap, ◌∙◌, arith}
+use Rattle.std.proofs.Common.{◌≡◌, ◌+◌, ◌-◌, ◌≤◌, length, take, drop, arith}
 use Rattle.pybuf_struct.proofs.Packs.{writes_nothing, writes_accepted, writes_more, writes_within, part_length, part_written}
 use Rattle.pybuf_struct.proofs.pack.write_all.Goals as goal
 

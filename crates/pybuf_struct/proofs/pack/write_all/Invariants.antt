@@ -1,4 +1,4 @@
-use Rattle.std.proofs.Common.{◌≡◌, ◌<◌, ◌^◌, length}
+use Rattle.std.proofs.Common.{◌<◌, ◌^◌}
 use Rattle.pybuf_struct.specs.Formats.{extent, fields_from}
 use Rattle.pybuf_struct.specs.Cursor.{remaining, end}
 use Rattle.pybuf_struct.proofs.Packs.{Writes}
