@@ -29,7 +29,7 @@ inside_flat size zero len e = All-nil (IsInside size len)
 inside_flat size (suc n) len e =
     All-from_recursion (IsInside size len) (places ((suc n, pos size, pos 0) ∷ []) (pos 0))
     (inside_from_reach size len ((suc n, pos size, pos 0) ∷ []) (pos 0)
-      (record { least = reach_back n; greatest = reach_forth size n len e }))
+    (record { least = reach_back n; greatest = reach_forth size n len e }))
 
 pub valid_flat : (format : List ℕ) (size count len : ℕ) (readonly : Bool) → 0 < size → size < 2 ^ 63 → count * size ≡ len → len < 2 ^ 63 → IsValid (flat format size count readonly) 0 len
 valid_flat format size count len readonly some fits e len_fits =
@@ -63,10 +63,22 @@ map-times-1 (suc n) i = ap₂ (λ (x : ℕ) (xs : List ℕ). x ∷ xs) (mul-one 
 
 pub stands_flat : (format : List ℕ) (size count : ℕ) (readonly : Bool) → Stands (flat format size count readonly) 0 (flat_layout format size count readonly)
 stands_flat format size count readonly =
-    record { format = refl; itemsize = refl; shape = refl; strides = refl; readonly = refl;
-      starts = places-flat size count (pos 0) ∙ map-pos size count 0 }
+    record {
+      format = refl;
+      itemsize = refl;
+      shape = refl;
+      strides = refl;
+      readonly = refl;
+      starts = places-flat size count (pos 0) ∙ map-pos size count 0;
+    }
 
 pub stands_bytes : (count : ℕ) (readonly : Bool) → Stands (flat (codes "B") 1 count readonly) 0 (bytes_layout count readonly)
 stands_bytes count readonly =
-    record { format = refl; itemsize = refl; shape = refl; strides = refl; readonly = refl;
-      starts = places-flat 1 count (pos 0) ∙ map-pos 1 count 0 ∙ ap (λ (xs : List ℕ). map pos xs) (map-times-1 count 0) }
+    record {
+      format = refl;
+      itemsize = refl;
+      shape = refl;
+      strides = refl;
+      readonly = refl;
+      starts = places-flat 1 count (pos 0) ∙ map-pos 1 count 0 ∙ ap (λ (xs : List ℕ). map pos xs) (map-times-1 count 0);
+    }

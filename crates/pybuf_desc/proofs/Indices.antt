@@ -47,7 +47,7 @@ none_at (dim ∷ dims) zero h a = a
 none_at (dim ∷ dims) (suc k) h a = none_at dims k (omega arith) a
 
 indices_at' : (indices : List ℕ) (dims : List (ℕ × ℤ × ℤ)) (k : ℕ) → k < length dims → AreIndices (drop k indices) (drop k dims)
-  → (k < length indices) × (get_or indices k 0 < (get_or dims k (0, pos 0, pos 0)).0) × AreIndices (drop (suc k) indices) (drop (suc k) dims)
+    → (k < length indices) × (get_or indices k 0 < (get_or dims k (0, pos 0, pos 0)).0) × AreIndices (drop (suc k) indices) (drop (suc k) dims)
 indices_at' indices [] k h a = absurd (omega arith)
 indices_at' [] (dim ∷ dims) zero h a = absurd a
 indices_at' (i ∷ indices) (dim ∷ dims) zero h a = (omega arith, a.0, a.1)
@@ -57,19 +57,19 @@ indices_at' (i ∷ indices) (dim ∷ dims) (suc k) h a =
     (let low = rest.0 in omega arith, rest.1, rest.2)
 
 pub indices_at : (indices : List ℕ) (dims : List (ℕ × ℤ × ℤ)) (k : ℕ) → k < length dims → AreIndices (drop k indices) (drop k dims)
-  → (k < length indices) × (get_or indices k 0 < (get_or dims k (0, pos 0, pos 0)).0) × AreIndices (drop (k + 1) indices) (drop (k + 1) dims)
+    → (k < length indices) × (get_or indices k 0 < (get_or dims k (0, pos 0, pos 0)).0) × AreIndices (drop (k + 1) indices) (drop (k + 1) dims)
 indices_at indices dims k h a = rw add-one (indices_at' indices dims k h a)
 
 pub offset_of-drop : (indices : List ℕ) (dims : List (ℕ × ℤ × ℤ)) (k : ℕ) → k < length indices → k < length dims
-  → offset_of (drop k indices) (drop k dims) ≡ pos (get_or indices k 0) *ℤ (get_or dims k (0, pos 0, pos 0)).1 +ℤ offset_of (drop (k + 1) indices) (drop (k + 1) dims)
+    → offset_of (drop k indices) (drop k dims) ≡ pos (get_or indices k 0) *ℤ (get_or dims k (0, pos 0, pos 0)).1 +ℤ offset_of (drop (k + 1) indices) (drop (k + 1) dims)
 offset_of-drop indices dims k h g = rw add-one (ap₂ (λ is ds. offset_of is ds) (drop-cons indices k 0 h) (drop-cons dims k (0, pos 0, pos 0) g))
 
 plus_moves : (a b c n : ℤ) → n ≡ a +ℤ b → a +ℤ (b +ℤ c) ≡ n +ℤ c
 plus_moves a b c n e = omega (arith, ints)
 
 pub offset_more : (indices : List ℕ) (dims : List (ℕ × ℤ × ℤ)) (k : ℕ) (offset next : ℤ) → k < length indices → k < length dims
-  → offset_of indices dims ≡ offset +ℤ offset_of (drop k indices) (drop k dims) → next ≡ offset +ℤ pos (get_or indices k 0) *ℤ (get_or dims k (0, pos 0, pos 0)).1
-  → offset_of indices dims ≡ next +ℤ offset_of (drop (k + 1) indices) (drop (k + 1) dims)
+    → offset_of indices dims ≡ offset +ℤ offset_of (drop k indices) (drop k dims) → next ≡ offset +ℤ pos (get_or indices k 0) *ℤ (get_or dims k (0, pos 0, pos 0)).1
+    → offset_of indices dims ≡ next +ℤ offset_of (drop (k + 1) indices) (drop (k + 1) dims)
 offset_more indices dims k offset next h g e n =
     e ∙ ap (λ x. offset +ℤ x) (offset_of-drop indices dims k h g) ∙ plus_moves offset (pos (get_or indices k 0) *ℤ (get_or dims k (0, pos 0, pos 0)).1) (offset_of (drop (k + 1) indices) (drop (k + 1) dims)) next n
 
@@ -102,7 +102,7 @@ item_in_laid block size each (suc n) (suc i) k p t place h g e =
     ap (λ j. slice_get (laid block (suc n) p t) j) (let z : suc i * size + k ≡ length (block p) + (i * size + k) = (let l = each p in omega (arith, l)) in z)
     ∙ slice_get-right (block p) (laid block n (p +ℤ t) t) (i * size + k)
     ∙ item_in_laid block size each n i k (p +ℤ t) t place (omega arith) g
-      (subst (λ q. slice_get (block q) k ≡ Some place) (let z : p +ℤ pos (suc i) *ℤ t ≡ p +ℤ t +ℤ pos i *ℤ t = omega (arith, ints, next_multiple' i t) in z) e)
+    (subst (λ q. slice_get (block q) k ≡ Some place) (let z : p +ℤ pos (suc i) *ℤ t ≡ p +ℤ t +ℤ pos i *ℤ t = omega (arith, ints, next_multiple' i t) in z) e)
 
 number_below : (indices : List ℕ) (dims : List (ℕ × ℤ × ℤ)) → AreIndices indices dims → number_of_item indices dims < product (shape_of dims)
 number_below [] [] h = omega arith
@@ -117,7 +117,7 @@ place_of_item (i ∷ indices) [] p h = absurd h
 place_of_item (i ∷ indices) (dim ∷ dims) p h =
     ap (λ xs. slice_get xs (i * product (shape_of dims) + number_of_item indices dims)) (places-cons dim dims p)
     ∙ item_in_laid (places dims) (product (shape_of dims)) (length-places dims) dim.0 i (number_of_item indices dims) p dim.1 (p +ℤ (pos i *ℤ dim.1 +ℤ offset_of indices dims)) h.0 (number_below indices dims h.1)
-      (place_of_item indices dims (p +ℤ pos i *ℤ dim.1) h.1 ∙ ap (λ (q : ℤ). Some q) (sym (plus_moves p (pos i *ℤ dim.1) (offset_of indices dims) (p +ℤ pos i *ℤ dim.1) refl)))
+    (place_of_item indices dims (p +ℤ pos i *ℤ dim.1) h.1 ∙ ap (λ (q : ℤ). Some q) (sym (plus_moves p (pos i *ℤ dim.1) (offset_of indices dims) (p +ℤ pos i *ℤ dim.1) refl)))
 
 pub plus-0 : (n : ℤ) → n ≡ pos 0 +ℤ n
 plus-0 n = omega (arith, ints)

@@ -111,10 +111,12 @@ inside_in_reach size room start dims low high =
     (λ _. All-from_recursion (IsInside size room) (places dims (pos start)) (inside_from_reach size room dims (pos start) (record { least = omega (arith, ints); greatest = omega (arith, ints) })), λ _. refl)
 
 pub outside_of_reach : (size room start : ℕ) (dims : List (ℕ × ℤ × ℤ)) → All (λ dim. 0 < dim.0) dims → (back_reach dims ≤ start → start + forth_reach dims + size ≤ room → ⊥) → IsTrue false ↔ All (IsInside size room) (places dims (pos start))
-outside_of_reach size room start dims some out =
-    (λ wrong. absurd (true≢false (sym wrong)), λ h.
+outside_of_reach size room start dims some out = (
+  λ wrong. absurd (true≢false (sym wrong)),
+  λ h.
       let r : Reaches size room (back_reach dims) (forth_reach dims) (pos start) = reach_from_inside size room dims (pos start) (AreNonzero-from_All dims some) (recursion_from_All (IsInside size room) (places dims (pos start)) h) in
-      let low = r.least in let high = r.greatest in absurd (out (omega (arith, ints)) (omega (arith, ints))))
+      let low = r.least in let high = r.greatest in absurd (out (omega (arith, ints)) (omega (arith, ints))),
+)
 
 back_reach-drop : (dims : List (ℕ × ℤ × ℤ)) (i : ℕ) → i < length dims → back_reach (drop i dims) ≡ gaps (get_or dims i (0, pos 0, pos 0)).0 * back (get_or dims i (0, pos 0, pos 0)).1 + back_reach (drop (suc i) dims)
 back_reach-drop dims i h = ap back_reach (drop-cons dims i (0, pos 0, pos 0) h)
@@ -132,10 +134,10 @@ too_far n (pos k) before after most b a far low high = far (rw (← gaps_is n) (
 too_far n (negsuc k) before after most b a far low high = far (rw (← gaps_is n) (omega (arith, low, b)))
 
 pub outside_at : (size room start before after i : ℕ) (dims : List (ℕ × ℤ × ℤ)) → All (λ dim. 0 < dim.0) dims → i < length dims
-  → before + back_reach dims ≡ start + back_reach (drop i dims)
-  → after + forth_reach dims + size + start ≡ room + forth_reach (drop i dims)
-  → (gaps (get_or dims i (0, pos 0, pos 0)).0 * back (get_or dims i (0, pos 0, pos 0)).1 ≤ before → gaps (get_or dims i (0, pos 0, pos 0)).0 * forth (get_or dims i (0, pos 0, pos 0)).1 ≤ after → ⊥)
-  → IsTrue false ↔ All (IsInside size room) (places dims (pos start))
+    → before + back_reach dims ≡ start + back_reach (drop i dims)
+    → after + forth_reach dims + size + start ≡ room + forth_reach (drop i dims)
+    → (gaps (get_or dims i (0, pos 0, pos 0)).0 * back (get_or dims i (0, pos 0, pos 0)).1 ≤ before → gaps (get_or dims i (0, pos 0, pos 0)).0 * forth (get_or dims i (0, pos 0, pos 0)).1 ≤ after → ⊥)
+    → IsTrue false ↔ All (IsInside size room) (places dims (pos start))
 outside_at size room start before after i dims some h eb ea far =
     outside_of_reach size room start dims some
     (λ low high. far (omega (arith, back_reach-drop dims i h, eb)) (omega (arith, forth_reach-drop dims i h, ea)))

@@ -52,7 +52,7 @@ get-laid block size each (suc n) (suc i) k p t h g =
 
 -- one dimension down: the index is the quotient, and the remainder is the number in its block
 pub number_down : (dim : ℕ × ℤ × ℤ) (dims : List (ℕ × ℤ × ℤ)) (p : ℤ) (number : ℕ) → 0 < product (shape_of dims) → number / product (shape_of dims) < dim.0
-  → slice_get (places (dim ∷ dims) p) number ≡ slice_get (places dims (p +ℤ pos (number / product (shape_of dims)) *ℤ dim.1)) (number % product (shape_of dims))
+    → slice_get (places (dim ∷ dims) p) number ≡ slice_get (places dims (p +ℤ pos (number / product (shape_of dims)) *ℤ dim.1)) (number % product (shape_of dims))
 number_down dim dims p number some h =
     ap (λ xs. slice_get xs number) (places-cons dim dims p)
     ∙ ap (λ j. slice_get (laid (places dims) dim.0 p dim.1) j) (sym (div-add-mod' number (product (shape_of dims))))

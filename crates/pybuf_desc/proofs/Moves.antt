@@ -27,7 +27,7 @@ pub record Moves (dims : List (ℕ × ℤ × ℤ)) (k : ℕ) (offset : ℤ) (ind
 pub moves : (dims : List (ℕ × ℤ × ℤ)) (k : ℕ) (offset : ℤ) (index : ℕ) → k < length dims → SFits w64 (dim_at dims k).1 → index < (dim_at dims k).0 → Track (drop k dims) offset → Moves dims k offset index
 moves dims k offset index h f below t =
     let s : Step (dim_at dims k) (drop (k + 1) dims) offset index =
-      rw add-one (step (dim_at dims k) (drop (suc k) dims) offset index below (subst (λ ds. Track ds offset) (drop-cons dims k (0, pos 0, pos 0) h) t)) in
+    rw add-one (step (dim_at dims k) (drop (suc k) dims) offset index below (subst (λ ds. Track ds offset) (drop-cons dims k (0, pos 0, pos 0) h) t)) in
     let p : product_bits index (dim_at dims k).1 ≡ pos index *ℤ (dim_at dims k).1 = product_bits_is index (dim_at dims k).1 s.index_fits f in
     let q : SFits w64 (product_bits index (dim_at dims k).1) = subst (SFits w64) (sym p) s.product_fits in
     let e : sum_bits offset index (dim_at dims k).1 ≡ offset +ℤ pos index *ℤ (dim_at dims k).1 = ap (λ x. offset +ℤ x) (to_z-of_z w64 (product_bits index (dim_at dims k).1) q ∙ p) in
@@ -44,5 +44,5 @@ moves dims k offset index h f below t =
 pub index_fits : (dims : List (ℕ × ℤ × ℤ)) (k : ℕ) (offset : ℤ) (index : ℕ) → k < length dims → index < (dim_at dims k).0 → Track (drop k dims) offset → SFits w64 (pos index)
 index_fits dims k offset index h below t =
     let s : Step (dim_at dims k) (drop (suc k) dims) offset index =
-      step (dim_at dims k) (drop (suc k) dims) offset index below (subst (λ ds. Track ds offset) (drop-cons dims k (0, pos 0, pos 0) h) t) in
+    step (dim_at dims k) (drop (suc k) dims) offset index below (subst (λ ds. Track ds offset) (drop-cons dims k (0, pos 0, pos 0) h) t) in
     let low = s.index_fits in omega (arith, ints)

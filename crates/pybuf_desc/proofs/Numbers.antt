@@ -31,8 +31,16 @@ along_placed dims start h = record { some = some_of dims h.entries; entries = fi
 
 pub track_along : (dims : List (ℕ × ℤ × ℤ)) (place : ℤ) → Along dims place → Track dims place
 track_along dims place a =
-    record { start = 0; size = 0; room = 9223372036854775807; room_fits = lit< tt; start_fits = lit≤ tt; some = a.some; entries = a.entries;
-      inside = subst (λ q. AllByRecursion (IsInside 0 9223372036854775807) (places dims q)) (let e : place ≡ pos 0 +ℤ place = omega (arith, ints) in e) a.inside }
+    record {
+      start = 0;
+      size = 0;
+      room = 9223372036854775807;
+      room_fits = lit< tt;
+      start_fits = lit≤ tt;
+      some = a.some;
+      entries = a.entries;
+      inside = subst (λ q. AllByRecursion (IsInside 0 9223372036854775807) (places dims q)) (let e : place ≡ pos 0 +ℤ place = omega (arith, ints) in e) a.inside;
+    }
 
 pub along_here : (dims : List (ℕ × ℤ × ℤ)) (place : ℤ) → Along dims place → (pos 0 ≤ℤ place) × (place ≤ℤ pos 9223372036854775807)
 along_here dims place a = here 0 9223372036854775807 dims place a.some a.inside
@@ -70,7 +78,7 @@ down dims k place size rest h e below a =
       index_below = index_below;
       along = along_entry dim next place (rest / (size / dim.0)) index_below a';
       same = ap (λ ds. slice_get (places ds place) rest) split ∙ number_down dim next place rest inner_some low
-        ∙ ap (λ n. slice_get (places next (place +ℤ pos (rest / n) *ℤ dim.1)) (rest % n)) (sym is);
+          ∙ ap (λ n. slice_get (places next (place +ℤ pos (rest / n) *ℤ dim.1)) (rest % n)) (sym is);
     }
 
 pub at_end : (dims : List (ℕ × ℤ × ℤ)) (k : ℕ) (place : ℤ) (rest size : ℕ) → length dims ≤ k → size ≡ product (shape_of (drop k dims)) → rest < size → slice_get (places (drop k dims) place) rest ≡ Some place

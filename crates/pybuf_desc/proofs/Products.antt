@@ -27,7 +27,7 @@ extent_skips e i dims h z = rw (add-one) (ap (λ (k : ℕ). e * k) (sym (ap exte
 pub extent_grows : (e i : ℕ) (dims : List (ℕ × ℤ × ℤ)) → i < length dims → (get_or dims i (0, pos 0, pos 0)).0 ≢ 0 → e * (get_or dims i (0, pos 0, pos 0)).0 * extent_of (drop (i + 1) dims) ≡ e * extent_of (drop i dims)
 extent_grows e i dims h z =
     rw (add-one) (mul_assoc e (get_or dims i (0, pos 0, pos 0)).0 (extent_of (drop (suc i) dims))
-      ∙ ap (λ (k : ℕ). e * k) (sym (ap extent_of (drop-cons dims i (0, pos 0, pos 0) h) ∙ times_some (get_or dims i (0, pos 0, pos 0)) (drop (suc i) dims) z)))
+    ∙ ap (λ (k : ℕ). e * k) (sym (ap extent_of (drop-cons dims i (0, pos 0, pos 0) h) ∙ times_some (get_or dims i (0, pos 0, pos 0)) (drop (suc i) dims) z)))
 
 pub extent_above : (e i total : ℕ) (dims : List (ℕ × ℤ × ℤ)) → i < length dims → (get_or dims i (0, pos 0, pos 0)).0 ≢ 0 → e * extent_of (drop i dims) ≡ total → e * (get_or dims i (0, pos 0, pos 0)).0 ≤ total
 extent_above e i total dims h z q =

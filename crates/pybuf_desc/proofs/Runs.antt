@@ -95,18 +95,18 @@ gap_from p t size len e = omega (arith, ints)
 
 -- two blocks that make one run are as far apart as they are long
 laid_gap : (size : ℕ) (dims : List (ℕ × ℤ × ℤ)) → AreNonzero dims → (m : ℕ) (p t : ℤ) → 0 < m
-  → laid (places dims) m (p +ℤ t) t ≡ run size (p +ℤ pos (product (shape_of dims) * size)) (m * product (shape_of dims)) → t ≡ pos (size * product (shape_of dims))
+    → laid (places dims) m (p +ℤ t) t ≡ run size (p +ℤ pos (product (shape_of dims) * size)) (m * product (shape_of dims)) → t ≡ pos (size * product (shape_of dims))
 laid_gap size dims some m p t h e =
     let q : ℤ = p +ℤ t in
     let r : ℤ = p +ℤ pos (product (shape_of dims) * size) in
     let firsts : q ≡ r =
-      sym (first-laid (places dims) m q t (pos 0) h (some_places dims q some) ∙ first-places dims q (pos 0) some)
-      ∙ ap (λ (xs : List ℤ). get_or xs 0 (pos 0)) e ∙ first-run size (m * product (shape_of dims)) r (pos 0) (mul-pos h (product-pos dims some)) in
+    sym (first-laid (places dims) m q t (pos 0) h (some_places dims q some) ∙ first-places dims q (pos 0) some)
+    ∙ ap (λ (xs : List ℤ). get_or xs 0 (pos 0)) e ∙ first-run size (m * product (shape_of dims)) r (pos 0) (mul-pos h (product-pos dims some)) in
     gap_from p t size (product (shape_of dims)) firsts
 
 laid_split : (size : ℕ) (dims : List (ℕ × ℤ × ℤ)) (m : ℕ) (p t : ℤ)
-  → laid (places dims) (suc m) p t ≡ run size p (suc m * product (shape_of dims))
-  → (places dims p ≡ run size p (product (shape_of dims))) × (laid (places dims) m (p +ℤ t) t ≡ run size (p +ℤ pos (product (shape_of dims) * size)) (m * product (shape_of dims)))
+    → laid (places dims) (suc m) p t ≡ run size p (suc m * product (shape_of dims))
+    → (places dims p ≡ run size p (product (shape_of dims))) × (laid (places dims) m (p +ℤ t) t ≡ run size (p +ℤ pos (product (shape_of dims) * size)) (m * product (shape_of dims)))
 laid_split size dims m p t e =
     let len : ℕ = product (shape_of dims) in
     append_parts (places dims p) (run size p len) (laid (places dims) m (p +ℤ t) t) (run size (p +ℤ pos (len * size)) (m * len))
@@ -114,7 +114,7 @@ laid_split size dims m p t e =
     (e ∙ ap (λ k. run size p k) (let f : suc m * len ≡ len + m * len = omega arith in f) ∙ run-add size len (m * len) p)
 
 gap_of : (size : ℕ) (dims : List (ℕ × ℤ × ℤ)) → AreNonzero dims → (n : ℕ) (p t : ℤ) → 0 < n → laid (places dims) n p t ≡ run size p (n * product (shape_of dims))
-  → (1 < n → t ≡ pos (size * product (shape_of dims))) × (places dims p ≡ run size p (product (shape_of dims)))
+    → (1 < n → t ≡ pos (size * product (shape_of dims))) × (places dims p ≡ run size p (product (shape_of dims)))
 gap_of size dims some zero p t h e = absurd (omega arith)
 gap_of size dims some (suc m) p t h e =
     let parts : (places dims p ≡ run size p (product (shape_of dims))) × (laid (places dims) m (p +ℤ t) t ≡ run size (p +ℤ pos (product (shape_of dims) * size)) (m * product (shape_of dims))) = laid_split size dims m p t e in
@@ -124,7 +124,7 @@ pub strides_from_places : (size : ℕ) (dims : List (ℕ × ℤ × ℤ)) → Are
 strides_from_places size [] some p e = tt
 strides_from_places size (dim ∷ dims) some p e =
     let parts : (1 < dim.0 → dim.1 ≡ pos (size * product (shape_of dims))) × (places dims p ≡ run size p (product (shape_of dims))) =
-      gap_of size dims some.1 dim.0 p dim.1 some.0 (sym (places-cons dim dims p) ∙ e) in
+    gap_of size dims some.1 dim.0 p dim.1 some.0 (sym (places-cons dim dims p) ∙ e) in
     (parts.0, strides_from_places size dims some.1 p parts.1)
 
 -- ---- what contracts say of it

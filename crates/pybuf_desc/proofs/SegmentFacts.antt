@@ -32,9 +32,10 @@ wider size room (x ∷ xs) h all = ((let i = all.0 in let high = i.high in recor
 row_starts : (size n : ℕ) (t : ℤ) (ps : List ℤ) → 0 < n → AllByRecursion (IsInside size top) (flat_map (λ p. line p t n) ps) → AllByRecursion (IsInside 0 top) ps
 row_starts size n t [] h all = tt
 row_starts size zero t (p ∷ ps) h all = absurd (omega arith)
-row_starts size (suc n) t (p ∷ ps) h all =
-    ((let i = all.0 in let low = i.low in let high = i.high in record { low = low; high = omega (arith, ints, high) }),
-     row_starts size (suc n) t ps h (ByRec-right (IsInside size top) (line p t (suc n)) (flat_map (λ q. line q t (suc n)) ps) all))
+row_starts size (suc n) t (p ∷ ps) h all = (
+  (let i = all.0 in let low = i.low in let high = i.high in record { low = low; high = omega (arith, ints, high) }),
+  row_starts size (suc n) t ps h (ByRec-right (IsInside size top) (line p t (suc n)) (flat_map (λ q. line q t (suc n)) ps) all),
+)
 
 -- a row without gaps lies inside as one piece
 row_whole : (size n : ℕ) (p : ℤ) → AllByRecursion (IsInside size top) (line p (pos size) (suc n)) → IsInside (suc n * size) top p
@@ -45,9 +46,10 @@ row_whole size (suc n) p all =
 rows_whole : (size n : ℕ) (ps : List ℤ) → 0 < n → AllByRecursion (IsInside size top) (flat_map (λ p. line p (pos size) n) ps) → AllByRecursion (IsInside (n * size) top) ps
 rows_whole size zero ps h all = absurd (omega arith)
 rows_whole size (suc n) [] h all = tt
-rows_whole size (suc n) (p ∷ ps) h all =
-    (row_whole size n p (ByRec-left (IsInside size top) (line p (pos size) (suc n)) (flat_map (λ q. line q (pos size) (suc n)) ps) all),
-     rows_whole size (suc n) ps h (ByRec-right (IsInside size top) (line p (pos size) (suc n)) (flat_map (λ q. line q (pos size) (suc n)) ps) all))
+rows_whole size (suc n) (p ∷ ps) h all = (
+  row_whole size n p (ByRec-left (IsInside size top) (line p (pos size) (suc n)) (flat_map (λ q. line q (pos size) (suc n)) ps) all),
+  rows_whole size (suc n) ps h (ByRec-right (IsInside size top) (line p (pos size) (suc n)) (flat_map (λ q. line q (pos size) (suc n)) ps) all),
+)
 
 -- ---- a descriptor whose last dimension is split off
 
@@ -101,8 +103,14 @@ row_count_is d start rows last r =
 
 pub walk_of_items : (d : Descriptor) (start : ℕ) (rows : List (ℕ × ℤ × ℤ)) (last : ℕ × ℤ × ℤ) → IsRows d start rows last → IsWalk rows start 0 (d.len / d.itemsize / last.0) 0 last.1 0 last.0 d.itemsize
 walk_of_items d start rows last r =
-    record { rows_placed = rows_placed d start rows last r; count = row_count_is d start rows last r; row_within = omega arith;
-      row_some = λ _. (last_some d start rows last r).1; row_fits = (last_fits d start rows last r).1; inside = lines_inside d start rows last r }
+    record {
+      rows_placed = rows_placed d start rows last r;
+      count = row_count_is d start rows last r;
+      row_within = omega arith;
+      row_some = λ _. (last_some d start rows last r).1;
+      row_fits = (last_fits d start rows last r).1;
+      inside = lines_inside d start rows last r;
+    }
 
 ones : (t : ℤ) (ps : List ℤ) → flat_map (λ p. line p t 1) ps ≡ ps
 ones t [] = refl
@@ -110,11 +118,16 @@ ones t (p ∷ ps) = ap (λ (xs : List ℤ). p ∷ xs) (ones t ps)
 
 pub walk_of_rows : (d : Descriptor) (start : ℕ) (rows : List (ℕ × ℤ × ℤ)) (last : ℕ × ℤ × ℤ) → IsRows d start rows last → last.1 ≡ pos d.itemsize → IsWalk rows start 0 (d.len / d.itemsize / last.0) 0 (pos 0) 0 1 (last.0 * d.itemsize)
 walk_of_rows d start rows last r gap =
-    record { rows_placed = rows_placed d start rows last r; count = row_count_is d start rows last r; row_within = omega arith;
-      row_some = λ _. lit< tt; row_fits = lit< tt;
+    record {
+      rows_placed = rows_placed d start rows last r;
+      count = row_count_is d start rows last r;
+      row_within = omega arith;
+      row_some = λ _. lit< tt;
+      row_fits = lit< tt;
       inside = subst (AllByRecursion (IsInside (last.0 * d.itemsize) top)) (sym (ones (pos 0) (places rows (pos start))))
-        (rows_whole d.itemsize last.0 (places rows (pos start)) (last_some d start rows last r).1
-          (subst (λ t. AllByRecursion (IsInside d.itemsize top) (flat_map (λ p. line p t last.0) (places rows (pos start)))) gap (lines_inside d start rows last r))) }
+          (rows_whole d.itemsize last.0 (places rows (pos start)) (last_some d start rows last r).1
+          (subst (λ t. AllByRecursion (IsInside d.itemsize top) (flat_map (λ p. line p t last.0) (places rows (pos start)))) gap (lines_inside d start rows last r)));
+    }
 
 pub row_bytes_fit : (d : Descriptor) (start : ℕ) (rows : List (ℕ × ℤ × ℤ)) (last : ℕ × ℤ × ℤ) → IsRows d start rows last → last.0 * d.itemsize < 2 ^ 63
 row_bytes_fit d start rows last r =
@@ -127,7 +140,7 @@ row_bytes_fit d start rows last r =
 -- ---- the ranges
 
 pub ranges_of_items : (d : Descriptor) (start : ℕ) (rows : List (ℕ × ℤ × ℤ)) (last : ℕ × ℤ × ℤ) → IsRows d start rows last
-  → map (range_at d.itemsize) (places_left rows start 0 0 last.1 0 last.0) ≡ item_ranges d (pos start)
+    → map (range_at d.itemsize) (places_left rows start 0 0 last.1 0 last.0) ≡ item_ranges d (pos start)
 ranges_of_items d start rows last r =
     ap (λ (xs : List ℤ). map (range_at d.itemsize) xs) (sym (ap (λ ds. places ds (pos start)) r.dims ∙ places-rows rows last (pos start)))
 
@@ -148,12 +161,12 @@ not_none zero xs h = absurd (omega arith)
 not_none (suc n) xs h = grind arith
 
 pub ranges_of_rows : (d : Descriptor) (start : ℕ) (rows : List (ℕ × ℤ × ℤ)) (last : ℕ × ℤ × ℤ) → IsRows d start rows last
-  → map (range_at (last.0 * d.itemsize)) (places_left rows start 0 0 (pos 0) 0 1) ≡ row_ranges d (pos start)
+    → map (range_at (last.0 * d.itemsize)) (places_left rows start 0 0 (pos 0) 0 1) ≡ row_ranges d (pos start)
 ranges_of_rows d start rows last r =
     ap (λ (xs : List ℤ). map (range_at (last.0 * d.itemsize)) xs) (ones (pos 0) (places rows (pos start)))
     ∙ sym (not_none (product (shape_of d.dims)) (map (range_at (row_size d.itemsize (last_dim d.dims))) (places (take (length d.dims - 1) d.dims) (pos start))) (product-pos d.dims r.some)
-      ∙ ap₂ (λ (o : Option (ℕ × ℤ × ℤ)) (ds : List (ℕ × ℤ × ℤ)). map (range_at (row_size d.itemsize o)) (places ds (pos start))) (ap last_dim r.dims ∙ last_of rows last)
-        (ap (λ ds. take (length ds - 1) ds) r.dims ∙ front_of rows last))
+    ∙ ap₂ (λ (o : Option (ℕ × ℤ × ℤ)) (ds : List (ℕ × ℤ × ℤ)). map (range_at (row_size d.itemsize o)) (places ds (pos start))) (ap last_dim r.dims ∙ last_of rows last)
+    (ap (λ ds. take (length ds - 1) ds) r.dims ∙ front_of rows last))
 
 -- which ranges are asked for
 pub asked_items : (d : Descriptor) (start : ℤ) → ranges_of d start false ≡ item_ranges d start
@@ -230,14 +243,14 @@ row_bytes_from size n (pos a) h = row_bytes size n a
 row_bytes_from size n (negsuc a) h = absurd (omega (arith, ints))
 
 rows_bytes : (size n : ℕ) (ps : List ℤ) → AllByRecursion (IsInside 0 top) ps
-  → flat_map bytes_of (map (range_at (n * size)) ps) ≡ flat_map (λ q. range_with_len (nat_abs q) size) (flat_map (λ p. line p (pos size) n) ps)
+    → flat_map bytes_of (map (range_at (n * size)) ps) ≡ flat_map (λ q. range_with_len (nat_abs q) size) (flat_map (λ p. line p (pos size) n) ps)
 rows_bytes size n [] all = refl
 rows_bytes size n (p ∷ ps) all =
     ap₂ (λ (xs ys : List ℕ). xs ++ ys) (bytes_at (n * size) p ∙ row_bytes_from size n p (let i = all.0 in i.low)) (rows_bytes size n ps all.1)
     ∙ sym (flat_map-append (λ q. range_with_len (nat_abs q) size) (line p (pos size) n) (flat_map (λ q. line q (pos size) n) ps))
 
 pub bytes_of_rows : (d : Descriptor) (start : ℕ) (rows : List (ℕ × ℤ × ℤ)) (last : ℕ × ℤ × ℤ) → IsRows d start rows last → last.1 ≡ pos d.itemsize
-  → flat_map bytes_of (map (range_at (last.0 * d.itemsize)) (places_left rows start 0 0 (pos 0) 0 1)) ≡ item_bytes d (pos start)
+    → flat_map bytes_of (map (range_at (last.0 * d.itemsize)) (places_left rows start 0 0 (pos 0) 0 1)) ≡ item_bytes d (pos start)
 bytes_of_rows d start rows last r gap =
     ap (λ (xs : List ℤ). flat_map bytes_of (map (range_at (last.0 * d.itemsize)) xs)) (ones (pos 0) (places rows (pos start)))
     ∙ rows_bytes d.itemsize last.0 (places rows (pos start)) (rows_placed d start rows last r).inside
@@ -247,19 +260,19 @@ bytes_of_rows d start rows last r gap =
 -- ---- with the numbers as the code reads them
 
 pub walk_items : (d : Descriptor) (start : ℕ) (rows : List (ℕ × ℤ × ℤ)) (last : ℕ × ℤ × ℤ) (len size : ℕ) (stride : ℤ) → IsRows d start rows last → len ≡ d.len → size ≡ d.itemsize → stride ≡ last.1
-  → IsWalk rows start 0 (len / size / last.0) 0 stride 0 last.0 size
+    → IsWalk rows start 0 (len / size / last.0) 0 stride 0 last.0 size
 walk_items d start rows last len size stride r el es et =
     subst (λ n. IsWalk rows start 0 (n / size / last.0) 0 stride 0 last.0 size) (sym el)
     (subst (λ n. IsWalk rows start 0 (d.len / n / last.0) 0 stride 0 last.0 n) (sym es)
-      (subst (λ t. IsWalk rows start 0 (d.len / d.itemsize / last.0) 0 t 0 last.0 d.itemsize) (sym et) (walk_of_items d start rows last r)))
+    (subst (λ t. IsWalk rows start 0 (d.len / d.itemsize / last.0) 0 t 0 last.0 d.itemsize) (sym et) (walk_of_items d start rows last r)))
 
 pub ranges_items : (d : Descriptor) (start : ℕ) (rows : List (ℕ × ℤ × ℤ)) (last : ℕ × ℤ × ℤ) (size : ℕ) (stride : ℤ) (result : List (Range ℕ)) → IsRows d start rows last → size ≡ d.itemsize → stride ≡ last.1
-  → result ≡ map (range_at size) (places_left rows start 0 0 stride 0 last.0) → result ≡ item_ranges d (pos start)
+    → result ≡ map (range_at size) (places_left rows start 0 0 stride 0 last.0) → result ≡ item_ranges d (pos start)
 ranges_items d start rows last size stride result r es et e =
     e ∙ ap₂ (λ n t. map (range_at n) (places_left rows start 0 0 t 0 last.0)) es et ∙ ranges_of_items d start rows last r
 
 pub walk_rows : (d : Descriptor) (start : ℕ) (rows : List (ℕ × ℤ × ℤ)) (last : ℕ × ℤ × ℤ) (len size : ℕ) → IsRows d start rows last → len ≡ d.len → size ≡ d.itemsize → last.1 ≡ pos d.itemsize
-  → IsWalk rows start 0 (len / size / last.0) 0 (pos 0) 0 1 (last.0 * size)
+    → IsWalk rows start 0 (len / size / last.0) 0 (pos 0) 0 1 (last.0 * size)
 walk_rows d start rows last len size r el es gap =
     subst (λ n. IsWalk rows start 0 (n / size / last.0) 0 (pos 0) 0 1 (last.0 * size)) (sym el)
     (subst (λ n. IsWalk rows start 0 (d.len / n / last.0) 0 (pos 0) 0 1 (last.0 * n)) (sym es) (walk_of_rows d start rows last r gap))

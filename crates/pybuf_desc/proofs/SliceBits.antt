@@ -13,9 +13,9 @@ abbrev pub bits : ℤ → ℤ
 bits z = to_z w64 (of_z w64 z)
 
 pub call_of : (d : Descriptor) (start : ℕ) (dims : List (ℕ × ℤ × ℤ)) (parts : SliceParts) (low high count : ℕ) (step : ℤ)
-  → dims ≡ d.dims → IsPlaced d start → 0 < length d.dims → IsSaturated parts → step ≡ parts.step
-  → picks_in_span low high step ≡ picks_of (dim_at dims 0).0 parts → count ≡ length (picks_of (dim_at dims 0).0 parts) → high ≤ (dim_at dims 0).0
-  → IsCall d start parts low high count
+    → dims ≡ d.dims → IsPlaced d start → 0 < length d.dims → IsSaturated parts → step ≡ parts.step
+    → picks_in_span low high step ≡ picks_of (dim_at dims 0).0 parts → count ≡ length (picks_of (dim_at dims 0).0 parts) → high ≤ (dim_at dims 0).0
+    → IsCall d start parts low high count
 call_of d start dims parts low high count step e placed some saturated s picks n within =
     record {
       placed = placed;
@@ -27,7 +27,7 @@ call_of d start dims parts low high count step e placed some saturated s picks n
     }
 
 pub stride_is : (d : Descriptor) (dims : List (ℕ × ℤ × ℤ)) (parts : SliceParts) (r t : ℤ) → dims ≡ d.dims → SFits w64 r → SFits w64 (dim_at dims 0).1 → SFits w64 t → t ≡ parts.step
-  → r ≡ clamped (bits (dim_at dims 0).1 *ℤ bits t) → bits r ≡ clamped ((dim_at d.dims 0).1 *ℤ parts.step)
+    → r ≡ clamped (bits (dim_at dims 0).1 *ℤ bits t) → bits r ≡ clamped ((dim_at d.dims 0).1 *ℤ parts.step)
 stride_is d dims parts r t e fr fs ft step h =
     to_z-of_z w64 r fr ∙ h ∙ ap clamped (ap₂ (λ a b. a *ℤ b) (to_z-of_z w64 (dim_at dims 0).1 fs ∙ ap (λ ds. (dim_at ds 0).1) e) (to_z-of_z w64 t ft ∙ step))
 
@@ -41,7 +41,7 @@ first_is low high first t step f e h rises falls =
     first_of low high first step h (λ g. rises (subst (λ z. pos 0 ≤ℤ z) (sym same) g)) (λ g. falls (subst (λ z. z <ℤ pos 0) (sym same) g))
 
 pub next_is : (d : Descriptor) (dims : List (ℕ × ℤ × ℤ)) (start next first : ℕ) (at : ℤ) → dims ≡ d.dims → SFits w64 (dim_at dims 0).1 → pos first ≡ at
-  → pos next ≡ pos start +ℤ pos first *ℤ bits (dim_at dims 0).1 → pos next ≡ pos start +ℤ at *ℤ (dim_at d.dims 0).1
+    → pos next ≡ pos start +ℤ pos first *ℤ bits (dim_at dims 0).1 → pos next ≡ pos start +ℤ at *ℤ (dim_at d.dims 0).1
 next_is d dims start next first at e f g h =
     h ∙ ap₂ (λ a b. pos start +ℤ a *ℤ b) g (to_z-of_z w64 (dim_at dims 0).1 f ∙ ap (λ ds. (dim_at ds 0).1) e)
 

@@ -25,12 +25,12 @@ next_pick p t step before x e =
     ap₂ (λ y s. p +ℤ y *ℤ t +ℤ s) (sym e) (*ℤ_comm t step) ∙ plus_assoc p (x *ℤ t) (step *ℤ t) ∙ ap (λ q. p +ℤ q) (sym (times_sum x step t))
 
 pub laid_picks : (block : ℤ → List ℤ) (n : ℕ) (step before p t : ℤ) (picks : List ℕ) → Walks n step before picks
-  → laid block (length picks) (p +ℤ (before +ℤ step) *ℤ t) (t *ℤ step) ≡ flat_map (λ i. block (p +ℤ pos i *ℤ t)) picks
+    → laid block (length picks) (p +ℤ (before +ℤ step) *ℤ t) (t *ℤ step) ≡ flat_map (λ i. block (p +ℤ pos i *ℤ t)) picks
 laid_picks block n step before p t [] w = refl
 laid_picks block n step before p t (x ∷ picks) w =
     ap₂ (λ q rest. block q ++ rest) (ap (λ k. p +ℤ k *ℤ t) (sym w.1))
     (ap (λ q. laid block (length picks) q (t *ℤ step)) (next_pick p t step before (pos x) w.1)
-     ∙ laid_picks block n step (pos x) p t picks w.2)
+    ∙ laid_picks block n step (pos x) p t picks w.2)
 
 -- with one block at most, the stride leads nowhere
 laid_one : (block : ℤ → List ℤ) (n : ℕ) (p t u : ℤ) → n ≤ 1 → laid block n p t ≡ laid block n p u
@@ -82,14 +82,14 @@ length-map (x ∷ xs) = ap suc (length-map xs)
 
 -- the blocks of the view's starts are the blocks of the places
 blocks_are : (block : ℤ → List ℤ) (size : ℕ) → ((q : ℤ) → length (block q) ≡ size) → (n : ℕ) (step before p t : ℤ) (starts picks : List ℕ)
-  → laid block n p t ≡ map pos starts → Walks n step before picks
-  → flat_map (λ i. block (p +ℤ pos i *ℤ t)) picks ≡ map pos (flat_map (λ i. block_at size starts i) picks)
+    → laid block n p t ≡ map pos starts → Walks n step before picks
+    → flat_map (λ i. block (p +ℤ pos i *ℤ t)) picks ≡ map pos (flat_map (λ i. block_at size starts i) picks)
 blocks_are block size each n step before p t starts [] e w = refl
 blocks_are block size each n step before p t starts (x ∷ picks) e w =
     ap₂ (λ (xs ys : List ℤ). xs ++ ys)
-      (sym (block_of_laid block size each n x p t w.0) ∙ ap (λ xs. take size (drop (x * size) xs)) e
-        ∙ ap (take size) (drop-map (x * size) starts) ∙ take-map size (drop (x * size) starts))
-      (blocks_are block size each n step (pos x) p t starts picks e w.2)
+    (sym (block_of_laid block size each n x p t w.0) ∙ ap (λ xs. take size (drop (x * size) xs)) e
+    ∙ ap (take size) (drop-map (x * size) starts) ∙ take-map size (drop (x * size) starts))
+    (blocks_are block size each n step (pos x) p t starts picks e w.2)
     ∙ sym (map-append (block_at size starts x) (flat_map (λ i. block_at size starts i) picks))
 
 -- ---- a cut of the first dimension
@@ -102,7 +102,7 @@ pub record IsCut (dim : ℕ × ℤ × ℤ) (start : ℕ) (step : ℤ) (picks : L
   pub stride_is : 1 < length picks → stride ≡ dim.1 *ℤ step
 
 laid_cut : (block : ℤ → List ℤ) (dim : ℕ × ℤ × ℤ) (start : ℕ) (step : ℤ) (picks : List ℕ) (next : ℕ) (stride : ℤ) → IsCut dim start step picks next stride
-  → laid block (length picks) (pos next) stride ≡ flat_map (λ i. block (pos start +ℤ pos i *ℤ dim.1)) picks
+    → laid block (length picks) (pos next) stride ≡ flat_map (λ i. block (pos start +ℤ pos i *ℤ dim.1)) picks
 laid_cut block dim start step [] next stride cut = refl
 laid_cut block dim start step (x ∷ []) next stride cut =
     laid_one block 1 (pos next) stride (dim.1 *ℤ step) (lit≤ tt)
@@ -113,7 +113,7 @@ laid_cut block dim start step (x ∷ y ∷ picks) next stride cut =
     ∙ laid_picks block dim.0 step cut.before (pos start) dim.1 (x ∷ y ∷ picks) cut.walks
 
 pub places_cut : (dims : List (ℕ × ℤ × ℤ)) (dim : ℕ × ℤ × ℤ) (start : ℕ) (step : ℤ) (picks : List ℕ) (next : ℕ) (stride u : ℤ) → IsCut dim start step picks next stride
-  → places ((length picks, stride, u) ∷ dims) (pos next) ≡ flat_map (λ i. places dims (pos start +ℤ pos i *ℤ dim.1)) picks
+    → places ((length picks, stride, u) ∷ dims) (pos next) ≡ flat_map (λ i. places dims (pos start +ℤ pos i *ℤ dim.1)) picks
 places_cut dims dim start step picks next stride u cut =
     places-cons (length picks, stride, u) dims (pos next) ∙ laid_cut (places dims) dim start step picks next stride cut
 
@@ -122,8 +122,8 @@ pub block_size : (n size len : ℕ) → len ≡ n * size → 0 < n → len / n �
 block_size n size len e h = ap (λ k. k / n) (e ∙ mul_comm n size) ∙ mul-div_cancel size h
 
 starts_cut : (dims : List (ℕ × ℤ × ℤ)) (dim : ℕ × ℤ × ℤ) (start : ℕ) (step before : ℤ) (starts picks : List ℕ)
-  → places (dim ∷ dims) (pos start) ≡ map pos starts → Walks dim.0 step before picks
-  → flat_map (λ i. places dims (pos start +ℤ pos i *ℤ dim.1)) picks ≡ map pos (flat_map (λ i. block_at (length starts / dim.0) starts i) picks)
+    → places (dim ∷ dims) (pos start) ≡ map pos starts → Walks dim.0 step before picks
+    → flat_map (λ i. places dims (pos start +ℤ pos i *ℤ dim.1)) picks ≡ map pos (flat_map (λ i. block_at (length starts / dim.0) starts i) picks)
 starts_cut dims dim start step before starts [] e w = refl
 starts_cut dims dim start step before starts (x ∷ picks) e w =
     let count : length starts ≡ dim.0 * product (shape_of dims) = sym (length-map starts) ∙ ap (λ (xs : List ℤ). length xs) (sym e) ∙ length-places (dim ∷ dims) (pos start) in
@@ -137,8 +137,8 @@ abbrev pub cut_of : Descriptor → List (ℕ × ℤ × ℤ) → ℕ → ℕ → 
 cut_of d dims len count stride suboffset = record d { len = len; dims = (count, stride, suboffset) ∷ dims }
 
 pub stands_cut : (d : Descriptor) (dims : List (ℕ × ℤ × ℤ)) (dim : ℕ × ℤ × ℤ) (start len : ℕ) (step : ℤ) (picks : List ℕ) (next : ℕ) (u : ℤ) (view : Layout)
-  → d.dims ≡ dim ∷ dims → SFits w64 step → IsCut dim start step picks next (clamped (dim.1 *ℤ step)) → Stands d start view
-  → Stands (cut_of d dims len (length picks) (clamped (dim.1 *ℤ step)) u) next (slice_at view picks step)
+    → d.dims ≡ dim ∷ dims → SFits w64 step → IsCut dim start step picks next (clamped (dim.1 *ℤ step)) → Stands d start view
+    → Stands (cut_of d dims len (length picks) (clamped (dim.1 *ℤ step)) u) next (slice_at view picks step)
 stands_cut d dims dim start len step picks next u view same f cut stands =
     let shape : view.shape ≡ dim.0 ∷ shape_of dims = sym stands.shape ∙ ap (λ ds. shape_of ds) same in
     let strides : view.strides ≡ dim.1 ∷ strides_of dims = sym stands.strides ∙ ap (λ ds. strides_of ds) same in
@@ -150,6 +150,6 @@ stands_cut d dims dim start len step picks next u view same f cut stands =
       strides = ap₂ (λ (s : ℤ) (ss : List ℤ). clamped (first_stride ss *ℤ s) ∷ drop 1 ss) (sym (clamped_fits step f)) (sym strides);
       readonly = stands.readonly;
       starts = places_cut dims dim start step picks next (clamped (dim.1 *ℤ step)) u cut
-        ∙ starts_cut dims dim start step cut.before view.starts picks starts cut.walks
-        ∙ ap (λ (ns : List ℕ). map pos (flat_map (λ i. block_at (length view.starts / first_entry ns) view.starts i) picks)) (sym shape);
+          ∙ starts_cut dims dim start step cut.before view.starts picks starts cut.walks
+          ∙ ap (λ (ns : List ℕ). map pos (flat_map (λ i. block_at (length view.starts / first_entry ns) view.starts i) picks)) (sym shape);
     }

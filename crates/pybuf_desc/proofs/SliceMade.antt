@@ -63,7 +63,7 @@ count_few d start parts low high count c =
     subst (λ n. n ≤ high - low) (ap (λ (xs : List ℕ). length xs) c.picks ∙ sym c.count_is) (length-span low high parts.step)
 
 walks : (d : Descriptor) (start : ℕ) (parts : SliceParts) (low high count : ℕ) → IsCall d start parts low high count
-  → Walks (dim_at d.dims 0).0 parts.step (span_first low high parts.step -ℤ parts.step) (picks_of (dim_at d.dims 0).0 parts)
+    → Walks (dim_at d.dims 0).0 parts.step (span_first low high parts.step -ℤ parts.step) (picks_of (dim_at d.dims 0).0 parts)
 walks d start parts low high count c =
     subst (Walks (dim_at d.dims 0).0 parts.step (span_first low high parts.step -ℤ parts.step)) c.picks (walks_span (dim_at d.dims 0).0 low high parts.step c.within)
 
@@ -88,7 +88,7 @@ pub record Entry (d : Descriptor) (start first : ℕ) : Type 0 where
 pub entry : (d : Descriptor) (start : ℕ) (parts : SliceParts) (low high count first : ℕ) → IsCall d start parts low high count → 0 < count → pos first ≡ span_first low high parts.step → Entry d start first
 entry d start parts low high count first c h e =
     let below : first < (dim_at d.dims 0).0 = first_pick (dim_at d.dims 0).0 parts.step (span_first low high parts.step -ℤ parts.step) (picks_of (dim_at d.dims 0).0 parts) first (walks d start parts low high count c)
-      (subst (λ n. 0 < n) c.count_is h) (e ∙ there_and_back (span_first low high parts.step) parts.step) in
+    (subst (λ n. 0 < n) c.count_is h) (e ∙ there_and_back (span_first low high parts.step) parts.step) in
     let fits = entry_fits d start c.placed c.some in
     let all = all_inside d start c.placed c.some in
     let a = here d.itemsize c.placed.room (dim_at d.dims 0 ∷ drop 1 d.dims) (pos start) ((let low' : 0 < (dim_at d.dims 0).0 = omega (arith, below) in low'), later d start c.placed) all in
@@ -103,8 +103,8 @@ entry d start parts low high count first c h e =
     }
 
 pub cut_made : (d : Descriptor) (start : ℕ) (parts : SliceParts) (low high count next : ℕ) → IsCall d start parts low high count
-  → (0 < count → pos next ≡ pos start +ℤ span_first low high parts.step *ℤ (dim_at d.dims 0).1)
-  → IsCut (dim_at d.dims 0) start parts.step (picks_of (dim_at d.dims 0).0 parts) next (clamped ((dim_at d.dims 0).1 *ℤ parts.step))
+    → (0 < count → pos next ≡ pos start +ℤ span_first low high parts.step *ℤ (dim_at d.dims 0).1)
+    → IsCut (dim_at d.dims 0) start parts.step (picks_of (dim_at d.dims 0).0 parts) next (clamped ((dim_at d.dims 0).1 *ℤ parts.step))
 cut_made d start parts low high count next c e =
     let few = count_few d start parts low high count c in
     let within = c.within in
@@ -114,7 +114,7 @@ cut_made d start parts low high count next c e =
       few = subst (λ n. n ≤ (dim_at d.dims 0).0) c.count_is (omega (arith, few, within));
       next_is = λ h. e (subst (λ n. 0 < n) (sym c.count_is) h) ∙ ap (λ z. pos start +ℤ z *ℤ (dim_at d.dims 0).1) (there_and_back (span_first low high parts.step) parts.step);
       stride_is = λ h. stride_shown d.itemsize c.placed.room (drop 1 d.dims) (dim_at d.dims 0) (pos start) parts.step (span_first low high parts.step -ℤ parts.step) (picks_of (dim_at d.dims 0).0 parts)
-        c.placed.room_fits (later d start c.placed) (walks d start parts low high count c) (all_inside d start c.placed c.some) h;
+          c.placed.room_fits (later d start c.placed) (walks d start parts low high count c) (all_inside d start c.placed c.some) h;
     }
 
 -- ---- the descriptor that is made
@@ -126,25 +126,25 @@ made_is : (d : Descriptor) (len count : ℕ) (stride : ℤ) → 0 < length d.dim
 made_is d len count stride h = ap (λ (ds : List (ℕ × ℤ × ℤ)). record d { len = len; dims = slice_set ds 0 (count, stride, (dim_at d.dims 0).2) }) (dims_are d h)
 
 pub made_stands : (d : Descriptor) (start : ℕ) (parts : SliceParts) (low high count next len : ℕ) → IsCall d start parts low high count
-  → (0 < count → pos next ≡ pos start +ℤ span_first low high parts.step *ℤ (dim_at d.dims 0).1)
-  → (view : Layout) → Stands d start view → Stands (made_of d len count (clamped ((dim_at d.dims 0).1 *ℤ parts.step))) next (slice_of view parts)
+    → (0 < count → pos next ≡ pos start +ℤ span_first low high parts.step *ℤ (dim_at d.dims 0).1)
+    → (view : Layout) → Stands d start view → Stands (made_of d len count (clamped ((dim_at d.dims 0).1 *ℤ parts.step))) next (slice_of view parts)
 made_stands d start parts low high count next len c e view stands =
     let dim : ℕ × ℤ × ℤ = dim_at d.dims 0 in
     let picks : List ℕ = picks_of dim.0 parts in
     let first : first_entry view.shape ≡ dim.0 = ap first_entry (sym stands.shape ∙ ap (λ ds. shape_of ds) (dims_are d c.some)) in
     subst (λ n. Stands (made_of d len n (clamped (dim.1 *ℤ parts.step))) next (slice_of view parts)) (sym c.count_is)
     (subst (λ x. Stands x next (slice_of view parts)) (sym (made_is d len (length picks) (clamped (dim.1 *ℤ parts.step)) c.some))
-      (subst (λ n. Stands (cut_of d (drop 1 d.dims) len (length picks) (clamped (dim.1 *ℤ parts.step)) dim.2) next (slice_at view (picks_of n parts) parts.step)) (sym first)
-        (stands_cut d (drop 1 d.dims) dim start len parts.step picks next dim.2 view (dims_are d c.some) c.saturated.step (cut_made d start parts low high count next c e) stands)))
+    (subst (λ n. Stands (cut_of d (drop 1 d.dims) len (length picks) (clamped (dim.1 *ℤ parts.step)) dim.2) next (slice_at view (picks_of n parts) parts.step)) (sym first)
+    (stands_cut d (drop 1 d.dims) dim start len parts.step picks next dim.2 view (dims_are d c.some) c.saturated.step (cut_made d start parts low high count next c e) stands)))
 
 -- the bytes of the entries that stay
 entry_bytes : (size n len rest : ℕ) → size * (n * rest) ≡ len → len ≡ n * (size * rest)
 entry_bytes size n len rest e = omega (arith, e)
 
 pub made_valid : (d : Descriptor) (start : ℕ) (parts : SliceParts) (low high count next len : ℕ) → IsCall d start parts low high count
-  → (0 < count → pos next ≡ pos start +ℤ span_first low high parts.step *ℤ (dim_at d.dims 0).1)
-  → ((entry : ℕ) → d.len ≡ (dim_at d.dims 0).0 * entry → len ≡ count * entry)
-  → (room : ℕ) → IsValid d start room → IsValid (made_of d len count (clamped ((dim_at d.dims 0).1 *ℤ parts.step))) next room
+    → (0 < count → pos next ≡ pos start +ℤ span_first low high parts.step *ℤ (dim_at d.dims 0).1)
+    → ((entry : ℕ) → d.len ≡ (dim_at d.dims 0).0 * entry → len ≡ count * entry)
+    → (room : ℕ) → IsValid d start room → IsValid (made_of d len count (clamped ((dim_at d.dims 0).1 *ℤ parts.step))) next room
 made_valid d start parts low high count next len c e bytes room valid =
     let dim : ℕ × ℤ × ℤ = dim_at d.dims 0 in
     let picks : List ℕ = picks_of dim.0 parts in
@@ -154,21 +154,21 @@ made_valid d start parts low high count next len c e bytes room valid =
     let moves : dim.1 ≢ pos 0 = valid.strides 0 (0, pos 0, pos 0) c.some in
     subst (λ n. IsValid (made_of d len n (clamped (dim.1 *ℤ parts.step))) next room) (sym c.count_is)
     (subst (λ x. IsValid x next room) (sym (made_is d len (length picks) (clamped (dim.1 *ℤ parts.step)) c.some))
-      (valid_cut d (drop 1 d.dims) dim start room len parts.step picks next (dims_are d c.some) c.saturated.moves (product_moves dim.1 parts.step moves c.saturated.moves)
-        (cut_made d start parts low high count next c e)
-        (entry_bytes d.itemsize (length picks) (d.itemsize * (length picks * rest)) rest refl ∙ sym (len_is ∙ ap (λ n. n * (d.itemsize * rest)) c.count_is)) valid))
+    (valid_cut d (drop 1 d.dims) dim start room len parts.step picks next (dims_are d c.some) c.saturated.moves (product_moves dim.1 parts.step moves c.saturated.moves)
+    (cut_made d start parts low high count next c e)
+    (entry_bytes d.itemsize (length picks) (d.itemsize * (length picks * rest)) rest refl ∙ sym (len_is ∙ ap (λ n. n * (d.itemsize * rest)) c.count_is)) valid))
 
 pub made_exact : (d : Descriptor) (start : ℕ) (parts : SliceParts) (low high count next : ℕ) → IsCall d start parts low high count
-  → (0 < count → pos next ≡ pos start +ℤ span_first low high parts.step *ℤ (dim_at d.dims 0).1)
-  → 1 < count → clamped ((dim_at d.dims 0).1 *ℤ parts.step) ≡ (dim_at d.dims 0).1 *ℤ parts.step
+    → (0 < count → pos next ≡ pos start +ℤ span_first low high parts.step *ℤ (dim_at d.dims 0).1)
+    → 1 < count → clamped ((dim_at d.dims 0).1 *ℤ parts.step) ≡ (dim_at d.dims 0).1 *ℤ parts.step
 made_exact d start parts low high count next c e h =
     (cut_made d start parts low high count next c e).stride_is (subst (λ n. 1 < n) c.count_is h)
 
 -- with two entries or more, the stride is exact
 pub first_of_made : (d x : Descriptor) (start : ℕ) (parts : SliceParts) (low high count next len : ℕ) → IsCall d start parts low high count
-  → (0 < count → pos next ≡ pos start +ℤ span_first low high parts.step *ℤ (dim_at d.dims 0).1)
-  → made_of d len count (clamped ((dim_at d.dims 0).1 *ℤ parts.step)) ≡ x
-  → 1 < first_entry (shape_of x.dims) → first_stride (strides_of x.dims) ≡ first_stride (strides_of d.dims) *ℤ parts.step
+    → (0 < count → pos next ≡ pos start +ℤ span_first low high parts.step *ℤ (dim_at d.dims 0).1)
+    → made_of d len count (clamped ((dim_at d.dims 0).1 *ℤ parts.step)) ≡ x
+    → 1 < first_entry (shape_of x.dims) → first_stride (strides_of x.dims) ≡ first_stride (strides_of d.dims) *ℤ parts.step
 first_of_made d x start parts low high count next len c e made h =
     let dim : ℕ × ℤ × ℤ = dim_at d.dims 0 in
     let cut : x ≡ cut_of d (drop 1 d.dims) len count (clamped (dim.1 *ℤ parts.step)) dim.2 = sym made ∙ made_is d len count (clamped (dim.1 *ℤ parts.step)) c.some in

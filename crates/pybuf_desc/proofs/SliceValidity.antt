@@ -15,7 +15,7 @@ use Rattle.pybuf_desc.proofs.Cuts.{times_sum, Walks}
 use Rattle.pybuf_desc.proofs.SliceFacts.{IsCut, cut_of, places_cut, clamped_fits, clamped_nonzero}
 
 inside_picks : (size room n : ℕ) (dims : List (ℕ × ℤ × ℤ)) (dim : ℕ × ℤ × ℤ) (p step before : ℤ) (picks : List ℕ) → Walks dim.0 step before picks
-  → AllByRecursion (IsInside size room) (places (dim ∷ dims) p) → AllByRecursion (IsInside size room) (flat_map (λ i. places dims (p +ℤ pos i *ℤ dim.1)) picks)
+    → AllByRecursion (IsInside size room) (places (dim ∷ dims) p) → AllByRecursion (IsInside size room) (flat_map (λ i. places dims (p +ℤ pos i *ℤ dim.1)) picks)
 inside_picks size room n dims dim p step before [] w all = tt
 inside_picks size room n dims dim p step before (x ∷ picks) w all =
     ByRec-append (IsInside size room) (places dims (p +ℤ pos x *ℤ dim.1)) (flat_map (λ i. places dims (p +ℤ pos i *ℤ dim.1)) picks)
@@ -29,14 +29,14 @@ extent_less (suc k) zero a b c e dims h = absurd (omega arith)
 extent_less (suc k) (suc n) a b c e dims h = mul-le-mul_right (extent_of dims) h
 
 pub valid_cut : (d : Descriptor) (dims : List (ℕ × ℤ × ℤ)) (dim : ℕ × ℤ × ℤ) (start room len : ℕ) (step : ℤ) (picks : List ℕ) (next : ℕ)
-  → d.dims ≡ dim ∷ dims → step ≢ pos 0 → dim.1 *ℤ step ≢ pos 0 → IsCut dim start step picks next (clamped (dim.1 *ℤ step))
-  → d.itemsize * (length picks * product (shape_of dims)) ≡ len
-  → IsValid d start room → IsValid (cut_of d dims len (length picks) (clamped (dim.1 *ℤ step)) dim.2) next room
+    → d.dims ≡ dim ∷ dims → step ≢ pos 0 → dim.1 *ℤ step ≢ pos 0 → IsCut dim start step picks next (clamped (dim.1 *ℤ step))
+    → d.itemsize * (length picks * product (shape_of dims)) ≡ len
+    → IsValid d start room → IsValid (cut_of d dims len (length picks) (clamped (dim.1 *ℤ step)) dim.2) next room
 valid_cut d dims dim start room len step picks next same moves strides_move cut len_is valid =
     let strides : All (λ x. x.1 ≢ pos 0) (dim ∷ dims) = subst (All (λ (x : ℕ × ℤ × ℤ). x.1 ≢ pos 0)) same valid.strides in
     let suboffsets : All (λ x. x.2 ≡ pos 0) (dim ∷ dims) = subst (All (λ (x : ℕ × ℤ × ℤ). x.2 ≡ pos 0)) same valid.suboffsets in
     let inside : AllByRecursion (IsInside d.itemsize room) (places (dim ∷ dims) (pos start)) =
-      recursion_from_All (IsInside d.itemsize room) (places (dim ∷ dims) (pos start)) (subst (λ ds. All (IsInside d.itemsize room) (places ds (pos start))) same valid.inside) in
+    recursion_from_All (IsInside d.itemsize room) (places (dim ∷ dims) (pos start)) (subst (λ ds. All (IsInside d.itemsize room) (places ds (pos start))) same valid.inside) in
     record {
       some_size = valid.some_size;
       size_fits = valid.size_fits;
@@ -47,7 +47,7 @@ valid_cut d dims dim start room len step picks next same moves strides_move cut 
       extent_fits = lt_of_le_of_lt (mul-le-mul_left d.itemsize (extent_less (length picks) dim.0 (clamped (dim.1 *ℤ step)) dim.2 dim.1 dim.2 dims cut.few)) (subst (λ (ds : List (ℕ × ℤ × ℤ)). d.itemsize * extent_of ds < 2 ^ 63) same valid.extent_fits);
       len = len_is;
       inside = All-from_recursion (IsInside d.itemsize room) (places ((length picks, clamped (dim.1 *ℤ step), dim.2) ∷ dims) (pos next))
-        (subst (AllByRecursion (IsInside d.itemsize room)) (sym (places_cut dims dim start step picks next (clamped (dim.1 *ℤ step)) dim.2 cut))
+          (subst (AllByRecursion (IsInside d.itemsize room)) (sym (places_cut dims dim start step picks next (clamped (dim.1 *ℤ step)) dim.2 cut))
           (inside_picks d.itemsize room dim.0 dims dim (pos start) step cut.before picks cut.walks inside));
     }
 
@@ -77,7 +77,7 @@ apart : (p a b s : ℤ) (room : ℕ) → room < 2 ^ 63 → pos 0 ≤ℤ (p +ℤ 
 apart p a b s room fits h1 h2 h3 h4 e = omega (arith, ints)
 
 two_picks : (size room : ℕ) (dims : List (ℕ × ℤ × ℤ)) (dim : ℕ × ℤ × ℤ) (p step : ℤ) (x y : ℕ) → room < 2 ^ 63 → AreNonzero dims → x < dim.0 → y < dim.0 → pos y ≡ pos x +ℤ step
-  → AllByRecursion (IsInside size room) (places (dim ∷ dims) p) → SFits w64 (dim.1 *ℤ step)
+    → AllByRecursion (IsInside size room) (places (dim ∷ dims) p) → SFits w64 (dim.1 *ℤ step)
 two_picks size room dims dim p step x y fits some hx hy e all =
     let a : (pos 0 ≤ℤ (p +ℤ pos x *ℤ dim.1)) × ((p +ℤ pos x *ℤ dim.1) ≤ℤ pos room) = here size room dims (p +ℤ pos x *ℤ dim.1) some (inside_entry size room dim dims p x hx all) in
     let b : (pos 0 ≤ℤ (p +ℤ pos y *ℤ dim.1)) × ((p +ℤ pos y *ℤ dim.1) ≤ℤ pos room) = here size room dims (p +ℤ pos y *ℤ dim.1) some (inside_entry size room dim dims p y hy all) in
@@ -85,7 +85,7 @@ two_picks size room dims dim p step x y fits some hx hy e all =
     (ap (λ z. z *ℤ dim.1) e ∙ times_sum (pos x) step dim.1 ∙ ap (λ z. pos x *ℤ dim.1 +ℤ z) (*ℤ_comm step dim.1))
 
 pub stride_shown : (size room : ℕ) (dims : List (ℕ × ℤ × ℤ)) (dim : ℕ × ℤ × ℤ) (p step before : ℤ) (picks : List ℕ) → room < 2 ^ 63 → AreNonzero dims → Walks dim.0 step before picks
-  → AllByRecursion (IsInside size room) (places (dim ∷ dims) p) → 1 < length picks → clamped (dim.1 *ℤ step) ≡ dim.1 *ℤ step
+    → AllByRecursion (IsInside size room) (places (dim ∷ dims) p) → 1 < length picks → clamped (dim.1 *ℤ step) ≡ dim.1 *ℤ step
 stride_shown size room dims dim p step before [] fits some w all h = absurd (omega arith)
 stride_shown size room dims dim p step before (x ∷ []) fits some w all h = absurd (omega arith)
 stride_shown size room dims dim p step before (x ∷ y ∷ picks) fits some w all h =

@@ -55,9 +55,10 @@ contiguous_without_items size dims start e = no_place size start (places dims st
 
 pub some_entries : (dims : List (ℕ × ℤ × ℤ)) → 0 < product (shape_of dims) → AreNonzero dims
 some_entries [] h = tt
-some_entries (dim ∷ dims) h =
-    (pos_of_ne-zero (λ (e : dim.0 ≡ 0). let z : dim.0 * product (shape_of dims) ≡ 0 = ap (λ (n : ℕ). n * product (shape_of dims)) e ∙ zero-mul (product (shape_of dims)) in omega (arith, h, z)),
-     some_entries dims (pos_of_ne-zero (λ (e : product (shape_of dims) ≡ 0). let z : dim.0 * product (shape_of dims) ≡ 0 = ap (λ (n : ℕ). dim.0 * n) e ∙ mul-zero dim.0 in omega (arith, h, z))))
+some_entries (dim ∷ dims) h = (
+  pos_of_ne-zero (λ (e : dim.0 ≡ 0). let z : dim.0 * product (shape_of dims) ≡ 0 = ap (λ (n : ℕ). n * product (shape_of dims)) e ∙ zero-mul (product (shape_of dims)) in omega (arith, h, z)),
+  some_entries dims (pos_of_ne-zero (λ (e : product (shape_of dims) ≡ 0). let z : dim.0 * product (shape_of dims) ≡ 0 = ap (λ (n : ℕ). dim.0 * n) e ∙ mul-zero dim.0 in omega (arith, h, z))),
+)
 
 pub All-from_AreNonzero : (dims : List (ℕ × ℤ × ℤ)) → AreNonzero dims → All (λ dim. 0 < dim.0) dims
 All-from_AreNonzero [] h = All-nil (λ d. 0 < d.0)
@@ -65,9 +66,10 @@ All-from_AreNonzero (dim ∷ dims) h = All-cons (λ d. 0 < d.0) dim dims h.0 (Al
 
 -- with items, places without a gap are row-major strides
 pub contiguous_by_strides : (size : ℕ) (dims : List (ℕ × ℤ × ℤ)) (start : ℤ) → AreNonzero dims → AreRowMajorStrides size dims ↔ IsContiguous size start (places dims start)
-contiguous_by_strides size dims start some =
-    (λ fit. contiguous_from_run size dims start (places_from_strides size dims fit start),
-     λ h. strides_from_places size dims some start (run_from_contiguous size dims start h))
+contiguous_by_strides size dims start some = (
+  λ fit. contiguous_from_run size dims start (places_from_strides size dims fit start),
+  λ h. strides_from_places size dims some start (run_from_contiguous size dims start h),
+)
 
 pub some_product : (size n len : ℕ) → size * n ≡ len → 0 < len → 0 < n
 some_product size zero len e h = absurd (let z : size * 0 ≡ 0 = mul-zero size in omega (arith, e, z, h))

@@ -67,18 +67,27 @@ step dim dims offset i h t =
       index_fits = (let e = t.entries.0 in omega (arith, e));
       product_fits = difference_fits p (p +ℤ m) m t.room t.room_fits at.0 at.1 then.0 then.1 refl;
       sum_fits = move_fits t.start t.room (p +ℤ m) (offset +ℤ m) t.room_fits t.start_fits then.0 then.1 (let e : p +ℤ m ≡ pos t.start +ℤ (offset +ℤ m) = omega (arith, ints) in e);
-      track = record { start = t.start; size = t.size; room = t.room; room_fits = t.room_fits; start_fits = t.start_fits; some = t.some.1; entries = t.entries.1;
-        inside = subst (λ q. AllByRecursion (IsInside t.size t.room) (places dims q)) (let e : p +ℤ m ≡ pos t.start +ℤ (offset +ℤ m) = omega (arith, ints) in e) all };
+      track = record {
+        start = t.start;
+        size = t.size;
+        room = t.room;
+        room_fits = t.room_fits;
+        start_fits = t.start_fits;
+        some = t.some.1;
+        entries = t.entries.1;
+        inside = subst (λ q. AllByRecursion (IsInside t.size t.room) (places dims q)) (let e : p +ℤ m ≡ pos t.start +ℤ (offset +ℤ m) = omega (arith, ints) in e) all;
+      };
     }
 
 pub entries_fit : (e : ℕ) (dims : List (ℕ × ℤ × ℤ)) → 0 < e → e * extent_of dims < 2 ^ 63 → AllByRecursion (λ (dim : ℕ × ℤ × ℤ). dim.0 < 2 ^ 63) dims
 entries_fit e [] h f = tt
 entries_fit e ((zero, z, u) ∷ dims) h f = (omega arith, entries_fit e dims h f)
-entries_fit e ((suc n, z, u) ∷ dims) h f = 
-    (let one : suc n ≤ suc n * extent_of dims = le-mul_of_pos_right (suc n) (extent_pos dims) in
-     let two : suc n * extent_of dims ≤ suc n * extent_of dims * e = le-mul_of_pos_right (suc n * extent_of dims) h in
-     let all : e * (suc n * extent_of dims) < 2 ^ 63 = f in omega (arith, one, two, all),
-     entries_fit (e * suc n) dims (mul-pos h (zero-lt-suc n)) (let all : e * (suc n * extent_of dims) < 2 ^ 63 = f in omega (arith, all)))
+entries_fit e ((suc n, z, u) ∷ dims) h f = (
+  let one : suc n ≤ suc n * extent_of dims = le-mul_of_pos_right (suc n) (extent_pos dims) in
+      let two : suc n * extent_of dims ≤ suc n * extent_of dims * e = le-mul_of_pos_right (suc n * extent_of dims) h in
+      let all : e * (suc n * extent_of dims) < 2 ^ 63 = f in omega (arith, one, two, all),
+  entries_fit (e * suc n) dims (mul-pos h (zero-lt-suc n)) (let all : e * (suc n * extent_of dims) < 2 ^ 63 = f in omega (arith, all)),
+)
 
 pub track_from_valid : (d : Descriptor) → IsPlaceable d → AreNonzero d.dims → Track d.dims (pos 0)
 track_from_valid d can some =

@@ -19,7 +19,7 @@ line-next place next (suc left) stride e = ap (λ q. line q stride (suc left)) (
 
 -- one item of a row is taken
 pub left_after : (rows : List (ℕ × ℤ × ℤ)) (start row place next : ℕ) (stride : ℤ) (left row_len : ℕ) → IsNext place stride left next
-  → places_left rows start row place stride (suc left) row_len ≡ pos place ∷ places_left rows start row next stride left row_len
+    → places_left rows start row place stride (suc left) row_len ≡ pos place ∷ places_left rows start row next stride left row_len
 left_after rows start row place next stride left row_len e =
     ap (λ (xs : List ℤ). pos place ∷ (xs ++ flat_map (λ p. line p stride row_len) (drop row (places rows (pos start))))) (line-next place next left stride e)
 
@@ -30,7 +30,7 @@ drop-get (y ∷ xs) (suc i) x e = drop-get xs i x e
 
 -- a row is begun
 pub left_begun : (rows : List (ℕ × ℤ × ℤ)) (start row place old : ℕ) (stride : ℤ) (row_len : ℕ) → slice_get (places rows (pos start)) row ≡ Some (pos place)
-  → places_left rows start row old stride 0 row_len ≡ places_left rows start (suc row) place stride row_len row_len
+    → places_left rows start row old stride 0 row_len ≡ places_left rows start (suc row) place stride row_len row_len
 left_begun rows start row place old stride row_len e =
     ap (λ xs. flat_map (λ p. line p stride row_len) xs) (drop-get (places rows (pos start)) row (pos place) e)
 
@@ -41,23 +41,35 @@ left_none rows start row place stride row_len h =
 -- ---- the walk stays sound
 
 pub walk_after : (rows : List (ℕ × ℤ × ℤ)) (start row row_count place next : ℕ) (stride : ℤ) (left row_len size : ℕ) → IsNext place stride left next
-  → IsWalk rows start row row_count place stride (suc left) row_len size → IsWalk rows start row row_count next stride left row_len size
+    → IsWalk rows start row row_count place stride (suc left) row_len size → IsWalk rows start row row_count next stride left row_len size
 walk_after rows start row row_count place next stride left row_len size e w =
-    record { rows_placed = w.rows_placed; count = w.count; row_within = w.row_within; row_some = w.row_some; row_fits = w.row_fits;
-      inside = (subst (AllByRecursion (IsInside size 9223372036854775807)) (left_after rows start row place next stride left row_len e) w.inside).1 }
+    record {
+      rows_placed = w.rows_placed;
+      count = w.count;
+      row_within = w.row_within;
+      row_some = w.row_some;
+      row_fits = w.row_fits;
+      inside = (subst (AllByRecursion (IsInside size 9223372036854775807)) (left_after rows start row place next stride left row_len e) w.inside).1;
+    }
 
 pub walk_begun : (rows : List (ℕ × ℤ × ℤ)) (start row row_count place old : ℕ) (stride : ℤ) (row_len size : ℕ) → row < row_count → slice_get (places rows (pos start)) row ≡ Some (pos place)
-  → IsWalk rows start row row_count old stride 0 row_len size → IsWalk rows start (suc row) row_count place stride row_len row_len size
+    → IsWalk rows start row row_count old stride 0 row_len size → IsWalk rows start (suc row) row_count place stride row_len row_len size
 walk_begun rows start row row_count place old stride row_len size h e w =
-    record { rows_placed = w.rows_placed; count = w.count; row_within = h; row_some = λ g. w.row_some h; row_fits = w.row_fits;
-      inside = subst (AllByRecursion (IsInside size 9223372036854775807)) (left_begun rows start row place old stride row_len e) w.inside }
+    record {
+      rows_placed = w.rows_placed;
+      count = w.count;
+      row_within = h;
+      row_some = λ g. w.row_some h;
+      row_fits = w.row_fits;
+      inside = subst (AllByRecursion (IsInside size 9223372036854775807)) (left_begun rows start row place old stride row_len e) w.inside;
+    }
 
 -- what a step's arithmetic needs
 pub range_fits : (rows : List (ℕ × ℤ × ℤ)) (start row row_count place : ℕ) (stride : ℤ) (left row_len size : ℕ) → IsWalk rows start row row_count place stride (suc left) row_len size → place + size < 2 ^ 63
 range_fits rows start row row_count place stride left row_len size w = let i = w.inside.0 in let h = i.high in omega (arith, ints)
 
 pub next_fits : (rows : List (ℕ × ℤ × ℤ)) (start row row_count place : ℕ) (stride : ℤ) (left row_len size : ℕ) → IsWalk rows start row row_count place stride (suc left) row_len size → 0 < left
-  → (pos 0 ≤ℤ (pos place +ℤ stride)) × ((pos place +ℤ stride) ≤ℤ pos 9223372036854775807)
+    → (pos 0 ≤ℤ (pos place +ℤ stride)) × ((pos place +ℤ stride) ≤ℤ pos 9223372036854775807)
 next_fits rows start row row_count place stride zero row_len size w h = absurd (omega arith)
 next_fits rows start row row_count place stride (suc left) row_len size w h = let i = w.inside.1.0 in let low = i.low in let high = i.high in (low, omega (arith, ints))
 
@@ -70,10 +82,10 @@ pub record Taken (rows : List (ℕ × ℤ × ℤ)) (start row row_count place : 
   pub next_high : 0 < left - 1 → (pos place +ℤ stride) ≤ℤ pos 9223372036854775807
   pub walk : (next : ℕ) → (0 < left - 1 → pos next ≡ pos place +ℤ stride) → IsWalk rows start row row_count next stride (left - 1) row_len size
   pub view : (next : ℕ) → (0 < left - 1 → pos next ≡ pos place +ℤ stride)
-    → map (range_at size) (places_left rows start row place stride left row_len) ≡ range_at size (pos place) ∷ map (range_at size) (places_left rows start row next stride (left - 1) row_len)
+      → map (range_at size) (places_left rows start row place stride left row_len) ≡ range_at size (pos place) ∷ map (range_at size) (places_left rows start row next stride (left - 1) row_len)
 
 taken_suc : (rows : List (ℕ × ℤ × ℤ)) (start row row_count place : ℕ) (stride : ℤ) (left m row_len size : ℕ) → left ≡ suc m → left - 1 ≡ m
-  → IsWalk rows start row row_count place stride left row_len size → Taken rows start row row_count place stride left row_len size
+    → IsWalk rows start row row_count place stride left row_len size → Taken rows start row row_count place stride left row_len size
 taken_suc rows start row row_count place stride left m row_len size e f w =
     let w' : IsWalk rows start row row_count place stride (suc m) row_len size = subst (λ n. IsWalk rows start row row_count place stride n row_len size) e w in
     let fits : place + size < 2 ^ 63 = range_fits rows start row row_count place stride m row_len size w' in
@@ -83,22 +95,22 @@ taken_suc rows start row row_count place stride left m row_len size e f w =
       next_low = λ h. (next_fits rows start row row_count place stride m row_len size w' (subst (λ n. 0 < n) f h)).0;
       next_high = λ h. (next_fits rows start row row_count place stride m row_len size w' (subst (λ n. 0 < n) f h)).1;
       walk = λ next h. subst (λ n. IsWalk rows start row row_count next stride n row_len size) (sym f)
-        (walk_after rows start row row_count place next stride m row_len size (λ g. h (subst (λ n. 0 < n) (sym f) g)) w');
+          (walk_after rows start row row_count place next stride m row_len size (λ g. h (subst (λ n. 0 < n) (sym f) g)) w');
       view = λ next h.
-        ap (λ n. map (range_at size) (places_left rows start row place stride n row_len)) e
-        ∙ ap (λ (xs : List ℤ). map (range_at size) xs) (left_after rows start row place next stride m row_len (λ g. h (subst (λ n. 0 < n) (sym f) g)))
-        ∙ ap (λ n. range_at size (pos place) ∷ map (range_at size) (places_left rows start row next stride n row_len)) (sym f);
+          ap (λ n. map (range_at size) (places_left rows start row place stride n row_len)) e
+          ∙ ap (λ (xs : List ℤ). map (range_at size) xs) (left_after rows start row place next stride m row_len (λ g. h (subst (λ n. 0 < n) (sym f) g)))
+          ∙ ap (λ n. range_at size (pos place) ∷ map (range_at size) (places_left rows start row next stride n row_len)) (sym f);
     }
 
 pub taken : (rows : List (ℕ × ℤ × ℤ)) (start row row_count place : ℕ) (stride : ℤ) (left row_len size : ℕ) → 0 < left
-  → IsWalk rows start row row_count place stride left row_len size → Taken rows start row row_count place stride left row_len size
+    → IsWalk rows start row row_count place stride left row_len size → Taken rows start row row_count place stride left row_len size
 taken rows start row row_count place stride left row_len size h w =
     taken_suc rows start row row_count place stride left (left - 1) row_len size (let e : left ≡ suc (left - 1) = omega (arith, h) in e) refl w
 
 -- a row is begun and its first item taken
 pub begun : (rows : List (ℕ × ℤ × ℤ)) (start row row_count place old : ℕ) (stride : ℤ) (left row_len size : ℕ) → left ≡ 0 → (row ≡ row_count → ⊥)
-  → slice_get (places rows (pos start)) row ≡ Some (pos place) → IsWalk rows start row row_count old stride left row_len size
-  → Taken rows start (row + 1) row_count place stride row_len row_len size
+    → slice_get (places rows (pos start)) row ≡ Some (pos place) → IsWalk rows start row row_count old stride left row_len size
+    → Taken rows start (row + 1) row_count place stride row_len row_len size
 begun rows start row row_count place old stride left row_len size z ne e w =
     let w' : IsWalk rows start row row_count old stride 0 row_len size = subst (λ n. IsWalk rows start row row_count old stride n row_len size) z w in
     let within = w'.row_within in
@@ -106,14 +118,14 @@ begun rows start row row_count place old stride left row_len size z ne e w =
     rw add-one (taken rows start (suc row) row_count place stride row_len row_len size (w'.row_some h) (walk_begun rows start row row_count place old stride row_len size h e w'))
 
 pub begun_view : (rows : List (ℕ × ℤ × ℤ)) (start row place old : ℕ) (stride : ℤ) (left row_len size : ℕ) → left ≡ 0
-  → slice_get (places rows (pos start)) row ≡ Some (pos place)
-  → map (range_at size) (places_left rows start row old stride left row_len) ≡ map (range_at size) (places_left rows start (row + 1) place stride row_len row_len)
+    → slice_get (places rows (pos start)) row ≡ Some (pos place)
+    → map (range_at size) (places_left rows start row old stride left row_len) ≡ map (range_at size) (places_left rows start (row + 1) place stride row_len row_len)
 begun_view rows start row place old stride left row_len size z e =
     ap (λ n. map (range_at size) (places_left rows start row old stride n row_len)) z
     ∙ ap (λ (xs : List ℤ). map (range_at size) xs) (rw add-one (left_begun rows start row place old stride row_len e))
 
 pub none_left : (rows : List (ℕ × ℤ × ℤ)) (start row row_count place : ℕ) (stride : ℤ) (left row_len size : ℕ) → left ≡ 0 → row ≡ row_count
-  → IsWalk rows start row row_count place stride left row_len size → map (range_at size) (places_left rows start row place stride left row_len) ≡ []
+    → IsWalk rows start row row_count place stride left row_len size → map (range_at size) (places_left rows start row place stride left row_len) ≡ []
 none_left rows start row row_count place stride left row_len size z e w =
     ap (λ n. map (range_at size) (places_left rows start row place stride n row_len)) z
     ∙ ap (λ (xs : List ℤ). map (range_at size) xs) (left_none rows start row place stride row_len (let c = w.count in omega (arith, c, e)))

@@ -42,22 +42,22 @@ moved-after offset i stride (Ok n) = ap (λ (k : ℤ). Ok k) (plus_assoc offset 
 moved-after offset i stride (Err f) = refl
 
 position_at : (indices : List ℤ) (dims : List (ℕ × ℤ × ℤ)) (k : ℕ) → length indices ≡ length dims → k < length dims
-  → position_of (drop k indices) (drop k dims) ≡ after_first (wrapped (dim_at dims k).0 (get_or indices k (pos 0))) (dim_at dims k).1 (position_of (drop (k + 1) indices) (drop (k + 1) dims))
+    → position_of (drop k indices) (drop k dims) ≡ after_first (wrapped (dim_at dims k).0 (get_or indices k (pos 0))) (dim_at dims k).1 (position_of (drop (k + 1) indices) (drop (k + 1) dims))
 position_at indices dims k e h =
     rw add-one (ap₂ (λ is ds. position_of is ds) (drop-cons indices k (pos 0) (omega arith)) (drop-cons dims k (0, pos 0, pos 0) h)
-      ∙ position-cons (get_or indices k (pos 0)) (drop (suc k) indices) (dim_at dims k) (drop (suc k) dims))
+    ∙ position-cons (get_or indices k (pos 0)) (drop (suc k) indices) (dim_at dims k) (drop (suc k) dims))
 
 pub position_more : (indices : List ℤ) (dims : List (ℕ × ℤ × ℤ)) (k i : ℕ) (offset next : ℤ) (whole : Result ℤ Fault) → length indices ≡ length dims → k < length dims
-  → wrapped (dim_at dims k).0 (get_or indices k (pos 0)) ≡ Ok i → next ≡ offset +ℤ pos i *ℤ (dim_at dims k).1
-  → whole ≡ moved offset (position_of (drop k indices) (drop k dims)) → whole ≡ moved next (position_of (drop (k + 1) indices) (drop (k + 1) dims))
+    → wrapped (dim_at dims k).0 (get_or indices k (pos 0)) ≡ Ok i → next ≡ offset +ℤ pos i *ℤ (dim_at dims k).1
+    → whole ≡ moved offset (position_of (drop k indices) (drop k dims)) → whole ≡ moved next (position_of (drop (k + 1) indices) (drop (k + 1) dims))
 position_more indices dims k i offset next whole e h w n q =
     q ∙ ap (moved offset) (position_at indices dims k e h ∙ ap (λ r. after_first r (dim_at dims k).1 (position_of (drop (k + 1) indices) (drop (k + 1) dims))) w)
-      ∙ moved-after offset i (dim_at dims k).1 (position_of (drop (k + 1) indices) (drop (k + 1) dims))
-      ∙ ap (λ m. moved m (position_of (drop (k + 1) indices) (drop (k + 1) dims))) (sym n)
+    ∙ moved-after offset i (dim_at dims k).1 (position_of (drop (k + 1) indices) (drop (k + 1) dims))
+    ∙ ap (λ m. moved m (position_of (drop (k + 1) indices) (drop (k + 1) dims))) (sym n)
 
 pub position_refused : (indices : List ℤ) (dims : List (ℕ × ℤ × ℤ)) (k : ℕ) (offset : ℤ) (f : Fault) (whole : Result ℤ Fault) → length indices ≡ length dims → k < length dims
-  → wrapped (dim_at dims k).0 (get_or indices k (pos 0)) ≡ Err f
-  → whole ≡ moved offset (position_of (drop k indices) (drop k dims)) → whole ≡ Err f
+    → wrapped (dim_at dims k).0 (get_or indices k (pos 0)) ≡ Err f
+    → whole ≡ moved offset (position_of (drop k indices) (drop k dims)) → whole ≡ Err f
 position_refused indices dims k offset f whole e h w q =
     q ∙ ap (moved offset) (position_at indices dims k e h ∙ ap (λ r. after_first r (dim_at dims k).1 (position_of (drop (k + 1) indices) (drop (k + 1) dims))) w)
 
@@ -66,7 +66,7 @@ position_none [] offset = ap (λ (k : ℤ). Ok k) (let e : offset +ℤ pos 0 ≡
 position_none (i ∷ indices) offset = ap (λ (k : ℤ). Ok k) (let e : offset +ℤ pos 0 ≡ offset = omega (arith, ints) in e)
 
 pub position_end : (indices : List ℤ) (dims : List (ℕ × ℤ × ℤ)) (k : ℕ) (offset : ℤ) (whole : Result ℤ Fault) → length dims ≤ k
-  → whole ≡ moved offset (position_of (drop k indices) (drop k dims)) → whole ≡ Ok offset
+    → whole ≡ moved offset (position_of (drop k indices) (drop k dims)) → whole ≡ Ok offset
 position_end indices dims k offset whole h q =
     q ∙ ap (λ ds. moved offset (position_of (drop k indices) ds)) (drop_of_length-le dims h) ∙ position_none (drop k indices) offset
 

@@ -38,7 +38,11 @@ fn next_place(place: usize, stride: isize, left: usize) -> usize
     requires next_high { 0 < left → (pos place +ℤ stride) ≤ℤ pos 9223372036854775807 }
     ensures { 0 < left → pos result ≡ pos place +ℤ stride }
 {
-    if left > 0 { (place as isize + stride) as usize } else { place }
+    if left > 0 {
+        (place as isize + stride) as usize
+    } else {
+        place
+    }
 }
 
 /// The ranges of bytes that a walk over the items has left. A clause sees the list of them.

@@ -15,5 +15,7 @@ returns-then-next c =
 
 pub loop-dim-preserved : goal.loop-dim-preserved
 loop-dim-preserved c =
-    elim c.if-dim-ne0.branch [ then-dim-ne0+in_ok-next+else-next w ↦ grind (arith, extent_grows, w.in_ok-next.ensures)
-                             | else-dim-ne0 w ↦ grind (arith, extent_skips) ]
+    elim c.if-dim-ne0.branch [
+      | then-dim-ne0+in_ok-next+else-next w ↦ grind (arith, extent_grows, w.in_ok-next.ensures)
+      | else-dim-ne0 w ↦ grind (arith, extent_skips)
+    ]

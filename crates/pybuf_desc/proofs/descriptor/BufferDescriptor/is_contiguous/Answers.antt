@@ -18,13 +18,13 @@ pub has_row_major_strides-requires-clause-fits : goal.has_row_major_strides-requ
 has_row_major_strides-requires-clause-fits c =
     subst (λ size. size * product (shape_of c.dim_desc.result.now) < 2 ^ 63) (sym c.itemsize.ensures)
     (subst (λ dims. c.args.self.now.itemsize * product (shape_of dims) < 2 ^ 63) (sym c.dim_desc.ensures)
-      (bytes_fit c.args.self.now c.requires (entries_of c.args.self.now c.requires (λ e. c.if-len-eq0.false (c.len.ensures ∙ e)))))
+    (bytes_fit c.args.self.now c.requires (entries_of c.args.self.now c.requires (λ e. c.if-len-eq0.false (c.len.ensures ∙ e)))))
 
 pub returns-clause-places : goal.returns-clause-places
 returns-clause-places c = λ start.
     let strides : IsTrue c.has_row_major_strides.result ↔ AreRowMajorStrides c.args.self.now.itemsize c.args.self.now.dims =
-      subst (λ size. IsTrue c.has_row_major_strides.result ↔ AreRowMajorStrides size c.args.self.now.dims) c.itemsize.ensures
-      (subst (λ dims. IsTrue c.has_row_major_strides.result ↔ AreRowMajorStrides c.itemsize.result dims) c.dim_desc.ensures c.has_row_major_strides.ensures) in
+    subst (λ size. IsTrue c.has_row_major_strides.result ↔ AreRowMajorStrides size c.args.self.now.dims) c.itemsize.ensures
+    (subst (λ dims. IsTrue c.has_row_major_strides.result ↔ AreRowMajorStrides c.itemsize.result dims) c.dim_desc.ensures c.has_row_major_strides.ensures) in
     let places_too : AreRowMajorStrides c.args.self.now.itemsize c.args.self.now.dims ↔ IsContiguous c.args.self.now.itemsize start (places c.args.self.now.dims start) =
-      contiguous_by_strides c.args.self.now.itemsize c.args.self.now.dims start (entries_of c.args.self.now c.requires (λ e. c.if-len-eq0.false (c.len.ensures ∙ e))) in
+    contiguous_by_strides c.args.self.now.itemsize c.args.self.now.dims start (entries_of c.args.self.now c.requires (λ e. c.if-len-eq0.false (c.len.ensures ∙ e))) in
     (λ h. places_too.0 (strides.0 h), λ h. strides.1 (places_too.1 h))

@@ -19,46 +19,64 @@ returns-then-has_zero-clause-bytes c =
 
 pub nonzero_div-row_count-in-Some : goal.nonzero_div-row_count-in-Some
 nonzero_div-row_count-in-Some c =
-    let r : IsRows c.args.self.now c.args.start c.in-Some.rows.now c.in-Some.last.now = record { placed = c.requires; dims = sym c.dim_desc-dims.ensures ∙ c.in-Some.ensures.cases.0;
-      some = subst AreNonzero c.dim_desc-dims.ensures (AreNonzero-from_All c.dim_desc-dims.result.now (All-from_no_zero c.dim_desc-dims.result.now (λ zero. true≢false (sym (c.if-has_zero.ensures.1 zero))))) } in
+    let r : IsRows c.args.self.now c.args.start c.in-Some.rows.now c.in-Some.last.now = record {
+      placed = c.requires;
+      dims = sym c.dim_desc-dims.ensures ∙ c.in-Some.ensures.cases.0;
+      some = subst AreNonzero c.dim_desc-dims.ensures (AreNonzero-from_All c.dim_desc-dims.result.now (All-from_no_zero c.dim_desc-dims.result.now (λ zero. true≢false (sym (c.if-has_zero.ensures.1 zero)))));
+    } in
     last_entry_some c.args.self.now c.args.start c.in-Some.rows.now c.in-Some.last.now r
 
 pub walk-requires-then-not-join : goal.walk-requires-then-not-join
 walk-requires-then-not-join c =
-    let r : IsRows c.args.self.now c.args.start c.in-Some.rows.now c.in-Some.last.now = record { placed = c.requires; dims = sym c.dim_desc-dims.ensures ∙ c.in-Some.ensures.cases.0;
-      some = subst AreNonzero c.dim_desc-dims.ensures (AreNonzero-from_All c.dim_desc-dims.result.now (All-from_no_zero c.dim_desc-dims.result.now (λ zero. true≢false (sym (c.if-has_zero.ensures.1 zero))))) } in
+    let r : IsRows c.args.self.now c.args.start c.in-Some.rows.now c.in-Some.last.now = record {
+      placed = c.requires;
+      dims = sym c.dim_desc-dims.ensures ∙ c.in-Some.ensures.cases.0;
+      some = subst AreNonzero c.dim_desc-dims.ensures (AreNonzero-from_All c.dim_desc-dims.result.now (All-from_no_zero c.dim_desc-dims.result.now (λ zero. true≢false (sym (c.if-has_zero.ensures.1 zero)))));
+    } in
     let f : SFits w64 c.in-Some.last.now.1 = search rules in
     let same : to_z w64 (of_z w64 c.in-Some.last.now.1) ≡ c.in-Some.last.now.1 = to_z-of_z w64 c.in-Some.last.now.1 f in
     walk_items c.args.self.now c.args.start c.in-Some.rows.now c.in-Some.last.now c.len.result c.itemsize-itemsize.result (to_z w64 (of_z w64 c.in-Some.last.now.1)) r c.len.ensures c.itemsize-itemsize.ensures same
 
 pub returns-then-not-join-clause-ranges : goal.returns-then-not-join-clause-ranges
 returns-then-not-join-clause-ranges c =
-    let r : IsRows c.args.self.now c.args.start c.in-Some.rows.now c.in-Some.last.now = record { placed = c.requires; dims = sym c.dim_desc-dims.ensures ∙ c.in-Some.ensures.cases.0;
-      some = subst AreNonzero c.dim_desc-dims.ensures (AreNonzero-from_All c.dim_desc-dims.result.now (All-from_no_zero c.dim_desc-dims.result.now (λ zero. true≢false (sym (c.if-has_zero.ensures.1 zero))))) } in
+    let r : IsRows c.args.self.now c.args.start c.in-Some.rows.now c.in-Some.last.now = record {
+      placed = c.requires;
+      dims = sym c.dim_desc-dims.ensures ∙ c.in-Some.ensures.cases.0;
+      some = subst AreNonzero c.dim_desc-dims.ensures (AreNonzero-from_All c.dim_desc-dims.result.now (All-from_no_zero c.dim_desc-dims.result.now (λ zero. true≢false (sym (c.if-has_zero.ensures.1 zero)))));
+    } in
     let f : SFits w64 c.in-Some.last.now.1 = search rules in
     let same : to_z w64 (of_z w64 c.in-Some.last.now.1) ≡ c.in-Some.last.now.1 = to_z-of_z w64 c.in-Some.last.now.1 f in
     ranges_items c.args.self.now c.args.start c.in-Some.rows.now c.in-Some.last.now c.itemsize-itemsize.result (to_z w64 (of_z w64 c.in-Some.last.now.1)) c.walk-then-not-join.result r c.itemsize-itemsize.ensures same c.walk-then-not-join.ensures ∙ sym (ap (λ b. ranges_of c.args.self.now (pos c.args.start) b) c.if-not-join.true)
 
 pub returns-then-not-join-clause-bytes : goal.returns-then-not-join-clause-bytes
 returns-then-not-join-clause-bytes c =
-    let r : IsRows c.args.self.now c.args.start c.in-Some.rows.now c.in-Some.last.now = record { placed = c.requires; dims = sym c.dim_desc-dims.ensures ∙ c.in-Some.ensures.cases.0;
-      some = subst AreNonzero c.dim_desc-dims.ensures (AreNonzero-from_All c.dim_desc-dims.result.now (All-from_no_zero c.dim_desc-dims.result.now (λ zero. true≢false (sym (c.if-has_zero.ensures.1 zero))))) } in
+    let r : IsRows c.args.self.now c.args.start c.in-Some.rows.now c.in-Some.last.now = record {
+      placed = c.requires;
+      dims = sym c.dim_desc-dims.ensures ∙ c.in-Some.ensures.cases.0;
+      some = subst AreNonzero c.dim_desc-dims.ensures (AreNonzero-from_All c.dim_desc-dims.result.now (All-from_no_zero c.dim_desc-dims.result.now (λ zero. true≢false (sym (c.if-has_zero.ensures.1 zero)))));
+    } in
     let f : SFits w64 c.in-Some.last.now.1 = search rules in
     let same : to_z w64 (of_z w64 c.in-Some.last.now.1) ≡ c.in-Some.last.now.1 = to_z-of_z w64 c.in-Some.last.now.1 f in
     ap (λ (xs : List (Range ℕ)). flat_map bytes_of xs) (ranges_items c.args.self.now c.args.start c.in-Some.rows.now c.in-Some.last.now c.itemsize-itemsize.result (to_z w64 (of_z w64 c.in-Some.last.now.1)) c.walk-then-not-join.result r c.itemsize-itemsize.ensures same c.walk-then-not-join.ensures) ∙ bytes_of_items c.args.self.now (pos c.args.start)
 
 pub walk-requires-then-not-is_last_dim_contiguous : goal.walk-requires-then-not-is_last_dim_contiguous
 walk-requires-then-not-is_last_dim_contiguous c =
-    let r : IsRows c.args.self.now c.args.start c.in-Some.rows.now c.in-Some.last.now = record { placed = c.requires; dims = sym c.dim_desc-dims.ensures ∙ c.in-Some.ensures.cases.0;
-      some = subst AreNonzero c.dim_desc-dims.ensures (AreNonzero-from_All c.dim_desc-dims.result.now (All-from_no_zero c.dim_desc-dims.result.now (λ zero. true≢false (sym (c.if-has_zero.ensures.1 zero))))) } in
+    let r : IsRows c.args.self.now c.args.start c.in-Some.rows.now c.in-Some.last.now = record {
+      placed = c.requires;
+      dims = sym c.dim_desc-dims.ensures ∙ c.in-Some.ensures.cases.0;
+      some = subst AreNonzero c.dim_desc-dims.ensures (AreNonzero-from_All c.dim_desc-dims.result.now (All-from_no_zero c.dim_desc-dims.result.now (λ zero. true≢false (sym (c.if-has_zero.ensures.1 zero)))));
+    } in
     let f : SFits w64 c.in-Some.last.now.1 = search rules in
     let same : to_z w64 (of_z w64 c.in-Some.last.now.1) ≡ c.in-Some.last.now.1 = to_z-of_z w64 c.in-Some.last.now.1 f in
     walk_items c.args.self.now c.args.start c.in-Some.rows.now c.in-Some.last.now c.len.result c.itemsize-itemsize.result (to_z w64 (of_z w64 c.in-Some.last.now.1)) r c.len.ensures c.itemsize-itemsize.ensures same
 
 pub returns-then-not-is_last_dim_contiguous-clause-ranges : goal.returns-then-not-is_last_dim_contiguous-clause-ranges
 returns-then-not-is_last_dim_contiguous-clause-ranges c =
-    let r : IsRows c.args.self.now c.args.start c.in-Some.rows.now c.in-Some.last.now = record { placed = c.requires; dims = sym c.dim_desc-dims.ensures ∙ c.in-Some.ensures.cases.0;
-      some = subst AreNonzero c.dim_desc-dims.ensures (AreNonzero-from_All c.dim_desc-dims.result.now (All-from_no_zero c.dim_desc-dims.result.now (λ zero. true≢false (sym (c.if-has_zero.ensures.1 zero))))) } in
+    let r : IsRows c.args.self.now c.args.start c.in-Some.rows.now c.in-Some.last.now = record {
+      placed = c.requires;
+      dims = sym c.dim_desc-dims.ensures ∙ c.in-Some.ensures.cases.0;
+      some = subst AreNonzero c.dim_desc-dims.ensures (AreNonzero-from_All c.dim_desc-dims.result.now (All-from_no_zero c.dim_desc-dims.result.now (λ zero. true≢false (sym (c.if-has_zero.ensures.1 zero)))));
+    } in
     let f : SFits w64 c.in-Some.last.now.1 = search rules in
     let same : to_z w64 (of_z w64 c.in-Some.last.now.1) ≡ c.in-Some.last.now.1 = to_z-of_z w64 c.in-Some.last.now.1 f in
     let test : is_row_contiguous c.args.self.now.itemsize (last_dim c.args.self.now.dims) ≡ c.is_last_dim_contiguous.result = row_test c.args.self.now.itemsize (last_dim c.args.self.now.dims) c.is_last_dim_contiguous.result c.is_last_dim_contiguous.ensures.last in
@@ -66,38 +84,53 @@ returns-then-not-is_last_dim_contiguous-clause-ranges c =
 
 pub returns-then-not-is_last_dim_contiguous-clause-bytes : goal.returns-then-not-is_last_dim_contiguous-clause-bytes
 returns-then-not-is_last_dim_contiguous-clause-bytes c =
-    let r : IsRows c.args.self.now c.args.start c.in-Some.rows.now c.in-Some.last.now = record { placed = c.requires; dims = sym c.dim_desc-dims.ensures ∙ c.in-Some.ensures.cases.0;
-      some = subst AreNonzero c.dim_desc-dims.ensures (AreNonzero-from_All c.dim_desc-dims.result.now (All-from_no_zero c.dim_desc-dims.result.now (λ zero. true≢false (sym (c.if-has_zero.ensures.1 zero))))) } in
+    let r : IsRows c.args.self.now c.args.start c.in-Some.rows.now c.in-Some.last.now = record {
+      placed = c.requires;
+      dims = sym c.dim_desc-dims.ensures ∙ c.in-Some.ensures.cases.0;
+      some = subst AreNonzero c.dim_desc-dims.ensures (AreNonzero-from_All c.dim_desc-dims.result.now (All-from_no_zero c.dim_desc-dims.result.now (λ zero. true≢false (sym (c.if-has_zero.ensures.1 zero)))));
+    } in
     let f : SFits w64 c.in-Some.last.now.1 = search rules in
     let same : to_z w64 (of_z w64 c.in-Some.last.now.1) ≡ c.in-Some.last.now.1 = to_z-of_z w64 c.in-Some.last.now.1 f in
     ap (λ (xs : List (Range ℕ)). flat_map bytes_of xs) (ranges_items c.args.self.now c.args.start c.in-Some.rows.now c.in-Some.last.now c.itemsize-itemsize.result (to_z w64 (of_z w64 c.in-Some.last.now.1)) c.walk-then-not-is_last_dim_contiguous.result r c.itemsize-itemsize.ensures same c.walk-then-not-is_last_dim_contiguous.ensures) ∙ bytes_of_items c.args.self.now (pos c.args.start)
 
 pub overflow_mul-row_len : goal.overflow_mul-row_len
 overflow_mul-row_len c =
-    let r : IsRows c.args.self.now c.args.start c.in-Some.rows.now c.in-Some.last.now = record { placed = c.requires; dims = sym c.dim_desc-dims.ensures ∙ c.in-Some.ensures.cases.0;
-      some = subst AreNonzero c.dim_desc-dims.ensures (AreNonzero-from_All c.dim_desc-dims.result.now (All-from_no_zero c.dim_desc-dims.result.now (λ zero. true≢false (sym (c.if-has_zero.ensures.1 zero))))) } in
+    let r : IsRows c.args.self.now c.args.start c.in-Some.rows.now c.in-Some.last.now = record {
+      placed = c.requires;
+      dims = sym c.dim_desc-dims.ensures ∙ c.in-Some.ensures.cases.0;
+      some = subst AreNonzero c.dim_desc-dims.ensures (AreNonzero-from_All c.dim_desc-dims.result.now (All-from_no_zero c.dim_desc-dims.result.now (λ zero. true≢false (sym (c.if-has_zero.ensures.1 zero)))));
+    } in
     let fits : c.in-Some.last.now.0 * c.args.self.now.itemsize < 2 ^ 63 = row_bytes_fit c.args.self.now c.args.start c.in-Some.rows.now c.in-Some.last.now r in
     let here : c.in-Some.last.now.0 * c.itemsize-itemsize.result < 2 ^ 63 = subst (λ n. c.in-Some.last.now.0 * n < 2 ^ 63) (sym c.itemsize-itemsize.ensures) fits in
     omega (arith, here)
 
 pub walk-requires-in-Some : goal.walk-requires-in-Some
 walk-requires-in-Some c =
-    let r : IsRows c.args.self.now c.args.start c.in-Some.rows.now c.in-Some.last.now = record { placed = c.requires; dims = sym c.dim_desc-dims.ensures ∙ c.in-Some.ensures.cases.0;
-      some = subst AreNonzero c.dim_desc-dims.ensures (AreNonzero-from_All c.dim_desc-dims.result.now (All-from_no_zero c.dim_desc-dims.result.now (λ zero. true≢false (sym (c.if-has_zero.ensures.1 zero))))) } in
+    let r : IsRows c.args.self.now c.args.start c.in-Some.rows.now c.in-Some.last.now = record {
+      placed = c.requires;
+      dims = sym c.dim_desc-dims.ensures ∙ c.in-Some.ensures.cases.0;
+      some = subst AreNonzero c.dim_desc-dims.ensures (AreNonzero-from_All c.dim_desc-dims.result.now (All-from_no_zero c.dim_desc-dims.result.now (λ zero. true≢false (sym (c.if-has_zero.ensures.1 zero)))));
+    } in
     let gap : c.in-Some.last.now.1 ≡ pos c.args.self.now.itemsize = gap_is c.args.self.now.itemsize (last_dim c.args.self.now.dims) c.in-Some.last.now (last_is c.args.self.now c.args.start c.in-Some.rows.now c.in-Some.last.now r) (c.is_last_dim_contiguous.ensures.last.0 c.if-not-is_last_dim_contiguous.false) in
     walk_rows c.args.self.now c.args.start c.in-Some.rows.now c.in-Some.last.now c.len.result c.itemsize-itemsize.result r c.len.ensures c.itemsize-itemsize.ensures gap
 
 pub returns-else-not-is_last_dim_contiguous-clause-ranges : goal.returns-else-not-is_last_dim_contiguous-clause-ranges
 returns-else-not-is_last_dim_contiguous-clause-ranges c =
-    let r : IsRows c.args.self.now c.args.start c.in-Some.rows.now c.in-Some.last.now = record { placed = c.requires; dims = sym c.dim_desc-dims.ensures ∙ c.in-Some.ensures.cases.0;
-      some = subst AreNonzero c.dim_desc-dims.ensures (AreNonzero-from_All c.dim_desc-dims.result.now (All-from_no_zero c.dim_desc-dims.result.now (λ zero. true≢false (sym (c.if-has_zero.ensures.1 zero))))) } in
+    let r : IsRows c.args.self.now c.args.start c.in-Some.rows.now c.in-Some.last.now = record {
+      placed = c.requires;
+      dims = sym c.dim_desc-dims.ensures ∙ c.in-Some.ensures.cases.0;
+      some = subst AreNonzero c.dim_desc-dims.ensures (AreNonzero-from_All c.dim_desc-dims.result.now (All-from_no_zero c.dim_desc-dims.result.now (λ zero. true≢false (sym (c.if-has_zero.ensures.1 zero)))));
+    } in
     let test : is_row_contiguous c.args.self.now.itemsize (last_dim c.args.self.now.dims) ≡ c.is_last_dim_contiguous.result = row_test c.args.self.now.itemsize (last_dim c.args.self.now.dims) c.is_last_dim_contiguous.result c.is_last_dim_contiguous.ensures.last in
     c.walk-in-Some.ensures ∙ ap (λ n. map (range_at (c.in-Some.last.now.0 * n)) (places_left c.in-Some.rows.now c.args.start 0 0 (pos 0) 0 1)) c.itemsize-itemsize.ensures ∙ ranges_of_rows c.args.self.now c.args.start c.in-Some.rows.now c.in-Some.last.now r
     ∙ sym (ap (λ b. ranges_of c.args.self.now (pos c.args.start) b) c.if-not-join.false ∙ asked_rows c.args.self.now (pos c.args.start) (test ∙ c.if-not-is_last_dim_contiguous.false))
 
 pub returns-else-not-is_last_dim_contiguous-clause-bytes : goal.returns-else-not-is_last_dim_contiguous-clause-bytes
 returns-else-not-is_last_dim_contiguous-clause-bytes c =
-    let r : IsRows c.args.self.now c.args.start c.in-Some.rows.now c.in-Some.last.now = record { placed = c.requires; dims = sym c.dim_desc-dims.ensures ∙ c.in-Some.ensures.cases.0;
-      some = subst AreNonzero c.dim_desc-dims.ensures (AreNonzero-from_All c.dim_desc-dims.result.now (All-from_no_zero c.dim_desc-dims.result.now (λ zero. true≢false (sym (c.if-has_zero.ensures.1 zero))))) } in
+    let r : IsRows c.args.self.now c.args.start c.in-Some.rows.now c.in-Some.last.now = record {
+      placed = c.requires;
+      dims = sym c.dim_desc-dims.ensures ∙ c.in-Some.ensures.cases.0;
+      some = subst AreNonzero c.dim_desc-dims.ensures (AreNonzero-from_All c.dim_desc-dims.result.now (All-from_no_zero c.dim_desc-dims.result.now (λ zero. true≢false (sym (c.if-has_zero.ensures.1 zero)))));
+    } in
     let gap : c.in-Some.last.now.1 ≡ pos c.args.self.now.itemsize = gap_is c.args.self.now.itemsize (last_dim c.args.self.now.dims) c.in-Some.last.now (last_is c.args.self.now c.args.start c.in-Some.rows.now c.in-Some.last.now r) (c.is_last_dim_contiguous.ensures.last.0 c.if-not-is_last_dim_contiguous.false) in
     ap (λ (xs : List (Range ℕ)). flat_map bytes_of xs) (c.walk-in-Some.ensures ∙ ap (λ n. map (range_at (c.in-Some.last.now.0 * n)) (places_left c.in-Some.rows.now c.args.start 0 0 (pos 0) 0 1)) c.itemsize-itemsize.ensures) ∙ bytes_of_rows c.args.self.now c.args.start c.in-Some.rows.now c.in-Some.last.now r gap
