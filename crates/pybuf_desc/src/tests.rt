@@ -10,15 +10,14 @@ use pybuf_value::{DimList, Made, PySlice, Scalar, Text, Twin};
 use std::alloc::Global;
 use std::test::Fail;
 
-/// Entries and strides, start, whether rows are joined, how many ranges there are, and their
-/// checksum: from 0 on, `h = (h * 31 + place + 7 * length) % 1000003` for each range.
-const WALKS: [([(usize, isize); 3], usize, bool, usize, usize); 5] = [
-    ([(2, -12), (2, 8), (2, 1)], 13, false, 8, 796200),
-    ([(2, -12), (2, 8), (2, 1)], 13, true, 4, 838480),
-    ([(2, -12), (3, -4), (4, -1)], 23, false, 24, 282322),
-    ([(2, -12), (3, -4), (4, -1)], 23, true, 24, 282322),
-    ([(0, 12), (3, 4), (4, 1)], 0, true, 0, 0),
-];
+/// `[[row[1:3] for row in plane[::2]] for plane in m[::-1]]`, which starts at 13
+const CUT: [(usize, isize); 3] = [(2, -12), (2, 8), (2, 1)];
+
+/// `[[row[::-1] for row in plane[::-1]] for plane in m[::-1]]`, which starts at 23
+const REVERSED: [(usize, isize); 3] = [(2, -12), (3, -4), (4, -1)];
+
+/// `m[2:]`, which has no items
+const NONE: [(usize, isize); 3] = [(0, 12), (3, 4), (4, 1)];
 
 /// Indices, and the position or -99 where Python raises `IndexError`.
 const POSITIONS: [([isize; 3], isize); 7] = [
@@ -39,7 +38,8 @@ fn described(alloc: Global, len: usize, dims: &[(usize, isize)]) -> Made<BufferD
     Ok(BufferDescriptor::raw(len, false, 1, Text::new(alloc), list))
 }
 
-/// The number of ranges and their checksum; none where the descriptor isn't valid.
+/// The number of ranges and their checksum: from 0 on, `h = (h * 31 + place + 7 * length) % 1000003`
+/// for each range. None where the descriptor isn't valid.
 fn ranges(d: &BufferDescriptor, start: usize, join: bool) -> (usize, usize) {
     if d.validate(start, 24).is_err() {
         return (0, 0);
@@ -58,13 +58,46 @@ fn ranges(d: &BufferDescriptor, start: usize, join: bool) -> (usize, usize) {
     (count, sum)
 }
 
+fn walked(
+    alloc: Global,
+    len: usize,
+    dims: &[(usize, isize)],
+    start: usize,
+    join: bool,
+) -> Made<(usize, usize)> {
+    let d = described(alloc, len, dims)?;
+    Ok(ranges(&d, start, join))
+}
+
 #[test]
-fn ranges_are_the_places_of_python(rt: HostRuntime) -> Result<(), Fail> {
-    for (dims, start, join, count, sum) in WALKS.iter() {
-        let len = dims[0].0.wrapping_mul(dims[1].0).wrapping_mul(dims[2].0);
-        let d = described(rt.alloc(), len, dims.as_slice())?;
-        assert_eq!(rt; ranges(&d, *start, *join), (*count, *sum), "start {start}");
-    }
+fn rows_cut_by_python(rt: HostRuntime) -> Result<(), Fail> {
+    assert_eq!(rt;
+        walked(rt.alloc(), 8, CUT.as_slice(), 13, false)?,
+        (8, 796200)
+    );
+    assert_eq!(rt;
+        walked(rt.alloc(), 8, CUT.as_slice(), 13, true)?,
+        (4, 838480)
+    );
+    Ok(())
+}
+
+#[test]
+fn items_reversed_by_python(rt: HostRuntime) -> Result<(), Fail> {
+    assert_eq!(rt;
+        walked(rt.alloc(), 24, REVERSED.as_slice(), 23, false)?,
+        (24, 282322)
+    );
+    assert_eq!(rt;
+        walked(rt.alloc(), 24, REVERSED.as_slice(), 23, true)?,
+        (24, 282322)
+    );
+    Ok(())
+}
+
+#[test]
+fn no_items_without_an_entry(rt: HostRuntime) -> Result<(), Fail> {
+    assert_eq!(rt; walked(rt.alloc(), 0, NONE.as_slice(), 0, true)?, (0, 0));
     Ok(())
 }
 
@@ -90,7 +123,7 @@ fn position(d: &BufferDescriptor, start: usize, indices: &[isize]) -> isize {
 
 #[test]
 fn positions_are_those_of_python(rt: HostRuntime) -> Result<(), Fail> {
-    let d = described(rt.alloc(), 8, WALKS[0].0.as_slice())?;
+    let d = described(rt.alloc(), 8, CUT.as_slice())?;
     for (indices, wanted) in POSITIONS.iter() {
         assert_eq!(rt; position(&d, 13, indices.as_slice()), *wanted);
     }
@@ -110,19 +143,37 @@ fn stepped(alloc: Global, d: &BufferDescriptor, slice: &SaturatedSlice) -> Made<
 }
 
 #[test]
-fn makers_succeed_with_ample_memory(rt: HostRuntime) -> Result<(), Fail> {
+fn simple_succeeds_with_ample_memory(rt: HostRuntime) -> Result<(), Fail> {
     let bytes = BufferDescriptor::simple(rt.alloc(), 5, true)?;
     assert_eq!(rt; ranges(&bytes, 0, true), (1, 35));
-    let words = BufferDescriptor::format(rt.alloc(), 6, false, 2, Text::new(rt.alloc()))?;
-    let twin = words.copy(rt.alloc())?;
+    Ok(())
+}
+
+fn words(alloc: Global) -> Made<BufferDescriptor> {
+    BufferDescriptor::format(alloc, 6, false, 2, Text::new(alloc))
+}
+
+#[test]
+fn copy_succeeds_with_ample_memory(rt: HostRuntime) -> Result<(), Fail> {
+    let twin = words(rt.alloc())?.copy(rt.alloc())?;
     assert_eq!(rt; twin.dim_desc().len(), 1);
+    Ok(())
+}
+
+fn stepped_words(alloc: Global, step: i128) -> Made<(usize, usize)> {
     let slice = PySlice {
         start: Scalar::None,
         stop: Scalar::None,
-        step: Scalar::Int(-2),
+        step: Scalar::Int(step),
     };
-    if let Ok(slice) = SaturatedSlice::with_slice(&slice) {
-        assert_eq!(rt; stepped(rt.alloc(), &words, &slice)?, (2, 572));
+    match SaturatedSlice::with_slice(&slice) {
+        Err(_) => Ok((0, 0)),
+        Ok(slice) => stepped(alloc, &words(alloc)?, &slice),
     }
+}
+
+#[test]
+fn slices_succeed_with_ample_memory(rt: HostRuntime) -> Result<(), Fail> {
+    assert_eq!(rt; stepped_words(rt.alloc(), -2)?, (2, 572));
     Ok(())
 }
