@@ -92,3 +92,112 @@ const SPELLED: [(&str, &str, u8); 2] = [
 fn spellings(rt: HostRuntime) -> Result<(), Fail> {
     judge(&rt, rt.alloc(), &SPELLED)
 }
+
+/// What comes before, what is repeated, how often, what comes after, the output and the status. Work
+/// that grew with the square of a word's length would not end in time.
+const LONG: [(&str, &str, usize, &str, &str, u8); 10] = [
+    (
+        "new bytearray x616263\nget h0 ",
+        "0",
+        60_000,
+        "2\n",
+        "h0\n99\n",
+        0,
+    ),
+    (
+        "new bytearray x\nget h0 ",
+        "9",
+        60_000,
+        "\n",
+        "line 2 is not a command\n",
+        2,
+    ),
+    (
+        "new bytearray x\nget h0 '",
+        "a",
+        60_000,
+        "'\n",
+        "h0\n! TypeError\n",
+        0,
+    ),
+    (
+        "new bytearray x\nget h0 x",
+        "aB",
+        30_000,
+        "\n",
+        "h0\n! TypeError\n",
+        0,
+    ),
+    (
+        "new bytearray x\nget h0 (1",
+        ",1",
+        30_000,
+        ")\n",
+        "h0\n! TypeError\n",
+        0,
+    ),
+    (
+        "new bytearray x\nget h0 [1",
+        ",'a,b'",
+        10_000,
+        "]\n",
+        "h0\n! TypeError\n",
+        0,
+    ),
+    (
+        "new bytearray x\nget h0 (1:1:1",
+        ",1:1:1",
+        10_000,
+        ")\n",
+        "h0\n! TypeError\n",
+        0,
+    ),
+    (
+        "new bytearray x\nget h0 (1:1:1",
+        ",1:1:1",
+        10_000,
+        ",1)\n",
+        "line 2 is not a command\n",
+        2,
+    ),
+    (
+        "new bytearray x\nget h0 1",
+        ":",
+        60_000,
+        "\n",
+        "line 2 is not a command\n",
+        2,
+    ),
+    (
+        "new bytearray x\nget h0 (",
+        ",",
+        60_000,
+        ")\n",
+        "line 2 is not a command\n",
+        2,
+    ),
+];
+
+fn repeated(
+    alloc: Global,
+    before: &str,
+    unit: &str,
+    count: usize,
+    after: &str,
+) -> Result<String, Fail> {
+    let mut text = String::from_str(alloc, before)?;
+    for _ in 0..count {
+        text.push_str(unit)?;
+    }
+    text.push_str(after)?;
+    Ok(text)
+}
+
+#[test]
+fn long_words(rt: HostRuntime) -> Result<(), Fail> {
+    for (before, unit, count, after, output, number) in LONG {
+        let input = repeated(rt.alloc(), before, unit, count, after)?;
+        ends(&rt, rt.alloc(), &input, output, number)?;
+    }
+    Ok(())
+}
