@@ -1,9 +1,9 @@
 -- One dimension of items one after the other is valid.
-use Rattle.std.proofs.Common.{◌≡◌, ◌≢◌, ℕ, zero, suc, ◌+◌, ◌*◌, ◌/◌, ◌%◌, ◌^◌, ◌<◌, ◌≤◌, ℤ, pos, ◌+ℤ◌, ◌≤ℤ◌, lit≤, Bool, List, [], ◌∷◌, length, map, drop, All, refl, ap, ap₂, codes, sym, ◌∙◌, subst, arith, div-add-mod', mul-one, mul-zero, mul_comm}
+use Rattle.std.proofs.Common.{◌≡◌, ◌≢◌, ℕ, zero, suc, ◌+◌, ◌*◌, ◌/◌, ◌%◌, ◌^◌, ◌<◌, ℤ, pos, ◌+ℤ◌, ◌≤ℤ◌, lit≤, Bool, List, [], ◌∷◌, map, All, refl, ap, ap₂, codes, sym, ◌∙◌, subst, arith, div-add-mod', mul-one}
 use Rattle.std.proofs.lemmas.Int.{ints}
-use Rattle.std.specs.List.{range_with_len, AllByRecursion}
+use Rattle.std.specs.List.{range_with_len}
 use Rattle.std.proofs.lemmas.List.Elements.{All-nil, All-cons, All-from_recursion}
-use Rattle.pybuf_desc.specs.Descriptor.{Descriptor, flat, flat_layout, bytes_layout, shape_of, product}
+use Rattle.pybuf_desc.specs.Descriptor.{flat, flat_layout, bytes_layout}
 use Rattle.pybuf_desc.specs.Places.{places, Stands}
 use Rattle.pybuf_desc.specs.Valid.{IsInside, IsValid}
 use Rattle.pybuf_desc.proofs.Inside.{inside_from_reach}

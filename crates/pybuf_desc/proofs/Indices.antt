@@ -1,12 +1,11 @@
 -- Indices of an item, one dimension after the other.
-use Rattle.std.proofs.Common.{◌≡◌, ℕ, zero, suc, ◌+◌, ◌*◌, ◌^◌, ◌<◌, ◌≤◌, ℤ, pos, negsuc, ◌+ℤ◌, ◌*ℤ◌, List, [], ◌∷◌, ◌++◌, length, get_or, drop, drop-cons, add-one, refl, ap, ap₂, sym, ◌∙◌, subst, arith, Result, Ok, Err, Some, Contains, slice_get, drop_of_length-le, suc-add, mul_comm}
+use Rattle.std.proofs.Common.{◌≡◌, ℕ, zero, suc, ◌+◌, ◌*◌, ◌<◌, ◌≤◌, ℤ, pos, ◌+ℤ◌, ◌*ℤ◌, List, [], ◌∷◌, ◌++◌, length, get_or, drop, drop-cons, add-one, refl, ap, ap₂, sym, ◌∙◌, subst, arith, Result, Ok, Err, Some, slice_get, drop_of_length-le, suc-add, mul_comm}
 use Rattle.std.proofs.lemmas.Nat.{mul-add-lt}
 use Rattle.std.proofs.lemmas.Int.{ints}
 use Rattle.pybuf_value.specs.declared.faults.Fault.{Fault}
-use Rattle.pybuf_value.specs.declared.faults.Fault.TheVariants as fault
 use Rattle.pybuf_desc.specs.Descriptor.{shape_of, product}
 use Rattle.pybuf_desc.specs.Places.{places}
-use Rattle.pybuf_desc.specs.Positions.{AreIndices, offset_of, number_of_item, wrapped, position_of}
+use Rattle.pybuf_desc.specs.Positions.{AreIndices, offset_of, number_of_item}
 use Rattle.pybuf_desc.proofs.Steps.{laid, places-cons, length-places, zeroth_place}
 use Rattle.pybuf_desc.proofs.Products.{AreNonzero}
 use Rattle.pybuf_desc.proofs.Track.{next_multiple'}

@@ -1,8 +1,7 @@
 -- Places of rows and the places in them.
-use Rattle.std.proofs.Common.{◌≡◌, ℕ, zero, suc, ◌+◌, ◌-◌, ◌*◌, ◌/◌, ◌%◌, ◌^◌, ◌<◌, ◌≤◌, ℤ, pos, negsuc, ◌+ℤ◌, ◌*ℤ◌, ◌≤ℤ◌, nat_abs, List, [], ◌∷◌, ◌++◌, length, take, drop, drop-cons, get_or, map, flat_map, refl, ap, ap₂, sym, ◌∙◌, subst, arith, append-nil, append_assoc, Some, slice_get, mul_comm, div-add-mod', mod-lt, add-one}
+use Rattle.std.proofs.Common.{◌≡◌, ℕ, zero, suc, ◌+◌, ◌*◌, ◌/◌, ◌%◌, ◌<◌, ℤ, pos, ◌+ℤ◌, ◌*ℤ◌, List, [], ◌∷◌, ◌++◌, length, flat_map, refl, ap, ap₂, sym, ◌∙◌, arith, append-nil, slice_get, div-add-mod', mod-lt}
 use Rattle.std.proofs.lemmas.Int.{ints}
 use Rattle.std.proofs.lemmas.Grind.{flat_map-append}
-use Rattle.std.specs.List.{AllByRecursion, range_with_len}
 use Rattle.pybuf_desc.specs.Descriptor.{shape_of, product}
 use Rattle.pybuf_desc.specs.Places.{places}
 use Rattle.pybuf_desc.specs.Segments.{line}

@@ -1,5 +1,5 @@
 -- The code's step of the sum, which goes over bits, is the step of the definition.
-use Rattle.std.proofs.Common.{◌≡◌, ℕ, ◌^◌, ◌<◌, ℤ, pos, ◌+ℤ◌, ◌*ℤ◌, List, [], ◌∷◌, length, get_or, drop, drop-cons, suc, ◌+◌, add-one, refl, ap, ap₂, sym, ◌∙◌, subst, arith, SFits, w64, to_z, of_z}
+use Rattle.std.proofs.Common.{◌≡◌, ℕ, ◌^◌, ◌<◌, ℤ, pos, ◌+ℤ◌, ◌*ℤ◌, List, length, get_or, drop, drop-cons, suc, ◌+◌, add-one, ap, ap₂, sym, ◌∙◌, subst, arith, SFits, w64, to_z, of_z}
 use Rattle.std.proofs.lemmas.Int.{ints, to_z_pos, to_z-of_z}
 use Rattle.pybuf_desc.proofs.Track.{Track, Step, step}
 

@@ -1,5 +1,5 @@
 -- The place of an item with a number, one dimension after the other.
-use Rattle.std.proofs.Common.{◌≡◌, ℕ, zero, suc, ◌+◌, ◌-◌, ◌*◌, ◌/◌, ◌%◌, ◌^◌, ◌<◌, ◌≤◌, ℤ, pos, negsuc, ◌+ℤ◌, ◌*ℤ◌, ◌≤ℤ◌, List, [], ◌∷◌, length, drop, drop-cons, drop_of_length-le, get_or, refl, ap, ap₂, sym, ◌∙◌, subst, arith, Some, slice_get, add-one, SFits, w64, to_z, of_z, mul-div_cancel, mul_comm, div-lt_iff_lt-mul, mod-lt, lit<, lit≤}
+use Rattle.std.proofs.Common.{◌≡◌, ℕ, ◌+◌, ◌*◌, ◌/◌, ◌%◌, ◌^◌, ◌<◌, ◌≤◌, ℤ, pos, ◌+ℤ◌, ◌*ℤ◌, ◌≤ℤ◌, List, [], ◌∷◌, length, drop, drop-cons, drop_of_length-le, ap, sym, ◌∙◌, subst, arith, Some, slice_get, add-one, lit<, lit≤}
 use Rattle.std.proofs.lemmas.Int.{ints}
 use Rattle.std.proofs.lemmas.Nat.{div_below}
 use Rattle.std.specs.List.{AllByRecursion}
@@ -8,7 +8,7 @@ use Rattle.pybuf_desc.specs.Places.{places}
 use Rattle.pybuf_desc.specs.Valid.{IsInside}
 use Rattle.pybuf_desc.specs.Segments.{HasPlaces}
 use Rattle.pybuf_desc.proofs.Track.{Track, here, inside_entry}
-use Rattle.pybuf_desc.proofs.Moves.{dim_at, Moves, moves, index_fits, sum_bits}
+use Rattle.pybuf_desc.proofs.Moves.{dim_at}
 use Rattle.pybuf_desc.proofs.Products.{AreNonzero, product-pos}
 use Rattle.pybuf_desc.proofs.SliceFacts.{block_size}
 use Rattle.pybuf_desc.proofs.Lines.{number_down}

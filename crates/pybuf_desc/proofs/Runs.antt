@@ -1,5 +1,5 @@
 -- Items one after the other, and strides that make them so.
-use Rattle.std.proofs.Common.{◌≡◌, ◌≢◌, ℕ, zero, suc, ◌+◌, ◌-◌, ◌*◌, ◌^◌, ◌<◌, ◌≤◌, ℤ, pos, negsuc, ◌+ℤ◌, ◌*ℤ◌, List, [], ◌∷◌, ◌++◌, length, take, drop, get_or, map, refl, ap, ap₂, sym, ◌∙◌, subst, arith, mul-zero, zero-mul, add-zero, length-append, mul-pos, append-nil}
+use Rattle.std.proofs.Common.{◌≡◌, ℕ, zero, suc, ◌+◌, ◌*◌, ◌<◌, ◌≤◌, ℤ, pos, ◌+ℤ◌, List, [], ◌∷◌, ◌++◌, length, get_or, map, refl, ap, ap₂, sym, ◌∙◌, arith, zero-mul, mul-pos, append-nil}
 use Rattle.std.proofs.lemmas.Int.{ints}
 use Rattle.std.specs.List.{range_with_len}
 use Rattle.pybuf_desc.specs.Descriptor.{shape_of, product}

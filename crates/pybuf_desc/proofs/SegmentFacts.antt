@@ -1,5 +1,5 @@
 -- What the ranges of a walk are: items or rows, and the bytes of the items in order.
-use Rattle.std.proofs.Common.{◌≡◌, ◌≢◌, ℕ, zero, suc, ◌+◌, ◌-◌, ◌*◌, ◌/◌, ◌^◌, ◌<◌, ◌≤◌, ℤ, pos, negsuc, ◌+ℤ◌, ◌*ℤ◌, ◌≤ℤ◌, nat_abs, Bool, true, false, cond, ◌&&◌, eqb, List, [], ◌∷◌, ◌++◌, length, take, drop, map, flat_map, refl, ap, ap₂, sym, ◌∙◌, subst, arith, append-nil, Some, None, Option, slice_get, All, Any, length-append, mul-zero, mul-one, true≢false, take_at, IsSomeAnd, IsTrue, ◌↔◌, mul-div_cancel, mul_comm, mul_assoc, add-zero, zero-add, lit<, lit≤, le-mul_of_pos_right}
+use Rattle.std.proofs.Common.{◌≡◌, ℕ, zero, suc, ◌+◌, ◌-◌, ◌*◌, ◌/◌, ◌^◌, ◌<◌, ◌≤◌, ℤ, pos, negsuc, ◌+ℤ◌, ◌≤ℤ◌, nat_abs, Bool, true, false, cond, ◌&&◌, eqb, List, [], ◌∷◌, ◌++◌, length, take, map, flat_map, refl, ap, ap₂, sym, ◌∙◌, subst, arith, Some, None, Option, slice_get, length-append, take_at, IsSomeAnd, IsTrue, ◌↔◌, mul_comm, mul_assoc, lit<, le-mul_of_pos_right}
 use Rattle.std.proofs.lemmas.Int.{ints}
 use Rattle.std.proofs.lemmas.Grind.{flat_map-append}
 use Rattle.std.proofs.lemmas.Bool.Decides.{Decides-int_eq}
@@ -10,13 +10,13 @@ use Rattle.std.specs.List.{AllByRecursion, range_with_len}
 use Rattle.std.specs.declared.ops.Range.{Range}
 use Rattle.pybuf_desc.specs.Descriptor.{Descriptor, shape_of, product}
 use Rattle.pybuf_desc.specs.Places.{places}
-use Rattle.pybuf_desc.specs.Valid.{IsInside, IsValid, IsPlaced}
+use Rattle.pybuf_desc.specs.Valid.{IsInside, IsPlaced}
 use Rattle.pybuf_desc.specs.Segments.{line, range_at, HasPlaces, IsWalk, places_left, ranges_of, item_ranges, row_ranges, is_row_contiguous, row_size, last_dim, bytes_of, item_bytes}
 use Rattle.pybuf_desc.proofs.Steps.{length-places}
-use Rattle.pybuf_desc.proofs.Inside.{ByRec-append, ByRec-left, ByRec-right}
-use Rattle.pybuf_desc.proofs.Products.{AreNonzero, product-pos, product-zero}
+use Rattle.pybuf_desc.proofs.Inside.{ByRec-left, ByRec-right}
+use Rattle.pybuf_desc.proofs.Products.{AreNonzero, product-pos}
 use Rattle.pybuf_desc.proofs.Track.{entries_fit}
-use Rattle.pybuf_desc.proofs.Strides.{bytes_fit, some_entries}
+use Rattle.pybuf_desc.proofs.Strides.{bytes_fit}
 use Rattle.pybuf_desc.proofs.SliceFacts.{block_size}
 use Rattle.pybuf_desc.proofs.Lines.{places-rows}
 

@@ -1,18 +1,13 @@
 -- The slice of a descriptor stands for the slice of its view.
-use Rattle.std.proofs.Common.{◌≡◌, ◌≢◌, ℕ, zero, suc, ◌+◌, ◌-◌, ◌*◌, ◌/◌, ◌^◌, ◌<◌, ◌≤◌, min, ℤ, pos, negsuc, ◌+ℤ◌, ◌*ℤ◌, ◌≤ℤ◌, List, [], ◌∷◌, ◌++◌, length, take, drop, map, get_or, refl, ap, ap₂, sym, ◌∙◌, subst, arith, SFits, w64, All, flat_map, mul-div_cancel, append-nil, length-append, drop-drop, drop_at, take_at, le_trans, lit≤, lit<, mul_comm, mul-le-mul_right, le_refl, le-mul_of_pos_right}
+use Rattle.std.proofs.Common.{◌≡◌, ◌≢◌, ℕ, zero, suc, ◌+◌, ◌*◌, ◌/◌, ◌^◌, ◌<◌, ◌≤◌, min, ℤ, pos, negsuc, ◌+ℤ◌, ◌*ℤ◌, List, [], ◌∷◌, ◌++◌, length, take, drop, map, refl, ap, ap₂, sym, ◌∙◌, arith, SFits, w64, flat_map, mul-div_cancel, drop-drop, drop_at, take_at, lit≤, lit<, mul_comm}
 use Rattle.std.proofs.lemmas.Int.{ints}
 use Rattle.std.proofs.Math.IntN.{*ℤ_comm}
-use Rattle.std.specs.List.{AllByRecursion}
-use Rattle.std.specs.Int.{saturate_signed}
 use Rattle.pybuf_slice.specs.Parts.{clamped}
 use Rattle.pybuf_desc.specs.Descriptor.{Descriptor, Layout, shape_of, strides_of, product}
 use Rattle.pybuf_desc.specs.Places.{places, Stands}
-use Rattle.pybuf_desc.specs.Valid.{IsInside, IsValid}
 use Rattle.pybuf_desc.specs.Slices.{first_entry, first_stride, block_at, slice_at}
-use Rattle.pybuf_desc.proofs.Steps.{laid, places-cons, length-places, length-laid, zeroth_place}
-use Rattle.pybuf_desc.proofs.Inside.{ByRec-append}
-use Rattle.pybuf_desc.proofs.Track.{inside_entry, here, next_multiple'}
-use Rattle.pybuf_desc.proofs.Products.{AreNonzero}
+use Rattle.pybuf_desc.proofs.Steps.{laid, places-cons, length-places, zeroth_place}
+use Rattle.pybuf_desc.proofs.Track.{next_multiple'}
 use Rattle.pybuf_desc.proofs.Cuts.{times_sum, Walks}
 
 -- ---- the blocks at the picks, laid down one after the other

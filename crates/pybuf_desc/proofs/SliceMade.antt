@@ -1,5 +1,5 @@
 -- What `sliced` makes, from what `adjust_indices` says.
-use Rattle.std.proofs.Common.{◌≡◌, ◌≢◌, ℕ, zero, suc, ◌+◌, ◌-◌, ◌*◌, ◌/◌, ◌^◌, ◌<◌, ◌≤◌, ℤ, pos, negsuc, ◌+ℤ◌, ◌-ℤ◌, ◌*ℤ◌, ◌≤ℤ◌, ◌<ℤ◌, Bool, true, false, cond, nat_abs, List, [], ◌∷◌, length, drop, get_or, set, drop-cons, refl, ap, ap₂, sym, ◌∙◌, subst, arith, SFits, w64, All, flat_map, slice_set}
+use Rattle.std.proofs.Common.{◌≡◌, ◌≢◌, ℕ, zero, suc, ◌-◌, ◌*◌, ◌^◌, ◌<◌, ◌≤◌, ℤ, pos, negsuc, ◌+ℤ◌, ◌-ℤ◌, ◌*ℤ◌, ◌≤ℤ◌, ◌<ℤ◌, Bool, true, false, cond, nat_abs, List, [], ◌∷◌, length, drop, drop-cons, refl, ap, sym, ◌∙◌, subst, arith, SFits, w64, All, slice_set}
 use Rattle.std.proofs.lemmas.Int.{ints}
 use Rattle.std.specs.List.{AllByRecursion}
 use Rattle.std.proofs.lemmas.List.Elements.{recursion_from_All}
@@ -14,7 +14,7 @@ use Rattle.pybuf_desc.proofs.Moves.{dim_at}
 use Rattle.pybuf_desc.proofs.Products.{AreNonzero, AreNonzero-from_All}
 use Rattle.pybuf_desc.proofs.Track.{here, inside_entry, difference_fits, entries_fit}
 use Rattle.pybuf_desc.proofs.Cuts.{Walks, span_first, walks_span}
-use Rattle.pybuf_desc.proofs.SliceFacts.{IsCut, cut_of, stands_cut, clamped_fits}
+use Rattle.pybuf_desc.proofs.SliceFacts.{IsCut, cut_of, stands_cut}
 use Rattle.pybuf_desc.proofs.SliceValidity.{valid_cut, stride_shown, product_moves}
 
 -- the dimensions are the first and the others

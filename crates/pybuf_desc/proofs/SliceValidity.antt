@@ -1,5 +1,5 @@
 -- A slice of a valid descriptor is valid, and its strides are exact where two items show them.
-use Rattle.std.proofs.Common.{◌≡◌, ◌≢◌, ℕ, zero, suc, ◌+◌, ◌-◌, ◌*◌, ◌/◌, ◌^◌, ◌<◌, ◌≤◌, ℤ, pos, negsuc, ◌+ℤ◌, ◌*ℤ◌, ◌≤ℤ◌, List, [], ◌∷◌, ◌++◌, length, drop, refl, ap, sym, ◌∙◌, subst, arith, SFits, w64, All, flat_map, mul-le-mul_right, mul-le-mul_left, le_refl, le-mul_of_pos_right, lt_of_le_of_lt, zero-lt-suc, mul-pos, neg_ℤ}
+use Rattle.std.proofs.Common.{◌≡◌, ◌≢◌, ℕ, zero, suc, ◌*◌, ◌^◌, ◌<◌, ◌≤◌, ℤ, pos, negsuc, ◌+ℤ◌, ◌*ℤ◌, ◌≤ℤ◌, List, [], ◌∷◌, length, drop, refl, ap, sym, ◌∙◌, subst, arith, SFits, w64, All, flat_map, mul-le-mul_right, mul-le-mul_left, le_refl, le-mul_of_pos_right, lt_of_le_of_lt, zero-lt-suc, mul-pos, neg_ℤ}
 use Rattle.std.proofs.Math.IntN.{*ℤ_comm}
 use Rattle.std.proofs.lemmas.Int.{ints}
 use Rattle.std.specs.List.{AllByRecursion}
@@ -9,8 +9,8 @@ use Rattle.pybuf_desc.specs.Descriptor.{Descriptor, shape_of, product}
 use Rattle.pybuf_desc.specs.Places.{places}
 use Rattle.pybuf_desc.specs.Valid.{IsInside, IsValid}
 use Rattle.pybuf_desc.proofs.Inside.{ByRec-append}
-use Rattle.pybuf_desc.proofs.Track.{inside_entry, here, Track, Step, step}
-use Rattle.pybuf_desc.proofs.Products.{AreNonzero, AreNonzero-from_All, extent_of}
+use Rattle.pybuf_desc.proofs.Track.{inside_entry, here, step}
+use Rattle.pybuf_desc.proofs.Products.{AreNonzero, extent_of}
 use Rattle.pybuf_desc.proofs.Cuts.{times_sum, Walks}
 use Rattle.pybuf_desc.proofs.SliceFacts.{IsCut, cut_of, places_cut, clamped_fits, clamped_nonzero}
 

@@ -1,13 +1,12 @@
 -- A sum of index times stride never leaves the room on its way.
-use Rattle.std.proofs.Common.{◌≡◌, ℕ, zero, suc, ◌+◌, ◌*◌, ◌^◌, ◌<◌, ◌≤◌, ℤ, pos, negsuc, ◌+ℤ◌, ◌*ℤ◌, ◌≤ℤ◌, List, [], ◌∷◌, ◌++◌, length, get_or, drop, drop-cons, add-one, refl, ap, ap₂, sym, ◌∙◌, subst, arith, SFits, w64, le-mul_of_pos_right, mul-zero, mul-pos, zero-lt-suc, Contains}
+use Rattle.std.proofs.Common.{◌≡◌, ℕ, zero, suc, ◌*◌, ◌^◌, ◌<◌, ◌≤◌, ℤ, pos, negsuc, ◌+ℤ◌, ◌*ℤ◌, ◌≤ℤ◌, List, [], ◌∷◌, refl, sym, subst, arith, SFits, w64, le-mul_of_pos_right, mul-pos, zero-lt-suc}
 use Rattle.std.proofs.lemmas.Int.{ints}
 use Rattle.std.specs.List.{AllByRecursion}
 use Rattle.std.proofs.lemmas.List.Elements.{recursion_from_All}
-use Rattle.pybuf_desc.specs.Descriptor.{Descriptor, shape_of, product}
+use Rattle.pybuf_desc.specs.Descriptor.{Descriptor}
 use Rattle.pybuf_desc.specs.Places.{places}
-use Rattle.pybuf_desc.specs.Valid.{IsInside, IsValid, IsPlaced, IsPlaceable}
-use Rattle.pybuf_desc.specs.Positions.{AreIndices, offset_of}
-use Rattle.pybuf_desc.proofs.Steps.{laid, places-cons, next_multiple, zeroth_place}
+use Rattle.pybuf_desc.specs.Valid.{IsInside, IsPlaceable}
+use Rattle.pybuf_desc.proofs.Steps.{laid, places-cons, zeroth_place}
 use Rattle.pybuf_desc.proofs.Inside.{ByRec-left, ByRec-right, Reaches, reach_from_inside, back_reach, forth_reach}
 use Rattle.pybuf_desc.proofs.Products.{AreNonzero, extent_of, extent_pos}
 

@@ -1,5 +1,5 @@
 -- What the checks of a descriptor come to.
-use Rattle.std.proofs.Common.{◌≡◌, ◌≢◌, ℕ, ◌+◌, ◌*◌, ◌^◌, ◌<◌, ◌≤◌, ℤ, pos, Bool, List, length, drop, All, Any, refl, ap, sym, ◌∙◌, subst, arith, mul-zero}
+use Rattle.std.proofs.Common.{◌≡◌, ◌≢◌, ℕ, ◌*◌, ◌^◌, ◌<◌, ◌≤◌, ℤ, pos, Bool, List, length, drop, All, Any, ap, sym, ◌∙◌, arith, mul-zero}
 use Rattle.pybuf_desc.specs.Descriptor.{Descriptor, shape_of, product}
 use Rattle.pybuf_desc.specs.Places.{places}
 use Rattle.pybuf_desc.specs.Valid.{IsInside, IsValid}

@@ -1,12 +1,11 @@
 -- The steps of a walk over rows and the places in them.
-use Rattle.std.proofs.Common.{◌≡◌, ℕ, zero, suc, ◌+◌, ◌-◌, ◌*◌, ◌/◌, ◌%◌, ◌^◌, ◌<◌, ◌≤◌, ℤ, pos, negsuc, ◌+ℤ◌, ◌*ℤ◌, ◌≤ℤ◌, nat_abs, List, [], ◌∷◌, ◌++◌, length, take, drop, drop-cons, drop_of_length-le, get_or, map, flat_map, refl, ap, ap₂, sym, ◌∙◌, subst, arith, append_assoc, Some, slice_get, add-one, SFits, w64}
+use Rattle.std.proofs.Common.{◌≡◌, ℕ, zero, suc, ◌+◌, ◌-◌, ◌^◌, ◌<◌, ◌≤◌, ℤ, pos, ◌+ℤ◌, ◌≤ℤ◌, List, [], ◌∷◌, ◌++◌, drop, drop_of_length-le, map, flat_map, refl, ap, sym, ◌∙◌, subst, arith, Some, slice_get, add-one}
 use Rattle.std.proofs.lemmas.Int.{ints}
 use Rattle.std.specs.List.{AllByRecursion}
-use Rattle.std.specs.declared.ops.Range.{Range}
 use Rattle.pybuf_desc.specs.Descriptor.{shape_of, product}
 use Rattle.pybuf_desc.specs.Places.{places}
 use Rattle.pybuf_desc.specs.Valid.{IsInside}
-use Rattle.pybuf_desc.specs.Segments.{line, range_at, HasPlaces, IsWalk, places_left}
+use Rattle.pybuf_desc.specs.Segments.{line, range_at, IsWalk, places_left}
 use Rattle.pybuf_desc.proofs.Steps.{length-places}
 
 -- the next place of a row, where there is one

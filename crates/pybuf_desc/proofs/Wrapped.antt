@@ -1,5 +1,5 @@
 -- Positions by wrapped indices, one dimension after the other.
-use Rattle.std.proofs.Common.{◌≡◌, ℕ, zero, suc, ◌+◌, ◌-◌, ◌*◌, ◌<◌, ◌≤◌, ℤ, pos, negsuc, ◌+ℤ◌, ◌*ℤ◌, List, [], ◌∷◌, length, get_or, drop, drop-cons, drop_of_length-le, add-one, refl, ap, ap₂, sym, ◌∙◌, subst, arith, Result, Ok, Err, Some, None, Option, Contains, slice_get, Bool, true, false, cond, ltb, ltb→lt, All, ◌≢◌, pos_of_ne-zero}
+use Rattle.std.proofs.Common.{◌≡◌, ℕ, zero, suc, ◌+◌, ◌<◌, ◌≤◌, ℤ, pos, negsuc, ◌+ℤ◌, ◌*ℤ◌, List, [], ◌∷◌, length, get_or, drop, drop-cons, drop_of_length-le, add-one, refl, ap, ap₂, sym, ◌∙◌, subst, arith, Result, Ok, Err, Some, Contains, slice_get, All, ◌≢◌, pos_of_ne-zero}
 use Rattle.std.proofs.lemmas.Int.{ints}
 use Rattle.pybuf_value.specs.declared.faults.Fault.{Fault}
 use Rattle.pybuf_value.specs.declared.faults.Fault.TheVariants as fault

@@ -1,5 +1,5 @@
 -- The slice of a view along its first dimension.
-use Rattle.std.specs.Prelude.{◌≡◌, ℕ, ◌*◌, ◌/◌, ℤ, pos, ◌*ℤ◌, List, [], ◌∷◌, length, take, drop}
+use Rattle.std.specs.Prelude.{ℕ, ◌*◌, ◌/◌, ℤ, pos, ◌*ℤ◌, List, [], ◌∷◌, length, take, drop}
 use Rattle.std.specs.List.{flat_map}
 use Rattle.pybuf_slice.specs.Parts.{SliceParts, picks_of, clamped}
 use Rattle.pybuf_desc.specs.Descriptor.{Layout}

@@ -1,5 +1,5 @@
 -- When a descriptor describes items that lie inside an exporter's bytes.
-use Rattle.std.specs.Prelude.{◌≡◌, ◌≢◌, ℕ, ◌+◌, ◌*◌, ◌^◌, ◌<◌, ◌≤◌, ℤ, pos, ◌+ℤ◌, ◌≤ℤ◌, List, [], ◌∷◌, zero, suc, length, drop, All}
+use Rattle.std.specs.Prelude.{◌≡◌, ◌≢◌, ℕ, ◌*◌, ◌^◌, ◌<◌, ◌≤◌, ℤ, pos, ◌+ℤ◌, ◌≤ℤ◌, List, [], ◌∷◌, zero, suc, length, drop, All}
 use Rattle.pybuf_desc.specs.Descriptor.{Descriptor, shape_of, product}
 use Rattle.pybuf_desc.specs.Places.{places}
 

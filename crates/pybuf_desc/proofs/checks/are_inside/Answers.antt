@@ -1,5 +1,4 @@
-use Rattle.std.proofs.Common.{arith, ℤ, pos, SFits, w64, get_or, to_z-of_z}
-use Rattle.std.proofs.lemmas.Int.{ints}
+use Rattle.std.proofs.Common.{arith, to_z-of_z}
 use Rattle.std.proofs.lemmas.Grind.{common_steps}
 use Rattle.pybuf_desc.proofs.Inside.{outside_of_reach, outside_at, inside_in_reach, too_far}
 use Rattle.pybuf_desc.proofs.checks.are_inside.Goals as goal

@@ -1,4 +1,4 @@
-use Rattle.std.proofs.Common.{◌≡◌, ◌+◌, ◌<◌, ◌≤◌, drop}
+use Rattle.std.proofs.Common.{◌≡◌, ◌+◌, ◌≤◌, drop}
 use Rattle.pybuf_desc.proofs.Inside.{back_reach, forth_reach}
 use Rattle.pybuf_desc.proofs.checks.are_inside.Given as goal
 

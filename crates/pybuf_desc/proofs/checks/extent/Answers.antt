@@ -1,4 +1,4 @@
-use Rattle.std.proofs.Common.{arith, ◌≡◌, ◌≢◌, ◌<◌, ◌*◌, ◌≤◌, pos, get_or, length, ◌∙◌, ℕ, ap, sym, subst}
+use Rattle.std.proofs.Common.{arith, ◌*◌, ◌≤◌, pos, get_or}
 use Rattle.pybuf_desc.proofs.Products.{extent_above, extent_skips, extent_grows}
 use Rattle.pybuf_desc.proofs.checks.extent.Goals as goal
 use Rattle.pybuf_desc.proofs.checks.extent.Goals.{then-dim-ne0+in_ok-next+else-next, else-dim-ne0}

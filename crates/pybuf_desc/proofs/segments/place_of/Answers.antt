@@ -1,8 +1,8 @@
-use Rattle.std.proofs.Common.{rules, arith, ◌≡◌, ◌<◌, ◌^◌, ◌+◌, ◌/◌, ◌%◌, ℤ, ℕ, pos, ◌+ℤ◌, ◌*ℤ◌, SFits, w64, get_or, drop, sym, ap, ◌∙◌, subst, mod-lt, Some, slice_get, refl}
+use Rattle.std.proofs.Common.{rules, arith, ◌<◌, ◌^◌, ◌+◌, ◌/◌, ◌%◌, pos, SFits, w64, get_or, drop, sym, ap, ◌∙◌, subst, mod-lt, slice_get}
 use Rattle.std.proofs.lemmas.Int.{ints, to_z_pos}
 use Rattle.pybuf_desc.specs.Places.{places}
 use Rattle.pybuf_desc.proofs.Moves.{dim_at, moves, index_fits}
-use Rattle.pybuf_desc.proofs.Numbers.{Along, along_placed, along_here, track_along, down, at_end}
+use Rattle.pybuf_desc.proofs.Numbers.{Along, along_placed, along_here, track_along, down}
 use Rattle.pybuf_desc.proofs.segments.place_of.Goals as goal
 
 pub overflow_cast-place : goal.overflow_cast-place

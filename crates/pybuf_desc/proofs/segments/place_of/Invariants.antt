@@ -1,4 +1,4 @@
-use Rattle.std.proofs.Common.{◌≡◌, ◌<◌, ℤ, pos, slice_get, drop}
+use Rattle.std.proofs.Common.{◌≡◌, ◌<◌, pos, slice_get, drop}
 use Rattle.pybuf_desc.specs.Descriptor.{shape_of, product}
 use Rattle.pybuf_desc.specs.Places.{places}
 use Rattle.pybuf_desc.proofs.Numbers.{Along}

@@ -1,4 +1,4 @@
-use Rattle.std.proofs.Common.{◌≡◌, ◌*◌, ◌/◌, ◌<◌, arith, ap, ◌∙◌, mul_comm, ℕ}
+use Rattle.std.proofs.Common.{◌*◌, arith, ap, ◌∙◌, mul_comm, ℕ}
 use Rattle.pybuf_desc.proofs.SliceFacts.{block_size}
 use Rattle.pybuf_desc.proofs.sliced.len_of_entries.Goals as goal
 

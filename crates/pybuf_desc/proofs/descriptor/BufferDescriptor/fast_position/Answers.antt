@@ -1,7 +1,5 @@
-use Rattle.std.proofs.Common.{◌≡◌, ◌+ℤ◌, ◌*ℤ◌, ℤ, ℕ, pos, Some, slice_get, get_or, drop, length, arith, rules, SFits, w64, ◌<◌, ◌^◌, ◌∙◌, sym, ap, subst, ap₂}
-use Rattle.std.proofs.lemmas.Int.{ints}
-use Rattle.pybuf_desc.specs.Places.{places}
-use Rattle.pybuf_desc.specs.Positions.{AreIndices, offset_of, number_of_item}
+use Rattle.std.proofs.Common.{◌+ℤ◌, ℤ, pos, Some, get_or, rules, SFits, w64, ◌∙◌, sym, ap, subst}
+use Rattle.pybuf_desc.specs.Positions.{AreIndices, offset_of}
 use Rattle.pybuf_desc.proofs.Indices.{indices_at, AreNonzero-from_indices, offset_more, offset_of-end, place_of_item, plus-0}
 use Rattle.pybuf_desc.proofs.Moves.{moves, index_fits}
 use Rattle.pybuf_desc.proofs.Track.{Track, track_from_valid}

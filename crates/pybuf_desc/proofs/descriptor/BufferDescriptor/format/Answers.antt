@@ -1,5 +1,5 @@
-use Rattle.std.proofs.Common.{◌≡◌, ◌/◌, ℕ, List, ℤ, rules, ap, sym, ◌∙◌, subst}
-use Rattle.pybuf_desc.specs.Descriptor.{Descriptor, flat, flat_layout}
+use Rattle.std.proofs.Common.{◌≡◌, ◌/◌, rules, sym, subst}
+use Rattle.pybuf_desc.specs.Descriptor.{flat, flat_layout}
 use Rattle.pybuf_desc.specs.Places.{Stands}
 use Rattle.pybuf_desc.specs.Valid.{IsValid}
 use Rattle.pybuf_desc.proofs.Flat.{valid_flat, whole_items, stands_flat}

@@ -1,4 +1,4 @@
-use Rattle.std.proofs.Common.{◌≡◌, ◌<◌, ◌*◌, ℤ, pos, arith, rules, refl, sym, ◌∙◌, subst, All, ◌^◌, IsTrue, ◌↔◌}
+use Rattle.std.proofs.Common.{◌<◌, ◌*◌, refl, sym, ◌∙◌, subst, All, ◌^◌, IsTrue, ◌↔◌}
 use Rattle.pybuf_desc.specs.Descriptor.{shape_of, product}
 use Rattle.pybuf_desc.specs.Places.{places}
 use Rattle.pybuf_desc.specs.Contiguous.{IsContiguous, AreRowMajorStrides}

@@ -1,9 +1,8 @@
-use Rattle.std.proofs.Common.{◌≡◌, ◌+ℤ◌, ◌*ℤ◌, ℤ, ℕ, pos, Some, Ok, Err, slice_get, get_or, drop, length, arith, rules, SFits, w64, ◌<◌, ◌^◌, ◌∙◌, sym, ap, subst, ap₂}
-use Rattle.std.proofs.lemmas.Int.{ints, to_z-of_z}
-use Rattle.pybuf_desc.specs.Places.{places}
+use Rattle.std.proofs.Common.{◌≡◌, ℤ, ℕ, pos, Ok, Err, slice_get, get_or, length, rules, SFits, w64, ◌∙◌, sym, ap, subst}
+use Rattle.std.proofs.lemmas.Int.{to_z-of_z}
 use Rattle.pybuf_desc.specs.Positions.{wrapped, position_of}
 use Rattle.pybuf_desc.proofs.Indices.{moved-0}
-use Rattle.pybuf_desc.proofs.Moves.{moves, index_fits, dim_at}
+use Rattle.pybuf_desc.proofs.Moves.{moves, index_fits}
 use Rattle.pybuf_desc.proofs.Track.{Track, track_from_valid}
 use Rattle.pybuf_desc.proofs.Wrapped.{wrapped_below, position_more, position_refused, position_end, position_of_none, position_is_place, first_dim, AreNonzero-from_later}
 use Rattle.pybuf_desc.proofs.descriptor.BufferDescriptor.position.Goals as goal

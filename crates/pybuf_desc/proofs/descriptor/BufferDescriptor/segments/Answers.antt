@@ -1,8 +1,8 @@
-use Rattle.std.proofs.Common.{rules, arith, ◌≡◌, ◌<◌, ◌*◌, ◌/◌, ◌^◌, ℕ, ℤ, pos, List, SFits, w64, to_z, of_z, refl, sym, ap, ap₂, ◌∙◌, subst, true, false, true≢false, flat_map, map}
+use Rattle.std.proofs.Common.{rules, arith, ◌≡◌, ◌<◌, ◌*◌, ◌^◌, ℕ, pos, List, SFits, w64, to_z, of_z, refl, sym, ap, ◌∙◌, subst, true≢false, flat_map, map}
 use Rattle.std.proofs.lemmas.Int.{to_z-of_z}
 use Rattle.std.specs.declared.ops.Range.{Range}
 use Rattle.pybuf_desc.specs.Descriptor.{shape_of, product}
-use Rattle.pybuf_desc.specs.Segments.{ranges_of, item_ranges, row_ranges, is_row_contiguous, last_dim, bytes_of, item_bytes, range_at, places_left}
+use Rattle.pybuf_desc.specs.Segments.{ranges_of, is_row_contiguous, last_dim, bytes_of, range_at, places_left}
 use Rattle.pybuf_desc.proofs.Products.{AreNonzero, AreNonzero-from_All, All-from_no_zero, product-zero}
 use Rattle.pybuf_desc.proofs.SegmentFacts.{IsRows, asked_none, asked_apart, asked_rows, bytes_none, bytes_of_items, bytes_of_rows, row_test, row_bytes_fit, walk_items, walk_rows, ranges_items, ranges_of_rows, last_is, gap_is, last_entry_some}
 use Rattle.pybuf_desc.proofs.descriptor.BufferDescriptor.segments.Goals as goal

@@ -1,5 +1,5 @@
-use Rattle.std.proofs.Common.{◌≡◌, IfOk, Result, Ok, Err, sym, subst, codes, rules, arith, ◌/◌, ◌∙◌, ap, div-one}
-use Rattle.pybuf_desc.specs.Descriptor.{Descriptor, flat, bytes_layout}
+use Rattle.std.proofs.Common.{◌≡◌, sym, subst, codes, rules, div-one}
+use Rattle.pybuf_desc.specs.Descriptor.{flat, bytes_layout}
 use Rattle.pybuf_desc.specs.Places.{Stands}
 use Rattle.pybuf_desc.proofs.Flat.{stands_bytes}
 use Rattle.std.proofs.lemmas.Result.{IfOk-weaker}

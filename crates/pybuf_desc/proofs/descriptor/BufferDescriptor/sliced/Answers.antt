@@ -1,12 +1,11 @@
-use Rattle.std.proofs.Common.{rules, arith, ◌≡◌, ◌<◌, ◌≤◌, ◌^◌, ◌*◌, ℕ, ℤ, pos, ◌+ℤ◌, ◌*ℤ◌, ◌≤ℤ◌, ◌<ℤ◌, SFits, w64, length, drop, sym, ap, ◌∙◌, subst, pos_of_ne-zero, refl}
-use Rattle.pybuf_slice.specs.Parts.{clamped, picks_of}
-use Rattle.pybuf_desc.specs.Descriptor.{shape_of, strides_of}
+use Rattle.std.proofs.Common.{rules, arith, ◌≡◌, ◌<◌, ◌^◌, ◌*◌, pos, ◌+ℤ◌, ◌*ℤ◌, ◌≤ℤ◌, ◌<ℤ◌, SFits, w64, sym, ap, ◌∙◌, subst, pos_of_ne-zero}
+use Rattle.pybuf_slice.specs.Parts.{clamped}
 use Rattle.pybuf_desc.specs.Places.{Stands}
 use Rattle.pybuf_desc.specs.Valid.{IsValid}
-use Rattle.pybuf_desc.specs.Slices.{slice_of, first_entry, first_stride}
+use Rattle.pybuf_desc.specs.Slices.{slice_of}
 use Rattle.pybuf_desc.proofs.Moves.{dim_at}
 use Rattle.pybuf_desc.proofs.Cuts.{span_first}
-use Rattle.pybuf_desc.proofs.SliceMade.{IsCall, Entry, made_of, entry, entry_fits, count_few, made_stands, made_valid, made_exact, first_of_made}
+use Rattle.pybuf_desc.proofs.SliceMade.{IsCall, Entry, made_of, entry, entry_fits, count_few, made_stands, made_valid, first_of_made}
 use Rattle.pybuf_desc.proofs.SliceBits.{bits, call_of, stride_is, first_is, next_is, stride_bits, descriptor_is}
 use Rattle.pybuf_desc.proofs.descriptor.BufferDescriptor.sliced.Goals as goal
 

@@ -1,10 +1,7 @@
-use Rattle.std.proofs.Common.{◌≡◌, ◌≢◌, ℕ, ◌*◌, ◌<◌, ◌≤◌, ℤ, pos, List, length, drop, All, Any, refl, ap, sym, ◌∙◌, subst, arith, true, false, true≢false, IsTrue, ◌↔◌}
-use Rattle.std.proofs.lemmas.Grind.{common_steps}
-use Rattle.pybuf_desc.specs.Descriptor.{Descriptor}
-use Rattle.pybuf_desc.specs.Places.{places}
-use Rattle.pybuf_desc.specs.Valid.{IsInside, IsValid}
-use Rattle.pybuf_desc.proofs.Products.{extent_of, All-from_no_zero}
-use Rattle.pybuf_desc.proofs.Validity.{IsPlain, valid_without_items, valid_with_items, len_of_valid, described}
+use Rattle.std.proofs.Common.{◌≡◌, refl, ap, sym, ◌∙◌, subst, arith, true, false, true≢false}
+use Rattle.pybuf_desc.specs.Valid.{IsValid}
+use Rattle.pybuf_desc.proofs.Products.{All-from_no_zero}
+use Rattle.pybuf_desc.proofs.Validity.{valid_without_items, valid_with_items, len_of_valid, described}
 use Rattle.pybuf_desc.proofs.descriptor.BufferDescriptor.validate.Goals as goal
 
 pub returns-then-has_zero-clause-valid : goal.returns-then-has_zero-clause-valid

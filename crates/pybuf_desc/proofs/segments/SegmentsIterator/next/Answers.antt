@@ -1,5 +1,5 @@
-use Rattle.std.proofs.Common.{rules, arith, ◌≡◌, ◌<◌, ◌-◌, ◌+◌, ℤ, ℕ, pos, ◌+ℤ◌, ◌≤ℤ◌, SFits, w64, to_z, of_z, sym, ap, ◌∙◌, subst, pos_of_ne-zero, List, [], ◌∷◌}
-use Rattle.std.proofs.lemmas.Int.{ints, to_z-of_z}
+use Rattle.std.proofs.Common.{rules, arith, ◌≡◌, ◌<◌, ◌-◌, pos, ◌+ℤ◌, ◌≤ℤ◌, SFits, w64, to_z, of_z, sym, ap, ◌∙◌, subst, pos_of_ne-zero, []}
+use Rattle.std.proofs.lemmas.Int.{to_z-of_z}
 use Rattle.pybuf_desc.proofs.WalkLemmas.{taken, begun, begun_view, none_left}
 use Rattle.pybuf_desc.proofs.segments.SegmentsIterator.next.Goals as goal
 
