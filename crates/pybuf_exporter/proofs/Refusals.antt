@@ -1,12 +1,11 @@
 -- A refused command changes nothing of an exporter.
-use Rattle.std.proofs.Common.{◌≡◌, ℕ, zero, suc, ◌+◌, ◌<◌, List, [], ◌∷◌, ◌++◌, length, take, set, get_or, Bool, true, false, true≢false, ap, sym, ◌∙◌, refl, subst, arith}
-use Rattle.std.specs.Prelude.{Option, Some, None, Result, Ok, Err, slice_get, if◌then◌else◌}
-use Rattle.std.proofs.lemmas.Grind.{common_steps}
+use Rattle.std.proofs.Common.{◌≡◌, ℕ, length, Bool, true, false, true≢false, ap, sym, ◌∙◌, refl}
+use Rattle.std.specs.Prelude.{Result, Ok, Err, if◌then◌else◌}
 use Rattle.pybuf_value.specs.declared.faults.Fault.{Fault}
 use Rattle.pybuf_value.specs.declared.faults.Fault.TheVariants as fault
 use Rattle.pybuf_value.specs.declared.values.Value.{Value}
 use Rattle.pybuf_value.specs.declared.values.Value.TheVariants as value
-use Rattle.pybuf_value.specs.Refusing.{◌>>=◌, unless}
+use Rattle.pybuf_value.specs.Refusing.{◌>>=◌}
 use Rattle.pybuf_value.specs.Numbers.{byte_in}
 use Rattle.pybuf_exporter.specs.declared.kinds.ExporterKind.{ExporterKind}
 use Rattle.pybuf_exporter.specs.declared.kinds.ExporterKind.TheVariants as kind
@@ -16,15 +15,14 @@ use Rattle.pybuf_exporter.specs.declared.commands.Verb.{Verb}
 use Rattle.pybuf_exporter.specs.declared.commands.Verb.TheVariants as verb
 use Rattle.pybuf_exporter.specs.declared.commands.LocalReply.{LocalReply}
 use Rattle.pybuf_exporter.specs.declared.commands.LocalReply.TheVariants as local
-use Rattle.pybuf_exporter.specs.Exporter.{Exporter, View, view_at, live_view}
-use Rattle.pybuf_exporter.specs.Items.{index_in, place_in, is_none, byte_for_item}
+use Rattle.pybuf_exporter.specs.Exporter.{Exporter, live_view}
+use Rattle.pybuf_exporter.specs.Items.{index_in, place_in}
 use Rattle.pybuf_exporter.specs.Step.{row, answered, is_built, estep, settled, set_in_kind, get_in_kind}
-use Rattle.pybuf_exporter.specs.Rows.View.{view_of_own, view_of_view, view_again}
+use Rattle.pybuf_exporter.specs.Rows.View.{view_again}
 use Rattle.pybuf_slice.specs.Parts.{saturated_parts_of}
 use Rattle.pybuf_exporter.specs.Rows.Get.{byte_of_own, get_of_own, item_of_view, slice_of_view, get_of_view}
-use Rattle.pybuf_exporter.specs.Rows.Set.{set_of_own, set_target, set_of_view}
-use Rattle.pybuf_exporter.specs.Rows.ToBytes.{bytes_of_own, bytes_of_view}
-use Rattle.pybuf_exporter.specs.Rows.Release.{released_at, released_in, release_of_view}
+use Rattle.pybuf_exporter.specs.Rows.Set.{set_of_own, set_target}
+use Rattle.pybuf_exporter.specs.Rows.Release.{released_in}
 use Rattle.pybuf_exporter.proofs.Soundness.{IfDone, done_bind}
 
 -- a reply that is no refusal
@@ -53,6 +51,8 @@ iterator_row_answers : (e : Exporter) (k : ℕ) (v : Verb) → IsAnswered (row e
 iterator_row_answers e k verb.View = tt
 iterator_row_answers e k (verb.Get key) = tt
 iterator_row_answers e k (verb.Set key value) = tt
+iterator_row_answers e k (verb.Cast format shape) = tt
+iterator_row_answers e k (verb.Property name) = tt
 iterator_row_answers e k verb.ToBytes = tt
 iterator_row_answers e k verb.Release = tt
 iterator_row_answers e k verb.Len = tt
@@ -86,6 +86,10 @@ row_answers e subject.Own (verb.Set key value) =
     set_in_kind_answers e.kind e (set_of_own e key value)
     (bind (index_in key) _ (λ index _. bind (byte_in value) _ (λ byte _. bind (place_in (length e.bytes) index) _ (λ place _. refl))))
 row_answers e (subject.View k) (verb.Set key value) = bind (set_target e k key value) _ (λ target _. refl)
+row_answers e subject.Own (verb.Cast format shape) = tt
+row_answers e (subject.View k) (verb.Cast format shape) = tt
+row_answers e subject.Own (verb.Property name) = tt
+row_answers e (subject.View k) (verb.Property name) = tt
 row_answers e subject.Own verb.ToBytes = refl
 row_answers e (subject.View k) verb.ToBytes = bind (live_view e k) _ (λ v _. refl)
 row_answers e subject.Own verb.Release = tt

@@ -264,7 +264,9 @@ iterator_row_sound : (e : Exporter) (k : ℕ) (v : Verb) → IsSoundAfter (row e
 iterator_row_sound e k verb.View = tt
 iterator_row_sound e k (verb.Get key) = tt
 iterator_row_sound e k (verb.Set key value) = tt
+iterator_row_sound e k (verb.Cast format shape) = tt
 iterator_row_sound e k verb.ToBytes = tt
+iterator_row_sound e k (verb.Property name) = tt
 iterator_row_sound e k verb.Release = tt
 iterator_row_sound e k verb.Len = tt
 
@@ -280,6 +282,10 @@ row_sound e subject.Own (verb.Get key) sound = get_in_kind_sound e.kind (get_of_
 row_sound e (subject.View k) (verb.Get key) sound = get_of_view_sound e k key sound
 row_sound e subject.Own (verb.Set key value) sound = set_in_kind_sound e.kind e (set_of_own e key value) (set_of_own_sound e key value sound)
 row_sound e (subject.View k) (verb.Set key value) sound = set_of_view_sound e k key value sound
+row_sound e subject.Own (verb.Cast format shape) sound = tt
+row_sound e (subject.View k) (verb.Cast format shape) sound = tt
+row_sound e subject.Own (verb.Property name) sound = tt
+row_sound e (subject.View k) (verb.Property name) sound = tt
 row_sound e subject.Own verb.ToBytes sound = sound
 row_sound e (subject.View k) verb.ToBytes sound = sound_bind (live_view e k) _ (λ v _. sound)
 row_sound e subject.Own verb.Release sound = tt

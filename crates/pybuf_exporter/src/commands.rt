@@ -1,8 +1,40 @@
 //! Commands and replies of one exporter.
+ghost use Rattle.std.specs.Prelude.{◌≡◌, IfOk};
 
 use crate::kinds::Subject;
-use pybuf_value::{ByteList, Fault, Item, Made, Twin, Value};
+use pybuf_value::{ByteList, Fault, Item, Made, NumberList, Text, Twin, Value};
 use std::alloc::Global;
+
+/// A property of an exporter or a view, by the name of the attribute of Python's `memoryview`.
+#[derive(Clone, Copy, Debug, PartialEq, Eq)]
+pub enum PropertyName {
+    /// The number of unreleased views of an exporter.
+    Exports,
+    /// The exporter of a view.
+    Obj,
+    /// The number of bytes of all items.
+    Nbytes,
+    /// Whether the items can only be read.
+    Readonly,
+    /// The number of bytes of an item.
+    Itemsize,
+    /// The number of dimensions.
+    Ndim,
+    /// The number of entries of each dimension.
+    Shape,
+    /// The distance in bytes from one entry to the next, for each dimension.
+    Strides,
+    /// For each dimension 0, since no item is reached through a pointer.
+    Suboffsets,
+    /// The format of an item.
+    Format,
+    /// Whether the items lie one after the other.
+    Contiguous,
+    /// Whether they do in the order of C, which is the same.
+    CContiguous,
+    /// Whether they do in the order of Fortran: so in a contiguous view of at most one dimension.
+    FContiguous,
+}
 
 /// What is asked of a subject.
 #[derive(Debug, Drop)]
@@ -13,12 +45,16 @@ pub enum Verb {
     Get { key: Value },
     /// Writes the item at a key, as `subject[key] = value`.
     Set { key: Value, value: Value },
+    /// A new view of the same bytes with items of another format, as `view.cast(format, shape)`.
+    Cast { format: Value, shape: Option<Value> },
     /// The subject's bytes, as `bytes(subject)`.
     ToBytes,
     /// Releases a view, as `view.release()`.
     Release,
     /// The number of items, as `len(subject)`.
     Len,
+    /// A property, as `view.nbytes` and the other attributes of a view.
+    Property { name: PropertyName },
 }
 
 /// A command for one exporter.
@@ -35,12 +71,33 @@ pub enum LocalReply {
     Ok,
     /// The number of the view that was made.
     View(usize),
+    /// The exporter itself.
+    Own,
     /// A single number, byte, length or place, or an item of a view.
     Item(Item),
     /// Bytes.
     Bytes(ByteList),
+    /// A text.
+    Text(Text),
+    /// A truth value that is no item.
+    Truth(bool),
+    /// Numbers, one for each dimension.
+    Numbers(NumberList),
     /// Refused: nothing was changed.
     Refused(Fault),
+}
+
+/// An equal value, where there is one.
+pub fn copy_option(alloc: Global, value: &Option<Value>) -> Made<Option<Value>>
+    ensures { IfOk result (λ twin. twin ≡ value.now) }
+{
+    match value {
+        None => Ok(None),
+        Some(value) => {
+            let value = value.copy(alloc)?;
+            Ok(Some(value))
+        }
+    }
 }
 
 impl Twin for Verb {
@@ -56,9 +113,15 @@ impl Twin for Verb {
                 let value = value.copy(alloc)?;
                 Ok(Verb::Set { key, value })
             }
+            Verb::Cast { format, shape } => {
+                let format = format.copy(alloc)?;
+                let shape = copy_option(alloc, shape)?;
+                Ok(Verb::Cast { format, shape })
+            }
             Verb::ToBytes => Ok(Verb::ToBytes),
             Verb::Release => Ok(Verb::Release),
             Verb::Len => Ok(Verb::Len),
+            Verb::Property { name } => Ok(Verb::Property { name: *name }),
         }
     }
 }
@@ -76,6 +139,7 @@ impl Twin for LocalReply {
         match self {
             LocalReply::Ok => Ok(LocalReply::Ok),
             LocalReply::View(view) => Ok(LocalReply::View(*view)),
+            LocalReply::Own => Ok(LocalReply::Own),
             LocalReply::Item(item) => {
                 let item = item.copy(alloc)?;
                 Ok(LocalReply::Item(item))
@@ -83,6 +147,15 @@ impl Twin for LocalReply {
             LocalReply::Bytes(bytes) => {
                 let bytes = bytes.copy(alloc)?;
                 Ok(LocalReply::Bytes(bytes))
+            }
+            LocalReply::Text(text) => {
+                let text = text.copy(alloc)?;
+                Ok(LocalReply::Text(text))
+            }
+            LocalReply::Truth(truth) => Ok(LocalReply::Truth(*truth)),
+            LocalReply::Numbers(numbers) => {
+                let numbers = numbers.copy(alloc)?;
+                Ok(LocalReply::Numbers(numbers))
             }
             LocalReply::Refused(fault) => Ok(LocalReply::Refused(*fault)),
         }

@@ -12,7 +12,7 @@ mod parts;
 mod rows;
 mod stored;
 
-pub use commands::{LocalCommand, LocalReply, Verb};
+pub use commands::{LocalCommand, LocalReply, PropertyName, Verb, copy_option};
 pub use exporter::ExporterState;
 pub use kinds::{ExporterKind, Subject};
 pub use laws::slicing_back_twice_is_nothing;

@@ -27,7 +27,11 @@ set-slice_get (y ∷ ys) (suc i) x at = ap (λ zs. y ∷ zs) (set-slice_get ys i
 world_after_refusal : (w : World) (i : ℕ) (e : Exporter) (r : LocalReply) (f : Fault) → (r ≡ local.Refused f → set w.exporters i e ≡ w.exporters) → (world_after w i (e, r)).1 ≡ reply.Refused f → (world_after w i (e, r)).0 ≡ w
 world_after_refusal w i e (local.View k) f kept is = absurd (cc)
 world_after_refusal w i e local.Ok f kept is = absurd (cc)
+world_after_refusal w i e local.Own f kept is = absurd (cc)
 world_after_refusal w i e (local.Item x) f kept is = absurd (cc)
+world_after_refusal w i e (local.Text text) f kept is = absurd (cc)
+world_after_refusal w i e (local.Truth truth) f kept is = absurd (cc)
+world_after_refusal w i e (local.Numbers numbers) f kept is = absurd (cc)
 world_after_refusal w i e (local.Bytes bytes) f kept is = absurd (cc)
 world_after_refusal w i e (local.Refused g) f kept is =
     let same : g ≡ f = cc in
@@ -61,7 +65,11 @@ slice_get-append (x ∷ xs) ys (suc i) below = let less : i < length xs = omega 
 after_handles : (w : World) (i : ℕ) (e : Exporter) (r : LocalReply) (h : ℕ) → h < length w.handles → slice_get (world_after w i (e, r)).0.handles h ≡ slice_get w.handles h
 after_handles w i e (local.View k) h below = slice_get-append w.handles (named.View i k ∷ []) h below
 after_handles w i e local.Ok h below = refl
+after_handles w i e local.Own h below = refl
 after_handles w i e (local.Item x) h below = refl
+after_handles w i e (local.Text text) h below = refl
+after_handles w i e (local.Truth truth) h below = refl
+after_handles w i e (local.Numbers numbers) h below = refl
 after_handles w i e (local.Bytes bytes) h below = refl
 after_handles w i e (local.Refused g) h below = refl
 

@@ -62,7 +62,11 @@ with_exporter_sound w i e sound sound_e = All-set IsSoundExporter w.exporters i 
 world_after_sound : (w : World) (i : ℕ) (e : Exporter) (r : LocalReply) → IsSoundWorld w → IsSoundExporter e → IsSoundWorld (world_after w i (e, r)).0
 world_after_sound w i e (local.View k) sound sound_e = record { exporters_are_sound = with_exporter_sound w i e sound sound_e }
 world_after_sound w i e local.Ok sound sound_e = record { exporters_are_sound = with_exporter_sound w i e sound sound_e }
+world_after_sound w i e local.Own sound sound_e = record { exporters_are_sound = with_exporter_sound w i e sound sound_e }
 world_after_sound w i e (local.Item x) sound sound_e = record { exporters_are_sound = with_exporter_sound w i e sound sound_e }
+world_after_sound w i e (local.Text text) sound sound_e = record { exporters_are_sound = with_exporter_sound w i e sound sound_e }
+world_after_sound w i e (local.Truth truth) sound sound_e = record { exporters_are_sound = with_exporter_sound w i e sound sound_e }
+world_after_sound w i e (local.Numbers numbers) sound sound_e = record { exporters_are_sound = with_exporter_sound w i e sound sound_e }
 world_after_sound w i e (local.Bytes bytes) sound sound_e = record { exporters_are_sound = with_exporter_sound w i e sound sound_e }
 world_after_sound w i e (local.Refused f) sound sound_e = record { exporters_are_sound = with_exporter_sound w i e sound sound_e }
 

@@ -1,5 +1,5 @@
 -- Worlds: exporters, and the handles that name them and their views.
-use Rattle.std.specs.Prelude.{ℕ, List, [], ◌∷◌, ◌++◌, length, set, slice_get, Option, Some, None, Result, Ok, Err}
+use Rattle.std.specs.Prelude.{ℕ, List, [], ◌∷◌, ◌++◌, length, set, slice_get, slice_index, Option, Some, None, Result, Ok, Err}
 use Rattle.pybuf_value.specs.declared.faults.Fault.{Fault}
 use Rattle.pybuf_value.specs.declared.faults.Fault.TheVariants as fault
 use Rattle.pybuf_value.specs.declared.values.Scalar.TheVariants as scalar
@@ -22,12 +22,14 @@ use Rattle.pybuf_exporter.specs.Exporter.{Exporter, new_exporter}
 use Rattle.pybuf_exporter.specs.Step.{estep}
 use Rattle.pybuf_exporter.specs.Rows.Release.{released_in}
 
+-- A world: its exporters, what each handle names, and the handle of each exporter.
 pub record World : Type 0 where
   pub exporters : List Exporter
   pub handles : List Named
+  pub owners : List ℕ
 
 abbrev pub empty_world : World
-empty_world = record { exporters = []; handles = [] }
+empty_world = record { exporters = []; handles = []; owners = [] }
 
 -- the bytes that a new exporter is made of; a spelling that is not built is an unknown name
 abbrev pub bytes_from : ExporterKind → Option Value → Option Value → Option Value → Result (List ℕ) Fault
@@ -40,23 +42,29 @@ world_with_new w k (Ok bytes) = (
   record {
     exporters = w.exporters ++ new_exporter k bytes ∷ [];
     handles = w.handles ++ named.Exporter (length w.exporters) ∷ [];
+    owners = w.owners ++ length w.handles ∷ [];
   },
   reply.Handle (length w.handles),
 )
 world_with_new w k (Err f) = (w, reply.Refused f)
 
--- The world with an exporter as it is after a command, and the reply: a new view is given a handle.
+-- The world with an exporter as it is after a command, and the reply: a new view is given a handle,
+-- and the exporter itself is named by its own.
 abbrev pub world_after : World → ℕ → Exporter × LocalReply → World × Reply
 world_after w i (e, local.View k) = (
-  record {
+  record w {
     exporters = set w.exporters i e;
     handles = w.handles ++ named.View i k ∷ [];
   },
   reply.Handle (length w.handles),
 )
 world_after w i (e, local.Ok) = (record w { exporters = set w.exporters i e }, reply.Ok)
+world_after w i (e, local.Own) = (record w { exporters = set w.exporters i e }, reply.Handle (slice_index w.owners i))
 world_after w i (e, local.Item x) = (record w { exporters = set w.exporters i e }, reply.Item x)
 world_after w i (e, local.Bytes bytes) = (record w { exporters = set w.exporters i e }, reply.Bytes bytes)
+world_after w i (e, local.Text text) = (record w { exporters = set w.exporters i e }, reply.Text text)
+world_after w i (e, local.Truth truth) = (record w { exporters = set w.exporters i e }, reply.Truth truth)
+world_after w i (e, local.Numbers numbers) = (record w { exporters = set w.exporters i e }, reply.Numbers numbers)
 world_after w i (e, local.Refused f) = (record w { exporters = set w.exporters i e }, reply.Refused f)
 
 abbrev pub step_of_exporter : World → ℕ → Subject → Verb → Option Exporter → World × Reply

@@ -1,8 +1,7 @@
 //! Commands and replies of a world.
-ghost use Rattle.std.specs.Prelude.{◌≡◌, IfOk};
 
-use pybuf_exporter::{ExporterKind, Verb};
-use pybuf_value::{ByteList, Fault, Item, Items, Made, Twin, Value};
+use pybuf_exporter::{ExporterKind, Verb, copy_option};
+use pybuf_value::{ByteList, Fault, Item, Items, Made, NumberList, Text, Twin, Value};
 use std::alloc::Global;
 
 /// What bytes are made of, as the arguments of Python's `bytes(source, encoding, errors)`.
@@ -39,24 +38,18 @@ pub enum Reply {
     Item(Item),
     /// Bytes.
     Bytes(ByteList),
+    /// A text.
+    Text(Text),
+    /// A truth value that is no item.
+    Truth(bool),
+    /// Numbers, one for each dimension.
+    Numbers(NumberList),
     /// Refused: nothing was changed, and no handle was used up.
     Refused(Fault),
 }
 
 /// Replies, in the order of their commands.
 pub type ReplyList = Items<Reply>;
-
-fn copy_option(alloc: Global, value: &Option<Value>) -> Made<Option<Value>>
-    ensures { IfOk result (λ twin. twin ≡ value.now) }
-{
-    match value {
-        None => Ok(None),
-        Some(value) => {
-            let value = value.copy(alloc)?;
-            Ok(Some(value))
-        }
-    }
-}
 
 impl Twin for ByteInnerNewOptions {
     fn copy(&self, alloc: Global) -> Made<ByteInnerNewOptions> {

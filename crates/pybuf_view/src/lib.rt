@@ -11,7 +11,7 @@ pub use commands::{ByteInnerNewOptions, Command, Reply, ReplyList};
 pub use laws::{handles_stay, refusals_change_nothing, releasing_twice_is_once};
 pub use named::Named;
 pub use pybuf_exporter::{
-    ExporterKind, ExporterState, LocalCommand, LocalReply, Subject, Verb,
+    ExporterKind, ExporterState, LocalCommand, LocalReply, PropertyName, Subject, Verb,
     slicing_back_twice_is_nothing,
 };
 pub use world::World;

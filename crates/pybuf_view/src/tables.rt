@@ -1,5 +1,5 @@
 //! What is kept of a world, and the work on it.
-ghost use Rattle.std.specs.Prelude.{◌≡◌, ◌++◌, [], ◌∷◌, slice_get, length, take, IfOk, OnOk, OnErr, MatchResult};
+ghost use Rattle.std.specs.Prelude.{◌≡◌, ◌++◌, [], ◌∷◌, slice_get, slice_index, length, take, IfOk, OnOk, OnErr, MatchResult};
 ghost use Rattle.pybuf_view.specs.World.{bytes_from};
 
 use crate::commands::{ByteInnerNewOptions, Command, Reply, ReplyList};
@@ -9,11 +9,12 @@ use pybuf_value::{ByteList, Fault, Made, NoMemory, Scalar, Twin, Value, push_res
 use std::alloc::Global;
 use std::mem;
 
-/// The exporters and the handles of a world.
+/// The exporters and the handles of a world, and the handle of each exporter beside them.
 #[derive(Debug, Drop)]
 pub struct Tables {
     pub exporters: Vec<ExporterState>,
     pub handles: Vec<Named>,
+    pub owners: Vec<u64>,
     pub alloc: Global,
 }
 
@@ -38,6 +39,13 @@ fn bytes_from(
     }
 }
 
+/// The handle of an exporter.
+fn owner_in(owners: &[u64], exporter: usize) -> u64
+    ensures { result ≡ slice_index owners.now exporter }
+{
+    owners.get(exporter).copied().unwrap_or(0)
+}
+
 impl Tables {
     ghost use Rattle.pybuf_view.specs.Tables.{listed};
     ghost use Rattle.pybuf_view.specs.World as spec;
@@ -50,6 +58,7 @@ impl Tables {
         Tables {
             exporters: Vec::new(alloc),
             handles: Vec::new(alloc),
+            owners: Vec::new(alloc),
             alloc,
         }
     }
@@ -64,9 +73,11 @@ impl Tables {
                 let handle = self.handles.len() as u64;
                 let number = self.exporters.len();
                 self.handles.reserve(1)?;
+                self.owners.reserve(1)?;
                 self.exporters
                     .push(ExporterState::new(self.alloc, kind, bytes))?;
                 push_reserved(&mut self.handles, Named::Exporter(number));
+                push_reserved(&mut self.owners, handle);
                 Ok(Reply::Handle(handle))
             }
             Err(fault) => Ok(Reply::Refused(fault)),
@@ -90,8 +101,12 @@ impl Tables {
                 push_reserved(&mut self.handles, Named::View { exporter, view });
                 Ok(Reply::Handle(handle))
             }
+            LocalReply::Own => Ok(Reply::Handle(owner_in(self.owners.as_slice(), exporter))),
             LocalReply::Item(item) => Ok(Reply::Item(item)),
             LocalReply::Bytes(bytes) => Ok(Reply::Bytes(bytes)),
+            LocalReply::Text(text) => Ok(Reply::Text(text)),
+            LocalReply::Truth(truth) => Ok(Reply::Truth(truth)),
+            LocalReply::Numbers(numbers) => Ok(Reply::Numbers(numbers)),
             LocalReply::Refused(fault) => Ok(Reply::Refused(fault)),
         }
     }
