@@ -18,3 +18,4 @@ pub mod Lines
 pub mod WalkLemmas
 pub mod Numbers
 pub mod SegmentFacts
+pub mod CastFacts
