@@ -3,10 +3,10 @@ use Rattle.std.specs.Prelude.{ℕ, ◌+◌, List, [], ◌∷◌, length, codes, 
 use Rattle.std.specs.Str.{bytes_eq}
 use Rattle.pybuf_value.specs.declared.values.Value.{Value}
 use Rattle.pybuf_value.specs.declared.values.Value.TheVariants as value
-use Rattle.pybuf_view.specs.declared.kinds.ExporterKind.{ExporterKind}
-use Rattle.pybuf_view.specs.declared.kinds.ExporterKind.TheVariants as kind
-use Rattle.pybuf_view.specs.declared.commands.Verb.{Verb}
-use Rattle.pybuf_view.specs.declared.commands.Verb.TheVariants as verb
+use Rattle.pybuf_exporter.specs.declared.kinds.ExporterKind.{ExporterKind}
+use Rattle.pybuf_exporter.specs.declared.kinds.ExporterKind.TheVariants as kind
+use Rattle.pybuf_exporter.specs.declared.commands.Verb.{Verb}
+use Rattle.pybuf_exporter.specs.declared.commands.Verb.TheVariants as verb
 use Rattle.pybuf_view.specs.declared.commands.Command.{Command}
 use Rattle.pybuf_view.specs.declared.commands.Command.TheVariants as command
 use Rattle.pybuf_cli.specs.declared.words.Word.{Word}

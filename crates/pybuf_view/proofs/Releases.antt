@@ -1,5 +1,5 @@
 -- Releasing twice is releasing once.
-use Rattle.std.proofs.Common.{◌≡◌, ℕ, zero, suc, ◌+◌, ◌<◌, List, [], ◌∷◌, length, set, true, ap, sym, ◌∙◌, refl, subst, arith}
+use Rattle.std.proofs.Common.{◌≡◌, ℕ, zero, suc, List, [], ◌∷◌, set, true, ap, sym, ◌∙◌, refl, subst}
 use Rattle.std.specs.Prelude.{Option, Some, None, Result, Ok, Err, slice_get}
 use Rattle.std.specs.Option.{ok_or}
 use Rattle.pybuf_value.specs.declared.faults.Fault.{Fault}
@@ -7,10 +7,10 @@ use Rattle.pybuf_value.specs.declared.faults.Fault.TheVariants as fault
 use Rattle.pybuf_value.specs.Refusing.{◌>>=◌}
 use Rattle.pybuf_view.specs.declared.named.Named.{Named}
 use Rattle.pybuf_view.specs.declared.named.Named.TheVariants as named
-use Rattle.pybuf_view.specs.Exporter.{Exporter, View, view_at}
-use Rattle.pybuf_view.specs.Rows.Release.{released_at, released_in}
+use Rattle.pybuf_exporter.specs.Exporter.{Exporter, View, view_at}
+use Rattle.pybuf_exporter.specs.Rows.Release.{released_at, released_in}
 use Rattle.pybuf_view.specs.World.{World, world_released, released_in_exporter, released_name, released_by}
-use Rattle.pybuf_view.proofs.Soundness.{view_at_given}
+use Rattle.pybuf_exporter.proofs.Soundness.{view_at_given}
 
 -- an element that was set is found
 pub slice_get-set : {X : Type 0} (xs : List X) (i : ℕ) (x y : X) → slice_get xs i ≡ Some x → slice_get (set xs i y) i ≡ Some y

@@ -5,24 +5,25 @@ use Rattle.std.specs.List.{All}
 use Rattle.std.proofs.lemmas.List.{take_more}
 use Rattle.std.proofs.lemmas.List.Elements.{All-push, All-set, All-nil}
 use Rattle.pybuf_value.specs.declared.faults.Fault.{Fault}
-use Rattle.pybuf_view.specs.declared.kinds.ExporterKind.{ExporterKind}
-use Rattle.pybuf_view.specs.declared.kinds.Subject.{Subject}
-use Rattle.pybuf_view.specs.declared.kinds.Subject.TheVariants as subject
+use Rattle.pybuf_exporter.specs.declared.kinds.ExporterKind.{ExporterKind}
+use Rattle.pybuf_exporter.specs.declared.kinds.Subject.{Subject}
+use Rattle.pybuf_exporter.specs.declared.kinds.Subject.TheVariants as subject
 use Rattle.pybuf_view.specs.declared.named.Named.{Named}
 use Rattle.pybuf_view.specs.declared.named.Named.TheVariants as named
-use Rattle.pybuf_view.specs.declared.commands.Verb.{Verb}
-use Rattle.pybuf_view.specs.declared.commands.LocalReply.{LocalReply}
-use Rattle.pybuf_view.specs.declared.commands.LocalReply.TheVariants as local
+use Rattle.pybuf_exporter.specs.declared.commands.Verb.{Verb}
+use Rattle.pybuf_exporter.specs.declared.commands.LocalReply.{LocalReply}
+use Rattle.pybuf_exporter.specs.declared.commands.LocalReply.TheVariants as local
 use Rattle.pybuf_view.specs.declared.commands.Command.{Command}
 use Rattle.pybuf_view.specs.declared.commands.Command.TheVariants as command
 use Rattle.pybuf_view.specs.declared.commands.Reply.{Reply}
-use Rattle.pybuf_view.specs.Exporter.{Exporter}
-use Rattle.pybuf_view.specs.Step.{estep}
-use Rattle.pybuf_view.specs.World.{World, empty_world, new_exporter, bytes_from, world_with_new, world_after, step_of_exporter, step_of_name, wstep, world_of, replies_of, world_released, released_in_exporter, released_name, released_by}
-use Rattle.pybuf_view.specs.Rows.Release.{released_in}
-use Rattle.pybuf_view.specs.Sound.{IsSoundExporter, IsSoundWorld, StaysSound, IsHeldOrReleased}
+use Rattle.pybuf_exporter.specs.Exporter.{Exporter, new_exporter}
+use Rattle.pybuf_exporter.specs.Step.{estep}
+use Rattle.pybuf_view.specs.World.{World, empty_world, bytes_from, world_with_new, world_after, step_of_exporter, step_of_name, wstep, world_of, replies_of, world_released, released_in_exporter, released_name, released_by}
+use Rattle.pybuf_exporter.specs.Rows.Release.{released_in}
+use Rattle.pybuf_exporter.specs.Sound.{IsSoundExporter, IsHeldOrReleased}
+use Rattle.pybuf_view.specs.Sound.{IsSoundWorld, StaysSound}
 use Rattle.pybuf_view.proofs.Ran.{Ran}
-use Rattle.pybuf_view.proofs.Soundness.{estep_sound, All-slice_get, IfDone, released_in_done}
+use Rattle.pybuf_exporter.proofs.Soundness.{estep_sound, All-slice_get, IfDone, released_in_done}
 
 -- one list of commands after another
 pub world_of-append : (w : World) (xs ys : List Command) → world_of w (xs ++ ys) ≡ world_of (world_of w xs) ys

@@ -1,12 +1,10 @@
 -- Laws of worlds.
-use Rattle.std.specs.Prelude.{◌≡◌, ℕ, ◌<◌, length, slice_get, Ok, None, negsuc}
-use Rattle.pybuf_slice.specs.Parts.{SliceParts}
+use Rattle.std.specs.Prelude.{◌≡◌, ℕ, ◌<◌, length, slice_get, Ok}
 use Rattle.pybuf_value.specs.declared.faults.Fault.{Fault}
 use Rattle.pybuf_view.specs.declared.commands.Command.{Command}
 use Rattle.pybuf_view.specs.declared.commands.Reply.TheVariants as reply
-use Rattle.pybuf_view.specs.Exporter.{Exporter, View}
-use Rattle.pybuf_view.specs.Slices.{sliced}
-use Rattle.pybuf_view.specs.Rows.Release.{released_in}
+use Rattle.pybuf_exporter.specs.Exporter.{Exporter}
+use Rattle.pybuf_exporter.specs.Rows.Release.{released_in}
 use Rattle.pybuf_view.specs.World.{World, wstep, released_by}
 
 -- a refused command leaves the whole world as it was, so no handle is used up
@@ -24,11 +22,3 @@ ReleasingTwiceIsOnce = (e once : Exporter) (k : ℕ) → released_in e k ≡ Ok 
 -- and so by its handle
 abbrev pub ReleasingByHandleTwiceIsOnce : Type 0
 ReleasingByHandleTwiceIsOnce = (w once : World) (handle : ℕ) → released_by w handle ≡ Ok once → released_by once handle ≡ Ok once
-
--- the slice `::-1`
-abbrev pub backward : SliceParts
-backward = record { start = None; stop = None; step = negsuc 0 }
-
--- a slice back over all of a view, and back again, has the places of the view, also where it has none
-abbrev pub SlicingBackTwiceIsNothing : Type 0
-SlicingBackTwiceIsNothing = (v : View) (m n : ℕ) → (sliced (sliced v m backward) n backward).starts ≡ v.starts

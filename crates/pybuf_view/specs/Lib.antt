@@ -1,12 +1,4 @@
-pub mod Exporter
-pub mod Handles
-pub mod Items
-pub mod Slices
-pub mod Rows
-pub mod Step
 pub mod World
 pub mod Sound
-pub mod Answers
 pub mod Tables
-pub mod Lending
 pub mod Laws

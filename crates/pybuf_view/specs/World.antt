@@ -5,22 +5,22 @@ use Rattle.pybuf_value.specs.declared.faults.Fault.TheVariants as fault
 use Rattle.pybuf_value.specs.declared.values.Scalar.TheVariants as scalar
 use Rattle.pybuf_value.specs.declared.values.Value.{Value}
 use Rattle.pybuf_value.specs.declared.values.Value.TheVariants as value
-use Rattle.pybuf_view.specs.declared.kinds.ExporterKind.{ExporterKind}
-use Rattle.pybuf_view.specs.declared.kinds.ExporterKind.TheVariants as kind
-use Rattle.pybuf_view.specs.declared.kinds.Subject.{Subject}
-use Rattle.pybuf_view.specs.declared.kinds.Subject.TheVariants as subject
+use Rattle.pybuf_exporter.specs.declared.kinds.ExporterKind.{ExporterKind}
+use Rattle.pybuf_exporter.specs.declared.kinds.ExporterKind.TheVariants as kind
+use Rattle.pybuf_exporter.specs.declared.kinds.Subject.{Subject}
+use Rattle.pybuf_exporter.specs.declared.kinds.Subject.TheVariants as subject
 use Rattle.pybuf_view.specs.declared.named.Named.{Named}
 use Rattle.pybuf_view.specs.declared.named.Named.TheVariants as named
-use Rattle.pybuf_view.specs.declared.commands.Verb.{Verb}
-use Rattle.pybuf_view.specs.declared.commands.LocalReply.{LocalReply}
-use Rattle.pybuf_view.specs.declared.commands.LocalReply.TheVariants as local
+use Rattle.pybuf_exporter.specs.declared.commands.Verb.{Verb}
+use Rattle.pybuf_exporter.specs.declared.commands.LocalReply.{LocalReply}
+use Rattle.pybuf_exporter.specs.declared.commands.LocalReply.TheVariants as local
 use Rattle.pybuf_view.specs.declared.commands.Command.{Command}
 use Rattle.pybuf_view.specs.declared.commands.Command.TheVariants as command
 use Rattle.pybuf_view.specs.declared.commands.Reply.{Reply}
 use Rattle.pybuf_view.specs.declared.commands.Reply.TheVariants as reply
-use Rattle.pybuf_view.specs.Exporter.{Exporter}
-use Rattle.pybuf_view.specs.Step.{estep}
-use Rattle.pybuf_view.specs.Rows.Release.{released_in}
+use Rattle.pybuf_exporter.specs.Exporter.{Exporter, new_exporter}
+use Rattle.pybuf_exporter.specs.Step.{estep}
+use Rattle.pybuf_exporter.specs.Rows.Release.{released_in}
 
 pub record World : Type 0 where
   pub exporters : List Exporter
@@ -28,10 +28,6 @@ pub record World : Type 0 where
 
 abbrev pub empty_world : World
 empty_world = record { exporters = []; handles = [] }
-
--- an exporter of these bytes, with no view
-abbrev pub new_exporter : ExporterKind → List ℕ → Exporter
-new_exporter k bytes = record { kind = k; bytes = bytes; views = [] }
 
 -- the bytes that a new exporter is made of; a spelling that is not built is an unknown name
 abbrev pub bytes_from : ExporterKind → Option Value → Option Value → Option Value → Result (List ℕ) Fault

@@ -1,5 +1,5 @@
 //! Laws of the definitions that the contracts cite. Each stands on a function with an empty body.
-ghost use Rattle.pybuf_view.specs.Laws.{RefusalsChangeNothing, HandlesStay, ReleasingTwiceIsOnce, ReleasingByHandleTwiceIsOnce, SlicingBackTwiceIsNothing};
+ghost use Rattle.pybuf_view.specs.Laws.{RefusalsChangeNothing, HandlesStay, ReleasingTwiceIsOnce, ReleasingByHandleTwiceIsOnce};
 
 /// A refused command leaves the whole world as it was, so no handle is used up.
 pub fn refusals_change_nothing()
@@ -15,10 +15,4 @@ pub fn handles_stay()
 pub fn releasing_twice_is_once()
     ensures by_number { ReleasingTwiceIsOnce }
     ensures by_handle { ReleasingByHandleTwiceIsOnce }
-{}
-
-/// A slice `::-1` of a view, sliced by `::-1` again, has the places of the view, also where it has
-/// none.
-pub fn slicing_back_twice_is_nothing()
-    ensures { SlicingBackTwiceIsNothing }
 {}

@@ -2,10 +2,9 @@
 ghost use Rattle.std.specs.Prelude.{◌≡◌, ◌++◌, [], ◌∷◌, slice_get, length, take, IfOk, OnOk, OnErr, MatchResult};
 ghost use Rattle.pybuf_view.specs.World.{bytes_from};
 
-use crate::commands::{ByteInnerNewOptions, Command, LocalReply, Reply, ReplyList, Verb};
-use crate::exporter::ExporterState;
-use crate::kinds::{ExporterKind, Subject};
+use crate::commands::{ByteInnerNewOptions, Command, Reply, ReplyList};
 use crate::named::Named;
+use pybuf_exporter::{ExporterKind, ExporterState, LocalReply, Subject, Verb};
 use pybuf_value::{ByteList, Fault, Made, NoMemory, Scalar, Twin, Value, push_reserved};
 use std::alloc::Global;
 use std::mem;

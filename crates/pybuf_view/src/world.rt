@@ -2,8 +2,8 @@
 ghost use Rattle.std.specs.Prelude.{◌≡◌, ◌++◌, length, IfOk, OnOk, OnErr, MatchResult};
 
 use crate::commands::{Command, Reply, ReplyList};
-use crate::exporter::ExporterState;
 use crate::tables::Tables;
+use pybuf_exporter::ExporterState;
 use pybuf_value::{Fault, Made, NoMemory};
 use std::alloc::Global;
 use std::marker::Model;

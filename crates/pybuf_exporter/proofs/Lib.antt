@@ -1,0 +1,5 @@
+pub mod Places
+pub mod Laid
+pub mod Soundness
+pub mod Refusals
+pub mod Backward

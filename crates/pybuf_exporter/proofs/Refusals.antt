@@ -1,0 +1,107 @@
+-- A refused command changes nothing of an exporter.
+use Rattle.std.proofs.Common.{◌≡◌, ℕ, zero, suc, ◌+◌, ◌<◌, List, [], ◌∷◌, ◌++◌, length, take, set, get_or, Bool, true, false, true≢false, ap, sym, ◌∙◌, refl, subst, arith}
+use Rattle.std.specs.Prelude.{Option, Some, None, Result, Ok, Err, slice_get, if◌then◌else◌}
+use Rattle.std.proofs.lemmas.Grind.{common_steps}
+use Rattle.pybuf_value.specs.declared.faults.Fault.{Fault}
+use Rattle.pybuf_value.specs.declared.faults.Fault.TheVariants as fault
+use Rattle.pybuf_value.specs.declared.values.Value.{Value}
+use Rattle.pybuf_value.specs.declared.values.Value.TheVariants as value
+use Rattle.pybuf_value.specs.Refusing.{◌>>=◌, unless}
+use Rattle.pybuf_value.specs.Numbers.{byte_in}
+use Rattle.pybuf_exporter.specs.declared.kinds.ExporterKind.{ExporterKind}
+use Rattle.pybuf_exporter.specs.declared.kinds.ExporterKind.TheVariants as kind
+use Rattle.pybuf_exporter.specs.declared.kinds.Subject.{Subject}
+use Rattle.pybuf_exporter.specs.declared.kinds.Subject.TheVariants as subject
+use Rattle.pybuf_exporter.specs.declared.commands.Verb.{Verb}
+use Rattle.pybuf_exporter.specs.declared.commands.Verb.TheVariants as verb
+use Rattle.pybuf_exporter.specs.declared.commands.LocalReply.{LocalReply}
+use Rattle.pybuf_exporter.specs.declared.commands.LocalReply.TheVariants as local
+use Rattle.pybuf_exporter.specs.Exporter.{Exporter, View, view_at, live_view}
+use Rattle.pybuf_exporter.specs.Items.{index_in, place_in, is_none, byte_for_item}
+use Rattle.pybuf_exporter.specs.Step.{row, answered, is_built, estep, settled, set_in_kind, get_in_kind}
+use Rattle.pybuf_exporter.specs.Rows.View.{view_of_own, view_of_view, view_again}
+use Rattle.pybuf_slice.specs.Parts.{saturated_parts_of}
+use Rattle.pybuf_exporter.specs.Rows.Get.{byte_of_own, get_of_own, item_of_view, slice_of_view, get_of_view}
+use Rattle.pybuf_exporter.specs.Rows.Set.{set_of_own, set_target, set_of_view}
+use Rattle.pybuf_exporter.specs.Rows.ToBytes.{bytes_of_own, bytes_of_view}
+use Rattle.pybuf_exporter.specs.Rows.Release.{released_at, released_in, release_of_view}
+use Rattle.pybuf_exporter.proofs.Soundness.{IfDone, done_bind}
+
+-- a reply that is no refusal
+abbrev pub is_answer : LocalReply → Bool
+is_answer (local.Refused f) = false
+is_answer _ = true
+
+-- a row that is not refused answers something else than a refusal
+abbrev pub IsAnswered : Result (Exporter × LocalReply) Fault → Type 0
+IsAnswered r = IfDone (λ (after : Exporter × LocalReply). is_answer after.1 ≡ true) r
+
+bind : {A : Type 0} (r : Result A Fault) (f : A → Result (Exporter × LocalReply) Fault) → ((a : A) → r ≡ Ok a → IsAnswered (f a)) → IsAnswered (r >>= f)
+bind r f after = done_bind (λ (p : Exporter × LocalReply). is_answer p.1 ≡ true) r f after
+
+set_in_kind_answers : (k : ExporterKind) (e : Exporter) (r : Result (Exporter × LocalReply) Fault) → IsAnswered r → IsAnswered (set_in_kind k e r)
+set_in_kind_answers kind.ByteArray e r after = after
+set_in_kind_answers kind.Bytes e r after = tt
+set_in_kind_answers (kind.Vector readonly) e r after = tt
+
+get_in_kind_answers : (k : ExporterKind) (r : Result (Exporter × LocalReply) Fault) → IsAnswered r → IsAnswered (get_in_kind k r)
+get_in_kind_answers kind.ByteArray r after = after
+get_in_kind_answers kind.Bytes r after = after
+get_in_kind_answers (kind.Vector readonly) r after = tt
+
+iterator_row_answers : (e : Exporter) (k : ℕ) (v : Verb) → IsAnswered (row e (subject.Iter k) v)
+iterator_row_answers e k verb.View = tt
+iterator_row_answers e k (verb.Get key) = tt
+iterator_row_answers e k (verb.Set key value) = tt
+iterator_row_answers e k verb.ToBytes = tt
+iterator_row_answers e k verb.Release = tt
+iterator_row_answers e k verb.Len = tt
+
+byte_of_own_answers : (e : Exporter) (key : Value) → IsAnswered (byte_of_own e key)
+byte_of_own_answers e key = bind (index_in key) _ (λ index _. bind (place_in (length e.bytes) index) _ (λ place _. refl))
+
+get_of_own_answers : (e : Exporter) (key : Value) → IsAnswered (get_of_own e key)
+get_of_own_answers e (value.Slice slice) = bind (saturated_parts_of slice) _ (λ parts _. refl)
+get_of_own_answers e (value.One s) = byte_of_own_answers e (value.One s)
+get_of_own_answers e (value.Tuple parts) = byte_of_own_answers e (value.Tuple parts)
+get_of_own_answers e (value.List parts) = byte_of_own_answers e (value.List parts)
+get_of_own_answers e (value.Slices slices) = byte_of_own_answers e (value.Slices slices)
+
+item_of_view_answers : (e : Exporter) (k : ℕ) (key : Value) → IsAnswered (item_of_view e k key)
+item_of_view_answers e k key = bind (live_view e k) _ (λ v _. bind (index_in key) _ (λ index _. bind (place_in (length v.starts) index) _ (λ place _. refl)))
+
+get_of_view_answers : (e : Exporter) (k : ℕ) (key : Value) → IsAnswered (get_of_view e k key)
+get_of_view_answers e k (value.Slice slice) = bind (slice_of_view e k slice) _ (λ v _. refl)
+get_of_view_answers e k (value.One s) = item_of_view_answers e k (value.One s)
+get_of_view_answers e k (value.Tuple parts) = item_of_view_answers e k (value.Tuple parts)
+get_of_view_answers e k (value.List parts) = item_of_view_answers e k (value.List parts)
+get_of_view_answers e k (value.Slices slices) = item_of_view_answers e k (value.Slices slices)
+
+row_answers : (e : Exporter) (s : Subject) (v : Verb) → IsAnswered (row e s v)
+row_answers e subject.Own verb.View = refl
+row_answers e (subject.View k) verb.View = bind (view_again e k) _ (λ v _. refl)
+row_answers e subject.Own (verb.Get key) = get_in_kind_answers e.kind (get_of_own e key) (get_of_own_answers e key)
+row_answers e (subject.View k) (verb.Get key) = get_of_view_answers e k key
+row_answers e subject.Own (verb.Set key value) =
+    set_in_kind_answers e.kind e (set_of_own e key value)
+    (bind (index_in key) _ (λ index _. bind (byte_in value) _ (λ byte _. bind (place_in (length e.bytes) index) _ (λ place _. refl))))
+row_answers e (subject.View k) (verb.Set key value) = bind (set_target e k key value) _ (λ target _. refl)
+row_answers e subject.Own verb.ToBytes = refl
+row_answers e (subject.View k) verb.ToBytes = bind (live_view e k) _ (λ v _. refl)
+row_answers e subject.Own verb.Release = tt
+row_answers e (subject.View k) verb.Release = bind (released_in e k) _ (λ after _. refl)
+row_answers e subject.Own verb.Len = refl
+row_answers e (subject.View k) verb.Len = bind (live_view e k) _ (λ v _. refl)
+row_answers e (subject.Iter k) v = iterator_row_answers e k v
+
+built_answers : (b : Bool) (r : Result (Exporter × LocalReply) Fault) → IsAnswered r → IsAnswered (if b then r else Err fault.UnknownName)
+built_answers true r after = after
+built_answers false r after = tt
+
+-- where the reply is a refusal, the exporter is as before
+settled_refusal : (e : Exporter) (r : Result (Exporter × LocalReply) Fault) (f : Fault) → IsAnswered r → (settled e r).1 ≡ local.Refused f → (settled e r).0 ≡ e
+settled_refusal e (Ok after) f answers is = absurd (true≢false (sym answers ∙ ap is_answer is))
+settled_refusal e (Err g) f answers is = refl
+
+pub estep_refusal : (e : Exporter) (s : Subject) (v : Verb) (f : Fault) → (estep e s v).1 ≡ local.Refused f → (estep e s v).0 ≡ e
+estep_refusal e s v f is = settled_refusal e (answered e s v) f (built_answers (is_built s v) (row e s v) (row_answers e s v)) is

@@ -1,0 +1,312 @@
+-- Every row keeps an exporter sound.
+use Rattle.std.proofs.Common.{◌≡◌, ℕ, ◌+◌, ◌≤◌, ◌<◌, List, [], ◌∷◌, length, Bool, true, false, true≢false, ap, sym, ◌∙◌, refl, subst, arith}
+use Rattle.std.specs.Prelude.{ℤ, pos, negsuc, if◌then◌else◌, Option, Some, None, Result, Ok, Err, slice_get, slice_index}
+use Rattle.std.specs.List.{All, cons_option}
+use Rattle.std.specs.Option.{ok_or}
+use Rattle.std.proofs.lemmas.Grind.{common_steps}
+use Rattle.std.proofs.lemmas.List.Elements.{All-push, All-nil, All-cons, All-set, All-weaker}
+use Rattle.std.proofs.lemmas.List.FromFn.{length-range_with_len, get_or-range_with_len}
+use Rattle.std.proofs.lemmas.Option.{slice_get_within, get_or_from_slice_get}
+use Rattle.pybuf_value.specs.declared.faults.Fault.{Fault}
+use Rattle.pybuf_value.specs.declared.faults.Fault.TheVariants as fault
+use Rattle.pybuf_value.specs.declared.values.Value.{Value}
+use Rattle.pybuf_value.specs.declared.values.Value.TheVariants as value
+use Rattle.pybuf_value.specs.declared.values.PySlice.{PySlice}
+use Rattle.pybuf_value.specs.Refusing.{◌>>=◌, unless}
+use Rattle.pybuf_value.specs.Numbers.{byte_in}
+use Rattle.pybuf_exporter.specs.declared.kinds.ExporterKind.{ExporterKind}
+use Rattle.pybuf_exporter.specs.declared.kinds.ExporterKind.TheVariants as kind
+use Rattle.pybuf_exporter.specs.declared.kinds.Subject.{Subject}
+use Rattle.pybuf_exporter.specs.declared.kinds.Subject.TheVariants as subject
+use Rattle.pybuf_exporter.specs.declared.commands.Verb.{Verb}
+use Rattle.pybuf_exporter.specs.declared.commands.Verb.TheVariants as verb
+use Rattle.pybuf_exporter.specs.declared.commands.LocalReply.{LocalReply}
+use Rattle.pybuf_exporter.specs.declared.commands.LocalReply.TheVariants as reply
+use Rattle.pybuf_exporter.specs.Exporter.{Exporter, View, whole_of, view_at, live_view, laid, with_view}
+use Rattle.pybuf_exporter.specs.Items.{index_in, place_in, is_none, byte_for_item}
+use Rattle.pybuf_exporter.specs.Sound.{IsHeld, IsHeldOrReleased, IsSoundExporter}
+use Rattle.pybuf_exporter.specs.Step.{row, answered, is_built, estep, settled, set_in_kind, get_in_kind}
+use Rattle.pybuf_exporter.specs.Rows.View.{view_of_own, view_of_view, view_again}
+use Rattle.pybuf_slice.specs.Parts.{SliceParts, saturated_parts_of, picks_of}
+use Rattle.pybuf_slice.specs.Reads.{elements_at}
+use Rattle.pybuf_exporter.specs.Slices.{sliced}
+use Rattle.pybuf_exporter.specs.Rows.Get.{byte_of_own, get_of_own, item_of_view, slice_of_view, get_of_view}
+use Rattle.pybuf_exporter.specs.Rows.Set.{set_of_own, set_target, set_of_view}
+use Rattle.pybuf_exporter.specs.Rows.Release.{released_at, released_in, release_of_view}
+use Rattle.pybuf_exporter.proofs.Laid.{laid_one}
+
+-- what holds of a result that is not refused
+abbrev pub IfDone : {B : Type 0} → (B → Type 0) → Result B Fault → Type 0
+IfDone P (Ok x) = P x
+IfDone P (Err f) = Unit {0}
+
+-- after a check, which may use that the check passed
+pub done_bind : {A B : Type 0} (P : B → Type 0) (r : Result A Fault) (f : A → Result B Fault) → ((a : A) → r ≡ Ok a → IfDone P (f a)) → IfDone P (r >>= f)
+done_bind P (Ok a) f after = after a refl
+done_bind P (Err e) f after = tt
+
+pub done : {B : Type 0} (P : B → Type 0) (r : Result B Fault) (x : B) → IfDone P r → r ≡ Ok x → P x
+done P (Ok y) x holds is = let same : y ≡ x = cc in subst P same holds
+done P (Err f) x holds is = absurd (cc)
+
+-- the exporter after a row is sound, where the row was not refused
+abbrev pub IsSoundAfter : Result (Exporter × LocalReply) Fault → Type 0
+IsSoundAfter r = IfDone (λ (after : Exporter × LocalReply). IsSoundExporter after.0) r
+
+pub sound_bind : {A : Type 0} (r : Result A Fault) (f : A → Result (Exporter × LocalReply) Fault) → ((a : A) → r ≡ Ok a → IsSoundAfter (f a)) → IsSoundAfter (r >>= f)
+sound_bind r f after = done_bind (λ (p : Exporter × LocalReply). IsSoundExporter p.0) r f after
+
+-- what holds of each holds of the one that is found
+pub All-slice_get : {X : Type 0} (P : X → Type 0) (xs : List X) (k : ℕ) (x : X) → All P xs → slice_get xs k ≡ Some x → P x
+All-slice_get P xs k x all at = subst P (get_or_from_slice_get xs k x x at) (all k x (slice_get_within xs k x at))
+
+given_of : (o : Option View) (v : View) → ok_or o fault.UnknownName ≡ Ok v → o ≡ Some v
+given_of None v h = cc
+given_of (Some w) v h = cc
+
+pub view_at_given : (e : Exporter) (k : ℕ) (v : View) → view_at e k ≡ Ok v → slice_get e.views k ≡ Some v
+view_at_given e k v found = given_of (slice_get e.views k) v found
+
+live_case : (b : Bool) (w v : View) → w.released ≡ b → (unless b fault.Value >>= (λ _. Ok w)) ≡ Ok v → (w ≡ v) × (w.released ≡ false)
+live_case true w v is h = absurd (cc)
+live_case false w v is h = ((cc), is)
+
+live_of : (r : Result View Fault) (v : View) → (r >>= (λ w. unless w.released fault.Value >>= (λ _. Ok w))) ≡ Ok v → (r ≡ Ok v) × (v.released ≡ false)
+live_of (Err f) v h = absurd (cc)
+live_of (Ok w) v h =
+    let both = live_case w.released w v refl h in
+    (ap (λ x. Ok x) both.0, subst (λ (x : View). x.released ≡ false) both.0 both.1)
+
+-- a view that is found live was given, and is held
+pub live_view_held : (e : Exporter) (k : ℕ) (v : View) → IsSoundExporter e → live_view e k ≡ Ok v → IsHeld e.bytes v
+live_view_held e k v sound found =
+    let live = live_of (view_at e k) v found in
+    All-slice_get (λ w. IsHeldOrReleased e.bytes w) e.views k v sound.views_are_held (view_at_given e k v live.0) live.1
+
+pub live_view_bytes : (e : Exporter) (k : ℕ) (v : View) → IsSoundExporter e → live_view e k ≡ Ok v → v.itemsize ≡ 1
+live_view_bytes e k v sound found =
+    let live = live_of (view_at e k) v found in
+    All-slice_get (λ w. w.itemsize ≡ 1) e.views k v sound.items_are_bytes (view_at_given e k v live.0)
+
+-- one more view that is held
+pub with_view_sound : (e : Exporter) (v : View) → IsSoundExporter e → v.itemsize ≡ 1 → IsHeld e.bytes v → IsSoundExporter (with_view e v)
+with_view_sound e v sound size held = record {
+  items_are_bytes = All-push (λ w. w.itemsize ≡ 1) e.views v sound.items_are_bytes size;
+  views_are_held = All-push (λ w. IsHeldOrReleased e.bytes w) e.views v sound.views_are_held (λ _. held);
+}
+
+pub whole_held : (k : ExporterKind) (bytes : List ℕ) → IsHeld bytes (whole_of k (length bytes))
+whole_held k bytes = record {
+  inside = λ i d below.
+      let within : i < length bytes = omega (arith, length-range_with_len 0 (length bytes)) in
+      omega (arith, get_or-range_with_len 0 (length bytes) i d within);
+  length_kept = refl;
+}
+
+-- other bytes of the same number
+pub held_by_length : (old new : List ℕ) (v : View) → length new ≡ length old → IsHeldOrReleased old v → IsHeldOrReleased new v
+held_by_length old new v same held unreleased = record {
+  inside = λ i d below. omega (arith, (held unreleased).inside i d below, same);
+  length_kept = (held unreleased).length_kept ∙ sym same;
+}
+
+pub with_bytes_sound : (e : Exporter) (new : List ℕ) → length new ≡ length e.bytes → IsSoundExporter e → IsSoundExporter (record e { bytes = new })
+with_bytes_sound e new same sound = record {
+  items_are_bytes = sound.items_are_bytes;
+  views_are_held = All-weaker (λ w. IsHeldOrReleased e.bytes w) (λ w. IsHeldOrReleased new w) (λ w held. held_by_length e.bytes new w same held) e.views sound.views_are_held;
+}
+
+pub length-laid_one : (bytes : List ℕ) (i x : ℕ) → i < length bytes → length (laid bytes i (x ∷ [])) ≡ length bytes
+length-laid_one bytes i x inside = rw (laid_one bytes i x inside) (grind (arith, common_steps))
+
+-- each row
+pub view_of_own_sound : (e : Exporter) → IsSoundExporter e → IsSoundAfter (view_of_own e)
+view_of_own_sound e sound = with_view_sound e (whole_of e.kind (length e.bytes)) sound refl (whole_held e.kind e.bytes)
+
+again_held : (bytes : List ℕ) (v : View) → IsHeld bytes v → IsHeld bytes (record v { made_at = length bytes })
+again_held bytes v held = record { inside = held.inside; length_kept = refl }
+
+again_of : (r : Result View Fault) (n : ℕ) (v : View) → (r >>= (λ w. Ok (record w { made_at = n }))) ≡ Ok v → (w : View) × (r ≡ Ok w) × (v ≡ record w { made_at = n })
+again_of (Err f) n v h = absurd (cc)
+again_of (Ok w) n v h = (w, refl, (cc))
+
+pub view_again_held : (e : Exporter) (k : ℕ) (v : View) → IsSoundExporter e → view_again e k ≡ Ok v → (v.itemsize ≡ 1) × IsHeld e.bytes v
+view_again_held e k v sound found =
+    let again = again_of (live_view e k) (length e.bytes) v found in
+    let held = live_view_held e k again.0 sound again.1 in
+    let size = live_view_bytes e k again.0 sound again.1 in
+    (subst (λ (x : View). x.itemsize ≡ 1) (sym again.2) size, subst (λ (x : View). IsHeld e.bytes x) (sym again.2) (again_held e.bytes again.0 held))
+
+pub view_of_view_sound : (e : Exporter) (k : ℕ) → IsSoundExporter e → IsSoundAfter (view_of_view e k)
+view_of_view_sound e k sound =
+    sound_bind (view_again e k) (λ v. Ok (with_view e v, reply.View (length e.views)))
+    (λ v found. let held = view_again_held e k v sound found in with_view_sound e v sound held.0 held.1)
+
+pub place_in_inside : (len : ℕ) (index : ℤ) (p : ℕ) → place_in len index ≡ Ok p → p < len
+place_in_inside len (pos n) p h = grind (arith, common_steps)
+place_in_inside len (negsuc n) p h = grind (arith, common_steps)
+
+-- a row that only reads
+pub reads_bind : {A : Type 0} (e : Exporter) (r : Result A Fault) (f : A → LocalReply) → IsSoundExporter e → IsSoundAfter (r >>= (λ a. Ok (e, f a)))
+reads_bind e (Ok a) f sound = sound
+reads_bind e (Err f) g sound = tt
+
+byte_of_own_sound : (e : Exporter) (key : Value) → IsSoundExporter e → IsSoundAfter (byte_of_own e key)
+byte_of_own_sound e key sound =
+    sound_bind (index_in key) _ (λ index _.
+    sound_bind (place_in (length e.bytes) index) _ (λ place _. sound))
+
+pub get_of_own_sound : (e : Exporter) (key : Value) → IsSoundExporter e → IsSoundAfter (get_of_own e key)
+get_of_own_sound e (value.Slice slice) sound = sound_bind (saturated_parts_of slice) _ (λ parts _. sound)
+get_of_own_sound e (value.One s) sound = byte_of_own_sound e (value.One s) sound
+get_of_own_sound e (value.Tuple parts) sound = byte_of_own_sound e (value.Tuple parts) sound
+get_of_own_sound e (value.List parts) sound = byte_of_own_sound e (value.List parts) sound
+get_of_own_sound e (value.Slices slices) sound = byte_of_own_sound e (value.Slices slices) sound
+
+item_of_view_sound : (e : Exporter) (k : ℕ) (key : Value) → IsSoundExporter e → IsSoundAfter (item_of_view e k key)
+item_of_view_sound e k key sound =
+    sound_bind (live_view e k) _ (λ v _.
+    sound_bind (index_in key) _ (λ index _.
+    sound_bind (place_in (length v.starts) index) _ (λ place _. sound)))
+
+found_element : {X : Type 0} (P : X → Type 0) (xs : List X) (i : ℕ) (indices : List ℕ) → All P xs → (o : Option X) → slice_get xs i ≡ o → All P (elements_at xs indices) → All P (cons_option o (elements_at xs indices))
+found_element P xs i indices all None at rest = rest
+found_element P xs i indices all (Some x) at rest = All-cons P x (elements_at xs indices) (All-slice_get P xs i x all at) rest
+
+-- what holds of each element holds of those at any indices
+pub All-elements_at : {X : Type 0} (P : X → Type 0) (xs : List X) (indices : List ℕ) → All P xs → All P (elements_at xs indices)
+All-elements_at P xs [] all = All-nil P
+All-elements_at P xs (i ∷ indices) all = found_element P xs i indices all (slice_get xs i) refl (All-elements_at P xs indices all)
+
+sliced_held : (bytes : List ℕ) (v : View) (parts : SliceParts) → IsHeld bytes v → IsHeld bytes (sliced v (length bytes) parts)
+sliced_held bytes v parts held = record {
+  inside = All-elements_at (λ start. start + v.itemsize ≤ length bytes) v.starts (picks_of (length v.starts) parts) held.inside;
+  length_kept = refl;
+}
+
+slice_of_view_done : (e : Exporter) (k : ℕ) (slice : PySlice) → IsSoundExporter e → IfDone (λ (v : View). (v.itemsize ≡ 1) × IsHeld e.bytes v) (slice_of_view e k slice)
+slice_of_view_done e k slice sound =
+    let P : View → Type 0 = λ v. (v.itemsize ≡ 1) × IsHeld e.bytes v in
+    done_bind P (live_view e k) _ (λ v live.
+    done_bind P (saturated_parts_of slice) _ (λ parts _.
+    (live_view_bytes e k v sound live, sliced_held e.bytes v parts (live_view_held e k v sound live))))
+
+slice_row_sound : (e : Exporter) (k : ℕ) (slice : PySlice) → IsSoundExporter e → IsSoundAfter (get_of_view e k (value.Slice slice))
+slice_row_sound e k slice sound =
+    sound_bind (slice_of_view e k slice) _ (λ v found.
+    let held = done (λ (w : View). (w.itemsize ≡ 1) × IsHeld e.bytes w) (slice_of_view e k slice) v (slice_of_view_done e k slice sound) found in
+    with_view_sound e v sound held.0 held.1)
+
+pub get_of_view_sound : (e : Exporter) (k : ℕ) (key : Value) → IsSoundExporter e → IsSoundAfter (get_of_view e k key)
+get_of_view_sound e k (value.Slice slice) sound = slice_row_sound e k slice sound
+get_of_view_sound e k (value.One s) sound = item_of_view_sound e k (value.One s) sound
+get_of_view_sound e k (value.Tuple parts) sound = item_of_view_sound e k (value.Tuple parts) sound
+get_of_view_sound e k (value.List parts) sound = item_of_view_sound e k (value.List parts) sound
+get_of_view_sound e k (value.Slices slices) sound = item_of_view_sound e k (value.Slices slices) sound
+
+pub set_of_own_sound : (e : Exporter) (key value : Value) → IsSoundExporter e → IsSoundAfter (set_of_own e key value)
+set_of_own_sound e key value sound =
+    sound_bind (index_in key) _ (λ index _.
+    sound_bind (byte_in value) _ (λ byte _.
+    sound_bind (place_in (length e.bytes) index) _ (λ place found.
+    with_bytes_sound e (laid e.bytes place (byte ∷ []))
+    (length-laid_one e.bytes place byte (place_in_inside (length e.bytes) index place found)) sound)))
+
+-- the place to write lies inside
+item_inside : (e : Exporter) (k : ℕ) (v : View) (i : ℕ) → IsSoundExporter e → live_view e k ≡ Ok v → i < length v.starts → slice_index v.starts i < length e.bytes
+item_inside e k v i sound live below = omega (arith, (live_view_held e k v sound live).inside i 0 below, live_view_bytes e k v sound live)
+
+pub set_target_done : (e : Exporter) (k : ℕ) (key value : Value) → IsSoundExporter e → IfDone (λ (t : ℕ × ℕ). t.0 < length e.bytes) (set_target e k key value)
+set_target_done e k key value sound =
+    let P : ℕ × ℕ → Type 0 = λ t. t.0 < length e.bytes in
+    done_bind P (live_view e k) _ (λ v live.
+    done_bind P (unless v.readonly fault.Kind) _ (λ _ _.
+    done_bind P (unless (is_none value) fault.Kind) _ (λ _ _.
+    done_bind P (index_in key) _ (λ index _.
+    done_bind P (place_in (length v.starts) index) _ (λ item found.
+    done_bind P (byte_for_item value) _ (λ byte _.
+    item_inside e k v item sound live (place_in_inside (length v.starts) index item found)))))))
+
+pub set_target_inside : (e : Exporter) (k : ℕ) (key value : Value) (target : ℕ × ℕ) → IsSoundExporter e → set_target e k key value ≡ Ok target → target.0 < length e.bytes
+set_target_inside e k key value target sound found =
+    done (λ (t : ℕ × ℕ). t.0 < length e.bytes) (set_target e k key value) target (set_target_done e k key value sound) found
+
+pub set_of_view_sound : (e : Exporter) (k : ℕ) (key value : Value) → IsSoundExporter e → IsSoundAfter (set_of_view e k key value)
+set_of_view_sound e k key value sound =
+    sound_bind (set_target e k key value) _ (λ target found.
+    with_bytes_sound e (laid e.bytes target.0 (target.1 ∷ []))
+    (length-laid_one e.bytes target.0 target.1 (set_target_inside e k key value target sound found)) sound)
+
+pub released_sound : (e : Exporter) (k : ℕ) (v : View) → IsSoundExporter e → slice_get e.views k ≡ Some v → IsSoundExporter (released_at e k v)
+released_sound e k v sound at = record {
+  items_are_bytes = All-set (λ w. w.itemsize ≡ 1) e.views k (record v { released = true }) (All-slice_get (λ w. w.itemsize ≡ 1) e.views k v sound.items_are_bytes at) sound.items_are_bytes;
+  views_are_held = All-set (λ w. IsHeldOrReleased e.bytes w) e.views k (record v { released = true }) (λ unreleased. absurd (true≢false unreleased)) sound.views_are_held;
+}
+
+released_bind : (e : Exporter) (k : ℕ) (r : Result View Fault) → IsSoundExporter e → r ≡ view_at e k → IsSoundAfter ((r >>= (λ v. Ok (released_at e k v))) >>= (λ after. Ok (after, reply.Ok)))
+released_bind e k (Ok v) sound is = released_sound e k v sound (view_at_given e k v (sym is))
+released_bind e k (Err f) sound is = tt
+
+pub release_of_view_sound : (e : Exporter) (k : ℕ) → IsSoundExporter e → IsSoundAfter (release_of_view e k)
+release_of_view_sound e k sound = released_bind e k (view_at e k) sound refl
+
+set_in_kind_sound : (k : ExporterKind) (e : Exporter) (r : Result (Exporter × LocalReply) Fault) → IsSoundAfter r → IsSoundAfter (set_in_kind k e r)
+set_in_kind_sound kind.ByteArray e r after = after
+set_in_kind_sound kind.Bytes e r after = tt
+set_in_kind_sound (kind.Vector readonly) e r after = tt
+
+get_in_kind_sound : (k : ExporterKind) (r : Result (Exporter × LocalReply) Fault) → IsSoundAfter r → IsSoundAfter (get_in_kind k r)
+get_in_kind_sound kind.ByteArray r after = after
+get_in_kind_sound kind.Bytes r after = after
+get_in_kind_sound (kind.Vector readonly) r after = tt
+
+iterator_row_sound : (e : Exporter) (k : ℕ) (v : Verb) → IsSoundAfter (row e (subject.Iter k) v)
+iterator_row_sound e k verb.View = tt
+iterator_row_sound e k (verb.Get key) = tt
+iterator_row_sound e k (verb.Set key value) = tt
+iterator_row_sound e k verb.ToBytes = tt
+iterator_row_sound e k verb.Release = tt
+iterator_row_sound e k verb.Len = tt
+
+built_sound : (b : Bool) (r : Result (Exporter × LocalReply) Fault) → IsSoundAfter r → IsSoundAfter (if b then r else Err fault.UnknownName)
+built_sound true r after = after
+built_sound false r after = tt
+
+-- every row
+pub row_sound : (e : Exporter) (s : Subject) (v : Verb) → IsSoundExporter e → IsSoundAfter (row e s v)
+row_sound e subject.Own verb.View sound = view_of_own_sound e sound
+row_sound e (subject.View k) verb.View sound = view_of_view_sound e k sound
+row_sound e subject.Own (verb.Get key) sound = get_in_kind_sound e.kind (get_of_own e key) (get_of_own_sound e key sound)
+row_sound e (subject.View k) (verb.Get key) sound = get_of_view_sound e k key sound
+row_sound e subject.Own (verb.Set key value) sound = set_in_kind_sound e.kind e (set_of_own e key value) (set_of_own_sound e key value sound)
+row_sound e (subject.View k) (verb.Set key value) sound = set_of_view_sound e k key value sound
+row_sound e subject.Own verb.ToBytes sound = sound
+row_sound e (subject.View k) verb.ToBytes sound = sound_bind (live_view e k) _ (λ v _. sound)
+row_sound e subject.Own verb.Release sound = tt
+row_sound e (subject.View k) verb.Release sound = release_of_view_sound e k sound
+row_sound e subject.Own verb.Len sound = sound
+row_sound e (subject.View k) verb.Len sound = sound_bind (live_view e k) _ (λ v _. sound)
+row_sound e (subject.Iter k) v sound = iterator_row_sound e k v
+
+-- a spelling that is not built is refused
+pub answered_sound : (e : Exporter) (s : Subject) (v : Verb) → IsSoundExporter e → IsSoundAfter (answered e s v)
+answered_sound e s v sound = built_sound (is_built s v) (row e s v) (row_sound e s v sound)
+
+settled_sound : (e : Exporter) (r : Result (Exporter × LocalReply) Fault) → IsSoundExporter e → IsSoundAfter r → IsSoundExporter (settled e r).0
+settled_sound e (Ok after) sound sound_after = sound_after
+settled_sound e (Err f) sound sound_after = sound
+
+-- a command keeps an exporter sound
+pub estep_sound : (e : Exporter) (s : Subject) (v : Verb) → IsSoundExporter e → IsSoundExporter (estep e s v).0
+estep_sound e s v sound = settled_sound e (answered e s v) sound (answered_sound e s v sound)
+
+pub answered_is_sound : (old new : Exporter) (s : Subject) (v : Verb) (r : LocalReply) → IsSoundExporter old → answered old s v ≡ Ok (new, r) → IsSoundExporter new
+answered_is_sound old new s v r sound is =
+    done (λ (after : Exporter × LocalReply). IsSoundExporter after.0) (answered old s v) (new, r) (answered_sound old s v sound) is
+
+pub released_in_done : (e : Exporter) (k : ℕ) → IsSoundExporter e → IfDone IsSoundExporter (released_in e k)
+released_in_done e k sound =
+    done_bind IsSoundExporter (view_at e k) _ (λ v found. released_sound e k v sound (view_at_given e k v found))
+
+pub released_is_sound : (old new : Exporter) (k : ℕ) → IsSoundExporter old → released_in old k ≡ Ok new → IsSoundExporter new
+released_is_sound old new k sound is = done IsSoundExporter (released_in old k) new (released_in_done old k sound) is

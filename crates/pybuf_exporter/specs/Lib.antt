@@ -1,0 +1,10 @@
+pub mod Exporter
+pub mod Handles
+pub mod Items
+pub mod Slices
+pub mod Rows
+pub mod Step
+pub mod Sound
+pub mod Answers
+pub mod Lending
+pub mod Laws

@@ -1,0 +1,18 @@
+-- What holds of every exporter.
+use Rattle.std.specs.Prelude.{◌≡◌, ℕ, ◌+◌, ◌≤◌, List, length, false}
+use Rattle.std.specs.List.{All}
+use Rattle.pybuf_exporter.specs.Exporter.{Exporter, View}
+
+-- Each byte of each item of the view lies inside the exporter, and the exporter is as long as when
+-- the view was made.
+pub record IsHeld (bytes : List ℕ) (v : View) : Type 0 where
+  pub inside : All (λ start. start + v.itemsize ≤ length bytes) v.starts
+  pub length_kept : v.made_at ≡ length bytes
+
+-- what holds of a view unless it was released
+abbrev pub IsHeldOrReleased : List ℕ → View → Type 0
+IsHeldOrReleased bytes v = v.released ≡ false → IsHeld bytes v
+
+pub record IsSoundExporter (e : Exporter) : Type 0 where
+  pub items_are_bytes : All (λ v. v.itemsize ≡ 1) e.views
+  pub views_are_held : All (λ v. IsHeldOrReleased e.bytes v) e.views

@@ -1,0 +1,141 @@
+//! One exporter with its views.
+ghost use Rattle.std.specs.Prelude.{◌≡◌, [], IfOk, OnErr, MatchResult, false, length};
+
+use crate::commands::{LocalCommand, LocalReply, Verb};
+use crate::kinds::{ExporterKind, Subject};
+use crate::parts::Parts;
+use crate::rows;
+use pybuf_value::{ByteList, Fault, Made, Twin, copy_all};
+use std::alloc::Global;
+use std::marker::Model;
+
+/// An exporter of bytes, and all views that were made of it.
+///
+/// A clause sees its kind, its bytes and its views, each as a list of places. In every exporter, each
+/// byte of each item of an unreleased view lies inside, and the exporter is as long as when that view
+/// was made.
+#[derive(Debug, Drop)]
+pub struct ExporterState {
+    parts: Parts,
+}
+
+impl Model for ExporterState {
+    ghost use Rattle.pybuf_exporter.specs.Exporter.{Exporter};
+    ghost use Rattle.pybuf_exporter.specs.Answers.{seen, IsWhole};
+
+    ghost Value = { Exporter };
+
+    ghost view = { λ s. seen s.parts };
+
+    ghost invariant = { λ s. IsWhole s.parts };
+}
+
+impl ExporterState {
+    ghost use Rattle.std.specs.Borrow.{sem};
+    ghost use Rattle.pybuf_exporter.specs.Exporter.{exports_of, holds_readonly};
+    ghost use Rattle.pybuf_exporter.specs.Lending.{LendsBytes};
+    ghost use Rattle.pybuf_exporter.specs.Sound.{IsSoundExporter};
+    ghost use Rattle.pybuf_exporter.specs.Exporter.{new_exporter};
+    ghost use Rattle.pybuf_exporter.specs.Step.{estep};
+    ghost use Rattle.pybuf_exporter.specs.Rows.Release.{released_in};
+
+    /// An exporter of these bytes, with no views. Takes no memory.
+    pub fn new(alloc: Global, kind: ExporterKind, bytes: ByteList) -> ExporterState
+        ensures { result ≡ new_exporter kind bytes }
+    {
+        ExporterState {
+            parts: Parts {
+                kind,
+                bytes: bytes.into_vec(),
+                views: Vec::new(alloc),
+                exports: 0,
+                alloc,
+            },
+        }
+    }
+
+    /// Carries out a command, as its row says.
+    ///
+    /// A refusal is a reply, and changes nothing; a subject number that was never given is refused
+    /// with `UnknownName`. Where memory runs out, nothing is changed.
+    pub fn step(&mut self, command: &LocalCommand) -> Made<LocalReply>
+        ensures ok { IfOk result (λ r. estep self.old command.now.subject command.now.verb ≡ (self.new, r)) }
+        ensures err { OnErr result (self.new ≡ self.old) }
+    {
+        self.carry_out(command.subject, &command.verb)
+    }
+
+    /// The same, of a verb that is lent by itself.
+    pub fn carry_out(&mut self, subject: Subject, verb: &Verb) -> Made<LocalReply>
+        ensures ok { IfOk result (λ r. estep self.old subject verb.now ≡ (self.new, r)) }
+        ensures err { OnErr result (self.new ≡ self.old) }
+        ensures was_sound { IsSoundExporter self.old }
+    {
+        rows::pick::carry_out(&mut self.parts, subject, verb)
+    }
+
+    /// Releases a view; releasing it again changes nothing. Takes no memory.
+    ///
+    /// Refused with `UnknownName` exactly where the view was never given.
+    pub fn release_view(&mut self, view: usize) -> Result<(), Fault>
+        ensures exact { MatchResult result (λ _. released_in self.old view ≡ Ok self.new) (λ f. released_in self.old view ≡ Err f) }
+        ensures err { OnErr result (self.new ≡ self.old) }
+    {
+        rows::release::release(&mut self.parts, view)
+    }
+
+    /// The kind.
+    pub fn kind(&self) -> ExporterKind
+        ensures { result ≡ self.now.kind }
+    {
+        self.parts.kind
+    }
+
+    /// The bytes, lent.
+    pub fn bytes(&self) -> &[u8]
+        ensures { result.now ≡ self.now.bytes }
+    {
+        self.parts.bytes.as_slice()
+    }
+
+    /// The bytes, lent to be written: their number and all else of the exporter stay. All views of
+    /// these bytes see the writes.
+    pub fn bytes_mut(&mut self) -> &mut [u8]
+        requires { holds_readonly self.old.kind ≡ false }
+        ensures* writes_back { sem 𝓛 (LendsBytes self.entry result) }
+        ensures value { result.now ≡ self.old.bytes }
+    {
+        self.parts.bytes.as_mut_slice()
+    }
+
+    /// The number of unreleased views.
+    pub fn exports(&self) -> usize
+        ensures count { result ≡ exports_of self.now }
+        ensures sound { IsSoundExporter self.now }
+    {
+        self.parts.exports
+    }
+
+    /// The number of views that were given, released ones too.
+    pub fn view_count(&self) -> usize
+        ensures { result ≡ length self.now.views }
+    {
+        self.parts.views.len()
+    }
+}
+
+impl Twin for ExporterState {
+    fn copy(&self, alloc: Global) -> Made<ExporterState> {
+        let bytes = Vec::from_slice(alloc, self.parts.bytes.as_slice())?;
+        let views = copy_all(alloc, self.parts.views.as_slice())?;
+        Ok(ExporterState {
+            parts: Parts {
+                kind: self.parts.kind,
+                bytes,
+                views,
+                exports: self.parts.exports,
+                alloc,
+            },
+        })
+    }
+}

@@ -1,0 +1,132 @@
+//! Which row a command has.
+ghost use Rattle.std.specs.Prelude.{◌≡◌, IfOk, OnErr, not};
+ghost use Rattle.pybuf_exporter.specs.Handles.{holds_handle};
+ghost use Rattle.pybuf_exporter.specs.declared.commands.Verb.TheVariants as verbs;
+ghost use Rattle.pybuf_exporter.specs.Exporter.{exports_of};
+ghost use Rattle.pybuf_exporter.specs.Answers.{seen, IsWhole, Answers, Reads};
+ghost use Rattle.pybuf_exporter.specs.Rows.Get.{get_of_own};
+ghost use Rattle.pybuf_exporter.specs.Rows.Set.{set_of_own};
+ghost use Rattle.pybuf_exporter.specs.Step as spec;
+
+use crate::commands::{LocalReply, Verb};
+use crate::halt::Halt;
+use crate::handles::holds_handle;
+use crate::items::{is_slice, is_tuple};
+use crate::kinds::{ExporterKind, Subject};
+use crate::parts::Parts;
+use crate::rows::{get, len, release, set, to_bytes, view};
+use pybuf_value::{Fault, Made, NoMemory, Value};
+
+/// Whether a value is or holds no handle.
+fn is_plain(value: &Value) -> bool
+    ensures { result ≡ not (holds_handle value.now) }
+{
+    !holds_handle(value)
+}
+
+/// Whether `get` with a key is built for a subject.
+fn is_get_built(subject: Subject, key: &Value) -> bool
+    ensures { result ≡ spec.is_built subject (verbs.Get key.now) }
+{
+    if !is_plain(key) {
+        return false;
+    }
+    match subject {
+        Subject::View(_) => !is_tuple(key),
+        _ => true,
+    }
+}
+
+/// Whether `set` with a key and a value is built.
+fn is_set_built(subject: Subject, key: &Value, value: &Value) -> bool
+    ensures { result ≡ spec.is_built subject (verbs.Set key.now value.now) }
+{
+    if !is_plain(key) {
+        return false;
+    }
+    if !is_plain(value) {
+        return false;
+    }
+    if is_tuple(key) {
+        return false;
+    }
+    !is_slice(key)
+}
+
+/// Whether a command's spelling is built for a subject.
+fn is_built(subject: Subject, verb: &Verb) -> bool
+    ensures { result ≡ spec.is_built subject verb.now }
+{
+    match verb {
+        Verb::Get { key } => is_get_built(subject, key),
+        Verb::Set { key, value } => is_set_built(subject, key, value),
+        _ => true,
+    }
+}
+
+fn own_get(parts: &Parts, key: &Value) -> Result<LocalReply, Halt>
+    ensures { Reads (spec.get_in_kind parts.now.kind (get_of_own (seen parts.now) key.now)) (seen parts.now) result }
+{
+    match parts.kind {
+        ExporterKind::Vector { readonly: _ } => Err(Halt::Refused(Fault::UnknownName)),
+        _ => get::of_own(parts, key),
+    }
+}
+
+fn own_set(parts: &mut Parts, key: &Value, value: &Value) -> Result<LocalReply, Halt>
+    requires { IsWhole parts.old }
+    ensures answer { Answers (spec.set_in_kind parts.old.kind (seen parts.old) (set_of_own (seen parts.old) key.now value.now)) (seen parts.old) result (seen parts.new) }
+    ensures counted { parts.new.exports ≡ exports_of (seen parts.new) }
+{
+    match parts.kind {
+        ExporterKind::ByteArray => set::of_own(parts, key, value),
+        _ => Err(Halt::Refused(Fault::UnknownName)),
+    }
+}
+
+/// The row of the subject and the verb.
+fn row(parts: &mut Parts, subject: Subject, verb: &Verb) -> Result<LocalReply, Halt>
+    requires { IsWhole parts.old }
+    ensures answer { Answers (spec.row (seen parts.old) subject verb.now) (seen parts.old) result (seen parts.new) }
+    ensures counted { parts.new.exports ≡ exports_of (seen parts.new) }
+{
+    match (subject, verb) {
+        (Subject::Own, Verb::View) => view::of_own(parts),
+        (Subject::View(k), Verb::View) => view::of_view(parts, k),
+        (Subject::Own, Verb::Get { key }) => own_get(parts, key),
+        (Subject::View(k), Verb::Get { key }) => get::of_view(parts, k, key),
+        (Subject::Own, Verb::Set { key, value }) => own_set(parts, key, value),
+        (Subject::View(k), Verb::Set { key, value }) => set::of_view(parts, k, key, value),
+        (Subject::Own, Verb::ToBytes) => to_bytes::of_own(parts),
+        (Subject::View(k), Verb::ToBytes) => to_bytes::of_view(parts, k),
+        (Subject::View(k), Verb::Release) => release::of_view(parts, k),
+        (Subject::Own, Verb::Len) => len::of_own(parts),
+        (Subject::View(k), Verb::Len) => len::of_view(parts, k),
+        _ => Err(Halt::Refused(Fault::UnknownName)),
+    }
+}
+
+fn answered(parts: &mut Parts, subject: Subject, verb: &Verb) -> Result<LocalReply, Halt>
+    requires { IsWhole parts.old }
+    ensures answer { Answers (spec.answered (seen parts.old) subject verb.now) (seen parts.old) result (seen parts.new) }
+    ensures counted { parts.new.exports ≡ exports_of (seen parts.new) }
+{
+    if !is_built(subject, verb) {
+        return Err(Halt::Refused(Fault::UnknownName));
+    }
+    row(parts, subject, verb)
+}
+
+/// Carries a command out on the parts of an exporter. A refusal is a reply.
+pub fn carry_out(parts: &mut Parts, subject: Subject, verb: &Verb) -> Made<LocalReply>
+    requires { IsWhole parts.old }
+    ensures ok { IfOk result (λ r. spec.estep (seen parts.old) subject verb.now ≡ (seen parts.new, r)) }
+    ensures err { OnErr result (seen parts.new ≡ seen parts.old) }
+    ensures whole { IsWhole parts.new }
+{
+    match answered(parts, subject, verb) {
+        Ok(reply) => Ok(reply),
+        Err(Halt::Refused(fault)) => Ok(LocalReply::Refused(fault)),
+        Err(Halt::NoMemory) => Err(NoMemory),
+    }
+}

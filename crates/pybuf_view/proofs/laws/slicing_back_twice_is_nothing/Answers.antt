@@ -1,5 +1,0 @@
-use Rattle.pybuf_view.proofs.Backward.{back_and_back}
-use Rattle.pybuf_view.proofs.laws.slicing_back_twice_is_nothing.Goals as goal
-
-pub returns : goal.returns
-returns c = back_and_back

@@ -1,8 +1,0 @@
-use Rattle.pybuf_view.proofs.Soundness.{answered_is_sound}
-use Rattle.pybuf_view.proofs.rows.pick.carry_out.Goals as goal
-
-pub returns-in-Ok-clause-whole : goal.returns-in-Ok-clause-whole
-returns-in-Ok-clause-whole c = record {
-  counted = c.answered.ensures.counted;
-  sound = answered_is_sound _ _ c.args.subject c.args.verb.now _ c.requires.sound c.in-Ok.ensures.answer;
-}
