@@ -1021,6 +1021,20 @@ bytes h0                           b'a'
 """,
     ),
     Case(
+        "a tuple as the key of a view is an unknown name",
+        """
+new bytes x616263                  h0
+view h0                            h1
+get h1 (0)                         ! UnknownName  !
+get h1 (3)                         ! UnknownName  !
+get h1 (0,0)                       ! UnknownName  !
+get h1 ()                          ! UnknownName  !
+get h1 (0:1:1)                     ! UnknownName  !
+get h1 [0]                         ! TypeError
+get h0 (0)                         ! TypeError
+""",
+    ),
+    Case(
         "an exporter has exports alone, and a view has all else",
         """
 new bytearray x61                  h0

@@ -6,7 +6,7 @@ use crate::judging::judge_cases;
 use std::test::Fail;
 
 /// What each case shows, and its lines with the replies beside them.
-const CASES: [(&str, &str); 4] = [
+const CASES: [(&str, &str); 5] = [
     (
         "a number that an item doesn't take is of a wrong kind",
         r"
@@ -58,6 +58,20 @@ release h0          ! UnknownName   Python: ! AttributeError
 new bytearray x61   h1
 release h1          ! UnknownName   Python: ! AttributeError
 bytes h0            b'a'
+",
+    ),
+    (
+        "a tuple as the key of a view is an unknown name",
+        r"
+new bytes x616263   h0
+view h0             h1
+get h1 (0)          ! UnknownName   Python: 97
+get h1 (3)          ! UnknownName   Python: ! IndexError
+get h1 (0,0)        ! UnknownName   Python: ! TypeError
+get h1 ()           ! UnknownName   Python: ! NotImplementedError
+get h1 (0:1:1)      ! UnknownName   Python: ! NotImplementedError
+get h1 [0]          ! TypeError
+get h0 (0)          ! TypeError
 ",
     ),
 ];
