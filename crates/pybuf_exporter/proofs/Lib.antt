@@ -1,3 +1,5 @@
+pub mod ListTests
+pub mod Counts
 pub mod Places
 pub mod Laid
 pub mod Soundness

@@ -1,5 +1,5 @@
 -- A refused command changes nothing of an exporter.
-use Rattle.std.proofs.Common.{◌≡◌, ℕ, length, Bool, true, false, true≢false, ap, sym, ◌∙◌, refl}
+use Rattle.std.proofs.Common.{◌≡◌, ℕ, List, length, Bool, true, false, true≢false, ap, sym, ◌∙◌, refl}
 use Rattle.std.specs.Prelude.{Result, Ok, Err, if◌then◌else◌}
 use Rattle.pybuf_value.specs.declared.faults.Fault.{Fault}
 use Rattle.pybuf_value.specs.declared.faults.Fault.TheVariants as fault
@@ -17,7 +17,9 @@ use Rattle.pybuf_exporter.specs.declared.commands.LocalReply.{LocalReply}
 use Rattle.pybuf_exporter.specs.declared.commands.LocalReply.TheVariants as local
 use Rattle.pybuf_exporter.specs.Exporter.{Exporter, live_view}
 use Rattle.pybuf_exporter.specs.Items.{index_in, place_in}
-use Rattle.pybuf_exporter.specs.Step.{row, answered, is_built, estep, settled, set_in_kind, get_in_kind}
+use Rattle.pybuf_exporter.specs.declared.loans.Loan.{Loan}
+use Rattle.pybuf_exporter.specs.Handles.{handles_of, are_known}
+use Rattle.pybuf_exporter.specs.Step.{row, answered_if_built, answered, is_built, estep, settled, set_in_kind, get_in_kind}
 use Rattle.pybuf_exporter.specs.Rows.View.{view_again}
 use Rattle.pybuf_slice.specs.Parts.{saturated_parts_of}
 use Rattle.pybuf_exporter.specs.Rows.Get.{byte_of_own, get_of_own, item_of_view, slice_of_view, get_of_view}
@@ -47,15 +49,15 @@ get_in_kind_answers kind.ByteArray r after = after
 get_in_kind_answers kind.Bytes r after = after
 get_in_kind_answers (kind.Vector readonly) r after = tt
 
-iterator_row_answers : (e : Exporter) (k : ℕ) (v : Verb) → IsAnswered (row e (subject.Iter k) v)
-iterator_row_answers e k verb.View = tt
-iterator_row_answers e k (verb.Get key) = tt
-iterator_row_answers e k (verb.Set key value) = tt
-iterator_row_answers e k (verb.Cast format shape) = tt
-iterator_row_answers e k (verb.Property name) = tt
-iterator_row_answers e k verb.ToBytes = tt
-iterator_row_answers e k verb.Release = tt
-iterator_row_answers e k verb.Len = tt
+iterator_row_answers : (e : Exporter) (k : ℕ) (v : Verb) (loans : List (ℕ × Loan)) → IsAnswered (row e (subject.Iter k) v loans)
+iterator_row_answers e k verb.View loans = tt
+iterator_row_answers e k (verb.Get key) loans = tt
+iterator_row_answers e k (verb.Set key value) loans = tt
+iterator_row_answers e k (verb.Cast format shape) loans = tt
+iterator_row_answers e k (verb.Property name) loans = tt
+iterator_row_answers e k verb.ToBytes loans = tt
+iterator_row_answers e k verb.Release loans = tt
+iterator_row_answers e k verb.Len loans = tt
 
 byte_of_own_answers : (e : Exporter) (key : Value) → IsAnswered (byte_of_own e key)
 byte_of_own_answers e key = bind (index_in key) _ (λ index _. bind (place_in (length e.bytes) index) _ (λ place _. refl))
@@ -77,26 +79,26 @@ get_of_view_answers e k (value.Tuple parts) = item_of_view_answers e k (value.Tu
 get_of_view_answers e k (value.List parts) = item_of_view_answers e k (value.List parts)
 get_of_view_answers e k (value.Slices slices) = item_of_view_answers e k (value.Slices slices)
 
-row_answers : (e : Exporter) (s : Subject) (v : Verb) → IsAnswered (row e s v)
-row_answers e subject.Own verb.View = refl
-row_answers e (subject.View k) verb.View = bind (view_again e k) _ (λ v _. refl)
-row_answers e subject.Own (verb.Get key) = get_in_kind_answers e.kind (get_of_own e key) (get_of_own_answers e key)
-row_answers e (subject.View k) (verb.Get key) = get_of_view_answers e k key
-row_answers e subject.Own (verb.Set key value) =
+row_answers : (e : Exporter) (s : Subject) (v : Verb) (loans : List (ℕ × Loan)) → IsAnswered (row e s v loans)
+row_answers e subject.Own verb.View loans = refl
+row_answers e (subject.View k) verb.View loans = bind (view_again e k) _ (λ v _. refl)
+row_answers e subject.Own (verb.Get key) loans = get_in_kind_answers e.kind (get_of_own e key) (get_of_own_answers e key)
+row_answers e (subject.View k) (verb.Get key) loans = get_of_view_answers e k key
+row_answers e subject.Own (verb.Set key value) loans =
     set_in_kind_answers e.kind e (set_of_own e key value)
     (bind (index_in key) _ (λ index _. bind (byte_in value) _ (λ byte _. bind (place_in (length e.bytes) index) _ (λ place _. refl))))
-row_answers e (subject.View k) (verb.Set key value) = bind (set_target e k key value) _ (λ target _. refl)
-row_answers e subject.Own (verb.Cast format shape) = tt
-row_answers e (subject.View k) (verb.Cast format shape) = tt
-row_answers e subject.Own (verb.Property name) = tt
-row_answers e (subject.View k) (verb.Property name) = tt
-row_answers e subject.Own verb.ToBytes = refl
-row_answers e (subject.View k) verb.ToBytes = bind (live_view e k) _ (λ v _. refl)
-row_answers e subject.Own verb.Release = tt
-row_answers e (subject.View k) verb.Release = bind (released_in e k) _ (λ after _. refl)
-row_answers e subject.Own verb.Len = refl
-row_answers e (subject.View k) verb.Len = bind (live_view e k) _ (λ v _. refl)
-row_answers e (subject.Iter k) v = iterator_row_answers e k v
+row_answers e (subject.View k) (verb.Set key value) loans = bind (set_target e k key value) _ (λ target _. refl)
+row_answers e subject.Own (verb.Cast format shape) loans = tt
+row_answers e (subject.View k) (verb.Cast format shape) loans = tt
+row_answers e subject.Own (verb.Property name) loans = tt
+row_answers e (subject.View k) (verb.Property name) loans = tt
+row_answers e subject.Own verb.ToBytes loans = refl
+row_answers e (subject.View k) verb.ToBytes loans = bind (live_view e k) _ (λ v _. refl)
+row_answers e subject.Own verb.Release loans = tt
+row_answers e (subject.View k) verb.Release loans = bind (released_in e k) _ (λ after _. refl)
+row_answers e subject.Own verb.Len loans = refl
+row_answers e (subject.View k) verb.Len loans = bind (live_view e k) _ (λ v _. refl)
+row_answers e (subject.Iter k) v loans = iterator_row_answers e k v loans
 
 built_answers : (b : Bool) (r : Result (Exporter × LocalReply) Fault) → IsAnswered r → IsAnswered (if b then r else Err fault.UnknownName)
 built_answers true r after = after
@@ -107,5 +109,10 @@ settled_refusal : (e : Exporter) (r : Result (Exporter × LocalReply) Fault) (f 
 settled_refusal e (Ok after) f answers is = absurd (true≢false (sym answers ∙ ap is_answer is))
 settled_refusal e (Err g) f answers is = refl
 
-pub estep_refusal : (e : Exporter) (s : Subject) (v : Verb) (f : Fault) → (estep e s v).1 ≡ local.Refused f → (estep e s v).0 ≡ e
-estep_refusal e s v f is = settled_refusal e (answered e s v) f (built_answers (is_built s v) (row e s v) (row_answers e s v)) is
+answered_answers : (e : Exporter) (s : Subject) (v : Verb) (loans : List (ℕ × Loan)) → IsAnswered (answered e s v loans)
+answered_answers e s v loans =
+    built_answers (are_known (length e.views) loans (handles_of v)) (answered_if_built e s v loans)
+    (built_answers (is_built s v) (row e s v loans) (row_answers e s v loans))
+
+pub estep_refusal : (e : Exporter) (s : Subject) (v : Verb) (loans : List (ℕ × Loan)) (f : Fault) → (estep e s v loans).1 ≡ local.Refused f → (estep e s v loans).0 ≡ e
+estep_refusal e s v loans f is = settled_refusal e (answered e s v loans) f (answered_answers e s v loans) is

@@ -1,4 +1,5 @@
 pub mod Exporter
+pub mod Loans
 pub mod Handles
 pub mod Items
 pub mod Slices
