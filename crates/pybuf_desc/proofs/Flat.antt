@@ -1,5 +1,5 @@
 -- One dimension of items one after the other is valid.
-use Rattle.std.proofs.Common.{◌≡◌, ◌≢◌, ℕ, zero, suc, ◌+◌, ◌*◌, ◌/◌, ◌%◌, ◌^◌, ◌<◌, ℤ, pos, ◌+ℤ◌, ◌≤ℤ◌, lit≤, Bool, List, [], ◌∷◌, map, All, refl, ap, ap₂, codes, sym, ◌∙◌, subst, arith, div-add-mod', mul-one}
+use Rattle.std.proofs.Common.{◌≡◌, ◌≢◌, ℕ, zero, suc, ◌+◌, ◌*◌, ◌/◌, ◌%◌, ◌^◌, ◌<◌, ◌≤◌, ℤ, pos, ◌+ℤ◌, ◌≤ℤ◌, lit≤, Bool, List, [], ◌∷◌, map, All, refl, ap, ap₂, codes, sym, ◌∙◌, subst, arith, div-add-mod', mul-one, mul-pos, zero-lt-suc}
 use Rattle.std.proofs.lemmas.Int.{ints}
 use Rattle.std.specs.List.{range_with_len}
 use Rattle.std.proofs.lemmas.List.Elements.{All-nil, All-cons, All-from_recursion}
@@ -18,21 +18,25 @@ extent_flat : (size count len : ℕ) → count * size ≡ len → size < 2 ^ 63 
 extent_flat size zero len e f g = subst (λ n. n < 2 ^ 63) (sym (mul-one size)) f
 extent_flat size (suc n) len e f g = subst (λ n. n < 2 ^ 63) (let z : len ≡ size * (suc n * 1) = omega (arith, e) in z) g
 
-reach_back : (n : ℕ) → pos (n * 0 + 0) ≤ℤ pos 0
-reach_back n = omega (arith, ints)
+reach_back : (n start : ℕ) → pos (n * 0 + 0) ≤ℤ pos start
+reach_back n start = omega (arith, ints)
 
-reach_forth : (size n len : ℕ) → suc n * size ≡ len → (pos 0 +ℤ pos (n * size + 0 + size)) ≤ℤ pos len
-reach_forth size n len e = omega (arith, ints, e)
+reach_forth : (size n len start room : ℕ) → suc n * size ≡ len → start + len ≤ room → (pos start +ℤ pos (n * size + 0 + size)) ≤ℤ pos room
+reach_forth size n len start room e h = omega (arith, ints, e, h)
 
-inside_flat : (size count len : ℕ) → count * size ≡ len → All (IsInside size len) (places ((count, pos size, pos 0) ∷ []) (pos 0))
-inside_flat size zero len e = All-nil (IsInside size len)
-inside_flat size (suc n) len e =
-    All-from_recursion (IsInside size len) (places ((suc n, pos size, pos 0) ∷ []) (pos 0))
-    (inside_from_reach size len ((suc n, pos size, pos 0) ∷ []) (pos 0)
-    (record { least = reach_back n; greatest = reach_forth size n len e }))
+some_bytes : (size n len : ℕ) → 0 < size → suc n * size ≡ len → 0 < len
+some_bytes size n len some e = let more : 0 < suc n * size = mul-pos (zero-lt-suc n) some in omega (arith, e, more)
 
-pub valid_flat : (format : List ℕ) (size count len : ℕ) (readonly : Bool) → 0 < size → size < 2 ^ 63 → count * size ≡ len → len < 2 ^ 63 → IsValid (flat format size count readonly) 0 len
-valid_flat format size count len readonly some fits e len_fits =
+inside_flat : (size count len start room : ℕ) → 0 < size → count * size ≡ len → (0 < len → start + len ≤ room) → All (IsInside size room) (places ((count, pos size, pos 0) ∷ []) (pos start))
+inside_flat size zero len start room some e h = All-nil (IsInside size room)
+inside_flat size (suc n) len start room some e h =
+    All-from_recursion (IsInside size room) (places ((suc n, pos size, pos 0) ∷ []) (pos start))
+    (inside_from_reach size room ((suc n, pos size, pos 0) ∷ []) (pos start)
+    (record { least = reach_back n start; greatest = reach_forth size n len start room e (h (some_bytes size n len some e)) }))
+
+-- where the bytes, if there are any, lie inside from this start on
+pub valid_flat_at : (format : List ℕ) (size count len start room : ℕ) (readonly : Bool) → 0 < size → size < 2 ^ 63 → count * size ≡ len → len < 2 ^ 63 → (0 < len → start + len ≤ room) → IsValid (flat format size count readonly) start room
+valid_flat_at format size count len start room readonly some fits e len_fits inside =
     record {
       some_size = some;
       size_fits = fits;
@@ -42,8 +46,12 @@ valid_flat format size count len readonly some fits e len_fits =
       later_entries = All-nil (λ dim. 0 < dim.0);
       extent_fits = extent_flat size count len e fits len_fits;
       len = (let z : size * (count * 1) ≡ count * size = omega arith in z);
-      inside = inside_flat size count len e;
+      inside = inside_flat size count len start room some e inside;
     }
+
+pub valid_flat : (format : List ℕ) (size count len : ℕ) (readonly : Bool) → 0 < size → size < 2 ^ 63 → count * size ≡ len → len < 2 ^ 63 → IsValid (flat format size count readonly) 0 len
+valid_flat format size count len readonly some fits e len_fits =
+    valid_flat_at format size count len 0 len readonly some fits e len_fits (λ _. omega arith)
 
 pub whole_items : (len size : ℕ) → 0 < size → len % size ≡ 0 → len / size * size ≡ len
 whole_items len size some e = let d = div-add-mod' len size in omega (arith, d, e)

@@ -103,7 +103,7 @@ item_in_laid block size each (suc n) (suc i) k p t place h g e =
     ∙ item_in_laid block size each n i k (p +ℤ t) t place (omega arith) g
     (subst (λ q. slice_get (block q) k ≡ Some place) (let z : p +ℤ pos (suc i) *ℤ t ≡ p +ℤ t +ℤ pos i *ℤ t = omega (arith, ints, next_multiple' i t) in z) e)
 
-number_below : (indices : List ℕ) (dims : List (ℕ × ℤ × ℤ)) → AreIndices indices dims → number_of_item indices dims < product (shape_of dims)
+pub number_below : (indices : List ℕ) (dims : List (ℕ × ℤ × ℤ)) → AreIndices indices dims → number_of_item indices dims < product (shape_of dims)
 number_below [] [] h = omega arith
 number_below [] (dim ∷ dims) h = absurd h
 number_below (i ∷ indices) [] h = absurd h

@@ -15,6 +15,7 @@ pub mod SliceValidity
 pub mod SliceMade
 pub mod SliceBits
 pub mod Lines
+pub mod Rows
 pub mod WalkLemmas
-pub mod Numbers
 pub mod SegmentFacts
+pub mod CastFacts

@@ -1,5 +1,5 @@
 -- What the ranges of a walk are: items or rows, and the bytes of the items in order.
-use Rattle.std.proofs.Common.{◌≡◌, ℕ, zero, suc, ◌+◌, ◌-◌, ◌*◌, ◌/◌, ◌^◌, ◌<◌, ◌≤◌, ℤ, pos, negsuc, ◌+ℤ◌, ◌≤ℤ◌, nat_abs, Bool, true, false, cond, ◌&&◌, eqb, List, [], ◌∷◌, ◌++◌, length, take, map, flat_map, refl, ap, ap₂, sym, ◌∙◌, subst, arith, Some, None, Option, slice_get, length-append, take_at, IsSomeAnd, IsTrue, ◌↔◌, mul_comm, mul_assoc, lit<, le-mul_of_pos_right}
+use Rattle.std.proofs.Common.{◌≡◌, ℕ, zero, suc, ◌+◌, ◌-◌, ◌*◌, ◌^◌, ◌<◌, ◌≤◌, ℤ, pos, negsuc, ◌+ℤ◌, ◌≤ℤ◌, nat_abs, Bool, true, false, cond, ◌&&◌, eqb, List, [], ◌∷◌, ◌++◌, length, take, map, flat_map, refl, ap, ap₂, sym, ◌∙◌, subst, arith, Some, None, Option, slice_get, length-append, take_at, IsSomeAnd, IsTrue, ◌↔◌, mul_assoc, lit<, le-mul_of_pos_right}
 use Rattle.std.proofs.lemmas.Int.{ints}
 use Rattle.std.proofs.lemmas.Grind.{flat_map-append}
 use Rattle.std.proofs.lemmas.Bool.Decides.{Decides-int_eq}
@@ -11,13 +11,12 @@ use Rattle.std.specs.declared.ops.Range.{Range}
 use Rattle.pybuf_desc.specs.Descriptor.{Descriptor, shape_of, product}
 use Rattle.pybuf_desc.specs.Places.{places}
 use Rattle.pybuf_desc.specs.Valid.{IsInside, IsPlaced}
-use Rattle.pybuf_desc.specs.Segments.{line, range_at, HasPlaces, IsWalk, places_left, ranges_of, item_ranges, row_ranges, is_row_contiguous, row_size, last_dim, bytes_of, item_bytes}
+use Rattle.pybuf_desc.specs.Segments.{line, range_at, HasPlaces, AreRows, row_places, ranges_of, item_ranges, row_ranges, is_row_contiguous, row_size, last_dim, bytes_of, item_bytes}
 use Rattle.pybuf_desc.proofs.Steps.{length-places}
 use Rattle.pybuf_desc.proofs.Inside.{ByRec-left, ByRec-right}
 use Rattle.pybuf_desc.proofs.Products.{AreNonzero, product-pos}
 use Rattle.pybuf_desc.proofs.Track.{entries_fit}
 use Rattle.pybuf_desc.proofs.Strides.{bytes_fit}
-use Rattle.pybuf_desc.proofs.SliceFacts.{block_size}
 use Rattle.pybuf_desc.proofs.Lines.{places-rows}
 
 -- the most that a place and its bytes can reach
@@ -86,29 +85,24 @@ lines_inside d start rows last r =
     subst (AllByRecursion (IsInside d.itemsize top)) (ap (λ ds. places ds (pos start)) r.dims ∙ places-rows rows last (pos start))
     (wider d.itemsize r.placed.room (places d.dims (pos start)) r.placed.room_fits (recursion_from_All (IsInside d.itemsize r.placed.room) (places d.dims (pos start)) r.placed.valid.inside))
 
-rows_placed : (d : Descriptor) (start : ℕ) (rows : List (ℕ × ℤ × ℤ)) (last : ℕ × ℤ × ℤ) → IsRows d start rows last → HasPlaces rows start
+rows_placed : (d : Descriptor) (start : ℕ) (rows : List (ℕ × ℤ × ℤ)) (last : ℕ × ℤ × ℤ) → IsRows d start rows last → HasPlaces rows (pos start)
 rows_placed d start rows last r =
     record {
       entries = both rows (last_some d start rows last r).0 (last_fits d start rows last r).0;
       inside = row_starts d.itemsize last.0 last.1 (places rows (pos start)) (last_some d start rows last r).1 (lines_inside d start rows last r);
     }
 
--- how many rows there are
-pub row_count_is : (d : Descriptor) (start : ℕ) (rows : List (ℕ × ℤ × ℤ)) (last : ℕ × ℤ × ℤ) → IsRows d start rows last → d.len / d.itemsize / last.0 ≡ product (shape_of rows)
-row_count_is d start rows last r =
-    let whole : d.len ≡ d.itemsize * product (shape_of d.dims) = sym r.placed.valid.len in
-    let items : d.len / d.itemsize ≡ product (shape_of d.dims) = block_size d.itemsize (product (shape_of d.dims)) d.len whole r.placed.valid.some_size in
-    let split : product (shape_of d.dims) ≡ last.0 * product (shape_of rows) = ap (λ ds. product (shape_of ds)) r.dims ∙ product-rows rows last ∙ mul_comm (product (shape_of rows)) last.0 in
-    block_size last.0 (product (shape_of rows)) (d.len / d.itemsize) (items ∙ split) (last_some d start rows last r).1
+rows_few : (d : Descriptor) (start : ℕ) (rows : List (ℕ × ℤ × ℤ)) (last : ℕ × ℤ × ℤ) → IsRows d start rows last → length rows ≤ 64
+rows_few d start rows last r =
+    let all : length (rows ++ last ∷ []) ≤ 64 = subst (λ (ds : List (ℕ × ℤ × ℤ)). length ds ≤ 64) r.dims r.placed.valid.few_dimensions in
+    let l = length-append rows (last ∷ []) in omega (arith, all, l)
 
-pub walk_of_items : (d : Descriptor) (start : ℕ) (rows : List (ℕ × ℤ × ℤ)) (last : ℕ × ℤ × ℤ) → IsRows d start rows last → IsWalk rows start 0 (d.len / d.itemsize / last.0) 0 last.1 0 last.0 d.itemsize
+pub walk_of_items : (d : Descriptor) (start : ℕ) (rows : List (ℕ × ℤ × ℤ)) (last : ℕ × ℤ × ℤ) → IsRows d start rows last → AreRows rows start last.1 last.0 d.itemsize
 walk_of_items d start rows last r =
     record {
-      rows_placed = rows_placed d start rows last r;
-      count = row_count_is d start rows last r;
-      row_within = omega arith;
-      row_some = λ _. (last_some d start rows last r).1;
-      row_fits = (last_fits d start rows last r).1;
+      few = rows_few d start rows last r;
+      placed = rows_placed d start rows last r;
+      row_some = (last_some d start rows last r).1;
       inside = lines_inside d start rows last r;
     }
 
@@ -116,14 +110,12 @@ ones : (t : ℤ) (ps : List ℤ) → flat_map (λ p. line p t 1) ps ≡ ps
 ones t [] = refl
 ones t (p ∷ ps) = ap (λ (xs : List ℤ). p ∷ xs) (ones t ps)
 
-pub walk_of_rows : (d : Descriptor) (start : ℕ) (rows : List (ℕ × ℤ × ℤ)) (last : ℕ × ℤ × ℤ) → IsRows d start rows last → last.1 ≡ pos d.itemsize → IsWalk rows start 0 (d.len / d.itemsize / last.0) 0 (pos 0) 0 1 (last.0 * d.itemsize)
+pub walk_of_rows : (d : Descriptor) (start : ℕ) (rows : List (ℕ × ℤ × ℤ)) (last : ℕ × ℤ × ℤ) → IsRows d start rows last → last.1 ≡ pos d.itemsize → AreRows rows start (pos 0) 1 (last.0 * d.itemsize)
 walk_of_rows d start rows last r gap =
     record {
-      rows_placed = rows_placed d start rows last r;
-      count = row_count_is d start rows last r;
-      row_within = omega arith;
-      row_some = λ _. lit< tt;
-      row_fits = lit< tt;
+      few = rows_few d start rows last r;
+      placed = rows_placed d start rows last r;
+      row_some = lit< tt;
       inside = subst (AllByRecursion (IsInside (last.0 * d.itemsize) top)) (sym (ones (pos 0) (places rows (pos start))))
           (rows_whole d.itemsize last.0 (places rows (pos start)) (last_some d start rows last r).1
           (subst (λ t. AllByRecursion (IsInside d.itemsize top) (flat_map (λ p. line p t last.0) (places rows (pos start)))) gap (lines_inside d start rows last r)));
@@ -140,7 +132,7 @@ row_bytes_fit d start rows last r =
 -- ---- the ranges
 
 pub ranges_of_items : (d : Descriptor) (start : ℕ) (rows : List (ℕ × ℤ × ℤ)) (last : ℕ × ℤ × ℤ) → IsRows d start rows last
-    → map (range_at d.itemsize) (places_left rows start 0 0 last.1 0 last.0) ≡ item_ranges d (pos start)
+    → map (range_at d.itemsize) (row_places rows start last.1 last.0) ≡ item_ranges d (pos start)
 ranges_of_items d start rows last r =
     ap (λ (xs : List ℤ). map (range_at d.itemsize) xs) (sym (ap (λ ds. places ds (pos start)) r.dims ∙ places-rows rows last (pos start)))
 
@@ -161,7 +153,7 @@ not_none zero xs h = absurd (omega arith)
 not_none (suc n) xs h = grind arith
 
 pub ranges_of_rows : (d : Descriptor) (start : ℕ) (rows : List (ℕ × ℤ × ℤ)) (last : ℕ × ℤ × ℤ) → IsRows d start rows last
-    → map (range_at (last.0 * d.itemsize)) (places_left rows start 0 0 (pos 0) 0 1) ≡ row_ranges d (pos start)
+    → map (range_at (last.0 * d.itemsize)) (row_places rows start (pos 0) 1) ≡ row_ranges d (pos start)
 ranges_of_rows d start rows last r =
     ap (λ (xs : List ℤ). map (range_at (last.0 * d.itemsize)) xs) (ones (pos 0) (places rows (pos start)))
     ∙ sym (not_none (product (shape_of d.dims)) (map (range_at (row_size d.itemsize (last_dim d.dims))) (places (take (length d.dims - 1) d.dims) (pos start))) (product-pos d.dims r.some)
@@ -250,7 +242,7 @@ rows_bytes size n (p ∷ ps) all =
     ∙ sym (flat_map-append (λ q. range_with_len (nat_abs q) size) (line p (pos size) n) (flat_map (λ q. line q (pos size) n) ps))
 
 pub bytes_of_rows : (d : Descriptor) (start : ℕ) (rows : List (ℕ × ℤ × ℤ)) (last : ℕ × ℤ × ℤ) → IsRows d start rows last → last.1 ≡ pos d.itemsize
-    → flat_map bytes_of (map (range_at (last.0 * d.itemsize)) (places_left rows start 0 0 (pos 0) 0 1)) ≡ item_bytes d (pos start)
+    → flat_map bytes_of (map (range_at (last.0 * d.itemsize)) (row_places rows start (pos 0) 1)) ≡ item_bytes d (pos start)
 bytes_of_rows d start rows last r gap =
     ap (λ (xs : List ℤ). flat_map bytes_of (map (range_at (last.0 * d.itemsize)) xs)) (ones (pos 0) (places rows (pos start)))
     ∙ rows_bytes d.itemsize last.0 (places rows (pos start)) (rows_placed d start rows last r).inside
@@ -259,23 +251,21 @@ bytes_of_rows d start rows last r gap =
 
 -- ---- with the numbers as the code reads them
 
-pub walk_items : (d : Descriptor) (start : ℕ) (rows : List (ℕ × ℤ × ℤ)) (last : ℕ × ℤ × ℤ) (len size : ℕ) (stride : ℤ) → IsRows d start rows last → len ≡ d.len → size ≡ d.itemsize → stride ≡ last.1
-    → IsWalk rows start 0 (len / size / last.0) 0 stride 0 last.0 size
-walk_items d start rows last len size stride r el es et =
-    subst (λ n. IsWalk rows start 0 (n / size / last.0) 0 stride 0 last.0 size) (sym el)
-    (subst (λ n. IsWalk rows start 0 (d.len / n / last.0) 0 stride 0 last.0 n) (sym es)
-    (subst (λ t. IsWalk rows start 0 (d.len / d.itemsize / last.0) 0 t 0 last.0 d.itemsize) (sym et) (walk_of_items d start rows last r)))
+pub walk_items : (d : Descriptor) (start : ℕ) (rows : List (ℕ × ℤ × ℤ)) (last : ℕ × ℤ × ℤ) (size : ℕ) (stride : ℤ) → IsRows d start rows last → size ≡ d.itemsize → stride ≡ last.1
+    → AreRows rows start stride last.0 size
+walk_items d start rows last size stride r es et =
+    subst (λ n. AreRows rows start stride last.0 n) (sym es)
+    (subst (λ t. AreRows rows start t last.0 d.itemsize) (sym et) (walk_of_items d start rows last r))
 
 pub ranges_items : (d : Descriptor) (start : ℕ) (rows : List (ℕ × ℤ × ℤ)) (last : ℕ × ℤ × ℤ) (size : ℕ) (stride : ℤ) (result : List (Range ℕ)) → IsRows d start rows last → size ≡ d.itemsize → stride ≡ last.1
-    → result ≡ map (range_at size) (places_left rows start 0 0 stride 0 last.0) → result ≡ item_ranges d (pos start)
+    → result ≡ map (range_at size) (row_places rows start stride last.0) → result ≡ item_ranges d (pos start)
 ranges_items d start rows last size stride result r es et e =
-    e ∙ ap₂ (λ n t. map (range_at n) (places_left rows start 0 0 t 0 last.0)) es et ∙ ranges_of_items d start rows last r
+    e ∙ ap₂ (λ n t. map (range_at n) (row_places rows start t last.0)) es et ∙ ranges_of_items d start rows last r
 
-pub walk_rows : (d : Descriptor) (start : ℕ) (rows : List (ℕ × ℤ × ℤ)) (last : ℕ × ℤ × ℤ) (len size : ℕ) → IsRows d start rows last → len ≡ d.len → size ≡ d.itemsize → last.1 ≡ pos d.itemsize
-    → IsWalk rows start 0 (len / size / last.0) 0 (pos 0) 0 1 (last.0 * size)
-walk_rows d start rows last len size r el es gap =
-    subst (λ n. IsWalk rows start 0 (n / size / last.0) 0 (pos 0) 0 1 (last.0 * size)) (sym el)
-    (subst (λ n. IsWalk rows start 0 (d.len / n / last.0) 0 (pos 0) 0 1 (last.0 * n)) (sym es) (walk_of_rows d start rows last r gap))
+pub walk_rows : (d : Descriptor) (start : ℕ) (rows : List (ℕ × ℤ × ℤ)) (last : ℕ × ℤ × ℤ) (size : ℕ) → IsRows d start rows last → size ≡ d.itemsize → last.1 ≡ pos d.itemsize
+    → AreRows rows start (pos 0) 1 (last.0 * size)
+walk_rows d start rows last size r es gap =
+    subst (λ n. AreRows rows start (pos 0) 1 (last.0 * n)) (sym es) (walk_of_rows d start rows last r gap)
 
 pub last_is : (d : Descriptor) (start : ℕ) (rows : List (ℕ × ℤ × ℤ)) (last : ℕ × ℤ × ℤ) → IsRows d start rows last → last_dim d.dims ≡ Some last
 last_is d start rows last r = ap last_dim r.dims ∙ last_of rows last
@@ -283,6 +273,3 @@ last_is d start rows last r = ap last_dim r.dims ∙ last_of rows last
 pub gap_is : (size : ℕ) (o : Option (ℕ × ℤ × ℤ)) (last : ℕ × ℤ × ℤ) → o ≡ Some last → IsSomeAnd o (λ dim. (dim.1 ≡ pos size) × (dim.2 ≡ pos 0)) → last.1 ≡ pos size
 gap_is size None last e h = absurd h
 gap_is size (Some dim) last e h = let same : dim ≡ last = cc in ap (λ (x : ℕ × ℤ × ℤ). x.1) (sym same) ∙ h.0
-
-pub last_entry_some : (d : Descriptor) (start : ℕ) (rows : List (ℕ × ℤ × ℤ)) (last : ℕ × ℤ × ℤ) → IsRows d start rows last → 0 < last.0
-last_entry_some d start rows last r = (last_some d start rows last r).1

@@ -71,7 +71,7 @@ map-append : (xs ys : List ℕ) → map pos (xs ++ ys) ≡ map pos xs ++ map pos
 map-append [] ys = refl
 map-append (x ∷ xs) ys = ap (λ (zs : List ℤ). pos x ∷ zs) (map-append xs ys)
 
-length-map : (xs : List ℕ) → length (map pos xs) ≡ length xs
+pub length-map : (xs : List ℕ) → length (map pos xs) ≡ length xs
 length-map [] = refl
 length-map (x ∷ xs) = ap suc (length-map xs)
 

@@ -1,8 +1,9 @@
 -- An item by its indices.
-use Rattle.std.specs.Prelude.{ℕ, ◌+◌, ◌-◌, ◌*◌, ◌<◌, suc, ℤ, pos, negsuc, ◌+ℤ◌, ◌*ℤ◌, List, [], ◌∷◌, Result, Ok, Err, nat_lt, if◌then◌else◌, ⊤}
+use Rattle.std.specs.Prelude.{ℕ, ◌+◌, ◌*◌, ◌<◌, ℤ, pos, ◌+ℤ◌, ◌*ℤ◌, List, [], ◌∷◌, Result, Ok, ok_or, ⊤}
 use Rattle.pybuf_value.specs.declared.faults.Fault.{Fault}
 use Rattle.pybuf_value.specs.declared.faults.Fault.TheVariants as fault
 use Rattle.pybuf_value.specs.Refusing.{◌>>=◌}
+use Rattle.pybuf_slice.specs.Places.{item_place}
 use Rattle.pybuf_desc.specs.Descriptor.{shape_of, product}
 
 -- each index is below its dimension's number of entries, and each dimension has one
@@ -22,15 +23,14 @@ number_of_item (index ∷ indices) (dim ∷ dims) =
     index * product (shape_of dims) + number_of_item indices dims
 number_of_item _ _ = 0
 
--- a negative index counts from the end
-abbrev pub wrapped : ℕ → ℤ → Result ℕ Fault
-wrapped n (pos index) = if nat_lt index n then Ok index else Err fault.Index
-wrapped n (negsuc index) = if nat_lt index n then Ok (n - suc index) else Err fault.Index
+-- the place that an index names, where a negative one counts from the end
+abbrev pub place_of_index : ℕ → ℤ → Result ℕ Fault
+place_of_index n index = ok_or (item_place n index) fault.Index
 
--- the sum of index times stride, each index wrapped
+-- the sum of place times stride, where each index names a place
 abbrev pub position_of : List ℤ → List (ℕ × ℤ × ℤ) → Result ℤ Fault
 position_of (index ∷ indices) (dim ∷ dims) = do
-  first ← wrapped dim.0 index
+  first ← place_of_index dim.0 index
   others ← position_of indices dims
   Ok (pos first *ℤ dim.1 +ℤ others)
 position_of _ _ = Ok (pos 0)

@@ -1,10 +1,11 @@
 -- The bytes of the items as ranges.
-use Rattle.std.specs.Prelude.{◌≡◌, ℕ, zero, suc, ◌+◌, ◌-◌, ◌*◌, Bool, false, ◌&&◌, ◌==◌, ℤ, pos, ◌+ℤ◌, nat_abs, List, [], ◌∷◌, ◌++◌, length, take, drop, ◌^◌, ◌<◌, ◌≤◌, map, Option, None, Some, slice_get, if◌then◌else◌}
+use Rattle.std.specs.Prelude.{◌≡◌, ℕ, zero, suc, ◌+◌, ◌-◌, ◌*◌, Bool, true, false, ◌&&◌, ◌==◌, ℤ, pos, ◌+ℤ◌, ◌-ℤ◌, nat_abs, List, [], ◌∷◌, ◌++◌, length, take, drop, ◌^◌, ◌<◌, ◌≤◌, map, Option, None, Some, slice_get, if◌then◌else◌, ⊤}
 use Rattle.std.specs.Ordering.{int_eq}
 use Rattle.std.specs.List.{flat_map, range_with_len, AllByRecursion}
 use Rattle.std.specs.declared.ops.Range.{Range}
 use Rattle.pybuf_desc.specs.Descriptor.{Descriptor, shape_of, product}
 use Rattle.pybuf_desc.specs.Places.{places}
+use Rattle.pybuf_desc.specs.Positions.{offset_of, number_of_item}
 use Rattle.pybuf_desc.specs.Valid.{IsInside}
 
 -- so many bytes from a place on
@@ -55,20 +56,48 @@ line place stride zero = []
 line place stride (suc n) = place ∷ line (place +ℤ stride) stride n
 
 -- Each place of the dimensions is a number that fits `isize`, and so are their entries.
-pub record HasPlaces (dims : List (ℕ × ℤ × ℤ)) (start : ℕ) : Type 0 where
+pub record HasPlaces (dims : List (ℕ × ℤ × ℤ)) (start : ℤ) : Type 0 where
   pub entries : AllByRecursion (λ dim. (0 < dim.0) × (dim.0 < 2 ^ 63)) dims
-  pub inside : AllByRecursion (IsInside 0 9223372036854775807) (places dims (pos start))
+  pub inside : AllByRecursion (IsInside 0 9223372036854775807) (places dims start)
+
+-- an index for each of the dimensions, each below its dimension's number of entries; more may follow
+abbrev pub AreWithin : List ℕ → List (ℕ × ℤ × ℤ) → Type 0
+AreWithin indices [] = ⊤
+AreWithin [] (dim ∷ dims) = ⊥
+AreWithin (index ∷ indices) (dim ∷ dims) = (index < dim.0) × AreWithin indices dims
+
+-- where the dimensions start, if the item at these indices lies at `place`
+abbrev pub start_from : List (ℕ × ℤ × ℤ) → List ℕ → ℕ → ℤ
+start_from dims indices place = pos place -ℤ offset_of indices dims
+
+-- the row at these indices lies at `place`
+pub record IsRow (rows : List (ℕ × ℤ × ℤ)) (indices : List ℕ) (place : ℕ) : Type 0 where
+  pub within : AreWithin indices rows
+  pub placed : HasPlaces rows (start_from rows indices place)
+
+-- the places of the rows from the one at these indices on, or of none
+abbrev pub rows_left : List (ℕ × ℤ × ℤ) → List ℕ → ℕ → Bool → List ℤ
+rows_left rows indices place false = []
+rows_left rows indices place true =
+    drop (number_of_item indices rows) (places rows (start_from rows indices place))
 
 -- what a walk has left: the rest of a row, and the rows after it
-abbrev pub places_left : List (ℕ × ℤ × ℤ) → ℕ → ℕ → ℕ → ℤ → ℕ → ℕ → List ℤ
-places_left rows start row place stride left row_len =
-    line (pos place) stride left ++ flat_map (λ p. line p stride row_len) (drop row (places rows (pos start)))
+abbrev pub places_left : ℕ → ℤ → ℕ → ℕ → List ℤ → List ℤ
+places_left place stride left row_len rows = line (pos place) stride left ++ flat_map (λ p. line p stride row_len) rows
 
 -- a walk stays inside what `isize` can tell
-pub record IsWalk (rows : List (ℕ × ℤ × ℤ)) (start row row_count place : ℕ) (stride : ℤ) (left row_len size : ℕ) : Type 0 where
-  pub rows_placed : HasPlaces rows start
-  pub count : row_count ≡ product (shape_of rows)
-  pub row_within : row ≤ row_count
-  pub row_some : row < row_count → 0 < row_len
-  pub row_fits : row_len < 2 ^ 63
-  pub inside : AllByRecursion (IsInside size 9223372036854775807) (places_left rows start row place stride left row_len)
+pub record IsWalk (rows : List (ℕ × ℤ × ℤ)) (indices : List ℕ) (row_place : ℕ) (has_row : Bool) (place : ℕ) (stride : ℤ) (left row_len size : ℕ) : Type 0 where
+  pub row : has_row ≡ true → IsRow rows indices row_place
+  pub row_some : has_row ≡ true → 0 < row_len
+  pub inside : AllByRecursion (IsInside size 9223372036854775807) (places_left place stride left row_len (rows_left rows indices row_place has_row))
+
+-- the places of a walk over whole rows
+abbrev pub row_places : List (ℕ × ℤ × ℤ) → ℕ → ℤ → ℕ → List ℤ
+row_places rows start stride row_len = flat_map (λ p. line p stride row_len) (places rows (pos start))
+
+-- rows that can be walked from the first on
+pub record AreRows (rows : List (ℕ × ℤ × ℤ)) (start : ℕ) (stride : ℤ) (row_len size : ℕ) : Type 0 where
+  pub few : length rows ≤ 64
+  pub placed : HasPlaces rows (pos start)
+  pub row_some : 0 < row_len
+  pub inside : AllByRecursion (IsInside size 9223372036854775807) (row_places rows start stride row_len)

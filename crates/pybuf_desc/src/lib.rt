@@ -1,6 +1,7 @@
 //! Descriptors of buffers: shape, strides and a start as a value that stands for a list of places.
 #![tactic(auto)]
 
+mod casts;
 mod checks;
 mod contiguous;
 mod descriptor;

@@ -1,34 +1,56 @@
 //! The walk over the bytes of the items.
-ghost use Rattle.std.specs.Prelude.{◌≡◌, ◌*◌, ◌^◌, ◌<◌, ◌≤◌, ℤ, pos, ◌+ℤ◌, ◌≤ℤ◌, Some, slice_get, IsTrue, ◌↔◌, Bool, [], map, length};
+ghost use Rattle.std.specs.Prelude.{◌≡◌, ◌*◌, ◌^◌, ◌<◌, ℤ, pos, ◌+ℤ◌, ◌-ℤ◌, ◌*ℤ◌, ◌≤ℤ◌, ◌<ℤ◌, FitsSigned, true, [], ◌∷◌, map, replicate};
+ghost use Rattle.std.specs.Int.{w64};
 ghost use Rattle.std.specs.Iterator.{YieldsFirst, item_count};
 ghost use Rattle.std.specs.List.{flat_map};
-ghost use Rattle.pybuf_desc.specs.Descriptor.{shape_of, product};
-ghost use Rattle.pybuf_desc.specs.Places.{places};
 ghost use Rattle.pybuf_desc.specs.Valid.{IsPlaced};
-ghost use Rattle.pybuf_desc.specs.Segments.{HasPlaces, IsWalk, places_left, range_at, ranges_of, item_bytes, bytes_of};
+ghost use Rattle.pybuf_desc.specs.Segments.{IsRow, AreRows, rows_left, row_places, range_at, ranges_of, item_bytes, bytes_of};
 
 use crate::checks::has_zero;
 use crate::descriptor::BufferDescriptor;
 use std::marker::Model;
 use std::ops::Range;
 
-/// The place of the item with a number, row-major. `count` is how many items there are.
-fn place_of(dims: &[(usize, isize, isize)], start: usize, number: usize, count: usize) -> usize
-    requires placed { HasPlaces dims.now start }
-    requires count { count ≡ product (shape_of dims.now) }
-    requires within { number < count }
-    ensures { slice_get (places dims.now (pos start)) number ≡ Some (pos result) }
+/// The place so many strides before another.
+fn place_before(place: usize, count: usize, stride: isize) -> usize
+    requires place_fits { place < 2 ^ 63 }
+    requires count_fits { count < 2 ^ 63 }
+    requires product_fits { FitsSigned w64 (pos count *ℤ stride) }
+    requires low { pos 0 ≤ℤ (pos place -ℤ pos count *ℤ stride) }
+    requires high { (pos place -ℤ pos count *ℤ stride) <ℤ pos (2 ^ 63) }
+    ensures { pos result ≡ pos place -ℤ pos count *ℤ stride }
 {
-    let mut size = count;
-    let mut rest = number;
-    let mut place = start as isize;
-    for k in 0..dims.len() {
-        size /= dims[k].0;
-        let index = rest / size;
-        rest %= size;
-        place += index as isize * dims[k].1;
+    (place as isize - count as isize * stride) as usize
+}
+
+/// Sets the indices to those of the next row, row-major, and gives its place. After the last row
+/// comes the first again, and then the answer is false.
+///
+/// The last index goes up by one. Where it reaches its dimension's entries it goes back to 0, and
+/// the one before it goes up in its place.
+fn next_row(
+    rows: &[(usize, isize, isize)],
+    indices: &mut [usize; 64],
+    place: usize,
+) -> (usize, bool)
+    requires { IsRow rows.now indices.old place }
+    ensures row { IsRow rows.now indices.new result.0 }
+    ensures left { rows_left rows.now indices.old place true ≡ pos place ∷ rows_left rows.now indices.new result.0 result.1 }
+{
+    let mut place = place;
+    let mut k = rows.len();
+    while k > 0 {
+        k -= 1;
+        let index = indices[k];
+        let stride = rows[k].1;
+        if index + 1 < rows[k].0 {
+            indices[k] = index + 1;
+            return (next_place(place, stride, 1), true);
+        }
+        indices[k] = 0;
+        place = place_before(place, index, stride);
     }
-    place as usize
+    (place, false)
 }
 
 /// The place a stride after another, where there is a next one.
@@ -47,15 +69,15 @@ fn next_place(place: usize, stride: isize, left: usize) -> usize
 
 /// The ranges of bytes that a walk over the items has left. A clause sees the list of them.
 ///
-/// The rows, which the dimensions before the last lead to, are walked one after the other, and
-/// each in equal steps: a range costs one addition, and the place of a row's first item a division
-/// for each dimension.
+/// The rows, which the dimensions before the last lead to, are walked one after the other, by an
+/// index for each of these dimensions, and each row in equal steps. A range costs one addition. The
+/// next row costs one more, and a step back for each index that returns to 0.
 #[derive(Debug, Drop)]
 pub struct Segments<'a> {
     rows: &'a [(usize, isize, isize)],
-    start: usize,
-    row: usize,
-    row_count: usize,
+    indices: [usize; 64],
+    row_place: usize,
+    has_row: bool,
     place: usize,
     stride: isize,
     left: usize,
@@ -66,13 +88,13 @@ pub struct Segments<'a> {
 impl<'a> Model for Segments<'a> {
     ghost use Rattle.std.specs.Prelude.{List, ℕ, map};
     ghost use Rattle.std.specs.declared.ops.Range.{Range};
-    ghost use Rattle.pybuf_desc.specs.Segments.{range_at, places_left, IsWalk};
+    ghost use Rattle.pybuf_desc.specs.Segments.{range_at, rows_left, places_left, IsWalk};
 
     ghost Value = { List (Range ℕ) };
 
-    ghost view = { λ s. map (range_at s.size) (places_left s.rows.now s.start s.row s.place s.stride s.left s.row_len) };
+    ghost view = { λ s. map (range_at s.size) (places_left s.place s.stride s.left s.row_len (rows_left s.rows.now s.indices s.row_place s.has_row)) };
 
-    ghost invariant = { λ s. IsWalk s.rows.now s.start s.row s.row_count s.place s.stride s.left s.row_len s.size };
+    ghost invariant = { λ s. IsWalk s.rows.now s.indices s.row_place s.has_row s.place s.stride s.left s.row_len s.size };
 }
 
 impl<'a> Iterator for Segments<'a> {
@@ -84,12 +106,14 @@ impl<'a> Iterator for Segments<'a> {
 
     fn next(&mut self) -> Option<Range<usize>> {
         if self.left == 0 {
-            if self.row == self.row_count {
+            if !self.has_row {
                 return None;
             }
-            let place = place_of(self.rows, self.start, self.row, self.row_count);
+            let place = self.row_place;
+            let next = next_row(self.rows, &mut self.indices, place);
             let left = self.row_len - 1;
-            self.row += 1;
+            self.row_place = next.0;
+            self.has_row = next.1;
             self.left = left;
             self.place = next_place(place, self.stride, left);
             return Some(place..place + self.size);
@@ -115,42 +139,46 @@ impl BufferDescriptor {
         let dims = self.dim_desc();
         let itemsize = self.itemsize();
         match dims.split_last() {
-            None => walk(dims, start, 1, 0, 1, itemsize),
+            None => walk(dims, start, 0, 1, itemsize),
             Some((last, rows)) => {
                 if has_zero(dims) {
                     return no_segments(rows, itemsize);
                 }
-                let row_len = last.0;
-                let row_count = self.len() / itemsize / row_len;
                 if !join {
-                    return walk(rows, start, row_count, last.1, row_len, itemsize);
+                    return walk(rows, start, last.1, last.0, itemsize);
                 }
                 if !self.is_last_dim_contiguous() {
-                    return walk(rows, start, row_count, last.1, row_len, itemsize);
+                    return walk(rows, start, last.1, last.0, itemsize);
                 }
-                walk(rows, start, row_count, 0, 1, row_len * itemsize)
+                walk(rows, start, 0, 1, last.0 * itemsize)
             }
         }
     }
+}
+
+/// The indices of the first row: 0 for each dimension that a descriptor can have.
+fn first_indices() -> [usize; 64]
+    ensures { result ≡ replicate 64 0 }
+{
+    [0; 64]
 }
 
 /// A walk over whole rows.
 fn walk(
     rows: &[(usize, isize, isize)],
     start: usize,
-    row_count: usize,
     stride: isize,
     row_len: usize,
     size: usize,
 ) -> Segments<'_>
-    requires { IsWalk rows.now start 0 row_count 0 stride 0 row_len size }
-    ensures { result ≡ map (range_at size) (places_left rows.now start 0 0 stride 0 row_len) }
+    requires { AreRows rows.now start stride row_len size }
+    ensures { result ≡ map (range_at size) (row_places rows.now start stride row_len) }
 {
     Segments {
         rows,
-        start,
-        row: 0,
-        row_count,
+        indices: first_indices(),
+        row_place: start,
+        has_row: true,
         place: 0,
         stride,
         left: 0,
@@ -160,14 +188,14 @@ fn walk(
 }
 
 /// A walk with nothing left.
-fn no_segments(dims: &[(usize, isize, isize)], size: usize) -> Segments<'_>
+fn no_segments(rows: &[(usize, isize, isize)], size: usize) -> Segments<'_>
     ensures { result ≡ [] }
 {
     Segments {
-        rows: &dims[..0],
-        start: 0,
-        row: 1,
-        row_count: 1,
+        rows,
+        indices: first_indices(),
+        row_place: 0,
+        has_row: false,
         place: 0,
         stride: 0,
         left: 0,

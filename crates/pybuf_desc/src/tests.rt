@@ -177,3 +177,29 @@ fn slices_succeed_with_ample_memory(rt: HostRuntime) -> Result<(), Fail> {
     assert_eq!(rt; stepped_words(rt.alloc(), -2)?, (2, 572));
     Ok(())
 }
+
+/// The bytes of a read-only descriptor as items of two bytes.
+fn words_of_bytes(alloc: Global) -> Made<BufferDescriptor> {
+    let bytes = BufferDescriptor::simple(alloc, 6, true)?;
+    if !bytes.is_contiguous() {
+        return Ok(bytes);
+    }
+    if bytes.len() % 2 != 0 {
+        return Ok(bytes);
+    }
+    let format = Text::from_string(String::from_str(alloc, "H")?);
+    bytes.cast_flat(alloc, format, 2)
+}
+
+/// The fields as Python 3 shows them of `memoryview(bytes(6)).cast('H')`: `nbytes`, `readonly`,
+/// `itemsize`, `format`, and `shape` and `strides`, with no `suboffsets`.
+#[test]
+fn a_cast_has_the_fields_of_python(rt: HostRuntime) -> Result<(), Fail> {
+    let d = words_of_bytes(rt.alloc())?;
+    assert_eq!(rt; d.len(), 6);
+    assert_eq!(rt; d.readonly(), true);
+    assert_eq!(rt; d.itemsize(), 2);
+    assert_eq!(rt; d.format_text().as_slice(), b"H".as_slice());
+    assert_eq!(rt; d.dim_desc(), [(3, 2, 0)].as_slice());
+    Ok(())
+}

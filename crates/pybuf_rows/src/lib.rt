@@ -4,7 +4,13 @@
 #[cfg(test)]
 mod devices;
 #[cfg(test)]
-mod keys;
+mod differences;
+#[cfg(test)]
+mod examples;
+#[cfg(test)]
+mod judging;
+#[cfg(test)]
+mod python_rows;
 #[cfg(test)]
 mod rows;
 #[cfg(test)]

@@ -1,54 +1,92 @@
-//! Whole inputs, with what is written for them and the number of the status.
-//!
-//! The replies are those of Python 3's own `bytearray` and `memoryview`, written by a loop over the
-//! same lines; that a handle was never given, and that a view refuses 256 as a wrong kind, is this
-//! program's own.
+//! Whole inputs with what is written for them, worked out by hand from `docs/COMMANDS.md`.
+use crate::judging::{ends, judge, judge_cases};
 use pybuf_cli::{QuietSink, QuietSource, Status, serve, serve_alone, serve_bytes};
 use pybuf_value::{ByteList, Text};
-use std::alloc::Global;
-use std::process::Abort;
 use std::test::Fail;
 
+/// What each case shows, and its lines with the replies beside them.
+const WORKED: [(&str, &str); 6] = [
+    (
+        "writes through a view change the bytearray",
+        r"
+new bytearray x616263   h0
+view h0                 h1
+set h1 0 65             ok
+get h1 0                65
+bytes h1                b'Abc'
+release h1              ok
+",
+    ),
+    (
+        "a slice of a slice of a view",
+        r"
+new bytes x616263646566   h0
+view h0                   h1
+get h1 None:None:-1       h2
+get h2 1:4:None           h3
+bytes h3                  b'edc'
+",
+    ),
+    (
+        "a slice past the end of a slice has no items",
+        r"
+new bytes x6162636465   h0
+view h0                 h1
+get h1 None:None:2      h2
+get h2 3:None:None      h3
+bytes h3                b''
+",
+    ),
+    (
+        "a released view, and a handle that was never given",
+        r"
+new bytearray x61   h0
+view h0             h1
+release h1          ok
+get h1 0            ! ValueError
+view h1             ! ValueError
+release h1          ok
+get h9 0            ! UnknownName
+view h0             h2
+",
+    ),
+    (
+        "bounds and steps past the ends of a word",
+        r"
+new bytes x616263                                             h0
+view h0                                                       h1
+get h1 None:None:9223372036854775807                          h2
+bytes h2                                                      b'a'
+get h1 None:None:-170141183460469231731687303715884105728     h3
+bytes h3                                                      b'c'
+",
+    ),
+    (
+        "places out of range, and a number that is no byte",
+        r"
+new bytearray x0aFf   h0
+get h0 1              255
+get h0 2              ! IndexError
+set h0 5 1            ! IndexError
+set h0 0 256          ! ValueError
+view h0               h1
+set h1 0 256          ! TypeError
+bytes h1              b'\n\xff'
+",
+    ),
+];
+
+#[test]
+fn worked(rt: HostRuntime) -> Result<(), Fail> {
+    judge_cases(&rt, rt.alloc(), &WORKED)
+}
+
 /// An input, its output, and the number of its status.
-const ROWS: [(&str, &str, u8); 14] = [
+const ENDINGS: [(&str, &str, u8); 10] = [
     // no line
     ("", "", 0),
-    // writes through a view change the exporter
-    (
-        "new bytearray x616263\nview h0\nset h1 0 65\nget h1 0\nbytes h1\nrelease h1\n",
-        "h0\nh1\nok\n65\nb'Abc'\nok\n",
-        0,
-    ),
-    // views share their bytes, and the last line feed may be absent
-    (
-        "new bytearray x616263\nview h0\nview h1\nset h2 2 90\nbytes h0\nbytes h1\nset h0 1 0\nbytes h2",
-        "h0\nh1\nh2\nok\nb'abZ'\nb'abZ'\nok\nb'a\\x00Z'\n",
-        0,
-    ),
-    // a released view, and a handle that was never given
-    (
-        "new bytearray x61\nview h0\nrelease h1\nget h1 0\nview h1\nrelease h1\nget h9 0\nview h0\n",
-        "h0\nh1\nok\n! ValueError\n! ValueError\nok\n! UnknownName\nh2\n",
-        0,
-    ),
-    // escapes and quotes
-    (
-        "new bytearray x00090a0d1f20275c7e7fff\nbytes h0\nnew bytearray x2227\nbytes h1\nnew bytearray x22\nbytes h2\n",
-        "h0\nb\"\\x00\\t\\n\\r\\x1f '\\\\~\\x7f\\xff\"\nh1\nb'\"\\''\nh2\nb'\"'\n",
-        0,
-    ),
-    // places out of range, a number that is no byte, digits of either case, leading zeros
-    (
-        "new bytearray x0aFf\nget h0 1\nget h0 2\nset h0 5 1\nset h0 0 256\nget h0 001\nview h0\nget h1 000000000000000001\nset h1 0 256\n",
-        "h0\n255\n! IndexError\n! IndexError\n! ValueError\n255\nh1\n255\n! TypeError\n",
-        0,
-    ),
-    // no bytes at all
-    (
-        "new bytearray x\nview h0\nget h1 0\nset h1 0 0\nbytes h1\nrelease h1\nrelease h1\n",
-        "h0\nh1\n! IndexError\n! IndexError\nb''\nok\nok\n",
-        0,
-    ),
+    // the last line feed may be absent
+    ("new bytearray x61\nbytes h0", "h0\nb'a'\n", 0),
     // lines that are no commands: nothing is run
     (
         "new bytearray x61\nview h0\nget h1\n",
@@ -56,6 +94,7 @@ const ROWS: [(&str, &str, u8); 14] = [
         2,
     ),
     ("\n", "line 1 is not a command\n", 2),
+    ("\n\n", "line 1 is not a command\n", 2),
     (
         "new bytearray x61\nget h0  0\n",
         "line 2 is not a command\n",
@@ -71,34 +110,9 @@ const ROWS: [(&str, &str, u8); 14] = [
     ("new bytearray x\r\n", "line 1 is not a command\n", 2),
 ];
 
-/// Compares what is written for an input, and the number of the status.
-pub fn ends(
-    rt: &impl Abort,
-    alloc: Global,
-    input: &str,
-    output: &str,
-    number: u8,
-) -> Result<(), Fail> {
-    let bytes = Vec::from_slice(alloc, input.as_bytes())?;
-    let mut source = QuietSource::new(ByteList::from_vec(bytes));
-    let mut sink = QuietSink::new(alloc);
-    let status = serve_alone(alloc, &[], &mut source, &mut sink);
-    assert_eq!(rt; sink.bytes(), output.as_bytes(), "{input}");
-    assert_eq!(rt; status.number(), number, "{input}");
-    Ok(())
-}
-
-/// Compares each row.
-pub fn judge(rt: &impl Abort, alloc: Global, rows: &[(&str, &str, u8)]) -> Result<(), Fail> {
-    for (input, output, number) in rows {
-        ends(rt, alloc, input, output, *number)?;
-    }
-    Ok(())
-}
-
 #[test]
-fn whole_inputs(rt: HostRuntime) -> Result<(), Fail> {
-    judge(&rt, rt.alloc(), &ROWS)
+fn endings(rt: HostRuntime) -> Result<(), Fail> {
+    judge(&rt, rt.alloc(), &ENDINGS)
 }
 
 /// A bytearray of nothing, so many lines that ask for its length, and one more bytearray of nothing.

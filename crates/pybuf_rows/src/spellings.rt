@@ -1,5 +1,5 @@
-//! Spellings of values: those that are none, and those that a reader may take for others.
-use crate::rows::{ends, judge};
+//! Spellings of values that are none, and long words. They follow from the grammar in `docs/COMMANDS.md`.
+use crate::judging::ends;
 use std::alloc::Global;
 use std::process::Abort;
 use std::test::Fail;
@@ -70,27 +70,6 @@ fn each_ends(rt: &impl Abort, alloc: Global, lines: &[&str]) -> Result<(), Fail>
 fn lines_that_are_no_commands(rt: HostRuntime) -> Result<(), Fail> {
     each_ends(&rt, rt.alloc(), &NONE)?;
     each_ends(&rt, rt.alloc(), &OTHER)
-}
-
-/// What is spelled in more than one way, and what looks like something else.
-const SPELLED: [(&str, &str, u8); 2] = [
-    // signs and zeros in front, and handles with zeros in front
-    (
-        "new bytearray x616263\nget h0 -0\nget h00 -0000\nget h00000000000000000000000 -003\nget h0 000000000000000000000000000000000000000000000000000000000000000000002\nget h18446744073709551615 0\n",
-        "h0\n97\n97\n97\n99\n! UnknownName\n",
-        0,
-    ),
-    // texts that hold what stands between values, a tuple of none, and bytes of either case
-    (
-        "new bytearray xaBCd\nget h0 'a:b:c'\nget h0 ('a,b')\nget h0 [',','(',')','[',']']\nget h0 ('x,y',-1,xAb,...,None,True)\nget h0 'None'\nget h0 ()\nget h0 []\nset h0 0 ['a,b']\nget h0 (0:1:1,None:None:None)\nbytes h0\n",
-        "h0\n! TypeError\n! TypeError\n! TypeError\n! TypeError\n! TypeError\n! TypeError\n! TypeError\n! TypeError\n! TypeError\nb'\\xab\\xcd'\n",
-        0,
-    ),
-];
-
-#[test]
-fn spellings(rt: HostRuntime) -> Result<(), Fail> {
-    judge(&rt, rt.alloc(), &SPELLED)
 }
 
 /// What comes before, what is repeated, how often, what comes after, the output and the status. Work

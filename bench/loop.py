@@ -1,0 +1,68 @@
+"""A plain loop that carries out lines of commands on Python's own objects, to measure beside.
+
+It reads all lines, then carries them out, then writes all replies, as the program does.
+"""
+import sys
+
+
+def value(word):
+    """The value that a word spells."""
+    if word[0] == "x":
+        return bytes.fromhex(word[1:])
+    if word[0] == "'":
+        return word[1:-1]
+    if ":" in word:
+        return slice(*[None if part == "None" else int(part) for part in word.split(":")])
+    return int(word)
+
+
+def replies(lines):
+    """The replies to the lines."""
+    objects = []
+    for line in lines:
+        words = line.split(" ")
+        word = words[0]
+        try:
+            if word == "new":
+                objects.append((bytes if words[1] == "bytes" else bytearray)(value(words[2])))
+                yield f"h{len(objects) - 1}"
+                continue
+            subject = objects[int(words[1][1:])]
+            if word == "get":
+                found = subject[value(words[2])]
+                if type(found) is memoryview:
+                    objects.append(found)
+                    yield f"h{len(objects) - 1}"
+                else:
+                    yield repr(bytes(found) if type(found) is bytearray else found)
+            elif word == "set":
+                subject[value(words[2])] = value(words[3])
+                yield "ok"
+            elif word == "view":
+                objects.append(memoryview(subject))
+                yield f"h{len(objects) - 1}"
+            elif word == "bytes":
+                yield repr(bytes(subject))
+            elif word == "release":
+                subject.release()
+                yield "ok"
+            elif word == "len":
+                yield repr(len(subject))
+            elif word == "cast":
+                objects.append(subject.cast(value(words[2])))
+                yield f"h{len(objects) - 1}"
+            else:
+                sys.exit(f"no command of this loop: {line}")
+        except (IndexError, TypeError, ValueError) as fault:
+            yield f"! {type(fault).__name__}"
+
+
+def main():
+    lines = sys.stdin.read().split("\n")
+    if not lines[-1]:
+        lines.pop()
+    sys.stdout.write("".join([f"{reply}\n" for reply in replies(lines)]))
+
+
+if __name__ == "__main__":
+    main()
