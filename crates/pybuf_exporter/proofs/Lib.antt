@@ -1,5 +1,7 @@
 pub mod Kept
 pub mod Gathered
+pub mod ListTests
+pub mod Counts
 pub mod Laid
 pub mod Soundness
 pub mod Described

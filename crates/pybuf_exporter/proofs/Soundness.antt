@@ -25,13 +25,18 @@ use Rattle.pybuf_exporter.specs.declared.commands.LocalReply.TheVariants as repl
 use Rattle.pybuf_exporter.specs.Exporter.{Exporter, View, whole_of, view_at, live_view, laid, with_view}
 use Rattle.pybuf_exporter.specs.Items.{index_in, place_in, is_none, byte_for_item}
 use Rattle.pybuf_exporter.specs.Sound.{IsHeld, IsHeldOrReleased, IsSoundExporter}
-use Rattle.pybuf_exporter.specs.Step.{row, answered, is_built, estep, settled, set_in_kind, get_in_kind}
+use Rattle.pybuf_exporter.specs.declared.loans.Loan.{Loan}
+use Rattle.pybuf_exporter.specs.Handles.{handles_of, are_known}
+use Rattle.pybuf_exporter.specs.Step.{row, answered_if_built, answered, is_built, estep, settled, set_in_kind, get_in_kind}
 use Rattle.pybuf_exporter.specs.Rows.View.{view_of_own, view_of_view, view_again}
 use Rattle.pybuf_slice.specs.Parts.{SliceParts, saturated_parts_of, picks_of}
 use Rattle.pybuf_slice.specs.Reads.{elements_at}
 use Rattle.pybuf_exporter.specs.Slices.{sliced}
 use Rattle.pybuf_exporter.specs.Rows.Get.{byte_of_own, get_of_own, item_of_view, slice_of_view, get_of_view}
 use Rattle.pybuf_exporter.specs.Rows.Set.{set_of_own, set_target, set_of_view}
+use Rattle.pybuf_exporter.specs.declared.commands.PropertyName.{PropertyName}
+use Rattle.pybuf_exporter.specs.declared.commands.PropertyName.TheVariants as property
+use Rattle.pybuf_exporter.specs.Rows.Property.{is_exports, property_in, property_of_own, property_of_view}
 use Rattle.pybuf_exporter.specs.Rows.Release.{released_at, released_in, release_of_view}
 use Rattle.pybuf_exporter.proofs.Laid.{laid_one}
 
@@ -260,55 +265,78 @@ get_in_kind_sound kind.ByteArray r after = after
 get_in_kind_sound kind.Bytes r after = after
 get_in_kind_sound (kind.Vector readonly) r after = tt
 
-iterator_row_sound : (e : Exporter) (k : ℕ) (v : Verb) → IsSoundAfter (row e (subject.Iter k) v)
-iterator_row_sound e k verb.View = tt
-iterator_row_sound e k (verb.Get key) = tt
-iterator_row_sound e k (verb.Set key value) = tt
-iterator_row_sound e k (verb.Cast format shape) = tt
-iterator_row_sound e k verb.ToBytes = tt
-iterator_row_sound e k (verb.Property name) = tt
-iterator_row_sound e k verb.Release = tt
-iterator_row_sound e k verb.Len = tt
+iterator_row_sound : (e : Exporter) (k : ℕ) (v : Verb) (loans : List (ℕ × Loan)) → IsSoundAfter (row e (subject.Iter k) v loans)
+iterator_row_sound e k verb.View loans = tt
+iterator_row_sound e k (verb.Get key) loans = tt
+iterator_row_sound e k (verb.Set key value) loans = tt
+iterator_row_sound e k (verb.Cast format shape) loans = tt
+iterator_row_sound e k verb.ToBytes loans = tt
+iterator_row_sound e k (verb.Property name) loans = tt
+iterator_row_sound e k verb.Release loans = tt
+iterator_row_sound e k verb.Len loans = tt
 
 built_sound : (b : Bool) (r : Result (Exporter × LocalReply) Fault) → IsSoundAfter r → IsSoundAfter (if b then r else Err fault.UnknownName)
 built_sound true r after = after
 built_sound false r after = tt
 
--- every row
-pub row_sound : (e : Exporter) (s : Subject) (v : Verb) → IsSoundExporter e → IsSoundAfter (row e s v)
-row_sound e subject.Own verb.View sound = view_of_own_sound e sound
-row_sound e (subject.View k) verb.View sound = view_of_view_sound e k sound
-row_sound e subject.Own (verb.Get key) sound = get_in_kind_sound e.kind (get_of_own e key) (get_of_own_sound e key sound)
-row_sound e (subject.View k) (verb.Get key) sound = get_of_view_sound e k key sound
-row_sound e subject.Own (verb.Set key value) sound = set_in_kind_sound e.kind e (set_of_own e key value) (set_of_own_sound e key value sound)
-row_sound e (subject.View k) (verb.Set key value) sound = set_of_view_sound e k key value sound
-row_sound e subject.Own (verb.Cast format shape) sound = tt
-row_sound e (subject.View k) (verb.Cast format shape) sound = tt
-row_sound e subject.Own (verb.Property name) sound = tt
-row_sound e (subject.View k) (verb.Property name) sound = tt
-row_sound e subject.Own verb.ToBytes sound = sound
-row_sound e (subject.View k) verb.ToBytes sound = sound_bind (live_view e k) _ (λ v _. sound)
-row_sound e subject.Own verb.Release sound = tt
-row_sound e (subject.View k) verb.Release sound = release_of_view_sound e k sound
-row_sound e subject.Own verb.Len sound = sound
-row_sound e (subject.View k) verb.Len sound = sound_bind (live_view e k) _ (λ v _. sound)
-row_sound e (subject.Iter k) v sound = iterator_row_sound e k v
+property_of_own_sound : (e : Exporter) (which : PropertyName) → IsSoundExporter e → IsSoundAfter (property_of_own e which)
+property_of_own_sound e property.Exports sound = sound
+property_of_own_sound e property.Obj sound = tt
+property_of_own_sound e property.Nbytes sound = tt
+property_of_own_sound e property.Readonly sound = tt
+property_of_own_sound e property.Itemsize sound = tt
+property_of_own_sound e property.Ndim sound = tt
+property_of_own_sound e property.Shape sound = tt
+property_of_own_sound e property.Strides sound = tt
+property_of_own_sound e property.Suboffsets sound = tt
+property_of_own_sound e property.Format sound = tt
+property_of_own_sound e property.Contiguous sound = tt
+property_of_own_sound e property.CContiguous sound = tt
+property_of_own_sound e property.FContiguous sound = tt
 
--- a spelling that is not built is refused
-pub answered_sound : (e : Exporter) (s : Subject) (v : Verb) → IsSoundExporter e → IsSoundAfter (answered e s v)
-answered_sound e s v sound = built_sound (is_built s v) (row e s v) (row_sound e s v sound)
+property_of_view_sound : (e : Exporter) (k : ℕ) (which : PropertyName) → IsSoundExporter e → IsSoundAfter (property_of_view e k which)
+property_of_view_sound e k which sound =
+    sound_bind (unless (is_exports which) fault.UnknownName) _ (λ _ _.
+    sound_bind (live_view e k) _ (λ v _.
+    sound_bind (property_in v which) _ (λ answer _. sound)))
+
+-- every row
+pub row_sound : (e : Exporter) (s : Subject) (v : Verb) (loans : List (ℕ × Loan)) → IsSoundExporter e → IsSoundAfter (row e s v loans)
+row_sound e subject.Own verb.View loans sound = view_of_own_sound e sound
+row_sound e (subject.View k) verb.View loans sound = view_of_view_sound e k sound
+row_sound e subject.Own (verb.Get key) loans sound = get_in_kind_sound e.kind (get_of_own e key) (get_of_own_sound e key sound)
+row_sound e (subject.View k) (verb.Get key) loans sound = get_of_view_sound e k key sound
+row_sound e subject.Own (verb.Set key value) loans sound = set_in_kind_sound e.kind e (set_of_own e key value) (set_of_own_sound e key value sound)
+row_sound e (subject.View k) (verb.Set key value) loans sound = set_of_view_sound e k key value sound
+row_sound e subject.Own (verb.Cast format shape) loans sound = tt
+row_sound e (subject.View k) (verb.Cast format shape) loans sound = tt
+row_sound e subject.Own (verb.Property name) loans sound = property_of_own_sound e name sound
+row_sound e (subject.View k) (verb.Property name) loans sound = property_of_view_sound e k name sound
+row_sound e subject.Own verb.ToBytes loans sound = sound
+row_sound e (subject.View k) verb.ToBytes loans sound = sound_bind (live_view e k) _ (λ v _. sound)
+row_sound e subject.Own verb.Release loans sound = tt
+row_sound e (subject.View k) verb.Release loans sound = release_of_view_sound e k sound
+row_sound e subject.Own verb.Len loans sound = sound
+row_sound e (subject.View k) verb.Len loans sound = sound_bind (live_view e k) _ (λ v _. sound)
+row_sound e (subject.Iter k) v loans sound = iterator_row_sound e k v loans
+
+-- a spelling that is not built is refused, and so is an unknown handle
+pub answered_sound : (e : Exporter) (s : Subject) (v : Verb) (loans : List (ℕ × Loan)) → IsSoundExporter e → IsSoundAfter (answered e s v loans)
+answered_sound e s v loans sound =
+    built_sound (are_known (length e.views) loans (handles_of v)) (answered_if_built e s v loans)
+    (built_sound (is_built s v) (row e s v loans) (row_sound e s v loans sound))
 
 settled_sound : (e : Exporter) (r : Result (Exporter × LocalReply) Fault) → IsSoundExporter e → IsSoundAfter r → IsSoundExporter (settled e r).0
 settled_sound e (Ok after) sound sound_after = sound_after
 settled_sound e (Err f) sound sound_after = sound
 
 -- a command keeps an exporter sound
-pub estep_sound : (e : Exporter) (s : Subject) (v : Verb) → IsSoundExporter e → IsSoundExporter (estep e s v).0
-estep_sound e s v sound = settled_sound e (answered e s v) sound (answered_sound e s v sound)
+pub estep_sound : (e : Exporter) (s : Subject) (v : Verb) (loans : List (ℕ × Loan)) → IsSoundExporter e → IsSoundExporter (estep e s v loans).0
+estep_sound e s v loans sound = settled_sound e (answered e s v loans) sound (answered_sound e s v loans sound)
 
-pub answered_is_sound : (old new : Exporter) (s : Subject) (v : Verb) (r : LocalReply) → IsSoundExporter old → answered old s v ≡ Ok (new, r) → IsSoundExporter new
-answered_is_sound old new s v r sound is =
-    done (λ (after : Exporter × LocalReply). IsSoundExporter after.0) (answered old s v) (new, r) (answered_sound old s v sound) is
+pub answered_is_sound : (old new : Exporter) (s : Subject) (v : Verb) (loans : List (ℕ × Loan)) (r : LocalReply) → IsSoundExporter old → answered old s v loans ≡ Ok (new, r) → IsSoundExporter new
+answered_is_sound old new s v loans r sound is =
+    done (λ (after : Exporter × LocalReply). IsSoundExporter after.0) (answered old s v loans) (new, r) (answered_sound old s v loans sound) is
 
 pub released_in_done : (e : Exporter) (k : ℕ) → IsSoundExporter e → IfDone IsSoundExporter (released_in e k)
 released_in_done e k sound =

@@ -1,6 +1,7 @@
 pub mod Exporter
 pub mod Layouts
 pub mod Contiguous
+pub mod Loans
 pub mod Handles
 pub mod Items
 pub mod Slices

@@ -2,6 +2,7 @@
 ghost use Rattle.std.specs.Prelude.{◌≡◌, IfOk};
 
 use crate::kinds::Subject;
+use crate::loans::LoanList;
 use pybuf_value::{ByteList, Fault, Item, Made, NumberList, Text, Twin, Value};
 use std::alloc::Global;
 
@@ -57,11 +58,12 @@ pub enum Verb {
     Property { name: PropertyName },
 }
 
-/// A command for one exporter.
+/// A command for one exporter, with what the handles of its values name.
 #[derive(Debug, Drop)]
 pub struct LocalCommand {
     pub subject: Subject,
     pub verb: Verb,
+    pub loans: LoanList,
 }
 
 /// The reply of one exporter.
@@ -130,7 +132,12 @@ impl Twin for LocalCommand {
     fn copy(&self, alloc: Global) -> Made<LocalCommand> {
         let subject = self.subject;
         let verb = self.verb.copy(alloc)?;
-        Ok(LocalCommand { subject, verb })
+        let loans = self.loans.copy(alloc)?;
+        Ok(LocalCommand {
+            subject,
+            verb,
+            loans,
+        })
     }
 }
 

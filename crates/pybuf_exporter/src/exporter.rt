@@ -3,6 +3,7 @@ ghost use Rattle.std.specs.Prelude.{◌≡◌, ◌<◌, ◌↔◌, [], IfOk, IfS
 
 use crate::commands::{LocalCommand, LocalReply, Verb};
 use crate::kinds::{ExporterKind, Subject};
+use crate::loans::LoanList;
 use crate::parts::Parts;
 use crate::rows;
 use pybuf_desc::BufferDescriptor;
@@ -41,6 +42,7 @@ impl ExporterState {
     ghost use Rattle.pybuf_desc.specs.Valid.{IsValid};
     ghost use Rattle.pybuf_exporter.specs.Exporter.{new_exporter};
     ghost use Rattle.pybuf_exporter.specs.Step.{estep};
+    ghost use Rattle.pybuf_exporter.specs.Loans.{LoansFit};
     ghost use Rattle.pybuf_exporter.specs.Rows.Release.{released_in};
 
     /// An exporter of these bytes, with no views. Takes no memory.
@@ -60,22 +62,25 @@ impl ExporterState {
 
     /// Carries out a command, as its row says.
     ///
-    /// A refusal is a reply, and changes nothing; a subject number that was never given is refused
-    /// with `UnknownName`. Where memory runs out, nothing is changed.
+    /// A refusal is a reply, and changes nothing. A subject number that was never given is refused
+    /// with `UnknownName`, and so is, before all else, a handle among the command's values that its
+    /// loans do not name. Where memory runs out, nothing is changed.
     pub fn step(&mut self, command: &LocalCommand) -> Made<LocalReply>
-        ensures ok { IfOk result (λ r. estep self.old command.now.subject command.now.verb ≡ (self.new, r)) }
+        requires { LoansFit command.now.loans }
+        ensures ok { IfOk result (λ r. estep self.old command.now.subject command.now.verb command.now.loans ≡ (self.new, r)) }
         ensures err { OnErr result (self.new ≡ self.old) }
     {
-        self.carry_out(command.subject, &command.verb)
+        self.carry_out(command.subject, &command.verb, &command.loans)
     }
 
-    /// The same, of a verb that is lent by itself.
-    pub fn carry_out(&mut self, subject: Subject, verb: &Verb) -> Made<LocalReply>
-        ensures ok { IfOk result (λ r. estep self.old subject verb.now ≡ (self.new, r)) }
+    /// The same, of a verb and of loans that are lent by themselves.
+    pub fn carry_out(&mut self, subject: Subject, verb: &Verb, loans: &LoanList) -> Made<LocalReply>
+        requires { LoansFit loans.now }
+        ensures ok { IfOk result (λ r. estep self.old subject verb.now loans.now ≡ (self.new, r)) }
         ensures err { OnErr result (self.new ≡ self.old) }
         ensures was_sound { IsSoundExporter self.old }
     {
-        rows::pick::carry_out(&mut self.parts, subject, verb)
+        rows::pick::carry_out(&mut self.parts, subject, verb, loans)
     }
 
     /// Releases a view; releasing it again changes nothing. Takes no memory.

@@ -8,6 +8,7 @@ mod handles;
 mod items;
 mod kinds;
 mod laws;
+mod loans;
 mod parts;
 mod rows;
 mod stored;
@@ -16,6 +17,7 @@ pub use commands::{LocalCommand, LocalReply, PropertyName, Verb, copy_option};
 pub use exporter::ExporterState;
 pub use kinds::{ExporterKind, Subject};
 pub use laws::slicing_back_twice_is_nothing;
+pub use loans::{Loan, LoanList};
 
 #[cfg(test)]
 mod tests;

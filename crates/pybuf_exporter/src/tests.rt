@@ -1,6 +1,8 @@
 //! What no clause says: that the calls succeed with ample memory.
 use super::*;
-use pybuf_value::{ByteList, Item, Scalar, Twin, Value};
+use pybuf_value::{
+    ByteList, CountList, Fault, Item, Scalar, ScalarList, Snap, SnapKind, Text, Twin, Value,
+};
 use std::alloc::Global;
 use std::test::Fail;
 
@@ -13,6 +15,8 @@ fn shown(reply: &LocalReply) -> i128 {
         LocalReply::Ok => -1,
         LocalReply::View(view) => *view as i128,
         LocalReply::Item(Item::One(Scalar::Int(n))) => *n,
+        LocalReply::Refused(Fault::Kind) => -3,
+        LocalReply::Refused(Fault::UnknownName) => -4,
         _ => -2,
     }
 }
@@ -28,6 +32,7 @@ fn an_exporter_steps_and_is_copied(rt: HostRuntime) -> Result<(), Fail> {
     let view = exporter.step(&LocalCommand {
         subject: Subject::Own,
         verb: Verb::View,
+        loans: LoanList::new(rt.alloc()),
     })?;
     assert_eq!(rt; shown(&view), 0);
     let set = exporter.step(&LocalCommand {
@@ -36,10 +41,77 @@ fn an_exporter_steps_and_is_copied(rt: HostRuntime) -> Result<(), Fail> {
             key: number(-1),
             value: number(90),
         },
+        loans: LoanList::new(rt.alloc()),
     })?;
     assert_eq!(rt; shown(&set), -1);
     let twin = exporter.copy(rt.alloc())?;
     assert_eq!(rt; twin.bytes(), b"abZ".as_slice());
     assert_eq!(rt; twin.exports(), 1);
+    Ok(())
+}
+
+/// What is lent of a bytearray `abc` where a view of it has a format.
+fn snap(alloc: Global, kind: SnapKind, format: char) -> Result<Snap, Fail> {
+    let mut text = Text::new(alloc);
+    text.push(format)?;
+    let mut shape = CountList::new(alloc);
+    shape.push(3)?;
+    Ok(Snap {
+        kind,
+        format: text,
+        itemsize: 1,
+        shape,
+        content: abc(alloc)?,
+        contiguous: true,
+        released: false,
+    })
+}
+
+/// A list with what handle 7 names.
+fn lent(alloc: Global, kind: SnapKind, format: char) -> Result<LoanList, Fail> {
+    let mut loans = LoanList::new(alloc);
+    loans.push(3, Loan::Own)?;
+    loans.push(7, Loan::Other(snap(alloc, kind, format)?))?;
+    Ok(loans)
+}
+
+#[test]
+fn loans_fit_and_are_copied(rt: HostRuntime) -> Result<(), Fail> {
+    let loans = lent(rt.alloc(), SnapKind::ByteArray, 'B')?;
+    assert!(rt; loans.fit(rt.alloc())?);
+    assert_eq!(rt; loans.copy(rt.alloc())?.len(), 2);
+    assert!(rt; lent(rt.alloc(), SnapKind::View, 'c')?.fit(rt.alloc())?);
+    assert!(rt; !lent(rt.alloc(), SnapKind::Bytes, 'c')?.fit(rt.alloc())?);
+    assert!(rt; !lent(rt.alloc(), SnapKind::View, 'h')?.fit(rt.alloc())?);
+    Ok(())
+}
+
+#[test]
+fn a_command_has_handles(rt: HostRuntime) -> Result<(), Fail> {
+    let bytes = abc(rt.alloc())?;
+    let mut exporter = ExporterState::new(rt.alloc(), ExporterKind::ByteArray, bytes);
+    let loans = lent(rt.alloc(), SnapKind::ByteArray, 'B')?;
+    let set = Verb::Set {
+        key: number(0),
+        value: Value::One(Scalar::Handle(7)),
+    };
+    let mut parts = ScalarList::new(rt.alloc());
+    parts.push(Scalar::Handle(7))?;
+    parts.push(Scalar::Handle(9))?;
+    let get = Verb::Get {
+        key: Value::List(parts),
+    };
+    if !loans.fit(rt.alloc())? {
+        return Err(Fail::from("loans that fit"));
+    }
+    assert_eq!(rt;
+        shown(&exporter.carry_out(Subject::Own, &Verb::View, &loans)?),
+        0
+    );
+    assert_eq!(rt;
+        shown(&exporter.carry_out(Subject::View(0), &set, &loans)?),
+        -3
+    );
+    assert_eq!(rt; shown(&exporter.carry_out(Subject::Own, &get, &loans)?), -4);
     Ok(())
 }

@@ -1,6 +1,6 @@
 //! Which row a command has.
-ghost use Rattle.std.specs.Prelude.{◌≡◌, IfOk, OnErr, not};
-ghost use Rattle.pybuf_exporter.specs.Handles.{holds_handle};
+ghost use Rattle.std.specs.Prelude.{◌≡◌, IfOk, OnErr};
+ghost use Rattle.pybuf_exporter.specs.Loans.{LoansFit};
 ghost use Rattle.pybuf_exporter.specs.declared.commands.Verb.TheVariants as verbs;
 ghost use Rattle.pybuf_exporter.specs.Exporter.{exports_of};
 ghost use Rattle.pybuf_exporter.specs.Answers.{seen, IsWhole, Answers, Reads};
@@ -10,43 +10,28 @@ ghost use Rattle.pybuf_exporter.specs.Step as spec;
 
 use crate::commands::{LocalReply, Verb};
 use crate::halt::Halt;
-use crate::handles::holds_handle;
+use crate::handles::knows_all;
 use crate::items::{is_slice, is_tuple};
 use crate::kinds::{ExporterKind, Subject};
+use crate::loans::LoanList;
 use crate::parts::Parts;
-use crate::rows::{get, len, release, set, to_bytes, view};
+use crate::rows::{get, len, property, release, set, to_bytes, view};
 use pybuf_value::{Fault, Made, NoMemory, Value};
-
-/// Whether a value is or holds no handle.
-fn is_plain(value: &Value) -> bool
-    ensures { result ≡ not (holds_handle value.now) }
-{
-    !holds_handle(value)
-}
 
 /// Whether `get` with a key is built for a subject.
 fn is_get_built(subject: Subject, key: &Value) -> bool
     ensures { result ≡ spec.is_built subject (verbs.Get key.now) }
 {
-    if !is_plain(key) {
-        return false;
-    }
     match subject {
         Subject::View(_) => !is_tuple(key),
         _ => true,
     }
 }
 
-/// Whether `set` with a key and a value is built.
-fn is_set_built(subject: Subject, key: &Value, value: &Value) -> bool
-    ensures { result ≡ spec.is_built subject (verbs.Set key.now value.now) }
+/// Whether a key is neither a tuple nor a slice, as one that is written at.
+fn is_set_built(key: &Value) -> bool
+    ensures { (s : _) (value : _) → result ≡ spec.is_built s (verbs.Set key.now value) }
 {
-    if !is_plain(key) {
-        return false;
-    }
-    if !is_plain(value) {
-        return false;
-    }
     if is_tuple(key) {
         return false;
     }
@@ -59,7 +44,7 @@ fn is_built(subject: Subject, verb: &Verb) -> bool
 {
     match verb {
         Verb::Get { key } => is_get_built(subject, key),
-        Verb::Set { key, value } => is_set_built(subject, key, value),
+        Verb::Set { key, value: _ } => is_set_built(key),
         _ => true,
     }
 }
@@ -85,9 +70,15 @@ fn own_set(parts: &mut Parts, key: &Value, value: &Value) -> Result<LocalReply, 
 }
 
 /// The row of the subject and the verb.
-fn row(parts: &mut Parts, subject: Subject, verb: &Verb) -> Result<LocalReply, Halt>
-    requires { IsWhole parts.old }
-    ensures answer { Answers (spec.row (seen parts.old) subject verb.now) (seen parts.old) result (seen parts.new) }
+fn row(
+    parts: &mut Parts,
+    subject: Subject,
+    verb: &Verb,
+    _loans: &LoanList,
+) -> Result<LocalReply, Halt>
+    requires whole { IsWhole parts.old }
+    requires fit { LoansFit _loans.now }
+    ensures answer { Answers (spec.row (seen parts.old) subject verb.now _loans.now) (seen parts.old) result (seen parts.new) }
     ensures counted { parts.new.exports ≡ exports_of (seen parts.new) }
 {
     match (subject, verb) {
@@ -102,29 +93,60 @@ fn row(parts: &mut Parts, subject: Subject, verb: &Verb) -> Result<LocalReply, H
         (Subject::View(k), Verb::Release) => release::of_view(parts, k),
         (Subject::Own, Verb::Len) => len::of_own(parts),
         (Subject::View(k), Verb::Len) => len::of_view(parts, k),
+        (Subject::Own, Verb::Property { name }) => property::of_own(parts, *name),
+        (Subject::View(k), Verb::Property { name }) => property::of_view(parts, k, *name),
         _ => Err(Halt::Refused(Fault::UnknownName)),
     }
 }
 
-fn answered(parts: &mut Parts, subject: Subject, verb: &Verb) -> Result<LocalReply, Halt>
-    requires { IsWhole parts.old }
-    ensures answer { Answers (spec.answered (seen parts.old) subject verb.now) (seen parts.old) result (seen parts.new) }
+fn if_built(
+    parts: &mut Parts,
+    subject: Subject,
+    verb: &Verb,
+    loans: &LoanList,
+) -> Result<LocalReply, Halt>
+    requires whole { IsWhole parts.old }
+    requires fit { LoansFit loans.now }
+    ensures answer { Answers (spec.answered_if_built (seen parts.old) subject verb.now loans.now) (seen parts.old) result (seen parts.new) }
     ensures counted { parts.new.exports ≡ exports_of (seen parts.new) }
 {
     if !is_built(subject, verb) {
         return Err(Halt::Refused(Fault::UnknownName));
     }
-    row(parts, subject, verb)
+    row(parts, subject, verb, loans)
+}
+
+fn answered(
+    parts: &mut Parts,
+    subject: Subject,
+    verb: &Verb,
+    loans: &LoanList,
+) -> Result<LocalReply, Halt>
+    requires whole { IsWhole parts.old }
+    requires fit { LoansFit loans.now }
+    ensures answer { Answers (spec.answered (seen parts.old) subject verb.now loans.now) (seen parts.old) result (seen parts.new) }
+    ensures counted { parts.new.exports ≡ exports_of (seen parts.new) }
+{
+    if !knows_all(parts.views.len(), loans.as_slice(), verb) {
+        return Err(Halt::Refused(Fault::UnknownName));
+    }
+    if_built(parts, subject, verb, loans)
 }
 
 /// Carries a command out on the parts of an exporter. A refusal is a reply.
-pub fn carry_out(parts: &mut Parts, subject: Subject, verb: &Verb) -> Made<LocalReply>
-    requires { IsWhole parts.old }
-    ensures ok { IfOk result (λ r. spec.estep (seen parts.old) subject verb.now ≡ (seen parts.new, r)) }
+pub fn carry_out(
+    parts: &mut Parts,
+    subject: Subject,
+    verb: &Verb,
+    loans: &LoanList,
+) -> Made<LocalReply>
+    requires whole { IsWhole parts.old }
+    requires fit { LoansFit loans.now }
+    ensures ok { IfOk result (λ r. spec.estep (seen parts.old) subject verb.now loans.now ≡ (seen parts.new, r)) }
     ensures err { OnErr result (seen parts.new ≡ seen parts.old) }
     ensures whole { IsWhole parts.new }
 {
-    match answered(parts, subject, verb) {
+    match answered(parts, subject, verb, loans) {
         Ok(reply) => Ok(reply),
         Err(Halt::Refused(fault)) => Ok(LocalReply::Refused(fault)),
         Err(Halt::NoMemory) => Err(NoMemory),

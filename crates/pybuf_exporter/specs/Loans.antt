@@ -1,0 +1,67 @@
+-- What the handles of a command name, lent to one exporter, and which of that fits together.
+use Rattle.std.specs.Prelude.{◌≡◌, ℕ, ◌*◌, ◌==◌, Bool, true, false, ◌&&◌, ◌||◌, List, [], ◌∷◌, length, Option, Some, None, Result, Ok, Err, nat_lt, if◌then◌else◌}
+use Rattle.std.specs.List.{list_all}
+use Rattle.pybuf_value.specs.declared.faults.Fault.{Fault}
+use Rattle.pybuf_value.specs.declared.snaps.Snap.{Snap}
+use Rattle.pybuf_value.specs.declared.snaps.SnapKind.{SnapKind}
+use Rattle.pybuf_value.specs.declared.snaps.SnapKind.TheVariants as kind
+use Rattle.pybuf_struct.specs.Formats.{Format, format_of}
+use Rattle.pybuf_desc.specs.Descriptor.{product}
+use Rattle.pybuf_exporter.specs.declared.loans.Loan.{Loan}
+use Rattle.pybuf_exporter.specs.declared.loans.Loan.TheVariants as loan
+
+-- the loan of the first pair of a handle
+abbrev pub loan_of : List (ℕ × Loan) → ℕ → Option Loan
+loan_of [] h = None
+loan_of (pair ∷ pairs) h = if pair.0 == h then Some pair.1 else loan_of pairs h
+
+-- ---- which loans fit
+
+-- the format is in the grammar, and its size there is at least 1 and is the item size
+abbrev pub is_size_of : ℕ → Result Format Fault → Bool
+is_size_of itemsize (Ok format) = nat_lt 0 itemsize && format.size == itemsize
+is_size_of itemsize (Err f) = false
+
+abbrev pub is_sized : List ℕ → ℕ → Bool
+is_sized format itemsize = is_size_of itemsize (format_of format)
+
+-- the bytes of all items of a shape
+abbrev pub byte_count : ℕ → List ℕ → ℕ
+byte_count itemsize shape = itemsize * product shape
+
+-- the format of bytes: `B`
+abbrev pub is_byte_format : List ℕ → Bool
+is_byte_format (b ∷ []) = b == 66
+is_byte_format _ = false
+
+-- one dimension of so many entries
+abbrev pub is_row_of : ℕ → List ℕ → Bool
+is_row_of count (n ∷ []) = n == count
+is_row_of count _ = false
+
+-- of an exporter: single bytes, as many as there are
+abbrev pub is_whole : Snap → Bool
+is_whole s = s.itemsize == 1 && is_byte_format s.format && is_row_of (length s.content) s.shape
+
+-- of an unreleased view: as many bytes as the items of its shape have
+abbrev pub is_filled : Snap → Bool
+is_filled s = s.released || length s.content == byte_count s.itemsize s.shape
+
+abbrev pub fits_kind : SnapKind → Snap → Bool
+fits_kind kind.View s = is_filled s
+fits_kind kind.Iterator s = true
+fits_kind _ s = is_whole s
+
+abbrev pub fits_snap : Snap → Bool
+fits_snap s = fits_kind s.kind s && is_sized s.format s.itemsize
+
+abbrev pub fits : Loan → Bool
+fits (loan.Other snap) = fits_snap snap
+fits _ = true
+
+abbrev pub all_fit : List (ℕ × Loan) → Bool
+all_fit loans = list_all (λ pair. fits pair.1) loans
+
+-- the loans fit
+abbrev pub LoansFit : List (ℕ × Loan) → Type 0
+LoansFit loans = all_fit loans ≡ true
