@@ -201,7 +201,7 @@ lifted : (s size : ℕ) (ks : List ℕ) → map (λ k. pos s +ℤ pos (k * size)
 lifted s size [] = refl
 lifted s size (k ∷ ks) = ap (λ (ps : List ℤ). pos (s + k * size) ∷ ps) (lifted s size ks)
 
-contiguous_apart : (size : ℕ) (starts : List ℕ) (start : ℤ) (ps : List ℤ) → ps ≡ map (λ x. pos x) starts → (0 < length ps → get_or ps 0 (pos 0) ≡ start)
+pub contiguous_apart : (size : ℕ) (starts : List ℕ) (start : ℤ) (ps : List ℤ) → ps ≡ map (λ x. pos x) starts → (0 < length ps → get_or ps 0 (pos 0) ≡ start)
     → (ps ≡ map (λ k. start +ℤ pos (k * size)) (range_with_len 0 (length ps)) → starts ≡ apart size starts)
     × (starts ≡ apart size starts → ps ≡ map (λ k. start +ℤ pos (k * size)) (range_with_len 0 (length ps)))
 contiguous_apart size [] start ps same first = ((λ _. refl), (λ _. rw same refl))
@@ -225,7 +225,7 @@ same_test false false d holds back = refl
 same_test true false d holds back = sym (d.1 (holds refl))
 same_test false true d holds back = back (d.0 refl)
 
-first_place : (d : Descriptor) (start : ℕ) → IsKept d start → 0 < length (places d.dims (pos start)) → get_or (places d.dims (pos start)) 0 (pos 0) ≡ pos start
+pub first_place : (d : Descriptor) (start : ℕ) → IsKept d start → 0 < length (places d.dims (pos start)) → get_or (places d.dims (pos start)) 0 (pos 0) ≡ pos start
 first_place d start kept some =
     let dim = get_or d.dims 0 (0, pos 0, pos 0) in
     let one : d.dims ≡ dim ∷ [] = one_dim d.dims kept.one_dimension in

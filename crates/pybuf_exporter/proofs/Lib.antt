@@ -1,4 +1,5 @@
 pub mod Kept
+pub mod CastKept
 pub mod Gathered
 pub mod ListTests
 pub mod Counts
