@@ -1,13 +1,16 @@
 -- Items: which place a key names, what an item reads as, and which bytes a value is written as.
-use Rattle.std.specs.Prelude.{ℕ, ◌-◌, suc, List, ℤ, pos, negsuc, Bool, true, false, Result, Ok, Err, nat_lt, slice_index, if◌then◌else◌}
+use Rattle.std.specs.Prelude.{ℕ, ◌-◌, suc, List, [], ℤ, pos, negsuc, Bool, true, false, Result, Ok, Err, nat_lt, if◌then◌else◌}
 use Rattle.pybuf_value.specs.declared.faults.Fault.{Fault}
 use Rattle.pybuf_value.specs.declared.faults.Fault.TheVariants as fault
+use Rattle.pybuf_value.specs.declared.values.Scalar.{Scalar}
 use Rattle.pybuf_value.specs.declared.values.Scalar.TheVariants as scalar
 use Rattle.pybuf_value.specs.declared.values.Item.{Item}
 use Rattle.pybuf_value.specs.declared.values.Item.TheVariants as item
 use Rattle.pybuf_value.specs.declared.values.Value.{Value}
 use Rattle.pybuf_value.specs.declared.values.Value.TheVariants as value
 use Rattle.pybuf_value.specs.Refusing.{◌>>=◌}
+use Rattle.pybuf_struct.specs.Formats.{format_of}
+use Rattle.pybuf_struct.specs.Values.{item_of, unpacked}
 use Rattle.pybuf_value.specs.Numbers.{number_of, fitted, byte_in}
 
 -- the number of a key, which must fit a word
@@ -25,9 +28,15 @@ place_in len (negsuc n) = if nat_lt n len then Ok (len - suc n) else Err fault.I
 abbrev pub byte_item : ℕ → Item
 byte_item b = item.One (scalar.Int (pos b))
 
--- what an item's bytes read as: an item of the format B is its one byte
-abbrev pub item_of : List ℕ → Item
-item_of bytes = byte_item (slice_index bytes 0)
+-- what values read as: one as itself, any other number as a tuple
+abbrev pub item_of_values : Result (List Scalar) Fault → Item
+item_of_values (Ok values) = item_of values
+item_of_values (Err f) = item.Many []
+
+-- What an item's bytes read as by the text of its format. Every view has a format, of its items'
+-- size; other bytes, or another text, would read as no values.
+abbrev pub item_by : List ℕ → List ℕ → Item
+item_by text bytes = item_of_values (format_of text >>= λ format. unpacked format bytes)
 
 abbrev pub is_none : Value → Bool
 is_none (value.One scalar.None) = true

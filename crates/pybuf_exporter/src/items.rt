@@ -1,8 +1,14 @@
 //! Keys and the values of items.
-ghost use Rattle.std.specs.Prelude.{◌≡◌, ◌<◌, ◌^◌};
+ghost use Rattle.std.specs.Prelude.{◌≡◌, ◌<◌, ◌^◌, IfOk};
+ghost use Rattle.pybuf_struct.specs.Values.{item_of};
 ghost use Rattle.pybuf_exporter.specs.Items as spec;
 
-use pybuf_value::{Fault, Item, Scalar, Value, fit_index, index_of, value_from_object};
+use pybuf_struct::FormatSpec;
+use pybuf_value::{
+    Fault, Item, Made, Outcome, Scalar, ScalarList, Text, Value, fit_index, index_of,
+    value_from_object,
+};
+use std::alloc::Global;
 
 /// The number of a key.
 pub fn index_in(key: &Value) -> Result<isize, Fault>
@@ -37,6 +43,32 @@ pub fn byte_item(byte: u8) -> Item
     ensures { result ≡ spec.byte_item byte }
 {
     Item::One(Scalar::Int(byte as i128))
+}
+
+/// Values as an item: one as itself, any other number as a tuple.
+fn item_of(values: ScalarList) -> Item
+    ensures { result ≡ item_of values }
+{
+    let mut values = values.into_vec();
+    if values.len() == 1 {
+        if let Some(value) = values.pop() {
+            return Item::One(value);
+        }
+    }
+    Item::Many(ScalarList::from_vec(values))
+}
+
+/// What an item's bytes read as by the text of its format.
+pub fn item_by(alloc: Global, format: &Text, bytes: &[u8]) -> Made<Item>
+    ensures { IfOk result (λ item. item ≡ spec.item_by format.now bytes.now) }
+{
+    match FormatSpec::parse(alloc, format.as_slice())? {
+        Outcome::Done(format) => match format.unpack(alloc, bytes)? {
+            Outcome::Done(values) => Ok(item_of(values)),
+            Outcome::Refused(_) => Ok(Item::Many(ScalarList::new(alloc))),
+        },
+        Outcome::Refused(_) => Ok(Item::Many(ScalarList::new(alloc))),
+    }
 }
 
 /// Whether a value is `None`.
