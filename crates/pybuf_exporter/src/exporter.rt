@@ -1,12 +1,13 @@
 //! One exporter with its views.
-ghost use Rattle.std.specs.Prelude.{◌≡◌, [], IfOk, OnErr, MatchResult, false, length};
+ghost use Rattle.std.specs.Prelude.{◌≡◌, [], IfOk, IfSome, OnErr, MatchResult, true, false, length};
 
 use crate::commands::{LocalCommand, LocalReply, Verb};
 use crate::kinds::{ExporterKind, Subject};
+use crate::lent;
 use crate::loans::LoanList;
 use crate::parts::Parts;
 use crate::rows;
-use pybuf_value::{ByteList, Fault, Made, Twin, copy_all};
+use pybuf_value::{ByteList, Fault, Made, Snap, Twin, copy_all};
 use std::alloc::Global;
 use std::marker::Model;
 
@@ -38,7 +39,7 @@ impl ExporterState {
     ghost use Rattle.pybuf_exporter.specs.Sound.{IsSoundExporter};
     ghost use Rattle.pybuf_exporter.specs.Exporter.{new_exporter};
     ghost use Rattle.pybuf_exporter.specs.Step.{estep};
-    ghost use Rattle.pybuf_exporter.specs.Loans.{LoansFit};
+    ghost use Rattle.pybuf_exporter.specs.Loans.{LoansFit, snap_of_subject, fits_snap};
     ghost use Rattle.pybuf_exporter.specs.Rows.Release.{released_in};
 
     /// An exporter of these bytes, with no views. Takes no memory.
@@ -87,6 +88,15 @@ impl ExporterState {
         ensures err { OnErr result (self.new ≡ self.old) }
     {
         rows::release::release(&mut self.parts, view)
+    }
+
+    /// What a handle of the exporter or of one of its views names, as it stands; the content of a
+    /// released view is empty. None exactly where there is no such view, and for an iterator.
+    pub fn snap(&self, alloc: Global, subject: Subject) -> Made<Option<Snap>>
+        ensures value { IfOk result (λ snap. snap ≡ snap_of_subject self.now subject) }
+        ensures fits { IfOk result (λ snap. IfSome snap (λ s. fits_snap s ≡ true)) }
+    {
+        lent::snap(&self.parts, alloc, subject)
     }
 
     /// The kind.

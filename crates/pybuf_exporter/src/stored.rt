@@ -222,6 +222,22 @@ impl StoredView {
     }
 }
 
+impl StoredView {
+    /// The format of an item.
+    pub fn format(&self, alloc: Global) -> Made<Text>
+        ensures { IfOk result (λ text. text ≡ self.now.format) }
+    {
+        self.format.copy(alloc)
+    }
+
+    /// The number of entries of each dimension.
+    pub fn shape(&self, alloc: Global) -> Made<CountList>
+        ensures { IfOk result (λ list. list ≡ self.now.shape) }
+    {
+        self.shape.copy(alloc)
+    }
+}
+
 impl Twin for StoredView {
     fn copy(&self, alloc: Global) -> Made<StoredView> {
         self.again(alloc, self.made_at)
