@@ -1,8 +1,10 @@
 pub mod ListTests
 pub mod Counts
-pub mod Places
+pub mod Kept
+pub mod Gathered
 pub mod Laid
 pub mod Formed
 pub mod Soundness
+pub mod Described
 pub mod Refusals
 pub mod Backward

@@ -408,3 +408,17 @@ snap_fits e subject.Own snap sound is =
     let same : snap_of_exporter e ≡ snap = cc in subst (λ (s : Snap). fits_snap s ≡ true) same (exporter_fits e)
 snap_fits e (subject.View k) snap sound is = view_snap_fits e k snap (slice_get e.views k) sound refl is
 snap_fits e (subject.Iter k) snap sound is = absurd (cc)
+
+-- what a view that was given is lent as, and one that was not
+pub given_held : (e : Exporter) (k : ℕ) (v : View) → IsSoundExporter e → view_at e k ≡ Ok v → IsHeldOrReleased e.bytes v
+given_held e k v sound found = All-slice_get (λ w. IsHeldOrReleased e.bytes w) e.views k v sound.views_are_held (view_at_given e k v found)
+
+pub snap_given : (e : Exporter) (k : ℕ) (v : View) → view_at e k ≡ Ok v → snap_of_subject e (subject.View k) ≡ Some (snap_of_view e.bytes v)
+snap_given e k v found = ap (option_map (snap_of_view e.bytes)) (view_at_given e k v found)
+
+none_of : (o : Option View) (f : Fault) → ok_or o fault.UnknownName ≡ Err f → o ≡ None
+none_of None f h = refl
+none_of (Some w) f h = absurd (cc)
+
+pub no_snap : (e : Exporter) (k : ℕ) (f : Fault) → view_at e k ≡ Err f → snap_of_subject e (subject.View k) ≡ None
+no_snap e k f refused = ap (option_map (snap_of_view e.bytes)) (none_of (slice_get e.views k) f refused)

@@ -1,4 +1,6 @@
 pub mod Exporter
+pub mod Layouts
+pub mod Contiguous
 pub mod Loans
 pub mod Handles
 pub mod Items

@@ -6,3 +6,4 @@ pub mod Set
 pub mod ToBytes
 pub mod Release
 pub mod Len
+pub mod Property

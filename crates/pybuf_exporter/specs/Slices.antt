@@ -4,10 +4,11 @@ use Rattle.pybuf_slice.specs.Parts.{SliceParts, picks_of, clamped}
 use Rattle.pybuf_slice.specs.Reads.{elements_at}
 use Rattle.pybuf_exporter.specs.Exporter.{View}
 
--- the strides after a step: the first is the old one times the step, moved to the nearest `isize`
+-- the strides after a step: the first is the old one times the step, and both the step and the
+-- product are moved to the nearest `isize`
 abbrev pub strides_after : ℤ → List ℤ → List ℤ
 strides_after step [] = []
-strides_after step (stride ∷ strides) = clamped (stride *ℤ step) ∷ strides
+strides_after step (stride ∷ strides) = clamped (stride *ℤ clamped step) ∷ strides
 
 -- The view of the places that a slice picks, made at a length of the exporter. Its format and
 -- whether it may only be read are those of the view.

@@ -1,5 +1,5 @@
 //! One exporter with its views.
-ghost use Rattle.std.specs.Prelude.{◌≡◌, [], IfOk, IfSome, OnErr, MatchResult, true, false, length};
+ghost use Rattle.std.specs.Prelude.{◌≡◌, ◌<◌, ◌↔◌, [], IfOk, IfSome, IsSome, IsSomeAnd, OnErr, MatchResult, true, false, length, slice_get};
 
 use crate::commands::{LocalCommand, LocalReply, Verb};
 use crate::kinds::{ExporterKind, Subject};
@@ -7,6 +7,7 @@ use crate::lent;
 use crate::loans::LoanList;
 use crate::parts::Parts;
 use crate::rows;
+use pybuf_desc::BufferDescriptor;
 use pybuf_value::{ByteList, Fault, Made, Snap, Twin, copy_all};
 use std::alloc::Global;
 use std::marker::Model;
@@ -37,6 +38,9 @@ impl ExporterState {
     ghost use Rattle.pybuf_exporter.specs.Exporter.{exports_of, holds_readonly};
     ghost use Rattle.pybuf_exporter.specs.Lending.{LendsBytes};
     ghost use Rattle.pybuf_exporter.specs.Sound.{IsSoundExporter};
+    ghost use Rattle.pybuf_exporter.specs.Layouts.{layout_of};
+    ghost use Rattle.pybuf_desc.specs.Places.{Stands};
+    ghost use Rattle.pybuf_desc.specs.Valid.{IsValid};
     ghost use Rattle.pybuf_exporter.specs.Exporter.{new_exporter};
     ghost use Rattle.pybuf_exporter.specs.Step.{estep};
     ghost use Rattle.pybuf_exporter.specs.Loans.{LoansFit, snap_of_subject, fits_snap};
@@ -129,6 +133,21 @@ impl ExporterState {
         ensures sound { IsSoundExporter self.now }
     {
         self.parts.exports
+    }
+
+    /// A view's descriptor, and the place of its first item. None exactly where no view of this
+    /// number was given.
+    ///
+    /// They stand for the view, and describe items that lie inside the bytes while it is unreleased.
+    pub fn view_desc(&self, view: usize) -> Option<(&BufferDescriptor, usize)>
+        ensures given { IsSome result ↔ (view < length self.now.views) }
+        ensures stands { IfSome result (λ r. IsSomeAnd (slice_get self.now.views view) (λ v. Stands r.0.now r.1 (layout_of v))) }
+        ensures valid { IfSome result (λ r. IsSomeAnd (slice_get self.now.views view) (λ v. v.released ≡ false → IsValid r.0.now r.1 (length self.now.bytes))) }
+    {
+        match self.parts.view(view) {
+            Ok(view) => Some(view.placed()),
+            Err(_) => None,
+        }
     }
 
     /// The number of views that were given, released ones too.

@@ -9,7 +9,7 @@ use crate::kinds::{ExporterKind, Subject};
 use crate::parts::Parts;
 use crate::rows::to_bytes::content;
 use crate::stored::StoredView;
-use pybuf_value::{ByteList, CountList, Made, Snap, SnapKind, Text};
+use pybuf_value::{ByteList, CountList, Made, Snap, SnapKind, Text, Twin};
 use std::alloc::Global;
 
 fn kind_of(kind: ExporterKind) -> SnapKind
@@ -71,8 +71,8 @@ fn of_view(alloc: Global, bytes: &[u8], view: &StoredView) -> Made<Snap>
     requires { IsHeldOrReleased bytes.now view.now }
     ensures { IfOk result (λ snap. snap ≡ snap_of_view bytes.now view.now) }
 {
-    let format = view.format(alloc)?;
-    let shape = view.shape(alloc)?;
+    let format = view.format_text().copy(alloc)?;
+    let shape = view.counts(alloc)?;
     let content = content_of(alloc, bytes, view)?;
     Ok(Snap {
         kind: SnapKind::View,
@@ -91,12 +91,12 @@ fn of_given(parts: &Parts, alloc: Global, view: usize) -> Made<Option<Snap>>
     ensures value { IfOk result (λ snap. snap ≡ snap_of_subject (seen parts.now) (subjects.View view)) }
     ensures fits { IfOk result (λ snap. IfSome snap (λ s. fits_snap s ≡ true)) }
 {
-    match parts.views.get(view) {
-        Some(view) => {
+    match parts.view(view) {
+        Ok(view) => {
             let snap = of_view(alloc, parts.bytes.as_slice(), view)?;
             Ok(Some(snap))
         }
-        None => Ok(None),
+        Err(_) => Ok(None),
     }
 }
 

@@ -2,6 +2,7 @@
 pub mod get;
 pub mod len;
 pub mod pick;
+pub mod property;
 pub mod release;
 pub mod set;
 pub mod to_bytes;

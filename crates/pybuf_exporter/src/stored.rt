@@ -1,120 +1,107 @@
-//! A view as it is kept: with the list of its places.
-ghost use Rattle.std.specs.Prelude.{◌≡◌, ◌<◌, ◌^◌, ◌*ℤ◌, [], ◌∷◌, true, length, slice_index, IfOk};
-ghost use Rattle.std.specs.List.{range_with_len};
-ghost use Rattle.pybuf_slice.specs.Parts.{clamped};
-ghost use Rattle.pybuf_exporter.specs.Slices.{strides_after};
+//! A view as it is kept: by a descriptor and a start.
+ghost use Rattle.std.specs.Prelude.{◌≡◌, ◌<◌, ◌^◌, pos, ◌+ℤ◌, ◌≤ℤ◌, ◌<ℤ◌, nat_abs, true, length, map, replicate, slice_index, IfOk};
 
 use crate::kinds::ExporterKind;
+use pybuf_desc::BufferDescriptor;
 use pybuf_slice::SaturatedSlice;
-use pybuf_slice::slices::getitem_by_slice;
-use pybuf_value::{CountList, Made, Text, Twin, saturate};
+use pybuf_value::{CountList, Made, NumberList, Text, Twin};
 use std::alloc::Global;
 use std::marker::Model;
 
-/// A view of an exporter. A clause sees the whole view record, whatever is kept of it.
+/// A view of an exporter. It costs a few words, whatever it spans. A clause sees the whole view
+/// record, with the place of each item.
 #[derive(Debug, Drop)]
 pub struct StoredView {
     made_at: usize,
-    format: Text,
-    itemsize: usize,
-    shape: CountList,
-    starts: CountList,
-    strides: Vec<isize>,
-    readonly: bool,
+    descriptor: BufferDescriptor,
+    start: usize,
     released: bool,
 }
 
 impl Model for StoredView {
     ghost use Rattle.pybuf_exporter.specs.Exporter.{View};
+    ghost use Rattle.pybuf_exporter.specs.Layouts.{shown, IsKept};
 
     ghost Value = { View };
 
-    ghost view = { λ v. record {
-      made_at = v.made_at;
-      format = v.format;
-      itemsize = v.itemsize;
-      shape = v.shape;
-      starts = v.starts;
-      strides = v.strides.items;
-      readonly = v.readonly;
-      released = v.released;
-    } };
+    ghost view = { λ v. shown v.made_at v.descriptor v.start v.released };
+
+    ghost invariant = { λ v. IsKept v.descriptor v.start };
 }
 
-fn one_count(alloc: Global, count: usize) -> Made<CountList>
-    ensures { IfOk result (λ list. list ≡ count ∷ []) }
+/// The number of entries of each dimension.
+fn entries_of(alloc: Global, dims: &[(usize, isize, isize)]) -> Made<NumberList>
+    ensures { IfOk result (λ list. list ≡ map (λ dim. pos dim.0) dims.now) }
+{
+    let mut list = NumberList::new(alloc);
+    for dim in dims {
+        list.push(dim.0 as i128)?;
+    }
+    Ok(list)
+}
+
+/// The same, as they are counted.
+fn counts_of(alloc: Global, dims: &[(usize, isize, isize)]) -> Made<CountList>
+    ensures { IfOk result (λ list. list ≡ map (λ dim. dim.0) dims.now) }
 {
     let mut list = CountList::new(alloc);
-    list.push(count)?;
+    for dim in dims {
+        list.push(dim.0)?;
+    }
     Ok(list)
 }
 
-fn one_stride(alloc: Global, stride: isize) -> Made<Vec<isize>>
-    ensures { IfOk result (λ list. list.items ≡ stride ∷ []) }
+/// The stride of each dimension.
+fn strides_of(alloc: Global, dims: &[(usize, isize, isize)]) -> Made<NumberList>
+    ensures { IfOk result (λ list. list ≡ map (λ dim. dim.1) dims.now) }
 {
-    let mut list = Vec::new(alloc);
-    list.push(stride)?;
+    let mut list = NumberList::new(alloc);
+    for dim in dims {
+        list.push(dim.1 as i128)?;
+    }
     Ok(list)
 }
 
-/// The strides after a step.
-fn strides_after(alloc: Global, step: isize, strides: &[isize]) -> Made<Vec<isize>>
-    ensures { IfOk result (λ after. after.items ≡ strides_after step strides.now) }
+/// So many zeros.
+fn zeros(alloc: Global, count: usize) -> Made<NumberList>
+    ensures { IfOk result (λ list. list ≡ replicate count (pos 0)) }
 {
-    let mut after = Vec::from_slice(alloc, strides)?;
-    if let Some(first) = strides.first() {
-        after[0] = scaled(*first, step);
+    let mut list = NumberList::new(alloc);
+    for _ in 0..count {
+        list.push(0)?;
     }
-    Ok(after)
+    Ok(list)
 }
 
-/// A stride times a step, at the nearest `isize`.
-fn scaled(stride: isize, step: isize) -> isize
-    ensures { result ≡ clamped (stride *ℤ step) }
+/// The place that lies so far from another.
+fn moved(place: usize, distance: isize) -> usize
+    requires place_fits { place < 2 ^ 63 }
+    requires low { pos 0 ≤ℤ (pos place +ℤ distance) }
+    requires high { (pos place +ℤ distance) <ℤ pos (2 ^ 63) }
+    ensures { result ≡ nat_abs (pos place +ℤ distance) }
 {
-    saturate(stride as i128 * step as i128)
-}
-
-fn format_of_bytes(alloc: Global) -> Made<Text>
-    ensures { IfOk result (λ text. text ≡ 66 ∷ []) }
-{
-    let mut text = Text::new(alloc);
-    text.push('B')?;
-    Ok(text)
-}
-
-/// The places `0..len`.
-#[tactic(auto, using(crate::proofs::Places::range_more))]
-fn places(alloc: Global, len: usize) -> Made<CountList>
-    ensures { IfOk result (λ list. list ≡ range_with_len 0 len) }
-{
-    let mut places = Vec::with_capacity(alloc, len)?;
-    for place in 0..len {
-        places.push(place)?;
-    }
-    Ok(CountList::from_vec(places))
+    (place as isize + distance) as usize
 }
 
 impl StoredView {
-    ghost use Rattle.pybuf_exporter.specs.Exporter.{whole_of};
+    ghost use Rattle.pybuf_exporter.specs.Exporter.{whole_of, content};
+    ghost use Rattle.pybuf_exporter.specs.Contiguous.{is_contiguous_view};
+    ghost use Rattle.pybuf_exporter.specs.Layouts.{layout_of};
+    ghost use Rattle.pybuf_exporter.specs.Rows.Property.{nbytes_of, is_f_contiguous_view};
     ghost use Rattle.pybuf_exporter.specs.Slices as spec;
+    ghost use Rattle.pybuf_desc.specs.Places.{Stands};
+    ghost use Rattle.pybuf_desc.specs.Valid.{IsPlaced};
 
     /// The view of all of `len` bytes of an exporter.
     pub fn whole(alloc: Global, kind: ExporterKind, len: usize) -> Made<StoredView>
+        requires { len < 2 ^ 63 }
         ensures { IfOk result (λ v. v ≡ whole_of kind len) }
     {
-        let format = format_of_bytes(alloc)?;
-        let shape = one_count(alloc, len)?;
-        let starts = places(alloc, len)?;
-        let strides = one_stride(alloc, 1)?;
+        let descriptor = BufferDescriptor::simple(alloc, len, kind.is_readonly())?;
         Ok(StoredView {
             made_at: len,
-            format,
-            itemsize: 1,
-            shape,
-            starts,
-            strides,
-            readonly: kind.is_readonly(),
+            descriptor,
+            start: 0,
             released: false,
         })
     }
@@ -123,18 +110,11 @@ impl StoredView {
     pub fn again(&self, alloc: Global, made_at: usize) -> Made<StoredView>
         ensures { IfOk result (λ v. v ≡ record self.now { made_at = made_at }) }
     {
-        let format = self.format.copy(alloc)?;
-        let shape = self.shape.copy(alloc)?;
-        let starts = self.starts.copy(alloc)?;
-        let strides = Vec::from_slice(alloc, self.strides.as_slice())?;
+        let descriptor = self.descriptor.copy(alloc)?;
         Ok(StoredView {
             made_at,
-            format,
-            itemsize: self.itemsize,
-            shape,
-            starts,
-            strides,
-            readonly: self.readonly,
+            descriptor,
+            start: self.start,
             released: self.released,
         })
     }
@@ -143,21 +123,21 @@ impl StoredView {
     pub fn sliced(&self, alloc: Global, made_at: usize, slice: SaturatedSlice) -> Made<StoredView>
         ensures { IfOk result (λ v. v ≡ spec.sliced self.now made_at slice) }
     {
-        let (_, step, count) = slice.adjust_indices(self.items());
-        let format = self.format.copy(alloc)?;
-        let shape = one_count(alloc, count)?;
-        let starts = getitem_by_slice(alloc, self.starts.as_slice(), slice)?;
-        let strides = strides_after(alloc, step, self.strides.as_slice())?;
+        let (descriptor, start) = self.descriptor.sliced(alloc, self.start, &slice)?;
         Ok(StoredView {
             made_at,
-            format,
-            itemsize: self.itemsize,
-            shape,
-            starts: CountList::from_vec(starts),
-            strides,
-            readonly: self.readonly,
+            descriptor,
+            start,
             released: self.released,
         })
+    }
+
+    /// The descriptor and where the first item starts.
+    pub fn placed(&self) -> (&BufferDescriptor, usize)
+        ensures stands { Stands result.0.now result.1 (layout_of self.now) }
+        ensures placed { IsPlaced result.0.now result.1 }
+    {
+        (&self.descriptor, self.start)
     }
 
     /// The number of items.
@@ -165,17 +145,14 @@ impl StoredView {
         ensures value { result ≡ length self.now.starts }
         ensures small { result < 2 ^ 63 }
     {
-        self.starts.len()
+        self.descriptor.dim_desc()[0].0
     }
 
-    /// The first entry of the shape, or 0 where there is none.
+    /// The first entry of the shape.
     pub fn first_entry(&self) -> usize
         ensures { result ≡ slice_index self.now.shape 0 }
     {
-        match self.shape.as_slice() {
-            [first, ..] => *first,
-            [] => 0,
-        }
+        self.descriptor.dim_desc()[0].0
     }
 
     /// The first place of an item.
@@ -183,28 +160,85 @@ impl StoredView {
         requires { item < length self.now.starts }
         ensures { result ≡ slice_index self.now.starts item }
     {
-        self.starts.as_slice()[item]
-    }
-
-    /// The first places of the items, in order.
-    pub fn starts(&self) -> &[usize]
-        ensures { result.now ≡ self.now.starts }
-    {
-        self.starts.as_slice()
+        let indices = [item];
+        moved(self.start, self.descriptor.fast_position(&indices))
     }
 
     /// The number of bytes of an item.
     pub fn itemsize(&self) -> usize
         ensures { result ≡ self.now.itemsize }
     {
-        self.itemsize
+        self.descriptor.itemsize()
     }
 
     /// Whether the view may only be read.
     pub fn is_readonly(&self) -> bool
         ensures { result ≡ self.now.readonly }
     {
-        self.readonly
+        self.descriptor.readonly()
+    }
+
+    /// Whether the items lie one after the other.
+    pub fn is_contiguous(&self) -> bool
+        ensures { result ≡ is_contiguous_view self.now }
+    {
+        self.descriptor.is_contiguous()
+    }
+
+    /// The number of bytes of all items.
+    pub fn nbytes(&self) -> usize
+        ensures { result ≡ nbytes_of self.now }
+    {
+        self.descriptor.len()
+    }
+
+    /// The number of dimensions.
+    pub fn ndim(&self) -> usize
+        ensures { result ≡ length self.now.shape }
+    {
+        self.descriptor.ndim()
+    }
+
+    /// The number of entries of each dimension.
+    pub fn shape(&self, alloc: Global) -> Made<NumberList>
+        ensures { IfOk result (λ list. list ≡ map (λ n. pos n) self.now.shape) }
+    {
+        entries_of(alloc, self.descriptor.dim_desc())
+    }
+
+    /// The same, as they are counted.
+    pub fn counts(&self, alloc: Global) -> Made<CountList>
+        ensures { IfOk result (λ list. list ≡ self.now.shape) }
+    {
+        counts_of(alloc, self.descriptor.dim_desc())
+    }
+
+    /// The stride of each dimension.
+    pub fn strides(&self, alloc: Global) -> Made<NumberList>
+        ensures { IfOk result (λ list. list ≡ self.now.strides) }
+    {
+        strides_of(alloc, self.descriptor.dim_desc())
+    }
+
+    /// The suboffset of each dimension, which is 0.
+    pub fn suboffsets(&self, alloc: Global) -> Made<NumberList>
+        ensures { IfOk result (λ list. list ≡ replicate (length self.now.shape) (pos 0)) }
+    {
+        zeros(alloc, self.descriptor.ndim())
+    }
+
+    /// The format of an item.
+    pub fn format_text(&self) -> &Text
+        ensures { result.now ≡ self.now.format }
+    {
+        self.descriptor.format_text()
+    }
+
+    /// Whether the items lie one after the other in the order of Fortran, too.
+    pub fn is_f_contiguous(&self) -> bool
+        ensures { result ≡ is_f_contiguous_view self.now }
+    {
+        self.is_contiguous() && self.ndim() < 2
     }
 
     /// Whether the view was released.
@@ -219,22 +253,6 @@ impl StoredView {
         ensures { self.new ≡ record self.old { released = true } }
     {
         self.released = true;
-    }
-}
-
-impl StoredView {
-    /// The format of an item.
-    pub fn format(&self, alloc: Global) -> Made<Text>
-        ensures { IfOk result (λ text. text ≡ self.now.format) }
-    {
-        self.format.copy(alloc)
-    }
-
-    /// The number of entries of each dimension.
-    pub fn shape(&self, alloc: Global) -> Made<CountList>
-        ensures { IfOk result (λ list. list ≡ self.now.shape) }
-    {
-        self.shape.copy(alloc)
     }
 }
 

@@ -9,7 +9,7 @@ use crate::parts::Parts;
 use pybuf_value::{Item, Scalar};
 
 /// A count as an item.
-fn count_item(count: usize) -> Item
+pub fn count_item(count: usize) -> Item
     ensures { result ≡ spec.count_item count }
 {
     Item::One(Scalar::Int(count as i128))

@@ -1,7 +1,9 @@
 //! `bytes`: the subject's bytes.
-ghost use Rattle.std.specs.Prelude.{◌≡◌, ◌+◌, ◌≤◌, length, IfOk};
-ghost use Rattle.std.specs.List.{All};
-ghost use Rattle.pybuf_exporter.specs.Exporter.{bytes_of_items, content};
+ghost use Rattle.std.specs.Prelude.{◌≡◌, ◌<◌, ◌≤◌, ◌-◌, ◌++◌, length, take, drop, IfOk, OnOk};
+ghost use Rattle.std.specs.List.{All, flat_map};
+ghost use Rattle.pybuf_slice.specs.Reads.{elements_at};
+ghost use Rattle.pybuf_desc.specs.Segments.{bytes_of};
+ghost use Rattle.pybuf_exporter.specs.Exporter.{content};
 ghost use Rattle.pybuf_exporter.specs.Sound.{IsHeld};
 ghost use Rattle.pybuf_exporter.specs.Answers.{seen, IsWhole, Reads};
 ghost use Rattle.pybuf_exporter.specs.Rows.ToBytes.{bytes_of_own, bytes_of_view};
@@ -10,8 +12,10 @@ use crate::commands::LocalReply;
 use crate::halt::Halt;
 use crate::parts::Parts;
 use crate::stored::StoredView;
+use pybuf_desc::Segments;
 use pybuf_value::{ByteList, Made};
 use std::alloc::Global;
+use std::ops::Range;
 
 /// All the bytes.
 pub fn of_own(parts: &Parts) -> Result<LocalReply, Halt>
@@ -21,25 +25,42 @@ pub fn of_own(parts: &Parts) -> Result<LocalReply, Halt>
     Ok(LocalReply::Bytes(ByteList::from_vec(bytes)))
 }
 
-/// The bytes of the items that begin at these places.
-fn gather(alloc: Global, bytes: &[u8], itemsize: usize, starts: &[usize]) -> Made<Vec<u8>>
-    requires { All (λ start. start + itemsize ≤ length bytes.now) starts.now }
-    ensures { IfOk result (λ gathered. gathered.items ≡ bytes_of_items bytes.now itemsize starts.now) }
+/// Adds the bytes of a range.
+fn push_range(gathered: &mut Vec<u8>, bytes: &[u8], range: Range<usize>) -> Made<()>
+    requires { range.start < range.end → range.end ≤ length bytes.now }
+    ensures { OnOk result (gathered.new.items ≡ gathered.old.items ++ take (range.end - range.start) (drop range.start bytes.now)) }
 {
-    let mut gathered = Vec::new(alloc);
-    for start in starts {
-        let start = *start;
-        gathered.extend_from_slice(&bytes[start..start + itemsize])?;
+    if range.start < range.end {
+        gathered.extend_from_slice(&bytes[range])?;
+    }
+    Ok(())
+}
+
+/// The bytes at ranges, one range after the other.
+fn gather(alloc: Global, bytes: &[u8], len: usize, mut ranges: Segments<'_>) -> Made<Vec<u8>>
+    requires { All (λ place. place < length bytes.now) (flat_map bytes_of ranges) }
+    ensures { IfOk result (λ gathered. gathered.items ≡ elements_at bytes.now (flat_map bytes_of ranges.entry)) }
+{
+    let mut gathered = Vec::with_capacity(alloc, len)?;
+    while let Some(range) = ranges.next() {
+        push_range(&mut gathered, bytes, range)?;
     }
     Ok(gathered)
 }
 
-/// The bytes of a view's items, in order.
+/// The bytes of a view's items, in order. A row of items that lie one after the other is copied as
+/// one.
 pub fn content(alloc: Global, bytes: &[u8], view: &StoredView) -> Made<Vec<u8>>
     requires { IsHeld bytes.now view.now }
     ensures { IfOk result (λ list. list.items ≡ content bytes.now view.now) }
 {
-    gather(alloc, bytes, view.itemsize(), view.starts())
+    let (descriptor, start) = view.placed();
+    gather(
+        alloc,
+        bytes,
+        descriptor.len(),
+        descriptor.segments(start, true),
+    )
 }
 
 /// The bytes of a view's items, in order.
