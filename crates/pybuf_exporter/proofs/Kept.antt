@@ -128,7 +128,6 @@ head_of (s ∷ starts) (suc i) rest = head_of starts i rest
 block_one : (starts : List ℕ) (i : ℕ) (rest : List ℕ) → block_at 1 starts i ++ rest ≡ cons_option (slice_get starts i) rest
 block_one starts i rest = (let once : i * 1 ≡ i = omega arith in ap (λ (k : ℕ). take 1 (drop k starts) ++ rest) once) ∙ head_of starts i rest
 
-
 blocks_one : (starts : List ℕ) (picks : List ℕ) → flat_map (λ i. block_at 1 starts i) picks ≡ elements_at starts picks
 blocks_one starts [] = refl
 blocks_one starts (i ∷ picks) = ap (λ (rest : List ℕ). block_at 1 starts i ++ rest) (blocks_one starts picks) ∙ block_one starts i (elements_at starts picks)
@@ -139,7 +138,6 @@ no_picks (s ∷ starts) parts none = absurd (omega (arith, none))
 
 blocks : (starts : List ℕ) (n : ℕ) (parts : SliceParts) → length starts ≡ n → flat_map (λ i. block_at (length starts / n) starts i) (picks_of n parts) ≡ elements_at starts (picks_of (length starts) parts)
 blocks starts zero parts none = no_picks starts parts none
-
 blocks starts (suc n) parts some =
     ap (λ (size : ℕ). flat_map (λ i. block_at size starts i) (picks_of (suc n) parts)) (block_size (suc n) 1 (length starts) (let whole : length starts ≡ suc n * 1 = omega (arith, some) in whole) (let positive : 0 < suc n = omega arith in positive))
     ∙ blocks_one starts (picks_of (suc n) parts)
@@ -181,7 +179,6 @@ sliced_one d next start first made_at now released parts kept stands =
     ∙ sym (ap (strides_after parts.step) strides))
     stands.readonly
 
-
 pub sliced_kept : (d next : Descriptor) (start first : ℕ) (parts : SliceParts) → IsKept d start
     → ((view : Layout) → Stands d start view → Stands next first (slice_of view parts)) → ((room : ℕ) → IsValid d start room → IsValid next first room) → IsKept next first
 sliced_kept d next start first parts kept stands valid =
@@ -213,12 +210,10 @@ contiguous_apart size (s ∷ starts) start ps same first =
     let from : start ≡ pos s = sym (first some) ∙ ap (λ (qs : List ℤ). get_or qs 0 (pos 0)) same in
     let count : length ps ≡ length (s ∷ starts) = ap length same ∙ length-map (s ∷ starts) (λ x. pos x) in
     let each : map (λ k. start +ℤ pos (k * size)) (range_with_len 0 (length ps)) ≡ map (λ x. pos x) (apart size (s ∷ starts)) =
-      ap (λ (n : ℕ). map (λ k. start +ℤ pos (k * size)) (range_with_len 0 n)) count ∙ ap (λ (p : ℤ). map (λ k. p +ℤ pos (k * size)) (range_with_len 0 (length (s ∷ starts)))) from ∙ lifted s size (range_with_len 0 (length (s ∷ starts))) in
-    (
+    ap (λ (n : ℕ). map (λ k. start +ℤ pos (k * size)) (range_with_len 0 n)) count ∙ ap (λ (p : ℤ). map (λ k. p +ℤ pos (k * size)) (range_with_len 0 (length (s ∷ starts)))) from ∙ lifted s size (range_with_len 0 (length (s ∷ starts))) in (
       (λ flat. sym (abs_of_pos (s ∷ starts)) ∙ ap (map nat_abs) (sym same ∙ flat ∙ each) ∙ abs_of_pos (apart size (s ∷ starts))),
       (λ flat. same ∙ ap (map (λ x. pos x)) flat ∙ sym each),
     )
-
 
 first_of_one : (n : ℕ) (stride suboffset start : ℤ) → 0 < n → get_or (places ((n, stride, suboffset) ∷ []) start) 0 (pos 0) ≡ start
 first_of_one zero stride suboffset start some = absurd (omega (arith, some))

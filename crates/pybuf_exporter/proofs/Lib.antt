@@ -1,7 +1,7 @@
-pub mod ListTests
-pub mod Counts
 pub mod Kept
 pub mod Gathered
+pub mod ListTests
+pub mod Counts
 pub mod Laid
 pub mod Formed
 pub mod Soundness

@@ -5,7 +5,7 @@ use Rattle.pybuf_value.specs.declared.faults.Fault.{Fault}
 use Rattle.pybuf_value.specs.declared.faults.Fault.TheVariants as fault
 use Rattle.pybuf_value.specs.declared.values.Value.{Value}
 use Rattle.pybuf_value.specs.declared.values.Value.TheVariants as value
-use Rattle.pybuf_value.specs.Refusing.{◌>>=◌}
+use Rattle.pybuf_value.specs.Refusing.{◌>>=◌, unless}
 use Rattle.pybuf_value.specs.Numbers.{byte_in}
 use Rattle.pybuf_exporter.specs.declared.kinds.ExporterKind.{ExporterKind}
 use Rattle.pybuf_exporter.specs.declared.kinds.ExporterKind.TheVariants as kind
@@ -15,7 +15,7 @@ use Rattle.pybuf_exporter.specs.declared.commands.Verb.{Verb}
 use Rattle.pybuf_exporter.specs.declared.commands.Verb.TheVariants as verb
 use Rattle.pybuf_exporter.specs.declared.commands.LocalReply.{LocalReply}
 use Rattle.pybuf_exporter.specs.declared.commands.LocalReply.TheVariants as local
-use Rattle.pybuf_exporter.specs.Exporter.{Exporter, live_view}
+use Rattle.pybuf_exporter.specs.Exporter.{Exporter, View, live_view}
 use Rattle.pybuf_exporter.specs.Items.{index_in, place_in}
 use Rattle.pybuf_exporter.specs.declared.loans.Loan.{Loan}
 use Rattle.pybuf_exporter.specs.Handles.{handles_of, are_known}
@@ -24,8 +24,11 @@ use Rattle.pybuf_exporter.specs.Rows.View.{view_again}
 use Rattle.pybuf_slice.specs.Parts.{saturated_parts_of}
 use Rattle.pybuf_exporter.specs.Rows.Get.{byte_of_own, get_of_own, item_of_view, slice_of_view, get_of_view}
 use Rattle.pybuf_exporter.specs.Rows.Set.{set_of_own, set_target}
+use Rattle.pybuf_exporter.specs.declared.commands.PropertyName.{PropertyName}
+use Rattle.pybuf_exporter.specs.declared.commands.PropertyName.TheVariants as property
+use Rattle.pybuf_exporter.specs.Rows.Property.{is_exports, property_in, property_of_own, property_of_view}
 use Rattle.pybuf_exporter.specs.Rows.Release.{released_in}
-use Rattle.pybuf_exporter.proofs.Soundness.{IfDone, done_bind}
+use Rattle.pybuf_exporter.proofs.Soundness.{IfDone, done_bind, done}
 
 -- a reply that is no refusal
 abbrev pub is_answer : LocalReply → Bool
@@ -79,6 +82,42 @@ get_of_view_answers e k (value.Tuple parts) = item_of_view_answers e k (value.Tu
 get_of_view_answers e k (value.List parts) = item_of_view_answers e k (value.List parts)
 get_of_view_answers e k (value.Slices slices) = item_of_view_answers e k (value.Slices slices)
 
+property_of_own_answers : (e : Exporter) (which : PropertyName) → IsAnswered (property_of_own e which)
+property_of_own_answers e property.Exports = refl
+property_of_own_answers e property.Obj = tt
+property_of_own_answers e property.Nbytes = tt
+property_of_own_answers e property.Readonly = tt
+property_of_own_answers e property.Itemsize = tt
+property_of_own_answers e property.Ndim = tt
+property_of_own_answers e property.Shape = tt
+property_of_own_answers e property.Strides = tt
+property_of_own_answers e property.Suboffsets = tt
+property_of_own_answers e property.Format = tt
+property_of_own_answers e property.Contiguous = tt
+property_of_own_answers e property.CContiguous = tt
+property_of_own_answers e property.FContiguous = tt
+
+property_in_answers : (v : View) (which : PropertyName) → IfDone (λ (r : LocalReply). is_answer r ≡ true) (property_in v which)
+property_in_answers v property.Exports = tt
+property_in_answers v property.Obj = refl
+property_in_answers v property.Nbytes = refl
+property_in_answers v property.Readonly = refl
+property_in_answers v property.Itemsize = refl
+property_in_answers v property.Ndim = refl
+property_in_answers v property.Shape = refl
+property_in_answers v property.Strides = refl
+property_in_answers v property.Suboffsets = refl
+property_in_answers v property.Format = refl
+property_in_answers v property.Contiguous = refl
+property_in_answers v property.CContiguous = refl
+property_in_answers v property.FContiguous = refl
+
+property_of_view_answers : (e : Exporter) (k : ℕ) (which : PropertyName) → IsAnswered (property_of_view e k which)
+property_of_view_answers e k which =
+    bind (unless (is_exports which) fault.UnknownName) _ (λ _ _.
+    bind (live_view e k) _ (λ v _.
+    bind (property_in v which) _ (λ answer found. done (λ (r : LocalReply). is_answer r ≡ true) (property_in v which) answer (property_in_answers v which) found)))
+
 row_answers : (e : Exporter) (s : Subject) (v : Verb) (loans : List (ℕ × Loan)) → IsAnswered (row e s v loans)
 row_answers e subject.Own verb.View loans = refl
 row_answers e (subject.View k) verb.View loans = bind (view_again e k) _ (λ v _. refl)
@@ -90,8 +129,8 @@ row_answers e subject.Own (verb.Set key value) loans =
 row_answers e (subject.View k) (verb.Set key value) loans = bind (set_target e k key value) _ (λ target _. refl)
 row_answers e subject.Own (verb.Cast format shape) loans = tt
 row_answers e (subject.View k) (verb.Cast format shape) loans = tt
-row_answers e subject.Own (verb.Property name) loans = tt
-row_answers e (subject.View k) (verb.Property name) loans = tt
+row_answers e subject.Own (verb.Property name) loans = property_of_own_answers e name
+row_answers e (subject.View k) (verb.Property name) loans = property_of_view_answers e k name
 row_answers e subject.Own verb.ToBytes loans = refl
 row_answers e (subject.View k) verb.ToBytes loans = bind (live_view e k) _ (λ v _. refl)
 row_answers e subject.Own verb.Release loans = tt

@@ -39,6 +39,9 @@ use Rattle.pybuf_slice.specs.Reads.{elements_at}
 use Rattle.pybuf_exporter.specs.Slices.{sliced}
 use Rattle.pybuf_exporter.specs.Rows.Get.{byte_of_own, get_of_own, item_of_view, slice_of_view, get_of_view}
 use Rattle.pybuf_exporter.specs.Rows.Set.{set_of_own, set_target, set_of_view}
+use Rattle.pybuf_exporter.specs.declared.commands.PropertyName.{PropertyName}
+use Rattle.pybuf_exporter.specs.declared.commands.PropertyName.TheVariants as property
+use Rattle.pybuf_exporter.specs.Rows.Property.{is_exports, property_in, property_of_own, property_of_view}
 use Rattle.pybuf_exporter.specs.Rows.Release.{released_at, released_in, release_of_view}
 use Rattle.pybuf_exporter.proofs.Laid.{laid_one}
 use Rattle.pybuf_exporter.proofs.Formed.{whole_formed, again_formed, released_formed, sliced_formed, exporter_fits, view_fits}
@@ -347,6 +350,27 @@ built_sound : (b : Bool) (r : Result (Exporter × LocalReply) Fault) → IsSound
 built_sound true r after = after
 built_sound false r after = tt
 
+property_of_own_sound : (e : Exporter) (which : PropertyName) → IsSoundExporter e → IsSoundAfter (property_of_own e which)
+property_of_own_sound e property.Exports sound = sound
+property_of_own_sound e property.Obj sound = tt
+property_of_own_sound e property.Nbytes sound = tt
+property_of_own_sound e property.Readonly sound = tt
+property_of_own_sound e property.Itemsize sound = tt
+property_of_own_sound e property.Ndim sound = tt
+property_of_own_sound e property.Shape sound = tt
+property_of_own_sound e property.Strides sound = tt
+property_of_own_sound e property.Suboffsets sound = tt
+property_of_own_sound e property.Format sound = tt
+property_of_own_sound e property.Contiguous sound = tt
+property_of_own_sound e property.CContiguous sound = tt
+property_of_own_sound e property.FContiguous sound = tt
+
+property_of_view_sound : (e : Exporter) (k : ℕ) (which : PropertyName) → IsSoundExporter e → IsSoundAfter (property_of_view e k which)
+property_of_view_sound e k which sound =
+    sound_bind (unless (is_exports which) fault.UnknownName) _ (λ _ _.
+    sound_bind (live_view e k) _ (λ v _.
+    sound_bind (property_in v which) _ (λ answer _. sound)))
+
 -- every row
 pub row_sound : (e : Exporter) (s : Subject) (v : Verb) (loans : List (ℕ × Loan)) → IsSoundExporter e → IsSoundAfter (row e s v loans)
 row_sound e subject.Own verb.View loans sound = view_of_own_sound e sound
@@ -357,8 +381,8 @@ row_sound e subject.Own (verb.Set key value) loans sound = set_in_kind_sound e.k
 row_sound e (subject.View k) (verb.Set key value) loans sound = set_of_view_sound e k key value sound
 row_sound e subject.Own (verb.Cast format shape) loans sound = tt
 row_sound e (subject.View k) (verb.Cast format shape) loans sound = tt
-row_sound e subject.Own (verb.Property name) loans sound = tt
-row_sound e (subject.View k) (verb.Property name) loans sound = tt
+row_sound e subject.Own (verb.Property name) loans sound = property_of_own_sound e name sound
+row_sound e (subject.View k) (verb.Property name) loans sound = property_of_view_sound e k name sound
 row_sound e subject.Own verb.ToBytes loans sound = sound
 row_sound e (subject.View k) verb.ToBytes loans sound = sound_bind (live_view e k) _ (λ v _. sound)
 row_sound e subject.Own verb.Release loans sound = tt

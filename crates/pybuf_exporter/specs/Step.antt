@@ -20,6 +20,7 @@ use Rattle.pybuf_exporter.specs.Rows.Set.{set_of_own, set_of_view}
 use Rattle.pybuf_exporter.specs.Rows.ToBytes.{bytes_of_own, bytes_of_view}
 use Rattle.pybuf_exporter.specs.Rows.Release.{release_of_view}
 use Rattle.pybuf_exporter.specs.Rows.Len.{len_of_own, len_of_view}
+use Rattle.pybuf_exporter.specs.Rows.Property.{property_of_own, property_of_view}
 
 -- Which spellings of a command are built for a subject: a key of a view is no tuple, and a key that
 -- is written at is neither a tuple nor a slice. Every other spelling is answered as an unknown name.
@@ -52,6 +53,8 @@ row e (subject.View k) verb.ToBytes loans = bytes_of_view e k
 row e (subject.View k) verb.Release loans = release_of_view e k
 row e subject.Own verb.Len loans = len_of_own e
 row e (subject.View k) verb.Len loans = len_of_view e k
+row e subject.Own (verb.Property name) loans = property_of_own e name
+row e (subject.View k) (verb.Property name) loans = property_of_view e k name
 row e _ _ loans = Err fault.UnknownName
 
 abbrev pub answered_if_built : Exporter → Subject → Verb → List (ℕ × Loan) → Result (Exporter × LocalReply) Fault

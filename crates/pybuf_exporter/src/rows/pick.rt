@@ -15,7 +15,7 @@ use crate::items::{is_slice, is_tuple};
 use crate::kinds::{ExporterKind, Subject};
 use crate::loans::LoanList;
 use crate::parts::Parts;
-use crate::rows::{get, len, release, set, to_bytes, view};
+use crate::rows::{get, len, property, release, set, to_bytes, view};
 use pybuf_value::{Fault, Made, NoMemory, Value};
 
 /// Whether `get` with a key is built for a subject.
@@ -93,6 +93,8 @@ fn row(
         (Subject::View(k), Verb::Release) => release::of_view(parts, k),
         (Subject::Own, Verb::Len) => len::of_own(parts),
         (Subject::View(k), Verb::Len) => len::of_view(parts, k),
+        (Subject::Own, Verb::Property { name }) => property::of_own(parts, *name),
+        (Subject::View(k), Verb::Property { name }) => property::of_view(parts, k, *name),
         _ => Err(Halt::Refused(Fault::UnknownName)),
     }
 }
