@@ -4,6 +4,7 @@ pub mod Gathered
 pub mod ListTests
 pub mod Counts
 pub mod Laid
+pub mod Formed
 pub mod Soundness
 pub mod Described
 pub mod Refusals

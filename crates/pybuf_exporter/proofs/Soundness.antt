@@ -1,5 +1,5 @@
 -- Every row keeps an exporter sound.
-use Rattle.std.proofs.Common.{◌≡◌, ℕ, ◌+◌, ◌≤◌, ◌<◌, List, [], ◌∷◌, length, Bool, true, false, true≢false, ap, sym, ◌∙◌, refl, subst, arith}
+use Rattle.std.proofs.Common.{◌≡◌, ◌≢◌, ℕ, zero, suc, ◌+◌, ◌≤◌, ◌<◌, List, [], ◌∷◌, length, Bool, true, false, true≢false, ap, sym, ◌∙◌, refl, subst, arith}
 use Rattle.std.specs.Prelude.{ℤ, pos, negsuc, if◌then◌else◌, Option, Some, None, Result, Ok, Err, slice_get, slice_index}
 use Rattle.std.specs.List.{All, cons_option}
 use Rattle.std.specs.Option.{ok_or}
@@ -24,12 +24,17 @@ use Rattle.pybuf_exporter.specs.declared.commands.LocalReply.{LocalReply}
 use Rattle.pybuf_exporter.specs.declared.commands.LocalReply.TheVariants as reply
 use Rattle.pybuf_exporter.specs.Exporter.{Exporter, View, whole_of, view_at, live_view, laid, with_view}
 use Rattle.pybuf_exporter.specs.Items.{index_in, place_in, is_none, byte_for_item}
-use Rattle.pybuf_exporter.specs.Sound.{IsHeld, IsHeldOrReleased, IsSoundExporter}
+use Rattle.pybuf_exporter.specs.Sound.{IsFormed, IsHeld, IsHeldOrReleased, IsSoundExporter}
 use Rattle.pybuf_exporter.specs.declared.loans.Loan.{Loan}
 use Rattle.pybuf_exporter.specs.Handles.{handles_of, are_known}
 use Rattle.pybuf_exporter.specs.Step.{row, answered_if_built, answered, is_built, estep, settled, set_in_kind, get_in_kind}
 use Rattle.pybuf_exporter.specs.Rows.View.{view_of_own, view_of_view, view_again}
-use Rattle.pybuf_slice.specs.Parts.{SliceParts, saturated_parts_of, picks_of}
+use Rattle.pybuf_value.specs.declared.values.Scalar.{Scalar}
+use Rattle.pybuf_value.specs.declared.values.Scalar.TheVariants as scalar
+use Rattle.pybuf_value.specs.Numbers.{number_in}
+use Rattle.std.proofs.lemmas.Int.{ints}
+use Rattle.pybuf_desc.proofs.SliceFacts.{clamped_nonzero}
+use Rattle.pybuf_slice.specs.Parts.{SliceParts, nonzero, step_in, part_in, parts_of, saturated_parts_of, picks_of}
 use Rattle.pybuf_slice.specs.Reads.{elements_at}
 use Rattle.pybuf_exporter.specs.Slices.{sliced}
 use Rattle.pybuf_exporter.specs.Rows.Get.{byte_of_own, get_of_own, item_of_view, slice_of_view, get_of_view}
@@ -39,6 +44,10 @@ use Rattle.pybuf_exporter.specs.declared.commands.PropertyName.TheVariants as pr
 use Rattle.pybuf_exporter.specs.Rows.Property.{is_exports, property_in, property_of_own, property_of_view}
 use Rattle.pybuf_exporter.specs.Rows.Release.{released_at, released_in, release_of_view}
 use Rattle.pybuf_exporter.proofs.Laid.{laid_one}
+use Rattle.pybuf_exporter.proofs.Formed.{whole_formed, again_formed, released_formed, sliced_formed, exporter_fits, view_fits}
+use Rattle.std.specs.Option.{option_map}
+use Rattle.pybuf_value.specs.declared.snaps.Snap.{Snap}
+use Rattle.pybuf_exporter.specs.Loans.{snap_of_exporter, snap_of_view, snap_of_subject, fits_snap}
 
 -- what holds of a result that is not refused
 abbrev pub IfDone : {B : Type 0} → (B → Type 0) → Result B Fault → Type 0
@@ -93,11 +102,23 @@ live_view_bytes e k v sound found =
     let live = live_of (view_at e k) v found in
     All-slice_get (λ w. w.itemsize ≡ 1) e.views k v sound.items_are_bytes (view_at_given e k v live.0)
 
--- one more view that is held
-pub with_view_sound : (e : Exporter) (v : View) → IsSoundExporter e → v.itemsize ≡ 1 → IsHeld e.bytes v → IsSoundExporter (with_view e v)
-with_view_sound e v sound size held = record {
-  items_are_bytes = All-push (λ w. w.itemsize ≡ 1) e.views v sound.items_are_bytes size;
-  views_are_held = All-push (λ w. IsHeldOrReleased e.bytes w) e.views v sound.views_are_held (λ _. held);
+pub live_view_formed : (e : Exporter) (k : ℕ) (v : View) → IsSoundExporter e → live_view e k ≡ Ok v → IsFormed v
+live_view_formed e k v sound found =
+    let live = live_of (view_at e k) v found in
+    All-slice_get IsFormed e.views k v sound.views_are_formed (view_at_given e k v live.0)
+
+-- what holds of a view that is made now
+pub record IsMade (bytes : List ℕ) (v : View) : Type 0 where
+  pub is_of_bytes : v.itemsize ≡ 1
+  pub formed : IsFormed v
+  pub held : IsHeld bytes v
+
+-- one more view
+pub with_view_sound : (e : Exporter) (v : View) → IsSoundExporter e → IsMade e.bytes v → IsSoundExporter (with_view e v)
+with_view_sound e v sound made = record {
+  items_are_bytes = All-push (λ w. w.itemsize ≡ 1) e.views v sound.items_are_bytes made.is_of_bytes;
+  views_are_formed = All-push IsFormed e.views v sound.views_are_formed made.formed;
+  views_are_held = All-push (λ w. IsHeldOrReleased e.bytes w) e.views v sound.views_are_held (λ _. made.held);
 }
 
 pub whole_held : (k : ExporterKind) (bytes : List ℕ) → IsHeld bytes (whole_of k (length bytes))
@@ -118,34 +139,48 @@ held_by_length old new v same held unreleased = record {
 pub with_bytes_sound : (e : Exporter) (new : List ℕ) → length new ≡ length e.bytes → IsSoundExporter e → IsSoundExporter (record e { bytes = new })
 with_bytes_sound e new same sound = record {
   items_are_bytes = sound.items_are_bytes;
+  views_are_formed = sound.views_are_formed;
   views_are_held = All-weaker (λ w. IsHeldOrReleased e.bytes w) (λ w. IsHeldOrReleased new w) (λ w held. held_by_length e.bytes new w same held) e.views sound.views_are_held;
 }
 
 pub length-laid_one : (bytes : List ℕ) (i x : ℕ) → i < length bytes → length (laid bytes i (x ∷ [])) ≡ length bytes
 length-laid_one bytes i x inside = rw (laid_one bytes i x inside) (grind (arith, common_steps))
 
+pub whole_made : (k : ExporterKind) (bytes : List ℕ) → IsMade bytes (whole_of k (length bytes))
+whole_made k bytes = record { is_of_bytes = refl; formed = whole_formed k (length bytes); held = whole_held k bytes }
+
 -- each row
 pub view_of_own_sound : (e : Exporter) → IsSoundExporter e → IsSoundAfter (view_of_own e)
-view_of_own_sound e sound = with_view_sound e (whole_of e.kind (length e.bytes)) sound refl (whole_held e.kind e.bytes)
+view_of_own_sound e sound = with_view_sound e (whole_of e.kind (length e.bytes)) sound (whole_made e.kind e.bytes)
 
-again_held : (bytes : List ℕ) (v : View) → IsHeld bytes v → IsHeld bytes (record v { made_at = length bytes })
-again_held bytes v held = record { inside = held.inside; length_kept = refl }
+again_made : (bytes : List ℕ) (v : View) → IsMade bytes v → IsMade bytes (record v { made_at = length bytes })
+again_made bytes v made = record {
+  is_of_bytes = made.is_of_bytes;
+  formed = again_formed v (length bytes) made.formed;
+  held = record { inside = made.held.inside; length_kept = refl };
+}
+
+-- a live view, as if it were made now
+pub live_view_made : (e : Exporter) (k : ℕ) (v : View) → IsSoundExporter e → live_view e k ≡ Ok v → IsMade e.bytes v
+live_view_made e k v sound found = record {
+  is_of_bytes = live_view_bytes e k v sound found;
+  formed = live_view_formed e k v sound found;
+  held = live_view_held e k v sound found;
+}
 
 again_of : (r : Result View Fault) (n : ℕ) (v : View) → (r >>= (λ w. Ok (record w { made_at = n }))) ≡ Ok v → (w : View) × (r ≡ Ok w) × (v ≡ record w { made_at = n })
 again_of (Err f) n v h = absurd (cc)
 again_of (Ok w) n v h = (w, refl, (cc))
 
-pub view_again_held : (e : Exporter) (k : ℕ) (v : View) → IsSoundExporter e → view_again e k ≡ Ok v → (v.itemsize ≡ 1) × IsHeld e.bytes v
-view_again_held e k v sound found =
+pub view_again_made : (e : Exporter) (k : ℕ) (v : View) → IsSoundExporter e → view_again e k ≡ Ok v → IsMade e.bytes v
+view_again_made e k v sound found =
     let again = again_of (live_view e k) (length e.bytes) v found in
-    let held = live_view_held e k again.0 sound again.1 in
-    let size = live_view_bytes e k again.0 sound again.1 in
-    (subst (λ (x : View). x.itemsize ≡ 1) (sym again.2) size, subst (λ (x : View). IsHeld e.bytes x) (sym again.2) (again_held e.bytes again.0 held))
+    subst (λ (x : View). IsMade e.bytes x) (sym again.2) (again_made e.bytes again.0 (live_view_made e k again.0 sound again.1))
 
 pub view_of_view_sound : (e : Exporter) (k : ℕ) → IsSoundExporter e → IsSoundAfter (view_of_view e k)
 view_of_view_sound e k sound =
     sound_bind (view_again e k) (λ v. Ok (with_view e v, reply.View (length e.views)))
-    (λ v found. let held = view_again_held e k v sound found in with_view_sound e v sound held.0 held.1)
+    (λ v found. with_view_sound e v sound (view_again_made e k v sound found))
 
 pub place_in_inside : (len : ℕ) (index : ℤ) (p : ℕ) → place_in len index ≡ Ok p → p < len
 place_in_inside len (pos n) p h = grind (arith, common_steps)
@@ -189,18 +224,53 @@ sliced_held bytes v parts held = record {
   length_kept = refl;
 }
 
-slice_of_view_done : (e : Exporter) (k : ℕ) (slice : PySlice) → IsSoundExporter e → IfDone (λ (v : View). (v.itemsize ≡ 1) × IsHeld e.bytes v) (slice_of_view e k slice)
+-- the step of a slice is not 0
+nonzero_moves : (z : ℤ) → IfDone (λ (step : ℤ). step ≢ pos 0) (nonzero z)
+nonzero_moves (pos zero) = tt
+nonzero_moves (pos (suc n)) = λ e. omega (arith, ints, e)
+nonzero_moves (negsuc n) = λ e. omega (arith, ints, e)
+
+number_moves : (r : Result ℤ Fault) → IfDone (λ (step : ℤ). step ≢ pos 0) (r >>= nonzero)
+number_moves (Ok z) = nonzero_moves z
+number_moves (Err f) = tt
+
+step_moves : (s : Scalar) → IfDone (λ (step : ℤ). step ≢ pos 0) (step_in s)
+step_moves scalar.None = λ e. omega (arith, ints, e)
+step_moves (scalar.Bool truth) = number_moves (number_in (scalar.Bool truth))
+step_moves (scalar.Int n) = nonzero_moves n
+step_moves (scalar.Text t) = tt
+step_moves (scalar.Bytes b) = tt
+step_moves scalar.Ellipsis = tt
+step_moves (scalar.Handle h) = tt
+
+pub slice_moves : (slice : PySlice) → IfDone (λ (parts : SliceParts). parts.step ≢ pos 0) (saturated_parts_of slice)
+slice_moves slice =
+    let P : SliceParts → Type 0 = λ parts. parts.step ≢ pos 0 in
+    done_bind P (parts_of slice) _ (λ parts found.
+    clamped_nonzero parts.step (done P (parts_of slice) parts
+    (done_bind P (step_in slice.step) _ (λ step at.
+    done_bind P (part_in slice.start) _ (λ start _.
+    done_bind P (part_in slice.stop) _ (λ stop _.
+    done (λ (z : ℤ). z ≢ pos 0) (step_in slice.step) step (step_moves slice.step) at)))) found))
+
+slice_of_view_done : (e : Exporter) (k : ℕ) (slice : PySlice) → IsSoundExporter e → IfDone (λ (v : View). IsMade e.bytes v) (slice_of_view e k slice)
 slice_of_view_done e k slice sound =
-    let P : View → Type 0 = λ v. (v.itemsize ≡ 1) × IsHeld e.bytes v in
+    let P : View → Type 0 = λ v. IsMade e.bytes v in
     done_bind P (live_view e k) _ (λ v live.
-    done_bind P (saturated_parts_of slice) _ (λ parts _.
-    (live_view_bytes e k v sound live, sliced_held e.bytes v parts (live_view_held e k v sound live))))
+    done_bind P (saturated_parts_of slice) _ (λ parts found.
+    record {
+      is_of_bytes = live_view_bytes e k v sound live;
+      formed =
+          sliced_formed v (length e.bytes) parts
+          (done (λ (p : SliceParts). p.step ≢ pos 0) (saturated_parts_of slice) parts (slice_moves slice) found)
+          (live_view_formed e k v sound live);
+      held = sliced_held e.bytes v parts (live_view_held e k v sound live);
+    }))
 
 slice_row_sound : (e : Exporter) (k : ℕ) (slice : PySlice) → IsSoundExporter e → IsSoundAfter (get_of_view e k (value.Slice slice))
 slice_row_sound e k slice sound =
     sound_bind (slice_of_view e k slice) _ (λ v found.
-    let held = done (λ (w : View). (w.itemsize ≡ 1) × IsHeld e.bytes w) (slice_of_view e k slice) v (slice_of_view_done e k slice sound) found in
-    with_view_sound e v sound held.0 held.1)
+    with_view_sound e v sound (done (λ (w : View). IsMade e.bytes w) (slice_of_view e k slice) v (slice_of_view_done e k slice sound) found))
 
 pub get_of_view_sound : (e : Exporter) (k : ℕ) (key : Value) → IsSoundExporter e → IsSoundAfter (get_of_view e k key)
 get_of_view_sound e k (value.Slice slice) sound = slice_row_sound e k slice sound
@@ -245,6 +315,7 @@ set_of_view_sound e k key value sound =
 pub released_sound : (e : Exporter) (k : ℕ) (v : View) → IsSoundExporter e → slice_get e.views k ≡ Some v → IsSoundExporter (released_at e k v)
 released_sound e k v sound at = record {
   items_are_bytes = All-set (λ w. w.itemsize ≡ 1) e.views k (record v { released = true }) (All-slice_get (λ w. w.itemsize ≡ 1) e.views k v sound.items_are_bytes at) sound.items_are_bytes;
+  views_are_formed = All-set IsFormed e.views k (record v { released = true }) (released_formed v (All-slice_get IsFormed e.views k v sound.views_are_formed at)) sound.views_are_formed;
   views_are_held = All-set (λ w. IsHeldOrReleased e.bytes w) e.views k (record v { released = true }) (λ unreleased. absurd (true≢false unreleased)) sound.views_are_held;
 }
 
@@ -344,3 +415,34 @@ released_in_done e k sound =
 
 pub released_is_sound : (old new : Exporter) (k : ℕ) → IsSoundExporter old → released_in old k ≡ Ok new → IsSoundExporter new
 released_is_sound old new k sound is = done IsSoundExporter (released_in old k) new (released_in_done old k sound) is
+
+-- ---- what is lent
+
+view_snap_fits : (e : Exporter) (k : ℕ) (snap : Snap) (o : Option View) → IsSoundExporter e → slice_get e.views k ≡ o → option_map (snap_of_view e.bytes) o ≡ Some snap → fits_snap snap ≡ true
+view_snap_fits e k snap (Some v) sound at is =
+    let same : snap_of_view e.bytes v ≡ snap = cc in
+    subst (λ (s : Snap). fits_snap s ≡ true) same
+    (view_fits e.bytes v (All-slice_get IsFormed e.views k v sound.views_are_formed at)
+    (All-slice_get (λ w. IsHeldOrReleased e.bytes w) e.views k v sound.views_are_held at))
+view_snap_fits e k snap None sound at is = absurd (cc)
+
+-- what a sound exporter lends fits
+pub snap_fits : (e : Exporter) (s : Subject) (snap : Snap) → IsSoundExporter e → snap_of_subject e s ≡ Some snap → fits_snap snap ≡ true
+snap_fits e subject.Own snap sound is =
+    let same : snap_of_exporter e ≡ snap = cc in subst (λ (s : Snap). fits_snap s ≡ true) same (exporter_fits e)
+snap_fits e (subject.View k) snap sound is = view_snap_fits e k snap (slice_get e.views k) sound refl is
+snap_fits e (subject.Iter k) snap sound is = absurd (cc)
+
+-- what a view that was given is lent as, and one that was not
+pub given_held : (e : Exporter) (k : ℕ) (v : View) → IsSoundExporter e → view_at e k ≡ Ok v → IsHeldOrReleased e.bytes v
+given_held e k v sound found = All-slice_get (λ w. IsHeldOrReleased e.bytes w) e.views k v sound.views_are_held (view_at_given e k v found)
+
+pub snap_given : (e : Exporter) (k : ℕ) (v : View) → view_at e k ≡ Ok v → snap_of_subject e (subject.View k) ≡ Some (snap_of_view e.bytes v)
+snap_given e k v found = ap (option_map (snap_of_view e.bytes)) (view_at_given e k v found)
+
+none_of : (o : Option View) (f : Fault) → ok_or o fault.UnknownName ≡ Err f → o ≡ None
+none_of None f h = refl
+none_of (Some w) f h = absurd (cc)
+
+pub no_snap : (e : Exporter) (k : ℕ) (f : Fault) → view_at e k ≡ Err f → snap_of_subject e (subject.View k) ≡ None
+no_snap e k f refused = ap (option_map (snap_of_view e.bytes)) (none_of (slice_get e.views k) f refused)

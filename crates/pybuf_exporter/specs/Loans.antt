@@ -1,12 +1,19 @@
--- What the handles of a command name, lent to one exporter, and which of that fits together.
-use Rattle.std.specs.Prelude.{◌≡◌, ℕ, ◌*◌, ◌==◌, Bool, true, false, ◌&&◌, ◌||◌, List, [], ◌∷◌, length, Option, Some, None, Result, Ok, Err, nat_lt, if◌then◌else◌}
+-- What handles name as it stands, what of it is lent to one exporter, and which loans fit.
+use Rattle.std.specs.Prelude.{◌≡◌, ℕ, ◌*◌, ◌==◌, Bool, true, false, ◌&&◌, ◌||◌, List, [], ◌∷◌, length, Option, Some, None, Result, Ok, Err, nat_lt, if◌then◌else◌, slice_get}
 use Rattle.std.specs.List.{list_all}
+use Rattle.std.specs.Option.{option_map}
 use Rattle.pybuf_value.specs.declared.faults.Fault.{Fault}
 use Rattle.pybuf_value.specs.declared.snaps.Snap.{Snap}
 use Rattle.pybuf_value.specs.declared.snaps.SnapKind.{SnapKind}
 use Rattle.pybuf_value.specs.declared.snaps.SnapKind.TheVariants as kind
 use Rattle.pybuf_struct.specs.Formats.{Format, format_of}
 use Rattle.pybuf_desc.specs.Descriptor.{product}
+use Rattle.pybuf_exporter.specs.declared.kinds.ExporterKind.{ExporterKind}
+use Rattle.pybuf_exporter.specs.declared.kinds.ExporterKind.TheVariants as exporter_kind
+use Rattle.pybuf_exporter.specs.declared.kinds.Subject.{Subject}
+use Rattle.pybuf_exporter.specs.declared.kinds.Subject.TheVariants as subject
+use Rattle.pybuf_exporter.specs.Exporter.{Exporter, View, content}
+use Rattle.pybuf_exporter.specs.Contiguous.{is_contiguous_view}
 use Rattle.pybuf_exporter.specs.declared.loans.Loan.{Loan}
 use Rattle.pybuf_exporter.specs.declared.loans.Loan.TheVariants as loan
 
@@ -14,6 +21,43 @@ use Rattle.pybuf_exporter.specs.declared.loans.Loan.TheVariants as loan
 abbrev pub loan_of : List (ℕ × Loan) → ℕ → Option Loan
 loan_of [] h = None
 loan_of (pair ∷ pairs) h = if pair.0 == h then Some pair.1 else loan_of pairs h
+
+-- ---- what a handle names
+
+abbrev pub snap_kind_of : ExporterKind → SnapKind
+snap_kind_of exporter_kind.Bytes = kind.Bytes
+snap_kind_of exporter_kind.ByteArray = kind.ByteArray
+snap_kind_of (exporter_kind.Vector readonly) = kind.Vector
+
+-- an exporter, which counts as its whole view
+abbrev pub snap_of_exporter : Exporter → Snap
+snap_of_exporter e = record {
+  kind = snap_kind_of e.kind;
+  format = 66 ∷ [];
+  itemsize = 1;
+  shape = length e.bytes ∷ [];
+  content = e.bytes;
+  contiguous = true;
+  released = false;
+}
+
+-- a view of an exporter of these bytes; there is nothing in one that was released
+abbrev pub snap_of_view : List ℕ → View → Snap
+snap_of_view bytes v = record {
+  kind = kind.View;
+  format = v.format;
+  itemsize = v.itemsize;
+  shape = v.shape;
+  content = if v.released then [] else content bytes v;
+  contiguous = is_contiguous_view v;
+  released = v.released;
+}
+
+-- what a handle of an exporter, or of a view of it, names; none where it was never given
+abbrev pub snap_of_subject : Exporter → Subject → Option Snap
+snap_of_subject e subject.Own = Some (snap_of_exporter e)
+snap_of_subject e (subject.View k) = option_map (snap_of_view e.bytes) (slice_get e.views k)
+snap_of_subject e (subject.Iter k) = None
 
 -- ---- which loans fit
 

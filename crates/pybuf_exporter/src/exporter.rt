@@ -1,13 +1,14 @@
 //! One exporter with its views.
-ghost use Rattle.std.specs.Prelude.{◌≡◌, ◌<◌, ◌↔◌, [], IfOk, IfSome, IsSome, IsSomeAnd, OnErr, MatchResult, false, length, slice_get};
+ghost use Rattle.std.specs.Prelude.{◌≡◌, ◌<◌, ◌↔◌, [], IfOk, IfSome, IsSome, IsSomeAnd, OnErr, MatchResult, true, false, length, slice_get};
 
 use crate::commands::{LocalCommand, LocalReply, Verb};
 use crate::kinds::{ExporterKind, Subject};
+use crate::lent;
 use crate::loans::LoanList;
 use crate::parts::Parts;
 use crate::rows;
 use pybuf_desc::BufferDescriptor;
-use pybuf_value::{ByteList, Fault, Made, Twin, copy_all};
+use pybuf_value::{ByteList, Fault, Made, Snap, Twin, copy_all};
 use std::alloc::Global;
 use std::marker::Model;
 
@@ -42,7 +43,7 @@ impl ExporterState {
     ghost use Rattle.pybuf_desc.specs.Valid.{IsValid};
     ghost use Rattle.pybuf_exporter.specs.Exporter.{new_exporter};
     ghost use Rattle.pybuf_exporter.specs.Step.{estep};
-    ghost use Rattle.pybuf_exporter.specs.Loans.{LoansFit};
+    ghost use Rattle.pybuf_exporter.specs.Loans.{LoansFit, snap_of_subject, fits_snap};
     ghost use Rattle.pybuf_exporter.specs.Rows.Release.{released_in};
 
     /// An exporter of these bytes, with no views. Takes no memory.
@@ -91,6 +92,15 @@ impl ExporterState {
         ensures err { OnErr result (self.new ≡ self.old) }
     {
         rows::release::release(&mut self.parts, view)
+    }
+
+    /// What a handle of the exporter or of one of its views names, as it stands; the content of a
+    /// released view is empty. None exactly where there is no such view, and for an iterator.
+    pub fn snap(&self, alloc: Global, subject: Subject) -> Made<Option<Snap>>
+        ensures value { IfOk result (λ snap. snap ≡ snap_of_subject self.now subject) }
+        ensures fits { IfOk result (λ snap. IfSome snap (λ s. fits_snap s ≡ true)) }
+    {
+        lent::snap(&self.parts, alloc, subject)
     }
 
     /// The kind.

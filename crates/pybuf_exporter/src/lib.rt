@@ -8,6 +8,7 @@ mod handles;
 mod items;
 mod kinds;
 mod laws;
+mod lent;
 mod loans;
 mod parts;
 mod rows;
@@ -16,6 +17,7 @@ mod stored;
 pub use commands::{LocalCommand, LocalReply, PropertyName, Verb, copy_option};
 pub use exporter::ExporterState;
 pub use kinds::{ExporterKind, Subject};
+pub use handles::handles_of;
 pub use laws::slicing_back_twice_is_nothing;
 pub use loans::{Loan, LoanList};
 

@@ -4,7 +4,7 @@ ghost use Rattle.std.specs.Prelude.{◌≡◌, ◌<◌, ◌%◌, ◌^◌, pos, �
 use crate::kinds::ExporterKind;
 use pybuf_desc::BufferDescriptor;
 use pybuf_slice::SaturatedSlice;
-use pybuf_value::{Made, NumberList, Text, Twin};
+use pybuf_value::{CountList, Made, NumberList, Text, Twin};
 use std::alloc::Global;
 use std::marker::Model;
 
@@ -36,6 +36,17 @@ fn entries_of(alloc: Global, dims: &[(usize, isize, isize)]) -> Made<NumberList>
     let mut list = NumberList::new(alloc);
     for dim in dims {
         list.push(dim.0 as i128)?;
+    }
+    Ok(list)
+}
+
+/// The same, as they are counted.
+fn counts_of(alloc: Global, dims: &[(usize, isize, isize)]) -> Made<CountList>
+    ensures { IfOk result (λ list. list ≡ map (λ dim. dim.0) dims.now) }
+{
+    let mut list = CountList::new(alloc);
+    for dim in dims {
+        list.push(dim.0)?;
     }
     Ok(list)
 }
@@ -218,6 +229,13 @@ impl StoredView {
         ensures { IfOk result (λ list. list ≡ map (λ n. pos n) self.now.shape) }
     {
         entries_of(alloc, self.descriptor.dim_desc())
+    }
+
+    /// The same, as they are counted.
+    pub fn counts(&self, alloc: Global) -> Made<CountList>
+        ensures { IfOk result (λ list. list ≡ self.now.shape) }
+    {
+        counts_of(alloc, self.descriptor.dim_desc())
     }
 
     /// The stride of each dimension.

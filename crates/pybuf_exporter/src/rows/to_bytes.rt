@@ -50,7 +50,7 @@ fn gather(alloc: Global, bytes: &[u8], len: usize, mut ranges: Segments<'_>) -> 
 
 /// The bytes of a view's items, in order. A row of items that lie one after the other is copied as
 /// one.
-fn content(alloc: Global, bytes: &[u8], view: &StoredView) -> Made<Vec<u8>>
+pub fn content(alloc: Global, bytes: &[u8], view: &StoredView) -> Made<Vec<u8>>
     requires { IsHeld bytes.now view.now }
     ensures { IfOk result (λ list. list.items ≡ content bytes.now view.now) }
 {
