@@ -1,18 +1,13 @@
 -- Casts of kept views.
-use Rattle.std.proofs.Common.{◌≡◌, ℕ, zero, suc, ◌+◌, ◌*◌, ◌/◌, ◌%◌, ◌^◌, ◌<◌, ◌≤◌, ℤ, pos, ◌+ℤ◌, nat_abs, List, [], ◌∷◌, length, map, get_or, Bool, true, ap, ap₂, sym, ◌∙◌, refl, subst, arith}
-use Rattle.std.specs.Prelude.{IsTrue, ◌↔◌}
-use Rattle.std.specs.Str.{bytes_eq}
+use Rattle.std.proofs.Common.{◌≡◌, ℕ, zero, suc, ◌/◌, ◌<◌, ℤ, pos, nat_abs, List, length, map, Bool, true, ap, sym, refl, arith}
 use Rattle.std.proofs.lemmas.Slice.Eq.{bytes_eq-Decides}
-use Rattle.pybuf_desc.specs.Descriptor.{Descriptor, Layout, shape_of, strides_of, product, flat}
+use Rattle.pybuf_desc.specs.Descriptor.{Descriptor, Layout, shape_of, product, flat}
 use Rattle.pybuf_desc.specs.Places.{places, Stands}
-use Rattle.pybuf_desc.specs.Valid.{IsValid, IsPlaced, IsPlaceable}
-use Rattle.pybuf_desc.specs.Contiguous.{IsContiguous, AreRowMajorStrides}
-use Rattle.pybuf_desc.specs.Casts.{cast_of}
+use Rattle.pybuf_desc.specs.Valid.{IsValid}
+use Rattle.pybuf_desc.specs.Contiguous.{IsContiguous}
 use Rattle.pybuf_desc.proofs.Strides.{contiguous_without_items, contiguous_by_strides, some_entries}
-use Rattle.pybuf_exporter.specs.Exporter.{View}
 use Rattle.pybuf_exporter.specs.Contiguous.{apart, is_contiguous_view}
-use Rattle.pybuf_exporter.specs.Layouts.{layout_of, shown, viewed, IsKept}
-use Rattle.pybuf_exporter.specs.Rows.Cast.{cast_view}
+use Rattle.pybuf_exporter.specs.Layouts.{shown, viewed, IsKept}
 use Rattle.pybuf_exporter.proofs.Kept.{pos_of_abs, contiguous_apart, first_place, starts_of_stands}
 
 by_count : (size n : ℕ) (dims : List (ℕ × ℤ × ℤ)) (start from : ℤ) → n ≡ product (shape_of dims) → IsContiguous size start (places dims start) → IsContiguous size from (places dims from)

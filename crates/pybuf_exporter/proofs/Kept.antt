@@ -1,8 +1,7 @@
 -- Views as descriptors and starts.
-use Rattle.std.proofs.Common.{◌≡◌, ℕ, zero, suc, ◌+◌, ◌-◌, ◌*◌, ◌^◌, ◌<◌, ◌≤◌, ℤ, pos, negsuc, ◌+ℤ◌, ◌*ℤ◌, ◌≤ℤ◌, ◌<ℤ◌, ◌/◌, nat_abs, List, [], ◌∷◌, ◌++◌, length, map, take, drop, get_or, Bool, true, false, ap, ap₂, sym, ◌∙◌, refl, subst, arith, SFits, w64}
-use Rattle.std.specs.Prelude.{IsTrue, ◌↔◌, All, Option, Some, None, slice_get, slice_index, codes}
+use Rattle.std.proofs.Common.{◌≡◌, ℕ, zero, suc, ◌+◌, ◌*◌, ◌^◌, ◌<◌, ◌≤◌, ℤ, pos, negsuc, ◌+ℤ◌, ◌*ℤ◌, ◌≤ℤ◌, ◌<ℤ◌, ◌/◌, nat_abs, List, [], ◌∷◌, ◌++◌, length, map, take, drop, get_or, Bool, true, false, ap, ap₂, sym, ◌∙◌, refl, subst, arith}
+use Rattle.std.specs.Prelude.{IsTrue, ◌↔◌, All, Some, slice_get, slice_index, codes}
 use Rattle.std.specs.List.{flat_map, range_with_len, cons_option}
-use Rattle.std.proofs.lemmas.Grind.{common_steps}
 use Rattle.std.proofs.lemmas.Int.{ints}
 use Rattle.std.proofs.lemmas.List.{length-map}
 use Rattle.std.proofs.lemmas.List.Elements.{All-tail, All-head, recursion_from_All}
@@ -13,15 +12,14 @@ use Rattle.pybuf_slice.specs.Reads.{elements_at}
 use Rattle.pybuf_desc.specs.Descriptor.{Descriptor, Layout, shape_of, strides_of, product, flat, bytes_layout}
 use Rattle.pybuf_desc.specs.Places.{places, Stands}
 use Rattle.pybuf_desc.specs.Valid.{IsInside, IsValid, IsPlaced}
-use Rattle.pybuf_desc.specs.Slices.{first_entry, first_stride, block_at, slice_at, slice_of}
-use Rattle.pybuf_desc.specs.Positions.{offset_of, number_of_item, AreIndices}
+use Rattle.pybuf_desc.specs.Slices.{first_entry, first_stride, block_at, slice_of}
+use Rattle.pybuf_desc.specs.Positions.{number_of_item, AreIndices}
 use Rattle.pybuf_desc.specs.Contiguous.{IsContiguous}
 use Rattle.std.specs.Bool.{Decides}
 use Rattle.std.specs.Str.{bytes_eq}
 use Rattle.std.proofs.lemmas.Slice.Eq.{bytes_eq-Decides}
 use Rattle.pybuf_desc.proofs.Steps.{length-places, zeroth_place}
 use Rattle.pybuf_desc.proofs.Track.{here}
-use Rattle.pybuf_desc.proofs.SliceMade.{entry_fits}
 use Rattle.pybuf_desc.proofs.SliceFacts.{block_size}
 use Rattle.pybuf_exporter.specs.declared.kinds.ExporterKind.{ExporterKind}
 use Rattle.pybuf_exporter.specs.Exporter.{View, whole_of, holds_readonly}

@@ -5,6 +5,7 @@ pub mod ListTests
 pub mod Counts
 pub mod Laid
 pub mod Formed
+pub mod Written
 pub mod Soundness
 pub mod Described
 pub mod Refusals

@@ -1,4 +1,4 @@
-use Rattle.std.proofs.Common.{◌≡◌, ◌∙◌, sym, subst, true, Bool}
+use Rattle.std.proofs.Common.{◌≡◌, sym, subst, true}
 use Rattle.pybuf_desc.specs.Casts.{cast_of}
 use Rattle.pybuf_exporter.specs.Exporter.{View}
 use Rattle.pybuf_exporter.specs.Contiguous.{is_contiguous_view}
