@@ -1,8 +1,7 @@
 -- Views that are formed, and what is lent of them fits.
-use Rattle.std.proofs.Common.{◌≡◌, ◌≢◌, pos, ap₂, ℕ, zero, suc, ◌+◌, ◌*◌, ◌<◌, ◌≤◌, List, [], ◌∷◌, ◌++◌, length, take, drop, get_or, Bool, true, false, ap, sym, ◌∙◌, refl, subst, arith}
-use Rattle.std.specs.Prelude.{Option, Some, None, slice_get}
-use Rattle.std.specs.List.{All, cons_option, range_with_len}
-use Rattle.std.proofs.lemmas.Grind.{common_steps}
+use Rattle.std.proofs.Common.{◌≡◌, ◌≢◌, pos, ap₂, ℕ, suc, ◌+◌, ◌*◌, ◌<◌, ◌≤◌, List, [], ◌∷◌, length, drop, Bool, true, false, ap, sym, ◌∙◌, refl, arith}
+use Rattle.std.specs.Prelude.{Option}
+use Rattle.std.specs.List.{All, cons_option}
 use Rattle.std.proofs.lemmas.List.Elements.{All-head, All-tail}
 use Rattle.std.proofs.lemmas.List.FromFn.{length-range_with_len}
 use Rattle.std.proofs.lemmas.Option.{slice_get-get_or}
@@ -16,16 +15,13 @@ use Rattle.pybuf_exporter.specs.Slices.{sliced}
 use Rattle.std.specs.Prelude.{◌&&◌, ◌||◌, ◌==◌, if◌then◌else◌}
 use Rattle.std.proofs.lemmas.Bool.{eq-eqb}
 use Rattle.std.proofs.lemmas.List.{length-append, length-take-le, length-drop}
-use Rattle.pybuf_desc.specs.Descriptor.{product}
 use Rattle.pybuf_value.specs.declared.snaps.Snap.{Snap}
 use Rattle.pybuf_value.specs.declared.snaps.SnapKind.TheVariants as snap_kind
 use Rattle.std.proofs.Math.Nat.{mul-zero}
 use Rattle.pybuf_exporter.specs.declared.kinds.ExporterKind.TheVariants as kind
-use Rattle.pybuf_exporter.specs.declared.kinds.Subject.{Subject}
-use Rattle.pybuf_exporter.specs.declared.kinds.Subject.TheVariants as subject
 use Rattle.pybuf_exporter.specs.Exporter.{Exporter, content, bytes_at}
-use Rattle.pybuf_exporter.specs.Loans.{is_sized, is_row_of, is_filled, byte_count, fits_kind, fits_snap, snap_kind_of, snap_of_exporter, snap_of_view, snap_of_subject}
-use Rattle.pybuf_exporter.specs.Sound.{IsFormed, IsHeld, IsHeldOrReleased, IsSoundExporter}
+use Rattle.pybuf_exporter.specs.Loans.{is_sized, byte_count, fits_kind, fits_snap, snap_kind_of, snap_of_exporter, snap_of_view}
+use Rattle.pybuf_exporter.specs.Sound.{IsFormed, IsHeldOrReleased}
 
 -- the format of bytes has the size 1
 pub bytes_are_sized : is_sized (66 ∷ []) 1 ≡ true

@@ -3,10 +3,9 @@ ghost use Rattle.std.specs.Prelude.{◌≡◌, ◌<◌, ◌↔◌, [], IfOk, IfS
 
 use crate::commands::{LocalCommand, LocalReply, Verb};
 use crate::kinds::{ExporterKind, Subject};
-use crate::lent;
 use crate::loans::LoanList;
 use crate::parts::Parts;
-use crate::rows;
+use crate::{lent, rows};
 use pybuf_desc::BufferDescriptor;
 use pybuf_value::{ByteList, Fault, Made, Snap, Twin, copy_all};
 use std::alloc::Global;

@@ -16,8 +16,8 @@ mod stored;
 
 pub use commands::{LocalCommand, LocalReply, PropertyName, Verb, copy_option};
 pub use exporter::ExporterState;
-pub use kinds::{ExporterKind, Subject};
 pub use handles::handles_of;
+pub use kinds::{ExporterKind, Subject};
 pub use laws::slicing_back_twice_is_nothing;
 pub use loans::{Loan, LoanList};
 

@@ -1,4 +1,4 @@
-use Rattle.std.proofs.Common.{◌≡◌, ap, sym, ◌∙◌}
+use Rattle.std.proofs.Common.{ap, sym, ◌∙◌}
 use Rattle.std.specs.Prelude.{Some}
 use Rattle.pybuf_exporter.specs.declared.kinds.Subject.TheVariants as subjects
 use Rattle.pybuf_exporter.specs.Answers.{seen}

@@ -1,4 +1,4 @@
-use Rattle.std.proofs.Common.{◌≡◌, ap, sym, ◌∙◌}
+use Rattle.std.proofs.Common.{ap, sym, ◌∙◌}
 use Rattle.std.specs.Prelude.{Some}
 use Rattle.pybuf_exporter.specs.Answers.{seen}
 use Rattle.pybuf_exporter.specs.Loans.{snap_of_subject}
