@@ -1,4 +1,4 @@
 pub mod Ran
-pub mod Runs
 pub mod Refusals
+pub mod Runs
 pub mod Releases

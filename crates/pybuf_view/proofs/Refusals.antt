@@ -15,7 +15,7 @@ use Rattle.pybuf_view.specs.declared.commands.Command.TheVariants as command
 use Rattle.pybuf_view.specs.declared.commands.Reply.TheVariants as reply
 use Rattle.pybuf_exporter.specs.Exporter.{Exporter}
 use Rattle.pybuf_exporter.specs.Step.{estep}
-use Rattle.pybuf_view.specs.World.{World, bytes_from, world_with_new, world_after, step_of_exporter, step_of_name, wstep}
+use Rattle.pybuf_view.specs.World.{World, bytes_from, world_with_new, world_after, loans_of, step_of_exporter, step_of_name, wstep}
 use Rattle.pybuf_exporter.proofs.Refusals.{estep_refusal}
 
 -- a list with one of its own elements set at its place
@@ -39,8 +39,8 @@ world_after_refusal w i e (local.Refused g) f kept is =
 
 exporter_refusal : (w : World) (i : ℕ) (s : Subject) (v : Verb) (o : Option Exporter) (f : Fault) → o ≡ slice_get w.exporters i → (step_of_exporter w i s v o).1 ≡ reply.Refused f → (step_of_exporter w i s v o).0 ≡ w
 exporter_refusal w i s v (Some e) f at is =
-    world_after_refusal w i (estep e s v).0 (estep e s v).1 f
-    (λ refused. ap (set w.exporters i) (estep_refusal e s v f refused) ∙ set-slice_get w.exporters i e (sym at)) is
+    world_after_refusal w i (estep e s v (loans_of w i v)).0 (estep e s v (loans_of w i v)).1 f
+    (λ refused. ap (set w.exporters i) (estep_refusal e s v (loans_of w i v) f refused) ∙ set-slice_get w.exporters i e (sym at)) is
 exporter_refusal w i s v None f at is = refl
 
 name_refusal : (w : World) (v : Verb) (o : Option Named) (f : Fault) → (step_of_name w v o).1 ≡ reply.Refused f → (step_of_name w v o).0 ≡ w
@@ -74,7 +74,7 @@ after_handles w i e (local.Bytes bytes) h below = refl
 after_handles w i e (local.Refused g) h below = refl
 
 exporter_handles : (w : World) (i : ℕ) (s : Subject) (v : Verb) (o : Option Exporter) (h : ℕ) → h < length w.handles → slice_get (step_of_exporter w i s v o).0.handles h ≡ slice_get w.handles h
-exporter_handles w i s v (Some e) h below = after_handles w i (estep e s v).0 (estep e s v).1 h below
+exporter_handles w i s v (Some e) h below = after_handles w i (estep e s v (loans_of w i v)).0 (estep e s v (loans_of w i v)).1 h below
 exporter_handles w i s v None h below = refl
 
 name_handles : (w : World) (v : Verb) (o : Option Named) (h : ℕ) → h < length w.handles → slice_get (step_of_name w v o).0.handles h ≡ slice_get w.handles h

@@ -1,6 +1,6 @@
 -- Runs: one command more, and every world after a command is sound.
-use Rattle.std.proofs.Common.{◌≡◌, ℕ, ◌+◌, ◌<◌, List, [], ◌∷◌, ◌++◌, length, take, set, get_or, ap, sym, ◌∙◌, refl, subst, append_assoc}
-use Rattle.std.specs.Prelude.{Option, Some, None, Result, Ok, Err, slice_get}
+use Rattle.std.proofs.Common.{◌≡◌, ℕ, ◌+◌, ◌<◌, ◌≤◌, ◌⊎◌, inl, inr, Bool, true, false, map, arith, List, [], ◌∷◌, ◌++◌, length, take, set, get_or, ap, sym, ◌∙◌, refl, subst, append_assoc}
+use Rattle.std.specs.Prelude.{Option, Some, None, Result, Ok, Err, slice_get, slice_index, ◌==◌, ◌&&◌, if◌then◌else◌}
 use Rattle.std.specs.List.{All}
 use Rattle.std.proofs.lemmas.List.{take_more}
 use Rattle.std.proofs.lemmas.List.Elements.{All-push, All-set, All-nil}
@@ -18,12 +18,22 @@ use Rattle.pybuf_view.specs.declared.commands.Command.TheVariants as command
 use Rattle.pybuf_view.specs.declared.commands.Reply.{Reply}
 use Rattle.pybuf_exporter.specs.Exporter.{Exporter, new_exporter}
 use Rattle.pybuf_exporter.specs.Step.{estep}
-use Rattle.pybuf_view.specs.World.{World, empty_world, bytes_from, world_with_new, world_after, step_of_exporter, step_of_name, wstep, world_of, replies_of, world_released, released_in_exporter, released_name, released_by}
+use Rattle.pybuf_view.specs.World.{World, empty_world, bytes_from, world_with_new, world_after, lent_as, lent_by, loan_from, loan_for, loans_of, step_of_exporter, step_of_name, wstep, world_of, replies_of, world_released, released_in_exporter, released_name, released_by}
 use Rattle.pybuf_exporter.specs.Rows.Release.{released_in}
-use Rattle.pybuf_exporter.specs.Sound.{IsSoundExporter, IsHeldOrReleased}
-use Rattle.pybuf_view.specs.Sound.{IsSoundWorld, StaysSound}
+use Rattle.pybuf_exporter.specs.Sound.{IsFormed, IsSoundExporter, IsHeldOrReleased}
+use Rattle.pybuf_view.specs.Sound.{AreOwned, IsSoundWorld, StaysSound}
 use Rattle.pybuf_view.proofs.Ran.{Ran}
-use Rattle.pybuf_exporter.proofs.Soundness.{estep_sound, All-slice_get, IfDone, released_in_done}
+use Rattle.pybuf_exporter.proofs.Soundness.{estep_sound, All-slice_get, IfDone, released_in_done, snap_fits}
+use Rattle.std.proofs.lemmas.Bool.{cases_lt}
+use Rattle.std.proofs.lemmas.Option.{slice_get_within}
+use Rattle.std.proofs.lemmas.List.{length-append, length-set, get_or_push}
+use Rattle.std.proofs.Math.ListN.{get_or-append}
+use Rattle.pybuf_value.specs.declared.snaps.Snap.{Snap}
+use Rattle.pybuf_exporter.specs.declared.loans.Loan.{Loan}
+use Rattle.pybuf_exporter.specs.declared.loans.Loan.TheVariants as loan
+use Rattle.pybuf_exporter.specs.Handles.{handles_of}
+use Rattle.pybuf_exporter.specs.Loans.{snap_of_subject, fits_snap, fits, all_fit, LoansFit}
+use Rattle.pybuf_view.proofs.Refusals.{slice_get-append}
 
 -- one list of commands after another
 pub world_of-append : (w : World) (xs ys : List Command) → world_of w (xs ++ ys) ≡ world_of (world_of w xs) ys
@@ -47,33 +57,116 @@ replies_of_more w cs i c below is =
 new_is_sound : (k : ExporterKind) (bytes : List ℕ) → IsSoundExporter (new_exporter k bytes)
 new_is_sound k bytes = record {
   items_are_bytes = All-nil (λ v. v.itemsize ≡ 1);
+  views_are_formed = All-nil IsFormed;
   views_are_held = All-nil (λ v. IsHeldOrReleased bytes v);
 }
+
+-- an owner that is there is found where more handles are
+owner_stays : (handles more : List Named) (owner i : ℕ) → slice_get handles owner ≡ Some (named.Exporter i) → slice_get (handles ++ more) owner ≡ Some (named.Exporter i)
+owner_stays handles more owner i at =
+    slice_get-append handles more owner (slice_get_within handles owner (named.Exporter i) at) ∙ at
+
+owned_with_handles : (n : ℕ) (handles more : List Named) (owners : List ℕ) → AreOwned n handles owners → AreOwned n (handles ++ more) owners
+owned_with_handles n handles more owners owned = record {
+  counted = owned.counted;
+  named = λ i below. owner_stays handles more (slice_index owners i) i (owned.named i below);
+}
+
+owned_with_set : (exporters : List Exporter) (i : ℕ) (e : Exporter) (handles : List Named) (owners : List ℕ) → AreOwned (length exporters) handles owners → AreOwned (length (set exporters i e)) handles owners
+owned_with_set exporters i e handles owners owned = subst (λ (n : ℕ). AreOwned n handles owners) (sym (length-set exporters i e)) owned
+
+slice_get-push : {X : Type 0} (xs : List X) (x : X) → slice_get (xs ++ x ∷ []) (length xs) ≡ Some x
+slice_get-push [] x = refl
+slice_get-push (y ∷ ys) x = slice_get-push ys x
+
+-- an exporter and its handle more
+new_owner : (handles : List Named) (owners : List ℕ) (n i : ℕ) → AreOwned n handles owners → (i < n) ⊎ (n ≤ i) → i < n + 1
+    → slice_get (handles ++ named.Exporter n ∷ []) (slice_index (owners ++ length handles ∷ []) i) ≡ Some (named.Exporter i)
+new_owner handles owners n i owned (inl below) less =
+    let within : i < length owners = omega (arith, owned.counted) in
+    ap (slice_get (handles ++ named.Exporter n ∷ [])) (get_or-append owners (length handles ∷ []) 0 i within)
+    ∙ owner_stays handles (named.Exporter n ∷ []) (slice_index owners i) i (owned.named i below)
+new_owner handles owners n i owned (inr from) less =
+    let last : i ≡ length owners = omega (arith, owned.counted) in
+    let here : i ≡ n = omega arith in
+    ap (slice_get (handles ++ named.Exporter n ∷ [])) (get_or_push owners (length handles) 0 i (sym last))
+    ∙ slice_get-push handles (named.Exporter n) ∙ ap (λ (k : ℕ). Some (named.Exporter k)) (sym here)
+
+owned_with_new : (exporters : List Exporter) (e : Exporter) (handles : List Named) (owners : List ℕ) → AreOwned (length exporters) handles owners → AreOwned (length (exporters ++ e ∷ [])) (handles ++ named.Exporter (length exporters) ∷ []) (owners ++ length handles ∷ [])
+owned_with_new exporters e handles owners owned =
+    subst (λ (n : ℕ). AreOwned n (handles ++ named.Exporter (length exporters) ∷ []) (owners ++ length handles ∷ [])) (sym (length-append exporters (e ∷ [])))
+    (record {
+      counted = length-append owners (length handles ∷ []) ∙ ap (λ n. n + 1) owned.counted;
+      named = λ i below. new_owner handles owners (length exporters) i owned (cases_lt i (length exporters)) below;
+    })
+
+-- ---- what is lent in a sound world fits
+
+snap_lent_fits : (o : Option Snap) → ((snap : Snap) → o ≡ Some snap → fits_snap snap ≡ true) → fits (lent_as o) ≡ true
+snap_lent_fits (Some snap) each = each snap refl
+snap_lent_fits None each = refl
+
+lent_fits : (w : World) (j : ℕ) (s : Subject) (o : Option Exporter) → IsSoundWorld w → slice_get w.exporters j ≡ o → fits (lent_by o s) ≡ true
+lent_fits w j s (Some e) sound at =
+    snap_lent_fits (snap_of_subject e s)
+    (λ snap found. snap_fits e s snap (All-slice_get IsSoundExporter w.exporters j e sound.exporters_are_sound at) found)
+lent_fits w j s None sound at = refl
+
+either_fits : (b : Bool) (one other : Loan) → fits one ≡ true → fits other ≡ true → fits (if b then one else other) ≡ true
+either_fits true one other fit fit_other = fit
+either_fits false one other fit fit_other = fit_other
+
+named_fits : (w : World) (i : ℕ) (o : Option Named) → IsSoundWorld w → fits (loan_from w i o) ≡ true
+named_fits w i (Some (named.Exporter j)) sound =
+    either_fits (j == i) loan.Own (lent_by (slice_get w.exporters j) subject.Own) refl (lent_fits w j subject.Own (slice_get w.exporters j) sound refl)
+named_fits w i (Some (named.View j k)) sound =
+    either_fits (j == i) (loan.View k) (lent_by (slice_get w.exporters j) (subject.View k)) refl (lent_fits w j (subject.View k) (slice_get w.exporters j) sound refl)
+named_fits w i None sound = refl
+
+handles_fit : (w : World) (i : ℕ) (handles : List ℕ) → IsSoundWorld w → LoansFit (map (λ handle. (handle, loan_for w i handle)) handles)
+handles_fit w i [] sound = refl
+handles_fit w i (handle ∷ handles) sound =
+    ap (λ b. b && all_fit (map (λ h. (h, loan_for w i h)) handles)) (named_fits w i (slice_get w.handles handle) sound) ∙ handles_fit w i handles sound
+
+pub loans_fit : (w : World) (i : ℕ) (v : Verb) → IsSoundWorld w → LoansFit (loans_of w i v)
+loans_fit w i v sound = handles_fit w i (handles_of v) sound
 
 world_with_new_sound : (w : World) (k : ExporterKind) (r : Result (List ℕ) Fault) → IsSoundWorld w → IsSoundWorld (world_with_new w k r).0
 world_with_new_sound w k (Ok bytes) sound = record {
   exporters_are_sound = All-push IsSoundExporter w.exporters (new_exporter k bytes) sound.exporters_are_sound (new_is_sound k bytes);
+  exporters_are_owned = owned_with_new w.exporters (new_exporter k bytes) w.handles w.owners sound.exporters_are_owned;
 }
 world_with_new_sound w k (Err f) sound = sound
 
 with_exporter_sound : (w : World) (i : ℕ) (e : Exporter) → IsSoundWorld w → IsSoundExporter e → All IsSoundExporter (set w.exporters i e)
 with_exporter_sound w i e sound sound_e = All-set IsSoundExporter w.exporters i e sound_e sound.exporters_are_sound
 
+with_set_sound : (w : World) (i : ℕ) (e : Exporter) → IsSoundWorld w → IsSoundExporter e → IsSoundWorld (record w { exporters = set w.exporters i e })
+with_set_sound w i e sound sound_e = record {
+  exporters_are_sound = with_exporter_sound w i e sound sound_e;
+  exporters_are_owned = owned_with_set w.exporters i e w.handles w.owners sound.exporters_are_owned;
+}
+
 world_after_sound : (w : World) (i : ℕ) (e : Exporter) (r : LocalReply) → IsSoundWorld w → IsSoundExporter e → IsSoundWorld (world_after w i (e, r)).0
-world_after_sound w i e (local.View k) sound sound_e = record { exporters_are_sound = with_exporter_sound w i e sound sound_e }
-world_after_sound w i e local.Ok sound sound_e = record { exporters_are_sound = with_exporter_sound w i e sound sound_e }
-world_after_sound w i e local.Own sound sound_e = record { exporters_are_sound = with_exporter_sound w i e sound sound_e }
-world_after_sound w i e (local.Item x) sound sound_e = record { exporters_are_sound = with_exporter_sound w i e sound sound_e }
-world_after_sound w i e (local.Text text) sound sound_e = record { exporters_are_sound = with_exporter_sound w i e sound sound_e }
-world_after_sound w i e (local.Truth truth) sound sound_e = record { exporters_are_sound = with_exporter_sound w i e sound sound_e }
-world_after_sound w i e (local.Numbers numbers) sound sound_e = record { exporters_are_sound = with_exporter_sound w i e sound sound_e }
-world_after_sound w i e (local.Bytes bytes) sound sound_e = record { exporters_are_sound = with_exporter_sound w i e sound sound_e }
-world_after_sound w i e (local.Refused f) sound sound_e = record { exporters_are_sound = with_exporter_sound w i e sound sound_e }
+world_after_sound w i e (local.View k) sound sound_e = record {
+  exporters_are_sound = with_exporter_sound w i e sound sound_e;
+  exporters_are_owned =
+      owned_with_handles (length (set w.exporters i e)) w.handles (named.View i k ∷ []) w.owners
+      (owned_with_set w.exporters i e w.handles w.owners sound.exporters_are_owned);
+}
+world_after_sound w i e local.Ok sound sound_e = with_set_sound w i e sound sound_e
+world_after_sound w i e local.Own sound sound_e = with_set_sound w i e sound sound_e
+world_after_sound w i e (local.Item x) sound sound_e = with_set_sound w i e sound sound_e
+world_after_sound w i e (local.Text text) sound sound_e = with_set_sound w i e sound sound_e
+world_after_sound w i e (local.Truth truth) sound sound_e = with_set_sound w i e sound sound_e
+world_after_sound w i e (local.Numbers numbers) sound sound_e = with_set_sound w i e sound sound_e
+world_after_sound w i e (local.Bytes bytes) sound sound_e = with_set_sound w i e sound sound_e
+world_after_sound w i e (local.Refused f) sound sound_e = with_set_sound w i e sound sound_e
 
 step_of_exporter_sound : (w : World) (i : ℕ) (s : Subject) (v : Verb) (o : Option Exporter) → o ≡ slice_get w.exporters i → IsSoundWorld w → IsSoundWorld (step_of_exporter w i s v o).0
 step_of_exporter_sound w i s v (Some e) is sound =
     let sound_e = All-slice_get IsSoundExporter w.exporters i e sound.exporters_are_sound (sym is) in
-    world_after_sound w i (estep e s v).0 (estep e s v).1 sound (estep_sound e s v sound_e)
+    world_after_sound w i (estep e s v (loans_of w i v)).0 (estep e s v (loans_of w i v)).1 sound (estep_sound e s v (loans_of w i v) sound_e)
 step_of_exporter_sound w i s v None is sound = sound
 
 step_of_name_sound : (w : World) (v : Verb) (o : Option Named) → IsSoundWorld w → IsSoundWorld (step_of_name w v o).0
@@ -98,13 +191,16 @@ pub wstep_is_sound : (w w' : World) (c : Command) (r : Reply) → wstep w c ≡ 
 wstep_is_sound w w' c r is sound = subst IsSoundWorld (ap (λ (p : World × Reply). p.0) is) (wstep_sound w c sound)
 
 pub empty_is_sound : IsSoundWorld empty_world
-empty_is_sound = record { exporters_are_sound = All-nil IsSoundExporter }
+empty_is_sound = record {
+  exporters_are_sound = All-nil IsSoundExporter;
+  exporters_are_owned = record { counted = refl; named = λ i below. absurd (omega arith) };
+}
 
 -- releasing keeps a world sound
 world_released_sound : (w w' : World) (i : ℕ) (r : Result Exporter Fault) → IsSoundWorld w → IfDone IsSoundExporter r → world_released w i r ≡ Ok w' → IsSoundWorld w'
 world_released_sound w w' i (Ok e) sound sound_e is =
     let same : record w { exporters = set w.exporters i e } ≡ w' = cc in
-    subst IsSoundWorld same (record { exporters_are_sound = with_exporter_sound w i e sound sound_e })
+    subst IsSoundWorld same (with_set_sound w i e sound sound_e)
 world_released_sound w w' i (Err f) sound sound_e is = absurd (cc)
 
 released_in_exporter_sound : (w w' : World) (i k : ℕ) (o : Option Exporter) → o ≡ slice_get w.exporters i → IsSoundWorld w → released_in_exporter w i k o ≡ Ok w' → IsSoundWorld w'

@@ -1,7 +1,8 @@
 -- Worlds: exporters, and the handles that name them and their views.
-use Rattle.std.specs.Prelude.{ℕ, List, [], ◌∷◌, ◌++◌, length, set, slice_get, slice_index, Option, Some, None, Result, Ok, Err}
+use Rattle.std.specs.Prelude.{ℕ, ◌==◌, List, [], ◌∷◌, ◌++◌, length, map, set, slice_get, slice_index, Option, Some, None, Result, Ok, Err, if◌then◌else◌}
 use Rattle.pybuf_value.specs.declared.faults.Fault.{Fault}
 use Rattle.pybuf_value.specs.declared.faults.Fault.TheVariants as fault
+use Rattle.pybuf_value.specs.declared.snaps.Snap.{Snap}
 use Rattle.pybuf_value.specs.declared.values.Scalar.TheVariants as scalar
 use Rattle.pybuf_value.specs.declared.values.Value.{Value}
 use Rattle.pybuf_value.specs.declared.values.Value.TheVariants as value
@@ -19,6 +20,10 @@ use Rattle.pybuf_view.specs.declared.commands.Command.TheVariants as command
 use Rattle.pybuf_view.specs.declared.commands.Reply.{Reply}
 use Rattle.pybuf_view.specs.declared.commands.Reply.TheVariants as reply
 use Rattle.pybuf_exporter.specs.Exporter.{Exporter, new_exporter}
+use Rattle.pybuf_exporter.specs.declared.loans.Loan.{Loan}
+use Rattle.pybuf_exporter.specs.declared.loans.Loan.TheVariants as loan
+use Rattle.pybuf_exporter.specs.Handles.{handles_of}
+use Rattle.pybuf_exporter.specs.Loans.{snap_of_subject}
 use Rattle.pybuf_exporter.specs.Step.{estep}
 use Rattle.pybuf_exporter.specs.Rows.Release.{released_in}
 
@@ -67,9 +72,36 @@ world_after w i (e, local.Truth truth) = (record w { exporters = set w.exporters
 world_after w i (e, local.Numbers numbers) = (record w { exporters = set w.exporters i e }, reply.Numbers numbers)
 world_after w i (e, local.Refused f) = (record w { exporters = set w.exporters i e }, reply.Refused f)
 
+-- what another exporter lends, as it stands
+abbrev pub lent_as : Option Snap → Loan
+lent_as (Some snap) = loan.Other snap
+lent_as None = loan.Missing
+
+abbrev pub lent_by : Option Exporter → Subject → Loan
+lent_by (Some e) s = lent_as (snap_of_subject e s)
+lent_by None s = loan.Missing
+
+-- What a handle is lent as to an exporter, by what it names: that exporter itself or a view of it, or
+-- else another exporter or a view of one as it stands. Nothing is lent for a handle that was never given.
+abbrev pub loan_from : World → ℕ → Option Named → Loan
+loan_from w i (Some (named.Exporter j)) = if j == i then loan.Own else lent_by (slice_get w.exporters j) subject.Own
+loan_from w i (Some (named.View j k)) = if j == i then loan.View k else lent_by (slice_get w.exporters j) (subject.View k)
+loan_from w i None = loan.Missing
+
+abbrev pub loan_for : World → ℕ → ℕ → Loan
+loan_for w i handle = loan_from w i (slice_get w.handles handle)
+
+-- the loans to an exporter for a command: one for each handle of its values, in order
+abbrev pub loans_of : World → ℕ → Verb → List (ℕ × Loan)
+loans_of w i v = map (λ handle. (handle, loan_for w i handle)) (handles_of v)
+
+abbrev pub carried_out : World → ℕ → Subject → Verb → List (ℕ × Loan) → Option Exporter → World × Reply
+carried_out w i s v loans (Some e) = world_after w i (estep e s v loans)
+carried_out w i s v loans None = (w, reply.Refused fault.UnknownName)
+
+-- a command on an exporter, with the loans by the world as it is before
 abbrev pub step_of_exporter : World → ℕ → Subject → Verb → Option Exporter → World × Reply
-step_of_exporter w i s v (Some e) = world_after w i (estep e s v)
-step_of_exporter w i s v None = (w, reply.Refused fault.UnknownName)
+step_of_exporter w i s v o = carried_out w i s v (loans_of w i v) o
 
 -- a command on what a handle names, where it was given
 abbrev pub step_of_name : World → Verb → Option Named → World × Reply

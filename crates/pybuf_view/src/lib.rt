@@ -11,8 +11,8 @@ pub use commands::{ByteInnerNewOptions, Command, Reply, ReplyList};
 pub use laws::{handles_stay, refusals_change_nothing, releasing_twice_is_once};
 pub use named::Named;
 pub use pybuf_exporter::{
-    ExporterKind, ExporterState, LocalCommand, LocalReply, PropertyName, Subject, Verb,
-    slicing_back_twice_is_nothing,
+    ExporterKind, ExporterState, Loan, LoanList, LocalCommand, LocalReply, PropertyName, Subject,
+    Verb, slicing_back_twice_is_nothing,
 };
 pub use world::World;
 

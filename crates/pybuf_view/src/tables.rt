@@ -1,10 +1,12 @@
 //! What is kept of a world, and the work on it.
-ghost use Rattle.std.specs.Prelude.{◌≡◌, ◌++◌, [], ◌∷◌, slice_get, slice_index, length, take, IfOk, OnOk, OnErr, MatchResult};
+ghost use Rattle.std.specs.Prelude.{◌≡◌, ◌++◌, [], ◌∷◌, slice_get, slice_index, length, map, take, IfOk, OnOk, OnErr, MatchResult};
 ghost use Rattle.pybuf_view.specs.World.{bytes_from};
 
 use crate::commands::{ByteInnerNewOptions, Command, Reply, ReplyList};
 use crate::named::Named;
-use pybuf_exporter::{ExporterKind, ExporterState, LocalReply, Subject, Verb};
+use pybuf_exporter::{
+    ExporterKind, ExporterState, Loan, LoanList, LocalReply, Subject, Verb, handles_of,
+};
 use pybuf_value::{ByteList, Fault, Made, NoMemory, Scalar, Twin, Value, push_reserved};
 use std::alloc::Global;
 use std::mem;
@@ -50,6 +52,7 @@ impl Tables {
     ghost use Rattle.pybuf_view.specs.Tables.{listed};
     ghost use Rattle.pybuf_view.specs.World as spec;
     ghost use Rattle.pybuf_view.specs.Sound.{IsSoundWorld, StopsAt};
+    ghost use Rattle.pybuf_exporter.specs.Loans.{LoansFit};
 
     /// Nothing. Takes no memory.
     pub fn new(alloc: Global) -> Tables
@@ -84,9 +87,75 @@ impl Tables {
         }
     }
 
-    /// What an exporter that was given does; a new view is given a handle.
-    fn work(&mut self, exporter: usize, subject: Subject, verb: &Verb) -> Made<Reply>
-        ensures ok { IfOk result (λ r. spec.step_of_exporter (listed self.old) exporter subject verb.now (slice_get (listed self.old).exporters exporter) ≡ (listed self.new, r)) }
+    /// What an exporter lends of itself or of a view of it, as it stands.
+    fn lent(&self, exporter: usize, subject: Subject) -> Made<Loan>
+        ensures { IfOk result (λ loan. loan ≡ spec.lent_by (slice_get (listed self.now).exporters exporter) subject) }
+    {
+        let Some(lender) = self.exporters.get(exporter) else {
+            return Ok(Loan::Missing);
+        };
+        match lender.snap(self.alloc, subject)? {
+            Some(snap) => Ok(Loan::Other(snap)),
+            None => Ok(Loan::Missing),
+        }
+    }
+
+    /// What a handle is lent as to an exporter. Nothing is copied of that exporter itself.
+    fn loan(&self, exporter: usize, handle: u64) -> Made<Loan>
+        ensures { IfOk result (λ loan. loan ≡ spec.loan_for (listed self.now) exporter handle) }
+    {
+        let named = self.handles.get(handle as usize).copied();
+        match named {
+            Some(Named::Exporter(other)) => {
+                if other == exporter {
+                    return Ok(Loan::Own);
+                }
+                self.lent(other, Subject::Own)
+            }
+            Some(
+                Named::View {
+                    exporter: other,
+                    view,
+                },
+            ) => {
+                if other == exporter {
+                    return Ok(Loan::View(view));
+                }
+                self.lent(other, Subject::View(view))
+            }
+            None => Ok(Loan::Missing),
+        }
+    }
+
+    fn loans_for(&self, exporter: usize, handles: &[u64]) -> Made<LoanList>
+        ensures { IfOk result (λ loans. loans ≡ map (λ handle. (handle, spec.loan_for (listed self.now) exporter handle)) handles.now) }
+    {
+        let mut loans = LoanList::new(self.alloc);
+        for handle in handles {
+            let loan = self.loan(exporter, *handle)?;
+            loans.push(*handle, loan)?;
+        }
+        Ok(loans)
+    }
+
+    /// What each handle of a command is lent as. Takes no memory where there is no handle.
+    fn loans(&self, exporter: usize, verb: &Verb) -> Made<LoanList>
+        ensures { IfOk result (λ loans. loans ≡ spec.loans_of (listed self.now) exporter verb.now) }
+    {
+        let handles = handles_of(self.alloc, verb)?;
+        self.loans_for(exporter, handles.as_slice())
+    }
+
+    /// What an exporter that was given does with loans; a new view is given a handle.
+    fn carry_out(
+        &mut self,
+        exporter: usize,
+        subject: Subject,
+        verb: &Verb,
+        loans: &LoanList,
+    ) -> Made<Reply>
+        requires { LoansFit loans.now }
+        ensures ok { IfOk result (λ r. spec.carried_out (listed self.old) exporter subject verb.now loans.now (slice_get (listed self.old).exporters exporter) ≡ (listed self.new, r)) }
         ensures err { OnErr result (listed self.new ≡ listed self.old) }
     {
         if exporter >= self.exporters.len() {
@@ -94,7 +163,7 @@ impl Tables {
         }
         self.handles.reserve(1)?;
         let worker = &mut self.exporters[exporter];
-        match worker.carry_out(subject, verb)? {
+        match worker.carry_out(subject, verb, loans)? {
             LocalReply::Ok => Ok(Reply::Ok),
             LocalReply::View(view) => {
                 let handle = self.handles.len() as u64;
@@ -111,8 +180,19 @@ impl Tables {
         }
     }
 
+    /// What an exporter that was given does, with the loans by the world as it is.
+    fn work(&mut self, exporter: usize, subject: Subject, verb: &Verb) -> Made<Reply>
+        requires { IsSoundWorld (listed self.old) }
+        ensures ok { IfOk result (λ r. spec.step_of_exporter (listed self.old) exporter subject verb.now (slice_get (listed self.old).exporters exporter) ≡ (listed self.new, r)) }
+        ensures err { OnErr result (listed self.new ≡ listed self.old) }
+    {
+        let loans = self.loans(exporter, verb)?;
+        self.carry_out(exporter, subject, verb, &loans)
+    }
+
     /// A command on what a handle names.
     fn ask(&mut self, handle: u64, verb: &Verb) -> Made<Reply>
+        requires { IsSoundWorld (listed self.old) }
         ensures ok { IfOk result (λ r. spec.step_of_name (listed self.old) verb.now (slice_get (listed self.old).handles handle) ≡ (listed self.new, r)) }
         ensures err { OnErr result (listed self.new ≡ listed self.old) }
     {
@@ -124,8 +204,9 @@ impl Tables {
         }
     }
 
-    /// Carries out a command.
-    pub fn step(&mut self, command: &Command) -> Made<Reply>
+    /// Carries out a command of a sound world.
+    fn step(&mut self, command: &Command) -> Made<Reply>
+        requires { IsSoundWorld (listed self.old) }
         ensures ok { IfOk result (λ r. spec.wstep (listed self.old) command.now ≡ (listed self.new, r)) }
         ensures err { OnErr result (listed self.new ≡ listed self.old) }
     {
@@ -135,7 +216,7 @@ impl Tables {
         }
     }
 
-    /// The same, of a sound world, which stays sound.
+    /// The same; the world stays sound.
     pub fn step_sound(&mut self, command: &Command) -> Made<Reply>
         requires { IsSoundWorld (listed self.old) }
         ensures ok { IfOk result (λ r. spec.wstep (listed self.old) command.now ≡ (listed self.new, r)) }

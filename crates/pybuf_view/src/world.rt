@@ -28,7 +28,7 @@ impl Model for World {
 
 impl World {
     ghost use Rattle.pybuf_view.specs.World.{empty_world, wstep, world_of, replies_of, released_by};
-    ghost use Rattle.pybuf_view.specs.Sound.{StaysSound, StopsAt};
+    ghost use Rattle.pybuf_view.specs.Sound.{IsSoundWorld, StaysSound, StopsAt};
 
     /// A world with nothing in it. Takes no memory.
     pub fn new(alloc: Global) -> World
@@ -48,7 +48,8 @@ impl World {
 
     /// The exporters, in the order in which they were made.
     pub fn exporters(&self) -> &[ExporterState]
-        ensures { result.now ≡ self.now.exporters }
+        ensures value { result.now ≡ self.now.exporters }
+        ensures sound { IsSoundWorld self.now }
     {
         self.tables.exporters.as_slice()
     }
