@@ -5,6 +5,7 @@ use Rattle.std.specs.Fmt.{signed_decimal}
 use Rattle.std.specs.List.{flat_map, join_with_byte, list_any, AllByRecursion}
 use Rattle.pybuf_view.specs.declared.commands.Command.{Command}
 use Rattle.pybuf_view.specs.declared.commands.Reply.{Reply}
+use Rattle.pybuf_view.specs.declared.commands.Reply.TheVariants as reply
 use Rattle.pybuf_value.specs.declared.values.Scalar.{Scalar}
 use Rattle.pybuf_value.specs.declared.values.Scalar.TheVariants as scalar
 use Rattle.hex.specs.Hex.{IsBytes, encode_lower}
@@ -42,9 +43,14 @@ BadLineIsFirst = (input : List ℕ) (n : ℕ) → commands_in input ≡ Err n �
     (before : List Command) × (rest : List (Option Command))
     × (map command_in (lines input) ≡ map Some before ++ None ∷ rest) × (n ≡ length before + 1)
 
+-- the text that a reply hands on as it is, if any, holds no line feed
+abbrev pub HandsOnOneLine : Reply → Type 0
+HandsOnOneLine (reply.Text text) = IsOneLine text
+HandsOnOneLine _ = Unit {0}
+
 -- the text of a reply holds no line feed, so there is one line for each reply
 abbrev pub RepliesAreSingle : Type 0
-RepliesAreSingle = (reply : Reply) → IsOneLine (reply_text reply)
+RepliesAreSingle = (r : Reply) → HandsOnOneLine r → IsOneLine (reply_text r)
 
 -- The parts between commas, with a comma between each two, are the text.
 abbrev pub PartsJoin : Type 0

@@ -20,7 +20,7 @@ pub fn commands_are_of_lines()
     ensures first { BadLineIsFirst }
 {}
 
-/// The text of a reply is one line.
+/// The text of a reply is one line, where a text that it hands on as it is has no line feed.
 pub fn replies_are_single_lines()
     ensures { RepliesAreSingle }
 {}
