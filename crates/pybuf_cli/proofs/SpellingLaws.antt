@@ -173,6 +173,12 @@ bytes_read : (bs : List ℕ) → IsSpelled (scalar.Bytes bs) → scalar_in (writ
 unfolding name_in
 bytes_read bs h = rw (no_number 120 (encode_lower bs) refl refl, decode_of-encode_lower bs h) refl
 
+handle_reads : (n : ℕ) → IsSpelled (scalar.Handle n) → scalar_in (written (scalar.Handle n)) ≡ Some (scalar.Handle n)
+unfolding name_in
+handle_reads n h =
+    let d = decimal_is_IsNumeral_wide n (omega (arith, h)) in
+    rw (no_number 104 (decimal n) refl refl, number_read (2 ^ 64) n (decimal n) d.0.0 d.0.1 d.1 h) refl
+
 text_reads : (t : List ℕ) → IsSpelled (scalar.Text t) → scalar_in (written (scalar.Text t)) ≡ Some (scalar.Text t)
 unfolding name_in
 text_reads t h = rw (no_number 39 (t ++ 39 ∷ []) refl refl, enclosed_read 39 39 t, h) refl
@@ -186,4 +192,4 @@ scalars_read (scalar.Int number) h = number_reads number h
 scalars_read (scalar.Text text) h = text_reads text h
 scalars_read (scalar.Bytes bytes) h = bytes_read bytes h
 scalars_read scalar.Ellipsis h = refl
-scalars_read (scalar.Handle handle) h = absurd h
+scalars_read (scalar.Handle handle) h = handle_reads handle h

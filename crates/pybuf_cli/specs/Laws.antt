@@ -84,12 +84,12 @@ abbrev pub Is128Bits : ℤ → Type 0
 Is128Bits (pos n) = n < 2 ^ 127
 Is128Bits (negsuc n) = n < 2 ^ 127
 
--- the values without parts that lines spell: a handle is none
+-- the values without parts that lines spell
 abbrev pub IsSpelled : Scalar → Type 0
 IsSpelled (scalar.Int number) = Is128Bits number
 IsSpelled (scalar.Text text) = IsTrue (is_text text)
 IsSpelled (scalar.Bytes bytes) = IsBytes bytes
-IsSpelled (scalar.Handle handle) = ⊥
+IsSpelled (scalar.Handle handle) = handle < 2 ^ 64
 IsSpelled _ = Unit {0}
 
 -- A value that was written is read back.

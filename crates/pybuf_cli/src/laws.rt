@@ -38,7 +38,7 @@ pub fn enclosed_is_between()
     ensures read { BetweenIsEnclosed }
 {}
 
-/// A value without parts that was written is read back, but for handles, which no line spells.
+/// A value without parts that was written is read back.
 pub fn scalars_read_back()
     ensures { ScalarsReadBack }
 {}
