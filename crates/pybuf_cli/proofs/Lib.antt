@@ -13,3 +13,4 @@ pub mod Printed
 pub mod LineLaws
 pub mod SpellingLaws
 pub mod ReplyLaws
+pub mod NameLaws

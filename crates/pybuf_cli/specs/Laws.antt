@@ -3,13 +3,15 @@ use Rattle.std.specs.Prelude.{◌≡◌, ◌⊎◌, ℕ, ◌+◌, ◌^◌, ◌<�
 use Rattle.std.specs.Str.{byte}
 use Rattle.std.specs.Fmt.{signed_decimal}
 use Rattle.std.specs.List.{flat_map, join_with_byte, list_any, AllByRecursion}
+use Rattle.pybuf_exporter.specs.declared.commands.PropertyName.{PropertyName}
+use Rattle.pybuf_exporter.specs.declared.commands.PropertyName.TheVariants as property
 use Rattle.pybuf_view.specs.declared.commands.Command.{Command}
 use Rattle.pybuf_view.specs.declared.commands.Reply.{Reply}
 use Rattle.pybuf_view.specs.declared.commands.Reply.TheVariants as reply
 use Rattle.pybuf_value.specs.declared.values.Scalar.{Scalar}
 use Rattle.pybuf_value.specs.declared.values.Scalar.TheVariants as scalar
 use Rattle.hex.specs.Hex.{IsBytes, encode_lower}
-use Rattle.pybuf_cli.specs.Lines.{lines, words, command_in, commands_in}
+use Rattle.pybuf_cli.specs.Lines.{lines, words, property_in, command_in, commands_in}
 use Rattle.pybuf_cli.specs.Parts.{parts_outside_quotes}
 use Rattle.pybuf_cli.specs.Scalars.{enclosed, is_text, scalar_in}
 use Rattle.pybuf_cli.specs.Replies.{truth_text, reply_text}
@@ -95,3 +97,26 @@ IsSpelled _ = Unit {0}
 -- A value that was written is read back.
 abbrev pub ScalarsReadBack : Type 0
 ScalarsReadBack = (s : Scalar) → IsSpelled s → scalar_in (written s) ≡ Some s
+
+-- how the name of a property is written
+abbrev pub written_name : PropertyName → List ℕ
+written_name property.Exports = codes "exports"
+written_name property.Obj = codes "obj"
+written_name property.Nbytes = codes "nbytes"
+written_name property.Readonly = codes "readonly"
+written_name property.Itemsize = codes "itemsize"
+written_name property.Ndim = codes "ndim"
+written_name property.Shape = codes "shape"
+written_name property.Strides = codes "strides"
+written_name property.Suboffsets = codes "suboffsets"
+written_name property.Format = codes "format"
+written_name property.Contiguous = codes "contiguous"
+written_name property.CContiguous = codes "c_contiguous"
+written_name property.FContiguous = codes "f_contiguous"
+
+-- A name that was written is read back, and no other text is read as it.
+abbrev pub NamesReadBack : Type 0
+NamesReadBack = (name : PropertyName) → property_in (written_name name) ≡ Some name
+
+abbrev pub NamesAreWritten : Type 0
+NamesAreWritten = (text : List ℕ) (name : PropertyName) → property_in text ≡ Some name → text ≡ written_name name
