@@ -14,3 +14,4 @@ pub mod LineLaws
 pub mod SpellingLaws
 pub mod ReplyLaws
 pub mod NameLaws
+pub mod ValueLaws

@@ -10,10 +10,14 @@ use Rattle.pybuf_view.specs.declared.commands.Reply.{Reply}
 use Rattle.pybuf_view.specs.declared.commands.Reply.TheVariants as reply
 use Rattle.pybuf_value.specs.declared.values.Scalar.{Scalar}
 use Rattle.pybuf_value.specs.declared.values.Scalar.TheVariants as scalar
+use Rattle.pybuf_value.specs.declared.values.PySlice.{PySlice}
+use Rattle.pybuf_value.specs.declared.values.Value.{Value}
+use Rattle.pybuf_value.specs.declared.values.Value.TheVariants as value
 use Rattle.hex.specs.Hex.{IsBytes, encode_lower}
 use Rattle.pybuf_cli.specs.Lines.{lines, words, property_in, command_in, commands_in}
 use Rattle.pybuf_cli.specs.Parts.{parts_outside_quotes}
 use Rattle.pybuf_cli.specs.Scalars.{enclosed, is_text, scalar_in}
+use Rattle.pybuf_cli.specs.Spellings.{value_in}
 use Rattle.pybuf_cli.specs.Replies.{truth_text, reply_text}
 
 -- a line with its line feed
@@ -97,6 +101,42 @@ IsSpelled _ = Unit {0}
 -- A value that was written is read back.
 abbrev pub ScalarsReadBack : Type 0
 ScalarsReadBack = (s : Scalar) → IsSpelled s → scalar_in (written s) ≡ Some s
+
+-- how a slice is written
+abbrev pub written_slice : PySlice → List ℕ
+written_slice slice = join_with_byte (byte ":") (written slice.start ∷ written slice.stop ∷ written slice.step ∷ [])
+
+-- how parts are written, by the text of a part
+abbrev pub written_parts : {A : Type 0} → (A → List ℕ) → List A → List ℕ
+written_parts text parts = join_with_byte (byte ",") (map text parts)
+
+-- how a value is written
+abbrev pub written_value : Value → List ℕ
+written_value (value.One one) = written one
+written_value (value.Slice slice) = written_slice slice
+written_value (value.Tuple parts) = byte "(" ∷ written_parts written parts ++ byte ")" ∷ []
+written_value (value.List parts) = byte "[" ∷ written_parts written parts ++ byte "]" ∷ []
+written_value (value.Slices slices) = byte "(" ∷ written_parts written_slice slices ++ byte ")" ∷ []
+
+-- the values that may stand in a slice: a text is none
+abbrev pub IsSlicePart : Scalar → Type 0
+IsSlicePart (scalar.Text text) = ⊥
+IsSlicePart s = IsSpelled s
+
+abbrev pub IsSpelledSlice : PySlice → Type 0
+IsSpelledSlice slice = IsSlicePart slice.start × IsSlicePart slice.stop × IsSlicePart slice.step
+
+-- the values that lines spell
+abbrev pub IsSpelledValue : Value → Type 0
+IsSpelledValue (value.One one) = IsSpelled one
+IsSpelledValue (value.Slice slice) = IsSpelledSlice slice
+IsSpelledValue (value.Tuple parts) = AllByRecursion IsSpelled parts
+IsSpelledValue (value.List parts) = AllByRecursion IsSpelled parts
+IsSpelledValue (value.Slices slices) = (0 < length slices) × AllByRecursion IsSpelledSlice slices
+
+-- A value that was written is read back, with all its parts.
+abbrev pub ValuesReadBack : Type 0
+ValuesReadBack = (v : Value) → IsSpelledValue v → value_in (written_value v) ≡ Some v
 
 -- how the name of a property is written
 abbrev pub written_name : PropertyName → List ℕ

@@ -1,5 +1,5 @@
 //! Laws of the definitions that the contracts cite. Each stands on a function with an empty body.
-ghost use Rattle.pybuf_cli.specs.Laws.{LinesJoin, LinesAreSingle, WordsJoin, CommandsAreOfLines, BadLineIsFirst, RepliesAreSingle, PartsJoin, PartsAreSingle, EnclosedIsBetween, BetweenIsEnclosed, ScalarsReadBack, NamesReadBack, NamesAreWritten};
+ghost use Rattle.pybuf_cli.specs.Laws.{LinesJoin, LinesAreSingle, WordsJoin, CommandsAreOfLines, BadLineIsFirst, RepliesAreSingle, PartsJoin, PartsAreSingle, EnclosedIsBetween, BetweenIsEnclosed, ScalarsReadBack, ValuesReadBack, NamesReadBack, NamesAreWritten};
 
 /// The lines of an input, each with its line feed, are the input, which may lack the last one. No
 /// line holds a line feed.
@@ -41,6 +41,11 @@ pub fn enclosed_is_between()
 /// A value without parts that was written is read back.
 pub fn scalars_read_back()
     ensures { ScalarsReadBack }
+{}
+
+/// A value that was written is read back, with all its parts.
+pub fn values_read_back()
+    ensures { ValuesReadBack }
 {}
 
 /// The name of a property that was written is read back, and no other text is read as it.
