@@ -6,6 +6,7 @@ pub mod Counts
 pub mod Laid
 pub mod Formed
 pub mod Written
+pub mod Unread
 pub mod Soundness
 pub mod Described
 pub mod Refusals
