@@ -11,3 +11,4 @@ pub mod Soundness
 pub mod Described
 pub mod Refusals
 pub mod Backward
+pub mod Seen

@@ -1,10 +1,9 @@
 -- A format without bytes writes the same whatever is lent.
-use Rattle.std.proofs.Common.{◌≡◌, ℕ, zero, suc, ◌+◌, ◌==◌, List, [], ◌∷◌, ◌++◌, length, Bool, true, false, true≢false, ap, ap₂, sym, ◌∙◌, refl, subst}
-use Rattle.std.specs.Prelude.{◌||◌, replicate, Result, Ok, Err, if◌then◌else◌}
+use Rattle.std.proofs.Common.{◌≡◌, ℕ, zero, suc, ◌+◌, ◌==◌, List, [], ◌∷◌, ◌++◌, length, Bool, true, false, true≢false, ap, sym, refl}
+use Rattle.std.specs.Prelude.{◌||◌, replicate, Result, Err, if◌then◌else◌}
 use Rattle.std.specs.List.{list_any, AllByRecursion}
 use Rattle.pybuf_value.specs.declared.faults.Fault.{Fault}
 use Rattle.pybuf_value.specs.declared.faults.Fault.TheVariants as fault
-use Rattle.pybuf_value.specs.Refusing.{◌>>=◌}
 use Rattle.pybuf_value.specs.declared.values.Scalar.{Scalar}
 use Rattle.pybuf_value.specs.declared.snaps.Snap.{Snap}
 use Rattle.pybuf_struct.specs.declared.table.Endianness.{Endianness}
@@ -12,7 +11,7 @@ use Rattle.pybuf_struct.specs.declared.table.FormatType.{FormatType}
 use Rattle.pybuf_struct.specs.declared.table.FormatType.TheVariants as code
 use Rattle.pybuf_struct.specs.Table.{size_of}
 use Rattle.pybuf_struct.specs.Formats.{Code, Format, Field, fields, fields_from, fields_of_code, fields_in_row, offset_after}
-use Rattle.pybuf_struct.specs.Packing.{bytes_of, contents_of, filled, packed, packed_values}
+use Rattle.pybuf_struct.specs.Packing.{bytes_of, contents_of, filled, packed}
 use Rattle.pybuf_exporter.specs.Reading.{is_bytes_code, reads_bytes}
 
 -- fields that look at no bytes

@@ -1,5 +1,4 @@
-use Rattle.std.proofs.Common.{◌≡◌, ℕ, List, ap, sym, ◌∙◌}
-use Rattle.pybuf_value.specs.declared.values.Scalar.{Scalar}
+use Rattle.std.proofs.Common.{ℕ, List, ap, sym, ◌∙◌}
 use Rattle.pybuf_value.specs.declared.snaps.Snap.{Snap}
 use Rattle.pybuf_struct.specs.Packing.{packed}
 use Rattle.pybuf_exporter.specs.Answers.{seen}
