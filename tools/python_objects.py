@@ -192,8 +192,8 @@ class Reply(str):
 
 
 def shown(found):
-    """How the reply text spells what was found."""
-    if isinstance(found, Reply):
+    """How the reply text spells what was found: a text, which only a format is, as it stands."""
+    if isinstance(found, str):
         return found
     if isinstance(found, bytearray):
         found = bytes(found)

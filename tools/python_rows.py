@@ -20,7 +20,7 @@ from python_objects import World
 
 # What the program has beside `new`, `view`, `get`, `set`, `bytes`, `release` and `len`: of "prop",
 # "cast" and "handles" (handles as values). A case that needs more is left out.
-BUILT = set()
+BUILT = {"prop", "cast", "handles"}
 
 SOURCES = pathlib.Path(__file__).parent.parent / "crates" / "pybuf_rows" / "src"
 
