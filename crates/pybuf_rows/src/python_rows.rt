@@ -5,7 +5,7 @@ use crate::judging::judge_cases;
 use std::test::Fail;
 
 /// What each case shows, and its lines with the replies beside them.
-const CASES: [(&str, &str); 46] = [
+const BYTES: [(&str, &str); 29] = [
     (
         "a write through a view is seen by the bytearray and by every view",
         r"
@@ -458,6 +458,229 @@ get h3 1              2
 ",
     ),
     (
+        "slices of slices of a view, drawn (1)",
+        r"
+new bytearray x6162636465666768696a   h0
+view h0                               h1
+get h1 -6:-1:-2                       h2
+bytes h2                              b''
+get h1 6:-10:3                        h3
+bytes h3                              b''
+get h1 -2:6:None                      h4
+bytes h4                              b''
+get h3 5:-7:None                      h5
+bytes h5                              b''
+get h3 None:None:-3                   h6
+bytes h6                              b''
+get h4 -3:-7:3                        h7
+bytes h7                              b''
+get h7 -7:-2:2                        h8
+bytes h8                              b''
+get h8 -7:-7:3                        h9
+bytes h9                              b''
+get h9 None:8:3                       h10
+bytes h10                             b''
+get h9 -8:11:-1                       h11
+bytes h11                             b''
+get h11 -5:5:-2                       h12
+bytes h12                             b''
+get h10 -2:7:-1                       h13
+bytes h13                             b''
+",
+    ),
+    (
+        "slices of slices of a view, drawn (2)",
+        r"
+new bytearray x6162636465666768696a6b6c6d6e6f70   h0
+view h0             h1
+get h1 -15:12:-3    h2
+bytes h2            b''
+get h1 -7:3:-1      h3
+bytes h3            b'jihgfe'
+get h2 -13:-3:-1    h4
+bytes h4            b''
+get h2 17:16:2      h5
+bytes h5            b''
+get h4 -9:-17:3     h6
+bytes h6            b''
+get h5 -7:-5:None   h7
+bytes h7            b''
+get h6 2:-10:-3     h8
+bytes h8            b''
+get h8 -14:0:None   h9
+bytes h9            b''
+get h7 -12:14:-3    h10
+bytes h10           b''
+get h8 14:9:-2      h11
+bytes h11           b''
+get h10 17:16:-2    h12
+bytes h12           b''
+get h10 7:-2:1      h13
+bytes h13           b''
+",
+    ),
+    (
+        "slices of slices of a view, drawn (3)",
+        r"
+new bytearray x6162636465666768696a   h0
+view h0                               h1
+get h1 2:3:3                          h2
+bytes h2                              b'c'
+get h2 8:-6:None                      h3
+bytes h3                              b''
+get h1 -1:8:1                         h4
+bytes h4                              b''
+get h3 -9:3:3                         h5
+bytes h5                              b''
+get h4 5:4:-2                         h6
+bytes h6                              b''
+get h4 2:-5:None                      h7
+bytes h7                              b''
+get h5 -1:5:None                      h8
+bytes h8                              b''
+get h6 10:-3:-2                       h9
+bytes h9                              b''
+get h8 10:9:-2                        h10
+bytes h10                             b''
+get h10 -7:11:None                    h11
+bytes h11                             b''
+get h10 -5:0:2                        h12
+bytes h12                             b''
+get h11 2:2:2                         h13
+bytes h13                             b''
+",
+    ),
+    (
+        "slices of slices of a view, drawn (4)",
+        r"
+new bytearray x6162636465666768696a   h0
+view h0                               h1
+get h1 -9:-11:None                    h2
+bytes h2                              b''
+get h1 7:6:2                          h3
+bytes h3                              b''
+get h2 -6:-8:1                        h4
+bytes h4                              b''
+get h4 10:7:None                      h5
+bytes h5                              b''
+get h3 -8:-5:-2                       h6
+bytes h6                              b''
+get h4 8:9:-1                         h7
+bytes h7                              b''
+get h6 4:0:None                       h8
+bytes h8                              b''
+get h7 -10:10:1                       h9
+bytes h9                              b''
+get h8 -5:9:-2                        h10
+bytes h10                             b''
+get h8 8:0:-1                         h11
+bytes h11                             b''
+get h10 -2:-9:2                       h12
+bytes h12                             b''
+get h10 -11:-11:1                     h13
+bytes h13                             b''
+",
+    ),
+    (
+        "items read and written, drawn (5)",
+        r"
+new bytearray x303132333435363738   h0
+view h0                             h1
+get h1 1:None:2                     h2
+get h2 None:None:-1                 h3
+get h3 6                            ! IndexError
+get h1 6                            54
+get h1 -3                           54
+get h0 -3                           54
+get h3 -5                           ! IndexError
+set h3 -4 90                        ok
+get h1 6                            54
+get h3 2                            51
+get h1 -4                           53
+get h2 -6                           ! IndexError
+set h3 0 77                         ok
+set h0 6 84                         ok
+get h0 4                            52
+set h0 -4 70                        ok
+set h3 6 73                         ! IndexError
+set h3 -5 85                        ! IndexError
+set h0 6 67                         ok
+get h3 -2                           51
+bytes h0                            b'01234FCM8'
+bytes h2                            b'13FM'
+bytes h3                            b'MF31'
+",
+    ),
+    (
+        "items read and written, drawn (6)",
+        r"
+new bytearray x303132333435363738   h0
+view h0                             h1
+get h1 2:None:2                     h2
+get h2 None:None:-1                 h3
+set h1 -3 65                        ok
+set h3 -2 72                        ok
+get h2 -1                           56
+set h2 4 85                         ! IndexError
+set h3 -2 85                        ok
+get h1 -5                           85
+set h3 1 70                         ok
+set h3 5 81                         ! IndexError
+set h3 6 65                         ! IndexError
+set h1 1 67                         ok
+set h0 2 73                         ok
+get h0 -4                           53
+set h3 -6 73                        ! IndexError
+set h1 -2 68                        ok
+set h0 -1 75                        ok
+set h0 6 82                         ok
+set h1 4 85                         ok
+get h2 -1                           75
+bytes h0                            b'0CI3U5RDK'
+bytes h2                            b'IURK'
+bytes h3                            b'KRUI'
+",
+    ),
+    (
+        "items read and written, drawn (7)",
+        r"
+new bytearray x303132333435363738   h0
+view h0                             h1
+get h1 0:None:1                     h2
+get h2 None:None:-1                 h3
+get h2 -6                           51
+get h2 -6                           51
+set h1 4 68                         ok
+get h3 1                            55
+get h3 -3                           50
+set h3 -4 80                        ok
+set h2 -6 70                        ok
+get h1 -2                           55
+set h3 3 71                         ok
+get h3 3                            71
+get h1 3                            70
+get h2 3                            70
+set h2 1 76                         ok
+set h3 0 66                         ok
+set h2 6 86                         ok
+get h2 -6                           70
+set h0 3 68                         ok
+set h3 -5 79                        ok
+bytes h0                            b'0L2DOGV7B'
+bytes h2                            b'0L2DOGV7B'
+bytes h3                            b'B7VGOD2L0'
+",
+    ),
+];
+
+#[test]
+fn as_python_answers(rt: HostRuntime) -> Result<(), Fail> {
+    judge_cases(&rt, rt.alloc(), &BYTES)
+}
+
+/// What each case shows, and its lines with the replies beside them.
+const PROPERTIES_AND_CASTS: [(&str, &str); 17] = [
+    (
         "properties of a view of all bytes",
         r"
 new bytearray x616263   h0
@@ -892,223 +1115,9 @@ set h0 0 (h1,h0)      ! TypeError
 bytes h0              b'\x01\x02'
 ",
     ),
-    (
-        "slices of slices of a view, drawn (1)",
-        r"
-new bytearray x6162636465666768696a   h0
-view h0                               h1
-get h1 -6:-1:-2                       h2
-bytes h2                              b''
-get h1 6:-10:3                        h3
-bytes h3                              b''
-get h1 -2:6:None                      h4
-bytes h4                              b''
-get h3 5:-7:None                      h5
-bytes h5                              b''
-get h3 None:None:-3                   h6
-bytes h6                              b''
-get h4 -3:-7:3                        h7
-bytes h7                              b''
-get h7 -7:-2:2                        h8
-bytes h8                              b''
-get h8 -7:-7:3                        h9
-bytes h9                              b''
-get h9 None:8:3                       h10
-bytes h10                             b''
-get h9 -8:11:-1                       h11
-bytes h11                             b''
-get h11 -5:5:-2                       h12
-bytes h12                             b''
-get h10 -2:7:-1                       h13
-bytes h13                             b''
-",
-    ),
-    (
-        "slices of slices of a view, drawn (2)",
-        r"
-new bytearray x6162636465666768696a6b6c6d6e6f70   h0
-view h0             h1
-get h1 -15:12:-3    h2
-bytes h2            b''
-get h1 -7:3:-1      h3
-bytes h3            b'jihgfe'
-get h2 -13:-3:-1    h4
-bytes h4            b''
-get h2 17:16:2      h5
-bytes h5            b''
-get h4 -9:-17:3     h6
-bytes h6            b''
-get h5 -7:-5:None   h7
-bytes h7            b''
-get h6 2:-10:-3     h8
-bytes h8            b''
-get h8 -14:0:None   h9
-bytes h9            b''
-get h7 -12:14:-3    h10
-bytes h10           b''
-get h8 14:9:-2      h11
-bytes h11           b''
-get h10 17:16:-2    h12
-bytes h12           b''
-get h10 7:-2:1      h13
-bytes h13           b''
-",
-    ),
-    (
-        "slices of slices of a view, drawn (3)",
-        r"
-new bytearray x6162636465666768696a   h0
-view h0                               h1
-get h1 2:3:3                          h2
-bytes h2                              b'c'
-get h2 8:-6:None                      h3
-bytes h3                              b''
-get h1 -1:8:1                         h4
-bytes h4                              b''
-get h3 -9:3:3                         h5
-bytes h5                              b''
-get h4 5:4:-2                         h6
-bytes h6                              b''
-get h4 2:-5:None                      h7
-bytes h7                              b''
-get h5 -1:5:None                      h8
-bytes h8                              b''
-get h6 10:-3:-2                       h9
-bytes h9                              b''
-get h8 10:9:-2                        h10
-bytes h10                             b''
-get h10 -7:11:None                    h11
-bytes h11                             b''
-get h10 -5:0:2                        h12
-bytes h12                             b''
-get h11 2:2:2                         h13
-bytes h13                             b''
-",
-    ),
-    (
-        "slices of slices of a view, drawn (4)",
-        r"
-new bytearray x6162636465666768696a   h0
-view h0                               h1
-get h1 -9:-11:None                    h2
-bytes h2                              b''
-get h1 7:6:2                          h3
-bytes h3                              b''
-get h2 -6:-8:1                        h4
-bytes h4                              b''
-get h4 10:7:None                      h5
-bytes h5                              b''
-get h3 -8:-5:-2                       h6
-bytes h6                              b''
-get h4 8:9:-1                         h7
-bytes h7                              b''
-get h6 4:0:None                       h8
-bytes h8                              b''
-get h7 -10:10:1                       h9
-bytes h9                              b''
-get h8 -5:9:-2                        h10
-bytes h10                             b''
-get h8 8:0:-1                         h11
-bytes h11                             b''
-get h10 -2:-9:2                       h12
-bytes h12                             b''
-get h10 -11:-11:1                     h13
-bytes h13                             b''
-",
-    ),
-    (
-        "items read and written, drawn (5)",
-        r"
-new bytearray x303132333435363738   h0
-view h0                             h1
-get h1 1:None:2                     h2
-get h2 None:None:-1                 h3
-get h3 6                            ! IndexError
-get h1 6                            54
-get h1 -3                           54
-get h0 -3                           54
-get h3 -5                           ! IndexError
-set h3 -4 90                        ok
-get h1 6                            54
-get h3 2                            51
-get h1 -4                           53
-get h2 -6                           ! IndexError
-set h3 0 77                         ok
-set h0 6 84                         ok
-get h0 4                            52
-set h0 -4 70                        ok
-set h3 6 73                         ! IndexError
-set h3 -5 85                        ! IndexError
-set h0 6 67                         ok
-get h3 -2                           51
-bytes h0                            b'01234FCM8'
-bytes h2                            b'13FM'
-bytes h3                            b'MF31'
-",
-    ),
-    (
-        "items read and written, drawn (6)",
-        r"
-new bytearray x303132333435363738   h0
-view h0                             h1
-get h1 2:None:2                     h2
-get h2 None:None:-1                 h3
-set h1 -3 65                        ok
-set h3 -2 72                        ok
-get h2 -1                           56
-set h2 4 85                         ! IndexError
-set h3 -2 85                        ok
-get h1 -5                           85
-set h3 1 70                         ok
-set h3 5 81                         ! IndexError
-set h3 6 65                         ! IndexError
-set h1 1 67                         ok
-set h0 2 73                         ok
-get h0 -4                           53
-set h3 -6 73                        ! IndexError
-set h1 -2 68                        ok
-set h0 -1 75                        ok
-set h0 6 82                         ok
-set h1 4 85                         ok
-get h2 -1                           75
-bytes h0                            b'0CI3U5RDK'
-bytes h2                            b'IURK'
-bytes h3                            b'KRUI'
-",
-    ),
-    (
-        "items read and written, drawn (7)",
-        r"
-new bytearray x303132333435363738   h0
-view h0                             h1
-get h1 0:None:1                     h2
-get h2 None:None:-1                 h3
-get h2 -6                           51
-get h2 -6                           51
-set h1 4 68                         ok
-get h3 1                            55
-get h3 -3                           50
-set h3 -4 80                        ok
-set h2 -6 70                        ok
-get h1 -2                           55
-set h3 3 71                         ok
-get h3 3                            71
-get h1 3                            70
-get h2 3                            70
-set h2 1 76                         ok
-set h3 0 66                         ok
-set h2 6 86                         ok
-get h2 -6                           70
-set h0 3 68                         ok
-set h3 -5 79                        ok
-bytes h0                            b'0L2DOGV7B'
-bytes h2                            b'0L2DOGV7B'
-bytes h3                            b'B7VGOD2L0'
-",
-    ),
 ];
 
 #[test]
-fn as_python_answers(rt: HostRuntime) -> Result<(), Fail> {
-    judge_cases(&rt, rt.alloc(), &CASES)
+fn properties_and_casts_as_python_answers(rt: HostRuntime) -> Result<(), Fail> {
+    judge_cases(&rt, rt.alloc(), &PROPERTIES_AND_CASTS)
 }
