@@ -22,10 +22,10 @@ class NoName(NameError):
 class Items:
     """Items of a `struct` format, one after another, over a contiguous `memoryview` of bytes."""
 
-    def __init__(self, memory, text):
+    def __init__(self, memory, text, read=None):
         self.memory = memory.cast("B")
         self.format = text
-        self.reader = struct.Struct(text)
+        self.reader = struct.Struct(read or text)
         self.itemsize = self.reader.size
         if not self.itemsize or self.memory.nbytes % self.itemsize:
             raise TypeError("the length is no multiple of the size of an item")
@@ -48,6 +48,11 @@ class Items:
     def release(self):
         self.memory.release()
 
+    def flat(self):
+        """The bytes of contiguous items."""
+        start, size = self.live().start * self.itemsize, self.nbytes
+        return self.memory[start : start + size]
+
     def __len__(self):
         return len(self.live())
 
@@ -57,7 +62,7 @@ class Items:
 
     def __getitem__(self, key):
         if isinstance(key, slice):
-            part = Items(self.memory, self.format)
+            part = Items(self.memory, self.format, self.reader.format)
             part.readonly = self.readonly
             part.obj = self.obj
             part.picked = self.live()[key]
@@ -160,7 +165,7 @@ class World:
             return self.named(subject.cast(text), self.exporter_of(handle))
         if not plain and not subject.contiguous:
             raise TypeError("not contiguous")
-        memory = subject if plain else subject.memory
+        memory = subject if plain else subject.flat()
         return self.named(Items(memory, text), self.exporter_of(handle))
 
     def property(self, handle, subject, name):
@@ -192,8 +197,8 @@ class Reply(str):
 
 
 def shown(found):
-    """How the reply text spells what was found."""
-    if isinstance(found, Reply):
+    """How the reply text spells what was found: a text, which only a format is, as it stands."""
+    if isinstance(found, str):
         return found
     if isinstance(found, bytearray):
         found = bytes(found)

@@ -18,23 +18,18 @@ sys.dont_write_bytecode = True
 
 from python_objects import World
 
-# What the program has beside `new`, `view`, `get`, `set`, `bytes`, `release` and `len`: of "prop",
-# "cast" and "handles" (handles as values). A case that needs more is left out.
-BUILT = set()
-
 SOURCES = pathlib.Path(__file__).parent.parent / "crates" / "pybuf_rows" / "src"
 
 
 class Case:
-    """What a case shows, its lines, and the commands that it needs beside those named above."""
+    """What a case shows, and its lines."""
 
-    def __init__(self, title, lines, *needs):
+    def __init__(self, title, lines):
         self.title = title
         self.lines = [line for line in lines.strip().split("\n") if line]
-        self.is_built = BUILT.issuperset(needs)
 
 
-PYTHON = [
+BYTES = [
     Case(
         "a write through a view is seen by the bytearray and by every view",
         """
@@ -469,6 +464,9 @@ bytes h1
 get h3 1
 """,
     ),
+]
+
+PROPERTIES_AND_CASTS = [
     Case(
         "properties of a view of all bytes",
         """
@@ -494,7 +492,6 @@ prop h3 shape
 prop h3 strides
 prop h3 contiguous
 """,
-        "prop",
     ),
     Case(
         "properties of sliced views",
@@ -523,7 +520,6 @@ get h1 None:None:9223372036854775807
 prop h6 strides
 bytes h6
 """,
-        "prop",
     ),
     Case(
         "exports rise with each view and fall with each first release",
@@ -550,7 +546,6 @@ prop h4 exports
 view h4
 prop h4 exports
 """,
-        "prop",
     ),
     Case(
         "properties of a released view",
@@ -565,7 +560,6 @@ prop h1 format
 prop h1 shape
 prop h1 contiguous
 """,
-        "prop",
     ),
     Case(
         "a cast shares the bytes, and items are read and written by their format",
@@ -589,7 +583,6 @@ get h1 3
 cast h2 'B'
 get h4 2
 """,
-        "cast",
     ),
     Case(
         "a length that is no multiple, and a format that is no text",
@@ -609,7 +602,6 @@ get h1 4:5:1
 cast h4 'b'
 get h5 0
 """,
-        "cast",
     ),
     Case(
         "each native number code at its ends",
@@ -654,7 +646,6 @@ get h15 5
 cast h1 '@q'
 get h16 0
 """,
-        "cast",
     ),
     Case(
         "each native number code written",
@@ -710,7 +701,6 @@ set h4 4 0
 set h4 0 True
 bytes h0
 """,
-        "cast",
     ),
     Case(
         "items of standard sizes, in either order",
@@ -745,7 +735,6 @@ get h11 0
 get h11 1
 bytes h11
 """,
-        "cast",
     ),
     Case(
         "items of bytes, and of bytes with their length",
@@ -769,7 +758,6 @@ bytes h0
 get h3 1
 get h3 2
 """,
-        "cast",
     ),
     Case(
         "items of several values are tuples, which are not written",
@@ -795,7 +783,6 @@ get h7 0
 set h7 0 1
 bytes h0
 """,
-        "cast",
     ),
     Case(
         "gaps and pad bytes become zeros in a written item",
@@ -809,7 +796,6 @@ cast h1 '3xB'
 set h3 1 7
 bytes h0
 """,
-        "cast",
     ),
     Case(
         "no format at all",
@@ -826,7 +812,6 @@ cast h1 '0s'
 cast h1 '0H'
 cast h1 '@'
 """,
-        "cast",
     ),
     Case(
         "casts of read-only and of released views",
@@ -846,7 +831,6 @@ get h2 0
 cast h2 'B'
 len h2
 """,
-        "cast",
     ),
     Case(
         "properties of casts",
@@ -879,8 +863,6 @@ prop h6 strides
 prop h6 contiguous
 prop h0 exports
 """,
-        "prop",
-        "cast",
     ),
     Case(
         "handles of bytes as values of items",
@@ -899,8 +881,6 @@ set h1 0 h0
 set h1 0 h2
 bytes h1
 """,
-        "cast",
-        "handles",
     ),
     Case(
         "handles in keys are of a wrong kind",
@@ -921,7 +901,6 @@ set h0 0 [h0]
 set h0 0 (h1,h0)
 bytes h0
 """,
-        "handles",
     ),
 ]
 
@@ -962,8 +941,8 @@ def drawn_writes(draw):
     return "\n".join(lines)
 
 
-PYTHON += [Case(f"slices of slices of a view, drawn ({seed})", drawn_slices(Draw(seed))) for seed in (1, 2, 3, 4)]
-PYTHON += [Case(f"items read and written, drawn ({seed})", drawn_writes(Draw(seed))) for seed in (5, 6, 7)]
+BYTES += [Case(f"slices of slices of a view, drawn ({seed})", drawn_slices(Draw(seed))) for seed in (1, 2, 3, 4)]
+BYTES += [Case(f"items read and written, drawn ({seed})", drawn_writes(Draw(seed))) for seed in (5, 6, 7)]
 
 # Beside each line our reply, written by hand; Python's is put beside it where it differs.
 DIFFERENCES = [
@@ -1045,7 +1024,6 @@ release h1                         ok
 prop h1 exports                    ! UnknownName  !
 prop h0 exports                    0
 """,
-        "prop",
     ),
     Case(
         "a shown stride is moved to the nearest isize",
@@ -1060,7 +1038,6 @@ get h3 None:None:9223372036854775807   h4
 bytes h4                           b'a'
 prop h4 strides                    (9223372036854775807,)    !
 """,
-        "prop",
     ),
     Case(
         "suboffsets are one 0 for each dimension",
@@ -1069,7 +1046,6 @@ new bytes x616263                  h0
 view h0                            h1
 prop h1 suboffsets                 (0,)           !
 """,
-        "prop",
     ),
     Case(
         "a view without bytes is contiguous",
@@ -1083,7 +1059,6 @@ prop h3 contiguous                 True           !
 prop h3 c_contiguous               True           !
 prop h3 f_contiguous               True           !
 """,
-        "prop",
     ),
     Case(
         "a view without bytes may be cast",
@@ -1094,7 +1069,6 @@ get h1 None:None:2                 h2
 get h2 2:None:None                 h3
 cast h3 'B'                        h4             !
 """,
-        "cast",
     ),
     Case(
         "a value that an item's format refuses is of a wrong kind",
@@ -1108,7 +1082,6 @@ cast h1 'c'                        h3
 set h3 0 x6162                     ! TypeError    !
 bytes h0                           b'\\x01\\x02\\x03\\x04'
 """,
-        "cast",
     ),
     Case(
         "a value that struct refuses is of a wrong kind, and the item stays as it was",
@@ -1122,7 +1095,6 @@ cast h1 '4s'                       h3
 set h3 0 5                         ! TypeError    !
 bytes h0                           b'\\x01\\x02\\x03\\x04'   !
 """,
-        "cast",
     ),
     Case(
         "a truth value is written as a truth value or a whole number alone",
@@ -1135,7 +1107,6 @@ set h2 1 0                         ok
 set h2 1 None                      ! TypeError    !
 get h2 1                           False
 """,
-        "cast",
     ),
     Case(
         "a released view is refused before the format is looked at",
@@ -1147,7 +1118,6 @@ cast h1 5                          ! ValueError   !
 cast h1 'y'                        ! ValueError
 cast h1 'H'                        ! ValueError
 """,
-        "cast",
     ),
     Case(
         "formats that are refused or are codes here",
@@ -1162,7 +1132,6 @@ cast h1 'e'                        ! StructError  !
 cast h1 'f'                        ! StructError  !
 cast h1 'P'                        ! StructError  !
 """,
-        "cast",
     ),
     Case(
         "a cast from items of several bytes to others",
@@ -1173,7 +1142,6 @@ cast h1 'H'                        h2
 cast h2 'I'                        h3             !
 get h3 0                           67305985       !
 """,
-        "cast",
     ),
     Case(
         "a view as a value of an item of bytes",
@@ -1186,8 +1154,6 @@ cast h3 '4s'                       h4
 set h4 0 h2                        ok             !
 bytes h1                           b'\\x01\\x02\\x03\\x04'   !
 """,
-        "cast",
-        "handles",
     ),
     Case(
         "a handle among the values that was never given",
@@ -1200,23 +1166,18 @@ set h0 0 h9                        ! UnknownName  !
 set h0 0 [h9]                      ! UnknownName  !
 bytes h0                           b'\\x01'
 """,
-        "handles",
     ),
 ]
 
 
-def python_rows():
+def python_rows(cases):
     """The cases with the replies of Python's objects."""
-    for case in PYTHON:
-        if case.is_built:
-            yield case.title, list(zip(case.lines, World().run(case.lines)))
+    return [(case.title, list(zip(case.lines, World().run(case.lines)))) for case in cases]
 
 
-def difference_rows():
+def difference_rows(cases):
     """The cases with our replies, and Python's where they differ."""
-    for case in DIFFERENCES:
-        if not case.is_built:
-            continue
+    for case in cases:
         rows = [tuple(part.strip() for part in line.split("  ") if part.strip()) for line in case.lines]
         python = World().run([row[0] for row in rows])
         for row, reply in zip(rows, python):
@@ -1239,16 +1200,19 @@ def literal(text):
     return f'r{marks}"{text}"{marks}'
 
 
-def source(head, test, cases):
-    """The source file of a table with one test."""
-    cases = list(cases)
-    out = [*head, "use crate::judging::judge_cases;", "use std::test::Fail;", ""]
-    out += ["/// What each case shows, and its lines with the replies beside them.", f"const CASES: [(&str, &str); {len(cases)}] = ["]
-    for title, rows in cases:
-        table = "\n".join(["", *in_columns(rows), ""])
-        out += ["    (", f'        "{title}",', f"        {literal(table)},", "    ),"]
-    out += ["];", "", "#[test]", f"fn {test}(rt: HostRuntime) -> Result<(), Fail> {{", "    judge_cases(&rt, rt.alloc(), &CASES)", "}"]
-    return "\n".join(out) + "\n", sum(len(rows) for _, rows in cases)
+def source(head, rows, tables):
+    """The source file of tables with a test for each, and the number of lines."""
+    out = [*head, "use crate::judging::judge_cases;", "use std::test::Fail;"]
+    count = 0
+    for name, test, cases in tables:
+        cases = list(rows(cases))
+        count += sum(len(lines) for _, lines in cases)
+        out += ["", "/// What each case shows, and its lines with the replies beside them.", f"const {name}: [(&str, &str); {len(cases)}] = ["]
+        for title, lines in cases:
+            table = "\n".join(["", *in_columns(lines), ""])
+            out += ["    (", f'        "{title}",', f"        {literal(table)},", "    ),"]
+        out += ["];", "", "#[test]", f"fn {test}(rt: HostRuntime) -> Result<(), Fail> {{", f"    judge_cases(&rt, rt.alloc(), &{name})", "}"]
+    return "\n".join(out) + "\n", count
 
 
 MADE = {
@@ -1258,8 +1222,8 @@ MADE = {
             "//!",
             "//! Made by `tools/python_rows.py`, which carries each line out on these objects: change it there.",
         ],
-        "as_python_answers",
         python_rows,
+        [("BYTES", "as_python_answers", BYTES), ("PROPERTIES_AND_CASTS", "properties_and_casts_as_python_answers", PROPERTIES_AND_CASTS)],
     ),
     "differences.rt": (
         [
@@ -1268,16 +1232,16 @@ MADE = {
             "//! Made by `tools/python_rows.py`, where our replies are written down by hand, and Python's come",
             "//! from its own objects: change it there. `docs/DIFFERENCES.md` has the reasons.",
         ],
-        "differences_by_choice",
         difference_rows,
+        [("CASES", "differences_by_choice", DIFFERENCES)],
     ),
 }
 
 
 def main():
     changed = False
-    for name, (head, test, rows) in MADE.items():
-        text, count = source(head, test, rows())
+    for name, made in MADE.items():
+        text, count = source(*made)
         path = SOURCES / name
         differs = not path.exists() or path.read_text() != text
         changed |= differs

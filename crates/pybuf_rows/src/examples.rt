@@ -5,7 +5,7 @@ use crate::judging::ends;
 use std::test::Fail;
 
 /// A name, the input, the output, and the number of the status.
-const EXAMPLES: [(&str, &str, &str, u8); 9] = [
+const EXAMPLES: [(&str, &str, &str, u8); 12] = [
     (
         "aliasing",
         r"new bytearray x68656c6c6f
@@ -37,6 +37,104 @@ get h1
         r"line 3 is not a command
 ",
         2,
+    ),
+    (
+        "casts",
+        r"new bytearray x0100020003000400
+view h0
+cast h1 'H'
+get h2 0
+get h2 -1
+set h2 1 258
+bytes h0
+cast h1 '>I'
+get h3 0
+get h2 None:None:2
+bytes h4
+cast h1 '3s'
+",
+        r"h0
+h1
+h2
+1
+4
+ok
+b'\x01\x00\x02\x01\x03\x00\x04\x00'
+h3
+16777729
+h4
+b'\x01\x00\x03\x00'
+! TypeError
+",
+        0,
+    ),
+    (
+        "living-views",
+        r"new bytearray x6162
+prop h0 exports
+view h0
+get h1 None:None:-1
+prop h0 exports
+release h1
+prop h0 exports
+set h2 0 90
+release h2
+release h2
+prop h0 exports
+bytes h0
+",
+        r"h0
+0
+h1
+h2
+2
+ok
+1
+ok
+ok
+ok
+0
+b'aZ'
+",
+        0,
+    ),
+    (
+        "patched-fields",
+        r"new bytearray x524946462408000057415645666d7420100000000100020044ac000010b10200040010006461746100080000
+view h0
+cast h1 '4s'
+get h2 0
+get h2 2
+get h1 16:36:1
+cast h3 '<IHHIIHH'
+get h4 0
+get h1 24:32:1
+cast h5 '<I'
+set h6 0 48000
+set h6 1 192000
+get h4 0
+bytes h5
+set h2 9 x4a554e4b
+get h0 36:44:1
+",
+        r"h0
+h1
+h2
+b'RIFF'
+b'WAVE'
+h3
+h4
+(16, 1, 2, 44100, 176400, 4, 16)
+h5
+h6
+ok
+ok
+(16, 1, 2, 48000, 192000, 4, 16)
+b'\x80\xbb\x00\x00\x00\xee\x02\x00'
+ok
+b'JUNK\x00\x08\x00\x00'
+",
+        0,
     ),
     (
         "patched-header",

@@ -5,7 +5,7 @@ use crate::judging::judge_cases;
 use std::test::Fail;
 
 /// What each case shows, and its lines with the replies beside them.
-const CASES: [(&str, &str); 29] = [
+const BYTES: [(&str, &str); 29] = [
     (
         "a write through a view is seen by the bytearray and by every view",
         r"
@@ -675,5 +675,449 @@ bytes h3                            b'B7VGOD2L0'
 
 #[test]
 fn as_python_answers(rt: HostRuntime) -> Result<(), Fail> {
-    judge_cases(&rt, rt.alloc(), &CASES)
+    judge_cases(&rt, rt.alloc(), &BYTES)
+}
+
+/// What each case shows, and its lines with the replies beside them.
+const PROPERTIES_AND_CASTS: [(&str, &str); 17] = [
+    (
+        "properties of a view of all bytes",
+        r"
+new bytearray x616263   h0
+view h0                 h1
+prop h1 obj             h0
+prop h1 nbytes          3
+prop h1 readonly        False
+prop h1 itemsize        1
+prop h1 ndim            1
+prop h1 shape           (3,)
+prop h1 strides         (1,)
+prop h1 format          B
+prop h1 contiguous      True
+prop h1 c_contiguous    True
+prop h1 f_contiguous    True
+new bytes x             h2
+view h2                 h3
+prop h3 obj             h2
+prop h3 nbytes          0
+prop h3 readonly        True
+prop h3 shape           (0,)
+prop h3 strides         (1,)
+prop h3 contiguous      True
+",
+    ),
+    (
+        "properties of sliced views",
+        r"
+new bytes x616263646566                h0
+view h0                                h1
+get h1 None:None:-2                    h2
+prop h2 shape                          (3,)
+prop h2 strides                        (-2,)
+prop h2 nbytes                         3
+prop h2 contiguous                     False
+prop h2 c_contiguous                   False
+prop h2 f_contiguous                   False
+prop h2 readonly                       True
+prop h2 obj                            h0
+get h2 0:1:1                           h3
+prop h3 shape                          (1,)
+prop h3 strides                        (-2,)
+prop h3 contiguous                     True
+get h2 None:None:-1                    h4
+prop h4 strides                        (2,)
+get h1 2:5:1                           h5
+prop h5 strides                        (1,)
+prop h5 contiguous                     True
+get h1 None:None:9223372036854775807   h6
+prop h6 strides                        (9223372036854775807,)
+bytes h6                               b'a'
+",
+    ),
+    (
+        "exports rise with each view and fall with each first release",
+        r"
+new bytearray x6162   h0
+prop h0 exports       0
+view h0               h1
+view h1               h2
+set h1 1 90           ok
+get h2 1              90
+bytes h0              b'aZ'
+prop h0 exports       2
+get h2 None:None:-1   h3
+prop h0 exports       3
+release h1            ok
+prop h0 exports       2
+release h1            ok
+prop h0 exports       2
+release h2            ok
+release h3            ok
+prop h0 exports       0
+new bytes x61         h4
+prop h4 exports       0
+view h4               h5
+prop h4 exports       1
+",
+    ),
+    (
+        "properties of a released view",
+        r"
+new bytes x61        h0
+view h0              h1
+release h1           ok
+prop h1 obj          ! ValueError
+prop h1 nbytes       ! ValueError
+prop h1 readonly     ! ValueError
+prop h1 format       ! ValueError
+prop h1 shape        ! ValueError
+prop h1 contiguous   ! ValueError
+",
+    ),
+    (
+        "a cast shares the bytes, and items are read and written by their format",
+        r"
+new bytearray x01000200   h0
+view h0                   h1
+cast h1 'H'               h2
+get h2 0                  1
+get h2 1                  2
+get h2 -1                 2
+get h2 2                  ! IndexError
+len h2                    2
+set h2 1 258              ok
+bytes h0                  b'\x01\x00\x02\x01'
+bytes h2                  b'\x01\x00\x02\x01'
+get h2 None:None:-1       h3
+get h3 0                  258
+set h3 0 1                ok
+bytes h0                  b'\x01\x00\x01\x00'
+get h1 3                  0
+cast h2 'B'               h4
+get h4 2                  1
+",
+    ),
+    (
+        "a length that is no multiple, and a format that is no text",
+        r"
+new bytes x0102030405   h0
+view h0                 h1
+cast h1 'H'             ! TypeError
+cast h1 'i'             ! TypeError
+cast h1 'B'             h2
+cast h1 5               ! TypeError
+cast h1 None            ! TypeError
+cast h1 x42             ! TypeError
+cast h1 ['B']           ! TypeError
+get h1 None:None:2      h3
+cast h3 'B'             ! TypeError
+get h1 4:5:1            h4
+cast h4 'b'             h5
+get h5 0                5
+",
+    ),
+    (
+        "each native number code at its ends",
+        r"
+new bytes xff7f80ff000102fe   h0
+view h0                       h1
+cast h1 'b'                   h2
+get h2 0                      -1
+get h2 2                      -128
+cast h1 'B'                   h3
+get h3 0                      255
+cast h1 'h'                   h4
+get h4 0                      32767
+get h4 1                      -128
+cast h1 'H'                   h5
+get h5 0                      32767
+get h5 1                      65408
+cast h1 'i'                   h6
+get h6 0                      -8355841
+get h6 1                      -33423104
+cast h1 'I'                   h7
+get h7 0                      4286611455
+get h7 1                      4261544192
+cast h1 'l'                   h8
+get h8 0                      -143551134324195329
+cast h1 'L'                   h9
+get h9 0                      18303192939385356287
+cast h1 'q'                   h10
+get h10 0                     -143551134324195329
+cast h1 'Q'                   h11
+get h11 0                     18303192939385356287
+cast h1 'n'                   h12
+get h12 0                     -143551134324195329
+cast h1 'N'                   h13
+get h13 0                     18303192939385356287
+cast h1 '?'                   h14
+get h14 0                     True
+get h14 4                     False
+cast h1 'c'                   h15
+get h15 0                     b'\xff'
+get h15 5                     b'\x01'
+cast h1 '@q'                  h16
+get h16 0                     -143551134324195329
+",
+    ),
+    (
+        "each native number code written",
+        r"
+new bytearray x0000000000000000   h0
+view h0                           h1
+cast h1 'b'                       h2
+set h2 0 -128                     ok
+set h2 -1 127                     ok
+cast h1 'h'                       h3
+set h3 1 -2                       ok
+cast h1 'H'                       h4
+set h4 2 65535                    ok
+bytes h0                          b'\x80\x00\xfe\xff\xff\xff\x00\x7f'
+cast h1 'i'                       h5
+set h5 0 -2147483648              ok
+set h5 1 2147483647               ok
+bytes h0                          b'\x00\x00\x00\x80\xff\xff\xff\x7f'
+cast h1 'I'                       h6
+set h6 1 4294967295               ok
+bytes h0                          b'\x00\x00\x00\x80\xff\xff\xff\xff'
+cast h1 'l'                       h7
+set h7 0 -2                       ok
+bytes h0                          b'\xfe\xff\xff\xff\xff\xff\xff\xff'
+cast h1 'L'                       h8
+set h8 0 18446744073709551615     ok
+bytes h0                          b'\xff\xff\xff\xff\xff\xff\xff\xff'
+cast h1 'q'                       h9
+set h9 0 -9223372036854775808     ok
+bytes h0                          b'\x00\x00\x00\x00\x00\x00\x00\x80'
+cast h1 'Q'                       h10
+set h10 0 1                       ok
+bytes h0                          b'\x01\x00\x00\x00\x00\x00\x00\x00'
+cast h1 'n'                       h11
+set h11 0 -1                      ok
+bytes h0                          b'\xff\xff\xff\xff\xff\xff\xff\xff'
+cast h1 'N'                       h12
+set h12 0 72623859790382856       ok
+bytes h0                          b'\x08\x07\x06\x05\x04\x03\x02\x01'
+cast h1 '?'                       h13
+set h13 0 True                    ok
+set h13 1 0                       ok
+set h13 2 77                      ok
+bytes h0                          b'\x01\x00\x01\x05\x04\x03\x02\x01'
+cast h1 'c'                       h14
+set h14 0 x5a                     ok
+bytes h0                          b'Z\x00\x01\x05\x04\x03\x02\x01'
+set h14 0 90                      ! TypeError
+set h14 0 'Z'                     ! TypeError
+set h4 0 'Z'                      ! TypeError
+set h4 0 x5a5a                    ! TypeError
+set h4 4 0                        ! IndexError
+set h4 0 True                     ok
+bytes h0                          b'\x01\x00\x01\x05\x04\x03\x02\x01'
+",
+    ),
+    (
+        "items of standard sizes, in either order",
+        r"
+new bytearray x0102030405060708   h0
+view h0                           h1
+cast h1 '<h'                      h2
+get h2 0                          513
+cast h1 '>h'                      h3
+get h3 0                          258
+cast h1 '!H'                      h4
+get h4 3                          1800
+cast h1 '=H'                      h5
+get h5 0                          513
+cast h1 '<l'                      h6
+get h6 0                          67305985
+cast h1 '>L'                      h7
+get h7 1                          84281096
+cast h1 '<q'                      h8
+get h8 0                          578437695752307201
+cast h1 '>Q'                      h9
+get h9 0                          72623859790382856
+set h3 0 -2                       ok
+set h7 1 4294967294               ok
+set h2 1 513                      ok
+bytes h0                          b'\xff\xfe\x01\x02\xff\xff\xff\xfe'
+cast h1 '>i'                      h10
+set h10 0 2147483647              ok
+bytes h0                          b'\x7f\xff\xff\xff\xff\xff\xff\xfe'
+get h10 None:None:-1              h11
+get h11 0                         -2
+get h11 1                         2147483647
+bytes h11                         b'\xff\xff\xff\xfe\x7f\xff\xff\xff'
+",
+    ),
+    (
+        "items of bytes, and of bytes with their length",
+        r"
+new bytearray x6162630064656667   h0
+view h0                           h1
+cast h1 '4s'                      h2
+get h2 0                          b'abc\x00'
+get h2 1                          b'defg'
+set h2 0 x5859                    ok
+bytes h0                          b'XY\x00\x00defg'
+set h2 1 x313233343536            ok
+bytes h0                          b'XY\x00\x001234'
+cast h1 '4p'                      h3
+get h3 0                          b'Y\x00\x00'
+set h3 0 x5859                    ok
+bytes h0                          b'\x02XY\x001234'
+get h3 0                          b'XY'
+set h3 1 x3132333435              ok
+bytes h0                          b'\x02XY\x00\x03123'
+get h3 1                          b'123'
+get h3 2                          ! IndexError
+",
+    ),
+    (
+        "items of several values are tuples, which are not written",
+        r"
+new bytearray x01ff020003fe0400   h0
+view h0                           h1
+cast h1 'BH'                      h2
+get h2 0                          (1, 2)
+get h2 1                          (3, 4)
+set h2 0 7                        ! TypeError
+len h2                            2
+get h2 None:None:-1               h3
+get h3 0                          (3, 4)
+bytes h3                          b'\x03\xfe\x04\x00\x01\xff\x02\x00'
+cast h1 '<Bb2x'                   h4
+get h4 0                          (1, -1)
+cast h1 '2H'                      h5
+get h5 0                          (65281, 2)
+cast h1 '4s2B2x'                  h6
+get h6 0                          (b'\x01\xff\x02\x00', 3, 254)
+cast h1 '8x'                      h7
+get h7 0                          ()
+set h7 0 1                        ! TypeError
+bytes h0                          b'\x01\xff\x02\x00\x03\xfe\x04\x00'
+",
+    ),
+    (
+        "gaps and pad bytes become zeros in a written item",
+        r"
+new bytearray xffffffffffffffff   h0
+view h0                           h1
+cast h1 'xH'                      h2
+set h2 0 258                      ok
+bytes h0                          b'\x00\x00\x02\x01\xff\xff\xff\xff'
+cast h1 '3xB'                     h3
+set h3 1 7                        ok
+bytes h0                          b'\x00\x00\x02\x01\x00\x00\x00\x07'
+",
+    ),
+    (
+        "no format at all",
+        r"
+new bytes x01020304   h0
+view h0               h1
+cast h1 '3'           ! StructError
+cast h1 '<n'          ! StructError
+cast h1 '>N'          ! StructError
+cast h1 'y'           ! StructError
+cast h1 'B<'          ! StructError
+cast h1 'B3'          ! StructError
+cast h1 '0s'          ! TypeError
+cast h1 '0H'          ! TypeError
+cast h1 '@'           ! TypeError
+",
+    ),
+    (
+        "casts of read-only and of released views",
+        r"
+new bytes x01020304   h0
+view h0               h1
+cast h1 'H'           h2
+set h2 0 1            ! TypeError
+set h2 9 1            ! TypeError
+set h2 0 None         ! TypeError
+get h2 1              1027
+release h1            ok
+cast h1 'B'           ! ValueError
+get h2 0              513
+release h2            ok
+get h2 0              ! ValueError
+cast h2 'B'           ! ValueError
+len h2                ! ValueError
+",
+    ),
+    (
+        "properties of casts",
+        r"
+new bytearray x0102030405060708   h0
+view h0                           h1
+cast h1 'H'                       h2
+prop h2 format                    H
+prop h2 itemsize                  2
+prop h2 shape                     (4,)
+prop h2 strides                   (2,)
+prop h2 nbytes                    8
+prop h2 readonly                  False
+prop h2 obj                       h0
+prop h2 ndim                      1
+get h2 None:None:-2               h3
+prop h3 strides                   (-4,)
+prop h3 shape                     (2,)
+prop h3 nbytes                    4
+prop h3 contiguous                False
+cast h1 '@i'                      h4
+prop h4 format                    @i
+prop h4 itemsize                  4
+cast h1 '<I'                      h5
+prop h5 format                    <I
+prop h5 shape                     (2,)
+prop h5 strides                   (4,)
+get h5 None:None:-1               h6
+prop h6 strides                   (-4,)
+prop h6 contiguous                False
+prop h0 exports                   6
+",
+    ),
+    (
+        "handles of bytes as values of items",
+        r"
+new bytes x01020304               h0
+new bytearray x0000000000000000   h1
+view h1                           h2
+cast h2 '4s'                      h3
+set h3 0 h0                       ok
+set h3 1 h1                       ok
+bytes h1                          b'\x01\x02\x03\x04\x01\x02\x03\x04'
+cast h2 'c'                       h4
+set h4 0 h1                       ! TypeError
+set h2 0 h0                       ! TypeError
+set h1 0 h0                       ! TypeError
+set h1 0 h2                       ! TypeError
+bytes h1                          b'\x01\x02\x03\x04\x01\x02\x03\x04'
+",
+    ),
+    (
+        "handles in keys are of a wrong kind",
+        r"
+new bytearray x0102   h0
+view h0               h1
+get h0 h0             ! TypeError
+get h0 h1             ! TypeError
+get h1 h0             ! TypeError
+get h0 h0:1:1         ! TypeError
+get h1 0:h0:1         ! TypeError
+get h1 0:1:h1         ! TypeError
+set h0 h0 1           ! TypeError
+set h1 h1 1           ! TypeError
+get h0 (h0)           ! TypeError
+get h0 [h0]           ! TypeError
+set h0 0 [h0]         ! TypeError
+set h0 0 (h1,h0)      ! TypeError
+bytes h0              b'\x01\x02'
+",
+    ),
+];
+
+#[test]
+fn properties_and_casts_as_python_answers(rt: HostRuntime) -> Result<(), Fail> {
+    judge_cases(&rt, rt.alloc(), &PROPERTIES_AND_CASTS)
 }

@@ -81,6 +81,136 @@ fn worked(rt: HostRuntime) -> Result<(), Fail> {
     judge_cases(&rt, rt.alloc(), &WORKED)
 }
 
+/// The same for properties, for casts and their items, and for handles as values.
+const WORKED_ITEMS: [(&str, &str); 8] = [
+    (
+        "views that share their bytes, and how many of them live",
+        r"
+new bytearray x6162   h0
+view h0               h1
+view h1               h2
+set h1 1 90           ok
+get h2 1              90
+bytes h0              b'aZ'
+prop h0 exports       2
+release h1            ok
+prop h0 exports       1
+",
+    ),
+    (
+        "steps past the ends of a word, and the shown strides",
+        r"
+new bytes x616263                                           h0
+view h0                                                     h1
+get h1 None:None:9223372036854775807                        h2
+bytes h2                                                    b'a'
+prop h2 strides                                             (9223372036854775807,)
+get h1 None:None:-170141183460469231731687303715884105728   h3
+bytes h3                                                    b'c'
+prop h3 strides                                             (-9223372036854775808,)
+",
+    ),
+    (
+        "items of two bytes, and a length that they don't make up",
+        r"
+new bytearray x01000200   h0
+view h0                   h1
+cast h1 'H'               h2
+set h2 1 258              ok
+get h2 0                  1
+bytes h0                  b'\x01\x00\x02\x01'
+new bytes x0102030405     h3
+view h3                   h4
+cast h4 'H'               ! TypeError
+",
+    ),
+    (
+        "texts that are no formats, a format of size 0, and a wide character",
+        r"
+new bytes x01020304   h0
+view h0               h1
+cast h1 '<u'          ! StructError
+cast h1 '3'           ! StructError
+cast h1 '0s'          ! TypeError
+cast h1 'u'           h2
+get h2 0              67305985
+",
+    ),
+    (
+        "items of two values are read, and not written",
+        r"
+new bytearray x01ff0200   h0
+view h0                   h1
+cast h1 'BH'              h2
+get h2 0                  (1, 2)
+set h2 0 7                ! TypeError
+prop h2 itemsize          4
+bytes h0                  b'\x01\xff\x02\x00'
+",
+    ),
+    (
+        "an item is written from its own exporter as that stood before",
+        r"
+new bytearray x6162636465666768   h0
+view h0                           h1
+cast h1 '4s'                      h2
+get h1 2:6:1                      h3
+set h2 1 h3                       ok
+bytes h0                          b'abcdcdef'
+set h2 1 h0                       ok
+bytes h0                          b'abcdabcd'
+set h2 0 h3                       ok
+bytes h0                          b'cdababcd'
+bytes h3                          b'abab'
+",
+    ),
+    (
+        "an item is written from other bytes and from a view of them",
+        r"
+new bytearray x6162636465666768   h0
+view h0                           h1
+cast h1 '4s'                      h2
+new bytes x5859                   h3
+set h2 0 h3                       ok
+bytes h0                          b'XY\x00\x00efgh'
+view h3                           h4
+set h2 1 h4                       ok
+get h2 1                          b'XY\x00\x00'
+get h4 None:None:-1               h5
+set h2 0 h5                       ! TypeError
+release h4                        ok
+set h2 0 h4                       ! TypeError
+bytes h0                          b'XY\x00\x00XY\x00\x00'
+",
+    ),
+    (
+        "handles among the values: of a wrong kind, and never given",
+        r"
+new bytearray x61626364   h0
+view h0                   h1
+cast h1 h0                ! TypeError
+cast h1 h9                ! UnknownName
+get h0 (1,h0)             ! TypeError
+get h0 (1,h9)             ! UnknownName
+get h1 0:h0:1             ! TypeError
+get h1 0:h9:1             ! UnknownName
+get h0 (0:1:1,0:h9:1)     ! UnknownName
+set h1 [h0] 1             ! TypeError
+set h1 [h9] 1             ! UnknownName
+set h1 0 [h9]             ! UnknownName
+release h1                ok
+get h1 h9                 ! UnknownName
+view h0                   h2
+bytes h2                  b'abcd'
+",
+    ),
+];
+
+#[test]
+fn worked_items(rt: HostRuntime) -> Result<(), Fail> {
+    judge_cases(&rt, rt.alloc(), &WORKED_ITEMS)
+}
+
 /// An input, its output, and the number of its status.
 const ENDINGS: [(&str, &str, u8); 10] = [
     // no line
@@ -143,6 +273,41 @@ fn as_many_lines_as_an_input_can_hold(rt: HostRuntime) -> Result<(), Fail> {
     ends(&rt, rt.alloc(), &input, &output, 0)?;
     input.push('\n')?;
     ends(&rt, rt.alloc(), &input, "", 7)
+}
+
+/// A bytearray of as many zeros as there are views of it; then one byte is written through the first
+/// view and read through the last, and the views are counted.
+fn views(rt: &HostRuntime, count: usize) -> Result<String, Fail> {
+    let mut input = String::from_str(rt.alloc(), "new bytearray x")?;
+    for _ in 0..count {
+        input.push_str("00")?;
+    }
+    input.push('\n')?;
+    for _ in 0..count {
+        input.push_str("view h0\n")?;
+    }
+    let last = format!(in rt.alloc(); "set h1 -1 7\nget h{count} -1\nprop h0 exports\n")?;
+    input.push_str(&last)?;
+    Ok(input)
+}
+
+/// What is written for these.
+fn views_written(rt: &HostRuntime, count: usize) -> Result<String, Fail> {
+    let mut output = String::from_str(rt.alloc(), "h0\n")?;
+    for at in 0..count {
+        let line = format!(in rt.alloc(); "h{}\n", at + 1)?;
+        output.push_str(&line)?;
+    }
+    let last = format!(in rt.alloc(); "ok\n7\n{count}\n")?;
+    output.push_str(&last)?;
+    Ok(output)
+}
+
+#[test]
+fn many_views_of_many_bytes(rt: HostRuntime) -> Result<(), Fail> {
+    let input = views(&rt, 10_000)?;
+    let output = views_written(&rt, 10_000)?;
+    ends(&rt, rt.alloc(), &input, &output, 0)
 }
 
 /// The status of a run over so many equal bytes, which are no command.

@@ -40,7 +40,7 @@ const NONE: [&str; 38] = [
     "get h0 X61",
     "get h0 none",
     "get h0 ....",
-    "get h0 h0",
+    "get h0 h18446744073709551616",
     "set h0 (0) 1",
     "set h0 0:1:1 1",
     "set h0 (0:1:1) 1",
