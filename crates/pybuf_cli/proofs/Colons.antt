@@ -1,6 +1,6 @@
 -- The parts of a text at its first separator.
-use Rattle.std.proofs.Common.{◌≡◌, ℕ, ◌+◌, ◌<◌, ◌≤◌, Bool, true, false, not, cond, ◌==◌, List, [], ◌∷◌, length, take, drop, refl, sym, ◌∙◌, ap, arith, tests, get_or}
-use Rattle.std.specs.Prelude.{Option, Some, None}
+use Rattle.std.proofs.Common.{◌≡◌, ℕ, ◌+◌, ◌<◌, ◌≤◌, Bool, true, false, not, cond, ◌==◌, List, [], ◌∷◌, length, take, drop, refl, ◌∙◌, ap, arith, tests, get_or}
+use Rattle.std.specs.Prelude.{Some, None}
 use Rattle.std.specs.List.{position, position_or_len, slice_split, onto_first}
 use Rattle.pybuf_cli.specs.Parts.{parts_at}
 use Rattle.pybuf_cli.specs.Spellings.{slice_of, slice_in}

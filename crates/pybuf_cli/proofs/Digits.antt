@@ -1,6 +1,6 @@
 -- Numbers only grow by further digits.
-use Rattle.std.proofs.Common.{ℕ, ◌≡◌, ◌<◌, ◌≤◌, ◌*◌, ◌+◌, ◌-◌, drop, length, get_or, List, [], ◌∷◌, refl, sym, ◌∙◌, ap, arith, tests, nat_lt, cond, Bool, true, false}
-use Rattle.std.specs.Prelude.{Option, Some, None}
+use Rattle.std.proofs.Common.{ℕ, ◌≡◌, ◌<◌, ◌≤◌, ◌*◌, ◌+◌, ◌-◌, drop, length, get_or, List, [], ◌∷◌, sym, ◌∙◌, ap, arith, tests, true}
+use Rattle.std.specs.Prelude.{None}
 use Rattle.std.specs.Char.{digit_value, is_ascii_digit}
 use Rattle.std.specs.Str.Parse.{digits_value, digits_value_after}
 use Rattle.std.specs.List.{list_all}

@@ -13,3 +13,5 @@ pub mod Printed
 pub mod LineLaws
 pub mod SpellingLaws
 pub mod ReplyLaws
+pub mod NameLaws
+pub mod ValueLaws

@@ -1,7 +1,7 @@
 -- The text of a reply is one line.
-use Rattle.std.proofs.Common.{◌≡◌, ℕ, ◌/◌, ◌%◌, zero, suc, List, [], ◌∷◌, ◌++◌, slice_index, Bool, true, false, cond, ◌==◌, ◌||◌, ◌&&◌, not, codes, refl, ◌∙◌, ap, arith, tests, pos, negsuc}
+use Rattle.std.proofs.Common.{◌≡◌, ℕ, ◌/◌, ◌%◌, zero, suc, List, [], ◌∷◌, ◌++◌, slice_index, Bool, true, false, cond, ◌==◌, ◌||◌, ◌&&◌, not, codes, refl, ◌∙◌, ap, arith, tests, ℤ, pos, negsuc}
 use Rattle.std.specs.List.{flat_map, list_any}
-use Rattle.std.specs.Fmt.{digits, digits_onto, digit_glyph, decimal}
+use Rattle.std.specs.Fmt.{signed_decimal, digits, digits_onto, digit_glyph, decimal}
 use Rattle.std.proofs.lemmas.List.Folds.{list_any-append}
 use Rattle.hex.specs.Hex.{lower_digits}
 use Rattle.pybuf_value.specs.Names.{python_name_of}
@@ -12,7 +12,7 @@ use Rattle.pybuf_value.specs.declared.values.Scalar.TheVariants as scalar
 use Rattle.pybuf_value.specs.declared.values.Item.{Item}
 use Rattle.pybuf_value.specs.declared.values.Item.TheVariants as item
 use Rattle.pybuf_view.specs.declared.commands.Reply.TheVariants as reply
-use Rattle.pybuf_cli.specs.Replies.{quote_of, escaped, quoted, scalar_text, next_part_text, tuple_text, item_text}
+use Rattle.pybuf_cli.specs.Replies.{quote_of, escaped, quoted, truth_text, scalar_text, next_part_text, tuple_text, item_text}
 use Rattle.pybuf_cli.specs.Laws.{IsOneLine, RepliesAreSingle}
 
 both : (xs ys : List ℕ) → IsOneLine xs → IsOneLine ys → IsOneLine (xs ++ ys)
@@ -66,31 +66,38 @@ quoted_single bytes =
     (ap (λ b. b || list_any (λ c. c == 10) (flat_map (escaped q) bytes)) one ∙ all_escaped_single q bytes one)
     (ap (λ b. b || false) one)
 
+truth_single : (truth : Bool) → IsOneLine (truth_text truth)
+truth_single true = refl
+truth_single false = refl
+
+number_single : (n : ℤ) → IsOneLine (signed_decimal n)
+number_single (pos n) = decimal_single n
+number_single (negsuc n) = decimal_single (suc n)
+
 scalar_single : (s : Scalar) → IsOneLine (scalar_text s)
 scalar_single scalar.None = refl
-scalar_single (scalar.Bool true) = refl
-scalar_single (scalar.Bool false) = refl
-scalar_single (scalar.Int (pos n)) = decimal_single n
-scalar_single (scalar.Int (negsuc n)) = decimal_single (suc n)
+scalar_single (scalar.Bool truth) = truth_single truth
+scalar_single (scalar.Int number) = number_single number
 scalar_single (scalar.Text text) = quoted_single text
 scalar_single (scalar.Bytes bytes) = quoted_single bytes
 scalar_single scalar.Ellipsis = refl
 scalar_single (scalar.Handle handle) = decimal_single handle
 
-parts_single : (parts : List Scalar) → IsOneLine (flat_map next_part_text parts)
-parts_single [] = refl
-parts_single (part ∷ more) = both (next_part_text part) (flat_map next_part_text more) (scalar_single part) (parts_single more)
+parts_single : {A : Type 0} (text : A → List ℕ) → ((part : A) → IsOneLine (text part)) → (parts : List A) → IsOneLine (flat_map (next_part_text text) parts)
+parts_single text single [] = refl
+parts_single text single (part ∷ more) =
+    both (next_part_text text part) (flat_map (next_part_text text) more) (single part) (parts_single text single more)
 
-tuple_single : (parts : List Scalar) → IsOneLine (tuple_text parts)
-tuple_single [] = refl
-tuple_single (part ∷ []) = both (scalar_text part) (codes ",)") (scalar_single part) refl
-tuple_single (part ∷ next ∷ more) =
-    both (scalar_text part ++ flat_map next_part_text (next ∷ more)) (codes ")")
-    (both (scalar_text part) (flat_map next_part_text (next ∷ more)) (scalar_single part) (parts_single (next ∷ more))) refl
+tuple_single : {A : Type 0} (text : A → List ℕ) → ((part : A) → IsOneLine (text part)) → (parts : List A) → IsOneLine (tuple_text text parts)
+tuple_single text single [] = refl
+tuple_single text single (part ∷ []) = both (text part) (codes ",)") (single part) refl
+tuple_single text single (part ∷ next ∷ more) =
+    both (text part ++ flat_map (next_part_text text) (next ∷ more)) (codes ")")
+    (both (text part) (flat_map (next_part_text text) (next ∷ more)) (single part) (parts_single text single (next ∷ more))) refl
 
 item_single : (i : Item) → IsOneLine (item_text i)
 item_single (item.One part) = scalar_single part
-item_single (item.Many parts) = tuple_single parts
+item_single (item.Many parts) = tuple_single scalar_text scalar_single parts
 
 name_single : (f : Fault) → IsOneLine (python_name_of f)
 name_single fault.Index = refl
@@ -103,8 +110,11 @@ name_single fault.NotImplemented = refl
 name_single fault.UnknownName = refl
 
 pub reply_single : RepliesAreSingle
-reply_single reply.Ok = refl
-reply_single (reply.Handle handle) = decimal_single handle
-reply_single (reply.Item shown) = item_single shown
-reply_single (reply.Bytes bytes) = quoted_single bytes
-reply_single (reply.Refused f) = name_single f
+reply_single reply.Ok h = refl
+reply_single (reply.Handle handle) h = decimal_single handle
+reply_single (reply.Item shown) h = item_single shown
+reply_single (reply.Bytes bytes) h = quoted_single bytes
+reply_single (reply.Text text) h = h
+reply_single (reply.Truth truth) h = truth_single truth
+reply_single (reply.Numbers numbers) h = tuple_single signed_decimal number_single numbers
+reply_single (reply.Refused f) h = name_single f

@@ -1,20 +1,20 @@
 -- The laws of parts and of values without parts.
-use Rattle.std.proofs.Common.{◌≡◌, ◌≢◌, ℕ, ◌+◌, ◌-◌, ◌^◌, ◌<◌, ◌≤◌, suc, ℤ, pos, negsuc, neg_ℤ, List, [], ◌∷◌, ◌++◌, length, take, drop, Bool, true, false, not, cond, ◌==◌, ◌&&◌, Option, Some, None, Ok, refl, sym, ◌∙◌, ap, subst, arith, tests, decimal, codes}
+use Rattle.std.proofs.Common.{◌≡◌, ℕ, ◌+◌, ◌-◌, ◌^◌, ◌<◌, suc, ℤ, pos, negsuc, List, [], ◌∷◌, ◌++◌, length, take, drop, Bool, true, false, not, cond, ◌==◌, ◌&&◌, Some, None, refl, sym, ◌∙◌, ap, arith, tests, decimal}
 use Rattle.std.specs.List.{join_with_byte, onto_first, list_all, AllByRecursion}
 use Rattle.std.specs.Char.{is_ascii_digit, digit_value}
 use Rattle.std.specs.Str.{bytes_eq}
 use Rattle.std.specs.Str.Parse.{digits_value, AllDigits}
-use Rattle.std.proofs.lemmas.List.{append_assoc, append-nil, drop_at, take_at, length-append, take-append-drop}
+use Rattle.std.proofs.lemmas.List.{drop_at, take_at, length-append, take-append-drop}
 use Rattle.std.proofs.lemmas.Slice.Eq.{bytes_eq-Decides}
 use Rattle.std.proofs.lemmas.Str.Parse.{digit_from_value}
 use Rattle.std.proofs.lemmas.Fmt.{decimal_is_IsNumeral_wide}
-use Rattle.hex.specs.Hex.{encode_lower, decode_of}
+use Rattle.hex.specs.Hex.{encode_lower}
 use Rattle.hex.proofs.HexLemmas.{decode_of-encode_lower}
 use Rattle.pybuf_value.specs.declared.values.Scalar.{Scalar}
 use Rattle.pybuf_value.specs.declared.values.Scalar.TheVariants as scalar
-use Rattle.pybuf_cli.specs.Parts.{parts_from, ◌or_else◌}
-use Rattle.pybuf_cli.specs.Scalars.{name_in, is_number, below, number_below, whole_in, positive_in, negative_in, bytes_in, decoded, before_end, enclosed, is_text, text_in, plain_in, scalar_in}
-use Rattle.pybuf_cli.specs.Laws.{PartsJoin, IsOnePart, PartsAreSingle, EnclosedIsBetween, BetweenIsEnclosed, written, IsSpelled, ScalarsReadBack}
+use Rattle.pybuf_cli.specs.Parts.{parts_from}
+use Rattle.pybuf_cli.specs.Scalars.{name_in, is_number, number_below, whole_in, positive_in, before_end, plain_in, scalar_in}
+use Rattle.pybuf_cli.specs.Laws.{PartsJoin, IsOnePart, PartsAreSingle, EnclosedIsBetween, BetweenIsEnclosed, written, IsSpelled, IsSlicePart, ScalarsReadBack}
 use Rattle.pybuf_cli.proofs.Commas.{some_part, quote_cuts, other_cuts}
 
 -- one byte onto the first part is one byte more in front
@@ -27,7 +27,7 @@ join_cut : (parts : List (List ℕ)) (first : List ℕ) (more : List (List ℕ))
     join_with_byte 44 ([] ∷ parts) ≡ 44 ∷ join_with_byte 44 parts
 join_cut parts first more e = rw e refl
 
-same_number : (b n : ℕ) → (b == n) ≡ true → b ≡ n
+pub same_number : (b n : ℕ) → (b == n) ≡ true → b ≡ n
 same_number b n h = grind (arith, tests)
 
 comma_there : (b : ℕ) (quoted : Bool) → (b == 44 && not quoted) ≡ true → b ≡ 44
@@ -86,7 +86,7 @@ single_from quoted (b ∷ rest) =
 pub parts_single : PartsAreSingle
 parts_single text = all_single false (parts_from false text) refl (single_from false text)
 
-same_bytes : (xs ys : List ℕ) → bytes_eq xs ys ≡ true → xs ≡ ys
+pub same_bytes : (xs ys : List ℕ) → bytes_eq xs ys ≡ true → xs ≡ ys
 same_bytes xs ys h = (bytes_eq-Decides xs ys).0 h
 
 before_end_of : (closing : ℕ) (rest inner : List ℕ) (same : Bool) → bytes_eq (drop (length rest - 1) rest) (closing ∷ []) ≡ same →
@@ -148,17 +148,17 @@ no_name c cs h = grind (arith, tests)
 no_sign : (c : ℕ) (cs : List ℕ) → is_ascii_digit c ≡ true → whole_in (c ∷ cs) ≡ positive_in (c ∷ cs)
 no_sign c cs h = grind (arith, tests)
 
-digits_read : (n : ℕ) (ds : List ℕ) → 0 < length ds → AllDigits 10 ds → digits_value 10 ds ≡ n → n < 2 ^ 127 → scalar_in ds ≡ Some (scalar.Int (pos n))
+digits_read : (n : ℕ) (ds : List ℕ) → 0 < length ds → AllDigits 10 ds → digits_value 10 ds ≡ n → n < 2 ^ 127 → plain_in ds ≡ Some (scalar.Int (pos n))
 digits_read n [] some all e h = absurd (omega arith)
 digits_read n (c ∷ cs) some all e h =
     let d = digit_test c all.0 in
     rw (no_name c cs d, no_sign c cs d, number_read (2 ^ 127) n (c ∷ cs) some all e h) refl
 
-signed_read : (n : ℕ) (ds : List ℕ) → 0 < length ds → AllDigits 10 ds → digits_value 10 ds ≡ suc n → n < 2 ^ 127 → scalar_in (45 ∷ ds) ≡ Some (scalar.Int (negsuc n))
+signed_read : (n : ℕ) (ds : List ℕ) → 0 < length ds → AllDigits 10 ds → digits_value 10 ds ≡ suc n → n < 2 ^ 127 → plain_in (45 ∷ ds) ≡ Some (scalar.Int (negsuc n))
 unfolding name_in
 signed_read n ds some all e h = rw (number_read (2 ^ 127 + 1) (suc n) ds some all e (omega (arith, h))) refl
 
-number_reads : (n : ℤ) → IsSpelled (scalar.Int n) → scalar_in (written (scalar.Int n)) ≡ Some (scalar.Int n)
+number_reads : (n : ℤ) → IsSpelled (scalar.Int n) → plain_in (written (scalar.Int n)) ≡ Some (scalar.Int n)
 number_reads (pos n) h =
     let d = decimal_is_IsNumeral_wide n (omega (arith, h)) in
     digits_read n (decimal n) d.0.0 d.0.1 d.1 h
@@ -166,24 +166,43 @@ number_reads (negsuc n) h =
     let d = decimal_is_IsNumeral_wide (suc n) (omega (arith, h)) in
     signed_read n (decimal (suc n)) d.0.0 d.0.1 d.1 h
 
-no_number : (c : ℕ) (cs : List ℕ) → is_ascii_digit c ≡ false → (c == 45) ≡ false → whole_in (c ∷ cs) ≡ None
+pub no_number : (c : ℕ) (cs : List ℕ) → is_ascii_digit c ≡ false → (c == 45) ≡ false → whole_in (c ∷ cs) ≡ None
 no_number c cs h s = grind (arith, tests)
 
-bytes_read : (bs : List ℕ) → IsSpelled (scalar.Bytes bs) → scalar_in (written (scalar.Bytes bs)) ≡ Some (scalar.Bytes bs)
+bytes_read : (bs : List ℕ) → IsSpelled (scalar.Bytes bs) → plain_in (written (scalar.Bytes bs)) ≡ Some (scalar.Bytes bs)
 unfolding name_in
 bytes_read bs h = rw (no_number 120 (encode_lower bs) refl refl, decode_of-encode_lower bs h) refl
+
+handle_reads : (n : ℕ) → IsSpelled (scalar.Handle n) → plain_in (written (scalar.Handle n)) ≡ Some (scalar.Handle n)
+unfolding name_in
+handle_reads n h =
+    let d = decimal_is_IsNumeral_wide n (omega (arith, h)) in
+    rw (no_number 104 (decimal n) refl refl, number_read (2 ^ 64) n (decimal n) d.0.0 d.0.1 d.1 h) refl
 
 text_reads : (t : List ℕ) → IsSpelled (scalar.Text t) → scalar_in (written (scalar.Text t)) ≡ Some (scalar.Text t)
 unfolding name_in
 text_reads t h = rw (no_number 39 (t ++ 39 ∷ []) refl refl, enclosed_read 39 39 t, h) refl
 
-pub scalars_read : ScalarsReadBack
+-- what may stand in a slice
+pub part_reads : (s : Scalar) → IsSlicePart s → plain_in (written s) ≡ Some s
 unfolding name_in
-scalars_read scalar.None h = refl
-scalars_read (scalar.Bool true) h = refl
-scalars_read (scalar.Bool false) h = refl
-scalars_read (scalar.Int number) h = number_reads number h
+part_reads scalar.None h = refl
+part_reads (scalar.Bool true) h = refl
+part_reads (scalar.Bool false) h = refl
+part_reads (scalar.Int number) h = number_reads number h
+part_reads (scalar.Text text) h = absurd h
+part_reads (scalar.Bytes bytes) h = bytes_read bytes h
+part_reads scalar.Ellipsis h = refl
+part_reads (scalar.Handle handle) h = handle_reads handle h
+
+plain_first : (text : List ℕ) (s : Scalar) → plain_in text ≡ Some s → scalar_in text ≡ Some s
+plain_first text s h = rw h refl
+
+pub scalars_read : ScalarsReadBack
+scalars_read scalar.None h = plain_first (written scalar.None) scalar.None (part_reads scalar.None h)
+scalars_read (scalar.Bool truth) h = plain_first (written (scalar.Bool truth)) (scalar.Bool truth) (part_reads (scalar.Bool truth) h)
+scalars_read (scalar.Int number) h = plain_first (written (scalar.Int number)) (scalar.Int number) (part_reads (scalar.Int number) h)
 scalars_read (scalar.Text text) h = text_reads text h
-scalars_read (scalar.Bytes bytes) h = bytes_read bytes h
-scalars_read scalar.Ellipsis h = refl
-scalars_read (scalar.Handle handle) h = absurd h
+scalars_read (scalar.Bytes bytes) h = plain_first (written (scalar.Bytes bytes)) (scalar.Bytes bytes) (part_reads (scalar.Bytes bytes) h)
+scalars_read scalar.Ellipsis h = plain_first (written scalar.Ellipsis) scalar.Ellipsis (part_reads scalar.Ellipsis h)
+scalars_read (scalar.Handle handle) h = plain_first (written (scalar.Handle handle)) (scalar.Handle handle) (part_reads (scalar.Handle handle) h)

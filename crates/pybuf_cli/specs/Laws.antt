@@ -3,14 +3,21 @@ use Rattle.std.specs.Prelude.{◌≡◌, ◌⊎◌, ℕ, ◌+◌, ◌^◌, ◌<�
 use Rattle.std.specs.Str.{byte}
 use Rattle.std.specs.Fmt.{signed_decimal}
 use Rattle.std.specs.List.{flat_map, join_with_byte, list_any, AllByRecursion}
+use Rattle.pybuf_exporter.specs.declared.commands.PropertyName.{PropertyName}
+use Rattle.pybuf_exporter.specs.declared.commands.PropertyName.TheVariants as property
 use Rattle.pybuf_view.specs.declared.commands.Command.{Command}
 use Rattle.pybuf_view.specs.declared.commands.Reply.{Reply}
+use Rattle.pybuf_view.specs.declared.commands.Reply.TheVariants as reply
 use Rattle.pybuf_value.specs.declared.values.Scalar.{Scalar}
 use Rattle.pybuf_value.specs.declared.values.Scalar.TheVariants as scalar
+use Rattle.pybuf_value.specs.declared.values.PySlice.{PySlice}
+use Rattle.pybuf_value.specs.declared.values.Value.{Value}
+use Rattle.pybuf_value.specs.declared.values.Value.TheVariants as value
 use Rattle.hex.specs.Hex.{IsBytes, encode_lower}
-use Rattle.pybuf_cli.specs.Lines.{lines, words, command_in, commands_in}
+use Rattle.pybuf_cli.specs.Lines.{lines, words, property_in, command_in, commands_in}
 use Rattle.pybuf_cli.specs.Parts.{parts_outside_quotes}
 use Rattle.pybuf_cli.specs.Scalars.{enclosed, is_text, scalar_in}
+use Rattle.pybuf_cli.specs.Spellings.{value_in}
 use Rattle.pybuf_cli.specs.Replies.{truth_text, reply_text}
 
 -- a line with its line feed
@@ -42,9 +49,14 @@ BadLineIsFirst = (input : List ℕ) (n : ℕ) → commands_in input ≡ Err n �
     (before : List Command) × (rest : List (Option Command))
     × (map command_in (lines input) ≡ map Some before ++ None ∷ rest) × (n ≡ length before + 1)
 
+-- the text that a reply hands on as it is, if any, holds no line feed
+abbrev pub HandsOnOneLine : Reply → Type 0
+HandsOnOneLine (reply.Text text) = IsOneLine text
+HandsOnOneLine _ = Unit {0}
+
 -- the text of a reply holds no line feed, so there is one line for each reply
 abbrev pub RepliesAreSingle : Type 0
-RepliesAreSingle = (reply : Reply) → IsOneLine (reply_text reply)
+RepliesAreSingle = (r : Reply) → HandsOnOneLine r → IsOneLine (reply_text r)
 
 -- The parts between commas, with a comma between each two, are the text.
 abbrev pub PartsJoin : Type 0
@@ -78,14 +90,73 @@ abbrev pub Is128Bits : ℤ → Type 0
 Is128Bits (pos n) = n < 2 ^ 127
 Is128Bits (negsuc n) = n < 2 ^ 127
 
--- the values without parts that lines spell: a handle is none
+-- the values without parts that lines spell
 abbrev pub IsSpelled : Scalar → Type 0
 IsSpelled (scalar.Int number) = Is128Bits number
 IsSpelled (scalar.Text text) = IsTrue (is_text text)
 IsSpelled (scalar.Bytes bytes) = IsBytes bytes
-IsSpelled (scalar.Handle handle) = ⊥
+IsSpelled (scalar.Handle handle) = handle < 2 ^ 64
 IsSpelled _ = Unit {0}
 
 -- A value that was written is read back.
 abbrev pub ScalarsReadBack : Type 0
 ScalarsReadBack = (s : Scalar) → IsSpelled s → scalar_in (written s) ≡ Some s
+
+-- how a slice is written
+abbrev pub written_slice : PySlice → List ℕ
+written_slice slice = join_with_byte (byte ":") (written slice.start ∷ written slice.stop ∷ written slice.step ∷ [])
+
+-- how parts are written, by the text of a part
+abbrev pub written_parts : {A : Type 0} → (A → List ℕ) → List A → List ℕ
+written_parts text parts = join_with_byte (byte ",") (map text parts)
+
+-- how a value is written
+abbrev pub written_value : Value → List ℕ
+written_value (value.One one) = written one
+written_value (value.Slice slice) = written_slice slice
+written_value (value.Tuple parts) = byte "(" ∷ written_parts written parts ++ byte ")" ∷ []
+written_value (value.List parts) = byte "[" ∷ written_parts written parts ++ byte "]" ∷ []
+written_value (value.Slices slices) = byte "(" ∷ written_parts written_slice slices ++ byte ")" ∷ []
+
+-- the values that may stand in a slice: a text is none
+abbrev pub IsSlicePart : Scalar → Type 0
+IsSlicePart (scalar.Text text) = ⊥
+IsSlicePart s = IsSpelled s
+
+abbrev pub IsSpelledSlice : PySlice → Type 0
+IsSpelledSlice slice = IsSlicePart slice.start × IsSlicePart slice.stop × IsSlicePart slice.step
+
+-- the values that lines spell
+abbrev pub IsSpelledValue : Value → Type 0
+IsSpelledValue (value.One one) = IsSpelled one
+IsSpelledValue (value.Slice slice) = IsSpelledSlice slice
+IsSpelledValue (value.Tuple parts) = AllByRecursion IsSpelled parts
+IsSpelledValue (value.List parts) = AllByRecursion IsSpelled parts
+IsSpelledValue (value.Slices slices) = (0 < length slices) × AllByRecursion IsSpelledSlice slices
+
+-- A value that was written is read back, with all its parts.
+abbrev pub ValuesReadBack : Type 0
+ValuesReadBack = (v : Value) → IsSpelledValue v → value_in (written_value v) ≡ Some v
+
+-- how the name of a property is written
+abbrev pub written_name : PropertyName → List ℕ
+written_name property.Exports = codes "exports"
+written_name property.Obj = codes "obj"
+written_name property.Nbytes = codes "nbytes"
+written_name property.Readonly = codes "readonly"
+written_name property.Itemsize = codes "itemsize"
+written_name property.Ndim = codes "ndim"
+written_name property.Shape = codes "shape"
+written_name property.Strides = codes "strides"
+written_name property.Suboffsets = codes "suboffsets"
+written_name property.Format = codes "format"
+written_name property.Contiguous = codes "contiguous"
+written_name property.CContiguous = codes "c_contiguous"
+written_name property.FContiguous = codes "f_contiguous"
+
+-- A name that was written is read back, and no other text is read as it.
+abbrev pub NamesReadBack : Type 0
+NamesReadBack = (name : PropertyName) → property_in (written_name name) ≡ Some name
+
+abbrev pub NamesAreWritten : Type 0
+NamesAreWritten = (text : List ℕ) (name : PropertyName) → property_in text ≡ Some name → text ≡ written_name name

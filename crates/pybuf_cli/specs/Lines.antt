@@ -5,6 +5,8 @@ use Rattle.pybuf_value.specs.declared.values.Value.{Value}
 use Rattle.pybuf_value.specs.declared.values.Value.TheVariants as value
 use Rattle.pybuf_exporter.specs.declared.kinds.ExporterKind.{ExporterKind}
 use Rattle.pybuf_exporter.specs.declared.kinds.ExporterKind.TheVariants as kind
+use Rattle.pybuf_exporter.specs.declared.commands.PropertyName.{PropertyName}
+use Rattle.pybuf_exporter.specs.declared.commands.PropertyName.TheVariants as property
 use Rattle.pybuf_exporter.specs.declared.commands.Verb.{Verb}
 use Rattle.pybuf_exporter.specs.declared.commands.Verb.TheVariants as verb
 use Rattle.pybuf_view.specs.declared.commands.Command.{Command}
@@ -39,12 +41,32 @@ word_in text =
     else if bytes_eq text (codes "bytes") then Some word.ToBytes
     else if bytes_eq text (codes "release") then Some word.Release
     else if bytes_eq text (codes "len") then Some word.Len
+    else if bytes_eq text (codes "cast") then Some word.Cast
+    else if bytes_eq text (codes "prop") then Some word.Property
     else None
 
 abbrev pub kind_in : List ℕ → Option ExporterKind
 kind_in text =
     if bytes_eq text (codes "bytes") then Some kind.Bytes
     else if bytes_eq text (codes "bytearray") then Some kind.ByteArray
+    else None
+
+-- the names of properties
+unfoldable pub property_in : List ℕ → Option PropertyName
+property_in text =
+    if bytes_eq text (codes "exports") then Some property.Exports
+    else if bytes_eq text (codes "obj") then Some property.Obj
+    else if bytes_eq text (codes "nbytes") then Some property.Nbytes
+    else if bytes_eq text (codes "readonly") then Some property.Readonly
+    else if bytes_eq text (codes "itemsize") then Some property.Itemsize
+    else if bytes_eq text (codes "ndim") then Some property.Ndim
+    else if bytes_eq text (codes "shape") then Some property.Shape
+    else if bytes_eq text (codes "strides") then Some property.Strides
+    else if bytes_eq text (codes "suboffsets") then Some property.Suboffsets
+    else if bytes_eq text (codes "format") then Some property.Format
+    else if bytes_eq text (codes "contiguous") then Some property.Contiguous
+    else if bytes_eq text (codes "c_contiguous") then Some property.CContiguous
+    else if bytes_eq text (codes "f_contiguous") then Some property.FContiguous
     else None
 
 -- the keys that `set` takes: tuples and slices are none
@@ -71,6 +93,12 @@ verb_in word.Set (key ∷ item ∷ []) = do
 verb_in word.ToBytes [] = Some verb.ToBytes
 verb_in word.Release [] = Some verb.Release
 verb_in word.Len [] = Some verb.Len
+verb_in word.Cast (format ∷ []) = do
+  f ← value_in format
+  Some (verb.Cast f None)
+verb_in word.Property (name ∷ []) = do
+  n ← property_in name
+  Some (verb.Property n)
 verb_in _ _ = None
 
 -- `new bytes xHEX` and `new bytearray xHEX`

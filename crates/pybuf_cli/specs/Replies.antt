@@ -46,25 +46,28 @@ scalar_text (scalar.Bytes bytes) = bytes_text bytes
 scalar_text scalar.Ellipsis = codes "Ellipsis"
 scalar_text (scalar.Handle handle) = codes "h" ++ decimal handle
 
--- the parts of a tuple after the first
-abbrev pub next_part_text : Scalar → List ℕ
-next_part_text part = codes ", " ++ scalar_text part
+-- a part of a tuple after the first, by the text of a part
+abbrev pub next_part_text : {A : Type 0} → (A → List ℕ) → A → List ℕ
+next_part_text text part = codes ", " ++ text part
 
--- a tuple: one of a single part has a comma after it
-abbrev pub tuple_text : List Scalar → List ℕ
-tuple_text [] = codes "()"
-tuple_text (part ∷ []) = codes "(" ++ scalar_text part ++ codes ",)"
-tuple_text (part ∷ next ∷ more) = codes "(" ++ scalar_text part ++ flat_map next_part_text (next ∷ more) ++ codes ")"
+-- a tuple by the text of a part: one of a single part has a comma after it
+abbrev pub tuple_text : {A : Type 0} → (A → List ℕ) → List A → List ℕ
+tuple_text text [] = codes "()"
+tuple_text text (part ∷ []) = codes "(" ++ text part ++ codes ",)"
+tuple_text text (part ∷ next ∷ more) = codes "(" ++ text part ++ flat_map (next_part_text text) (next ∷ more) ++ codes ")"
 
 abbrev pub item_text : Item → List ℕ
 item_text (item.One part) = scalar_text part
-item_text (item.Many parts) = tuple_text parts
+item_text (item.Many parts) = tuple_text scalar_text parts
 
 abbrev pub reply_text : Reply → List ℕ
 reply_text reply.Ok = codes "ok"
 reply_text (reply.Handle handle) = codes "h" ++ decimal handle
 reply_text (reply.Item shown) = item_text shown
 reply_text (reply.Bytes bytes) = bytes_text bytes
+reply_text (reply.Text text) = text
+reply_text (reply.Truth truth) = truth_text truth
+reply_text (reply.Numbers numbers) = tuple_text signed_decimal numbers
 reply_text (reply.Refused fault) = codes "! " ++ python_name_of fault
 
 -- a reply with its line feed

@@ -36,6 +36,11 @@ abbrev pub handle_in : List ℕ → Option ℕ
 handle_in [] = None
 handle_in (first ∷ digits) = if first == byte "h" then number_below (2 ^ 64) digits else None
 
+abbrev pub handle_value_in : List ℕ → Option Scalar
+handle_value_in text = do
+  n ← handle_in text
+  Some (scalar.Handle n)
+
 abbrev pub positive_in : List ℕ → Option Scalar
 positive_in digits = do
   n ← number_below (2 ^ 127) digits
@@ -91,7 +96,7 @@ text_in quoted = do
 
 -- the scalars other than text
 abbrev pub plain_in : List ℕ → Option Scalar
-plain_in text = name_in text or_else whole_in text or_else bytes_in text
+plain_in text = name_in text or_else whole_in text or_else handle_value_in text or_else bytes_in text
 
 abbrev pub scalar_in : List ℕ → Option Scalar
 scalar_in text = plain_in text or_else text_in text

@@ -1,5 +1,5 @@
 //! Laws of the definitions that the contracts cite. Each stands on a function with an empty body.
-ghost use Rattle.pybuf_cli.specs.Laws.{LinesJoin, LinesAreSingle, WordsJoin, CommandsAreOfLines, BadLineIsFirst, RepliesAreSingle, PartsJoin, PartsAreSingle, EnclosedIsBetween, BetweenIsEnclosed, ScalarsReadBack};
+ghost use Rattle.pybuf_cli.specs.Laws.{LinesJoin, LinesAreSingle, WordsJoin, CommandsAreOfLines, BadLineIsFirst, RepliesAreSingle, PartsJoin, PartsAreSingle, EnclosedIsBetween, BetweenIsEnclosed, ScalarsReadBack, ValuesReadBack, NamesReadBack, NamesAreWritten};
 
 /// The lines of an input, each with its line feed, are the input, which may lack the last one. No
 /// line holds a line feed.
@@ -20,7 +20,7 @@ pub fn commands_are_of_lines()
     ensures first { BadLineIsFirst }
 {}
 
-/// The text of a reply is one line.
+/// The text of a reply is one line, where a text that it hands on as it is has no line feed.
 pub fn replies_are_single_lines()
     ensures { RepliesAreSingle }
 {}
@@ -38,7 +38,18 @@ pub fn enclosed_is_between()
     ensures read { BetweenIsEnclosed }
 {}
 
-/// A value without parts that was written is read back, but for handles, which no line spells.
+/// A value without parts that was written is read back.
 pub fn scalars_read_back()
     ensures { ScalarsReadBack }
+{}
+
+/// A value that was written is read back, with all its parts.
+pub fn values_read_back()
+    ensures { ValuesReadBack }
+{}
+
+/// The name of a property that was written is read back, and no other text is read as it.
+pub fn property_names_read_back()
+    ensures read { NamesReadBack }
+    ensures written { NamesAreWritten }
 {}

@@ -22,7 +22,8 @@ pub use adapters::{ReaderSource, WriterSink};
 pub use devices::{Failed, PutFault, Sink, Source};
 pub use laws::{
     commands_are_of_lines, enclosed_is_between, lines_are_the_input, parts_are_the_text,
-    replies_are_single_lines, scalars_read_back, words_are_the_line,
+    property_names_read_back, replies_are_single_lines, scalars_read_back, values_read_back,
+    words_are_the_line,
 };
 pub use memory::{QuietSink, QuietSource};
 pub use serving::{serve, serve_alone, serve_bytes};

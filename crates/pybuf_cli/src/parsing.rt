@@ -7,7 +7,7 @@ use crate::scalars::{bytes, handle};
 use crate::spellings::value;
 use crate::splitting::words_of;
 use crate::unread::Unread;
-use crate::words::{Word, first_word, kind_named};
+use crate::words::{Word, first_word, kind_named, property_named};
 use pybuf_value::Value;
 use pybuf_view::{ByteInnerNewOptions, Command, Verb};
 use std::alloc::Global;
@@ -57,6 +57,21 @@ fn verb_of(alloc: Global, word: Word, arguments: &[&[u8]]) -> Result<Verb, Unrea
         },
         Word::Len => match arguments {
             [] => Ok(Verb::Len),
+            _ => Err(Unread::NoCommand),
+        },
+        Word::Cast => match arguments {
+            [format] => {
+                let format = value(alloc, format)?;
+                let shape = None;
+                Ok(Verb::Cast { format, shape })
+            }
+            _ => Err(Unread::NoCommand),
+        },
+        Word::Property => match arguments {
+            [name] => match property_named(name) {
+                Some(name) => Ok(Verb::Property { name }),
+                None => Err(Unread::NoCommand),
+            },
             _ => Err(Unread::NoCommand),
         },
         Word::New => Err(Unread::NoCommand),

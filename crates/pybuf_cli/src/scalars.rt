@@ -257,6 +257,9 @@ pub fn plain(alloc: Global, text: &[u8]) -> Result<Scalar, Unread>
     if let Some(number) = whole(text) {
         return Ok(number);
     }
+    if let Some(handle) = handle(text) {
+        return Ok(Scalar::Handle(handle));
+    }
     bytes(alloc, text)
 }
 

@@ -1,5 +1,5 @@
 //! The texts of replies.
-ghost use Rattle.std.specs.Prelude.{◌≡◌, ◌<◌, ◌==◌, ◌++◌, ◌∷◌, [], OnOk, slice_index, decimal};
+ghost use Rattle.std.specs.Prelude.{◌≡◌, ◌<◌, ◌==◌, ◌++◌, ◌∷◌, [], List, ℕ, OnOk, slice_index, decimal};
 ghost use Rattle.std.specs.Fmt.{signed_decimal};
 ghost use Rattle.std.specs.List.{list_any, flat_map};
 ghost use Rattle.hex.specs.Hex.{lower_digits};
@@ -109,56 +109,81 @@ fn push_bytes(out: &mut Vec<u8>, bytes: &[u8]) -> Made<()>
     push_quoted(out, bytes)
 }
 
-/// Adds a value without parts.
-fn push_scalar(out: &mut Vec<u8>, scalar: &Scalar) -> Made<()>
-    ensures { OnOk result (out.new.items ≡ out.old.items ++ scalar_text scalar.now) }
+/// Adds a truth value.
+fn push_truth(out: &mut Vec<u8>, truth: bool) -> Made<()>
+    ensures { OnOk result (out.new.items ≡ out.old.items ++ truth_text truth) }
 {
-    match scalar {
-        Scalar::None => out.extend_from_slice(b"None")?,
-        Scalar::Bool(truth) => {
-            if *truth {
-                out.extend_from_slice(b"True")?;
-            } else {
-                out.extend_from_slice(b"False")?;
-            }
-        }
-        Scalar::Int(number) => push_signed_decimal(out, *number)?,
-        Scalar::Text(text) => push_quoted(out, text.as_slice())?,
-        Scalar::Bytes(bytes) => push_bytes(out, bytes.as_slice())?,
-        Scalar::Ellipsis => out.extend_from_slice(b"Ellipsis")?,
-        Scalar::Handle(handle) => {
-            out.push(b'h')?;
-            push_decimal(out, *handle)?;
-        }
+    if truth {
+        out.extend_from_slice(b"True")?;
+    } else {
+        out.extend_from_slice(b"False")?;
     }
     Ok(())
 }
 
+/// What a tuple may have as its parts.
+trait Part {
+    // the text of a part
+    ghost text: { Self → List ℕ };
+
+    /// Adds the part.
+    fn push_part(&self, out: &mut Vec<u8>) -> Made<()>
+        ensures { OnOk result (out.new.items ≡ out.old.items ++ text self.now) };
+}
+
+impl Part for i128 {
+    ghost text = { signed_decimal };
+
+    fn push_part(&self, out: &mut Vec<u8>) -> Made<()> {
+        push_signed_decimal(out, *self)
+    }
+}
+
+impl Part for Scalar {
+    ghost text = { scalar_text };
+
+    fn push_part(&self, out: &mut Vec<u8>) -> Made<()> {
+        match self {
+            Scalar::None => out.extend_from_slice(b"None")?,
+            Scalar::Bool(truth) => push_truth(out, *truth)?,
+            Scalar::Int(number) => push_signed_decimal(out, *number)?,
+            Scalar::Text(text) => push_quoted(out, text.as_slice())?,
+            Scalar::Bytes(bytes) => push_bytes(out, bytes.as_slice())?,
+            Scalar::Ellipsis => out.extend_from_slice(b"Ellipsis")?,
+            Scalar::Handle(handle) => {
+                out.push(b'h')?;
+                push_decimal(out, *handle)?;
+            }
+        }
+        Ok(())
+    }
+}
+
 /// Adds the parts of a tuple after the first.
-fn push_next_parts(out: &mut Vec<u8>, parts: &[Scalar]) -> Made<()>
-    ensures { OnOk result (out.new.items ≡ out.old.items ++ flat_map next_part_text parts.now) }
+fn push_next_parts<T: Part>(out: &mut Vec<u8>, parts: &[T]) -> Made<()>
+    ensures { OnOk result (out.new.items ≡ out.old.items ++ flat_map (next_part_text T.text) parts.now) }
 {
     for part in parts {
         out.extend_from_slice(b", ")?;
-        push_scalar(out, part)?;
+        part.push_part(out)?;
     }
     Ok(())
 }
 
 /// Adds a tuple.
-fn push_tuple(out: &mut Vec<u8>, parts: &[Scalar]) -> Made<()>
-    ensures { OnOk result (out.new.items ≡ out.old.items ++ tuple_text parts.now) }
+fn push_tuple<T: Part>(out: &mut Vec<u8>, parts: &[T]) -> Made<()>
+    ensures { OnOk result (out.new.items ≡ out.old.items ++ tuple_text T.text parts.now) }
 {
     match parts {
         [] => out.extend_from_slice(b"()")?,
         [part] => {
             out.push(b'(')?;
-            push_scalar(out, part)?;
+            part.push_part(out)?;
             out.extend_from_slice(b",)")?;
         }
         [part, more @ ..] => {
             out.push(b'(')?;
-            push_scalar(out, part)?;
+            part.push_part(out)?;
             push_next_parts(out, more)?;
             out.push(b')')?;
         }
@@ -171,7 +196,7 @@ fn push_item(out: &mut Vec<u8>, item: &Item) -> Made<()>
     ensures { OnOk result (out.new.items ≡ out.old.items ++ item_text item.now) }
 {
     match item {
-        Item::One(part) => push_scalar(out, part),
+        Item::One(part) => part.push_part(out),
         Item::Many(parts) => push_tuple(out, parts.as_slice()),
     }
 }
@@ -188,6 +213,9 @@ fn push_reply(out: &mut Vec<u8>, reply: &Reply) -> Made<()>
         }
         Reply::Item(item) => push_item(out, item)?,
         Reply::Bytes(bytes) => push_bytes(out, bytes.as_slice())?,
+        Reply::Text(text) => out.extend_from_slice(text.as_slice())?,
+        Reply::Truth(truth) => push_truth(out, *truth)?,
+        Reply::Numbers(numbers) => push_tuple(out, numbers.as_slice())?,
         Reply::Refused(fault) => {
             out.extend_from_slice(b"! ")?;
             out.extend_from_slice(fault.python_name().as_bytes())?;

@@ -1,9 +1,9 @@
-//! The first words of lines.
+//! The first words of lines, and the names that stand on them.
 ghost use Rattle.std.specs.Prelude.{◌≡◌};
 ghost use Rattle.std.specs.Str.{bytes_eq};
-ghost use Rattle.pybuf_cli.specs.Lines.{word_in, kind_in};
+ghost use Rattle.pybuf_cli.specs.Lines.{word_in, kind_in, property_in};
 
-use pybuf_view::ExporterKind;
+use pybuf_view::{ExporterKind, PropertyName};
 
 /// The first word of a line.
 #[derive(Clone, Copy, Debug, PartialEq, Eq)]
@@ -15,6 +15,8 @@ pub enum Word {
     ToBytes,
     Release,
     Len,
+    Cast,
+    Property,
 }
 
 /// Whether a text is a word, byte by byte.
@@ -50,6 +52,12 @@ pub fn first_word(text: &[u8]) -> Option<Word>
     if is_word(text, "len") {
         return Some(Word::Len);
     }
+    if is_word(text, "cast") {
+        return Some(Word::Cast);
+    }
+    if is_word(text, "prop") {
+        return Some(Word::Property);
+    }
     None
 }
 
@@ -62,6 +70,53 @@ pub fn kind_named(text: &[u8]) -> Option<ExporterKind>
     }
     if is_word(text, "bytearray") {
         return Some(ExporterKind::ByteArray);
+    }
+    None
+}
+
+/// The property that a text names.
+#[tactic(auto, unfolding(crate::specs::Lines::property_in))]
+pub fn property_named(text: &[u8]) -> Option<PropertyName>
+    ensures { result ≡ property_in text.now }
+{
+    if is_word(text, "exports") {
+        return Some(PropertyName::Exports);
+    }
+    if is_word(text, "obj") {
+        return Some(PropertyName::Obj);
+    }
+    if is_word(text, "nbytes") {
+        return Some(PropertyName::Nbytes);
+    }
+    if is_word(text, "readonly") {
+        return Some(PropertyName::Readonly);
+    }
+    if is_word(text, "itemsize") {
+        return Some(PropertyName::Itemsize);
+    }
+    if is_word(text, "ndim") {
+        return Some(PropertyName::Ndim);
+    }
+    if is_word(text, "shape") {
+        return Some(PropertyName::Shape);
+    }
+    if is_word(text, "strides") {
+        return Some(PropertyName::Strides);
+    }
+    if is_word(text, "suboffsets") {
+        return Some(PropertyName::Suboffsets);
+    }
+    if is_word(text, "format") {
+        return Some(PropertyName::Format);
+    }
+    if is_word(text, "contiguous") {
+        return Some(PropertyName::Contiguous);
+    }
+    if is_word(text, "c_contiguous") {
+        return Some(PropertyName::CContiguous);
+    }
+    if is_word(text, "f_contiguous") {
+        return Some(PropertyName::FContiguous);
     }
     None
 }

@@ -1,5 +1,5 @@
 -- The descriptor of an unreleased view is valid for the exporter's length.
-use Rattle.std.proofs.Common.{◌≡◌, ℕ, zero, suc, ◌+◌, ◌<◌, ◌≤◌, ℤ, pos, ◌+ℤ◌, ◌≤ℤ◌, List, [], ◌∷◌, length, map, true, false, refl, sym, subst, arith}
+use Rattle.std.proofs.Common.{◌≡◌, ℕ, zero, suc, ◌+◌, ◌<◌, ◌≤◌, pos, List, [], ◌∷◌, length, map, true, false, refl, sym, subst, arith}
 use Rattle.std.specs.Prelude.{All, Option, Some, None, Ok, Err, slice_get, IsSomeAnd}
 use Rattle.std.specs.Option.{ok_or}
 use Rattle.pybuf_value.specs.declared.faults.Fault.{Fault}
@@ -7,7 +7,7 @@ use Rattle.pybuf_value.specs.declared.faults.Fault.TheVariants as fault
 use Rattle.std.proofs.lemmas.Int.{ints}
 use Rattle.std.proofs.lemmas.List.Elements.{All-nil, All-cons, All-head, All-tail}
 use Rattle.pybuf_desc.specs.Descriptor.{Descriptor}
-use Rattle.pybuf_desc.specs.Places.{places, Stands}
+use Rattle.pybuf_desc.specs.Places.{Stands}
 use Rattle.pybuf_desc.specs.Valid.{IsInside, IsValid, IsPlaced}
 use Rattle.pybuf_exporter.specs.Exporter.{Exporter, View, view_at}
 use Rattle.pybuf_exporter.specs.Layouts.{layout_of}

@@ -1,6 +1,6 @@
 -- Bytes that are gathered range by range.
-use Rattle.std.proofs.Common.{◌≡◌, ℕ, zero, suc, ◌+◌, ◌-◌, ◌<◌, ◌≤◌, ℤ, pos, nat_abs, List, [], ◌∷◌, ◌++◌, length, map, take, drop, Bool, ap, ap₂, sym, ◌∙◌, refl, subst, arith, append_assoc}
-use Rattle.std.specs.Prelude.{All, Option, Some, None, slice_get, slice_range}
+use Rattle.std.proofs.Common.{◌≡◌, ℕ, zero, suc, ◌+◌, ◌-◌, ◌<◌, ◌≤◌, ℤ, pos, nat_abs, List, [], ◌∷◌, ◌++◌, length, map, take, drop, ap, ap₂, sym, ◌∙◌, refl, subst, arith, append_assoc}
+use Rattle.std.specs.Prelude.{All, slice_get}
 use Rattle.std.specs.List.{flat_map, range_with_len, cons_option}
 use Rattle.std.specs.declared.ops.Range.{Range}
 use Rattle.std.proofs.lemmas.Grind.{common_steps}
@@ -11,7 +11,7 @@ use Rattle.pybuf_desc.specs.Segments.{bytes_of, item_bytes}
 use Rattle.pybuf_desc.specs.Descriptor.{Descriptor}
 use Rattle.pybuf_desc.specs.Places.{places, Stands}
 use Rattle.pybuf_desc.proofs.Inside.{ByRec-left, ByRec-right}
-use Rattle.pybuf_exporter.specs.Exporter.{View, bytes_at, bytes_of_items, content}
+use Rattle.pybuf_exporter.specs.Exporter.{View, bytes_of_items, content}
 use Rattle.pybuf_exporter.specs.Layouts.{layout_of}
 use Rattle.pybuf_exporter.proofs.Kept.{starts_of_stands}
 use Rattle.pybuf_exporter.specs.Sound.{IsHeld}

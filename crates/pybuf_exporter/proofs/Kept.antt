@@ -1,8 +1,7 @@
 -- Views as descriptors and starts.
-use Rattle.std.proofs.Common.{◌≡◌, ℕ, zero, suc, ◌+◌, ◌-◌, ◌*◌, ◌^◌, ◌<◌, ◌≤◌, ℤ, pos, negsuc, ◌+ℤ◌, ◌*ℤ◌, ◌≤ℤ◌, ◌<ℤ◌, ◌/◌, nat_abs, List, [], ◌∷◌, ◌++◌, length, map, take, drop, get_or, Bool, true, false, ap, ap₂, sym, ◌∙◌, refl, subst, arith, SFits, w64}
-use Rattle.std.specs.Prelude.{IsTrue, ◌↔◌, All, Option, Some, None, slice_get, slice_index, codes}
+use Rattle.std.proofs.Common.{◌≡◌, ℕ, zero, suc, ◌+◌, ◌*◌, ◌^◌, ◌<◌, ◌≤◌, ℤ, pos, negsuc, ◌+ℤ◌, ◌*ℤ◌, ◌≤ℤ◌, ◌<ℤ◌, ◌/◌, nat_abs, List, [], ◌∷◌, ◌++◌, length, map, take, drop, get_or, Bool, true, false, ap, ap₂, sym, ◌∙◌, refl, subst, arith}
+use Rattle.std.specs.Prelude.{IsTrue, ◌↔◌, All, Some, slice_get, slice_index, codes}
 use Rattle.std.specs.List.{flat_map, range_with_len, cons_option}
-use Rattle.std.proofs.lemmas.Grind.{common_steps}
 use Rattle.std.proofs.lemmas.Int.{ints}
 use Rattle.std.proofs.lemmas.List.{length-map}
 use Rattle.std.proofs.lemmas.List.Elements.{All-tail, All-head, recursion_from_All}
@@ -13,15 +12,14 @@ use Rattle.pybuf_slice.specs.Reads.{elements_at}
 use Rattle.pybuf_desc.specs.Descriptor.{Descriptor, Layout, shape_of, strides_of, product, flat, bytes_layout}
 use Rattle.pybuf_desc.specs.Places.{places, Stands}
 use Rattle.pybuf_desc.specs.Valid.{IsInside, IsValid, IsPlaced}
-use Rattle.pybuf_desc.specs.Slices.{first_entry, first_stride, block_at, slice_at, slice_of}
-use Rattle.pybuf_desc.specs.Positions.{offset_of, number_of_item, AreIndices}
+use Rattle.pybuf_desc.specs.Slices.{first_entry, first_stride, block_at, slice_of}
+use Rattle.pybuf_desc.specs.Positions.{number_of_item, AreIndices}
 use Rattle.pybuf_desc.specs.Contiguous.{IsContiguous}
 use Rattle.std.specs.Bool.{Decides}
 use Rattle.std.specs.Str.{bytes_eq}
 use Rattle.std.proofs.lemmas.Slice.Eq.{bytes_eq-Decides}
 use Rattle.pybuf_desc.proofs.Steps.{length-places, zeroth_place}
 use Rattle.pybuf_desc.proofs.Track.{here}
-use Rattle.pybuf_desc.proofs.SliceMade.{entry_fits}
 use Rattle.pybuf_desc.proofs.SliceFacts.{block_size}
 use Rattle.pybuf_exporter.specs.declared.kinds.ExporterKind.{ExporterKind}
 use Rattle.pybuf_exporter.specs.Exporter.{View, whole_of, holds_readonly}
@@ -201,7 +199,7 @@ lifted : (s size : ℕ) (ks : List ℕ) → map (λ k. pos s +ℤ pos (k * size)
 lifted s size [] = refl
 lifted s size (k ∷ ks) = ap (λ (ps : List ℤ). pos (s + k * size) ∷ ps) (lifted s size ks)
 
-contiguous_apart : (size : ℕ) (starts : List ℕ) (start : ℤ) (ps : List ℤ) → ps ≡ map (λ x. pos x) starts → (0 < length ps → get_or ps 0 (pos 0) ≡ start)
+pub contiguous_apart : (size : ℕ) (starts : List ℕ) (start : ℤ) (ps : List ℤ) → ps ≡ map (λ x. pos x) starts → (0 < length ps → get_or ps 0 (pos 0) ≡ start)
     → (ps ≡ map (λ k. start +ℤ pos (k * size)) (range_with_len 0 (length ps)) → starts ≡ apart size starts)
     × (starts ≡ apart size starts → ps ≡ map (λ k. start +ℤ pos (k * size)) (range_with_len 0 (length ps)))
 contiguous_apart size [] start ps same first = ((λ _. refl), (λ _. rw same refl))
@@ -225,7 +223,7 @@ same_test false false d holds back = refl
 same_test true false d holds back = sym (d.1 (holds refl))
 same_test false true d holds back = back (d.0 refl)
 
-first_place : (d : Descriptor) (start : ℕ) → IsKept d start → 0 < length (places d.dims (pos start)) → get_or (places d.dims (pos start)) 0 (pos 0) ≡ pos start
+pub first_place : (d : Descriptor) (start : ℕ) → IsKept d start → 0 < length (places d.dims (pos start)) → get_or (places d.dims (pos start)) 0 (pos 0) ≡ pos start
 first_place d start kept some =
     let dim = get_or d.dims 0 (0, pos 0, pos 0) in
     let one : d.dims ≡ dim ∷ [] = one_dim d.dims kept.one_dimension in

@@ -1,9 +1,11 @@
 pub mod Kept
+pub mod CastKept
 pub mod Gathered
 pub mod ListTests
 pub mod Counts
 pub mod Laid
 pub mod Formed
+pub mod Written
 pub mod Soundness
 pub mod Described
 pub mod Refusals

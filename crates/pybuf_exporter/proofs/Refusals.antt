@@ -1,6 +1,6 @@
 -- A refused command changes nothing of an exporter.
-use Rattle.std.proofs.Common.{◌≡◌, ℕ, List, length, Bool, true, false, true≢false, ap, sym, ◌∙◌, refl}
-use Rattle.std.specs.Prelude.{Result, Ok, Err, if◌then◌else◌}
+use Rattle.std.proofs.Common.{◌≡◌, [], ◌∷◌, ℕ, List, length, Bool, true, false, true≢false, ap, sym, ◌∙◌, refl}
+use Rattle.std.specs.Prelude.{None, Some, Result, Ok, Err, if◌then◌else◌}
 use Rattle.pybuf_value.specs.declared.faults.Fault.{Fault}
 use Rattle.pybuf_value.specs.declared.faults.Fault.TheVariants as fault
 use Rattle.pybuf_value.specs.declared.values.Value.{Value}
@@ -16,14 +16,17 @@ use Rattle.pybuf_exporter.specs.declared.commands.Verb.TheVariants as verb
 use Rattle.pybuf_exporter.specs.declared.commands.LocalReply.{LocalReply}
 use Rattle.pybuf_exporter.specs.declared.commands.LocalReply.TheVariants as local
 use Rattle.pybuf_exporter.specs.Exporter.{Exporter, View, live_view}
-use Rattle.pybuf_exporter.specs.Items.{index_in, place_in}
+use Rattle.pybuf_exporter.specs.Items.{index_in, place_in, kind_fault, scalar_in}
 use Rattle.pybuf_exporter.specs.declared.loans.Loan.{Loan}
 use Rattle.pybuf_exporter.specs.Handles.{handles_of, are_known}
 use Rattle.pybuf_exporter.specs.Step.{row, answered_if_built, answered, is_built, estep, settled, set_in_kind, get_in_kind}
 use Rattle.pybuf_exporter.specs.Rows.View.{view_again}
 use Rattle.pybuf_slice.specs.Parts.{saturated_parts_of}
 use Rattle.pybuf_exporter.specs.Rows.Get.{byte_of_own, get_of_own, item_of_view, slice_of_view, get_of_view}
-use Rattle.pybuf_exporter.specs.Rows.Set.{set_of_own, set_target}
+use Rattle.pybuf_exporter.specs.Rows.Set.{set_of_own, set_target, item_written}
+use Rattle.pybuf_exporter.specs.Rows.Cast.{cast_made}
+use Rattle.pybuf_exporter.specs.Loans.{lent_to}
+use Rattle.pybuf_struct.specs.Formats.{format_of}
 use Rattle.pybuf_exporter.specs.declared.commands.PropertyName.{PropertyName}
 use Rattle.pybuf_exporter.specs.declared.commands.PropertyName.TheVariants as property
 use Rattle.pybuf_exporter.specs.Rows.Property.{is_exports, property_in, property_of_own, property_of_view}
@@ -126,9 +129,13 @@ row_answers e (subject.View k) (verb.Get key) loans = get_of_view_answers e k ke
 row_answers e subject.Own (verb.Set key value) loans =
     set_in_kind_answers e.kind e (set_of_own e key value)
     (bind (index_in key) _ (λ index _. bind (byte_in value) _ (λ byte _. bind (place_in (length e.bytes) index) _ (λ place _. refl))))
-row_answers e (subject.View k) (verb.Set key value) loans = bind (set_target e k key value) _ (λ target _. refl)
+row_answers e (subject.View k) (verb.Set key value) loans =
+    bind (set_target e k key value) _ (λ target _.
+    bind (kind_fault (format_of target.0.format)) _ (λ format _.
+    bind (item_written e.bytes target.1 format (lent_to e loans value) (scalar_in value ∷ [])) _ (λ bytes _. refl)))
 row_answers e subject.Own (verb.Cast format shape) loans = tt
-row_answers e (subject.View k) (verb.Cast format shape) loans = tt
+row_answers e (subject.View k) (verb.Cast format None) loans = bind (cast_made e k format) _ (λ v _. refl)
+row_answers e (subject.View k) (verb.Cast format (Some shape)) loans = tt
 row_answers e subject.Own (verb.Property name) loans = property_of_own_answers e name
 row_answers e (subject.View k) (verb.Property name) loans = property_of_view_answers e k name
 row_answers e subject.Own verb.ToBytes loans = refl

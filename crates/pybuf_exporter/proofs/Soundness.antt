@@ -1,6 +1,6 @@
 -- Every row keeps an exporter sound.
 use Rattle.std.proofs.Common.{◌≡◌, ◌≢◌, ℕ, zero, suc, ◌+◌, ◌≤◌, ◌<◌, List, [], ◌∷◌, length, Bool, true, false, true≢false, ap, sym, ◌∙◌, refl, subst, arith}
-use Rattle.std.specs.Prelude.{ℤ, pos, negsuc, if◌then◌else◌, Option, Some, None, Result, Ok, Err, slice_get, slice_index}
+use Rattle.std.specs.Prelude.{◌==◌, ◌%◌, not, ℤ, pos, negsuc, if◌then◌else◌, Option, Some, None, Result, Ok, Err, slice_get}
 use Rattle.std.specs.List.{All, cons_option}
 use Rattle.std.specs.Option.{ok_or}
 use Rattle.std.proofs.lemmas.Grind.{common_steps}
@@ -23,7 +23,7 @@ use Rattle.pybuf_exporter.specs.declared.commands.Verb.TheVariants as verb
 use Rattle.pybuf_exporter.specs.declared.commands.LocalReply.{LocalReply}
 use Rattle.pybuf_exporter.specs.declared.commands.LocalReply.TheVariants as reply
 use Rattle.pybuf_exporter.specs.Exporter.{Exporter, View, whole_of, view_at, live_view, laid, with_view}
-use Rattle.pybuf_exporter.specs.Items.{index_in, place_in, is_none, byte_for_item}
+use Rattle.pybuf_exporter.specs.Items.{index_in, place_in, is_none, kind_fault, scalar_in}
 use Rattle.pybuf_exporter.specs.Sound.{IsFormed, IsHeld, IsHeldOrReleased, IsSoundExporter}
 use Rattle.pybuf_exporter.specs.declared.loans.Loan.{Loan}
 use Rattle.pybuf_exporter.specs.Handles.{handles_of, are_known}
@@ -38,7 +38,16 @@ use Rattle.pybuf_slice.specs.Parts.{SliceParts, nonzero, step_in, part_in, parts
 use Rattle.pybuf_slice.specs.Reads.{elements_at}
 use Rattle.pybuf_exporter.specs.Slices.{sliced}
 use Rattle.pybuf_exporter.specs.Rows.Get.{byte_of_own, get_of_own, item_of_view, slice_of_view, get_of_view}
-use Rattle.pybuf_exporter.specs.Rows.Set.{set_of_own, set_target, set_of_view}
+use Rattle.pybuf_exporter.specs.Rows.Set.{set_of_own, set_target, item_written, set_of_view}
+use Rattle.pybuf_exporter.specs.Rows.Cast.{text_in, size_of_format, cast_made, cast_of_view}
+use Rattle.pybuf_exporter.specs.Rows.Property.{nbytes_of}
+use Rattle.pybuf_exporter.specs.Contiguous.{is_contiguous_view}
+use Rattle.pybuf_exporter.specs.Loans.{lent_to}
+use Rattle.pybuf_value.specs.declared.values.Scalar.{Scalar}
+use Rattle.pybuf_value.specs.declared.snaps.Snap.{Snap}
+use Rattle.pybuf_struct.specs.Formats.{Format, format_of}
+use Rattle.pybuf_struct.specs.Packing.{packed}
+use Rattle.pybuf_exporter.proofs.Written.{length-packed, kind_ok, length-laid, size_is, cast_formed, cast_held}
 use Rattle.pybuf_exporter.specs.declared.commands.PropertyName.{PropertyName}
 use Rattle.pybuf_exporter.specs.declared.commands.PropertyName.TheVariants as property
 use Rattle.pybuf_exporter.specs.Rows.Property.{is_exports, property_in, property_of_own, property_of_view}
@@ -97,11 +106,6 @@ live_view_held e k v sound found =
     let live = live_of (view_at e k) v found in
     All-slice_get (λ w. IsHeldOrReleased e.bytes w) e.views k v sound.views_are_held (view_at_given e k v live.0) live.1
 
-pub live_view_bytes : (e : Exporter) (k : ℕ) (v : View) → IsSoundExporter e → live_view e k ≡ Ok v → v.itemsize ≡ 1
-live_view_bytes e k v sound found =
-    let live = live_of (view_at e k) v found in
-    All-slice_get (λ w. w.itemsize ≡ 1) e.views k v sound.items_are_bytes (view_at_given e k v live.0)
-
 pub live_view_formed : (e : Exporter) (k : ℕ) (v : View) → IsSoundExporter e → live_view e k ≡ Ok v → IsFormed v
 live_view_formed e k v sound found =
     let live = live_of (view_at e k) v found in
@@ -109,14 +113,12 @@ live_view_formed e k v sound found =
 
 -- what holds of a view that is made now
 pub record IsMade (bytes : List ℕ) (v : View) : Type 0 where
-  pub is_of_bytes : v.itemsize ≡ 1
   pub formed : IsFormed v
   pub held : IsHeld bytes v
 
 -- one more view
 pub with_view_sound : (e : Exporter) (v : View) → IsSoundExporter e → IsMade e.bytes v → IsSoundExporter (with_view e v)
 with_view_sound e v sound made = record {
-  items_are_bytes = All-push (λ w. w.itemsize ≡ 1) e.views v sound.items_are_bytes made.is_of_bytes;
   views_are_formed = All-push IsFormed e.views v sound.views_are_formed made.formed;
   views_are_held = All-push (λ w. IsHeldOrReleased e.bytes w) e.views v sound.views_are_held (λ _. made.held);
 }
@@ -138,7 +140,6 @@ held_by_length old new v same held unreleased = record {
 
 pub with_bytes_sound : (e : Exporter) (new : List ℕ) → length new ≡ length e.bytes → IsSoundExporter e → IsSoundExporter (record e { bytes = new })
 with_bytes_sound e new same sound = record {
-  items_are_bytes = sound.items_are_bytes;
   views_are_formed = sound.views_are_formed;
   views_are_held = All-weaker (λ w. IsHeldOrReleased e.bytes w) (λ w. IsHeldOrReleased new w) (λ w held. held_by_length e.bytes new w same held) e.views sound.views_are_held;
 }
@@ -147,7 +148,7 @@ pub length-laid_one : (bytes : List ℕ) (i x : ℕ) → i < length bytes → le
 length-laid_one bytes i x inside = rw (laid_one bytes i x inside) (grind (arith, common_steps))
 
 pub whole_made : (k : ExporterKind) (bytes : List ℕ) → IsMade bytes (whole_of k (length bytes))
-whole_made k bytes = record { is_of_bytes = refl; formed = whole_formed k (length bytes); held = whole_held k bytes }
+whole_made k bytes = record { formed = whole_formed k (length bytes); held = whole_held k bytes }
 
 -- each row
 pub view_of_own_sound : (e : Exporter) → IsSoundExporter e → IsSoundAfter (view_of_own e)
@@ -155,7 +156,6 @@ view_of_own_sound e sound = with_view_sound e (whole_of e.kind (length e.bytes))
 
 again_made : (bytes : List ℕ) (v : View) → IsMade bytes v → IsMade bytes (record v { made_at = length bytes })
 again_made bytes v made = record {
-  is_of_bytes = made.is_of_bytes;
   formed = again_formed v (length bytes) made.formed;
   held = record { inside = made.held.inside; length_kept = refl };
 }
@@ -163,7 +163,6 @@ again_made bytes v made = record {
 -- a live view, as if it were made now
 pub live_view_made : (e : Exporter) (k : ℕ) (v : View) → IsSoundExporter e → live_view e k ≡ Ok v → IsMade e.bytes v
 live_view_made e k v sound found = record {
-  is_of_bytes = live_view_bytes e k v sound found;
   formed = live_view_formed e k v sound found;
   held = live_view_held e k v sound found;
 }
@@ -259,7 +258,6 @@ slice_of_view_done e k slice sound =
     done_bind P (live_view e k) _ (λ v live.
     done_bind P (saturated_parts_of slice) _ (λ parts found.
     record {
-      is_of_bytes = live_view_bytes e k v sound live;
       formed =
           sliced_formed v (length e.bytes) parts
           (done (λ (p : SliceParts). p.step ≢ pos 0) (saturated_parts_of slice) parts (slice_moves slice) found)
@@ -287,34 +285,77 @@ set_of_own_sound e key value sound =
     with_bytes_sound e (laid e.bytes place (byte ∷ []))
     (length-laid_one e.bytes place byte (place_in_inside (length e.bytes) index place found)) sound)))
 
--- the place to write lies inside
-item_inside : (e : Exporter) (k : ℕ) (v : View) (i : ℕ) → IsSoundExporter e → live_view e k ≡ Ok v → i < length v.starts → slice_index v.starts i < length e.bytes
-item_inside e k v i sound live below = omega (arith, (live_view_held e k v sound live).inside i 0 below, live_view_bytes e k v sound live)
+-- the item to write lies inside
+pub record IsTarget (e : Exporter) (target : View × ℕ) : Type 0 where
+  pub inside : target.1 + target.0.itemsize ≤ length e.bytes
+  pub formed : IsFormed target.0
 
-pub set_target_done : (e : Exporter) (k : ℕ) (key value : Value) → IsSoundExporter e → IfDone (λ (t : ℕ × ℕ). t.0 < length e.bytes) (set_target e k key value)
+set_target_done : (e : Exporter) (k : ℕ) (key value : Value) → IsSoundExporter e → IfDone (IsTarget e) (set_target e k key value)
 set_target_done e k key value sound =
-    let P : ℕ × ℕ → Type 0 = λ t. t.0 < length e.bytes in
+    let P = IsTarget e in
     done_bind P (live_view e k) _ (λ v live.
     done_bind P (unless v.readonly fault.Kind) _ (λ _ _.
     done_bind P (unless (is_none value) fault.Kind) _ (λ _ _.
     done_bind P (index_in key) _ (λ index _.
     done_bind P (place_in (length v.starts) index) _ (λ item found.
-    done_bind P (byte_for_item value) _ (λ byte _.
-    item_inside e k v item sound live (place_in_inside (length v.starts) index item found)))))))
+    record {
+      inside = (live_view_held e k v sound live).inside item 0 (place_in_inside (length v.starts) index item found);
+      formed = live_view_formed e k v sound live;
+    })))))
 
-pub set_target_inside : (e : Exporter) (k : ℕ) (key value : Value) (target : ℕ × ℕ) → IsSoundExporter e → set_target e k key value ≡ Ok target → target.0 < length e.bytes
-set_target_inside e k key value target sound found =
-    done (λ (t : ℕ × ℕ). t.0 < length e.bytes) (set_target e k key value) target (set_target_done e k key value sound) found
+item_written_done : (bytes text : List ℕ) (place : ℕ) (f : Format) (pairs : List (ℕ × Snap)) (values : List Scalar) → format_of text ≡ Ok f → place + f.size ≤ length bytes
+    → IfDone (λ (new : List ℕ). length new ≡ length bytes) (item_written bytes place f pairs values)
+item_written_done bytes text place f pairs values spelled inside =
+    done_bind (λ (new : List ℕ). length new ≡ length bytes) (kind_fault (packed f pairs values)) _ (λ piece packs.
+    let long : length piece ≡ f.size = length-packed text f pairs values piece spelled (kind_ok (packed f pairs values) piece packs) in
+    length-laid bytes place piece (omega (arith, inside, long)))
 
-pub set_of_view_sound : (e : Exporter) (k : ℕ) (key value : Value) → IsSoundExporter e → IsSoundAfter (set_of_view e k key value)
-set_of_view_sound e k key value sound =
+pub set_of_view_sound : (e : Exporter) (k : ℕ) (key value : Value) (loans : List (ℕ × Loan)) → IsSoundExporter e → IsSoundAfter (set_of_view e k key value loans)
+set_of_view_sound e k key value loans sound =
     sound_bind (set_target e k key value) _ (λ target found.
-    with_bytes_sound e (laid e.bytes target.0 (target.1 ∷ []))
-    (length-laid_one e.bytes target.0 target.1 (set_target_inside e k key value target sound found)) sound)
+    let there = done (IsTarget e) (set_target e k key value) target (set_target_done e k key value sound) found in
+    sound_bind (kind_fault (format_of target.0.format)) _ (λ format parsed.
+    let spelled = kind_ok (format_of target.0.format) format parsed in
+    let size : format.size ≡ target.0.itemsize = size_is target.0.format format target.0.itemsize spelled there.formed.sized in
+    sound_bind (item_written e.bytes target.1 format (lent_to e loans value) (scalar_in value ∷ [])) _ (λ bytes written.
+    with_bytes_sound e bytes
+    (done (λ (new : List ℕ). length new ≡ length e.bytes) (item_written e.bytes target.1 format (lent_to e loans value) (scalar_in value ∷ [])) bytes
+    (item_written_done e.bytes target.0.format target.1 format (lent_to e loans value) (scalar_in value ∷ []) spelled (omega (arith, there.inside, size))) written) sound)))
+
+positive : (n : ℕ) → (n == 0) ≡ false → 0 < n
+positive zero is = absurd (true≢false is)
+positive (suc n) is = omega arith
+
+-- casts
+unless_passed : (b : Bool) (f : Fault) (u : Bool) → unless b f ≡ Ok u → b ≡ false
+unless_passed true f u is = absurd (cc)
+unless_passed false f u is = refl
+
+not_false : (b : Bool) → not b ≡ false → b ≡ true
+not_false true is = refl
+not_false false is = absurd (true≢false is)
+
+cast_made_done : (e : Exporter) (k : ℕ) (format : Value) → IsSoundExporter e → IfDone (IsMade e.bytes) (cast_made e k format)
+cast_made_done e k format sound =
+    let P = IsMade e.bytes in
+    done_bind P (live_view e k) _ (λ v live.
+    done_bind P (unless (not (is_contiguous_view v)) fault.Kind) _ (λ flat passed.
+    done_bind P (text_in format) _ (λ text _.
+    done_bind P (size_of_format text) _ (λ size told.
+    done_bind P (unless (size == 0) fault.Kind) _ (λ some nonzero.
+    done_bind P (unless (not (nbytes_of v % size == 0)) fault.Kind) _ (λ _ _.
+    record {
+      formed = cast_formed v (length e.bytes) text size told (positive size (unless_passed (size == 0) fault.Kind some nonzero));
+      held = cast_held e.bytes v text size (not_false (is_contiguous_view v) (unless_passed (not (is_contiguous_view v)) fault.Kind flat passed)) (live_view_held e k v sound live);
+    }))))))
+
+pub cast_of_view_sound : (e : Exporter) (k : ℕ) (format : Value) → IsSoundExporter e → IsSoundAfter (cast_of_view e k format)
+cast_of_view_sound e k format sound =
+    sound_bind (cast_made e k format) _ (λ v found.
+    with_view_sound e v sound (done (IsMade e.bytes) (cast_made e k format) v (cast_made_done e k format sound) found))
 
 pub released_sound : (e : Exporter) (k : ℕ) (v : View) → IsSoundExporter e → slice_get e.views k ≡ Some v → IsSoundExporter (released_at e k v)
 released_sound e k v sound at = record {
-  items_are_bytes = All-set (λ w. w.itemsize ≡ 1) e.views k (record v { released = true }) (All-slice_get (λ w. w.itemsize ≡ 1) e.views k v sound.items_are_bytes at) sound.items_are_bytes;
   views_are_formed = All-set IsFormed e.views k (record v { released = true }) (released_formed v (All-slice_get IsFormed e.views k v sound.views_are_formed at)) sound.views_are_formed;
   views_are_held = All-set (λ w. IsHeldOrReleased e.bytes w) e.views k (record v { released = true }) (λ unreleased. absurd (true≢false unreleased)) sound.views_are_held;
 }
@@ -378,9 +419,10 @@ row_sound e (subject.View k) verb.View loans sound = view_of_view_sound e k soun
 row_sound e subject.Own (verb.Get key) loans sound = get_in_kind_sound e.kind (get_of_own e key) (get_of_own_sound e key sound)
 row_sound e (subject.View k) (verb.Get key) loans sound = get_of_view_sound e k key sound
 row_sound e subject.Own (verb.Set key value) loans sound = set_in_kind_sound e.kind e (set_of_own e key value) (set_of_own_sound e key value sound)
-row_sound e (subject.View k) (verb.Set key value) loans sound = set_of_view_sound e k key value sound
+row_sound e (subject.View k) (verb.Set key value) loans sound = set_of_view_sound e k key value loans sound
 row_sound e subject.Own (verb.Cast format shape) loans sound = tt
-row_sound e (subject.View k) (verb.Cast format shape) loans sound = tt
+row_sound e (subject.View k) (verb.Cast format None) loans sound = cast_of_view_sound e k format sound
+row_sound e (subject.View k) (verb.Cast format (Some shape)) loans sound = tt
 row_sound e subject.Own (verb.Property name) loans sound = property_of_own_sound e name sound
 row_sound e (subject.View k) (verb.Property name) loans sound = property_of_view_sound e k name sound
 row_sound e subject.Own verb.ToBytes loans sound = sound

@@ -1,14 +1,18 @@
 -- Items: which place a key names, what an item reads as, and which bytes a value is written as.
-use Rattle.std.specs.Prelude.{ℕ, ◌-◌, suc, List, ℤ, pos, negsuc, Bool, true, false, Result, Ok, Err, nat_lt, slice_index, if◌then◌else◌}
+use Rattle.std.specs.Prelude.{ℕ, List, [], ℤ, pos, Bool, true, false, Result, Ok, Err, ok_or}
 use Rattle.pybuf_value.specs.declared.faults.Fault.{Fault}
 use Rattle.pybuf_value.specs.declared.faults.Fault.TheVariants as fault
+use Rattle.pybuf_value.specs.declared.values.Scalar.{Scalar}
 use Rattle.pybuf_value.specs.declared.values.Scalar.TheVariants as scalar
 use Rattle.pybuf_value.specs.declared.values.Item.{Item}
 use Rattle.pybuf_value.specs.declared.values.Item.TheVariants as item
 use Rattle.pybuf_value.specs.declared.values.Value.{Value}
 use Rattle.pybuf_value.specs.declared.values.Value.TheVariants as value
+use Rattle.pybuf_slice.specs.Places.{item_place}
 use Rattle.pybuf_value.specs.Refusing.{◌>>=◌}
-use Rattle.pybuf_value.specs.Numbers.{number_of, fitted, byte_in}
+use Rattle.pybuf_struct.specs.Formats.{format_of}
+use Rattle.pybuf_struct.specs.Values.{item_of, unpacked}
+use Rattle.pybuf_value.specs.Numbers.{number_of, fitted}
 
 -- the number of a key, which must fit a word
 abbrev pub index_in : Value → Result ℤ Fault
@@ -18,28 +22,36 @@ index_in key = do
 
 -- the place among so many that an index names: a negative one counts from the end
 abbrev pub place_in : ℕ → ℤ → Result ℕ Fault
-place_in len (pos n) = if nat_lt n len then Ok n else Err fault.Index
-place_in len (negsuc n) = if nat_lt n len then Ok (len - suc n) else Err fault.Index
+place_in len index = ok_or (item_place len index) fault.Index
 
 -- a byte as an item
 abbrev pub byte_item : ℕ → Item
 byte_item b = item.One (scalar.Int (pos b))
 
--- what an item's bytes read as: an item of the format B is its one byte
-abbrev pub item_of : List ℕ → Item
-item_of bytes = byte_item (slice_index bytes 0)
+-- what values read as: one as itself, any other number as a tuple
+abbrev pub item_of_values : Result (List Scalar) Fault → Item
+item_of_values (Ok values) = item_of values
+item_of_values (Err f) = item.Many []
+
+-- What an item's bytes read as by the text of its format. Every view has a format, of its items'
+-- size; other bytes, or another text, would read as no values.
+abbrev pub item_by : List ℕ → List ℕ → Item
+item_by text bytes = item_of_values (format_of text >>= λ format. unpacked format bytes)
 
 abbrev pub is_none : Value → Bool
 is_none (value.One scalar.None) = true
 is_none _ = false
 
--- the byte that an item of the format B is written as: whatever is no such byte is a wrong kind
-abbrev pub kind_fault : Result ℕ Fault → Result ℕ Fault
-kind_fault (Ok b) = Ok b
+-- whatever refuses a value of an item, the value is of a wrong kind
+abbrev pub kind_fault : {X : Type 0} → Result X Fault → Result X Fault
+kind_fault (Ok x) = Ok x
 kind_fault (Err f) = Err fault.Kind
 
-abbrev pub byte_for_item : Value → Result ℕ Fault
-byte_for_item v = kind_fault (byte_in v)
+-- The one value that an item is written as. A tuple, a list or a slice is none, which every field
+-- that looks at its value refuses, as it does an ellipsis.
+abbrev pub scalar_in : Value → Scalar
+scalar_in (value.One s) = s
+scalar_in _ = scalar.Ellipsis
 
 -- a tuple of values, or of slices
 abbrev pub is_tuple : Value → Bool

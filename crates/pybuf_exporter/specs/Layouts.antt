@@ -16,6 +16,19 @@ layout_of v = record {
   readonly = v.readonly;
 }
 
+-- the view that shows a layout
+abbrev pub viewed : ℕ → Layout → Bool → View
+viewed made_at layout released = record {
+  made_at = made_at;
+  format = layout.format;
+  itemsize = layout.itemsize;
+  shape = layout.shape;
+  starts = layout.starts;
+  strides = layout.strides;
+  readonly = layout.readonly;
+  released = released;
+}
+
 -- the view whose items lie where a descriptor says
 abbrev pub shown : ℕ → Descriptor → ℕ → Bool → View
 shown made_at d start released = record {

@@ -3,6 +3,9 @@ use Rattle.std.specs.Prelude.{◌≡◌, ℕ, ◌*◌, ◌==◌, Bool, true, fal
 use Rattle.std.specs.List.{list_all}
 use Rattle.std.specs.Option.{option_map}
 use Rattle.pybuf_value.specs.declared.faults.Fault.{Fault}
+use Rattle.pybuf_value.specs.declared.values.Scalar.TheVariants as scalar
+use Rattle.pybuf_value.specs.declared.values.Value.{Value}
+use Rattle.pybuf_value.specs.declared.values.Value.TheVariants as value
 use Rattle.pybuf_value.specs.declared.snaps.Snap.{Snap}
 use Rattle.pybuf_value.specs.declared.snaps.SnapKind.{SnapKind}
 use Rattle.pybuf_value.specs.declared.snaps.SnapKind.TheVariants as kind
@@ -58,6 +61,24 @@ abbrev pub snap_of_subject : Exporter → Subject → Option Snap
 snap_of_subject e subject.Own = Some (snap_of_exporter e)
 snap_of_subject e (subject.View k) = option_map (snap_of_view e.bytes) (slice_get e.views k)
 snap_of_subject e (subject.Iter k) = None
+
+-- ---- what a value is lent as
+
+-- what a loan names, as it stands before the command
+abbrev pub snap_in_loan : Exporter → Option Loan → Option Snap
+snap_in_loan e (Some loan.Own) = snap_of_subject e subject.Own
+snap_in_loan e (Some (loan.View k)) = snap_of_subject e (subject.View k)
+snap_in_loan e (Some (loan.Other snap)) = Some snap
+snap_in_loan e _ = None
+
+abbrev pub pair_of : ℕ → Option Snap → List (ℕ × Snap)
+pair_of h (Some snap) = (h, snap) ∷ []
+pair_of h None = []
+
+-- what a value's handle is lent as; nothing is lent to a value that is no handle
+abbrev pub lent_to : Exporter → List (ℕ × Loan) → Value → List (ℕ × Snap)
+lent_to e loans (value.One (scalar.Handle h)) = pair_of h (snap_in_loan e (loan_of loans h))
+lent_to e loans _ = []
 
 -- ---- which loans fit
 

@@ -7,3 +7,4 @@ pub mod ToBytes
 pub mod Release
 pub mod Len
 pub mod Property
+pub mod Cast

@@ -22,6 +22,5 @@ abbrev pub IsHeldOrReleased : List ℕ → View → Type 0
 IsHeldOrReleased bytes v = v.released ≡ false → IsHeld bytes v
 
 pub record IsSoundExporter (e : Exporter) : Type 0 where
-  pub items_are_bytes : All (λ v. v.itemsize ≡ 1) e.views
   pub views_are_formed : All IsFormed e.views
   pub views_are_held : All (λ v. IsHeldOrReleased e.bytes v) e.views

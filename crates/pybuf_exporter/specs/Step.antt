@@ -1,5 +1,5 @@
 -- One command on one exporter.
-use Rattle.std.specs.Prelude.{ℕ, Bool, true, not, ◌&&◌, List, length, Result, Ok, Err, if◌then◌else◌}
+use Rattle.std.specs.Prelude.{ℕ, Bool, true, not, ◌&&◌, List, length, None, Result, Ok, Err, if◌then◌else◌}
 use Rattle.pybuf_value.specs.declared.faults.Fault.{Fault}
 use Rattle.pybuf_value.specs.declared.faults.Fault.TheVariants as fault
 use Rattle.pybuf_exporter.specs.declared.kinds.ExporterKind.{ExporterKind}
@@ -17,6 +17,7 @@ use Rattle.pybuf_exporter.specs.Items.{is_tuple, is_slice}
 use Rattle.pybuf_exporter.specs.Rows.View.{view_of_own, view_of_view}
 use Rattle.pybuf_exporter.specs.Rows.Get.{get_of_own, get_of_view}
 use Rattle.pybuf_exporter.specs.Rows.Set.{set_of_own, set_of_view}
+use Rattle.pybuf_exporter.specs.Rows.Cast.{cast_of_view}
 use Rattle.pybuf_exporter.specs.Rows.ToBytes.{bytes_of_own, bytes_of_view}
 use Rattle.pybuf_exporter.specs.Rows.Release.{release_of_view}
 use Rattle.pybuf_exporter.specs.Rows.Len.{len_of_own, len_of_view}
@@ -47,7 +48,8 @@ row e (subject.View k) verb.View loans = view_of_view e k
 row e subject.Own (verb.Get key) loans = get_in_kind e.kind (get_of_own e key)
 row e (subject.View k) (verb.Get key) loans = get_of_view e k key
 row e subject.Own (verb.Set key value) loans = set_in_kind e.kind e (set_of_own e key value)
-row e (subject.View k) (verb.Set key value) loans = set_of_view e k key value
+row e (subject.View k) (verb.Set key value) loans = set_of_view e k key value loans
+row e (subject.View k) (verb.Cast format None) loans = cast_of_view e k format
 row e subject.Own verb.ToBytes loans = bytes_of_own e
 row e (subject.View k) verb.ToBytes loans = bytes_of_view e k
 row e (subject.View k) verb.Release loans = release_of_view e k

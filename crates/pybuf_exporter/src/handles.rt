@@ -1,6 +1,7 @@
 //! The handles of a command, and which of them are known.
 ghost use Rattle.std.specs.Prelude.{◌≡◌, ◌++◌, OnOk, IfOk};
 ghost use Rattle.std.specs.List.{flat_map};
+ghost use Rattle.std.specs.Option.{option_copied};
 ghost use Rattle.pybuf_exporter.specs.Handles as spec;
 ghost use Rattle.pybuf_exporter.specs.Loans.{loan_of};
 ghost use Rattle.std.specs.Prelude.{Some};
@@ -23,16 +24,26 @@ fn is_named(views: usize, loan: &Loan) -> bool
     }
 }
 
+/// The loan of the first pair of a handle, None exactly where there is no such pair.
+pub fn loan_of(loans: &[(u64, Loan)], handle: u64) -> Option<&Loan>
+    ensures { option_copied result ≡ loan_of loans.now handle }
+{
+    for pair in loans {
+        if pair.0 == handle {
+            return Some(&pair.1);
+        }
+    }
+    None
+}
+
 /// Whether a handle is known by the first pair of it.
 fn is_known(views: usize, loans: &[(u64, Loan)], handle: u64) -> bool
     ensures { result ≡ spec.is_known views loans.now handle }
 {
-    for pair in loans {
-        if pair.0 == handle {
-            return is_named(views, &pair.1);
-        }
+    match loan_of(loans, handle) {
+        Some(loan) => is_named(views, loan),
+        None => false,
     }
-    false
 }
 
 fn knows_scalar(views: usize, loans: &[(u64, Loan)], scalar: &Scalar) -> bool

@@ -1,8 +1,19 @@
 //! Keys and the values of items.
-ghost use Rattle.std.specs.Prelude.{◌≡◌, ◌<◌, ◌^◌};
+ghost use Rattle.std.specs.Prelude.{◌≡◌, ◌<◌, ◌^◌, [], ◌∷◌, IfOk};
+ghost use Rattle.pybuf_struct.specs.Values.{item_of};
+ghost use Rattle.pybuf_struct.specs.Formats.{format_of};
+ghost use Rattle.pybuf_exporter.specs.Answers.{Gives};
+ghost use Rattle.pybuf_exporter.specs.Sound.{IsFormed};
 ghost use Rattle.pybuf_exporter.specs.Items as spec;
 
-use pybuf_value::{Fault, Item, Scalar, Value, fit_index, index_of, value_from_object};
+use crate::halt::Halt;
+use crate::stored::StoredView;
+use pybuf_slice::SequenceIndexOp;
+use pybuf_struct::FormatSpec;
+use pybuf_value::{
+    Fault, Item, Made, Outcome, Scalar, ScalarList, Text, Twin, Value, fit_index, index_of,
+};
+use std::alloc::Global;
 
 /// The number of a key.
 pub fn index_in(key: &Value) -> Result<isize, Fault>
@@ -17,19 +28,10 @@ pub fn place_in(len: usize, index: isize) -> Result<usize, Fault>
     requires { len < 2 ^ 63 }
     ensures { result ≡ spec.place_in len index }
 {
-    let place = if index < 0 {
-        index + len as isize
-    } else {
-        index
-    };
-    if place < 0 {
-        return Err(Fault::Index);
+    match index.wrapped_at(len) {
+        Some(place) => Ok(place),
+        None => Err(Fault::Index),
     }
-    let place = place as usize;
-    if place >= len {
-        return Err(Fault::Index);
-    }
-    Ok(place)
 }
 
 /// A byte as an item.
@@ -37,6 +39,32 @@ pub fn byte_item(byte: u8) -> Item
     ensures { result ≡ spec.byte_item byte }
 {
     Item::One(Scalar::Int(byte as i128))
+}
+
+/// Values as an item: one as itself, any other number as a tuple.
+fn item_of(values: ScalarList) -> Item
+    ensures { result ≡ item_of values }
+{
+    let mut values = values.into_vec();
+    if values.len() == 1 {
+        if let Some(value) = values.pop() {
+            return Item::One(value);
+        }
+    }
+    Item::Many(ScalarList::from_vec(values))
+}
+
+/// What an item's bytes read as by the text of its format.
+pub fn item_by(alloc: Global, format: &Text, bytes: &[u8]) -> Made<Item>
+    ensures { IfOk result (λ item. item ≡ spec.item_by format.now bytes.now) }
+{
+    match FormatSpec::parse(alloc, format.as_slice())? {
+        Outcome::Done(format) => match format.unpack(alloc, bytes)? {
+            Outcome::Done(values) => Ok(item_of(values)),
+            Outcome::Refused(_) => Ok(Item::Many(ScalarList::new(alloc))),
+        },
+        Outcome::Refused(_) => Ok(Item::Many(ScalarList::new(alloc))),
+    }
 }
 
 /// Whether a value is `None`.
@@ -49,13 +77,27 @@ pub fn is_none(value: &Value) -> bool
     }
 }
 
-/// The byte that an item of the format `B` is written as.
-pub fn byte_for_item(value: &Value) -> Result<u8, Fault>
-    ensures { result ≡ spec.byte_for_item value.now }
+/// The one value that an item is written as, as the values of its format.
+pub fn args_of(alloc: Global, value: &Value) -> Made<ScalarList>
+    ensures { IfOk result (λ list. list ≡ spec.scalar_in value.now ∷ []) }
 {
-    match value_from_object(value) {
-        Ok(byte) => Ok(byte),
-        Err(_) => Err(Fault::Kind),
+    let scalar = match value {
+        Value::One(scalar) => scalar.copy(alloc)?,
+        _ => Scalar::Ellipsis,
+    };
+    let mut list = ScalarList::new(alloc);
+    list.push(scalar)?;
+    Ok(list)
+}
+
+/// The format of a view's items.
+pub fn format_of(alloc: Global, view: &StoredView) -> Result<FormatSpec, Halt>
+    ensures parsed { Gives (spec.kind_fault (format_of view.now.format)) result }
+    ensures size { IfOk result (λ format. IsFormed view.now → format.size ≡ view.now.itemsize) }
+{
+    match FormatSpec::parse(alloc, view.format_text().as_slice())? {
+        Outcome::Done(format) => Ok(format),
+        Outcome::Refused(_) => Err(Halt::Refused(Fault::Kind)),
     }
 }
 

@@ -1,15 +1,18 @@
 //! What handles of an exporter and of its views name, as it stands.
 ghost use Rattle.std.specs.Prelude.{◌≡◌, [], ◌∷◌, IfOk, IfSome, true, false};
 ghost use Rattle.pybuf_exporter.specs.declared.kinds.Subject.TheVariants as subjects;
+ghost use Rattle.std.specs.Option.{option_copied};
 ghost use Rattle.pybuf_exporter.specs.Answers.{seen, IsWhole};
 ghost use Rattle.pybuf_exporter.specs.Sound.{IsHeldOrReleased};
-ghost use Rattle.pybuf_exporter.specs.Loans.{snap_kind_of, snap_of_exporter, snap_of_view, snap_of_subject, fits_snap};
+ghost use Rattle.pybuf_exporter.specs.Loans.{snap_kind_of, snap_of_exporter, snap_of_view, snap_of_subject, fits_snap, snap_in_loan, pair_of, lent_to};
 
+use crate::handles::loan_of;
 use crate::kinds::{ExporterKind, Subject};
+use crate::loans::{Loan, LoanList};
 use crate::parts::Parts;
 use crate::rows::to_bytes::content;
 use crate::stored::StoredView;
-use pybuf_value::{ByteList, CountList, Made, Snap, SnapKind, Text, Twin};
+use pybuf_value::{ByteList, CountList, Made, Scalar, Snap, SnapKind, SnapList, Text, Twin, Value};
 use std::alloc::Global;
 
 fn kind_of(kind: ExporterKind) -> SnapKind
@@ -113,5 +116,45 @@ pub fn snap(parts: &Parts, alloc: Global, subject: Subject) -> Made<Option<Snap>
         }
         Subject::View(view) => of_given(parts, alloc, view),
         Subject::Iter(_) => Ok(None),
+    }
+}
+
+/// What a loan names, as it stands.
+fn snap_in_loan(parts: &Parts, alloc: Global, loan: Option<&Loan>) -> Made<Option<Snap>>
+    requires { IsWhole parts.now }
+    ensures { IfOk result (λ snap. snap ≡ snap_in_loan (seen parts.now) (option_copied loan.entry)) }
+{
+    match loan {
+        Some(Loan::Own) => snap(parts, alloc, Subject::Own),
+        Some(Loan::View(view)) => snap(parts, alloc, Subject::View(*view)),
+        Some(Loan::Other(snap)) => {
+            let snap = snap.copy(alloc)?;
+            Ok(Some(snap))
+        }
+        _ => Ok(None),
+    }
+}
+
+fn pair_of(alloc: Global, handle: u64, snap: Option<Snap>) -> Made<SnapList>
+    ensures { IfOk result (λ pairs. pairs ≡ pair_of handle snap) }
+{
+    let mut pairs = SnapList::new(alloc);
+    if let Some(snap) = snap {
+        pairs.push((handle, snap))?;
+    }
+    Ok(pairs)
+}
+
+/// What a value's handle is lent as.
+pub fn lent_to(parts: &Parts, alloc: Global, loans: &LoanList, value: &Value) -> Made<SnapList>
+    requires { IsWhole parts.now }
+    ensures { IfOk result (λ pairs. pairs ≡ lent_to (seen parts.now) loans.now value.now) }
+{
+    match value {
+        Value::One(Scalar::Handle(handle)) => {
+            let snap = snap_in_loan(parts, alloc, loan_of(loans.as_slice(), *handle))?;
+            pair_of(alloc, *handle, snap)
+        }
+        _ => Ok(SnapList::new(alloc)),
     }
 }

@@ -1,4 +1,5 @@
 //! The rows of the command table: a module for each command, a function for each kind of subject.
+pub mod cast;
 pub mod get;
 pub mod len;
 pub mod pick;

@@ -1,5 +1,5 @@
 //! A view as it is kept: by a descriptor and a start.
-ghost use Rattle.std.specs.Prelude.{◌≡◌, ◌<◌, ◌^◌, pos, ◌+ℤ◌, ◌≤ℤ◌, ◌<ℤ◌, nat_abs, true, length, map, replicate, slice_index, IfOk};
+ghost use Rattle.std.specs.Prelude.{◌≡◌, ◌<◌, ◌%◌, ◌^◌, pos, ◌+ℤ◌, ◌≤ℤ◌, ◌<ℤ◌, nat_abs, true, length, map, replicate, slice_index, IfOk};
 
 use crate::kinds::ExporterKind;
 use pybuf_desc::BufferDescriptor;
@@ -88,6 +88,7 @@ impl StoredView {
     ghost use Rattle.pybuf_exporter.specs.Contiguous.{is_contiguous_view};
     ghost use Rattle.pybuf_exporter.specs.Layouts.{layout_of};
     ghost use Rattle.pybuf_exporter.specs.Rows.Property.{nbytes_of, is_f_contiguous_view};
+    ghost use Rattle.pybuf_exporter.specs.Rows.Cast.{cast_view};
     ghost use Rattle.pybuf_exporter.specs.Slices as spec;
     ghost use Rattle.pybuf_desc.specs.Places.{Stands};
     ghost use Rattle.pybuf_desc.specs.Valid.{IsPlaced};
@@ -128,6 +129,30 @@ impl StoredView {
             made_at,
             descriptor,
             start,
+            released: self.released,
+        })
+    }
+
+    /// The view of the same bytes as items of another format and size, made at this length of the
+    /// exporter.
+    pub fn cast(
+        &self,
+        alloc: Global,
+        made_at: usize,
+        format: Text,
+        itemsize: usize,
+    ) -> Made<StoredView>
+        requires contiguous { is_contiguous_view self.now ≡ true }
+        requires some_size { 0 < itemsize }
+        requires size_fits { itemsize < 2 ^ 63 }
+        requires whole_items { nbytes_of self.now % itemsize ≡ 0 }
+        ensures { IfOk result (λ v. v ≡ cast_view self.now made_at format itemsize) }
+    {
+        let descriptor = self.descriptor.cast_flat(alloc, format, itemsize)?;
+        Ok(StoredView {
+            made_at,
+            descriptor,
+            start: self.start,
             released: self.released,
         })
     }

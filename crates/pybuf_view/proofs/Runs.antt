@@ -56,7 +56,6 @@ replies_of_more w cs i c below is =
 -- a new exporter has no view
 new_is_sound : (k : ExporterKind) (bytes : List ℕ) → IsSoundExporter (new_exporter k bytes)
 new_is_sound k bytes = record {
-  items_are_bytes = All-nil (λ v. v.itemsize ≡ 1);
   views_are_formed = All-nil IsFormed;
   views_are_held = All-nil (λ v. IsHeldOrReleased bytes v);
 }

@@ -10,7 +10,7 @@ use Rattle.pybuf_slice.specs.Reads.{elements_at}
 use Rattle.pybuf_exporter.specs.declared.commands.LocalReply.{LocalReply}
 use Rattle.pybuf_exporter.specs.declared.commands.LocalReply.TheVariants as reply
 use Rattle.pybuf_exporter.specs.Exporter.{Exporter, View, live_view, bytes_at, with_view}
-use Rattle.pybuf_exporter.specs.Items.{index_in, place_in, byte_item, item_of}
+use Rattle.pybuf_exporter.specs.Items.{index_in, place_in, byte_item, item_by}
 use Rattle.pybuf_exporter.specs.Slices.{sliced}
 
 -- the byte of an exporter at an index
@@ -40,7 +40,7 @@ item_of_view e k key = do
   v ← live_view e k
   index ← index_in key
   place ← place_in (length v.starts) index
-  Ok (e, reply.Item (item_of (bytes_at e.bytes v.itemsize (slice_index v.starts place))))
+  Ok (e, reply.Item (item_by v.format (bytes_at e.bytes v.itemsize (slice_index v.starts place))))
 
 -- of a view: the item at an index, or a new view of the places that a slice picks
 abbrev pub get_of_view : Exporter → ℕ → Value → Result (Exporter × LocalReply) Fault

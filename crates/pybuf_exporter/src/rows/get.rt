@@ -7,7 +7,7 @@ ghost use Rattle.pybuf_value.specs.declared.values.Value.TheVariants as values;
 
 use crate::commands::LocalReply;
 use crate::halt::Halt;
-use crate::items::{byte_item, index_in, place_in};
+use crate::items::{byte_item, index_in, item_by, place_in};
 use crate::parts::Parts;
 use crate::stored::StoredView;
 use pybuf_slice::SaturatedSlice;
@@ -44,7 +44,9 @@ fn item_of_view(parts: &Parts, view: usize, key: &Value) -> Result<LocalReply, H
     let index = index_in(key)?;
     let item = place_in(view.items(), index)?;
     let place = view.place(item);
-    Ok(LocalReply::Item(byte_item(parts.bytes[place])))
+    let bytes = &parts.bytes[place..place + view.itemsize()];
+    let item = item_by(parts.alloc, view.format_text(), bytes)?;
+    Ok(LocalReply::Item(item))
 }
 
 /// The view of the places that a slice picks.

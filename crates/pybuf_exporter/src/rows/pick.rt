@@ -15,7 +15,7 @@ use crate::items::{is_slice, is_tuple};
 use crate::kinds::{ExporterKind, Subject};
 use crate::loans::LoanList;
 use crate::parts::Parts;
-use crate::rows::{get, len, property, release, set, to_bytes, view};
+use crate::rows::{cast, get, len, property, release, set, to_bytes, view};
 use pybuf_value::{Fault, Made, NoMemory, Value};
 
 /// Whether `get` with a key is built for a subject.
@@ -74,11 +74,11 @@ fn row(
     parts: &mut Parts,
     subject: Subject,
     verb: &Verb,
-    _loans: &LoanList,
+    loans: &LoanList,
 ) -> Result<LocalReply, Halt>
     requires whole { IsWhole parts.old }
-    requires fit { LoansFit _loans.now }
-    ensures answer { Answers (spec.row (seen parts.old) subject verb.now _loans.now) (seen parts.old) result (seen parts.new) }
+    requires fit { LoansFit loans.now }
+    ensures answer { Answers (spec.row (seen parts.old) subject verb.now loans.now) (seen parts.old) result (seen parts.new) }
     ensures counted { parts.new.exports ≡ exports_of (seen parts.new) }
 {
     match (subject, verb) {
@@ -87,7 +87,14 @@ fn row(
         (Subject::Own, Verb::Get { key }) => own_get(parts, key),
         (Subject::View(k), Verb::Get { key }) => get::of_view(parts, k, key),
         (Subject::Own, Verb::Set { key, value }) => own_set(parts, key, value),
-        (Subject::View(k), Verb::Set { key, value }) => set::of_view(parts, k, key, value),
+        (Subject::View(k), Verb::Set { key, value }) => set::of_view(parts, k, key, value, loans),
+        (
+            Subject::View(k),
+            Verb::Cast {
+                format,
+                shape: None,
+            },
+        ) => cast::of_view(parts, k, format),
         (Subject::Own, Verb::ToBytes) => to_bytes::of_own(parts),
         (Subject::View(k), Verb::ToBytes) => to_bytes::of_view(parts, k),
         (Subject::View(k), Verb::Release) => release::of_view(parts, k),

@@ -1,14 +1,19 @@
 //! `set`: the item at a key is written.
-ghost use Rattle.std.specs.Prelude.{◌≡◌, ◌<◌, length, IfOk};
+ghost use Rattle.std.specs.Prelude.{◌≡◌, ◌+◌, ◌≤◌, length, Ok, Err, IfOk, OnErr, MatchResult};
 ghost use Rattle.pybuf_exporter.specs.Exporter.{exports_of};
 ghost use Rattle.pybuf_exporter.specs.Answers.{seen, IsWhole, Answers};
-ghost use Rattle.pybuf_exporter.specs.Rows.Set.{set_of_own, set_target, set_of_view};
+ghost use Rattle.pybuf_exporter.specs.Rows.Set.{set_of_own, set_target, item_written, set_of_view};
+ghost use Rattle.pybuf_exporter.specs.Sound.{IsFormed};
 
 use crate::commands::LocalReply;
 use crate::halt::Halt;
-use crate::items::{byte_for_item, index_in, is_none, place_in};
+use crate::items::{args_of, format_of, index_in, is_none, place_in};
+use crate::lent::lent_to;
+use crate::loans::LoanList;
 use crate::parts::Parts;
-use pybuf_value::{Fault, Value, value_from_object};
+use crate::stored::StoredView;
+use pybuf_struct::FormatSpec;
+use pybuf_value::{Fault, ScalarList, SnapList, Value, value_from_object};
 
 /// Writes the byte at a key.
 #[tactic(auto, using(crate::proofs::Laid::laid_one))]
@@ -24,11 +29,17 @@ pub fn of_own(parts: &mut Parts, key: &Value, value: &Value) -> Result<LocalRepl
     Ok(LocalReply::Ok)
 }
 
-/// The place in the exporter and the byte to write there.
-fn target(parts: &Parts, view: usize, key: &Value, value: &Value) -> Result<(usize, u8), Fault>
+/// The view, and the place in the exporter of the item that is written.
+fn target<'a>(
+    parts: &'a Parts,
+    view: usize,
+    key: &Value,
+    value: &Value,
+) -> Result<(&'a StoredView, usize), Fault>
     requires { IsWhole parts.now }
-    ensures exact { result ≡ set_target (seen parts.now) view key.now value.now }
-    ensures inside { IfOk result (λ target. target.0 < length parts.now.bytes.items) }
+    ensures exact { MatchResult result (λ target. set_target (seen parts.now) view key.now value.now ≡ Ok (target.0.now, target.1)) (λ fault. set_target (seen parts.now) view key.now value.now ≡ Err fault) }
+    ensures inside { IfOk result (λ target. target.1 + target.0.now.itemsize ≤ length parts.now.bytes.items) }
+    ensures formed { IfOk result (λ target. IsFormed target.0.now) }
 {
     let view = parts.live_view(view)?;
     if view.is_readonly() {
@@ -39,24 +50,44 @@ fn target(parts: &Parts, view: usize, key: &Value, value: &Value) -> Result<(usi
     }
     let index = index_in(key)?;
     let item = place_in(view.items(), index)?;
-    let byte = byte_for_item(value)?;
-    let place = view.place(item);
-    Ok((place, byte))
+    Ok((view, view.place(item)))
+}
+
+/// Writes an item at a place by its format.
+fn write_item(
+    bytes: &mut [u8],
+    place: usize,
+    format: &FormatSpec,
+    args: &ScalarList,
+    lent: &SnapList,
+) -> Result<(), Fault>
+    requires { place + format.now.size ≤ length bytes.old }
+    ensures exact { MatchResult result (λ _. item_written bytes.old place format.now lent.now args.now ≡ Ok bytes.new) (λ fault. item_written bytes.old place format.now lent.now args.now ≡ Err fault) }
+    ensures err { OnErr result (bytes.new ≡ bytes.old) }
+{
+    let end = place + format.size();
+    match format.pack_into(&mut bytes[place..end], args, lent) {
+        Ok(()) => Ok(()),
+        Err(_) => Err(Fault::Kind),
+    }
 }
 
 /// Writes the item of a view at a key.
-#[tactic(auto, using(crate::proofs::Laid::laid_one))]
 pub fn of_view(
     parts: &mut Parts,
     view: usize,
     key: &Value,
     value: &Value,
+    loans: &LoanList,
 ) -> Result<LocalReply, Halt>
     requires { IsWhole parts.old }
-    ensures answer { Answers (set_of_view (seen parts.old) view key.now value.now) (seen parts.old) result (seen parts.new) }
+    ensures answer { Answers (set_of_view (seen parts.old) view key.now value.now loans.now) (seen parts.old) result (seen parts.new) }
     ensures counted { parts.new.exports ≡ exports_of (seen parts.new) }
 {
-    let (target, byte) = target(parts, view, key, value)?;
-    parts.bytes[target] = byte;
+    let (view, place) = target(parts, view, key, value)?;
+    let format = format_of(parts.alloc, view)?;
+    let lent = lent_to(parts, parts.alloc, loans, value)?;
+    let args = args_of(parts.alloc, value)?;
+    write_item(parts.bytes.as_mut_slice(), place, &format, &args, &lent)?;
     Ok(LocalReply::Ok)
 }

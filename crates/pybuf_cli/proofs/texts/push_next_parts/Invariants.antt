@@ -4,4 +4,4 @@ use Rattle.pybuf_cli.specs.Replies.{next_part_text}
 use Rattle.pybuf_cli.proofs.texts.push_next_parts.Given as goal
 
 abbrev pub invariant-loop-part : goal.invariant-loop-part
-invariant-loop-part l = l.out.items ≡ l.initial.out.items ++ flat_map next_part_text (take l.part-index l.parts)
+invariant-loop-part g l = l.out.items ≡ l.initial.out.items ++ flat_map (next_part_text g.T.Part.text) (take l.part-index l.parts)

@@ -1,4 +1,4 @@
-use Rattle.std.proofs.Common.{◌≡◌, pos, map, take}
+use Rattle.std.proofs.Common.{◌≡◌, map, take}
 use Rattle.pybuf_exporter.proofs.stored.strides_of.Given as goal
 
 abbrev pub invariant-loop-dim : goal.invariant-loop-dim

@@ -1,5 +1,4 @@
 use Rattle.std.proofs.Common.{w64, to_z, of_z, pos, nat_abs, ◌+ℤ◌, ◌≤ℤ◌, ◌<ℤ◌, ◌<◌, ◌^◌, ◌≡◌, ℤ, length, map, sym, ap, ◌∙◌, subst}
-use Rattle.std.specs.Prelude.{slice_index}
 use Rattle.std.proofs.lemmas.Int.{to_z-of_z}
 use Rattle.pybuf_desc.specs.Places.{places}
 use Rattle.pybuf_exporter.specs.Exporter.{View}
