@@ -115,3 +115,51 @@ fn a_command_has_handles(rt: HostRuntime) -> Result<(), Fail> {
     assert_eq!(rt; shown(&exporter.carry_out(Subject::Own, &get, &loans)?), -4);
     Ok(())
 }
+
+fn text(alloc: Global, characters: &str) -> Result<Value, Fail> {
+    let text = Text::from_string(String::from_str(alloc, characters)?);
+    Ok(Value::One(Scalar::Text(text)))
+}
+
+#[test]
+fn an_item_is_written_from_its_own_exporter(rt: HostRuntime) -> Result<(), Fail> {
+    let bytes = ByteList::from_vec(Vec::from_slice(rt.alloc(), b"abcdefgh")?);
+    let mut exporter = ExporterState::new(rt.alloc(), ExporterKind::ByteArray, bytes);
+    let mut loans = LoanList::new(rt.alloc());
+    loans.push(0, Loan::Own)?;
+    let cast = Verb::Cast {
+        format: text(rt.alloc(), "4s")?,
+        shape: None,
+    };
+    let set = Verb::Set {
+        key: number(1),
+        value: Value::One(Scalar::Handle(0)),
+    };
+    if !loans.fit(rt.alloc())? {
+        return Err(Fail::from("loans that fit"));
+    }
+    assert_eq!(rt;
+        shown(&exporter.carry_out(Subject::Own, &Verb::View, &loans)?),
+        0
+    );
+    assert_eq!(rt;
+        shown(&exporter.carry_out(Subject::View(0), &cast, &loans)?),
+        1
+    );
+    assert_eq!(rt;
+        shown(&exporter.carry_out(Subject::View(1), &set, &loans)?),
+        -1
+    );
+    assert_eq!(rt; exporter.bytes(), b"abcdabcd".as_slice());
+    let Some((descriptor, start)) = exporter.view_desc(1) else {
+        return Err(Fail::from("a view"));
+    };
+    assert_eq!(rt; descriptor.itemsize(), 4);
+    assert_eq!(rt; start, 0);
+    let Some(snap) = exporter.snap(rt.alloc(), Subject::View(1))? else {
+        return Err(Fail::from("a view"));
+    };
+    assert_eq!(rt; snap.content.as_slice(), b"abcdabcd".as_slice());
+    assert_eq!(rt; snap.shape.as_slice(), [2usize].as_slice());
+    Ok(())
+}
