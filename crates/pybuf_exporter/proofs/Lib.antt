@@ -12,3 +12,4 @@ pub mod Described
 pub mod Refusals
 pub mod Backward
 pub mod Seen
+pub mod Alike

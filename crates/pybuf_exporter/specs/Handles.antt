@@ -6,6 +6,8 @@ use Rattle.pybuf_value.specs.declared.values.Scalar.TheVariants as scalar
 use Rattle.pybuf_value.specs.declared.values.PySlice.{PySlice}
 use Rattle.pybuf_value.specs.declared.values.Value.{Value}
 use Rattle.pybuf_value.specs.declared.values.Value.TheVariants as value
+use Rattle.pybuf_exporter.specs.declared.kinds.Subject.{Subject}
+use Rattle.pybuf_exporter.specs.declared.kinds.Subject.TheVariants as subject
 use Rattle.pybuf_exporter.specs.declared.commands.Verb.{Verb}
 use Rattle.pybuf_exporter.specs.declared.commands.Verb.TheVariants as verb
 use Rattle.pybuf_exporter.specs.declared.loans.Loan.{Loan}
@@ -52,3 +54,9 @@ is_known views loans h = is_named views (loan_of loans h)
 
 abbrev pub are_known : ℕ → List (ℕ × Loan) → List ℕ → Bool
 are_known views loans handles = list_all (is_known views loans) handles
+
+-- The handle of which a command looks at more than that it is known: that of a value which is written
+-- through a view.
+abbrev pub looked_at : Subject → Verb → Option ℕ
+looked_at (subject.View k) (verb.Set key (value.One (scalar.Handle h))) = Some h
+looked_at _ _ = None

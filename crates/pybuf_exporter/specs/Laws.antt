@@ -1,5 +1,10 @@
 -- Laws of one exporter's views.
-use Rattle.std.specs.Prelude.{◌≡◌, ℕ, ◌+◌, List, [], ◌∷◌, take, drop, Ok, None, negsuc}
+use Rattle.std.specs.Prelude.{◌≡◌, ℕ, ◌+◌, List, [], ◌∷◌, length, take, drop, Ok, None, negsuc}
+use Rattle.std.specs.Option.{ForSome}
+use Rattle.pybuf_exporter.specs.declared.kinds.Subject.{Subject}
+use Rattle.pybuf_exporter.specs.declared.commands.Verb.{Verb}
+use Rattle.pybuf_exporter.specs.Handles.{handles_of, are_known, looked_at}
+use Rattle.pybuf_exporter.specs.Step.{estep}
 use Rattle.pybuf_value.specs.declared.values.Item.{Item}
 use Rattle.pybuf_value.specs.declared.values.Value.{Value}
 use Rattle.pybuf_slice.specs.Parts.{SliceParts}
@@ -10,7 +15,7 @@ use Rattle.pybuf_exporter.specs.declared.commands.LocalReply.{LocalReply}
 use Rattle.pybuf_exporter.specs.declared.loans.Loan.{Loan}
 use Rattle.pybuf_exporter.specs.Exporter.{Exporter, View, bytes_at}
 use Rattle.pybuf_exporter.specs.Items.{item_by, scalar_in}
-use Rattle.pybuf_exporter.specs.Loans.{lent_to}
+use Rattle.pybuf_exporter.specs.Loans.{loan_of, lent_to}
 use Rattle.pybuf_exporter.specs.Rows.Set.{set_target, set_of_view}
 use Rattle.pybuf_exporter.specs.Sound.{IsSoundExporter}
 use Rattle.pybuf_exporter.specs.Slices.{sliced}
@@ -22,6 +27,16 @@ backward = record { start = None; stop = None; step = negsuc 0 }
 -- a slice back over all of a view, and back again, has the places of the view, also where it has none
 abbrev pub SlicingBackTwiceIsNothing : Type 0
 SlicingBackTwiceIsNothing = (v : View) (m n : ℕ) → (sliced (sliced v m backward) n backward).starts ≡ v.starts
+
+-- Two lists of loans know the same handles of a command, in an exporter of so many views, and lend the
+-- same for the one that is looked at.
+pub record AreAlike (views : ℕ) (s : Subject) (v : Verb) (loans others : List (ℕ × Loan)) : Type 0 where
+  pub known : are_known views loans (handles_of v) ≡ are_known views others (handles_of v)
+  pub lent : ForSome (looked_at s v) (λ h. loan_of loans h ≡ loan_of others h)
+
+-- a command looks at nothing else of its loans
+abbrev pub LoansAlikeDoTheSame : Type 0
+LoansAlikeDoTheSame = (e : Exporter) (s : Subject) (v : Verb) (loans others : List (ℕ × Loan)) → AreAlike (length e.views) s v loans others → estep e s v loans ≡ estep e s v others
 
 -- An item of a view was written at a place: the views stay, and so does every byte before and after
 -- the item; and whatever view of this format has an item at the place reads there what was wanted.

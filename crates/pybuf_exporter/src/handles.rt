@@ -7,6 +7,7 @@ ghost use Rattle.pybuf_exporter.specs.Loans.{loan_of};
 ghost use Rattle.std.specs.Prelude.{Some};
 
 use crate::commands::Verb;
+use crate::kinds::Subject;
 use crate::loans::Loan;
 use pybuf_value::{Made, PySlice, Scalar, Value};
 use std::alloc::Global;
@@ -169,6 +170,23 @@ fn push_value(handles: &mut Vec<u64>, value: &Value) -> Made<()>
         Value::Tuple(parts) => push_scalars(handles, parts.as_slice()),
         Value::List(parts) => push_scalars(handles, parts.as_slice()),
         Value::Slices(slices) => push_slices(handles, slices.as_slice()),
+    }
+}
+
+/// The handle of which a command looks at more than that it is known: that of a value which is
+/// written through a view.
+pub fn looked_at(subject: Subject, verb: &Verb) -> Option<u64>
+    ensures { result ≡ spec.looked_at subject verb.now }
+{
+    match (subject, verb) {
+        (
+            Subject::View(_),
+            Verb::Set {
+                key: _,
+                value: Value::One(Scalar::Handle(handle)),
+            },
+        ) => Some(*handle),
+        _ => None,
     }
 }
 

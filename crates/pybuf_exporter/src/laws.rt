@@ -1,5 +1,5 @@
 //! Laws of the definitions that the contracts cite. Each stands on a function with an empty body.
-ghost use Rattle.pybuf_exporter.specs.Laws.{SlicingBackTwiceIsNothing, WritesAreSeen};
+ghost use Rattle.pybuf_exporter.specs.Laws.{SlicingBackTwiceIsNothing, WritesAreSeen, LoansAlikeDoTheSame};
 
 /// A slice `::-1` of a view, sliced by `::-1` again, has the places of the view, also where it has
 /// none.
@@ -11,4 +11,10 @@ pub fn slicing_back_twice_is_nothing()
 /// changes: a number as the whole number, a truth value for `?`, and bytes cut or filled with zeros.
 pub fn writes_are_seen()
     ensures { WritesAreSeen }
+{}
+
+/// Of its loans a command looks at which handles are known, and at what is lent for the handle that is
+/// written through a view.
+pub fn loans_alike_do_the_same()
+    ensures { LoansAlikeDoTheSame }
 {}

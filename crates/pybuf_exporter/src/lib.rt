@@ -16,9 +16,9 @@ mod stored;
 
 pub use commands::{LocalCommand, LocalReply, PropertyName, Verb, copy_option};
 pub use exporter::ExporterState;
-pub use handles::handles_of;
+pub use handles::{handles_of, looked_at};
 pub use kinds::{ExporterKind, Subject};
-pub use laws::{slicing_back_twice_is_nothing, writes_are_seen};
+pub use laws::{loans_alike_do_the_same, slicing_back_twice_is_nothing, writes_are_seen};
 pub use loans::{Loan, LoanList};
 
 #[cfg(test)]

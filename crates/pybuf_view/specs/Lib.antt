@@ -1,4 +1,5 @@
 pub mod World
+pub mod Needed
 pub mod Sound
 pub mod Tables
 pub mod Laws

@@ -1,11 +1,14 @@
 //! What is kept of a world, and the work on it.
 ghost use Rattle.std.specs.Prelude.{◌≡◌, ◌++◌, [], ◌∷◌, slice_get, slice_index, length, map, take, IfOk, OnOk, OnErr, MatchResult};
-ghost use Rattle.pybuf_view.specs.World.{bytes_from};
+ghost use Rattle.std.specs.Prelude.{false};
+ghost use Rattle.pybuf_exporter.specs.Loans.{snap_of_subject};
+ghost use Rattle.pybuf_view.specs.World.{bytes_from, lent_as};
+ghost use Rattle.pybuf_view.specs.Needed.{needed, is_wanted, needed_for, loans_needed};
 
 use crate::commands::{ByteInnerNewOptions, Command, Reply, ReplyList};
 use crate::named::Named;
 use pybuf_exporter::{
-    ExporterKind, ExporterState, Loan, LoanList, LocalReply, Subject, Verb, handles_of,
+    ExporterKind, ExporterState, Loan, LoanList, LocalReply, Subject, Verb, handles_of, looked_at,
 };
 use pybuf_value::{ByteList, Fault, Made, NoMemory, Scalar, Twin, Value, push_reserved};
 use std::alloc::Global;
@@ -48,6 +51,38 @@ fn owner_in(owners: &[u64], exporter: usize) -> u64
     owners.get(exporter).copied().unwrap_or(0)
 }
 
+/// Whether a handle is the one that is looked at.
+fn is_wanted(wanted: Option<u64>, handle: u64) -> bool
+    ensures { result ≡ is_wanted wanted handle }
+{
+    match wanted {
+        Some(wanted) => wanted == handle,
+        None => false,
+    }
+}
+
+/// What an exporter lends of itself or of a view of it, whole.
+fn lent_whole(alloc: Global, lender: &ExporterState, subject: Subject) -> Made<Loan>
+    ensures { IfOk result (λ loan. loan ≡ lent_as (snap_of_subject lender.now subject)) }
+{
+    match lender.snap(alloc, subject)? {
+        Some(snap) => Ok(Loan::Other(snap)),
+        None => Ok(Loan::Missing),
+    }
+}
+
+/// The same where nobody looks at it: a loan that is known, where there is such a view.
+fn lent_as_known(lender: &ExporterState, subject: Subject) -> Loan
+    ensures { result ≡ needed false (lent_as (snap_of_subject lender.now subject)) }
+{
+    let is_given = match subject {
+        Subject::Own => true,
+        Subject::View(view) => view < lender.view_count(),
+        Subject::Iter(_) => false,
+    };
+    if is_given { Loan::Own } else { Loan::Missing }
+}
+
 impl Tables {
     ghost use Rattle.pybuf_view.specs.Tables.{listed};
     ghost use Rattle.pybuf_view.specs.World as spec;
@@ -87,22 +122,24 @@ impl Tables {
         }
     }
 
-    /// What an exporter lends of itself or of a view of it, as it stands.
-    fn lent(&self, exporter: usize, subject: Subject) -> Made<Loan>
-        ensures { IfOk result (λ loan. loan ≡ spec.lent_by (slice_get (listed self.now).exporters exporter) subject) }
+    /// What an exporter lends of itself or of a view of it, as it stands. Where nobody looks at it,
+    /// nothing is copied.
+    fn lent(&self, exporter: usize, subject: Subject, is_wanted: bool) -> Made<Loan>
+        ensures { IfOk result (λ loan. loan ≡ needed is_wanted (spec.lent_by (slice_get (listed self.now).exporters exporter) subject)) }
     {
         let Some(lender) = self.exporters.get(exporter) else {
             return Ok(Loan::Missing);
         };
-        match lender.snap(self.alloc, subject)? {
-            Some(snap) => Ok(Loan::Other(snap)),
-            None => Ok(Loan::Missing),
+        if is_wanted {
+            return lent_whole(self.alloc, lender, subject);
         }
+        Ok(lent_as_known(lender, subject))
     }
 
-    /// What a handle is lent as to an exporter. Nothing is copied of that exporter itself.
-    fn loan(&self, exporter: usize, handle: u64) -> Made<Loan>
-        ensures { IfOk result (λ loan. loan ≡ spec.loan_for (listed self.now) exporter handle) }
+    /// What a handle is lent as to an exporter. Nothing is copied of that exporter itself, nor where
+    /// nobody looks at it.
+    fn loan(&self, exporter: usize, handle: u64, is_wanted: bool) -> Made<Loan>
+        ensures { IfOk result (λ loan. loan ≡ needed is_wanted (spec.loan_for (listed self.now) exporter handle)) }
     {
         let named = self.handles.get(handle as usize).copied();
         match named {
@@ -110,7 +147,7 @@ impl Tables {
                 if other == exporter {
                     return Ok(Loan::Own);
                 }
-                self.lent(other, Subject::Own)
+                self.lent(other, Subject::Own, is_wanted)
             }
             Some(
                 Named::View {
@@ -121,29 +158,29 @@ impl Tables {
                 if other == exporter {
                     return Ok(Loan::View(view));
                 }
-                self.lent(other, Subject::View(view))
+                self.lent(other, Subject::View(view), is_wanted)
             }
             None => Ok(Loan::Missing),
         }
     }
 
-    fn loans_for(&self, exporter: usize, handles: &[u64]) -> Made<LoanList>
-        ensures { IfOk result (λ loans. loans ≡ map (λ handle. (handle, spec.loan_for (listed self.now) exporter handle)) handles.now) }
+    fn loans_for(&self, exporter: usize, handles: &[u64], wanted: Option<u64>) -> Made<LoanList>
+        ensures { IfOk result (λ loans. loans ≡ map (λ handle. (handle, needed_for (listed self.now) exporter wanted handle)) handles.now) }
     {
         let mut loans = LoanList::new(self.alloc);
         for handle in handles {
-            let loan = self.loan(exporter, *handle)?;
+            let loan = self.loan(exporter, *handle, is_wanted(wanted, *handle))?;
             loans.push(*handle, loan)?;
         }
         Ok(loans)
     }
 
     /// What each handle of a command is lent as. Takes no memory where there is no handle.
-    fn loans(&self, exporter: usize, verb: &Verb) -> Made<LoanList>
-        ensures { IfOk result (λ loans. loans ≡ spec.loans_of (listed self.now) exporter verb.now) }
+    fn loans(&self, exporter: usize, subject: Subject, verb: &Verb) -> Made<LoanList>
+        ensures { IfOk result (λ loans. loans ≡ loans_needed (listed self.now) exporter subject verb.now) }
     {
         let handles = handles_of(self.alloc, verb)?;
-        self.loans_for(exporter, handles.as_slice())
+        self.loans_for(exporter, handles.as_slice(), looked_at(subject, verb))
     }
 
     /// What an exporter that was given does with loans; a new view is given a handle.
@@ -186,7 +223,7 @@ impl Tables {
         ensures ok { IfOk result (λ r. spec.step_of_exporter (listed self.old) exporter subject verb.now (slice_get (listed self.old).exporters exporter) ≡ (listed self.new, r)) }
         ensures err { OnErr result (listed self.new ≡ listed self.old) }
     {
-        let loans = self.loans(exporter, verb)?;
+        let loans = self.loans(exporter, subject, verb)?;
         self.carry_out(exporter, subject, verb, &loans)
     }
 
