@@ -6,7 +6,9 @@ pub mod Counts
 pub mod Laid
 pub mod Formed
 pub mod Written
+pub mod Unread
 pub mod Soundness
 pub mod Described
 pub mod Refusals
 pub mod Backward
+pub mod Seen

@@ -290,7 +290,7 @@ pub record IsTarget (e : Exporter) (target : View × ℕ) : Type 0 where
   pub inside : target.1 + target.0.itemsize ≤ length e.bytes
   pub formed : IsFormed target.0
 
-set_target_done : (e : Exporter) (k : ℕ) (key value : Value) → IsSoundExporter e → IfDone (IsTarget e) (set_target e k key value)
+pub set_target_done : (e : Exporter) (k : ℕ) (key value : Value) → IsSoundExporter e → IfDone (IsTarget e) (set_target e k key value)
 set_target_done e k key value sound =
     let P = IsTarget e in
     done_bind P (live_view e k) _ (λ v live.

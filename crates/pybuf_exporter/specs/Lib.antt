@@ -4,6 +4,7 @@ pub mod Contiguous
 pub mod Loans
 pub mod Handles
 pub mod Items
+pub mod Reading
 pub mod Slices
 pub mod Rows
 pub mod Step

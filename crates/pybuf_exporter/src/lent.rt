@@ -2,6 +2,10 @@
 ghost use Rattle.std.specs.Prelude.{◌≡◌, [], ◌∷◌, IfOk, IfSome, true, false};
 ghost use Rattle.pybuf_exporter.specs.declared.kinds.Subject.TheVariants as subjects;
 ghost use Rattle.std.specs.Option.{option_copied};
+ghost use Rattle.std.specs.Prelude.{List};
+ghost use Rattle.pybuf_value.specs.declared.values.Scalar.{Scalar};
+ghost use Rattle.pybuf_struct.specs.Packing.{packed};
+ghost use Rattle.pybuf_exporter.specs.Reading.{is_bytes_code, reads_bytes};
 ghost use Rattle.pybuf_exporter.specs.Answers.{seen, IsWhole};
 ghost use Rattle.pybuf_exporter.specs.Sound.{IsHeldOrReleased};
 ghost use Rattle.pybuf_exporter.specs.Loans.{snap_kind_of, snap_of_exporter, snap_of_view, snap_of_subject, fits_snap, snap_in_loan, pair_of, lent_to};
@@ -12,6 +16,7 @@ use crate::loans::{Loan, LoanList};
 use crate::parts::Parts;
 use crate::rows::to_bytes::content;
 use crate::stored::StoredView;
+use pybuf_struct::{FormatCode, FormatSpec, FormatType};
 use pybuf_value::{ByteList, CountList, Made, Scalar, Snap, SnapKind, SnapList, Text, Twin, Value};
 use std::alloc::Global;
 
@@ -146,7 +151,7 @@ fn pair_of(alloc: Global, handle: u64, snap: Option<Snap>) -> Made<SnapList>
 }
 
 /// What a value's handle is lent as.
-pub fn lent_to(parts: &Parts, alloc: Global, loans: &LoanList, value: &Value) -> Made<SnapList>
+fn lent_to(parts: &Parts, alloc: Global, loans: &LoanList, value: &Value) -> Made<SnapList>
     requires { IsWhole parts.now }
     ensures { IfOk result (λ pairs. pairs ≡ lent_to (seen parts.now) loans.now value.now) }
 {
@@ -157,4 +162,41 @@ pub fn lent_to(parts: &Parts, alloc: Global, loans: &LoanList, value: &Value) ->
         }
         _ => Ok(SnapList::new(alloc)),
     }
+}
+
+/// Whether a code's values are bytes.
+fn is_bytes_code(code: &FormatCode) -> bool
+    ensures { result ≡ is_bytes_code code.now.code }
+{
+    match code.code() {
+        FormatType::Char => true,
+        FormatType::Str => true,
+        FormatType::Pascal => true,
+        _ => false,
+    }
+}
+
+/// Whether a format looks at the bytes that a handle names.
+fn reads_bytes(format: &FormatSpec) -> bool
+    ensures { result ≡ reads_bytes format.now }
+{
+    format.codes().iter().any(is_bytes_code)
+}
+
+/// What a value's handle is lent as to a format: nothing where the format looks at no bytes, so that
+/// none are copied. The format writes the same as if all were lent.
+pub fn lent_for(
+    parts: &Parts,
+    alloc: Global,
+    format: &FormatSpec,
+    loans: &LoanList,
+    value: &Value,
+) -> Made<SnapList>
+    requires { IsWhole parts.now }
+    ensures { IfOk result (λ pairs. (values : List Scalar) → packed format.now pairs values ≡ packed format.now (lent_to (seen parts.now) loans.now value.now) values) }
+{
+    if reads_bytes(format) {
+        return lent_to(parts, alloc, loans, value);
+    }
+    Ok(SnapList::new(alloc))
 }

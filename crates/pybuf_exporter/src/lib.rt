@@ -18,7 +18,7 @@ pub use commands::{LocalCommand, LocalReply, PropertyName, Verb, copy_option};
 pub use exporter::ExporterState;
 pub use handles::handles_of;
 pub use kinds::{ExporterKind, Subject};
-pub use laws::slicing_back_twice_is_nothing;
+pub use laws::{slicing_back_twice_is_nothing, writes_are_seen};
 pub use loans::{Loan, LoanList};
 
 #[cfg(test)]

@@ -8,7 +8,7 @@ ghost use Rattle.pybuf_exporter.specs.Sound.{IsFormed};
 use crate::commands::LocalReply;
 use crate::halt::Halt;
 use crate::items::{args_of, format_of, index_in, is_none, place_in};
-use crate::lent::lent_to;
+use crate::lent::lent_for;
 use crate::loans::LoanList;
 use crate::parts::Parts;
 use crate::stored::StoredView;
@@ -86,7 +86,7 @@ pub fn of_view(
 {
     let (view, place) = target(parts, view, key, value)?;
     let format = format_of(parts.alloc, view)?;
-    let lent = lent_to(parts, parts.alloc, loans, value)?;
+    let lent = lent_for(parts, parts.alloc, &format, loans, value)?;
     let args = args_of(parts.alloc, value)?;
     write_item(parts.bytes.as_mut_slice(), place, &format, &args, &lent)?;
     Ok(LocalReply::Ok)
