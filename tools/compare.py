@@ -162,6 +162,25 @@ class Drawn:
     def scalar(self):
         return self.one([self.number, self.number, self.number, self.bytes, self.handle, lambda: self.one(["None", "True", "False", "...", "'B'", "'a,b'"])])()
 
+    def subject(self, handle):
+        """What a handle names; nothing where that is unknown or released."""
+        at = int(handle[1:])
+        return None if at >= len(self.world.objects) or at in self.world.released else self.world.objects[at]
+
+    def place(self, subject):
+        """An index, mostly of an item."""
+        if subject is None or self.draw.random() < 0.1:
+            return self.number()
+        return str(self.draw.randrange(-len(subject), len(subject) + 1))
+
+    def content(self, subject):
+        """A value that an item might take."""
+        text = getattr(subject, "format", "B")[-1]
+        if text in "spc":
+            return self.one([self.bytes, self.bytes, self.handle])() if text != "c" else f"x{self.draw.randbytes(1).hex()}"
+        bits = 8 * min(8, getattr(subject, "itemsize", 1))
+        return str(self.draw.choice([self.draw.randrange(2**bits), self.draw.randrange(2**bits) - 2 ** (bits - 1), self.draw.randrange(100)]))
+
     def slice(self):
         part = lambda: "None" if self.draw.random() < 0.5 else self.number()
         odd = lambda: self.one([self.bytes, self.handle])() if self.draw.random() < 0.02 else part()
@@ -195,11 +214,12 @@ class Drawn:
         if verb == "release" and self.draw.random() < 0.5 or kind < 0.05:
             verb = "view"
         handle = self.handle()
+        subject = self.subject(handle)
         if verb == "get":
-            return f"get {handle} {self.one([self.number, self.number, self.slice, self.slice, self.value])()}"
+            return f"get {handle} {self.one([lambda: self.place(subject), self.slice, self.slice, self.value])()}"
         if verb == "set":
-            key = self.number() if self.draw.random() < 0.9 else self.scalar()
-            return f"set {handle} {key} {self.value()}"
+            key = self.place(subject) if self.draw.random() < 0.9 else self.scalar()
+            return f"set {handle} {key} {self.content(subject) if self.draw.random() < 0.8 else self.value()}"
         if verb == "cast":
             return f"cast {handle} {self.format()}"
         return f"prop {handle} {self.one(PROPERTIES)}" if verb == "prop" else f"{verb} {handle}"
