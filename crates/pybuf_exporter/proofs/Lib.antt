@@ -13,3 +13,4 @@ pub mod Refusals
 pub mod Backward
 pub mod Seen
 pub mod Alike
+pub mod SingleBytes

@@ -12,7 +12,7 @@ use Rattle.pybuf_slice.specs.Places.{item_place}
 use Rattle.pybuf_value.specs.Refusing.{◌>>=◌}
 use Rattle.pybuf_struct.specs.Formats.{format_of}
 use Rattle.pybuf_struct.specs.Values.{item_of, unpacked}
-use Rattle.pybuf_value.specs.Numbers.{number_of, fitted}
+use Rattle.pybuf_value.specs.Numbers.{number_of, fitted, byte_in}
 
 -- the number of a key, which must fit a word
 abbrev pub index_in : Value → Result ℤ Fault
@@ -46,6 +46,10 @@ is_none _ = false
 abbrev pub kind_fault : {X : Type 0} → Result X Fault → Result X Fault
 kind_fault (Ok x) = Ok x
 kind_fault (Err f) = Err fault.Kind
+
+-- the byte that an item of the format `B` is written as
+abbrev pub byte_for_item : Value → Result ℕ Fault
+byte_for_item v = kind_fault (byte_in v)
 
 -- The one value that an item is written as. A tuple, a list or a slice is none, which every field
 -- that looks at its value refuses, as it does an ellipsis.

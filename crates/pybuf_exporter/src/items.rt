@@ -1,5 +1,5 @@
 //! Keys and the values of items.
-ghost use Rattle.std.specs.Prelude.{◌≡◌, ◌<◌, ◌^◌, [], ◌∷◌, IfOk};
+ghost use Rattle.std.specs.Prelude.{◌≡◌, ◌<◌, ◌^◌, [], ◌∷◌, IfOk, IfSome};
 ghost use Rattle.pybuf_struct.specs.Values.{item_of};
 ghost use Rattle.pybuf_struct.specs.Formats.{format_of};
 ghost use Rattle.pybuf_exporter.specs.Answers.{Gives};
@@ -12,6 +12,7 @@ use pybuf_slice::SequenceIndexOp;
 use pybuf_struct::FormatSpec;
 use pybuf_value::{
     Fault, Item, Made, Outcome, Scalar, ScalarList, Text, Twin, Value, fit_index, index_of,
+    value_from_object,
 };
 use std::alloc::Global;
 
@@ -54,10 +55,25 @@ fn item_of(values: ScalarList) -> Item
     Item::Many(ScalarList::from_vec(values))
 }
 
-/// What an item's bytes read as by the text of its format.
+/// The one byte of an item of the format `B`.
+fn single_byte(format: &[u8], bytes: &[u8]) -> Option<u8>
+    ensures format { IfSome result (λ byte. format.now ≡ 66 ∷ []) }
+    ensures byte { IfSome result (λ byte. bytes.now ≡ byte ∷ []) }
+{
+    if let ([b'B'], [byte]) = (format, bytes) {
+        return Some(*byte);
+    }
+    None
+}
+
+/// What an item's bytes read as by the text of its format. Bytes of the format `B`, which most views
+/// have, are read without parsing it.
 pub fn item_by(alloc: Global, format: &Text, bytes: &[u8]) -> Made<Item>
     ensures { IfOk result (λ item. item ≡ spec.item_by format.now bytes.now) }
 {
+    if let Some(byte) = single_byte(format.as_slice(), bytes) {
+        return Ok(byte_item(byte));
+    }
     match FormatSpec::parse(alloc, format.as_slice())? {
         Outcome::Done(format) => match format.unpack(alloc, bytes)? {
             Outcome::Done(values) => Ok(item_of(values)),
@@ -88,6 +104,16 @@ pub fn args_of(alloc: Global, value: &Value) -> Made<ScalarList>
     let mut list = ScalarList::new(alloc);
     list.push(scalar)?;
     Ok(list)
+}
+
+/// The byte that an item of the format `B` is written as.
+pub fn byte_for_item(value: &Value) -> Result<u8, Fault>
+    ensures { result ≡ spec.byte_for_item value.now }
+{
+    match value_from_object(value) {
+        Ok(byte) => Ok(byte),
+        Err(_) => Err(Fault::Kind),
+    }
 }
 
 /// The format of a view's items.

@@ -61,7 +61,8 @@ fn is_sized(alloc: Global, format: &Text, itemsize: usize) -> Made<bool>
     }
 }
 
-fn is_byte_format(format: &[u8]) -> bool
+/// Whether a format is that of bytes.
+pub fn is_byte_format(format: &[u8]) -> bool
     ensures { result ≡ spec.is_byte_format format.now }
 {
     match format {

@@ -8,7 +8,7 @@ use Rattle.pybuf_exporter.specs.declared.commands.LocalReply.{LocalReply}
 use Rattle.pybuf_exporter.specs.declared.commands.LocalReply.TheVariants as reply
 use Rattle.pybuf_value.specs.Numbers.{byte_in}
 use Rattle.pybuf_exporter.specs.Exporter.{Exporter, View, live_view, laid}
-use Rattle.pybuf_exporter.specs.Items.{index_in, place_in, is_none, kind_fault, scalar_in}
+use Rattle.pybuf_exporter.specs.Items.{index_in, place_in, is_none, byte_for_item, kind_fault, scalar_in}
 use Rattle.pybuf_value.specs.declared.values.Scalar.{Scalar}
 use Rattle.pybuf_value.specs.declared.snaps.Snap.{Snap}
 use Rattle.pybuf_struct.specs.Formats.{Format, format_of}
@@ -40,10 +40,21 @@ item_written bytes place format pairs values = do
   piece ← kind_fault (packed format pairs values)
   Ok (laid bytes place piece)
 
--- the item's bytes are those of the value by the view's format; a handle counts as what it is lent as
+-- The item of a view at a place gets the bytes of the value by the view's format; a handle counts as
+-- what it is lent as.
+abbrev pub written_by_format : Exporter → View → ℕ → Value → List (ℕ × Loan) → Result (Exporter × LocalReply) Fault
+written_by_format e v place value loans = do
+  format ← kind_fault (format_of v.format)
+  bytes ← item_written e.bytes place format (lent_to e loans value) (scalar_in value ∷ [])
+  Ok (record e { bytes = bytes }, reply.Ok)
+
 abbrev pub set_of_view : Exporter → ℕ → Value → Value → List (ℕ × Loan) → Result (Exporter × LocalReply) Fault
 set_of_view e k key value loans = do
   target ← set_target e k key value
-  format ← kind_fault (format_of target.0.format)
-  bytes ← item_written e.bytes target.1 format (lent_to e loans value) (scalar_in value ∷ [])
-  Ok (record e { bytes = bytes }, reply.Ok)
+  written_by_format e target.0 target.1 value loans
+
+-- what that is for a view of the format `B`: the one byte
+abbrev pub byte_written : Exporter → ℕ → Value → Result (Exporter × LocalReply) Fault
+byte_written e place value = do
+  byte ← byte_for_item value
+  Ok (record e { bytes = laid e.bytes place (byte ∷ []) }, reply.Ok)

@@ -1,15 +1,15 @@
 //! `set`: the item at a key is written.
-ghost use Rattle.std.specs.Prelude.{◌≡◌, ◌+◌, ◌≤◌, length, Ok, Err, IfOk, OnErr, MatchResult};
+ghost use Rattle.std.specs.Prelude.{◌≡◌, ◌+◌, ◌<◌, ◌≤◌, length, Ok, Err, IfOk, OnErr, MatchResult};
 ghost use Rattle.pybuf_exporter.specs.Exporter.{exports_of};
 ghost use Rattle.pybuf_exporter.specs.Answers.{seen, IsWhole, Answers};
-ghost use Rattle.pybuf_exporter.specs.Rows.Set.{set_of_own, set_target, item_written, set_of_view};
+ghost use Rattle.pybuf_exporter.specs.Rows.Set.{set_of_own, set_target, item_written, byte_written, set_of_view};
 ghost use Rattle.pybuf_exporter.specs.Sound.{IsFormed};
 
 use crate::commands::LocalReply;
 use crate::halt::Halt;
-use crate::items::{args_of, format_of, index_in, is_none, place_in};
+use crate::items::{args_of, byte_for_item, format_of, index_in, is_none, place_in};
 use crate::lent::lent_for;
-use crate::loans::LoanList;
+use crate::loans::{LoanList, is_byte_format};
 use crate::parts::Parts;
 use crate::stored::StoredView;
 use pybuf_struct::FormatSpec;
@@ -72,7 +72,21 @@ fn write_item(
     }
 }
 
-/// Writes the item of a view at a key.
+/// Writes a byte as an item of the format `B`.
+#[tactic(auto, using(crate::proofs::Laid::laid_one))]
+fn write_byte(parts: &mut Parts, place: usize, value: &Value) -> Result<LocalReply, Halt>
+    requires whole { IsWhole parts.old }
+    requires inside { place < length parts.old.bytes.items }
+    ensures answer { Answers (byte_written (seen parts.old) place value.now) (seen parts.old) result (seen parts.new) }
+    ensures counted { parts.new.exports ≡ exports_of (seen parts.new) }
+{
+    let byte = byte_for_item(value)?;
+    parts.bytes[place] = byte;
+    Ok(LocalReply::Ok)
+}
+
+/// Writes the item of a view at a key. A byte of the format `B`, which most views have, is written
+/// without parsing it.
 pub fn of_view(
     parts: &mut Parts,
     view: usize,
@@ -85,6 +99,9 @@ pub fn of_view(
     ensures counted { parts.new.exports ≡ exports_of (seen parts.new) }
 {
     let (view, place) = target(parts, view, key, value)?;
+    if is_byte_format(view.format_text().as_slice()) {
+        return write_byte(parts, place, value);
+    }
     let format = format_of(parts.alloc, view)?;
     let lent = lent_for(parts, parts.alloc, &format, loans, value)?;
     let args = args_of(parts.alloc, value)?;
