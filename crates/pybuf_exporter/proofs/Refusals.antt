@@ -45,10 +45,10 @@ IsAnswered r = IfDone (λ (after : Exporter × LocalReply). is_answer after.1 �
 bind : {A : Type 0} (r : Result A Fault) (f : A → Result (Exporter × LocalReply) Fault) → ((a : A) → r ≡ Ok a → IsAnswered (f a)) → IsAnswered (r >>= f)
 bind r f after = done_bind (λ (p : Exporter × LocalReply). is_answer p.1 ≡ true) r f after
 
-set_in_kind_answers : (k : ExporterKind) (e : Exporter) (r : Result (Exporter × LocalReply) Fault) → IsAnswered r → IsAnswered (set_in_kind k e r)
-set_in_kind_answers kind.ByteArray e r after = after
-set_in_kind_answers kind.Bytes e r after = tt
-set_in_kind_answers (kind.Vector readonly) e r after = tt
+set_in_kind_answers : (k : ExporterKind) (r : Result (Exporter × LocalReply) Fault) → IsAnswered r → IsAnswered (set_in_kind k r)
+set_in_kind_answers kind.ByteArray r after = after
+set_in_kind_answers kind.Bytes r after = tt
+set_in_kind_answers (kind.Vector readonly) r after = tt
 
 get_in_kind_answers : (k : ExporterKind) (r : Result (Exporter × LocalReply) Fault) → IsAnswered r → IsAnswered (get_in_kind k r)
 get_in_kind_answers kind.ByteArray r after = after
@@ -127,7 +127,7 @@ row_answers e (subject.View k) verb.View loans = bind (view_again e k) _ (λ v _
 row_answers e subject.Own (verb.Get key) loans = get_in_kind_answers e.kind (get_of_own e key) (get_of_own_answers e key)
 row_answers e (subject.View k) (verb.Get key) loans = get_of_view_answers e k key
 row_answers e subject.Own (verb.Set key value) loans =
-    set_in_kind_answers e.kind e (set_of_own e key value)
+    set_in_kind_answers e.kind (set_of_own e key value)
     (bind (index_in key) _ (λ index _. bind (byte_in value) _ (λ byte _. bind (place_in (length e.bytes) index) _ (λ place _. refl))))
 row_answers e (subject.View k) (verb.Set key value) loans =
     bind (set_target e k key value) _ (λ target _.

@@ -1,13 +1,14 @@
 -- What is written through one view is read through every view of the same bytes.
-use Rattle.std.proofs.Common.{◌≡◌, ℕ, ◌+◌, ◌≤◌, List, [], ◌∷◌, length, take, drop, ap, ap₂, sym, ◌∙◌, refl, subst, arith}
-use Rattle.std.specs.Prelude.{Result, Ok, Err}
+use Rattle.std.proofs.Common.{◌≡◌, true, true≢false, ℕ, ◌+◌, ◌≤◌, List, [], ◌∷◌, length, take, drop, ap, ap₂, sym, ◌∙◌, refl, subst, arith}
+use Rattle.std.specs.Prelude.{slice_index, Result, Ok, Err}
+use Rattle.std.proofs.lemmas.Bool.{eq-eqb}
 use Rattle.std.proofs.lemmas.Grind.{common_steps}
 use Rattle.pybuf_value.specs.declared.faults.Fault.{Fault}
 use Rattle.pybuf_value.specs.Refusing.{◌>>=◌}
 use Rattle.pybuf_value.specs.declared.values.Scalar.{Scalar}
 use Rattle.pybuf_value.specs.declared.snaps.Snap.{Snap}
 use Rattle.pybuf_struct.specs.Formats.{Format, format_of, fields}
-use Rattle.pybuf_struct.specs.Values.{item_of, unpacked}
+use Rattle.pybuf_struct.specs.Values.{item_of, values, unpacked}
 use Rattle.pybuf_struct.specs.Packing.{packed}
 use Rattle.pybuf_struct.specs.Laws.{normal_values}
 use Rattle.pybuf_struct.proofs.Whole.{format_fills}
@@ -16,11 +17,11 @@ use Rattle.pybuf_exporter.specs.declared.commands.LocalReply.{LocalReply}
 use Rattle.pybuf_exporter.specs.declared.commands.LocalReply.TheVariants as reply
 use Rattle.pybuf_exporter.specs.Exporter.{Exporter, View, bytes_at, laid}
 use Rattle.pybuf_exporter.specs.Items.{item_by, item_of_values, kind_fault, scalar_in}
-use Rattle.pybuf_exporter.specs.Loans.{lent_to}
-use Rattle.pybuf_exporter.specs.Laws.{IsWritten, WritesAreSeen}
+use Rattle.pybuf_exporter.specs.Loans.{is_size_of, lent_to}
+use Rattle.pybuf_exporter.specs.Laws.{IsWritten, ItemsAreRead, WritesAreSeen}
 use Rattle.pybuf_exporter.specs.Rows.Set.{set_target, item_written}
 use Rattle.pybuf_exporter.proofs.Written.{length-packed, kind_ok, size_is}
-use Rattle.pybuf_exporter.proofs.Soundness.{IsTarget, set_target_done, done}
+use Rattle.pybuf_exporter.proofs.Soundness.{IsTarget, set_target_done, done, live_view_formed, live_view_held}
 
 -- a step that was done had a first part that was done
 first_done : {A B : Type 0} (r : Result A Fault) (f : A → Result B Fault) (y : B) → (r >>= f) ≡ Ok y → (x : A) × (r ≡ Ok x) × (f x ≡ Ok y)
@@ -86,4 +87,30 @@ written_is_seen e new k key value loans r sound done_so =
       spelled,
       subst (λ (x : Exporter). IsWritten e x target.0.0 target.0.1 (item_of (normal_values (lent_to e loans value) (fields format.0) (scalar_in value ∷ [])))) (ap (λ (bs : List ℕ). record e { bytes = bs }) laid_there ∙ is_new)
           (written_with e target.0.0 target.0.1 format.0 piece.0 (lent_to e loans value) (scalar_in value ∷ []) there spelled packs),
+    )
+
+-- a sized format is in the grammar
+spelled_by : (text : List ℕ) (itemsize : ℕ) (r : Result Format Fault) → format_of text ≡ r → is_size_of itemsize r ≡ true → (f : Format) × (format_of text ≡ Ok f)
+spelled_by text itemsize (Ok f) is sized = (f, is)
+spelled_by text itemsize (Err g) is sized = absurd (true≢false (sym sized))
+
+whole_bytes : (bytes : List ℕ) (size start : ℕ) → start + size ≤ length bytes → length (bytes_at bytes size start) ≡ size
+whole_bytes bytes size start inside = grind (arith, common_steps, inside)
+
+unpacks : (f : Format) (bytes : List ℕ) → length bytes ≡ f.size → unpacked f bytes ≡ Ok (values f bytes)
+unpacks f bytes long = rw (eq-eqb (length bytes) f.size long) refl
+
+pub each_item_is_read : ItemsAreRead
+each_item_is_read e k v i sound live below =
+    let formed = live_view_formed e k v sound live in
+    let spelled = spelled_by v.format v.itemsize (format_of v.format) refl formed.sized in
+    let size : spelled.0.size ≡ v.itemsize = size_is v.format spelled.0 v.itemsize spelled.1 formed.sized in
+    let bytes = bytes_at e.bytes v.itemsize (slice_index v.starts i) in
+    let inside : slice_index v.starts i + v.itemsize ≤ length e.bytes = (live_view_held e k v sound live).inside i 0 below in
+    let long : length bytes ≡ spelled.0.size = whole_bytes e.bytes v.itemsize (slice_index v.starts i) inside ∙ sym size in (
+      spelled.0,
+      spelled.1,
+      size,
+      ap (λ (r : Result Format Fault). item_of_values (r >>= λ format. unpacked format bytes)) spelled.1
+          ∙ ap item_of_values (unpacks spelled.0 bytes long),
     )

@@ -367,10 +367,10 @@ released_bind e k (Err f) sound is = tt
 pub release_of_view_sound : (e : Exporter) (k : ℕ) → IsSoundExporter e → IsSoundAfter (release_of_view e k)
 release_of_view_sound e k sound = released_bind e k (view_at e k) sound refl
 
-set_in_kind_sound : (k : ExporterKind) (e : Exporter) (r : Result (Exporter × LocalReply) Fault) → IsSoundAfter r → IsSoundAfter (set_in_kind k e r)
-set_in_kind_sound kind.ByteArray e r after = after
-set_in_kind_sound kind.Bytes e r after = tt
-set_in_kind_sound (kind.Vector readonly) e r after = tt
+set_in_kind_sound : (k : ExporterKind) (r : Result (Exporter × LocalReply) Fault) → IsSoundAfter r → IsSoundAfter (set_in_kind k r)
+set_in_kind_sound kind.ByteArray r after = after
+set_in_kind_sound kind.Bytes r after = tt
+set_in_kind_sound (kind.Vector readonly) r after = tt
 
 get_in_kind_sound : (k : ExporterKind) (r : Result (Exporter × LocalReply) Fault) → IsSoundAfter r → IsSoundAfter (get_in_kind k r)
 get_in_kind_sound kind.ByteArray r after = after
@@ -418,7 +418,7 @@ row_sound e subject.Own verb.View loans sound = view_of_own_sound e sound
 row_sound e (subject.View k) verb.View loans sound = view_of_view_sound e k sound
 row_sound e subject.Own (verb.Get key) loans sound = get_in_kind_sound e.kind (get_of_own e key) (get_of_own_sound e key sound)
 row_sound e (subject.View k) (verb.Get key) loans sound = get_of_view_sound e k key sound
-row_sound e subject.Own (verb.Set key value) loans sound = set_in_kind_sound e.kind e (set_of_own e key value) (set_of_own_sound e key value sound)
+row_sound e subject.Own (verb.Set key value) loans sound = set_in_kind_sound e.kind (set_of_own e key value) (set_of_own_sound e key value sound)
 row_sound e (subject.View k) (verb.Set key value) loans sound = set_of_view_sound e k key value loans sound
 row_sound e subject.Own (verb.Cast format shape) loans sound = tt
 row_sound e (subject.View k) (verb.Cast format None) loans sound = cast_of_view_sound e k format sound

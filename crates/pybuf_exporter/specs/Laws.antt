@@ -1,5 +1,5 @@
 -- Laws of one exporter's views.
-use Rattle.std.specs.Prelude.{◌≡◌, ℕ, ◌+◌, List, [], ◌∷◌, length, take, drop, Ok, None, negsuc}
+use Rattle.std.specs.Prelude.{◌≡◌, ℕ, ◌+◌, ◌<◌, List, [], ◌∷◌, length, slice_index, take, drop, Ok, None, negsuc}
 use Rattle.std.specs.Option.{ForSome}
 use Rattle.pybuf_exporter.specs.declared.kinds.Subject.{Subject}
 use Rattle.pybuf_exporter.specs.declared.commands.Verb.{Verb}
@@ -9,11 +9,11 @@ use Rattle.pybuf_value.specs.declared.values.Item.{Item}
 use Rattle.pybuf_value.specs.declared.values.Value.{Value}
 use Rattle.pybuf_slice.specs.Parts.{SliceParts}
 use Rattle.pybuf_struct.specs.Formats.{Format, format_of, fields}
-use Rattle.pybuf_struct.specs.Values.{item_of}
+use Rattle.pybuf_struct.specs.Values.{item_of, values}
 use Rattle.pybuf_struct.specs.Laws.{normal_values}
 use Rattle.pybuf_exporter.specs.declared.commands.LocalReply.{LocalReply}
 use Rattle.pybuf_exporter.specs.declared.loans.Loan.{Loan}
-use Rattle.pybuf_exporter.specs.Exporter.{Exporter, View, bytes_at}
+use Rattle.pybuf_exporter.specs.Exporter.{Exporter, View, live_view, bytes_at}
 use Rattle.pybuf_exporter.specs.Items.{item_by, scalar_in}
 use Rattle.pybuf_exporter.specs.Loans.{loan_of, lent_to}
 use Rattle.pybuf_exporter.specs.Rows.Set.{set_target, set_of_view}
@@ -37,6 +37,13 @@ pub record AreAlike (views : ℕ) (s : Subject) (v : Verb) (loans others : List 
 -- a command looks at nothing else of its loans
 abbrev pub LoansAlikeDoTheSame : Type 0
 LoansAlikeDoTheSame = (e : Exporter) (s : Subject) (v : Verb) (loans others : List (ℕ × Loan)) → AreAlike (length e.views) s v loans others → estep e s v loans ≡ estep e s v others
+
+-- Every item of an unreleased view is read as the values of its format's fields, whole.
+abbrev pub ItemsAreRead : Type 0
+ItemsAreRead =
+    (e : Exporter) (k : ℕ) (v : View) (i : ℕ) → IsSoundExporter e → live_view e k ≡ Ok v → i < length v.starts
+    → (format : Format) × (format_of v.format ≡ Ok format) × (format.size ≡ v.itemsize)
+    × (item_by v.format (bytes_at e.bytes v.itemsize (slice_index v.starts i)) ≡ item_of (values format (bytes_at e.bytes v.itemsize (slice_index v.starts i))))
 
 -- An item of a view was written at a place: the views stay, and so does every byte before and after
 -- the item; and whatever view of this format has an item at the place reads there what was wanted.

@@ -31,9 +31,9 @@ is_built s (verb.Set key value) = not (is_tuple key) && not (is_slice key)
 is_built s _ = true
 
 -- only a bytearray is written by itself
-abbrev pub set_in_kind : ExporterKind → Exporter → Result (Exporter × LocalReply) Fault → Result (Exporter × LocalReply) Fault
-set_in_kind kind.ByteArray e written = written
-set_in_kind _ e written = Err fault.UnknownName
+abbrev pub set_in_kind : ExporterKind → Result (Exporter × LocalReply) Fault → Result (Exporter × LocalReply) Fault
+set_in_kind kind.ByteArray written = written
+set_in_kind _ written = Err fault.UnknownName
 
 -- a vector has no items of its own
 abbrev pub get_in_kind : ExporterKind → Result (Exporter × LocalReply) Fault → Result (Exporter × LocalReply) Fault
@@ -47,7 +47,7 @@ row e subject.Own verb.View loans = view_of_own e
 row e (subject.View k) verb.View loans = view_of_view e k
 row e subject.Own (verb.Get key) loans = get_in_kind e.kind (get_of_own e key)
 row e (subject.View k) (verb.Get key) loans = get_of_view e k key
-row e subject.Own (verb.Set key value) loans = set_in_kind e.kind e (set_of_own e key value)
+row e subject.Own (verb.Set key value) loans = set_in_kind e.kind (set_of_own e key value)
 row e (subject.View k) (verb.Set key value) loans = set_of_view e k key value loans
 row e (subject.View k) (verb.Cast format None) loans = cast_of_view e k format
 row e subject.Own verb.ToBytes loans = bytes_of_own e

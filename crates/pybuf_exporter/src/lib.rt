@@ -18,7 +18,9 @@ pub use commands::{LocalCommand, LocalReply, PropertyName, Verb, copy_option};
 pub use exporter::ExporterState;
 pub use handles::{handles_of, looked_at};
 pub use kinds::{ExporterKind, Subject};
-pub use laws::{loans_alike_do_the_same, slicing_back_twice_is_nothing, writes_are_seen};
+pub use laws::{
+    items_are_read, loans_alike_do_the_same, slicing_back_twice_is_nothing, writes_are_seen,
+};
 pub use loans::{Loan, LoanList};
 
 #[cfg(test)]

@@ -60,7 +60,7 @@ fn own_get(parts: &Parts, key: &Value) -> Result<LocalReply, Halt>
 
 fn own_set(parts: &mut Parts, key: &Value, value: &Value) -> Result<LocalReply, Halt>
     requires { IsWhole parts.old }
-    ensures answer { Answers (spec.set_in_kind parts.old.kind (seen parts.old) (set_of_own (seen parts.old) key.now value.now)) (seen parts.old) result (seen parts.new) }
+    ensures answer { Answers (spec.set_in_kind parts.old.kind (set_of_own (seen parts.old) key.now value.now)) (seen parts.old) result (seen parts.new) }
     ensures counted { parts.new.exports ≡ exports_of (seen parts.new) }
 {
     match parts.kind {
