@@ -1,4 +1,7 @@
 pub mod Names
 pub mod Refusing
+pub mod Choosing
 pub mod Numbers
 pub mod Snaps
+pub mod Quoted
+pub mod Halting

@@ -25,8 +25,8 @@ is_word (pos n) = nat_lt n (2 ^ 63)
 is_word (negsuc n) = nat_lt n (2 ^ 63)
 
 -- the number where it is a word, else the fault
-abbrev pub fitted : Fault → ℤ → Result ℤ Fault
-fitted f n = if is_word n then Ok n else Err f
+abbrev pub fitted_number : Fault → ℤ → Result ℤ Fault
+fitted_number f n = if is_word n then Ok n else Err f
 
 -- a number from 0 to 255
 abbrev pub byte_of : ℤ → Result ℕ Fault

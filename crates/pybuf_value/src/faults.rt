@@ -1,8 +1,8 @@
-//! Why a call is refused, and the one answer that is no refusal: that memory ran out.
+//! Why a call is refused.
 ghost use Rattle.std.specs.Prelude.{◌≡◌};
 ghost use Rattle.pybuf_value.specs.Names.{python_name_of};
 
-use std::alloc::{AllocError, AllocFailed};
+use pybuf_copy::NoMemory;
 use thiserror::Error;
 
 /// A refusal, as the kind of Python's exception. Its `Display` is Python's name of that exception.
@@ -52,25 +52,6 @@ pub enum Outcome<T> {
     Done(T),
     Refused(Fault),
 }
-
-/// Memory ran out. What the call was lent is as before.
-#[derive(Clone, Copy, Debug, PartialEq, Eq)]
-pub struct NoMemory;
-
-impl From<AllocError> for NoMemory {
-    fn from(_e: AllocError) -> NoMemory {
-        NoMemory
-    }
-}
-
-impl<T: Drop> From<AllocFailed<T>> for NoMemory {
-    fn from(_e: AllocFailed<T>) -> NoMemory {
-        NoMemory
-    }
-}
-
-/// The answer of a call that fails only for want of memory.
-pub type Made<T> = Result<T, NoMemory>;
 
 /// The answer of a call that may be refused, or fail for want of memory.
 pub type Tried<T> = Result<Outcome<T>, NoMemory>;

@@ -1,9 +1,8 @@
 //! Lists that contracts see as lists.
 ghost use Rattle.std.specs.Prelude.{◌≡◌, ◌==◌, ◌<◌, ◌^◌, List, [], ◌∷◌, ◌++◌, length, IfOk, OnOk, OnErr, vec_len, vec_capacity};
 
-use crate::faults::Made;
-use crate::twin::{Twin, copy_all};
 use crate::values::{Item, PySlice, Scalar, Value};
+use pybuf_copy::{Exact, Made, Twin, copy_all};
 use std::alloc::Global;
 use std::marker::Model;
 
@@ -78,12 +77,16 @@ impl<T> Items<T> {
     }
 }
 
-impl<T: Twin + Drop> Twin for Items<T> {
+impl<T: Exact> Twin for Items<T> {
     fn copy(&self, alloc: Global) -> Made<Items<T>> {
         Ok(Items {
             items: copy_all(alloc, self.items.as_slice())?,
         })
     }
+}
+
+impl<T: Exact> Exact for Items<T> {
+    ghost exact = { λ x y e. e };
 }
 
 /// Adds an item where room was reserved before. Takes no memory.

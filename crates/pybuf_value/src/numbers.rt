@@ -2,7 +2,7 @@
 ghost use Rattle.std.specs.Prelude.{◌≡◌, ◌↔◌, ℕ, Result, IsOk, FitsSigned};
 ghost use Rattle.std.specs.Int.{w64, saturate_signed};
 ghost use Rattle.pybuf_value.specs.declared.faults.Fault.{Fault};
-ghost use Rattle.pybuf_value.specs.Numbers.{number_of, fitted, byte_of, byte_in};
+ghost use Rattle.pybuf_value.specs.Numbers.{number_of, fitted_number, byte_of, byte_in};
 
 use crate::faults::Fault;
 use crate::values::{Scalar, Value};
@@ -25,7 +25,7 @@ pub fn index_of(value: &Value) -> Result<i128, Fault>
 /// Refused with `IndexError` exactly outside `isize::MIN..=isize::MAX`.
 pub fn fit_index(number: i128) -> Result<isize, Fault>
     ensures fits { IsOk result ↔ FitsSigned w64 number }
-    ensures exact { result ≡ fitted Fault.Index number }
+    ensures exact { result ≡ fitted_number Fault.Index number }
 {
     if number < isize::MIN as i128 {
         return Err(Fault::Index);
@@ -41,7 +41,7 @@ pub fn fit_index(number: i128) -> Result<isize, Fault>
 /// Refused with `OverflowError` exactly outside `isize::MIN..=isize::MAX`.
 pub fn fit_count(number: i128) -> Result<isize, Fault>
     ensures fits { IsOk result ↔ FitsSigned w64 number }
-    ensures exact { result ≡ fitted Fault.Overflow number }
+    ensures exact { result ≡ fitted_number Fault.Overflow number }
 {
     if number < isize::MIN as i128 {
         return Err(Fault::Overflow);

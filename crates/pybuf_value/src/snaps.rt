@@ -4,20 +4,19 @@ ghost use Rattle.std.specs.Option.{option_copied};
 ghost use Rattle.pybuf_value.specs.declared.snaps.Snap.{Snap};
 ghost use Rattle.pybuf_value.specs.Snaps.{snap_of};
 
-use crate::faults::Made;
 use crate::list::{ByteList, CountList, Items};
 use crate::text::Text;
-use crate::twin::Twin;
+use pybuf_copy::{Exact, Made, Twin};
 use std::alloc::Global;
 
 /// What kind of thing a handle names.
 #[derive(Clone, Copy, Debug, PartialEq, Eq)]
 pub enum SnapKind {
-    /// An exporter that can't be written to, as Python's `bytes`.
+    /// Python's `bytes`.
     Bytes,
-    /// An exporter that can be written to, as Python's `bytearray`.
+    /// Python's `bytearray`.
     ByteArray,
-    /// An exporter that can be written to and isn't grown by commands.
+    /// A vector of bytes that lends them, read-only or not.
     Vector,
     /// A view of an exporter, as Python's `memoryview`.
     View,
@@ -58,6 +57,10 @@ impl Twin for Snap {
             released: self.released,
         })
     }
+}
+
+impl Exact for Snap {
+    ghost exact = { λ x y e. e };
 }
 
 /// What lends the things that handles name: a list of pairs of a handle and a snap.

@@ -137,3 +137,24 @@ fn snaps_are_copied_and_lent(rt: HostRuntime) -> Result<(), Fail> {
     assert_eq!(rt; found.content.as_slice(), [7u8, 255].as_slice());
     Ok(())
 }
+
+/// Bytes, and what Python's `repr` writes of them after the `b`.
+const QUOTED: [(&[u8], &str); 7] = [
+    (b"", r"''"),
+    (b"abc ~", r"'abc ~'"),
+    (b"\t\n\r\\", r"'\t\n\r\\'"),
+    (b"it's", r#""it's""#),
+    (b"\"", r#"'"'"#),
+    (b"'\"", r#"'\'"'"#),
+    (b"\x00\x1f\x7f\x80\xff", r"'\x00\x1f\x7f\x80\xff'"),
+];
+
+#[test]
+fn quoted_bytes_are_those_of_python(rt: HostRuntime) -> Result<(), Fail> {
+    for (bytes, text) in QUOTED {
+        let mut out = Vec::from_slice(rt.alloc(), b"b")?;
+        push_quoted(&mut out, bytes)?;
+        assert_eq!(rt; &out[1..], text.as_bytes());
+    }
+    Ok(())
+}

@@ -2,8 +2,7 @@
 ghost use Rattle.std.specs.Prelude.{◌≡◌, ◌==◌, ◌<◌, ◌^◌, ◌++◌, List, [], ℕ, length, OnOk, OnErr, encode_utf8};
 ghost use Rattle.std.specs.String.{string_bytes};
 
-use crate::faults::Made;
-use crate::twin::Twin;
+use pybuf_copy::{Exact, Made, Twin};
 use std::alloc::Global;
 use std::marker::Model;
 
@@ -82,4 +81,8 @@ impl Twin for Text {
             text: String::from_str(alloc, self.text.as_str())?,
         })
     }
+}
+
+impl Exact for Text {
+    ghost exact = { λ x y e. e };
 }

@@ -1,8 +1,7 @@
 //! The values that commands are given, and the items that views hold.
-use crate::faults::Made;
 use crate::list::{ByteList, ScalarList, SliceList};
 use crate::text::Text;
-use crate::twin::Twin;
+use pybuf_copy::{Exact, Made, Twin};
 use std::alloc::Global;
 
 /// A value that has no parts.
@@ -87,6 +86,10 @@ impl Twin for Scalar {
     }
 }
 
+impl Exact for Scalar {
+    ghost exact = { λ x y e. e };
+}
+
 impl Twin for PySlice {
     fn copy(&self, alloc: Global) -> Made<PySlice> {
         let start = self.start.copy(alloc)?;
@@ -94,6 +97,10 @@ impl Twin for PySlice {
         let step = self.step.copy(alloc)?;
         Ok(PySlice { start, stop, step })
     }
+}
+
+impl Exact for PySlice {
+    ghost exact = { λ x y e. e };
 }
 
 impl Twin for Value {
@@ -123,6 +130,10 @@ impl Twin for Value {
     }
 }
 
+impl Exact for Value {
+    ghost exact = { λ x y e. e };
+}
+
 impl Twin for Item {
     fn copy(&self, alloc: Global) -> Made<Item> {
         match self {
@@ -136,4 +147,8 @@ impl Twin for Item {
             }
         }
     }
+}
+
+impl Exact for Item {
+    ghost exact = { λ x y e. e };
 }

@@ -1,0 +1,21 @@
+//! The one answer that is no refusal: that memory ran out.
+use std::alloc::{AllocError, AllocFailed};
+
+/// Memory ran out. What the call was lent is as before.
+#[derive(Clone, Copy, Debug, PartialEq, Eq)]
+pub struct NoMemory;
+
+impl From<AllocError> for NoMemory {
+    fn from(_e: AllocError) -> NoMemory {
+        NoMemory
+    }
+}
+
+impl<T: Drop> From<AllocFailed<T>> for NoMemory {
+    fn from(_e: AllocFailed<T>) -> NoMemory {
+        NoMemory
+    }
+}
+
+/// The answer of a call that fails only for want of memory.
+pub type Made<T> = Result<T, NoMemory>;

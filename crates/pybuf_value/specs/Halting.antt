@@ -1,0 +1,11 @@
+-- Results that a refusal or want of memory can stand in place of.
+use Rattle.std.specs.Prelude.{◌≡◌, Result, Ok, Err}
+use Rattle.pybuf_value.specs.declared.faults.Fault.{Fault}
+use Rattle.pybuf_value.specs.declared.halt.Halt.{Halt}
+use Rattle.pybuf_value.specs.declared.halt.Halt.TheVariants as halt
+
+-- a result is what a definition says, or its refusal, unless memory runs out
+abbrev pub Gives : {X : Type 0} → Result X Fault → Result X Halt → Type 0
+Gives wanted (Ok x) = wanted ≡ Ok x
+Gives wanted (Err (halt.Refused f)) = wanted ≡ Err f
+Gives wanted (Err halt.NoMemory) = Unit {0}

@@ -1,0 +1,46 @@
+//! Why a row of the command table stops: it is refused, or memory ran out.
+ghost use Rattle.std.specs.Prelude.{◌≡◌};
+ghost use Rattle.pybuf_value.specs.declared.halt.Halt.TheVariants as halts;
+
+use crate::faults::Fault;
+use pybuf_copy::NoMemory;
+use std::alloc::{AllocError, AllocFailed};
+
+/// Why a row stops, so that its body can use `?` alone.
+#[derive(Clone, Copy, Debug, PartialEq, Eq)]
+pub enum Halt {
+    Refused(Fault),
+    NoMemory,
+}
+
+impl From<Fault> for Halt {
+    ghost from_gives = { λ fault halt. halt ≡ halts.Refused fault };
+
+    fn from(fault: Fault) -> Halt {
+        Halt::Refused(fault)
+    }
+}
+
+impl From<NoMemory> for Halt {
+    ghost from_gives = { λ _ halt. halt ≡ halts.NoMemory };
+
+    fn from(_e: NoMemory) -> Halt {
+        Halt::NoMemory
+    }
+}
+
+impl From<AllocError> for Halt {
+    ghost from_gives = { λ _ halt. halt ≡ halts.NoMemory };
+
+    fn from(_e: AllocError) -> Halt {
+        Halt::NoMemory
+    }
+}
+
+impl<T: Drop> From<AllocFailed<T>> for Halt {
+    ghost from_gives = { λ _ halt. halt ≡ halts.NoMemory };
+
+    fn from(_e: AllocFailed<T>) -> Halt {
+        Halt::NoMemory
+    }
+}
