@@ -12,8 +12,8 @@ use Rattle.std.specs.List.{cons_option}
 use Rattle.std.specs.Prelude.{FitsSigned}
 use Rattle.std.proofs.Common.{of_z}
 use Rattle.std.proofs.lemmas.List.Elements.{All-head, All-same, All-rest}
-use Rattle.pybuf_slice.specs.Picks.{adjusted, start_of, stop_of, picks, comes_before}
-use Rattle.pybuf_slice.specs.Parts.{clamped, clamped_part}
+use Rattle.pybuf_slice.specs.Picks.{adjusted_part, start_of, stop_of, picks, comes_before}
+use Rattle.pybuf_slice.specs.Parts.{nearest_word, clamped_part}
 use Rattle.pybuf_slice.specs.Runs.{rising, how_many, picks_in_span}
 use Rattle.pybuf_slice.specs.Reads.{signed_step, elements_at}
 use Rattle.pybuf_slice.specs.Laws.{PicksAre, SameWhenClamped}
@@ -22,11 +22,11 @@ use Rattle.pybuf_slice.proofs.SpanLemmas.{start_up, stop_up, start_down, stop_do
 
 -- ---- clamping
 
-adjusted_clamped_up : (n t u : ℕ) (a : ℤ) → n < 2 ^ 63 → adjusted n (pos (suc t)) (clamped a) ≡ adjusted n (pos (suc u)) a
+adjusted_clamped_up : (n t u : ℕ) (a : ℤ) → n < 2 ^ 63 → adjusted_part n (pos (suc t)) (nearest_word a) ≡ adjusted_part n (pos (suc u)) a
 adjusted_clamped_up n t u (pos a) h = omega (arith, ints, clamps)
 adjusted_clamped_up n t u (negsuc a) h = omega (arith, ints, clamps)
 
-adjusted_clamped_down : (n t u : ℕ) (a : ℤ) → n < 2 ^ 63 → adjusted n (negsuc t) (clamped a) ≡ adjusted n (negsuc u) a
+adjusted_clamped_down : (n t u : ℕ) (a : ℤ) → n < 2 ^ 63 → adjusted_part n (negsuc t) (nearest_word a) ≡ adjusted_part n (negsuc u) a
 adjusted_clamped_down n t u (pos a) h = omega (arith, ints, clamps)
 adjusted_clamped_down n t u (negsuc a) h = omega (arith, ints, clamps)
 
@@ -90,25 +90,25 @@ same_when_clamped n start stop (pos zero) moves h = absurd (moves refl)
 same_when_clamped n start stop (pos (suc t)) moves h =
     elim (cases_lt t (2 ^ 63 - 1)) [
       | inl fits ↦
-          let e : clamped (pos (suc t)) ≡ pos (suc t) = omega (arith, ints, clamps) in
+          let e : nearest_word (pos (suc t)) ≡ pos (suc t) = omega (arith, ints, clamps) in
           ap (picks n (clamped_part start) (clamped_part stop)) e ∙ picks_clamped_up n t t start stop h (inl refl)
       | inr wide ↦
-          let e : clamped (pos (suc t)) ≡ pos (suc (2 ^ 63 - 2)) = omega (arith, ints, clamps) in
+          let e : nearest_word (pos (suc t)) ≡ pos (suc (2 ^ 63 - 2)) = omega (arith, ints, clamps) in
           ap (picks n (clamped_part start) (clamped_part stop)) e ∙ picks_clamped_up n (2 ^ 63 - 2) t start stop h (inr (omega arith, omega arith))
     ]
 same_when_clamped n start stop (negsuc t) moves h =
     elim (cases_lt t (2 ^ 63)) [
       | inl fits ↦
-          let e : clamped (negsuc t) ≡ negsuc t = omega (arith, ints, clamps) in
+          let e : nearest_word (negsuc t) ≡ negsuc t = omega (arith, ints, clamps) in
           ap (picks n (clamped_part start) (clamped_part stop)) e ∙ picks_clamped_down n t t start stop h (inl refl)
       | inr wide ↦
-          let e : clamped (negsuc t) ≡ negsuc (2 ^ 63 - 1) = omega (arith, ints, clamps) in
+          let e : nearest_word (negsuc t) ≡ negsuc (2 ^ 63 - 1) = omega (arith, ints, clamps) in
           ap (picks n (clamped_part start) (clamped_part stop)) e ∙ picks_clamped_down n (2 ^ 63 - 1) t start stop h (inr (omega arith, omega arith))
     ]
 
 -- ---- which numbers
 
-how_many_below : (low high t k : ℕ) → k < how_many low high (suc t) → low + k * suc t < high
+pub how_many_below : (low high t k : ℕ) → k < how_many low high (suc t) → low + k * suc t < high
 how_many_below low high t k h =
     elim (cases_lt low high) [
       | inl under ↦
@@ -269,6 +269,21 @@ stride_inside n low high zero falls some h = absurd (omega arith)
 stride_inside n low high (suc t) false some h = rw (span_rises low high t) (inside_up n low high t h)
 stride_inside n low high (suc t) true some h = rw (span_falls low high t) (inside_down n high low t h)
 
+pub span_within : (low high : ℕ) (step : ℤ) → step ≢ pos 0 → All (λ i. (low ≤ i) × (i < high)) (picks_in_span low high step)
+span_within low high (pos zero) moves = absurd (moves refl)
+span_within low high (pos (suc t)) moves =
+    let c : ℕ = how_many low high (suc t) in
+    rw (span_rises low high t)
+    (λ k d within.
+    let below_end = how_many_below low high t k (omega (arith, within, length-rising c low (suc t))) in
+    rw (read_up low t c k d within) (omega arith, omega arith))
+span_within low high (negsuc t) moves =
+    let c : ℕ = how_many low high (suc t) in
+    rw (span_falls low high t)
+    (λ k d within.
+    let below_end = how_many_below low high t k (omega (arith, within, length-falling c high (suc t))) in
+    rw (read_down high t c k d within) (omega arith, omega arith))
+
 -- ---- reading
 
 pub slice_get_read : {X : Type 0} (xs : List X) (i : ℕ) (x : X) → i < length xs → x ≡ get_or xs i x → slice_get xs i ≡ Some x
@@ -299,7 +314,7 @@ elements_rising {X} items (suc k) low h =
     ∙ ap (λ (xs : List X). s.0 ∷ xs) (ap (λ n. elements_at items (rising n 1 k)) next ∙ elements_rising items k (suc low) (omega arith))
     ∙ sym (ap (take (suc k)) s.2)
 
-how_many_one : (low high : ℕ) → how_many low high 1 ≡ high - low
+pub how_many_one : (low high : ℕ) → how_many low high 1 ≡ high - low
 how_many_one low high =
     elim (cases_lt low high) [
       | inl under ↦ rw (how_many_some low high 1 under, div-one (high - low - 1)) (omega arith)
@@ -322,3 +337,13 @@ first_inside n before rest i e all = All-head (λ k. k < n) i rest (All-same (λ
 
 pub rest_inside : (n : ℕ) (before rest : List ℕ) (i : ℕ) → before ≡ i ∷ rest → All (λ k. k < n) before → All (λ k. k < n) rest
 rest_inside n before rest i e all = All-rest (λ k. k < n) i rest before e all
+
+pub length_by_one : (low high : ℕ) (step : ℤ) → step ≡ pos 1 → length (picks_in_span low high step) ≡ high - low
+length_by_one low high step one =
+    ap (λ z. length (picks_in_span low high z)) one
+    ∙ ap length (span_rises low high 0)
+    ∙ length-rising (how_many low high 1) low 1
+    ∙ how_many_one low high
+
+pub less_one_from_bits : (z : ℤ) → FitsSigned w64 z → of_z w64 z ≡ 2 ^ 64 - 1 → z ≡ negsuc 0
+less_one_from_bits z fits e = omega (arith, ints, e)

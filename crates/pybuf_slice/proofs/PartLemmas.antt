@@ -8,7 +8,7 @@ use Rattle.pybuf_value.specs.declared.values.Scalar.TheVariants as scalar
 use Rattle.pybuf_value.specs.declared.values.PySlice.{PySlice}
 use Rattle.pybuf_value.specs.Refusing.{◌>>=◌}
 use Rattle.pybuf_slice.specs.Picks.{start_of, stop_of, steps_to, picks}
-use Rattle.pybuf_slice.specs.Parts.{SliceParts, nonzero, step_in, part_in, clamped, clamped_part, clamped_parts, saturated_parts_of, picks_of}
+use Rattle.pybuf_slice.specs.Parts.{SliceParts, nonzero, step_in, part_in, nearest_word, clamped_part, clamped_parts, saturated_parts_of, picks_of}
 use Rattle.pybuf_slice.specs.Laws.{SameAsItsParts, IndicesAgree}
 use Rattle.pybuf_slice.proofs.LawLemmas.{same_when_clamped}
 
@@ -52,7 +52,7 @@ agree_chosen n h (Ok s) (Ok a) (Ok b) moves = steps-picks n a b s ∙ sym (same_
 pub indices_agree : (slice : PySlice) (n : ℕ) → IndicesAgree slice n
 indices_agree slice n = λ h. agree_chosen n h (step_in slice.step) (part_in slice.start) (part_in slice.stop) (step_moves slice.step)
 
-pub same_from_parts : (slice : PySlice) (s : ℤ) (a b : Option ℤ) (v : SliceParts) → step_in slice.step ≡ Ok s → part_in slice.start ≡ Ok a → part_in slice.stop ≡ Ok b → v.start ≡ clamped_part a → v.stop ≡ clamped_part b → v.step ≡ clamped s → SameAsItsParts slice v
+pub same_from_parts : (slice : PySlice) (s : ℤ) (a b : Option ℤ) (v : SliceParts) → step_in slice.step ≡ Ok s → part_in slice.start ≡ Ok a → part_in slice.stop ≡ Ok b → v.start ≡ clamped_part a → v.stop ≡ clamped_part b → v.step ≡ nearest_word s → SameAsItsParts slice v
 same_from_parts slice s a b v es ea eb va vb vs =
     let moves : IfOk (step_in slice.step) (λ step. step ≢ pos 0) = step_moves slice.step in
     let nonzero_step : s ≢ pos 0 = rw es at moves in

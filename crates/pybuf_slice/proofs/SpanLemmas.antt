@@ -8,7 +8,7 @@ use Rattle.std.proofs.lemmas.List.{length-reverse}
 use Rattle.std.proofs.lemmas.Nat.{div-add-mod'}
 use Rattle.std.proofs.lemmas.Bool.{cases_lt}
 use Rattle.std.proofs.lemmas.Bool.Decides.{nat_tests}
-use Rattle.pybuf_slice.specs.Picks.{adjusted, start_of, stop_of, picks, is_negative}
+use Rattle.pybuf_slice.specs.Picks.{adjusted_part, start_of, stop_of, picks, is_negative}
 use Rattle.pybuf_slice.specs.Parts.{SliceParts, picks_of}
 use Rattle.pybuf_slice.specs.Runs.{rising, run_low, run_of, how_many, picks_in_span, span_start, span_limit, span_end}
 use Rattle.pybuf_slice.specs.Reads.{signed_step}
@@ -26,7 +26,7 @@ pub record DownFrom (n : ℕ) (z : ℤ) : Type 0 where
   pub is : z ≡ below top
   pub within : top ≤ n
 
-pub adjusted_up : (n t : ℕ) (a : ℤ) → UpTo n (adjusted n (pos (suc t)) a)
+pub adjusted_up : (n t : ℕ) (a : ℤ) → UpTo n (adjusted_part n (pos (suc t)) a)
 adjusted_up n t (pos a) =
     elim (cases_lt n a) [
       | inl far ↦ record { at = n; is = omega (arith, ints, clamps); within = omega arith }
@@ -38,7 +38,7 @@ adjusted_up n t (negsuc a) =
       | inr under ↦ record { at = 0; is = omega (arith, ints, clamps); within = omega arith }
     ]
 
-pub adjusted_down : (n t : ℕ) (a : ℤ) → DownFrom n (adjusted n (negsuc t) a)
+pub adjusted_down : (n t : ℕ) (a : ℤ) → DownFrom n (adjusted_part n (negsuc t) a)
 adjusted_down zero t (pos a) = record { top = 0; is = refl; within = omega arith }
 adjusted_down (suc n) t (pos a) =
     elim (cases_lt n a) [

@@ -5,7 +5,7 @@ use Rattle.pybuf_value.specs.declared.faults.Fault.TheVariants as fault
 use Rattle.pybuf_value.specs.declared.values.Value.{Value}
 use Rattle.pybuf_value.specs.declared.values.Value.TheVariants as value
 use Rattle.pybuf_value.specs.declared.values.PySlice.{PySlice}
-use Rattle.pybuf_value.specs.Numbers.{number_in, fitted}
+use Rattle.pybuf_value.specs.Numbers.{number_in, fitted_number}
 use Rattle.pybuf_value.specs.Refusing.{◌>>=◌}
 use Rattle.pybuf_slice.specs.declared.keys.SequenceIndex.{SequenceIndex}
 use Rattle.pybuf_slice.specs.declared.keys.SequenceIndex.TheVariants as index
@@ -23,7 +23,7 @@ indices_of (pos n) slice = do
 abbrev pub sequence_index_of : Value → Result SequenceIndex Fault
 sequence_index_of (value.One s) = do
   number ← number_in s
-  place ← fitted fault.Index number
+  place ← fitted_number fault.Index number
   Ok (index.Int place)
 sequence_index_of (value.Slice s) = do
   parts ← saturated_parts_of s

@@ -1,7 +1,7 @@
 -- What the index list of a slice is, beside its definition.
 use Rattle.std.specs.Prelude.{◌≡◌, ◌≢◌, ◌↔◌, ℕ, ◌<◌, ◌^◌, ℤ, pos, ◌+ℤ◌, ◌*ℤ◌, Option, IsTrue, All, AllPairs, Contains, IfOk}
 use Rattle.pybuf_slice.specs.Picks.{start_of, stop_of, comes_before, steps_to, picks}
-use Rattle.pybuf_slice.specs.Parts.{SliceParts, clamped, clamped_part, parts_of, saturated_parts_of, picks_of}
+use Rattle.pybuf_slice.specs.Parts.{SliceParts, nearest_word, clamped_part, parts_of, saturated_parts_of, picks_of}
 use Rattle.pybuf_slice.specs.Indices.{indices_of}
 use Rattle.pybuf_value.specs.declared.values.PySlice.{PySlice}
 
@@ -22,7 +22,7 @@ pub record PicksAre (n : ℕ) (start stop : Option ℤ) (step : ℤ) : Type 0 wh
 -- a sequence that fits in memory has the same indices where each part is the nearest `isize`
 abbrev pub SameWhenClamped : ℕ → Option ℤ → Option ℤ → ℤ → Type 0
 SameWhenClamped n start stop step =
-    n < 2 ^ 63 → picks n (clamped_part start) (clamped_part stop) (clamped step) ≡ picks n start stop step
+    n < 2 ^ 63 → picks n (clamped_part start) (clamped_part stop) (nearest_word step) ≡ picks n start stop step
 
 abbrev pub EachSlice : (ℕ → Option ℤ → Option ℤ → ℤ → Type 0) → Type 0
 EachSlice P = (n : ℕ) (start stop : Option ℤ) (step : ℤ) → step ≢ pos 0 → P n start stop step

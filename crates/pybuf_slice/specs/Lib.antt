@@ -5,3 +5,5 @@ pub mod Places
 pub mod Indices
 pub mod Laws
 pub mod Reads
+pub mod Edits
+pub mod EditLaws

@@ -46,16 +46,16 @@ parts_of slice = do
   Ok (record { start = start; stop = stop; step = step })
 
 -- the nearest number that fits `isize`
-abbrev pub clamped : ℤ → ℤ
-clamped n = saturate_signed w64 n
+abbrev pub nearest_word : ℤ → ℤ
+nearest_word n = saturate_signed w64 n
 
 abbrev pub clamped_part : Option ℤ → Option ℤ
 clamped_part None = None
-clamped_part (Some n) = Some (clamped n)
+clamped_part (Some n) = Some (nearest_word n)
 
 -- each part is the nearest that fits `isize`
 abbrev pub clamped_parts : SliceParts → SliceParts
-clamped_parts parts = record { start = clamped_part parts.start; stop = clamped_part parts.stop; step = clamped parts.step }
+clamped_parts parts = record { start = clamped_part parts.start; stop = clamped_part parts.stop; step = nearest_word parts.step }
 
 -- the clamped parts of a slice, or the first refusal
 abbrev pub saturated_parts_of : PySlice → Result SliceParts Fault

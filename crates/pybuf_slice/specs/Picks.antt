@@ -18,19 +18,19 @@ upper_bound n step = if is_negative step then pos n +ℤ negsuc 0 else pos n
 
 -- a negative part counts from the end, and is raised to the lower bound where it is below; any
 -- other is lowered to the upper bound where it is above
-abbrev pub adjusted : ℕ → ℤ → ℤ → ℤ
-adjusted n step (pos part) = int_min (pos part) (upper_bound n step)
-adjusted n step (negsuc part) = int_max (negsuc part +ℤ pos n) (lower_bound step)
+abbrev pub adjusted_part : ℕ → ℤ → ℤ → ℤ
+adjusted_part n step (pos part) = int_min (pos part) (upper_bound n step)
+adjusted_part n step (negsuc part) = int_max (negsuc part +ℤ pos n) (lower_bound step)
 
 -- an absent start is the end of the sequence that the step leads away from
 abbrev pub start_of : ℕ → Option ℤ → ℤ → ℤ
 start_of n None step = if is_negative step then upper_bound n step else lower_bound step
-start_of n (Some part) step = adjusted n step part
+start_of n (Some part) step = adjusted_part n step part
 
 -- an absent stop is the end of the sequence that the step leads to
 abbrev pub stop_of : ℕ → Option ℤ → ℤ → ℤ
 stop_of n None step = if is_negative step then lower_bound step else upper_bound n step
-stop_of n (Some part) step = adjusted n step part
+stop_of n (Some part) step = adjusted_part n step part
 
 -- whether an index comes before the stop in the direction of the step
 abbrev pub comes_before : ℤ → ℤ → ℤ → Bool

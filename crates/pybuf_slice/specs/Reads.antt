@@ -1,5 +1,5 @@
 -- What is read of a sequence.
-use Rattle.std.specs.Prelude.{ℕ, ℤ, pos, neg_ℤ, Bool, true, false, List, length, Option, None, Some, slice_get}
+use Rattle.std.specs.Prelude.{◌≡◌, ℕ, ℤ, pos, neg_ℤ, Bool, true, false, List, length, Option, None, Some, slice_get}
 use Rattle.std.specs.List.{filter_map}
 use Rattle.std.specs.Option.{option_and_then}
 use Rattle.pybuf_value.specs.declared.faults.Fault.TheVariants as fault
@@ -19,6 +19,13 @@ item_or_index_error (Some item) = outcome.Done item
 -- the element that a number names; a negative one counts from the end
 abbrev pub item_at : {X : Type 0} → List X → ℤ → Outcome X
 item_at items number = item_or_index_error (option_and_then (slice_get items) (item_place (length items) number))
+
+-- both refused alike, or both done with what R holds of
+abbrev pub SameOutcome : {X : Type 0} → (X → X → Type 0) → Outcome X → Outcome X → Type 0
+SameOutcome R (outcome.Refused e) (outcome.Refused f) = f ≡ e
+SameOutcome R (outcome.Done x) (outcome.Done y) = R x y
+SameOutcome R (outcome.Refused e) (outcome.Done y) = ⊥
+SameOutcome R (outcome.Done x) (outcome.Refused f) = ⊥
 
 -- a step of this size, up or down
 abbrev pub signed_step : Bool → ℕ → ℤ

@@ -1,5 +1,5 @@
 -- Numbers at one distance from each other, and the span of a slice in its sequence.
-use Rattle.std.specs.Prelude.{ℕ, zero, suc, ◌+◌, ◌-◌, ◌*◌, ◌/◌, max, Bool, List, [], ◌∷◌, reverse, ℤ, pos, negsuc, ◌+ℤ◌, nat_abs, nat_lt, if◌then◌else◌}
+use Rattle.std.specs.Prelude.{⊤, ℕ, zero, suc, ◌+◌, ◌-◌, ◌*◌, ◌/◌, ◌≤◌, max, Bool, List, [], ◌∷◌, reverse, ℤ, pos, negsuc, ◌+ℤ◌, nat_abs, nat_lt, if◌then◌else◌}
 use Rattle.pybuf_slice.specs.Picks.{is_negative, start_of, stop_of, steps_to}
 use Rattle.pybuf_slice.specs.Parts.{SliceParts}
 
@@ -46,3 +46,8 @@ picks_in_span low high step =
 -- the least number of a run of so many indices in a span: where they fall, the last of them
 abbrev pub run_low : Bool → ℕ → ℕ → ℕ → ℕ → ℕ
 run_low falls low high stride count = if falls then high - 1 - (count - 1) * stride else low
+
+-- each number is above the one before it, and none below the first bound
+abbrev pub IsRisingFrom : ℕ → List ℕ → Type 0
+IsRisingFrom n [] = ⊤
+IsRisingFrom n (i ∷ indices) = (n ≤ i) × IsRisingFrom (suc i) indices

@@ -1,5 +1,6 @@
-//! What holds of the indices of every slice.
-ghost use Rattle.std.specs.Prelude.{ℕ};
+//! What holds of the indices of every slice, and of edits by them.
+ghost use Rattle.std.specs.Prelude.{ℕ, ℤ, List, Option};
+ghost use Rattle.pybuf_slice.specs.EditLaws.{SlicePartsList};
 ghost use Rattle.pybuf_value.specs.declared.values.PySlice.{PySlice};
 ghost use Rattle.pybuf_slice.specs.Laws.{EachSlice, PicksAre, SameWhenClamped, IndicesAgree};
 
@@ -20,4 +21,10 @@ pub fn clamping_changes_no_index()
 /// has, whose number `adjust_indices` gives.
 pub fn indices_and_adjust_indices_agree()
     ensures { (slice : PySlice) (n : ℕ) → IndicesAgree slice n }
+{}
+
+/// Reading by a slice and deleting by it part a list in two: each element is in exactly one of the
+/// two. What stays is in the order of the list, and what is read is in the direction of the step.
+pub fn reading_and_deleting_part_a_list<T>()
+    ensures { (items : List T) (start stop : Option ℤ) (step : ℤ) → SlicePartsList items start stop step }
 {}

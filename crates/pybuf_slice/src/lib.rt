@@ -1,16 +1,23 @@
 //! Python's slice rule: the indices of a slice, and reading a sequence by them.
 #![tactic(auto)]
 
+mod edit_ops;
+mod edits;
 mod iter;
 mod keys;
 mod laws;
+mod repeats;
 mod saturated;
 mod sequence;
 pub mod slices;
 
+pub use edit_ops::{SequenceExt, SequenceMutExt, SliceableSequenceMutOp};
 pub use iter::SaturatedSliceIter;
 pub use keys::{OptionalRangeArgs, SequenceIndex, SequenceIndexOp, SliceIndices};
-pub use laws::{clamping_changes_no_index, indices_and_adjust_indices_agree, indices_of_a_slice};
+pub use laws::{
+    clamping_changes_no_index, indices_and_adjust_indices_agree, indices_of_a_slice,
+    reading_and_deleting_part_a_list,
+};
 pub use saturated::SaturatedSlice;
 pub use sequence::SliceableSequenceOp;
 

@@ -3,7 +3,7 @@ ghost use Rattle.std.specs.Prelude.{◌≡◌, ◌<◌, ◌≤◌, ◌^◌, ◌�
 ghost use Rattle.pybuf_value.specs.declared.faults.Fault.{Fault};
 ghost use Rattle.pybuf_slice.specs.Parts.{SliceParts, IsSaturated, FitsPart, saturated_parts_of, part_in, step_in, clamped_part, picks_of};
 ghost use Rattle.pybuf_slice.specs.Laws.{SameAsItsParts};
-ghost use Rattle.pybuf_slice.specs.Picks.{adjusted, start_of, stop_of, lower_bound, upper_bound};
+ghost use Rattle.pybuf_slice.specs.Picks.{adjusted_part, start_of, stop_of, lower_bound, upper_bound};
 ghost use Rattle.pybuf_slice.specs.Runs.{span_start, span_limit, span_end, how_many, picks_in_span};
 
 use crate::iter::SaturatedSliceIter;
@@ -146,7 +146,7 @@ fn widened(part: Option<isize>) -> Option<i128>
 /// end.
 fn placed(length: i128, part: i128, step: i128) -> i128
     requires { pos 0 ≤ℤ length }
-    ensures place { result ≡ adjusted (nat_abs length) step part }
+    ensures place { result ≡ adjusted_part (nat_abs length) step part }
     ensures low { lower_bound step ≤ℤ result }
     ensures high { result ≤ℤ upper_bound (nat_abs length) step }
 {

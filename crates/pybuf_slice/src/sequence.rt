@@ -1,9 +1,10 @@
 //! Reading a sequence by indices.
-ghost use Rattle.std.specs.Prelude.{◌≡◌, ◌<◌, ◌≤◌, ◌^◌, ℕ, ℤ, List, [], length, reverse, IfOk, OnErr, IsSome, Some, true, false, slice_get, slice_range};
+ghost use Rattle.std.specs.Prelude.{◌≡◌, ◌<◌, ◌≤◌, ◌^◌, ℕ, ℤ, List, [], length, reverse, IfOk, OnErr, IsSome, IsSomeAnd, true, false, slice_get, slice_range};
 ghost use Rattle.pybuf_slice.specs.Parts.{SliceParts, picks_of};
 ghost use Rattle.pybuf_slice.specs.Places.{saturated_place, item_place};
 ghost use Rattle.pybuf_slice.specs.Runs.{picks_in_span};
-ghost use Rattle.pybuf_slice.specs.Reads.{elements_at, item_at, signed_step};
+ghost use Rattle.std.specs.List.{AllZip};
+ghost use Rattle.pybuf_slice.specs.Reads.{elements_at, item_at, signed_step, SameOutcome};
 
 use crate::saturated::SaturatedSlice;
 use crate::slices;
@@ -11,29 +12,28 @@ use pybuf_value::{Made, Tried, Twin};
 use std::alloc::Global;
 use std::ops::Range;
 
-/// A sequence whose elements are read by numbers and slices. An element that is read is an equal
-/// copy. Only want of memory makes a call fail.
+/// A sequence whose elements are read by numbers and slices. An element that is read is a copy. Only want of memory makes a call fail.
 pub trait SliceableSequenceOp: Sized {
-    type Item;
+    type Item: Twin;
 
     ghost elements: { Self → List Self.Item };
 
     /// The element at a place.
     fn do_get(&self, alloc: Global, index: usize) -> Made<Self::Item>
         requires { index < length (elements self.now) }
-        ensures { IfOk result (λ item. Some item ≡ slice_get (elements self.now) index) };
+        ensures { IfOk result (λ item. IsSomeAnd (slice_get (elements self.now) index) (λ source. Self.Item.same source item)) };
 
     /// The elements of a range.
     fn do_slice(&self, alloc: Global, range: Range<usize>) -> Made<Vec<Self::Item>>
         requires ordered { range.start ≤ range.end }
         requires inside { range.end ≤ length (elements self.now) }
-        ensures { IfOk result (λ list. list.items ≡ slice_range (elements self.now) range.start range.end) };
+        ensures { IfOk result (λ list. AllZip Self.Item.same (slice_range (elements self.now) range.start range.end) list.items) };
 
     /// The elements of a range, the last first.
     fn do_slice_reverse(&self, alloc: Global, range: Range<usize>) -> Made<Vec<Self::Item>>
         requires ordered { range.start ≤ range.end }
         requires inside { range.end ≤ length (elements self.now) }
-        ensures { IfOk result (λ list. list.items ≡ reverse (slice_range (elements self.now) range.start range.end)) };
+        ensures { IfOk result (λ list. AllZip Self.Item.same (reverse (slice_range (elements self.now) range.start range.end)) list.items) };
 
     /// Every `step`-th element of a range, from its first.
     fn do_stepped_slice(
@@ -46,7 +46,7 @@ pub trait SliceableSequenceOp: Sized {
         requires inside { range.end ≤ length (elements self.now) }
         requires in_memory { length (elements self.now) < 2 ^ 63 }
         requires moves { 0 < step }
-        ensures { IfOk result (λ list. list.items ≡ elements_at (elements self.now) (picks_in_span range.start range.end (signed_step false step))) };
+        ensures { IfOk result (λ list. AllZip Self.Item.same (elements_at (elements self.now) (picks_in_span range.start range.end (signed_step false step))) list.items) };
 
     /// Every `step`-th element of a range, from its last down.
     fn do_stepped_slice_reverse(
@@ -59,7 +59,7 @@ pub trait SliceableSequenceOp: Sized {
         requires inside { range.end ≤ length (elements self.now) }
         requires in_memory { length (elements self.now) < 2 ^ 63 }
         requires moves { 0 < step }
-        ensures { IfOk result (λ list. list.items ≡ elements_at (elements self.now) (picks_in_span range.start range.end (signed_step true step))) };
+        ensures { IfOk result (λ list. AllZip Self.Item.same (elements_at (elements self.now) (picks_in_span range.start range.end (signed_step true step))) list.items) };
 
     /// No elements. Takes no memory.
     fn empty(alloc: Global) -> Vec<Self::Item>
@@ -82,17 +82,17 @@ pub trait SliceableSequenceOp: Sized {
     /// The elements at the indices of a slice, in their order.
     fn getitem_by_slice(&self, alloc: Global, slice: SaturatedSlice) -> Made<Vec<Self::Item>>
         requires { length (elements self.now) < 2 ^ 63 }
-        ensures { IfOk result (λ list. list.items ≡ elements_at (elements self.now) (picks_of (length (elements self.now)) slice)) };
+        ensures { IfOk result (λ list. AllZip Self.Item.same (elements_at (elements self.now) (picks_of (length (elements self.now)) slice)) list.items) };
 
     /// The element that a number names. Refused with `IndexError` exactly where there is none,
     /// and memory is taken only where there is one.
     fn getitem_by_index(&self, alloc: Global, index: isize) -> Tried<Self::Item>
         requires { length (elements self.now) < 2 ^ 63 }
-        ensures item { IfOk result (λ outcome. outcome ≡ item_at (elements self.now) index) }
+        ensures item { IfOk result (λ outcome. SameOutcome Self.Item.same (item_at (elements self.now) index) outcome) }
         ensures memory { OnErr result (IsSome (item_place (length (elements self.now)) index)) };
 }
 
-impl<T: Twin + Drop> SliceableSequenceOp for Vec<T> {
+impl<T: Twin> SliceableSequenceOp for Vec<T> {
     type Item = T;
 
     ghost elements = { λ list. list.items };

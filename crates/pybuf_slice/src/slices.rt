@@ -1,9 +1,12 @@
-//! Reading a slice of elements by indices. Only want of memory makes a call fail.
-ghost use Rattle.std.specs.Prelude.{◌≡◌, ◌<◌, ◌≤◌, ◌^◌, ℕ, List, [], length, reverse, All, IfOk, OnErr, IsSome, Some, true, false, pos, slice_get, slice_range};
+//! Reading and writing a slice of elements by indices. What is read and what is written are copies.
+ghost use Rattle.std.specs.Prelude.{◌≡◌, ◌≢◌, ◌<◌, ◌≤◌, ◌^◌, ℕ, List, [], length, reverse, All, IfOk, OnOk, OnErr, IsSome, IsSomeAnd, true, false, pos, slice_get, slice_set, slice_range, Result, Option};
+ghost use Rattle.pybuf_value.specs.declared.faults.Fault.TheVariants as fault;
+ghost use Rattle.pybuf_slice.specs.Edits.{set_at, set_if_named, named_or_index_error, done_if_equal, assigned_list, MatchOutcome};
 ghost use Rattle.pybuf_slice.specs.Parts.{SliceParts, picks_of};
 ghost use Rattle.pybuf_slice.specs.Places.{saturated_place, item_place};
 ghost use Rattle.pybuf_slice.specs.Runs.{picks_in_span};
-ghost use Rattle.pybuf_slice.specs.Reads.{elements_at, item_at, signed_step};
+ghost use Rattle.std.specs.List.{AllZip};
+ghost use Rattle.pybuf_slice.specs.Reads.{elements_at, item_at, signed_step, SameOutcome};
 
 use crate::iter::SaturatedSliceIter;
 use crate::keys::SequenceIndexOp;
@@ -15,29 +18,25 @@ use std::ops::Range;
 /// The element at a place.
 pub fn do_get<T: Twin>(alloc: Global, items: &[T], index: usize) -> Made<T>
     requires { index < length items.now }
-    ensures { IfOk result (λ item. Some item ≡ slice_get items.now index) }
+    ensures { IfOk result (λ item. IsSomeAnd (slice_get items.now index) (λ source. T.same source item)) }
 {
     items[index].copy(alloc)
 }
 
 /// The elements of a range.
-pub fn do_slice<T: Twin + Drop>(alloc: Global, items: &[T], range: Range<usize>) -> Made<Vec<T>>
+pub fn do_slice<T: Twin>(alloc: Global, items: &[T], range: Range<usize>) -> Made<Vec<T>>
     requires ordered { range.start ≤ range.end }
     requires inside { range.end ≤ length items.now }
-    ensures { IfOk result (λ list. list.items ≡ slice_range items.now range.start range.end) }
+    ensures { IfOk result (λ list. AllZip T.same (slice_range items.now range.start range.end) list.items) }
 {
     copy_all(alloc, &items[range])
 }
 
 /// The elements of a range, the last first.
-pub fn do_slice_reverse<T: Twin + Drop>(
-    alloc: Global,
-    items: &[T],
-    range: Range<usize>,
-) -> Made<Vec<T>>
+pub fn do_slice_reverse<T: Twin>(alloc: Global, items: &[T], range: Range<usize>) -> Made<Vec<T>>
     requires ordered { range.start ≤ range.end }
     requires inside { range.end ≤ length items.now }
-    ensures { IfOk result (λ list. list.items ≡ reverse (slice_range items.now range.start range.end)) }
+    ensures { IfOk result (λ list. AllZip T.same (reverse (slice_range items.now range.start range.end)) list.items) }
 {
     let mut list = do_slice(alloc, items, range)?;
     list.reverse();
@@ -45,7 +44,7 @@ pub fn do_slice_reverse<T: Twin + Drop>(
 }
 
 /// Every `step`-th element of a range, from its first.
-pub fn do_stepped_slice<T: Twin + Drop>(
+pub fn do_stepped_slice<T: Twin>(
     alloc: Global,
     items: &[T],
     range: Range<usize>,
@@ -55,7 +54,7 @@ pub fn do_stepped_slice<T: Twin + Drop>(
     requires inside { range.end ≤ length items.now }
     requires in_memory { length items.now < 2 ^ 63 }
     requires moves { 0 < step }
-    ensures { IfOk result (λ list. list.items ≡ elements_at items.now (picks_in_span range.start range.end (signed_step false step))) }
+    ensures { IfOk result (λ list. AllZip T.same (elements_at items.now (picks_in_span range.start range.end (signed_step false step))) list.items) }
 {
     gather(
         alloc,
@@ -65,7 +64,7 @@ pub fn do_stepped_slice<T: Twin + Drop>(
 }
 
 /// Every `step`-th element of a range, from its last down.
-pub fn do_stepped_slice_reverse<T: Twin + Drop>(
+pub fn do_stepped_slice_reverse<T: Twin>(
     alloc: Global,
     items: &[T],
     range: Range<usize>,
@@ -75,7 +74,7 @@ pub fn do_stepped_slice_reverse<T: Twin + Drop>(
     requires inside { range.end ≤ length items.now }
     requires in_memory { length items.now < 2 ^ 63 }
     requires moves { 0 < step }
-    ensures { IfOk result (λ list. list.items ≡ elements_at items.now (picks_in_span range.start range.end (signed_step true step))) }
+    ensures { IfOk result (λ list. AllZip T.same (elements_at items.now (picks_in_span range.start range.end (signed_step true step))) list.items) }
 {
     gather(alloc, items, SaturatedSliceIter::in_span(range, step, true))
 }
@@ -111,13 +110,9 @@ pub fn saturate_index<T>(items: &[T], p: isize) -> usize
 }
 
 /// The elements at the indices of a slice, in their order.
-pub fn getitem_by_slice<T: Twin + Drop>(
-    alloc: Global,
-    items: &[T],
-    slice: SaturatedSlice,
-) -> Made<Vec<T>>
+pub fn getitem_by_slice<T: Twin>(alloc: Global, items: &[T], slice: SaturatedSlice) -> Made<Vec<T>>
     requires { length items.now < 2 ^ 63 }
-    ensures { IfOk result (λ list. list.items ≡ elements_at items.now (picks_of (length items.now) slice)) }
+    ensures { IfOk result (λ list. AllZip T.same (elements_at items.now (picks_of (length items.now) slice)) list.items) }
 {
     let (range, step, _) = slice.adjust_indices(items.len());
     if step == 1 {
@@ -130,7 +125,7 @@ pub fn getitem_by_slice<T: Twin + Drop>(
 /// memory is taken only where there is one.
 pub fn getitem_by_index<T: Twin>(alloc: Global, items: &[T], index: isize) -> Tried<T>
     requires { length items.now < 2 ^ 63 }
-    ensures item { IfOk result (λ outcome. outcome ≡ item_at items.now index) }
+    ensures item { IfOk result (λ outcome. SameOutcome T.same (item_at items.now index) outcome) }
     ensures memory { OnErr result (IsSome (item_place (length items.now) index)) }
 {
     match wrap_index(items, index) {
@@ -143,17 +138,118 @@ pub fn getitem_by_index<T: Twin>(alloc: Global, items: &[T], index: isize) -> Tr
 }
 
 /// The elements at indices, in their order.
-fn gather<T: Twin + Drop>(
-    alloc: Global,
-    items: &[T],
-    mut indexes: SaturatedSliceIter,
-) -> Made<Vec<T>>
+fn gather<T: Twin>(alloc: Global, items: &[T], mut indexes: SaturatedSliceIter) -> Made<Vec<T>>
     requires { All (λ i. i < length items.now) indexes }
-    ensures { IfOk result (λ list. list.items ≡ elements_at items.now indexes) }
+    ensures { IfOk result (λ list. AllZip T.same (elements_at items.now indexes) list.items) }
 {
     let mut list = Vec::with_capacity(alloc, indexes.len())?;
     while let Some(index) = indexes.next() {
         list.push(items[index].copy(alloc)?)?;
     }
     Ok(list)
+}
+
+/// Puts a value in the place of an element.
+pub fn do_set<T: Twin>(items: &mut [T], index: usize, value: T)
+    requires { index < length items.old }
+    ensures { items.new ≡ slice_set items.old index value }
+{
+    items[index] = value;
+}
+
+/// Puts copies of the items at as many indices. Where memory runs out, the elements are as before.
+pub fn do_set_indexes<T: Twin>(
+    alloc: Global,
+    places: &mut [T],
+    indexes: SaturatedSliceIter,
+    items: &[T],
+) -> Made<()>
+    requires count { length indexes ≡ length items.now }
+    requires inside { All (λ i. i < length places.old) indexes }
+    ensures ok { OnOk result ((copies : List T) × AllZip T.same items.now copies × (places.new ≡ set_at places.old indexes copies)) }
+    ensures err { OnErr result (places.new ≡ places.old) }
+{
+    let copies = copy_all(alloc, items)?;
+    scatter(places, indexes, copies);
+    Ok(())
+}
+
+/// Puts the elements of a list at as many indices.
+fn scatter<T: Twin>(places: &mut [T], mut indexes: SaturatedSliceIter, others: Vec<T>)
+    requires count { length indexes ≡ length others.items }
+    requires inside { All (λ i. i < length places.old) indexes }
+    ensures { places.new ≡ set_at places.old indexes others.items }
+{
+    let mut rest = others.into_iter();
+    while let Some(index) = indexes.next() {
+        if let Some(item) = rest.next() {
+            places[index] = item;
+        }
+    }
+}
+
+/// Puts a value in the place of the element that a number names. Refused with `IndexError` exactly
+/// where there is none.
+pub fn setitem_by_index<T: Twin>(items: &mut [T], index: isize, value: T) -> Result<(), Fault>
+    requires { length items.old < 2 ^ 63 }
+    ensures answer { result ≡ named_or_index_error (item_place (length items.old) index) }
+    ensures list { items.new ≡ set_if_named items.old (item_place (length items.old) index) value }
+{
+    match wrap_index(items, index) {
+        None => Err(Fault::Index),
+        Some(place) => {
+            items[place] = value;
+            Ok(())
+        }
+    }
+}
+
+/// Puts copies of the items in place of as many elements of a slice.
+///
+/// Refused with `BufferError` exactly where there are not as many items as indices. After a refusal,
+/// or where memory runs out, the elements are as before.
+pub fn setitem_by_slice_no_resize<T: Twin>(
+    alloc: Global,
+    places: &mut [T],
+    slice: SaturatedSlice,
+    items: &[T],
+) -> Tried<()>
+    requires { length places.old < 2 ^ 63 }
+    ensures answer { IfOk result (λ outcome. outcome ≡ done_if_equal fault.Buffer (length (picks_of (length places.old) slice)) (length items.now)) }
+    ensures change { IfOk result (λ outcome. MatchOutcome outcome ((copies : List T) × AllZip T.same items.now copies × (places.new ≡ assigned_list places.old slice copies)) (places.new ≡ places.old)) }
+    ensures memory { OnErr result (places.new ≡ places.old) }
+{
+    let (range, step, count) = slice.adjust_indices(places.len());
+    if step != 1 {
+        return set_extended(alloc, places, slice, items, count, Fault::Buffer);
+    }
+    if count != items.len() {
+        return Ok(Outcome::Refused(Fault::Buffer));
+    }
+    T::write_copies(alloc, items, &mut places[range])?;
+    Ok(Outcome::Done(()))
+}
+
+/// Puts copies of the items at as many indices of a slice. Refused where there are not as many.
+pub(crate) fn set_extended<T: Twin>(
+    alloc: Global,
+    places: &mut [T],
+    slice: SaturatedSlice,
+    items: &[T],
+    count: usize,
+    refusal: Fault,
+) -> Tried<()>
+    requires in_memory { length places.old < 2 ^ 63 }
+    requires moves { slice.step ≢ pos 0 }
+    requires count { count ≡ length (picks_of (length places.old) slice) }
+    ensures answer { IfOk result (λ outcome. outcome ≡ done_if_equal refusal (length (picks_of (length places.old) slice)) (length items.now)) }
+    ensures change { IfOk result (λ outcome. MatchOutcome outcome ((copies : List T) × AllZip T.same items.now copies × (places.new ≡ set_at places.old (picks_of (length places.old) slice) copies)) (places.new ≡ places.old)) }
+    ensures memory { OnErr result (places.new ≡ places.old) }
+{
+    if count != items.len() {
+        return Ok(Outcome::Refused(refusal));
+    }
+    let indexes = slice.iter(places.len());
+    do_set_indexes(alloc, places, indexes, items)?;
+    Ok(Outcome::Done(()))
 }

@@ -10,11 +10,11 @@ use Rattle.pybuf_slice.proofs.slices.getitem_by_slice.Goals as goal
 
 pub returns-then-step-eq1 : goal.returns-then-step-eq1
 returns-then-step-eq1 g c =
-    let adjusted = c.adjust_indices-step.ensures in
-    let one = adjusted.step ∙ one_from_bits c.args.slice.step adjusted.saturated.step (ap (of_z w64) (sym adjusted.step) ∙ c.if-step-eq1.true) in
+    let adjusted_part = c.adjust_indices-step.ensures in
+    let one = adjusted_part.step ∙ one_from_bits c.args.slice.step adjusted_part.saturated.step (ap (of_z w64) (sym adjusted_part.step) ∙ c.if-step-eq1.true) in
     let range : elements_at c.args.items.now (picks_of (length c.args.items.now) c.args.slice) ≡ slice_range c.args.items.now c.adjust_indices-step.result.0.start c.adjust_indices-step.result.0.end =
-    ap (elements_at c.args.items.now) (sym adjusted.picks)
-    ∙ elements_by_one c.args.items.now c.adjust_indices-step.result.0.start c.adjust_indices-step.result.0.end c.adjust_indices-step.result.1 one adjusted.ordered adjusted.within in
+    ap (elements_at c.args.items.now) (sym adjusted_part.picks)
+    ∙ elements_by_one c.args.items.now c.adjust_indices-step.result.0.start c.adjust_indices-step.result.0.end c.adjust_indices-step.result.1 one adjusted_part.ordered adjusted_part.within in
     rw range c.do_slice.ensures
 
 pub gather-requires : goal.gather-requires

@@ -3,7 +3,7 @@ use Rattle.std.proofs.Common.{ap, sym, ◌∙◌, rules}
 use Rattle.std.specs.Prelude.{FitsSigned}
 use Rattle.std.specs.Int.{w64, w128}
 use Rattle.std.proofs.lemmas.Int.{to_z-of_z}
-use Rattle.pybuf_slice.specs.Parts.{clamped}
+use Rattle.pybuf_slice.specs.Parts.{nearest_word}
 use Rattle.pybuf_slice.proofs.PartLemmas.{same_from_parts}
 use Rattle.pybuf_slice.proofs.saturated.SaturatedSlice.with_slice.Goals as goal
 
@@ -14,4 +14,4 @@ returns-clause-indices c =
     same_from_parts c.args.slice.now c.in_ok-step.step c.in_ok-start.start c.in_ok-stop.stop _
     (sym (c.in_ok-step.ensures)) (sym (c.in_ok-start.ensures)) (sym (c.in_ok-stop.ensures))
     c.saturated_part.ensures.clamped c.saturated_part-2.ensures.clamped
-    (to_z-of_z w64 c.saturate.result fits ∙ c.saturate.ensures ∙ ap clamped (to_z-of_z w128 c.in_ok-step.step wide))
+    (to_z-of_z w64 c.saturate.result fits ∙ c.saturate.ensures ∙ ap nearest_word (to_z-of_z w128 c.in_ok-step.step wide))

@@ -1,0 +1,217 @@
+//! Sequences that are edited by indices.
+ghost use Rattle.std.specs.Prelude.{◌≡◌, ◌+◌, ◌*◌, ◌<◌, ◌≤◌, ◌^◌, List, [], ◌∷◌, length, All, IfOk, OnOk, OnErr, Result, Option, slice_set};
+ghost use Rattle.std.specs.List.{AllZip};
+ghost use Rattle.std.specs.List.Sorted.{IsStrictlyIncreasing};
+ghost use Rattle.pybuf_value.specs.declared.faults.Fault.TheVariants as fault;
+ghost use Rattle.pybuf_slice.specs.Parts.{SliceParts, picks_of};
+ghost use Rattle.pybuf_slice.specs.Places.{item_place};
+ghost use Rattle.pybuf_slice.specs.Edits.{replaced_range, set_at, elements_off, named_or_index_error, set_if_named, deleted_if_named, done_if_equal, assign_answer, assigned_list, MatchOutcome, times, repeat_answer, fits_answer, SameLists, IsRepeated};
+
+use crate::iter::SaturatedSliceIter;
+use crate::saturated::SaturatedSlice;
+use crate::sequence::SliceableSequenceOp;
+use crate::{edits, repeats, slices};
+use pybuf_value::{Fault, Made, Tried, Twin};
+use std::alloc::Global;
+use std::ops::Range;
+
+/// A sequence whose elements are set, deleted and replaced by numbers, ranges and slices. Elements
+/// that stay are the very same, and elements that come from a slice are copies. After a refusal, or
+/// where memory runs out, the sequence is as before.
+pub trait SliceableSequenceMutOp: SliceableSequenceOp {
+    /// Puts a value in the place of an element.
+    fn do_set(&mut self, index: usize, value: Self::Item)
+        requires { index < length (Self.elements self.old) }
+        ensures { Self.elements self.new ≡ slice_set (Self.elements self.old) index value };
+
+    /// Takes the element at a place out.
+    fn do_delete(&mut self, index: usize)
+        requires { index < length (Self.elements self.old) }
+        ensures { Self.elements self.new ≡ elements_off (Self.elements self.old) (index ∷ []) };
+
+    /// Puts copies of the items in place of the elements of a range.
+    fn do_set_range(&mut self, alloc: Global, range: Range<usize>, items: &[Self::Item]) -> Made<()>
+        requires ordered { range.start ≤ range.end }
+        requires inside { range.end ≤ length (Self.elements self.old) }
+        ensures ok { OnOk result ((copies : List Self.Item) × AllZip Self.Item.same items.now copies × (Self.elements self.new ≡ replaced_range (Self.elements self.old) range.start range.end copies)) }
+        ensures err { OnErr result (Self.elements self.new ≡ Self.elements self.old) };
+
+    /// Takes the elements of a range out.
+    fn do_delete_range(&mut self, range: Range<usize>)
+        requires ordered { range.start ≤ range.end }
+        requires inside { range.end ≤ length (Self.elements self.old) }
+        ensures { Self.elements self.new ≡ replaced_range (Self.elements self.old) range.start range.end [] };
+
+    /// Puts copies of the items at as many indices.
+    fn do_set_indexes(
+        &mut self,
+        alloc: Global,
+        indexes: SaturatedSliceIter,
+        items: &[Self::Item],
+    ) -> Made<()>
+        requires count { length indexes ≡ length items.now }
+        requires inside { All (λ i. i < length (Self.elements self.old)) indexes }
+        ensures ok { OnOk result ((copies : List Self.Item) × AllZip Self.Item.same items.now copies × (Self.elements self.new ≡ set_at (Self.elements self.old) indexes copies)) }
+        ensures err { OnErr result (Self.elements self.new ≡ Self.elements self.old) };
+
+    /// Takes the elements at rising indices of a range out.
+    fn do_delete_indexes(&mut self, range: Range<usize>, indexes: SaturatedSliceIter)
+        requires ordered { range.start ≤ range.end }
+        requires inside { range.end ≤ length (Self.elements self.old) }
+        requires rising { IsStrictlyIncreasing indexes }
+        requires within { All (λ i. (range.start ≤ i) × (i < range.end)) indexes }
+        ensures { Self.elements self.new ≡ elements_off (Self.elements self.old) indexes };
+
+    /// Puts a value in the place of the element that a number names. Refused with `IndexError`
+    /// exactly where there is none.
+    fn setitem_by_index(&mut self, index: isize, value: Self::Item) -> Result<(), Fault>
+        requires { length (Self.elements self.old) < 2 ^ 63 }
+        ensures answer { result ≡ named_or_index_error (item_place (length (Self.elements self.old)) index) }
+        ensures list { Self.elements self.new ≡ set_if_named (Self.elements self.old) (item_place (length (Self.elements self.old)) index) value };
+
+    /// Takes the element that a number names out. Refused with `IndexError` exactly where there is
+    /// none.
+    fn delitem_by_index(&mut self, index: isize) -> Result<(), Fault>
+        requires { length (Self.elements self.old) < 2 ^ 63 }
+        ensures answer { result ≡ named_or_index_error (item_place (length (Self.elements self.old)) index) }
+        ensures list { Self.elements self.new ≡ deleted_if_named (Self.elements self.old) (item_place (length (Self.elements self.old)) index) };
+
+    /// Puts copies of the items in place of the elements of a slice: any number where the step is 1,
+    /// and then the length may change.
+    ///
+    /// Refused with `ValueError` exactly where the step isn't 1 and there are not as many items as
+    /// indices.
+    fn setitem_by_slice(
+        &mut self,
+        alloc: Global,
+        slice: SaturatedSlice,
+        items: &[Self::Item],
+    ) -> Tried<()>
+        requires { length (Self.elements self.old) < 2 ^ 63 }
+        ensures answer { IfOk result (λ outcome. outcome ≡ assign_answer (length (Self.elements self.old)) slice (length items.now)) }
+        ensures change { IfOk result (λ outcome. MatchOutcome outcome ((copies : List Self.Item) × AllZip Self.Item.same items.now copies × (Self.elements self.new ≡ assigned_list (Self.elements self.old) slice copies)) (Self.elements self.new ≡ Self.elements self.old)) }
+        ensures memory { OnErr result (Self.elements self.new ≡ Self.elements self.old) };
+
+    /// Puts copies of the items in place of as many elements of a slice. Refused with `BufferError`
+    /// exactly where there are not as many items as indices.
+    fn setitem_by_slice_no_resize(
+        &mut self,
+        alloc: Global,
+        slice: SaturatedSlice,
+        items: &[Self::Item],
+    ) -> Tried<()>
+        requires { length (Self.elements self.old) < 2 ^ 63 }
+        ensures answer { IfOk result (λ outcome. outcome ≡ done_if_equal fault.Buffer (length (picks_of (length (Self.elements self.old)) slice)) (length items.now)) }
+        ensures change { IfOk result (λ outcome. MatchOutcome outcome ((copies : List Self.Item) × AllZip Self.Item.same items.now copies × (Self.elements self.new ≡ assigned_list (Self.elements self.old) slice copies)) (Self.elements self.new ≡ Self.elements self.old)) }
+        ensures memory { OnErr result (Self.elements self.new ≡ Self.elements self.old) };
+
+    /// Takes the elements at the indices of a slice out. Takes no memory.
+    fn delitem_by_slice(&mut self, slice: SaturatedSlice)
+        requires { length (Self.elements self.old) < 2 ^ 63 }
+        ensures { Self.elements self.new ≡ elements_off (Self.elements self.old) (picks_of (length (Self.elements self.old)) slice) };
+}
+
+impl<T: Twin> SliceableSequenceMutOp for Vec<T> {
+    fn do_set(&mut self, index: usize, value: T) {
+        self[index] = value;
+    }
+
+    fn do_delete(&mut self, index: usize) {
+        edits::do_delete(self, index);
+    }
+
+    fn do_set_range(&mut self, alloc: Global, range: Range<usize>, items: &[T]) -> Made<()> {
+        edits::do_set_range(self, alloc, range, items)
+    }
+
+    fn do_delete_range(&mut self, range: Range<usize>) {
+        edits::do_delete_range(self, range);
+    }
+
+    fn do_set_indexes(
+        &mut self,
+        alloc: Global,
+        indexes: SaturatedSliceIter,
+        items: &[T],
+    ) -> Made<()> {
+        slices::do_set_indexes(alloc, self.as_mut_slice(), indexes, items)
+    }
+
+    fn do_delete_indexes(&mut self, range: Range<usize>, indexes: SaturatedSliceIter) {
+        edits::do_delete_indexes(self, range, indexes);
+    }
+
+    fn setitem_by_index(&mut self, index: isize, value: T) -> Result<(), Fault> {
+        slices::setitem_by_index(self.as_mut_slice(), index, value)
+    }
+
+    fn delitem_by_index(&mut self, index: isize) -> Result<(), Fault> {
+        edits::delitem_by_index(self, index)
+    }
+
+    fn setitem_by_slice(&mut self, alloc: Global, slice: SaturatedSlice, items: &[T]) -> Tried<()> {
+        edits::setitem_by_slice(self, alloc, slice, items)
+    }
+
+    fn setitem_by_slice_no_resize(
+        &mut self,
+        alloc: Global,
+        slice: SaturatedSlice,
+        items: &[T],
+    ) -> Tried<()> {
+        slices::setitem_by_slice_no_resize(alloc, self.as_mut_slice(), slice, items)
+    }
+
+    fn delitem_by_slice(&mut self, slice: SaturatedSlice) {
+        edits::delitem_by_slice(self, slice);
+    }
+}
+
+/// A sequence that is repeated.
+pub trait SequenceExt: SliceableSequenceOp {
+    /// Copies of the elements, `n` times one after another, none where `n` is negative.
+    ///
+    /// Refused with `OverflowError` exactly where the length times `n` passes `isize::MAX`; memory is
+    /// taken only where it doesn't.
+    fn mul(&self, alloc: Global, n: isize) -> Tried<Vec<Self::Item>>
+        requires { length (Self.elements self.now) < 2 ^ 63 }
+        ensures list { IfOk result (λ outcome. SameLists Self.Item.same (repeat_answer (Self.elements self.now) n) outcome) }
+        ensures memory { OnErr result (length (Self.elements self.now) * times n < 2 ^ 63) };
+}
+
+impl<T: Twin> SequenceExt for Vec<T> {
+    fn mul(&self, alloc: Global, n: isize) -> Tried<Vec<T>> {
+        repeats::mul(alloc, self.as_slice(), n)
+    }
+}
+
+/// A sequence that is repeated in place.
+pub trait SequenceMutExt: SliceableSequenceOp {
+    /// The vector of the elements.
+    fn as_vec_mut(&mut self) -> &mut Vec<Self::Item>
+        ensures { result.now.items ≡ Self.elements self.old };
+
+    /// Puts copies of the elements behind them, so that the sequence stands there `n` times, and not
+    /// at all where `n` is negative.
+    ///
+    /// Refused with `OverflowError` exactly where the length times `n` passes `isize::MAX`. After a
+    /// refusal, or where memory runs out, the sequence is as before.
+    fn imul(&mut self, alloc: Global, n: isize) -> Tried<()>
+        requires { length (Self.elements self.old) < 2 ^ 63 }
+        ensures answer { IfOk result (λ outcome. outcome ≡ fits_answer (length (Self.elements self.old) * times n)) }
+        ensures change { IfOk result (λ outcome. MatchOutcome outcome (IsRepeated Self.Item.same (Self.elements self.old) (times n) (Self.elements self.new)) (Self.elements self.new ≡ Self.elements self.old)) }
+        ensures memory { OnErr result (Self.elements self.new ≡ Self.elements self.old) };
+}
+
+impl<T: Twin> SequenceMutExt for Vec<T> {
+    fn as_vec_mut(&mut self) -> &mut Vec<T>
+        ensures value { result.now ≡ self.old }
+        ensures lender { result.ghost_name ≡ self.entry.ghost_name }
+    {
+        self
+    }
+
+    fn imul(&mut self, alloc: Global, n: isize) -> Tried<()> {
+        repeats::imul(self, alloc, n)
+    }
+}
