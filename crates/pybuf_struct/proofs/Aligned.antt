@@ -9,7 +9,8 @@ use Rattle.pybuf_struct.specs.declared.table.FormatType.{FormatType}
 use Rattle.pybuf_struct.specs.declared.table.FormatType.TheVariants as code
 use Rattle.pybuf_struct.specs.Table.{size_of, native_alignment, alignment_of}
 use Rattle.pybuf_struct.specs.Digits.{is_width}
-use Rattle.pybuf_struct.specs.Formats.{◌>>=◌, Counted, Code, Format, Field, padding, counted, laid, spelled, placed, offset_after, fields_in_row, fields_of_code, fields_from, fields}
+use Rattle.pybuf_value.specs.Choosing.{◌>>=◌}
+use Rattle.pybuf_struct.specs.Formats.{CountedCode, Code, Format, Field, padding, codes_in, layout_from, format_after_prefix, code_at, offset_after, fields_in_row, fields_of_code, fields_from, fields}
 use Rattle.pybuf_struct.specs.Laws.{IsAligned}
 use Rattle.pybuf_struct.proofs.NumbersAgain.{by_width}
 
@@ -85,25 +86,25 @@ with_code c l = Some (c ∷ l.0, l.1)
 abbrev AlignedFrom : Endianness → ℕ → List Code × ℕ → Type 0
 AlignedFrom o offset l = AllByRecursion (IsAligned o) (fields_from o offset l.0)
 
-laid_by : (o : Endianness) (offset : ℕ) (item : Counted) (r : Bool) (rest : Option (List Code × ℕ)) (l : List Code × ℕ) → ((k : List Code × ℕ) → rest ≡ some k → AlignedFrom o (offset_after o offset (placed o offset item)) k)
-    → cond r (rest >>= with_code (placed o offset item)) None ≡ some l → AlignedFrom o offset l
+laid_by : (o : Endianness) (offset : ℕ) (item : CountedCode) (r : Bool) (rest : Option (List Code × ℕ)) (l : List Code × ℕ) → ((k : List Code × ℕ) → rest ≡ some k → AlignedFrom o (offset_after o offset (code_at o offset item)) k)
+    → cond r (rest >>= with_code (code_at o offset item)) None ≡ some l → AlignedFrom o offset l
 laid_by o offset item false rest l after is = absurd cc
 laid_by o offset item true None l after is = absurd cc
 laid_by o offset item true (Some k) l after is =
-    let same : (placed o offset item ∷ k.0, k.1) ≡ l = cc in
+    let same : (code_at o offset item ∷ k.0, k.1) ≡ l = cc in
     let start : (offset + padding (alignment_of o item.code) offset) % alignment_of o item.code ≡ 0 = padded (alignment_of o item.code) offset (alignment_width o item.code) in
-    subst (AlignedFrom o offset) same (both o (fields_of_code item.code (size_of o item.code) (offset + padding (alignment_of o item.code) offset) item.repeat) (fields_from o (offset_after o offset (placed o offset item)) k.0)
+    subst (AlignedFrom o offset) same (both o (fields_of_code item.code (size_of o item.code) (offset + padding (alignment_of o item.code) offset) item.repeat) (fields_from o (offset_after o offset (code_at o offset item)) k.0)
     (code_aligned o item.code (offset + padding (alignment_of o item.code) offset) item.repeat start) (after k refl))
 
-laid_aligned : (o : Endianness) (offset : ℕ) (items : List Counted) (l : List Code × ℕ) → laid o offset items ≡ some l → AlignedFrom o offset l
-unfolding laid
+laid_aligned : (o : Endianness) (offset : ℕ) (items : List CountedCode) (l : List Code × ℕ) → layout_from o offset items ≡ some l → AlignedFrom o offset l
+unfolding layout_from
 laid_aligned o offset [] l is =
     let nothing : List Code × ℕ = ([], offset) in
     let same : nothing ≡ l = cc in
     subst (AlignedFrom o offset) same tt
 laid_aligned o offset (item ∷ items) l is =
-    laid_by o offset item (ltb (offset_after o offset (placed o offset item)) (2 ^ 63)) (laid o (offset_after o offset (placed o offset item)) items) l
-    (λ k e. laid_aligned o (offset_after o offset (placed o offset item)) items k e) is
+    laid_by o offset item (ltb (offset_after o offset (code_at o offset item)) (2 ^ 63)) (layout_from o (offset_after o offset (code_at o offset item)) items) l
+    (λ k e. laid_aligned o (offset_after o offset (code_at o offset item)) items k e) is
 
 abbrev format_with : Endianness → List Code × ℕ → Format
 format_with o l = record { order = o; codes = l.0; size = l.1 }
@@ -114,10 +115,10 @@ spelled_by o (Some l) f aligned is =
     let same : format_with o l ≡ f = cc in
     subst (λ (g : Format). AllByRecursion (IsAligned g.order) (fields g)) same (aligned l refl)
 
-spelled_items : (o : Endianness) (items : Option (List Counted)) (f : Format) → (items >>= λ i. laid o 0 i >>= λ l. Some (format_with o l)) ≡ some f → AllByRecursion (IsAligned f.order) (fields f)
+spelled_items : (o : Endianness) (items : Option (List CountedCode)) (f : Format) → (items >>= λ i. layout_from o 0 i >>= λ l. Some (format_with o l)) ≡ some f → AllByRecursion (IsAligned f.order) (fields f)
 spelled_items o None f is = absurd cc
-spelled_items o (Some items) f is = spelled_by o (laid o 0 items) f (λ k e. laid_aligned o 0 items k e) is
+spelled_items o (Some items) f is = spelled_by o (layout_from o 0 items) f (λ k e. laid_aligned o 0 items k e) is
 
-pub spelled_aligned : (o : Endianness) (text : List ℕ) (f : Format) → spelled o text ≡ Some f → AllByRecursion (IsAligned f.order) (fields f)
-unfolding spelled
-spelled_aligned o text f is = spelled_items o (counted o text None) f is
+pub spelled_aligned : (o : Endianness) (text : List ℕ) (f : Format) → format_after_prefix o text ≡ Some f → AllByRecursion (IsAligned f.order) (fields f)
+unfolding format_after_prefix
+spelled_aligned o text f is = spelled_items o (codes_in o text) f is

@@ -20,7 +20,7 @@ use Rattle.pybuf_struct.specs.declared.table.FormatType.TheVariants as code
 use Rattle.pybuf_struct.specs.Table.{is_big, is_signed, size_of}
 use Rattle.pybuf_struct.specs.Digits.{unsigned_number, signed_as, number, is_width}
 use Rattle.pybuf_struct.specs.Values.{is_length, pascal_content, value_of}
-use Rattle.pybuf_struct.specs.Packing.{is_in_range, complement_of, digits_of, number_bytes, truth_byte, fitted_to, single, pascal_bytes, pascal_field, bytes_of}
+use Rattle.pybuf_struct.specs.Packing.{is_in_range, complement_of, digits_of, number_bytes, truth_byte, fitted_to, single_byte, pascal_bytes, pascal_field, bytes_of}
 use Rattle.pybuf_struct.specs.Laws.{normal_number, normal_truth, normal_bytes, normal_pascal, normal_of, is_exact}
 use Rattle.pybuf_struct.proofs.NumbersAgain.{IsBytes, digits_again, halved, complement_fits, signed_again, reads_back, signed_back}
 
@@ -36,17 +36,17 @@ GivesBack read normal bytes len = (read ≡ normal) × (length bytes ≡ len)
 
 -- ---- lengths
 
-length-low_first : (i k n : ℕ) → length (bytes_low_first i k n) ≡ k
-length-low_first i zero n = refl
-length-low_first i (suc k) n = ap suc (length-low_first (suc i) k n)
+length-little_endian : (i k n : ℕ) → length (bytes_low_first i k n) ≡ k
+length-little_endian i zero n = refl
+length-little_endian i (suc k) n = ap suc (length-little_endian (suc i) k n)
 
-length-high_first : (k n : ℕ) → length (bytes_high_first k n) ≡ k
-length-high_first zero n = refl
-length-high_first (suc k) n = ap suc (length-high_first k n)
+length-big_endian : (k n : ℕ) → length (bytes_high_first k n) ≡ k
+length-big_endian zero n = refl
+length-big_endian (suc k) n = ap suc (length-big_endian k n)
 
 length-digits_of : (big : Bool) (size n : ℕ) → length (digits_of big size n) ≡ size
-length-digits_of true size n = length-high_first size n
-length-digits_of false size n = length-low_first 0 size n
+length-digits_of true size n = length-big_endian size n
+length-digits_of false size n = length-little_endian 0 size n
 
 length-fitted_to : (n : ℕ) (bytes : List ℕ) → length (fitted_to n bytes) ≡ n
 length-fitted_to n bytes = omega (arith, length-append (take n bytes) (replicate (n - length bytes) 0), length-take n bytes, length-replicate {A = ℕ} (n - length bytes) 0)
@@ -78,14 +78,14 @@ number_gives : (big signed : Bool) (len : ℕ) (n : Result ℤ Fault) (bytes : L
 number_gives big signed len (Err e) bytes width is = absurd cc
 number_gives big signed len (Ok n) bytes width is = number_gives_in big signed len n bytes width (is_in_range signed len n) refl is
 
-single_is : (content bytes : List ℕ) → single content ≡ okay bytes → (content ≡ bytes) × (length content ≡ 1)
+single_is : (content bytes : List ℕ) → single_byte content ≡ okay bytes → (content ≡ bytes) × (length content ≡ 1)
 single_is content bytes is = single_by content bytes (eqb (length content) 1) refl is
   where
     single_by : (content bytes : List ℕ) → (r : Bool) → eqb (length content) 1 ≡ r → cond r (okay content) (Err fault.Struct) ≡ okay bytes → (content ≡ bytes) × (length content ≡ 1)
     single_by content bytes true one is = (ok_is content bytes is, eqb-true _ _ one)
     single_by content bytes false one is = absurd cc
 
-char_gives : (content : Result (List ℕ) Fault) (len : ℕ) (bytes : List ℕ) → len ≡ 1 → (content >>= single) ≡ Ok bytes → GivesBack (scalar.Bytes bytes) (normal_bytes (λ b. b) content) bytes len
+char_gives : (content : Result (List ℕ) Fault) (len : ℕ) (bytes : List ℕ) → len ≡ 1 → (content >>= single_byte) ≡ Ok bytes → GivesBack (scalar.Bytes bytes) (normal_bytes (λ b. b) content) bytes len
 char_gives (Err e) len bytes one is = absurd cc
 char_gives (Ok content) len bytes one is =
     let s = single_is content bytes is in

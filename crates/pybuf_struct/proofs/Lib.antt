@@ -1,4 +1,7 @@
 pub mod Extents
+pub mod Cutting
+pub mod Reading
+pub mod ReadBack
 pub mod Grammar
 pub mod Spelling
 pub mod Words

@@ -6,7 +6,7 @@ use Rattle.std.proofs.lemmas.Bool.{ltb-true, lt-ltb, le-leb, lt-leb, leb-true, l
 use Rattle.std.proofs.lemmas.Bool.Decides.{nat_tests}
 use Rattle.std.proofs.lemmas.Int.{ints}
 use Rattle.std.proofs.lemmas.Nat.{from_le_bytes-to_le_bytes_2, from_le_bytes-to_le_bytes_4, from_le_bytes-to_le_bytes_8, from_be_bytes-to_be_bytes_2, from_be_bytes-to_be_bytes_4, from_be_bytes-to_be_bytes_8, le_bytes_2, le_bytes_4, le_bytes_8, be_bytes_2, be_bytes_4, be_bytes_8}
-use Rattle.pybuf_struct.specs.Digits.{low_first, high_first, unsigned_number, signed_as, is_width}
+use Rattle.pybuf_struct.specs.Digits.{little_endian, big_endian, unsigned_number, signed_as, is_width}
 use Rattle.pybuf_struct.specs.Packing.{is_in_range, complement_of, digits_of}
 use Rattle.pybuf_struct.proofs.Words.{high_first_eight, low_first_eight, eight_items}
 
@@ -29,16 +29,16 @@ by_width P one two four eight (suc (suc (suc (suc (suc (suc (suc (suc (suc n))))
 
 -- ---- digits
 
-low_first_two : (a b : ℕ) → from_le_bytes w16 (a ∷ b ∷ []) ≡ low_first 0 (a ∷ b ∷ [])
+low_first_two : (a b : ℕ) → from_le_bytes w16 (a ∷ b ∷ []) ≡ little_endian 0 (a ∷ b ∷ [])
 low_first_two a b = omega arith
 
-high_first_two : (a b : ℕ) → from_be_bytes w16 (a ∷ b ∷ []) ≡ high_first (a ∷ b ∷ [])
+high_first_two : (a b : ℕ) → from_be_bytes w16 (a ∷ b ∷ []) ≡ big_endian (a ∷ b ∷ [])
 high_first_two a b = omega arith
 
-low_first_four : (a b c d : ℕ) → from_le_bytes w32 (a ∷ b ∷ c ∷ d ∷ []) ≡ low_first 0 (a ∷ b ∷ c ∷ d ∷ [])
+low_first_four : (a b c d : ℕ) → from_le_bytes w32 (a ∷ b ∷ c ∷ d ∷ []) ≡ little_endian 0 (a ∷ b ∷ c ∷ d ∷ [])
 low_first_four a b c d = omega arith
 
-high_first_four : (a b c d : ℕ) → from_be_bytes w32 (a ∷ b ∷ c ∷ d ∷ []) ≡ high_first (a ∷ b ∷ c ∷ d ∷ [])
+high_first_four : (a b c d : ℕ) → from_be_bytes w32 (a ∷ b ∷ c ∷ d ∷ []) ≡ big_endian (a ∷ b ∷ c ∷ d ∷ [])
 high_first_four a b c d = omega arith
 
 abbrev DigitsAgain : ℕ → Type 0
@@ -117,8 +117,8 @@ back_four big (a ∷ b ∷ c ∷ []) len fits = absurd (omega arith)
 back_four big (a ∷ b ∷ c ∷ d ∷ e ∷ bytes) len fits = absurd (omega arith)
 
 abbrev from_eight : Bool → List ℕ → ℕ
-from_eight true bytes = high_first bytes
-from_eight false bytes = low_first 0 bytes
+from_eight true bytes = big_endian bytes
+from_eight false bytes = little_endian 0 bytes
 
 back_eight : ReadsBack 8
 back_eight big bytes len fits = rw (eight_items bytes len) (eight big (get_or bytes 0 0) (get_or bytes 1 0) (get_or bytes 2 0) (get_or bytes 3 0) (get_or bytes 4 0) (get_or bytes 5 0) (get_or bytes 6 0) (get_or bytes 7 0) (λ i. subst (λ (l : List ℕ). get_or l i 0 < 256) (eight_items bytes len) (fits i)))

@@ -10,7 +10,7 @@ use Rattle.pybuf_value.specs.declared.snaps.Snap.{Snap}
 use Rattle.pybuf_value.specs.Refusing.{◌>>=◌}
 use Rattle.pybuf_struct.specs.declared.table.Endianness.{Endianness}
 use Rattle.pybuf_struct.specs.Formats.{Code, Field, extent, fields_from}
-use Rattle.pybuf_struct.specs.Packing.{bytes_of, contents_of, written_at, filled, checked}
+use Rattle.pybuf_struct.specs.Packing.{bytes_of, contents_of, room_with, room_with_contents, refusal_of}
 use Rattle.pybuf_struct.proofs.Fields.{IsSound, fields_sound}
 
 -- ---- one more value
@@ -23,15 +23,15 @@ contents_cons : (o : Endianness) (pairs : List (ℕ × Snap)) (f : Field) (fs : 
 unfolding contents_of
 contents_cons o pairs f fs v vs = refl
 
-checked_others : (bytes : List ℕ) (others : Result (List (List ℕ)) Fault) → checked (others >>= with_bytes bytes) ≡ checked others
+checked_others : (bytes : List ℕ) (others : Result (List (List ℕ)) Fault) → refusal_of (others >>= with_bytes bytes) ≡ refusal_of others
 checked_others bytes (Ok all) = refl
 checked_others bytes (Err e) = refl
 
-checked_first : (first : Result (List ℕ) Fault) (others : Result (List (List ℕ)) Fault) → checked first ≡ Ok tt → checked (first >>= λ bytes. others >>= with_bytes bytes) ≡ checked others
+checked_first : (first : Result (List ℕ) Fault) (others : Result (List (List ℕ)) Fault) → refusal_of first ≡ Ok tt → refusal_of (first >>= λ bytes. others >>= with_bytes bytes) ≡ refusal_of others
 checked_first (Ok bytes) others h = checked_others bytes others
 checked_first (Err e) others h = absurd cc
 
-refused_first : (first : Result (List ℕ) Fault) (others : Result (List (List ℕ)) Fault) (e : Fault) → checked first ≡ Err e → checked (first >>= λ bytes. others >>= with_bytes bytes) ≡ Err e
+refused_first : (first : Result (List ℕ) Fault) (others : Result (List (List ℕ)) Fault) (e : Fault) → refusal_of first ≡ Err e → refusal_of (first >>= λ bytes. others >>= with_bytes bytes) ≡ Err e
 refused_first (Ok bytes) others e h = absurd cc
 refused_first (Err d) others e h = h
 
@@ -46,7 +46,7 @@ others_ok (Err e) others ok = absurd cc
 -- ---- checking
 
 pub record Checks (o : Endianness) (pairs : List (ℕ × Snap)) (size : ℕ) (all : List Field) (values : List Scalar) (left : List Field) (i : ℕ) : Type 0 where
-  pub same : checked (contents_of o pairs left (drop i values)) ≡ checked (contents_of o pairs all values)
+  pub same : refusal_of (contents_of o pairs left (drop i values)) ≡ refusal_of (contents_of o pairs all values)
   pub counts : length left + i ≡ length values
   pub sound : AllByRecursion (IsSound o size) left
 
@@ -64,17 +64,17 @@ contents_at o pairs values left rest f v i lt is left_is =
     ap (λ (fs : List Field). contents_of o pairs fs (drop i values)) left_is ∙ ap (contents_of o pairs (f ∷ rest)) (next_value values i v lt is) ∙ contents_cons o pairs f rest v (drop (i + 1) values)
 
 pub checks_more : (o : Endianness) (pairs : List (ℕ × Snap)) (size : ℕ) (all : List Field) (values : List Scalar) (left rest : List Field) (f : Field) (v : Scalar) (i : ℕ) → Checks o pairs size all values left i
-    → i < length values → v ≡ get_or values i v → left ≡ f ∷ rest → checked (bytes_of o pairs f.code f.length v) ≡ Ok tt → Checks o pairs size all values rest (i + 1)
+    → i < length values → v ≡ get_or values i v → left ≡ f ∷ rest → refusal_of (bytes_of o pairs f.code f.length v) ≡ Ok tt → Checks o pairs size all values rest (i + 1)
 checks_more o pairs size all values left rest f v i checks lt is left_is accepted =
-    let here : checked (contents_of o pairs left (drop i values)) ≡ checked (contents_of o pairs rest (drop (i + 1) values))
-    = ap checked (contents_at o pairs values left rest f v i lt is left_is) ∙ checked_first (bytes_of o pairs f.code f.length v) (contents_of o pairs rest (drop (i + 1) values)) accepted in
+    let here : refusal_of (contents_of o pairs left (drop i values)) ≡ refusal_of (contents_of o pairs rest (drop (i + 1) values))
+    = ap refusal_of (contents_at o pairs values left rest f v i lt is left_is) ∙ checked_first (bytes_of o pairs f.code f.length v) (contents_of o pairs rest (drop (i + 1) values)) accepted in
     let sound : AllByRecursion (IsSound o size) (f ∷ rest) = rw left_is at checks.sound in
     record { same = sym here ∙ checks.same; counts = omega (arith, checks.counts, ap length left_is); sound = sound.1 }
 
 checks_refused : (o : Endianness) (pairs : List (ℕ × Snap)) (size : ℕ) (all : List Field) (values : List Scalar) (left rest : List Field) (f : Field) (v : Scalar) (i : ℕ) (e : Fault) → Checks o pairs size all values left i
-    → i < length values → v ≡ get_or values i v → left ≡ f ∷ rest → checked (bytes_of o pairs f.code f.length v) ≡ Err e → checked (contents_of o pairs all values) ≡ Err e
+    → i < length values → v ≡ get_or values i v → left ≡ f ∷ rest → refusal_of (bytes_of o pairs f.code f.length v) ≡ Err e → refusal_of (contents_of o pairs all values) ≡ Err e
 checks_refused o pairs size all values left rest f v i e checks lt is left_is refused =
-    sym checks.same ∙ ap checked (contents_at o pairs values left rest f v i lt is left_is) ∙ refused_first (bytes_of o pairs f.code f.length v) (contents_of o pairs rest (drop (i + 1) values)) e refused
+    sym checks.same ∙ ap refusal_of (contents_at o pairs values left rest f v i lt is left_is) ∙ refused_first (bytes_of o pairs f.code f.length v) (contents_of o pairs rest (drop (i + 1) values)) e refused
 
 -- what a check of one field gave
 pub is_accepted : (r : Result (Unit {0}) Fault) → is_err r ≡ false → r ≡ Ok tt
@@ -82,21 +82,21 @@ is_accepted (Ok x) h = refl
 is_accepted (Err e) h = absurd cc
 
 pub checks_stopped : (o : Endianness) (pairs : List (ℕ × Snap)) (size : ℕ) (all : List Field) (values : List Scalar) (left rest : List Field) (f : Field) (v : Scalar) (i : ℕ) (r : Result (Unit {0}) Fault) → Checks o pairs size all values left i
-    → i < length values → v ≡ get_or values i v → left ≡ f ∷ rest → r ≡ checked (bytes_of o pairs f.code f.length v) → is_err r ≡ true → r ≡ checked (contents_of o pairs all values)
+    → i < length values → v ≡ get_or values i v → left ≡ f ∷ rest → r ≡ refusal_of (bytes_of o pairs f.code f.length v) → is_err r ≡ true → r ≡ refusal_of (contents_of o pairs all values)
 checks_stopped o pairs size all values left rest f v i (Ok x) checks lt is left_is r_is err = absurd cc
 checks_stopped o pairs size all values left rest f v i (Err e) checks lt is left_is r_is err = sym (checks_refused o pairs size all values left rest f v i e checks lt is left_is (sym r_is))
 
 pub checks_all : (o : Endianness) (pairs : List (ℕ × Snap)) (size : ℕ) (all : List Field) (values : List Scalar) (left : List Field) (i : ℕ) → Checks o pairs size all values left i
-    → length values ≤ i → checked (contents_of o pairs all values) ≡ Ok tt
+    → length values ≤ i → refusal_of (contents_of o pairs all values) ≡ Ok tt
 unfolding contents_of
 checks_all o pairs size all values [] i checks le =
-    sym checks.same ∙ ap (λ (vs : List Scalar). checked (contents_of o pairs [] vs)) (drop_all i values le)
+    sym checks.same ∙ ap (λ (vs : List Scalar). refusal_of (contents_of o pairs [] vs)) (drop_all i values le)
 checks_all o pairs size all values (f ∷ left) i checks le = absurd (omega (arith, checks.counts))
 
 -- ---- writing
 
 pub record Writes (o : Endianness) (pairs : List (ℕ × Snap)) (size : ℕ) (all : List Field) (values : List Scalar) (before room : List ℕ) (left : List Field) (i : ℕ) : Type 0 where
-  pub same : filled left (contents_of o pairs left (drop i values)) room ≡ filled all (contents_of o pairs all values) before
+  pub same : room_with_contents left (contents_of o pairs left (drop i values)) room ≡ room_with_contents all (contents_of o pairs all values) before
   pub accepted : IsOk (contents_of o pairs left (drop i values))
   pub counts : length left + i ≡ length values
   pub sound : AllByRecursion (IsSound o size) left
@@ -117,7 +117,7 @@ writes_nothing o pairs codes values room left ok is =
 pub part_length : (offset len : ℕ) (room : List ℕ) → offset + len ≤ length room → length (take (offset + len - offset) (drop offset room)) ≡ len
 part_length offset len room within = omega (arith, length-take (offset + len - offset) (drop offset room), length-drop offset room)
 
-pub part_written : (offset k : ℕ) (room bytes : List ℕ) → length bytes ≡ k → take offset room ++ (bytes ++ drop k (drop offset room)) ≡ written_at offset bytes room
+pub part_written : (offset k : ℕ) (room bytes : List ℕ) → length bytes ≡ k → take offset room ++ (bytes ++ drop k (drop offset room)) ≡ room_with offset bytes room
 part_written offset k room bytes is = rw (drop-drop k offset room, is) refl
 
 pub writes_within : (o : Endianness) (pairs : List (ℕ × Snap)) (size : ℕ) (all : List Field) (values : List Scalar) (before room : List ℕ) (left rest : List Field) (f : Field) (i : ℕ) → Writes o pairs size all values before room left i
@@ -132,17 +132,17 @@ pub writes_accepted : (o : Endianness) (pairs : List (ℕ × Snap)) (size : ℕ)
 writes_accepted o pairs size all values before room left rest f v i writes lt is left_is =
     (others_ok (bytes_of o pairs f.code f.length v) (contents_of o pairs rest (drop (i + 1) values)) (rw (contents_at o pairs values left rest f v i lt is left_is) at writes.accepted)).0
 
-written_one : (f : Field) (rest : List Field) (bytes : List ℕ) (others : Result (List (List ℕ)) Fault) (room : List ℕ) → filled (f ∷ rest) (others >>= with_bytes bytes) room ≡ filled rest others (written_at f.offset bytes room)
+written_one : (f : Field) (rest : List Field) (bytes : List ℕ) (others : Result (List (List ℕ)) Fault) (room : List ℕ) → room_with_contents (f ∷ rest) (others >>= with_bytes bytes) room ≡ room_with_contents rest others (room_with f.offset bytes room)
 written_one f rest bytes (Ok all) room = refl
 written_one f rest bytes (Err e) room = refl
 
 pub writes_more : (o : Endianness) (pairs : List (ℕ × Snap)) (size : ℕ) (all : List Field) (values : List Scalar) (before room after : List ℕ) (left rest : List Field) (f : Field) (v : Scalar) (i : ℕ) (bytes : List ℕ) → Writes o pairs size all values before room left i
-    → i < length values → v ≡ get_or values i v → left ≡ f ∷ rest → bytes_of o pairs f.code f.length v ≡ Ok bytes → after ≡ written_at f.offset bytes room → Writes o pairs size all values before after rest (i + 1)
+    → i < length values → v ≡ get_or values i v → left ≡ f ∷ rest → bytes_of o pairs f.code f.length v ≡ Ok bytes → after ≡ room_with f.offset bytes room → Writes o pairs size all values before after rest (i + 1)
 writes_more o pairs size all values before room after left rest f v i bytes writes lt is left_is bytes_is after_is =
     let others = contents_of o pairs rest (drop (i + 1) values) in
     let here : contents_of o pairs left (drop i values) ≡ (others >>= with_bytes bytes) = contents_at o pairs values left rest f v i lt is left_is ∙ rw bytes_is refl in
-    let step : filled left (contents_of o pairs left (drop i values)) room ≡ filled rest others after
-    = ap (λ (fs : List Field). filled fs (contents_of o pairs left (drop i values)) room) left_is ∙ ap (λ (r : Result (List (List ℕ)) Fault). filled (f ∷ rest) r room) here ∙ written_one f rest bytes others room ∙ ap (filled rest others) (sym after_is) in
+    let step : room_with_contents left (contents_of o pairs left (drop i values)) room ≡ room_with_contents rest others after
+    = ap (λ (fs : List Field). room_with_contents fs (contents_of o pairs left (drop i values)) room) left_is ∙ ap (λ (r : Result (List (List ℕ)) Fault). room_with_contents (f ∷ rest) r room) here ∙ written_one f rest bytes others room ∙ ap (room_with_contents rest others) (sym after_is) in
     let sound : AllByRecursion (IsSound o size) (f ∷ rest) = rw left_is at writes.sound in
     record {
       same = sym step ∙ writes.same;
@@ -152,8 +152,8 @@ writes_more o pairs size all values before room after left rest f v i bytes writ
     }
 
 pub writes_all : (o : Endianness) (pairs : List (ℕ × Snap)) (size : ℕ) (all : List Field) (values : List Scalar) (before room : List ℕ) (left : List Field) (i : ℕ) → Writes o pairs size all values before room left i
-    → length values ≤ i → filled all (contents_of o pairs all values) before ≡ Ok room
+    → length values ≤ i → room_with_contents all (contents_of o pairs all values) before ≡ Ok room
 unfolding contents_of
 writes_all o pairs size all values before room [] i writes le =
-    sym writes.same ∙ ap (λ (vs : List Scalar). filled [] (contents_of o pairs [] vs) room) (drop_all i values le)
+    sym writes.same ∙ ap (λ (vs : List Scalar). room_with_contents [] (contents_of o pairs [] vs) room) (drop_all i values le)
 writes_all o pairs size all values before room (f ∷ left) i writes le = absurd (omega (arith, writes.counts))

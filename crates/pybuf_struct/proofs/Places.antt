@@ -7,7 +7,7 @@ use Rattle.pybuf_struct.specs.declared.table.FormatType.{FormatType}
 use Rattle.pybuf_struct.specs.declared.table.FormatType.TheVariants as code
 use Rattle.pybuf_struct.specs.Table.{size_of}
 use Rattle.pybuf_struct.specs.Formats.{Code, Field, extent, offset_after, fields_in_row, fields_of_code, fields_from}
-use Rattle.pybuf_struct.specs.Packing.{written, written_at}
+use Rattle.pybuf_struct.specs.Packing.{room_with_fields, room_with}
 use Rattle.pybuf_struct.specs.Laws.{is_exact, AreExact, Spread}
 
 -- ---- where fields lie
@@ -46,16 +46,16 @@ Fills [] contents = Unit {0}
 Fills (f ∷ fs) [] = ⊥
 Fills (f ∷ fs) (bytes ∷ contents) = (length bytes ≡ f.length) × Fills fs contents
 
-pub length-written_at : (offset : ℕ) (bytes room : List ℕ) → offset + length bytes ≤ length room → length (written_at offset bytes room) ≡ length room
-length-written_at offset bytes room le =
+pub length-room_with : (offset : ℕ) (bytes room : List ℕ) → offset + length bytes ≤ length room → length (room_with offset bytes room) ≡ length room
+length-room_with offset bytes room le =
     omega (arith, length-append (take offset room) (bytes ++ drop (offset + length bytes) room), length-append bytes (drop (offset + length bytes) room), length-take offset room, length-drop (offset + length bytes) room)
 
-take-written_at : (p offset : ℕ) (bytes room : List ℕ) → p ≤ offset → offset ≤ length room → take p (written_at offset bytes room) ≡ take p room
-take-written_at p offset bytes room le within =
+take-room_with : (p offset : ℕ) (bytes room : List ℕ) → p ≤ offset → offset ≤ length room → take p (room_with offset bytes room) ≡ take p room
+take-room_with p offset bytes room le within =
     take-append-le p (take offset room) (bytes ++ drop (offset + length bytes) room) (omega (arith, length-take offset room)) ∙ take-take p offset room le
 
-part-written_at : (offset : ℕ) (bytes room : List ℕ) → offset ≤ length room → take (length bytes) (drop offset (written_at offset bytes room)) ≡ bytes
-part-written_at offset bytes room within =
+part-room_with : (offset : ℕ) (bytes room : List ℕ) → offset ≤ length room → take (length bytes) (drop offset (room_with offset bytes room)) ≡ bytes
+part-room_with offset bytes room within =
     ap (take (length bytes)) (drop_at (take offset room) (bytes ++ drop (offset + length bytes) room) offset (omega (arith, length-take offset room))) ∙ take_at bytes (drop (offset + length bytes) room) (length bytes) refl
 
 -- ---- all fields
@@ -64,38 +64,38 @@ pub Spread-le : (p : ℕ) (fs : List Field) (q : ℕ) → Spread p fs q → p �
 Spread-le p [] q s = s
 Spread-le p (f ∷ fs) q s = omega (arith, s.0, Spread-le (f.offset + f.length) fs q s.1)
 
-pub length-written : (p : ℕ) (fs : List Field) (q : ℕ) (contents : List (List ℕ)) (room : List ℕ) → Spread p fs q → q ≤ length room → Fills fs contents → length (written fs contents room) ≡ length room
-length-written p [] q contents room s le fills = refl
-length-written p (f ∷ fs) q [] room s le fills = refl
-length-written p (f ∷ fs) q (bytes ∷ contents) room s le fills =
-    let one : length (written_at f.offset bytes room) ≡ length room = length-written_at f.offset bytes room (omega (arith, fills.0, Spread-le (f.offset + f.length) fs q s.1)) in
-    length-written (f.offset + f.length) fs q contents (written_at f.offset bytes room) s.1 (omega arith) fills.1 ∙ one
+pub length-room_with_fields : (p : ℕ) (fs : List Field) (q : ℕ) (contents : List (List ℕ)) (room : List ℕ) → Spread p fs q → q ≤ length room → Fills fs contents → length (room_with_fields fs contents room) ≡ length room
+length-room_with_fields p [] q contents room s le fills = refl
+length-room_with_fields p (f ∷ fs) q [] room s le fills = refl
+length-room_with_fields p (f ∷ fs) q (bytes ∷ contents) room s le fills =
+    let one : length (room_with f.offset bytes room) ≡ length room = length-room_with f.offset bytes room (omega (arith, fills.0, Spread-le (f.offset + f.length) fs q s.1)) in
+    length-room_with_fields (f.offset + f.length) fs q contents (room_with f.offset bytes room) s.1 (omega arith) fills.1 ∙ one
 
-pub take-written : (p : ℕ) (fs : List Field) (q : ℕ) (contents : List (List ℕ)) (room : List ℕ) → Spread p fs q → q ≤ length room → Fills fs contents → take p (written fs contents room) ≡ take p room
-take-written p [] q contents room s le fills = refl
-take-written p (f ∷ fs) q [] room s le fills = refl
-take-written p (f ∷ fs) q (bytes ∷ contents) room s le fills =
+pub take-room_with_fields : (p : ℕ) (fs : List Field) (q : ℕ) (contents : List (List ℕ)) (room : List ℕ) → Spread p fs q → q ≤ length room → Fills fs contents → take p (room_with_fields fs contents room) ≡ take p room
+take-room_with_fields p [] q contents room s le fills = refl
+take-room_with_fields p (f ∷ fs) q [] room s le fills = refl
+take-room_with_fields p (f ∷ fs) q (bytes ∷ contents) room s le fills =
     let end : f.offset + f.length ≤ q = Spread-le (f.offset + f.length) fs q s.1 in
-    let one : length (written_at f.offset bytes room) ≡ length room = length-written_at f.offset bytes room (omega (arith, fills.0)) in
-    let after = written_at f.offset bytes room in
+    let one : length (room_with f.offset bytes room) ≡ length room = length-room_with f.offset bytes room (omega (arith, fills.0)) in
+    let after = room_with f.offset bytes room in
     let lower : p ≤ f.offset + f.length = omega (arith, s.0) in
-    sym (take-take p (f.offset + f.length) (written fs contents after) lower)
-    ∙ ap (take p) (take-written (f.offset + f.length) fs q contents after s.1 (omega arith) fills.1)
+    sym (take-take p (f.offset + f.length) (room_with_fields fs contents after) lower)
+    ∙ ap (take p) (take-room_with_fields (f.offset + f.length) fs q contents after s.1 (omega arith) fills.1)
     ∙ take-take p (f.offset + f.length) after lower
-    ∙ take-written_at p f.offset bytes room s.0 (omega arith)
+    ∙ take-room_with p f.offset bytes room s.0 (omega arith)
 
 -- a field keeps its bytes while those after it are written
 pub field_kept : (f : Field) (fs : List Field) (q : ℕ) (bytes : List ℕ) (contents : List (List ℕ)) (room : List ℕ) → Spread (f.offset + f.length) fs q → q ≤ length room → length bytes ≡ f.length → Fills fs contents
-    → take f.length (drop f.offset (written fs contents (written_at f.offset bytes room))) ≡ bytes
+    → take f.length (drop f.offset (room_with_fields fs contents (room_with f.offset bytes room))) ≡ bytes
 field_kept f fs q bytes contents room s le long fills =
-    let after = written_at f.offset bytes room in
+    let after = room_with f.offset bytes room in
     let end : f.offset + f.length ≤ q = Spread-le (f.offset + f.length) fs q s in
-    let one : length after ≡ length room = length-written_at f.offset bytes room (omega (arith, long)) in
-    sym (drop-take f.offset f.length (written fs contents after))
-    ∙ ap (drop f.offset) (take-written (f.offset + f.length) fs q contents after s (omega arith) fills)
+    let one : length after ≡ length room = length-room_with f.offset bytes room (omega (arith, long)) in
+    sym (drop-take f.offset f.length (room_with_fields fs contents after))
+    ∙ ap (drop f.offset) (take-room_with_fields (f.offset + f.length) fs q contents after s (omega arith) fills)
     ∙ drop-take f.offset f.length after
     ∙ ap (λ (n : ℕ). take n (drop f.offset after)) (sym long)
-    ∙ part-written_at f.offset bytes room (omega arith)
+    ∙ part-room_with f.offset bytes room (omega arith)
 
 -- ---- fields without a gap
 
@@ -135,7 +135,7 @@ abbrev pub part : List ℕ → Field → List ℕ
 part bytes f = take f.length (drop f.offset bytes)
 
 -- the parts of bytes written over a room of their length are the bytes
-pub written_parts : (bytes : List ℕ) (p : ℕ) (fs : List Field) (q : ℕ) (room : List ℕ) → Tiles p fs q → q ≡ length bytes → length room ≡ length bytes → written fs (map (part bytes) fs) room ≡ take p room ++ drop p bytes
+pub written_parts : (bytes : List ℕ) (p : ℕ) (fs : List Field) (q : ℕ) (room : List ℕ) → Tiles p fs q → q ≡ length bytes → length room ≡ length bytes → room_with_fields fs (map (part bytes) fs) room ≡ take p room ++ drop p bytes
 written_parts bytes p [] q room t whole same =
     let all : length room ≤ p = omega (arith, t) in
     let none : length bytes ≤ p = omega (arith, t) in
@@ -145,8 +145,8 @@ written_parts bytes p (f ∷ fs) q room t whole same =
     let content = take f.length (drop p bytes) in
     let here : part bytes f ≡ content = ap (λ (k : ℕ). take f.length (drop k bytes)) t.0 in
     let long : length content ≡ f.length = omega (arith, length-take f.length (drop p bytes), length-drop p bytes) in
-    let after = written_at p content room in
-    let after_long : length after ≡ length room = length-written_at p content room (omega arith) in
+    let after = room_with p content room in
+    let after_long : length after ≡ length room = length-room_with p content room (omega arith) in
     let front : take (p + f.length) after ≡ take p room ++ content
     = ap (take (p + f.length)) (sym (append_assoc (take p room) content (drop (p + length content) room))) ∙ take_at (take p room ++ content) (drop (p + length content) room) (p + f.length) (omega (arith, length-append (take p room) content, length-take p room)) in
     let back : content ++ drop (p + f.length) bytes ≡ drop p bytes

@@ -14,13 +14,13 @@ use Rattle.pybuf_struct.specs.declared.table.FormatType.TheVariants as code
 use Rattle.pybuf_struct.specs.Table.{size_of}
 use Rattle.pybuf_value.specs.Refusing.{◌>>=◌}
 use Rattle.pybuf_struct.specs.Formats.{Code, Format, Field, offset_after, extent, fields_in_row, fields_of_code, fields_from, fields}
-use Rattle.pybuf_struct.specs.Values.{value_of, value_in, values, unpacked}
-use Rattle.pybuf_struct.specs.Packing.{bytes_of, contents_of, written, written_at, filled, packed, packed_values}
+use Rattle.pybuf_struct.specs.Values.{value_of, value_in, values, unpacked_values}
+use Rattle.pybuf_struct.specs.Packing.{bytes_of, contents_of, room_with_fields, room_with, room_with_contents, packed_bytes, packed_values}
 use Rattle.pybuf_struct.specs.Laws.{Spread, normal_of, normal_values, is_exact, AreExact}
 use Rattle.pybuf_struct.proofs.NumbersAgain.{IsBytes}
 use Rattle.pybuf_struct.proofs.FieldsAgain.{GivesBack, field_gives, field_back}
 use Rattle.pybuf_struct.proofs.Fields.{IsSound, fields_sound}
-use Rattle.pybuf_struct.proofs.Places.{Spread-le, Spread-fields, Fills, length-written_at, length-written, field_kept, Tiles, Tiles-fields, part, written_parts}
+use Rattle.pybuf_struct.proofs.Places.{Spread-le, Spread-fields, Fills, length-room_with, length-room_with_fields, field_kept, Tiles, Tiles-fields, part, written_parts}
 
 -- ---- reading what was written
 
@@ -44,13 +44,13 @@ unfolding contents_of
 contents_split o pairs f fs v vs contents is = parts_of (bytes_of o pairs f.code f.length v) (contents_of o pairs fs vs) contents is
 
 abbrev Again : Endianness → List (ℕ × Snap) → List Field → List Scalar → List ℕ → List (List ℕ) → Type 0
-Again o pairs fs vs room contents = (map (value_in o (written fs contents room)) fs ≡ normal_values pairs fs vs) × Fills fs contents
+Again o pairs fs vs room contents = (map (value_in o (room_with_fields fs contents room)) fs ≡ normal_values pairs fs vs) × Fills fs contents
 
 again_cons : (o : Endianness) (pairs : List (ℕ × Snap)) (f : Field) (fs : List Field) (q : ℕ) (v : Scalar) (vs : List Scalar) (bytes : List ℕ) (others : List (List ℕ)) (room : List ℕ)
-    → Spread (f.offset + f.length) fs q → q ≤ length room → GivesBack (value_of o f.code bytes) (normal_of pairs f.code f.length v) bytes f.length → Again o pairs fs vs (written_at f.offset bytes room) others
+    → Spread (f.offset + f.length) fs q → q ≤ length room → GivesBack (value_of o f.code bytes) (normal_of pairs f.code f.length v) bytes f.length → Again o pairs fs vs (room_with f.offset bytes room) others
     → Again o pairs (f ∷ fs) (v ∷ vs) room (bytes ∷ others)
 again_cons o pairs f fs q v vs bytes others room spread le gives rest =
-    let here : value_in o (written fs others (written_at f.offset bytes room)) f ≡ normal_of pairs f.code f.length v
+    let here : value_in o (room_with_fields fs others (room_with f.offset bytes room)) f ≡ normal_of pairs f.code f.length v
     = ap (value_of o f.code) (field_kept f fs q bytes others room spread le gives.1 rest.1) ∙ gives.0 in
     (cc (here, rest.0), (gives.1, rest.1))
 
@@ -64,11 +64,11 @@ values_again o pairs size p (f ∷ fs) q (v ∷ vs) contents room sound spread l
     let s = contents_split o pairs f fs v vs contents is in
     let gives = field_gives o pairs f.code f.length v s.0 sound.0.length s.2 in
     let end : f.offset + f.length ≤ q = Spread-le (f.offset + f.length) fs q spread.1 in
-    let long : length (written_at f.offset s.0 room) ≡ length room = length-written_at f.offset s.0 room (omega (arith, gives.1)) in
-    let rest = values_again o pairs size (f.offset + f.length) fs q vs s.1 (written_at f.offset s.0 room) sound.1 spread.1 (omega (arith, long)) s.3 in
+    let long : length (room_with f.offset s.0 room) ≡ length room = length-room_with f.offset s.0 room (omega (arith, gives.1)) in
+    let rest = values_again o pairs size (f.offset + f.length) fs q vs s.1 (room_with f.offset s.0 room) sound.1 spread.1 (omega (arith, long)) s.3 in
     subst (Again o pairs (f ∷ fs) (v ∷ vs) room) s.4 (again_cons o pairs f fs q v vs s.0 s.1 room spread.1 le gives rest)
 
-filled_is : (fs : List Field) (contents : Result (List (List ℕ)) Fault) (room bytes : List ℕ) → filled fs contents room ≡ okay bytes → (all : List (List ℕ)) × (contents ≡ okay all) × (written fs all room ≡ bytes)
+filled_is : (fs : List Field) (contents : Result (List (List ℕ)) Fault) (room bytes : List ℕ) → room_with_contents fs contents room ≡ okay bytes → (all : List (List ℕ)) × (contents ≡ okay all) × (room_with_fields fs all room ≡ bytes)
 filled_is fs (Ok all) room bytes is = (all, refl, cc)
 filled_is fs (Err e) room bytes is = absurd cc
 
@@ -76,10 +76,10 @@ guarded : {A : Type 0} (test : Bool) (r : Result A Fault) (x : A) → cond test 
 guarded true r x is = (refl, is)
 guarded false r x is = absurd cc
 
-unpacked_at : (f : Format) (bytes : List ℕ) → length bytes ≡ f.size → unpacked f bytes ≡ Ok (values f bytes)
+pub unpacked_at : (f : Format) (bytes : List ℕ) → length bytes ≡ f.size → unpacked_values f bytes ≡ Ok (values f bytes)
 unpacked_at f bytes long = rw (eq-eqb (length bytes) f.size long) refl
 
-pub packed_again : (f : Format) (pairs : List (ℕ × Snap)) (vs : List Scalar) (bytes : List ℕ) → extent f.order f.codes ≡ f.size → packed f pairs vs ≡ Ok bytes → unpacked f bytes ≡ Ok (normal_values pairs (fields f) vs)
+pub packed_again : (f : Format) (pairs : List (ℕ × Snap)) (vs : List Scalar) (bytes : List ℕ) → extent f.order f.codes ≡ f.size → packed_bytes f pairs vs ≡ Ok bytes → unpacked_values f bytes ≡ Ok (normal_values pairs (fields f) vs)
 packed_again f pairs vs bytes whole is =
     let room = replicate f.size 0 in
     let room_long : length room ≡ f.size = length-replicate {A = ℕ} f.size 0 in
@@ -88,8 +88,12 @@ packed_again f pairs vs bytes whole is =
     let from_zero : 0 + extent f.order f.codes ≡ extent f.order f.codes = omega arith in
     let spread : Spread 0 (fields f) (extent f.order f.codes) = subst (Spread 0 (fields f)) from_zero (Spread-fields f.order 0 f.codes) in
     let again = values_again f.order pairs (extent f.order f.codes) 0 (fields f) (extent f.order f.codes) vs p.0 room (fields_sound f.order (extent f.order f.codes) 0 f.codes (omega arith)) spread (omega arith) p.1 in
-    let long : length (written (fields f) p.0 room) ≡ f.size = length-written 0 (fields f) (extent f.order f.codes) p.0 room spread (omega arith) again.1 ∙ room_long in
-    subst (λ (b : List ℕ). unpacked f b ≡ Ok (normal_values pairs (fields f) vs)) p.2 (unpacked_at f (written (fields f) p.0 room) long ∙ ap okay again.0)
+    let long : length (room_with_fields (fields f) p.0 room) ≡ f.size = length-room_with_fields 0 (fields f) (extent f.order f.codes) p.0 room spread (omega arith) again.1 ∙ room_long in
+    subst (λ (b : List ℕ). unpacked_values f b ≡ Ok (normal_values pairs (fields f) vs)) p.2 (unpacked_at f (room_with_fields (fields f) p.0 room) long ∙ ap okay again.0)
+
+pub length-packed_bytes : (f : Format) (pairs : List (ℕ × Snap)) (vs : List Scalar) (bytes : List ℕ) → extent f.order f.codes ≡ f.size → packed_bytes f pairs vs ≡ Ok bytes → length bytes ≡ f.size
+length-packed_bytes f pairs vs bytes whole is =
+    eqb-true (length bytes) f.size (guarded (eqb (length bytes) f.size) (okay (values f bytes)) (normal_values pairs (fields f) vs) (packed_again f pairs vs bytes whole is)).0
 
 -- ---- writing what was read
 
@@ -139,7 +143,7 @@ contents_back o pairs bytes (f ∷ fs) sound exact small =
     let first : bytes_of o pairs f.code f.length (value_in o bytes f) ≡ okay (part bytes f) = field_back o pairs f.code f.length (part bytes f) sound.0.length exact.0 long (IsBytes-part bytes f small) in
     rw (first, contents_back o pairs bytes fs sound.1 exact.1 small) refl
 
-pub unpacked_again : (f : Format) (pairs : List (ℕ × Snap)) (vs : List Scalar) (bytes : List ℕ) → extent f.order f.codes ≡ f.size → AreExact f.codes → All (λ b. b < 256) bytes → unpacked f bytes ≡ Ok vs → packed f pairs vs ≡ Ok bytes
+pub unpacked_again : (f : Format) (pairs : List (ℕ × Snap)) (vs : List Scalar) (bytes : List ℕ) → extent f.order f.codes ≡ f.size → AreExact f.codes → All (λ b. b < 256) bytes → unpacked_values f bytes ≡ Ok vs → packed_bytes f pairs vs ≡ Ok bytes
 unpacked_again f pairs vs bytes whole exact small is =
     let g = guarded (eqb (length bytes) f.size) (okay (values f bytes)) vs is in
     let long : length bytes ≡ f.size = eqb-true (length bytes) f.size g.0 in
@@ -150,7 +154,7 @@ unpacked_again f pairs vs bytes whole exact small is =
     let contents : contents_of f.order pairs (fields f) (values f bytes) ≡ okay (map (part bytes) (fields f))
     = contents_back f.order pairs bytes (fields f) (fields_sound f.order (length bytes) 0 f.codes (omega (arith, from_zero))) (exact-fields f.order 0 f.codes exact) (IsBytes-from bytes small) in
     let tiles : Tiles 0 (fields f) (length bytes) = subst (Tiles 0 (fields f)) from_zero (Tiles-fields f.order 0 f.codes exact) in
-    let back : written (fields f) (map (part bytes) (fields f)) room ≡ bytes = written_parts bytes 0 (fields f) (length bytes) room tiles refl (omega arith) in
+    let back : room_with_fields (fields f) (map (part bytes) (fields f)) room ≡ bytes = written_parts bytes 0 (fields f) (length bytes) room tiles refl (omega arith) in
     let counts : length (values f bytes) ≡ length (fields f) = length-map (fields f) (value_in f.order bytes) in
-    subst (λ (ws : List Scalar). packed f pairs ws ≡ Ok bytes) values_are
+    subst (λ (ws : List Scalar). packed_bytes f pairs ws ≡ Ok bytes) values_are
     (rw (eq-eqb (length (values f bytes)) (length (fields f)) counts, contents) (ap okay back))

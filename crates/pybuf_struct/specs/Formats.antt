@@ -1,7 +1,11 @@
 -- Formats: the grammar of their text, and where their fields lie. A format is an optional prefix and then any number
 -- of codes, each with an optional decimal count.
-use Rattle.std.specs.Prelude.{◌≡◌, ◌<◌, length, ℕ, zero, suc, ◌+◌, ◌-◌, ◌*◌, ◌%◌, ◌^◌, ◌==◌, List, [], ◌∷◌, ◌++◌, Option, Some, None, Result, ok_or, nat_lt, unwrap_or, if◌then◌else◌}
+use Rattle.std.specs.Prelude.{◌≡◌, ◌<◌, length, ℕ, zero, suc, ◌+◌, ◌-◌, ◌*◌, ◌%◌, ◌^◌, ◌==◌, List, [], ◌∷◌, ◌++◌, Option, Some, None, Result, ok_or, nat_lt, drop, if◌then◌else◌}
 use Rattle.std.specs.Char.{is_ascii_digit}
+use Rattle.std.specs.List.{onto_first, take_while}
+use Rattle.std.specs.Str.{byte}
+use Rattle.std.specs.Str.Parse.{digits_value}
+use Rattle.pybuf_value.specs.Choosing.{◌>>=◌}
 use Rattle.pybuf_value.specs.declared.faults.Fault.{Fault}
 use Rattle.pybuf_value.specs.declared.faults.Fault.TheVariants as fault
 use Rattle.pybuf_struct.specs.declared.table.Endianness.{Endianness}
@@ -16,43 +20,57 @@ use Rattle.pybuf_struct.specs.Table.{code_of, is_allowed, size_of, alignment_of}
 abbrev pub prefix_of : List ℕ → Endianness × List ℕ
 prefix_of [] = (order.Native, [])
 prefix_of (b ∷ rest) =
-    if b == 0x40 then (order.Native, rest)  -- @
-    else if b == 0x3d then (order.Host, rest)  -- =
-    else if b == 0x3c then (order.Little, rest)  -- <
-    else if b == 0x3e then (order.Big, rest)  -- >
-    else if b == 0x21 then (order.Big, rest)  -- !
+    if b == byte "@" then (order.Native, rest)
+    else if b == byte "=" then (order.Host, rest)
+    else if b == byte "<" then (order.Little, rest)
+    else if b == byte ">" then (order.Big, rest)
+    else if b == byte "!" then (order.Big, rest)
     else (order.Native, b ∷ rest)
 
--- one step after another: none where one of them gives none
-infixl 10 ◌>>=◌
-abbrev pub ◌>>=◌ : {A B : Type 0} → Option A → (A → Option B) → Option B
-(Some x) >>= f = f x
-None >>= f = None
-
--- the code, where formats of this prefix have it
-abbrev pub allowed : Endianness → FormatType → Option FormatType
-allowed o c = if is_allowed o c then Some c else None
-
--- the code that a byte spells, where formats of this prefix have it
-abbrev pub allowed_code : Endianness → ℕ → Option FormatType
-allowed_code o b = code_of b >>= allowed o
+-- A text cut after each byte that is no digit. So a part is the digits of a count, maybe none, and then the letter of
+-- a code; where the text ends with digits, they are a last part without a letter.
+abbrev pub parts_of : List ℕ → List (List ℕ)
+parts_of [] = []
+parts_of (b ∷ rest) = if is_ascii_digit b then onto_first b (parts_of rest) else (b ∷ []) ∷ parts_of rest
 
 -- a code of the text with its count
-pub record Counted : Type 0 where
+pub record CountedCode : Type 0 where
   pub repeat : ℕ
   pub code : FormatType
 
--- The codes of a text that goes on after the digits of a count, if there are such: a count is 1 where none is
--- written. There are none where a count has no code, or where a byte is neither a digit nor an allowed code.
-unfoldable pub counted : Endianness → List ℕ → Option ℕ → Option (List Counted)
-counted o [] None = Some []
-counted o [] (Some n) = None
-counted o (b ∷ text) count =
-    if is_ascii_digit b then counted o text (Some (unwrap_or count 0 * 10 + (b - 48)))
-    else (do
-      c ← allowed_code o b
-      others ← counted o text None
-      Some (record { repeat = unwrap_or count 1; code = c } ∷ others))
+-- the count that digits spell in decimal, 1 where there are none
+abbrev pub count_of : List ℕ → ℕ
+count_of [] = 1
+count_of (digit ∷ digits) = digits_value 10 (digit ∷ digits)
+
+-- the code that a byte spells, where formats of this prefix have it
+abbrev pub allowed_code : Endianness → ℕ → Option FormatType
+allowed_code o b = do
+  code ← code_of b
+  if is_allowed o code then Some code else None
+
+-- what follows the digits of a count: one letter
+abbrev pub code_after : Endianness → ℕ → List ℕ → Option CountedCode
+code_after o count (letter ∷ []) = do
+  code ← allowed_code o letter
+  Some (record { repeat = count; code = code })
+code_after o count _ = None
+
+-- the code with its count that a part spells
+abbrev pub counted_code : Endianness → List ℕ → Option CountedCode
+counted_code o part = let digits = take_while is_ascii_digit part in code_after o (count_of digits) (drop (length digits) part)
+
+-- what each part spells, where every one spells a code
+abbrev pub each_code : Endianness → List (List ℕ) → Option (List CountedCode)
+each_code o [] = Some []
+each_code o (part ∷ parts) = do
+  code ← counted_code o part
+  others ← each_code o parts
+  Some (code ∷ others)
+
+-- the codes that a text spells after a prefix
+unfoldable pub codes_in : Endianness → List ℕ → Option (List CountedCode)
+codes_in o text = each_code o (parts_of text)
 
 -- ---- the layout
 
@@ -82,8 +100,8 @@ extent o [] = 0
 extent o (c ∷ codes) = c.pre_padding + span o c + extent o codes
 
 -- a code that stands after an offset
-abbrev pub placed : Endianness → ℕ → Counted → Code
-placed o offset item = record { repeat = item.repeat; code = item.code; pre_padding = padding (alignment_of o item.code) offset }
+abbrev pub code_at : Endianness → ℕ → CountedCode → Code
+code_at o offset item = record { repeat = item.repeat; code = item.code; pre_padding = padding (alignment_of o item.code) offset }
 
 -- the offset after a code
 abbrev pub offset_after : Endianness → ℕ → Code → ℕ
@@ -91,25 +109,25 @@ offset_after o offset c = offset + c.pre_padding + span o c
 
 -- The codes from an offset on, each after its padding, and the last offset, which is the total size. There are none
 -- where an offset passes `isize::MAX`; so does a count that passes it, since each unit takes a byte or more.
-unfoldable pub laid : Endianness → ℕ → List Counted → Option (List Code × ℕ)
-laid o offset [] = Some ([], offset)
-laid o offset (item ∷ items) =
-    if nat_lt (offset_after o offset (placed o offset item)) (2 ^ 63)
+unfoldable pub layout_from : Endianness → ℕ → List CountedCode → Option (List Code × ℕ)
+layout_from o offset [] = Some ([], offset)
+layout_from o offset (item ∷ items) =
+    if nat_lt (offset_after o offset (code_at o offset item)) (2 ^ 63)
     then (do
-      others ← laid o (offset_after o offset (placed o offset item)) items
-      Some (placed o offset item ∷ others.0, others.1))
+      others ← layout_from o (offset_after o offset (code_at o offset item)) items
+      Some (code_at o offset item ∷ others.0, others.1))
     else None
 
 -- the format whose codes a text spells after a prefix
-unfoldable pub spelled : Endianness → List ℕ → Option Format
-spelled o text = do
-  items ← counted o text None
-  layout ← laid o 0 items
+unfoldable pub format_after_prefix : Endianness → List ℕ → Option Format
+format_after_prefix o text = do
+  items ← codes_in o text
+  layout ← layout_from o 0 items
   Some (record { order = o; codes = layout.0; size = layout.1 })
 
 -- the format that a text spells; `StructError` where it spells none
 abbrev pub format_of : List ℕ → Result Format Fault
-format_of text = ok_or (spelled (prefix_of text).0 (prefix_of text).1) fault.Struct
+format_of text = ok_or (format_after_prefix (prefix_of text).0 (prefix_of text).1) fault.Struct
 
 -- ---- fields
 

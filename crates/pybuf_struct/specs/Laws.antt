@@ -1,5 +1,5 @@
 -- What reading gives of what was written.
-use Rattle.std.specs.Prelude.{IsTrue, Bool, true, false, ℕ, ◌==◌, ◌+◌, ◌-◌, ◌%◌, ◌≡◌, ◌<◌, ◌≤◌, min, not, List, [], ◌∷◌, take, ℤ, Result, Ok, Err, if◌then◌else◌}
+use Rattle.std.specs.Prelude.{IsTrue, Bool, true, false, ℕ, ◌==◌, ◌+◌, ◌-◌, ◌%◌, ◌^◌, ◌≡◌, ◌<◌, ◌≤◌, min, not, List, [], ◌∷◌, ◌++◌, length, map, take, ℤ, Result, Ok, Err, if◌then◌else◌}
 use Rattle.std.specs.List.{All, AllByRecursion}
 use Rattle.pybuf_value.specs.declared.faults.Fault.{Fault}
 use Rattle.pybuf_value.specs.declared.values.Scalar.{Scalar}
@@ -12,8 +12,9 @@ use Rattle.pybuf_struct.specs.declared.table.FormatType.{FormatType}
 use Rattle.pybuf_struct.specs.declared.table.FormatType.TheVariants as code
 use Rattle.pybuf_struct.specs.Table.{alignment_of}
 use Rattle.pybuf_struct.specs.Formats.{Code, Format, Field, format_of, fields}
-use Rattle.pybuf_struct.specs.Values.{unpacked}
-use Rattle.pybuf_struct.specs.Packing.{truth_byte, fitted_to, packed}
+use Rattle.pybuf_struct.specs.FormatTexts.{WrittenCode, IsPrefixOf, AreWritten, text_of_codes, items_of_codes, item_of_code, end_after}
+use Rattle.pybuf_struct.specs.Values.{values, unpacked_values}
+use Rattle.pybuf_struct.specs.Packing.{truth_byte, fitted_to, packed_bytes}
 
 abbrev pub normal_number : Result ℤ Fault → Scalar
 normal_number (Ok n) = scalar.Int n
@@ -74,10 +75,28 @@ FieldsLieInOrder = (text : List ℕ) (f : Format) → format_of text ≡ Ok f �
 abbrev pub ReadsWhatWasWritten : Type 0
 ReadsWhatWasWritten =
     (text : List ℕ) (f : Format) (pairs : List (ℕ × Snap)) (args : List Scalar) (bytes : List ℕ)
-    → format_of text ≡ Ok f → packed f pairs args ≡ Ok bytes → unpacked f bytes ≡ Ok (normal_values pairs (fields f) args)
+    → format_of text ≡ Ok f → packed_bytes f pairs args ≡ Ok bytes → unpacked_values f bytes ≡ Ok (normal_values pairs (fields f) args)
 
 -- Writing by an exact format gives the bytes that the values were read from.
 abbrev pub WritesWhatWasRead : Type 0
 WritesWhatWasRead =
     (text : List ℕ) (f : Format) (pairs : List (ℕ × Snap)) (args : List Scalar) (bytes : List ℕ)
-    → format_of text ≡ Ok f → AreExact f.codes → All (λ b. b < 256) bytes → unpacked f bytes ≡ Ok args → packed f pairs args ≡ Ok bytes
+    → format_of text ≡ Ok f → AreExact f.codes → All (λ b. b < 256) bytes → unpacked_values f bytes ≡ Ok args → packed_bytes f pairs args ≡ Ok bytes
+
+-- What values are packed to has the size of the format.
+abbrev pub PackingFillsTheFormat : Type 0
+PackingFillsTheFormat =
+    (text : List ℕ) (f : Format) (pairs : List (ℕ × Snap)) (args : List Scalar) (bytes : List ℕ)
+    → format_of text ≡ Ok f → packed_bytes f pairs args ≡ Ok bytes → length bytes ≡ f.size
+
+-- Bytes of the format's size are never refused, and read as the values of its fields.
+abbrev pub BytesOfTheSizeAreRead : Type 0
+BytesOfTheSizeAreRead = (f : Format) (bytes : List ℕ) → length bytes ≡ f.size → unpacked_values f bytes ≡ Ok (values f bytes)
+
+-- Codes with their counts that are written after a prefix are read as the same order, codes and counts, if their whole
+-- size is at most `isize::MAX`.
+abbrev pub FormatsReadBack : Type 0
+FormatsReadBack =
+    (o : Endianness) (prefix : List ℕ) (ws : List WrittenCode)
+    → IsPrefixOf o prefix → AreWritten o ws → end_after o 0 (items_of_codes ws) < 2 ^ 63
+    → (f : Format) × (format_of (prefix ++ text_of_codes ws) ≡ Ok f) × (f.order ≡ o) × (map item_of_code f.codes ≡ items_of_codes ws)

@@ -4,4 +4,5 @@ pub mod Formats
 pub mod Values
 pub mod Packing
 pub mod Cursor
+pub mod FormatTexts
 pub mod Laws

@@ -32,7 +32,7 @@ abbrev pub complement_of : ℕ → ℤ → ℕ
 complement_of size (pos n) = n
 complement_of size (negsuc n) = 256 ^ size - suc n
 
--- the digits of a number in base 256, so many of them, the first of them worth most (big) or least
+-- the digits of a number in base 256, so many of them, big-endian or little-endian
 abbrev pub digits_of : Bool → ℕ → ℕ → List ℕ
 digits_of true size n = bytes_high_first size n
 digits_of false size n = bytes_low_first 0 size n
@@ -57,8 +57,8 @@ abbrev pub fitted_to : ℕ → List ℕ → List ℕ
 fitted_to n bytes = take n bytes ++ replicate (n - length bytes) 0
 
 -- one byte
-abbrev pub single : List ℕ → Result (List ℕ) Fault
-single bytes = if length bytes == 1 then Ok bytes else Err fault.Struct
+abbrev pub single_byte : List ℕ → Result (List ℕ) Fault
+single_byte bytes = if length bytes == 1 then Ok bytes else Err fault.Struct
 
 -- a Pascal string: its length in one byte, and then its bytes
 abbrev pub pascal_bytes : ℕ → List ℕ → List ℕ
@@ -77,7 +77,7 @@ abbrev pub bytes_of : Endianness → List (ℕ × Snap) → FormatType → ℕ �
 bytes_of o pairs code.Pad len v = Err fault.Struct
 bytes_of o pairs code.Char len v = do
   bytes ← bytes_alone pairs v
-  single bytes
+  single_byte bytes
 bytes_of o pairs code.Bool len v = do
   byte ← truth_byte v
   Ok (byte ∷ [])
@@ -97,33 +97,33 @@ contents_of o pairs (f ∷ fs) (v ∷ vs) = do
   others ← contents_of o pairs fs vs
   Ok (bytes ∷ others)
 
--- bytes written over a list's from an offset on
-abbrev pub written_at : ℕ → List ℕ → List ℕ → List ℕ
-written_at offset bytes room = take offset room ++ (bytes ++ drop (offset + length bytes) room)
+-- a list whose bytes from an offset on are these
+abbrev pub room_with : ℕ → List ℕ → List ℕ → List ℕ
+room_with offset bytes room = take offset room ++ (bytes ++ drop (offset + length bytes) room)
 
--- the bytes of each field written at its place
-abbrev pub written : List Field → List (List ℕ) → List ℕ → List ℕ
-written (f ∷ fs) (bytes ∷ others) room = written fs others (written_at f.offset bytes room)
-written [] contents room = room
-written (f ∷ fs) [] room = room
+-- a list with the bytes of each field at its place
+abbrev pub room_with_fields : List Field → List (List ℕ) → List ℕ → List ℕ
+room_with_fields (f ∷ fs) (bytes ∷ others) room = room_with_fields fs others (room_with f.offset bytes room)
+room_with_fields [] contents room = room
+room_with_fields (f ∷ fs) [] room = room
 
--- each field's bytes written at its place, where no field refuses its value
-abbrev pub filled : List Field → Result (List (List ℕ)) Fault → List ℕ → Result (List ℕ) Fault
-filled fs contents room = contents >>= λ all. Ok (written fs all room)
+-- the same, where no field refuses its value
+abbrev pub room_with_contents : List Field → Result (List (List ℕ)) Fault → List ℕ → Result (List ℕ) Fault
+room_with_contents fs contents room = contents >>= λ all. Ok (room_with_fields fs all room)
 
 -- the bytes of the format's size that hold each field's bytes at its place, and zeros elsewhere
 abbrev pub packed_values : Format → List (ℕ × Snap) → List Scalar → Result (List ℕ) Fault
-packed_values f pairs values = filled (fields f) (contents_of f.order pairs (fields f) values) (replicate f.size 0)
+packed_values f pairs values = room_with_contents (fields f) (contents_of f.order pairs (fields f) values) (replicate f.size 0)
 
 -- The bytes of values by a format. A wrong number of values is refused first, and then the first value from the left
 -- that its field refuses.
-abbrev pub packed : Format → List (ℕ × Snap) → List Scalar → Result (List ℕ) Fault
-packed f pairs values = if length values == length (fields f) then packed_values f pairs values else Err fault.Struct
+abbrev pub packed_bytes : Format → List (ℕ × Snap) → List Scalar → Result (List ℕ) Fault
+packed_bytes f pairs values = if length values == length (fields f) then packed_values f pairs values else Err fault.Struct
 
 -- whether a call is refused, and why
-abbrev pub checked : {A : Type 0} → Result A Fault → Result (Unit {0}) Fault
-checked (Ok x) = Ok tt
-checked (Err f) = Err f
+abbrev pub refusal_of : {A : Type 0} → Result A Fault → Result (Unit {0}) Fault
+refusal_of (Ok x) = Ok tt
+refusal_of (Err f) = Err f
 
 -- the bytes that a call gave
 abbrev pub items_of : Outcome (Vec ℕ) → Outcome (List ℕ)

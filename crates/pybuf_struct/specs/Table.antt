@@ -2,6 +2,7 @@
 -- Native sizes and alignments, and the native order of bytes, are those of a 64-bit little-endian machine.
 use Rattle.std.specs.Prelude.{ℕ, Bool, true, false, List, [], ◌∷◌, Option, ◌==◌}
 use Rattle.std.specs.List.{find}
+use Rattle.std.specs.Str.{byte}
 use Rattle.pybuf_struct.specs.declared.table.Endianness.{Endianness}
 use Rattle.pybuf_struct.specs.declared.table.Endianness.TheVariants as order
 use Rattle.pybuf_struct.specs.declared.table.FormatType.{FormatType}
@@ -9,24 +10,24 @@ use Rattle.pybuf_struct.specs.declared.table.FormatType.TheVariants as code
 
 -- the byte that spells a code
 abbrev pub letter : FormatType → ℕ
-letter code.Pad = 0x78  -- x
-letter code.SByte = 0x62  -- b
-letter code.UByte = 0x42  -- B
-letter code.Char = 0x63  -- c
-letter code.Bool = 0x3f  -- ?
-letter code.Short = 0x68  -- h
-letter code.UShort = 0x48  -- H
-letter code.Int = 0x69  -- i
-letter code.UInt = 0x49  -- I
-letter code.Long = 0x6c  -- l
-letter code.ULong = 0x4c  -- L
-letter code.LongLong = 0x71  -- q
-letter code.ULongLong = 0x51  -- Q
-letter code.SSizeT = 0x6e  -- n
-letter code.SizeT = 0x4e  -- N
-letter code.WideChar = 0x75  -- u
-letter code.Str = 0x73  -- s
-letter code.Pascal = 0x70  -- p
+letter code.Pad = byte "x"
+letter code.SByte = byte "b"
+letter code.UByte = byte "B"
+letter code.Char = byte "c"
+letter code.Bool = byte "?"
+letter code.Short = byte "h"
+letter code.UShort = byte "H"
+letter code.Int = byte "i"
+letter code.UInt = byte "I"
+letter code.Long = byte "l"
+letter code.ULong = byte "L"
+letter code.LongLong = byte "q"
+letter code.ULongLong = byte "Q"
+letter code.SSizeT = byte "n"
+letter code.SizeT = byte "N"
+letter code.WideChar = byte "u"
+letter code.Str = byte "s"
+letter code.Pascal = byte "p"
 
 abbrev pub every_code : List FormatType
 every_code =
@@ -43,7 +44,7 @@ abbrev pub is_native : Endianness → Bool
 is_native order.Native = true
 is_native _ = false
 
--- whether the first byte of a number is worth most
+-- whether numbers are big-endian, so that their first byte is worth most
 abbrev pub is_big : Endianness → Bool
 is_big order.Big = true
 is_big _ = false

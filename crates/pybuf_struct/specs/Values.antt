@@ -37,8 +37,8 @@ abbrev pub values : Format → List ℕ → List Scalar
 values f bytes = map (value_in f.order bytes) (fields f)
 
 -- the values of bytes of the format's size; of any other length `StructError`
-abbrev pub unpacked : Format → List ℕ → Result (List Scalar) Fault
-unpacked f bytes = if length bytes == f.size then Ok (values f bytes) else Err fault.Struct
+abbrev pub unpacked_values : Format → List ℕ → Result (List Scalar) Fault
+unpacked_values f bytes = if length bytes == f.size then Ok (values f bytes) else Err fault.Struct
 
 -- an item of exactly one value reads as that value, of any other number as a tuple
 abbrev pub item_of : List Scalar → Item

@@ -2,7 +2,7 @@
 ghost use Rattle.std.specs.Prelude.{◌≡◌, ◌^◌, length, pos, IsTrue};
 ghost use Rattle.pybuf_struct.specs.Digits.{is_width, unsigned_number, number};
 
-/// The number that bytes spell without a sign.
+/// The number that bytes spell without a sign, big-endian or little-endian.
 pub(crate) fn unsigned_number(big: bool, bytes: &[u8]) -> u64
     requires { IsTrue (is_width (length bytes.now)) }
     ensures { result ≡ unsigned_number big bytes.now }

@@ -128,7 +128,7 @@ impl FormatSpec {
         self.size
     }
 
-    /// The order of the bytes, as the text's prefix says it.
+    /// The byte order, as the text's prefix says it.
     pub fn endianness(&self) -> Endianness
         ensures { result ≡ self.now.order }
     {

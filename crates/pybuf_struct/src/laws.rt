@@ -1,6 +1,14 @@
 //! Laws over all formats, values and bytes. Their statements cite the definitions that the
 //! contracts of `FormatSpec::parse`, `pack`, `pack_into` and `unpack` cite.
-ghost use Rattle.pybuf_struct.specs.Laws.{FieldsLieInOrder, ReadsWhatWasWritten, WritesWhatWasRead};
+ghost use Rattle.pybuf_struct.specs.Laws.{FieldsLieInOrder, ReadsWhatWasWritten, WritesWhatWasRead, FormatsReadBack, PackingFillsTheFormat, BytesOfTheSizeAreRead};
+
+/// Codes and counts that are written out by the grammar are read as the same codes and counts: for
+/// every prefix, every code that formats of this prefix have, and every count, whether it is
+/// written in decimal, with zeros before it, or left out where it is 1, as long as the total size
+/// is at most `isize::MAX`.
+pub fn formats_read_back()
+    ensures { FormatsReadBack }
+{}
 
 /// The fields of a format that a text spells follow one another within the format's size, and each
 /// begins at a multiple of its code's alignment.
@@ -13,6 +21,16 @@ pub fn fields_lie_in_order()
 /// field's length less 1 and 255.
 pub fn reads_what_was_written()
     ensures { ReadsWhatWasWritten }
+{}
+
+/// What `pack` gives has the size of the format.
+pub fn packing_fills_the_format()
+    ensures { PackingFillsTheFormat }
+{}
+
+/// `unpack` refuses no bytes of the format's size, and reads them as the values of its fields.
+pub fn bytes_of_the_size_are_read()
+    ensures { BytesOfTheSizeAreRead }
 {}
 
 /// `pack` of what `unpack` gives is the bytes that were read, where no byte of them is lost: in

@@ -11,7 +11,10 @@ mod table;
 mod unpack;
 
 pub use format::{FormatCode, FormatSpec};
-pub use laws::{fields_lie_in_order, reads_what_was_written, writes_what_was_read};
+pub use laws::{
+    bytes_of_the_size_are_read, fields_lie_in_order, formats_read_back, packing_fills_the_format,
+    reads_what_was_written, writes_what_was_read,
+};
 pub use table::{Endianness, FormatType};
 
 #[cfg(test)]

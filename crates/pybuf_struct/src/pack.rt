@@ -1,17 +1,16 @@
 //! Bytes from values.
 ghost use Rattle.std.specs.Prelude.{◌≡◌, ◌<◌, ◌≤◌, ◌-◌, ◌^◌, true, false, ◌||◌, length, Ok, Err, IfOk, IfErr, OnOk, OnErr, IsOk, IsTrue};
 ghost use Rattle.pybuf_value.specs.Numbers.{number_in};
-ghost use Rattle.pybuf_value.specs.Snaps.{bytes_like, bytes_alone};
 ghost use Rattle.pybuf_struct.specs.Digits.{is_width};
 ghost use Rattle.pybuf_struct.specs.Formats.{extent, fields_from};
 ghost use Rattle.pybuf_struct.specs.Values.{is_length, outcome_of};
-ghost use Rattle.pybuf_struct.specs.Packing.{is_in_range, complement_of, digits_of, truth_byte, fitted_to, pascal_bytes, bytes_of, contents_of, filled, checked, packed, items_of};
+ghost use Rattle.pybuf_struct.specs.Packing.{is_in_range, complement_of, digits_of, truth_byte, fitted_to, pascal_bytes, bytes_of, contents_of, room_with_contents, refusal_of, packed_bytes, items_of};
 
 use crate::cursor::Cursor;
 use crate::digits::modulus_of;
 use crate::format::{FormatCode, FormatSpec};
 use crate::table::{Endianness, FormatType};
-use pybuf_value::{Fault, Lender, Outcome, Scalar, ScalarList, SnapKind, Tried};
+use pybuf_value::{Fault, Lender, Outcome, Scalar, ScalarList, Tried, bytes_alone, bytes_like};
 use std::alloc::Global;
 
 /// The number of an argument.
@@ -32,55 +31,6 @@ fn truth_byte(value: &Scalar) -> Result<u8, Fault>
     match value {
         Scalar::Int(number) => { if *number == 0 { Ok(0) } else { Ok(1) } }
         Scalar::Bool(truth) => { if *truth { Ok(1) } else { Ok(0) } }
-        _ => Err(Fault::Kind),
-    }
-}
-
-/// The bytes of a bytes value, or of the exporter or view that a handle names.
-fn bytes_like<'a, L: Lender>(value: &'a Scalar, lender: &'a L) -> Result<&'a [u8], Fault>
-    ensures ok { IfOk result (λ bytes. bytes_like (L.pairs lender.now) value.now ≡ Ok bytes.now) }
-    ensures err { IfErr result (λ fault. bytes_like (L.pairs lender.now) value.now ≡ Err fault) }
-{
-    match value {
-        Scalar::Bytes(bytes) => Ok(bytes.as_slice()),
-        Scalar::Handle(handle) => {
-            let Some(snap) = lender.lend(*handle) else {
-                return Err(Fault::UnknownName);
-            };
-            match snap.kind {
-                SnapKind::Iterator => Err(Fault::Kind),
-                SnapKind::View => {
-                    if snap.released {
-                        return Err(Fault::Value);
-                    }
-                    if !snap.contiguous {
-                        return Err(Fault::Kind);
-                    }
-                    Ok(snap.content.as_slice())
-                }
-                _ => Ok(snap.content.as_slice()),
-            }
-        }
-        _ => Err(Fault::Kind),
-    }
-}
-
-/// The bytes of a bytes value, or of the exporter of kind bytes that a handle names.
-fn bytes_alone<'a, L: Lender>(value: &'a Scalar, lender: &'a L) -> Result<&'a [u8], Fault>
-    ensures ok { IfOk result (λ bytes. bytes_alone (L.pairs lender.now) value.now ≡ Ok bytes.now) }
-    ensures err { IfErr result (λ fault. bytes_alone (L.pairs lender.now) value.now ≡ Err fault) }
-{
-    match value {
-        Scalar::Bytes(bytes) => Ok(bytes.as_slice()),
-        Scalar::Handle(handle) => {
-            let Some(snap) = lender.lend(*handle) else {
-                return Err(Fault::UnknownName);
-            };
-            match snap.kind {
-                SnapKind::Bytes => Ok(snap.content.as_slice()),
-                _ => Err(Fault::Kind),
-            }
-        }
         _ => Err(Fault::Kind),
     }
 }
@@ -145,7 +95,7 @@ fn check_field<L: Lender>(
     lender: &L,
 ) -> Result<(), Fault>
     requires { IsTrue (is_length order code length) }
-    ensures { result ≡ checked (bytes_of order (L.pairs lender.now) code length value.now) }
+    ensures { result ≡ refusal_of (bytes_of order (L.pairs lender.now) code length value.now) }
 {
     match code {
         FormatType::Pad => Err(Fault::Struct),
@@ -247,16 +197,16 @@ fn check_all<L: Lender>(
 ) -> Result<(), Fault>
     requires bound { extent order codes.now < 2 ^ 63 }
     requires count { length values.now ≡ length (fields_from order 0 codes.now) }
-    ensures { result ≡ checked (contents_of order (L.pairs lender.now) (fields_from order 0 codes.now) values.now) }
+    ensures { result ≡ refusal_of (contents_of order (L.pairs lender.now) (fields_from order 0 codes.now) values.now) }
 {
     let mut cursor = Cursor::new(order, codes);
     for value in values {
         let Some(field) = cursor.next() else {
             return Err(Fault::Struct);
         };
-        let checked = check_field(order, field.code, field.length, value, lender);
-        if checked.is_err() {
-            return checked;
+        let answer = check_field(order, field.code, field.length, value, lender);
+        if answer.is_err() {
+            return answer;
         }
     }
     Ok(())
@@ -273,7 +223,7 @@ fn write_all<L: Lender>(
     requires bound { extent order codes.now < 2 ^ 63 }
     requires within { extent order codes.now ≤ length room.old }
     requires accepted { IsOk (contents_of order (L.pairs lender.now) (fields_from order 0 codes.now) values.now) }
-    ensures { filled (fields_from order 0 codes.now) (contents_of order (L.pairs lender.now) (fields_from order 0 codes.now) values.now) room.old ≡ Ok room.new }
+    ensures { room_with_contents (fields_from order 0 codes.now) (contents_of order (L.pairs lender.now) (fields_from order 0 codes.now) values.now) room.old ≡ Ok room.new }
 {
     let mut cursor = Cursor::new(order, codes);
     for value in values {
@@ -294,7 +244,7 @@ fn write_all<L: Lender>(
 impl FormatSpec {
     /// Why values are refused, if they are.
     fn check<L: Lender>(&self, args: &ScalarList, lender: &L) -> Result<(), Fault>
-        ensures { result ≡ checked (packed self.now (L.pairs lender.now) args.now) }
+        ensures { result ≡ refusal_of (packed_bytes self.now (L.pairs lender.now) args.now) }
     {
         let _ = self.size();
         if args.len() != self.arg_count() {
@@ -321,7 +271,7 @@ impl FormatSpec {
     ///   of bytes, the field's length less 1, and 255. A `p` of length 0 takes every value;
     /// - a handle that `c`, `s` or `p` looks at and the lender hasn't is `UnknownName`.
     pub fn pack<L: Lender>(&self, alloc: Global, args: &ScalarList, lender: &L) -> Tried<Vec<u8>>
-        ensures { IfOk result (λ o. items_of o ≡ outcome_of (packed self.now (L.pairs lender.now) args.now)) }
+        ensures { IfOk result (λ o. items_of o ≡ outcome_of (packed_bytes self.now (L.pairs lender.now) args.now)) }
     {
         if let Err(fault) = self.check(args, lender) {
             return Ok(Outcome::Refused(fault));
@@ -349,13 +299,13 @@ impl FormatSpec {
     ) -> Result<(), Fault>
         // A room of another size is the caller's mistake.
         requires { length room.old ≡ self.now.size }
-        ensures refusal { result ≡ checked (packed self.now (L.pairs lender.now) args.now) }
-        ensures ok { OnOk result (packed self.now (L.pairs lender.now) args.now ≡ Ok room.new) }
+        ensures refusal { result ≡ refusal_of (packed_bytes self.now (L.pairs lender.now) args.now) }
+        ensures ok { OnOk result (packed_bytes self.now (L.pairs lender.now) args.now ≡ Ok room.new) }
         ensures err { OnErr result (room.new ≡ room.old) }
     {
-        let checked = self.check(args, lender);
-        if checked.is_err() {
-            return checked;
+        let answer = self.check(args, lender);
+        if answer.is_err() {
+            return answer;
         }
         let _ = self.size();
         room.fill(0);

@@ -2,7 +2,7 @@
 ghost use Rattle.std.specs.Prelude.{◌≡◌, ◌+◌, ◌-◌, ◌*◌, ◌<◌, ◌≤◌, ◌^◌, IfSome, IfNone, IfOk, IsTrue, ok_or, unwrap_or};
 ghost use Rattle.std.specs.Char.{is_ascii_digit};
 ghost use Rattle.pybuf_value.specs.declared.faults.Fault.{Fault};
-ghost use Rattle.pybuf_struct.specs.Formats.{allowed_code, prefix_of, placed, offset_after, spelled, format_of};
+ghost use Rattle.pybuf_struct.specs.Formats.{allowed_code, prefix_of, code_at, offset_after, format_after_prefix, format_of};
 ghost use Rattle.pybuf_struct.specs.Values.{outcome_of};
 
 use crate::format::{FormatCode, FormatSpec};
@@ -41,7 +41,7 @@ fn with_digit(count: Option<usize>, digit: u8) -> Option<usize>
 }
 
 /// The code that a byte spells, where formats of this prefix have it.
-fn code_in(order: Endianness, letter: u8) -> Option<FormatType>
+fn allowed_code(order: Endianness, letter: u8) -> Option<FormatType>
     ensures { result ≡ allowed_code order letter }
 {
     let code = FormatType::from_letter(letter)?;
@@ -60,10 +60,10 @@ fn place(
     code: FormatType,
 ) -> Option<(FormatCode, usize)>
     requires { offset < 2 ^ 63 }
-    ensures code { IfSome result (λ x. x.0 ≡ placed order offset (record { repeat = repeat; code = code })) }
-    ensures fits { IfSome result (λ x. x.1 ≡ offset_after order offset (placed order offset (record { repeat = repeat; code = code }))) }
+    ensures code { IfSome result (λ x. x.0 ≡ code_at order offset (record { repeat = repeat; code = code })) }
+    ensures fits { IfSome result (λ x. x.1 ≡ offset_after order offset (code_at order offset (record { repeat = repeat; code = code }))) }
     ensures bound { IfSome result (λ x. x.1 < 2 ^ 63) }
-    ensures past { IfNone result (2 ^ 63 ≤ offset_after order offset (placed order offset (record { repeat = repeat; code = code }))) }
+    ensures past { IfNone result (2 ^ 63 ≤ offset_after order offset (code_at order offset (record { repeat = repeat; code = code }))) }
 {
     let alignment = code.alignment(order);
     let over = offset % alignment;
@@ -78,7 +78,7 @@ fn place(
 
 /// The format whose codes the text spells after its prefix.
 fn spell(alloc: Global, order: Endianness, text: &[u8]) -> Tried<FormatSpec>
-    ensures { IfOk result (λ o. o ≡ outcome_of (ok_or (spelled order text.now) Fault.Struct)) }
+    ensures { IfOk result (λ o. o ≡ outcome_of (ok_or (format_after_prefix order text.now) Fault.Struct)) }
 {
     let mut codes = Vec::new(alloc);
     let mut offset = 0usize;
@@ -91,7 +91,7 @@ fn spell(alloc: Global, order: Endianness, text: &[u8]) -> Tried<FormatSpec>
                 None => return Ok(Outcome::Refused(Fault::Struct)),
             }
         } else {
-            let Some(code) = code_in(order, b) else {
+            let Some(code) = allowed_code(order, b) else {
                 return Ok(Outcome::Refused(Fault::Struct));
             };
             let Some((code, end)) = place(order, offset, count.unwrap_or(1), code) else {

@@ -2,14 +2,14 @@
 ghost use Rattle.std.specs.Prelude.{◌≡◌};
 ghost use Rattle.pybuf_struct.specs.Table.{code_of, is_native, is_big, is_allowed, size_of, alignment_of, is_signed};
 
-/// The order, sizes and alignment of a format, which its prefix says.
+/// The byte order, sizes and alignment of a format, which its prefix says.
 #[derive(Clone, Copy, Debug, PartialEq, Eq)]
 pub enum Endianness {
     /// No prefix or `@`: native order, sizes and alignment.
     Native,
-    /// `<`: the first byte of a number is worth least.
+    /// `<`: little-endian, so that the first byte of a number is worth least, with standard sizes.
     Little,
-    /// `>` or `!`: the first byte of a number is worth most.
+    /// `>` or `!`: big-endian, so that the first byte of a number is worth most, with standard sizes.
     Big,
     /// `=`: native order with standard sizes.
     Host,
@@ -156,7 +156,7 @@ impl Endianness {
         }
     }
 
-    /// Whether the first byte of a number is worth most.
+    /// Whether numbers are big-endian.
     pub(crate) fn is_big(self) -> bool
         ensures { result ≡ is_big self }
     {

@@ -2,7 +2,7 @@
 ghost use Rattle.std.specs.Prelude.{◌≡◌, ◌+◌, ◌*◌, ◌≤◌, ◌<◌, ◌^◌, ◌++◌, length, map, IfOk, OnOk, IsTrue};
 ghost use Rattle.pybuf_struct.specs.Table.{size_of};
 ghost use Rattle.pybuf_struct.specs.Formats.{span, extent, fields_in_row, fields_of_code, fields_from};
-ghost use Rattle.pybuf_struct.specs.Values.{is_length, pascal_content, value_of, value_in, unpacked, outcome_of};
+ghost use Rattle.pybuf_struct.specs.Values.{is_length, pascal_content, value_of, value_in, unpacked_values, outcome_of};
 
 use crate::digits::number;
 use crate::format::{FormatCode, FormatSpec};
@@ -116,7 +116,7 @@ impl FormatSpec {
     ///
     /// Refused with `StructError` exactly where the number of bytes isn't the format's size.
     pub fn unpack(&self, alloc: Global, bytes: &[u8]) -> Tried<ScalarList>
-        ensures { IfOk result (λ o. o ≡ outcome_of (unpacked self.now bytes.now)) }
+        ensures { IfOk result (λ o. o ≡ outcome_of (unpacked_values self.now bytes.now)) }
     {
         if bytes.len() != self.size() {
             return Ok(Outcome::Refused(Fault::Struct));
