@@ -4,11 +4,13 @@ use Rattle.std.proofs.Math.Nat.{zero-div}
 use Rattle.std.proofs.lemmas.Int.{ints}
 use Rattle.std.specs.List.{AllByRecursion, range_with_len}
 use Rattle.std.proofs.lemmas.List.Elements.{recursion_from_All}
-use Rattle.pybuf_desc.specs.Descriptor.{Descriptor, Layout, flat, shape_of, product}
+use Rattle.pybuf_desc.specs.Layouts.{Layout, product}
+use Rattle.pybuf_desc.specs.Descriptor.{Descriptor, flat_descriptor, shape_of}
 use Rattle.pybuf_desc.specs.Places.{places, Stands}
 use Rattle.pybuf_desc.specs.Valid.{IsInside, IsValid, IsPlaceable}
-use Rattle.pybuf_desc.specs.Contiguous.{IsContiguous}
-use Rattle.pybuf_desc.specs.Casts.{cast_of, cast_count, starts_from}
+use Rattle.pybuf_desc.specs.RowMajor.{IsContiguous}
+use Rattle.pybuf_desc.specs.Contiguous.{starts_from}
+use Rattle.pybuf_desc.specs.Casts.{cast_of, cast_count}
 use Rattle.pybuf_desc.proofs.Steps.{length-places}
 use Rattle.pybuf_desc.proofs.Products.{extent_of}
 use Rattle.pybuf_desc.proofs.Strides.{some_entries}
@@ -33,7 +35,7 @@ end_of size room (suc n) start len e some all =
     let bytes : suc n * size ≡ len = mul_comm (suc n) size ∙ e in
     omega (arith, ints, end, bytes)
 
-bytes_inside : (d : Descriptor) (start room : ℕ) → HasNoGap d → IsValid d start room → 0 < d.len → start + d.len ≤ room
+pub bytes_inside : (d : Descriptor) (start room : ℕ) → HasNoGap d → IsValid d start room → 0 < d.len → start + d.len ≤ room
 bytes_inside d start room gapless valid some =
     end_of d.itemsize room (product (shape_of d.dims)) start d.len valid.len some
     (subst (AllByRecursion (IsInside d.itemsize room)) (run_from_contiguous d.itemsize d.dims (pos start) (gapless (pos start)))
@@ -49,7 +51,7 @@ len_fits d can =
     subst (λ n. n < 2 ^ 63) can.placed.valid.len (lt_of_le_of_lt (mul-le-mul_left d.itemsize (product_below d.dims)) can.placed.valid.extent_fits)
 
 pub valid_cast : (d : Descriptor) (format : List ℕ) (size : ℕ) → IsPlaceable d → HasNoGap d → 0 < size → size < 2 ^ 63 → d.len % size ≡ 0
-    → (start room : ℕ) → IsValid d start room → IsValid (flat format size (d.len / size) d.readonly) start room
+    → (start room : ℕ) → IsValid d start room → IsValid (flat_descriptor format size (d.len / size) d.readonly) start room
 valid_cast d format size can gapless some fits whole start room valid =
     valid_flat_at format size (d.len / size) d.len start room d.readonly some fits (whole_items d.len size some whole) (len_fits d can) (bytes_inside d start room gapless valid)
 
@@ -60,7 +62,7 @@ map-pos-from size zero i first = refl
 map-pos-from size (suc n) i first =
     ap₂ (λ (x : ℤ) (xs : List ℤ). x ∷ xs) (let e : pos first +ℤ pos (i * size) ≡ pos (first + i * size) = omega (arith, ints) in e) (map-pos-from size n (i + 1) first)
 
-starts_of_cast : (size count start : ℕ) (xs : List ℤ) (starts : List ℕ) → xs ≡ map pos starts → (0 < length starts → get_or xs 0 (pos 0) ≡ pos start) → (length starts ≡ 0 → count ≡ 0)
+pub starts_of_cast : (size count start : ℕ) (xs : List ℤ) (starts : List ℕ) → xs ≡ map pos starts → (0 < length starts → get_or xs 0 (pos 0) ≡ pos start) → (length starts ≡ 0 → count ≡ 0)
     → map (λ k. pos start +ℤ pos (k * size)) (range_with_len 0 count) ≡ map pos (starts_from starts size count)
 starts_of_cast size count start xs [] e first none = ap (λ n. map (λ k. pos start +ℤ pos (k * size)) (range_with_len 0 n)) (none refl)
 starts_of_cast size count start xs (x ∷ starts) e first none =
@@ -68,7 +70,7 @@ starts_of_cast size count start xs (x ∷ starts) e first none =
     ap (λ (q : ℤ). map (λ k. q +ℤ pos (k * size)) (range_with_len 0 count)) (sym same) ∙ map-pos-from size count 0 x
 
 pub stands_cast : (d : Descriptor) (format : List ℕ) (size : ℕ) → IsPlaceable d
-    → (start : ℕ) (view : Layout) → Stands d start view → Stands (flat format size (d.len / size) d.readonly) start (cast_of view format size)
+    → (start : ℕ) (view : Layout) → Stands d start view → Stands (flat_descriptor format size (d.len / size) d.readonly) start (cast_of view format size)
 stands_cast d format size can start view stands =
     let items : length view.starts ≡ product (shape_of d.dims) = sym (length-map view.starts) ∙ ap (λ (xs : List ℤ). length xs) (sym stands.starts) ∙ length-places d.dims (pos start) in
     let bytes : d.len ≡ length view.starts * view.itemsize =

@@ -1,4 +1,4 @@
--- Blocks of places, cut out and laid down again.
+-- Blocks of places, cut out and blocks_apart down again.
 use Rattle.std.proofs.Common.{◌≡◌, ℕ, zero, suc, ◌+◌, ◌<◌, ◌≤◌, ℤ, pos, negsuc, ◌+ℤ◌, ◌*ℤ◌, ◌≤ℤ◌, ◌<ℤ◌, ◌-ℤ◌, ◌-◌, nat_abs, Bool, true, false, cond, List, [], ◌∷◌, refl, sym, ◌∙◌, subst, arith}
 use Rattle.std.proofs.lemmas.Int.{ints}
 use Rattle.pybuf_slice.specs.Picks.{steps_to, comes_before}

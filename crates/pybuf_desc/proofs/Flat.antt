@@ -3,7 +3,8 @@ use Rattle.std.proofs.Common.{◌≡◌, ◌≢◌, ℕ, zero, suc, ◌+◌, ◌
 use Rattle.std.proofs.lemmas.Int.{ints}
 use Rattle.std.specs.List.{range_with_len}
 use Rattle.std.proofs.lemmas.List.Elements.{All-nil, All-cons, All-from_recursion}
-use Rattle.pybuf_desc.specs.Descriptor.{flat, flat_layout, bytes_layout}
+use Rattle.pybuf_desc.specs.Layouts.{flat_layout, bytes_layout}
+use Rattle.pybuf_desc.specs.Descriptor.{flat_descriptor}
 use Rattle.pybuf_desc.specs.Places.{places, Stands}
 use Rattle.pybuf_desc.specs.Valid.{IsInside, IsValid}
 use Rattle.pybuf_desc.proofs.Inside.{inside_from_reach}
@@ -35,7 +36,7 @@ inside_flat size (suc n) len start room some e h =
     (record { least = reach_back n start; greatest = reach_forth size n len start room e (h (some_bytes size n len some e)) }))
 
 -- where the bytes, if there are any, lie inside from this start on
-pub valid_flat_at : (format : List ℕ) (size count len start room : ℕ) (readonly : Bool) → 0 < size → size < 2 ^ 63 → count * size ≡ len → len < 2 ^ 63 → (0 < len → start + len ≤ room) → IsValid (flat format size count readonly) start room
+pub valid_flat_at : (format : List ℕ) (size count len start room : ℕ) (readonly : Bool) → 0 < size → size < 2 ^ 63 → count * size ≡ len → len < 2 ^ 63 → (0 < len → start + len ≤ room) → IsValid (flat_descriptor format size count readonly) start room
 valid_flat_at format size count len start room readonly some fits e len_fits inside =
     record {
       some_size = some;
@@ -49,7 +50,7 @@ valid_flat_at format size count len start room readonly some fits e len_fits ins
       inside = inside_flat size count len start room some e inside;
     }
 
-pub valid_flat : (format : List ℕ) (size count len : ℕ) (readonly : Bool) → 0 < size → size < 2 ^ 63 → count * size ≡ len → len < 2 ^ 63 → IsValid (flat format size count readonly) 0 len
+pub valid_flat : (format : List ℕ) (size count len : ℕ) (readonly : Bool) → 0 < size → size < 2 ^ 63 → count * size ≡ len → len < 2 ^ 63 → IsValid (flat_descriptor format size count readonly) 0 len
 valid_flat format size count len readonly some fits e len_fits =
     valid_flat_at format size count len 0 len readonly some fits e len_fits (λ _. omega arith)
 
@@ -69,7 +70,7 @@ map-times-1 : (n i : ℕ) → map (λ k. k * 1) (range_with_len i n) ≡ range_w
 map-times-1 zero i = refl
 map-times-1 (suc n) i = ap₂ (λ (x : ℕ) (xs : List ℕ). x ∷ xs) (mul-one i) (map-times-1 n (i + 1))
 
-pub stands_flat : (format : List ℕ) (size count : ℕ) (readonly : Bool) → Stands (flat format size count readonly) 0 (flat_layout format size count readonly)
+pub stands_flat : (format : List ℕ) (size count : ℕ) (readonly : Bool) → Stands (flat_descriptor format size count readonly) 0 (flat_layout format size count readonly)
 stands_flat format size count readonly =
     record {
       format = refl;
@@ -80,7 +81,7 @@ stands_flat format size count readonly =
       starts = places-flat size count (pos 0) ∙ map-pos size count 0;
     }
 
-pub stands_bytes : (count : ℕ) (readonly : Bool) → Stands (flat (codes "B") 1 count readonly) 0 (bytes_layout count readonly)
+pub stands_bytes : (count : ℕ) (readonly : Bool) → Stands (flat_descriptor (codes "B") 1 count readonly) 0 (bytes_layout count readonly)
 stands_bytes count readonly =
     record {
       format = refl;

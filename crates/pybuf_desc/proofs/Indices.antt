@@ -3,27 +3,28 @@ use Rattle.std.proofs.Common.{◌≡◌, ℕ, zero, suc, ◌+◌, ◌*◌, ◌<�
 use Rattle.std.proofs.lemmas.Nat.{mul-add-lt}
 use Rattle.std.proofs.lemmas.Int.{ints}
 use Rattle.pybuf_value.specs.declared.faults.Fault.{Fault}
-use Rattle.pybuf_desc.specs.Descriptor.{shape_of, product}
+use Rattle.pybuf_desc.specs.Layouts.{product}
+use Rattle.pybuf_desc.specs.Descriptor.{shape_of}
 use Rattle.pybuf_desc.specs.Places.{places}
 use Rattle.pybuf_desc.specs.Positions.{AreIndices, offset_of, number_of_item}
-use Rattle.pybuf_desc.proofs.Steps.{laid, places-cons, length-places, zeroth_place}
+use Rattle.pybuf_desc.proofs.Steps.{blocks_apart, places-cons, length-places, zeroth_place}
 use Rattle.pybuf_desc.proofs.Products.{AreNonzero}
 use Rattle.pybuf_desc.proofs.Track.{next_multiple'}
 
 -- a position counted on from an offset
-abbrev pub moved : ℤ → Result ℤ Fault → Result ℤ Fault
-moved offset (Ok n) = Ok (offset +ℤ n)
-moved offset (Err f) = Err f
+abbrev pub position_from : ℤ → Result ℤ Fault → Result ℤ Fault
+position_from offset (Ok n) = Ok (offset +ℤ n)
+position_from offset (Err f) = Err f
 
-pub moved-0 : (r : Result ℤ Fault) → r ≡ moved (pos 0) r
-moved-0 (Ok n) = ap (λ (m : ℤ). Ok m) (let e : n ≡ pos 0 +ℤ n = omega (arith, ints) in e)
-moved-0 (Err f) = refl
+pub position_from-0 : (r : Result ℤ Fault) → r ≡ position_from (pos 0) r
+position_from-0 (Ok n) = ap (λ (m : ℤ). Ok m) (let e : n ≡ pos 0 +ℤ n = omega (arith, ints) in e)
+position_from-0 (Err f) = refl
 
-moved-Ok : (offset m n : ℤ) → moved offset (Ok (m +ℤ n)) ≡ moved (offset +ℤ m) (Ok n)
-moved-Ok offset m n = ap (λ (k : ℤ). Ok k) (let e : offset +ℤ (m +ℤ n) ≡ offset +ℤ m +ℤ n = omega (arith, ints) in e)
+position_from-Ok : (offset m n : ℤ) → position_from offset (Ok (m +ℤ n)) ≡ position_from (offset +ℤ m) (Ok n)
+position_from-Ok offset m n = ap (λ (k : ℤ). Ok k) (let e : offset +ℤ (m +ℤ n) ≡ offset +ℤ m +ℤ n = omega (arith, ints) in e)
 
-position-cons : (offset index : ℤ) (i : ℕ) (dim : ℕ × ℤ × ℤ) (r : Result ℤ Fault) → moved offset (elim r [ Ok others ↦ Ok (pos i *ℤ dim.1 +ℤ others) | Err f ↦ Err f ]) ≡ moved (offset +ℤ pos i *ℤ dim.1) r
-position-cons offset index i dim (Ok n) = moved-Ok offset (pos i *ℤ dim.1) n
+position-cons : (offset index : ℤ) (i : ℕ) (dim : ℕ × ℤ × ℤ) (r : Result ℤ Fault) → position_from offset (elim r [ Ok others ↦ Ok (pos i *ℤ dim.1 +ℤ others) | Err f ↦ Err f ]) ≡ position_from (offset +ℤ pos i *ℤ dim.1) r
+position-cons offset index i dim (Ok n) = position_from-Ok offset (pos i *ℤ dim.1) n
 position-cons offset index i dim (Err f) = refl
 
 pub AreNonzero-from_indices : (indices : List ℕ) (dims : List (ℕ × ℤ × ℤ)) → AreIndices indices dims → AreNonzero dims
@@ -91,16 +92,16 @@ pub slice_get-right : (xs ys : List ℤ) (k : ℕ) → slice_get (xs ++ ys) (len
 slice_get-right [] ys k = ap (λ j. slice_get ys j) (let z : 0 + k ≡ k = omega arith in z)
 slice_get-right (x ∷ xs) ys k = ap (λ j. slice_get ((x ∷ xs) ++ ys) j) (let z : length (x ∷ xs) + k ≡ suc (length xs + k) = suc-add (length xs) k in z) ∙ slice_get-right xs ys k
 
-item_in_laid : (block : ℤ → List ℤ) (size : ℕ) → ((q : ℤ) → length (block q) ≡ size) → (n i k : ℕ) (p t place : ℤ) → i < n → k < size → slice_get (block (p +ℤ pos i *ℤ t)) k ≡ Some place → slice_get (laid block n p t) (i * size + k) ≡ Some place
-item_in_laid block size each zero i k p t place h g e = absurd (omega arith)
-item_in_laid block size each (suc n) zero k p t place h g e =
-    ap (λ j. slice_get (laid block (suc n) p t) j) (let z : zero * size + k ≡ k = omega arith in z)
-    ∙ slice_get-left (block p) (laid block n (p +ℤ t) t) k (let l = each p in omega (arith, l))
+item_in_blocks : (block : ℤ → List ℤ) (size : ℕ) → ((q : ℤ) → length (block q) ≡ size) → (n i k : ℕ) (p t place : ℤ) → i < n → k < size → slice_get (block (p +ℤ pos i *ℤ t)) k ≡ Some place → slice_get (blocks_apart block n p t) (i * size + k) ≡ Some place
+item_in_blocks block size each zero i k p t place h g e = absurd (omega arith)
+item_in_blocks block size each (suc n) zero k p t place h g e =
+    ap (λ j. slice_get (blocks_apart block (suc n) p t) j) (let z : zero * size + k ≡ k = omega arith in z)
+    ∙ slice_get-left (block p) (blocks_apart block n (p +ℤ t) t) k (let l = each p in omega (arith, l))
     ∙ subst (λ q. slice_get (block q) k ≡ Some place) (zeroth_place p t) e
-item_in_laid block size each (suc n) (suc i) k p t place h g e =
-    ap (λ j. slice_get (laid block (suc n) p t) j) (let z : suc i * size + k ≡ length (block p) + (i * size + k) = (let l = each p in omega (arith, l)) in z)
-    ∙ slice_get-right (block p) (laid block n (p +ℤ t) t) (i * size + k)
-    ∙ item_in_laid block size each n i k (p +ℤ t) t place (omega arith) g
+item_in_blocks block size each (suc n) (suc i) k p t place h g e =
+    ap (λ j. slice_get (blocks_apart block (suc n) p t) j) (let z : suc i * size + k ≡ length (block p) + (i * size + k) = (let l = each p in omega (arith, l)) in z)
+    ∙ slice_get-right (block p) (blocks_apart block n (p +ℤ t) t) (i * size + k)
+    ∙ item_in_blocks block size each n i k (p +ℤ t) t place (omega arith) g
     (subst (λ q. slice_get (block q) k ≡ Some place) (let z : p +ℤ pos (suc i) *ℤ t ≡ p +ℤ t +ℤ pos i *ℤ t = omega (arith, ints, next_multiple' i t) in z) e)
 
 pub number_below : (indices : List ℕ) (dims : List (ℕ × ℤ × ℤ)) → AreIndices indices dims → number_of_item indices dims < product (shape_of dims)
@@ -115,7 +116,7 @@ place_of_item [] (dim ∷ dims) p h = absurd h
 place_of_item (i ∷ indices) [] p h = absurd h
 place_of_item (i ∷ indices) (dim ∷ dims) p h =
     ap (λ xs. slice_get xs (i * product (shape_of dims) + number_of_item indices dims)) (places-cons dim dims p)
-    ∙ item_in_laid (places dims) (product (shape_of dims)) (length-places dims) dim.0 i (number_of_item indices dims) p dim.1 (p +ℤ (pos i *ℤ dim.1 +ℤ offset_of indices dims)) h.0 (number_below indices dims h.1)
+    ∙ item_in_blocks (places dims) (product (shape_of dims)) (length-places dims) dim.0 i (number_of_item indices dims) p dim.1 (p +ℤ (pos i *ℤ dim.1 +ℤ offset_of indices dims)) h.0 (number_below indices dims h.1)
     (place_of_item indices dims (p +ℤ pos i *ℤ dim.1) h.1 ∙ ap (λ (q : ℤ). Some q) (sym (plus_moves p (pos i *ℤ dim.1) (offset_of indices dims) (p +ℤ pos i *ℤ dim.1) refl)))
 
 pub plus-0 : (n : ℤ) → n ≡ pos 0 +ℤ n

@@ -6,7 +6,7 @@ use Rattle.std.specs.List.{AllByRecursion}
 use Rattle.pybuf_desc.specs.Places.{places}
 use Rattle.pybuf_desc.specs.Valid.{IsInside}
 use Rattle.pybuf_desc.proofs.Products.{AreNonzero, AreNonzero-from_All}
-use Rattle.pybuf_desc.proofs.Steps.{laid, places-cons}
+use Rattle.pybuf_desc.proofs.Steps.{blocks_apart, places-cons}
 
 pub ByRec-append : {X : Type 0} (P : X → Type 0) (xs ys : List X) → AllByRecursion P xs → AllByRecursion P ys → AllByRecursion P (xs ++ ys)
 ByRec-append P [] ys h k = k
@@ -71,39 +71,39 @@ all_blocks : (size room a b m : ℕ) (p t : ℤ) → Reaches size room a b p →
 all_blocks size room a b m p (pos k) q r = all_forth size room a b m k p q r
 all_blocks size room a b m p (negsuc k) q r = all_back size room a b m k p q r
 
-inside_laid : (size room a b : ℕ) (block : ℤ → List ℤ) → ((q : ℤ) → Reaches size room a b q → AllByRecursion (IsInside size room) (block q)) → (n : ℕ) (p t : ℤ) → Reaches size room (gaps n * back t + a) (gaps n * forth t + b) p → AllByRecursion (IsInside size room) (laid block n p t)
-inside_laid size room a b block f zero p t r = tt
-inside_laid size room a b block f (suc zero) p t r =
+inside_blocks : (size room a b : ℕ) (block : ℤ → List ℤ) → ((q : ℤ) → Reaches size room a b q → AllByRecursion (IsInside size room) (block q)) → (n : ℕ) (p t : ℤ) → Reaches size room (gaps n * back t + a) (gaps n * forth t + b) p → AllByRecursion (IsInside size room) (blocks_apart block n p t)
+inside_blocks size room a b block f zero p t r = tt
+inside_blocks size room a b block f (suc zero) p t r =
     ByRec-append (IsInside size room) (block p) [] (f p (this_block size room a b 0 (back t) (forth t) p r)) tt
-inside_laid size room a b block f (suc (suc m)) p t r =
-    ByRec-append (IsInside size room) (block p) (laid block (suc m) (p +ℤ t) t) (f p (this_block size room a b (suc m) (back t) (forth t) p r))
-    (inside_laid size room a b block f (suc m) (p +ℤ t) t (later_blocks size room a b m p t r))
+inside_blocks size room a b block f (suc (suc m)) p t r =
+    ByRec-append (IsInside size room) (block p) (blocks_apart block (suc m) (p +ℤ t) t) (f p (this_block size room a b (suc m) (back t) (forth t) p r))
+    (inside_blocks size room a b block f (suc m) (p +ℤ t) t (later_blocks size room a b m p t r))
 
 pub inside_from_reach : (size room : ℕ) (dims : List (ℕ × ℤ × ℤ)) (p : ℤ) → Reaches size room (back_reach dims) (forth_reach dims) p → AllByRecursion (IsInside size room) (places dims p)
 inside_from_reach size room [] p r = (let l = r.least in let h = r.greatest in record { low = omega (arith, ints); high = omega (arith, ints) }, tt)
 inside_from_reach size room (dim ∷ dims) p r =
     subst (AllByRecursion (IsInside size room)) (sym (places-cons dim dims p))
-    (inside_laid size room (back_reach dims) (forth_reach dims) (places dims) (inside_from_reach size room dims) dim.0 p dim.1 r)
+    (inside_blocks size room (back_reach dims) (forth_reach dims) (places dims) (inside_from_reach size room dims) dim.0 p dim.1 r)
 
 first_block : (size room a b k l : ℕ) (p : ℤ) → Reaches size room a b p → Reaches size room (0 * k + a) (0 * l + b) p
 first_block size room a b k l p r = let low = r.least in let high = r.greatest in record { least = omega (arith, ints); greatest = omega (arith, ints) }
 
-laid_inside : (size room a b : ℕ) (block : ℤ → List ℤ) → ((q : ℤ) → AllByRecursion (IsInside size room) (block q) → Reaches size room a b q) → (n : ℕ) (p t : ℤ) → AllByRecursion (IsInside size room) (laid block (suc n) p t) → Reaches size room (n * back t + a) (n * forth t + b) p
-laid_inside size room a b block f zero p t h =
+blocks_inside : (size room a b : ℕ) (block : ℤ → List ℤ) → ((q : ℤ) → AllByRecursion (IsInside size room) (block q) → Reaches size room a b q) → (n : ℕ) (p t : ℤ) → AllByRecursion (IsInside size room) (blocks_apart block (suc n) p t) → Reaches size room (n * back t + a) (n * forth t + b) p
+blocks_inside size room a b block f zero p t h =
     let r : Reaches size room a b p = f p (ByRec-left (IsInside size room) (block p) [] h) in
     first_block size room a b (back t) (forth t) p r
-laid_inside size room a b block f (suc m) p t h =
-    all_blocks size room a b m p t (f p (ByRec-left (IsInside size room) (block p) (laid block (suc m) (p +ℤ t) t) h))
-    (laid_inside size room a b block f m (p +ℤ t) t (ByRec-right (IsInside size room) (block p) (laid block (suc m) (p +ℤ t) t) h))
+blocks_inside size room a b block f (suc m) p t h =
+    all_blocks size room a b m p t (f p (ByRec-left (IsInside size room) (block p) (blocks_apart block (suc m) (p +ℤ t) t) h))
+    (blocks_inside size room a b block f m (p +ℤ t) t (ByRec-right (IsInside size room) (block p) (blocks_apart block (suc m) (p +ℤ t) t) h))
 
-laid_inside_n : (size room a b : ℕ) (block : ℤ → List ℤ) → ((q : ℤ) → AllByRecursion (IsInside size room) (block q) → Reaches size room a b q) → (n : ℕ) (p t : ℤ) → 0 < n → AllByRecursion (IsInside size room) (laid block n p t) → Reaches size room (gaps n * back t + a) (gaps n * forth t + b) p
-laid_inside_n size room a b block f zero p t some h = absurd (omega arith)
-laid_inside_n size room a b block f (suc n) p t some h = laid_inside size room a b block f n p t h
+blocks_inside_n : (size room a b : ℕ) (block : ℤ → List ℤ) → ((q : ℤ) → AllByRecursion (IsInside size room) (block q) → Reaches size room a b q) → (n : ℕ) (p t : ℤ) → 0 < n → AllByRecursion (IsInside size room) (blocks_apart block n p t) → Reaches size room (gaps n * back t + a) (gaps n * forth t + b) p
+blocks_inside_n size room a b block f zero p t some h = absurd (omega arith)
+blocks_inside_n size room a b block f (suc n) p t some h = blocks_inside size room a b block f n p t h
 
 pub reach_from_inside : (size room : ℕ) (dims : List (ℕ × ℤ × ℤ)) (p : ℤ) → AreNonzero dims → AllByRecursion (IsInside size room) (places dims p) → Reaches size room (back_reach dims) (forth_reach dims) p
 reach_from_inside size room [] p some h = let i = h.0 in let l = i.low in let g = i.high in record { least = omega (arith, ints); greatest = omega (arith, ints) }
 reach_from_inside size room (dim ∷ dims) p some h =
-    laid_inside_n size room (back_reach dims) (forth_reach dims) (places dims) (λ q k. reach_from_inside size room dims q some.1 k) dim.0 p dim.1 some.0
+    blocks_inside_n size room (back_reach dims) (forth_reach dims) (places dims) (λ q k. reach_from_inside size room dims q some.1 k) dim.0 p dim.1 some.0
     (subst (AllByRecursion (IsInside size room)) (places-cons dim dims p) h)
 
 pub inside_in_reach : (size room start : ℕ) (dims : List (ℕ × ℤ × ℤ)) → back_reach dims ≤ start → start + forth_reach dims + size ≤ room → IsTrue true ↔ All (IsInside size room) (places dims (pos start))

@@ -6,7 +6,7 @@ pub mod Runs
 pub mod Track
 pub mod Indices
 pub mod Moves
-pub mod Wrapped
+pub mod FromTheEnd
 pub mod Strides
 pub mod Flat
 pub mod Cuts
@@ -19,3 +19,10 @@ pub mod Rows
 pub mod WalkLemmas
 pub mod SegmentFacts
 pub mod CastFacts
+pub mod ItemRuns
+pub mod SliceLayouts
+pub mod DescribedLayouts
+pub mod RangeLaws
+pub mod PairFacts
+pub mod ShapedCasts
+pub mod PlaceBits

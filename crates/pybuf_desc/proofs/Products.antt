@@ -1,12 +1,13 @@
 -- Products of the entries of a shape.
 use Rattle.std.proofs.Common.{◌≡◌, ◌≢◌, ℕ, zero, suc, ◌+◌, ◌*◌, ◌<◌, ◌≤◌, ℤ, pos, List, [], ◌∷◌, length, get_or, drop, drop-cons, refl, ap, subst, sym, ◌∙◌, arith, mul_assoc, le-mul_of_pos_right, mul-pos, zero-lt-suc, add-one, All, Any, zero-mul, mul-zero, pos_of_ne-zero}
 use Rattle.std.proofs.lemmas.List.Elements.{All-head, All-tail}
-use Rattle.pybuf_desc.specs.Descriptor.{shape_of, product}
-use Rattle.pybuf_desc.specs.Valid.{nonzero}
+use Rattle.pybuf_desc.specs.Layouts.{product}
+use Rattle.pybuf_desc.specs.Descriptor.{shape_of}
+use Rattle.pybuf_desc.specs.Valid.{nonzero_entries}
 
 -- the product of the entries that aren't 0
 abbrev pub extent_of : List (ℕ × ℤ × ℤ) → ℕ
-extent_of dims = product (nonzero (shape_of dims))
+extent_of dims = product (nonzero_entries (shape_of dims))
 
 times_zero : (dim : ℕ × ℤ × ℤ) (dims : List (ℕ × ℤ × ℤ)) → dim.0 ≡ 0 → extent_of (dim ∷ dims) ≡ extent_of dims
 times_zero (zero, z, u) dims e = refl

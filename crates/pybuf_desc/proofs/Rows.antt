@@ -2,7 +2,8 @@
 use Rattle.std.proofs.Common.{◌≡◌, ℕ, zero, suc, ◌+◌, ◌-◌, ◌*◌, ◌^◌, ◌<◌, ◌≤◌, ℤ, pos, ◌+ℤ◌, ◌-ℤ◌, ◌*ℤ◌, ◌≤ℤ◌, true, false, List, [], ◌∷◌, length, get_or, set, replicate, take, drop, drop-cons, drop_of_length-le, refl, ap, ap₂, sym, ◌∙◌, subst, arith, Some, slice_get, SFits, w64, add-one, zero-mul}
 use Rattle.std.proofs.lemmas.Int.{ints}
 use Rattle.std.specs.List.{AllByRecursion}
-use Rattle.pybuf_desc.specs.Descriptor.{shape_of, product}
+use Rattle.pybuf_desc.specs.Layouts.{product}
+use Rattle.pybuf_desc.specs.Descriptor.{shape_of}
 use Rattle.pybuf_desc.specs.Places.{places}
 use Rattle.pybuf_desc.specs.Positions.{AreIndices, offset_of, number_of_item}
 use Rattle.pybuf_desc.specs.Valid.{IsInside}

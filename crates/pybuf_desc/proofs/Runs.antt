@@ -2,10 +2,11 @@
 use Rattle.std.proofs.Common.{◌≡◌, ℕ, zero, suc, ◌+◌, ◌*◌, ◌<◌, ◌≤◌, ℤ, pos, ◌+ℤ◌, List, [], ◌∷◌, ◌++◌, length, get_or, map, refl, ap, ap₂, sym, ◌∙◌, arith, zero-mul, mul-pos, append-nil}
 use Rattle.std.proofs.lemmas.Int.{ints}
 use Rattle.std.specs.List.{range_with_len}
-use Rattle.pybuf_desc.specs.Descriptor.{shape_of, product}
+use Rattle.pybuf_desc.specs.Layouts.{product}
+use Rattle.pybuf_desc.specs.Descriptor.{shape_of}
 use Rattle.pybuf_desc.specs.Places.{places}
-use Rattle.pybuf_desc.specs.Contiguous.{IsContiguous, AreRowMajorStrides}
-use Rattle.pybuf_desc.proofs.Steps.{laid, places-cons, length-places}
+use Rattle.pybuf_desc.specs.RowMajor.{IsContiguous, AreRowMajorStrides}
+use Rattle.pybuf_desc.proofs.Steps.{blocks_apart, places-cons, length-places}
 use Rattle.pybuf_desc.proofs.Products.{AreNonzero, product-pos}
 
 -- `n` places from `p` on, `size` apart
@@ -32,28 +33,28 @@ run-add size (suc m) n p =
     ∙ ap (λ rest. p ∷ rest) (run-add size m n (p +ℤ pos size) ∙ ap (λ q. run size (p +ℤ pos size) m ++ run size q n) (let e : p +ℤ pos size +ℤ pos (m * size) ≡ p +ℤ pos (suc m * size) = omega (arith, ints) in e))
 
 -- blocks that are runs, as far apart as they are long
-laid_runs : (size len : ℕ) (block : ℤ → List ℤ) → ((q : ℤ) → block q ≡ run size q len) → (n : ℕ) (p : ℤ) → laid block n p (pos (size * len)) ≡ run size p (n * len)
-laid_runs size len block each zero p = ap (λ k. run size p k) (sym (zero-mul len))
-laid_runs size len block each (suc n) p =
-    ap₂ (λ xs ys. xs ++ ys) (each p) (laid_runs size len block each n (p +ℤ pos (size * len)) ∙ ap (λ q. run size q (n * len)) (let e : p +ℤ pos (size * len) ≡ p +ℤ pos (len * size) = omega (arith, ints) in e))
+blocks_of_runs : (size len : ℕ) (block : ℤ → List ℤ) → ((q : ℤ) → block q ≡ run size q len) → (n : ℕ) (p : ℤ) → blocks_apart block n p (pos (size * len)) ≡ run size p (n * len)
+blocks_of_runs size len block each zero p = ap (λ k. run size p k) (sym (zero-mul len))
+blocks_of_runs size len block each (suc n) p =
+    ap₂ (λ xs ys. xs ++ ys) (each p) (blocks_of_runs size len block each n (p +ℤ pos (size * len)) ∙ ap (λ q. run size q (n * len)) (let e : p +ℤ pos (size * len) ≡ p +ℤ pos (len * size) = omega (arith, ints) in e))
     ∙ sym (run-add size len (n * len) p) ∙ ap (λ k. run size p k) (let e : len + n * len ≡ suc n * len = omega arith in e)
 
 -- at most one block: its stride leads nowhere
-laid_few : (size len : ℕ) (block : ℤ → List ℤ) → ((q : ℤ) → block q ≡ run size q len) → (n : ℕ) (p t : ℤ) → n ≤ 1 → laid block n p t ≡ run size p (n * len)
-laid_few size len block each zero p t few = ap (λ k. run size p k) (sym (zero-mul len))
-laid_few size len block each (suc zero) p t few = append-nil (block p) ∙ each p ∙ ap (λ k. run size p k) (let e : len ≡ 1 * len = omega arith in e)
-laid_few size len block each (suc (suc n)) p t few = absurd (omega arith)
+blocks_few : (size len : ℕ) (block : ℤ → List ℤ) → ((q : ℤ) → block q ≡ run size q len) → (n : ℕ) (p t : ℤ) → n ≤ 1 → blocks_apart block n p t ≡ run size p (n * len)
+blocks_few size len block each zero p t few = ap (λ k. run size p k) (sym (zero-mul len))
+blocks_few size len block each (suc zero) p t few = append-nil (block p) ∙ each p ∙ ap (λ k. run size p k) (let e : len ≡ 1 * len = omega arith in e)
+blocks_few size len block each (suc (suc n)) p t few = absurd (omega arith)
 
-laid_fit : (size len : ℕ) (block : ℤ → List ℤ) → ((q : ℤ) → block q ≡ run size q len) → (n : ℕ) (p t : ℤ) → (1 < n → t ≡ pos (size * len)) → laid block n p t ≡ run size p (n * len)
-laid_fit size len block each zero p t fit = laid_few size len block each zero p t (omega arith)
-laid_fit size len block each (suc zero) p t fit = laid_few size len block each (suc zero) p t (omega arith)
-laid_fit size len block each (suc (suc n)) p t fit =
-    rw (fit (omega arith)) (laid_runs size len block each (suc (suc n)) p)
+blocks_fit : (size len : ℕ) (block : ℤ → List ℤ) → ((q : ℤ) → block q ≡ run size q len) → (n : ℕ) (p t : ℤ) → (1 < n → t ≡ pos (size * len)) → blocks_apart block n p t ≡ run size p (n * len)
+blocks_fit size len block each zero p t fit = blocks_few size len block each zero p t (omega arith)
+blocks_fit size len block each (suc zero) p t fit = blocks_few size len block each (suc zero) p t (omega arith)
+blocks_fit size len block each (suc (suc n)) p t fit =
+    rw (fit (omega arith)) (blocks_of_runs size len block each (suc (suc n)) p)
 
 pub places_from_strides : (size : ℕ) (dims : List (ℕ × ℤ × ℤ)) → AreRowMajorStrides size dims → (p : ℤ) → places dims p ≡ run size p (product (shape_of dims))
 places_from_strides size [] fit p = refl
 places_from_strides size (dim ∷ dims) fit p =
-    places-cons dim dims p ∙ laid_fit size (product (shape_of dims)) (places dims) (places_from_strides size dims fit.1) dim.0 p dim.1 fit.0
+    places-cons dim dims p ∙ blocks_fit size (product (shape_of dims)) (places dims) (places_from_strides size dims fit.1) dim.0 p dim.1 fit.0
 
 -- ---- and back: from the places to the strides
 
@@ -72,9 +73,9 @@ first-append : (xs ys : List ℤ) (d : ℤ) → 0 < length xs → get_or (xs ++ 
 first-append [] ys d h = absurd (let wrong : 0 < 0 = h in omega arith)
 first-append (x ∷ xs) ys d h = refl
 
-first-laid : (block : ℤ → List ℤ) (n : ℕ) (p t d : ℤ) → 0 < n → 0 < length (block p) → get_or (laid block n p t) 0 d ≡ get_or (block p) 0 d
-first-laid block zero p t d some h = absurd (omega arith)
-first-laid block (suc n) p t d some h = first-append (block p) (laid block n (p +ℤ t) t) d h
+first-blocks_apart : (block : ℤ → List ℤ) (n : ℕ) (p t d : ℤ) → 0 < n → 0 < length (block p) → get_or (blocks_apart block n p t) 0 d ≡ get_or (block p) 0 d
+first-blocks_apart block zero p t d some h = absurd (omega arith)
+first-blocks_apart block (suc n) p t d some h = first-append (block p) (blocks_apart block n (p +ℤ t) t) d h
 
 some_places : (dims : List (ℕ × ℤ × ℤ)) (p : ℤ) → AreNonzero dims → 0 < length (places dims p)
 some_places dims p some = rw (length-places dims p) (product-pos dims some)
@@ -84,7 +85,7 @@ pub first-places : (dims : List (ℕ × ℤ × ℤ)) (p d : ℤ) → AreNonzero 
 first-places [] p d some = refl
 first-places (dim ∷ dims) p d some =
     ap (λ (xs : List ℤ). get_or xs 0 d) (places-cons dim dims p)
-    ∙ first-laid (places dims) dim.0 p dim.1 d some.0 (some_places dims p some.1) ∙ first-places dims p d some.1
+    ∙ first-blocks_apart (places dims) dim.0 p dim.1 d some.0 (some_places dims p some.1) ∙ first-places dims p d some.1
 
 first-run : (size n : ℕ) (p d : ℤ) → 0 < n → get_or (run size p n) 0 d ≡ p
 first-run size zero p d h = absurd (omega arith)
@@ -94,31 +95,31 @@ gap_from : (p t : ℤ) (size len : ℕ) → p +ℤ t ≡ p +ℤ pos (len * size)
 gap_from p t size len e = omega (arith, ints)
 
 -- two blocks that make one run are as far apart as they are long
-laid_gap : (size : ℕ) (dims : List (ℕ × ℤ × ℤ)) → AreNonzero dims → (m : ℕ) (p t : ℤ) → 0 < m
-    → laid (places dims) m (p +ℤ t) t ≡ run size (p +ℤ pos (product (shape_of dims) * size)) (m * product (shape_of dims)) → t ≡ pos (size * product (shape_of dims))
-laid_gap size dims some m p t h e =
+blocks_gap : (size : ℕ) (dims : List (ℕ × ℤ × ℤ)) → AreNonzero dims → (m : ℕ) (p t : ℤ) → 0 < m
+    → blocks_apart (places dims) m (p +ℤ t) t ≡ run size (p +ℤ pos (product (shape_of dims) * size)) (m * product (shape_of dims)) → t ≡ pos (size * product (shape_of dims))
+blocks_gap size dims some m p t h e =
     let q : ℤ = p +ℤ t in
     let r : ℤ = p +ℤ pos (product (shape_of dims) * size) in
     let firsts : q ≡ r =
-    sym (first-laid (places dims) m q t (pos 0) h (some_places dims q some) ∙ first-places dims q (pos 0) some)
+    sym (first-blocks_apart (places dims) m q t (pos 0) h (some_places dims q some) ∙ first-places dims q (pos 0) some)
     ∙ ap (λ (xs : List ℤ). get_or xs 0 (pos 0)) e ∙ first-run size (m * product (shape_of dims)) r (pos 0) (mul-pos h (product-pos dims some)) in
     gap_from p t size (product (shape_of dims)) firsts
 
-laid_split : (size : ℕ) (dims : List (ℕ × ℤ × ℤ)) (m : ℕ) (p t : ℤ)
-    → laid (places dims) (suc m) p t ≡ run size p (suc m * product (shape_of dims))
-    → (places dims p ≡ run size p (product (shape_of dims))) × (laid (places dims) m (p +ℤ t) t ≡ run size (p +ℤ pos (product (shape_of dims) * size)) (m * product (shape_of dims)))
-laid_split size dims m p t e =
+blocks_split : (size : ℕ) (dims : List (ℕ × ℤ × ℤ)) (m : ℕ) (p t : ℤ)
+    → blocks_apart (places dims) (suc m) p t ≡ run size p (suc m * product (shape_of dims))
+    → (places dims p ≡ run size p (product (shape_of dims))) × (blocks_apart (places dims) m (p +ℤ t) t ≡ run size (p +ℤ pos (product (shape_of dims) * size)) (m * product (shape_of dims)))
+blocks_split size dims m p t e =
     let len : ℕ = product (shape_of dims) in
-    append_parts (places dims p) (run size p len) (laid (places dims) m (p +ℤ t) t) (run size (p +ℤ pos (len * size)) (m * len))
+    append_parts (places dims p) (run size p len) (blocks_apart (places dims) m (p +ℤ t) t) (run size (p +ℤ pos (len * size)) (m * len))
     (length-places dims p ∙ sym (length-run size len p))
     (e ∙ ap (λ k. run size p k) (let f : suc m * len ≡ len + m * len = omega arith in f) ∙ run-add size len (m * len) p)
 
-gap_of : (size : ℕ) (dims : List (ℕ × ℤ × ℤ)) → AreNonzero dims → (n : ℕ) (p t : ℤ) → 0 < n → laid (places dims) n p t ≡ run size p (n * product (shape_of dims))
+gap_of : (size : ℕ) (dims : List (ℕ × ℤ × ℤ)) → AreNonzero dims → (n : ℕ) (p t : ℤ) → 0 < n → blocks_apart (places dims) n p t ≡ run size p (n * product (shape_of dims))
     → (1 < n → t ≡ pos (size * product (shape_of dims))) × (places dims p ≡ run size p (product (shape_of dims)))
 gap_of size dims some zero p t h e = absurd (omega arith)
 gap_of size dims some (suc m) p t h e =
-    let parts : (places dims p ≡ run size p (product (shape_of dims))) × (laid (places dims) m (p +ℤ t) t ≡ run size (p +ℤ pos (product (shape_of dims) * size)) (m * product (shape_of dims))) = laid_split size dims m p t e in
-    (λ more. laid_gap size dims some m p t (omega arith) parts.1, parts.0)
+    let parts : (places dims p ≡ run size p (product (shape_of dims))) × (blocks_apart (places dims) m (p +ℤ t) t ≡ run size (p +ℤ pos (product (shape_of dims) * size)) (m * product (shape_of dims))) = blocks_split size dims m p t e in
+    (λ more. blocks_gap size dims some m p t (omega arith) parts.1, parts.0)
 
 pub strides_from_places : (size : ℕ) (dims : List (ℕ × ℤ × ℤ)) → AreNonzero dims → (p : ℤ) → places dims p ≡ run size p (product (shape_of dims)) → AreRowMajorStrides size dims
 strides_from_places size [] some p e = tt

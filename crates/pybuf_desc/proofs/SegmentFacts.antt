@@ -1,17 +1,19 @@
 -- What the ranges of a walk are: items or rows, and the bytes of the items in order.
-use Rattle.std.proofs.Common.{◌≡◌, ℕ, zero, suc, ◌+◌, ◌-◌, ◌*◌, ◌^◌, ◌<◌, ◌≤◌, ℤ, pos, negsuc, ◌+ℤ◌, ◌≤ℤ◌, nat_abs, Bool, true, false, cond, ◌&&◌, eqb, List, [], ◌∷◌, ◌++◌, length, take, map, flat_map, refl, ap, ap₂, sym, ◌∙◌, subst, arith, Some, None, Option, slice_get, length-append, take_at, IsSomeAnd, IsTrue, ◌↔◌, mul_assoc, lit<, le-mul_of_pos_right}
+use Rattle.std.proofs.Common.{◌≡◌, ℕ, zero, suc, ◌+◌, ◌-◌, ◌*◌, ◌^◌, ◌<◌, ◌≤◌, ℤ, pos, negsuc, ◌+ℤ◌, ◌≤ℤ◌, nat_abs, Bool, true, false, cond, ◌&&◌, eqb, List, [], ◌∷◌, ◌++◌, length, take, drop, map, true≢false, flat_map, refl, ap, ap₂, sym, ◌∙◌, subst, arith, Some, None, Option, slice_get, length-append, take_at, IsSomeAnd, IsTrue, ◌↔◌, mul_assoc, lit<, le-mul_of_pos_right}
 use Rattle.std.proofs.lemmas.Int.{ints}
 use Rattle.std.proofs.lemmas.Grind.{flat_map-append}
+use Rattle.std.proofs.lemmas.List.{take_all, drop_all}
 use Rattle.std.proofs.lemmas.Bool.Decides.{Decides-int_eq}
 use Rattle.std.specs.Bool.{Decides}
 use Rattle.std.proofs.lemmas.List.Elements.{recursion_from_All}
 use Rattle.std.specs.Ordering.{int_eq}
 use Rattle.std.specs.List.{AllByRecursion, range_with_len}
 use Rattle.std.specs.declared.ops.Range.{Range}
-use Rattle.pybuf_desc.specs.Descriptor.{Descriptor, shape_of, product}
+use Rattle.pybuf_desc.specs.Layouts.{product}
+use Rattle.pybuf_desc.specs.Descriptor.{Descriptor, shape_of}
 use Rattle.pybuf_desc.specs.Places.{places}
 use Rattle.pybuf_desc.specs.Valid.{IsInside, IsPlaced}
-use Rattle.pybuf_desc.specs.Segments.{line, range_at, HasPlaces, AreRows, row_places, ranges_of, item_ranges, row_ranges, is_row_contiguous, row_size, last_dim, bytes_of, item_bytes}
+use Rattle.pybuf_desc.specs.Segments.{line, range_at, HasPlaces, AreRows, row_places, ranges_of, joined_count, joined_dims, outer_dims, is_row_contiguous, last_dim, bytes_of, item_bytes}
 use Rattle.pybuf_desc.proofs.Steps.{length-places}
 use Rattle.pybuf_desc.proofs.Inside.{ByRec-left, ByRec-right}
 use Rattle.pybuf_desc.proofs.Products.{AreNonzero, product-pos}
@@ -23,9 +25,9 @@ use Rattle.pybuf_desc.proofs.Lines.{places-rows}
 abbrev pub top : ℕ
 top = 9223372036854775807
 
-wider : (size room : ℕ) (xs : List ℤ) → room < 2 ^ 63 → AllByRecursion (IsInside size room) xs → AllByRecursion (IsInside size top) xs
-wider size room [] h all = tt
-wider size room (x ∷ xs) h all = ((let i = all.0 in let high = i.high in record { low = i.low; high = omega (arith, ints, high, h) }), wider size room xs h all.1)
+inside_more : (size room : ℕ) (xs : List ℤ) → room < 2 ^ 63 → AllByRecursion (IsInside size room) xs → AllByRecursion (IsInside size top) xs
+inside_more size room [] h all = tt
+inside_more size room (x ∷ xs) h all = ((let i = all.0 in let high = i.high in record { low = i.low; high = omega (arith, ints, high, h) }), inside_more size room xs h all.1)
 
 -- the first item of each row
 row_starts : (size n : ℕ) (t : ℤ) (ps : List ℤ) → 0 < n → AllByRecursion (IsInside size top) (flat_map (λ p. line p t n) ps) → AllByRecursion (IsInside 0 top) ps
@@ -83,7 +85,7 @@ last_fits d start rows last r =
 lines_inside : (d : Descriptor) (start : ℕ) (rows : List (ℕ × ℤ × ℤ)) (last : ℕ × ℤ × ℤ) → IsRows d start rows last → AllByRecursion (IsInside d.itemsize top) (flat_map (λ p. line p last.1 last.0) (places rows (pos start)))
 lines_inside d start rows last r =
     subst (AllByRecursion (IsInside d.itemsize top)) (ap (λ ds. places ds (pos start)) r.dims ∙ places-rows rows last (pos start))
-    (wider d.itemsize r.placed.room (places d.dims (pos start)) r.placed.room_fits (recursion_from_All (IsInside d.itemsize r.placed.room) (places d.dims (pos start)) r.placed.valid.inside))
+    (inside_more d.itemsize r.placed.room (places d.dims (pos start)) r.placed.room_fits (recursion_from_All (IsInside d.itemsize r.placed.room) (places d.dims (pos start)) r.placed.valid.inside))
 
 rows_placed : (d : Descriptor) (start : ℕ) (rows : List (ℕ × ℤ × ℤ)) (last : ℕ × ℤ × ℤ) → IsRows d start rows last → HasPlaces rows (pos start)
 rows_placed d start rows last r =
@@ -131,6 +133,65 @@ row_bytes_fit d start rows last r =
 
 -- ---- the ranges
 
+-- a range for each item
+abbrev pub item_ranges : Descriptor → ℤ → List (Range ℕ)
+item_ranges d start = map (range_at d.itemsize) (places d.dims start)
+
+-- how many bytes the items of a row have
+abbrev pub row_size : ℕ → Option (ℕ × ℤ × ℤ) → ℕ
+row_size itemsize None = itemsize
+row_size itemsize (Some last) = last.0 * itemsize
+
+-- a range for each row
+abbrev pub row_ranges : Descriptor → ℤ → List (Range ℕ)
+row_ranges d start =
+    cond (eqb (product (shape_of d.dims)) 0) []
+    (map (range_at (row_size d.itemsize (last_dim d.dims))) (places (take (length d.dims - 1) d.dims) start))
+
+no_range : (size : ℕ) (xs : List ℤ) → length xs ≡ 0 → map (range_at size) xs ≡ []
+no_range size [] e = refl
+no_range size (x ∷ xs) e = absurd (let wrong : suc (length xs) ≡ 0 = e in omega arith)
+
+pub not_none : (n : ℕ) (xs : List (Range ℕ)) → 0 < n → cond (eqb n 0) [] xs ≡ xs
+not_none zero xs h = absurd (omega arith)
+not_none (suc n) xs h = grind arith
+
+all_dims : (dims : List (ℕ × ℤ × ℤ)) → outer_dims 0 dims ≡ dims
+all_dims dims = take_all (length dims - 0) dims (let same : length dims ≤ length dims - 0 = omega arith in same)
+
+no_dims : (dims : List (ℕ × ℤ × ℤ)) → joined_dims 0 dims ≡ []
+no_dims dims = drop_all (length dims - 0) dims (let same : length dims ≤ length dims - 0 = omega arith in same)
+
+items_apart : (n : ℕ) (d : Descriptor) (start : ℤ) → product (shape_of d.dims) ≡ n
+    → cond (eqb n 0) [] (map (range_at (product (shape_of (joined_dims 0 d.dims)) * d.itemsize)) (places (outer_dims 0 d.dims) start)) ≡ item_ranges d start
+items_apart zero d start e = sym (no_range d.itemsize (places d.dims start) (length-places d.dims start ∙ e))
+items_apart (suc n) d start e =
+    let once : 1 * d.itemsize ≡ d.itemsize = omega arith in
+    not_none (suc n) (map (range_at (product (shape_of (joined_dims 0 d.dims)) * d.itemsize)) (places (outer_dims 0 d.dims) start)) (let some : 0 < suc n = omega arith in some)
+    ∙ ap₂ (λ (size : ℕ) (ds : List (ℕ × ℤ × ℤ)). map (range_at size) (places ds start)) (ap (λ (ds : List (ℕ × ℤ × ℤ)). product (shape_of ds) * d.itemsize) (no_dims d.dims) ∙ once) (all_dims d.dims)
+
+-- no dimension joined: a range for each item
+pub none_joined : (d : Descriptor) (start : ℤ) → ranges_of d start 0 ≡ item_ranges d start
+none_joined d start = items_apart (product (shape_of d.dims)) d start refl
+
+pub last_joined : (dims : List (ℕ × ℤ × ℤ)) (last : ℕ × ℤ × ℤ) → last_dim dims ≡ Some last → joined_dims 1 dims ≡ last ∷ []
+last_joined [] last e = absurd (cc)
+last_joined (dim ∷ []) last e = let same : dim ≡ last = cc in ap (λ (d : ℕ × ℤ × ℤ). d ∷ []) same
+last_joined (dim ∷ other ∷ dims) last e =
+    let less : length (dim ∷ other ∷ dims) - 1 ≡ suc (length (other ∷ dims) - 1) = omega arith in
+    ap (λ (n : ℕ). drop n (dim ∷ other ∷ dims)) less ∙ last_joined (other ∷ dims) last (ap (λ (n : ℕ). slice_get (dim ∷ other ∷ dims) n) (sym less) ∙ e)
+
+row_size_is : (dims : List (ℕ × ℤ × ℤ)) (size : ℕ) (o : Option (ℕ × ℤ × ℤ)) → last_dim dims ≡ o → is_row_contiguous size o ≡ true → product (shape_of (joined_dims 1 dims)) * size ≡ row_size size o
+row_size_is dims size None e fit = absurd (true≢false (sym fit))
+row_size_is dims size (Some last) e fit =
+    ap (λ (ds : List (ℕ × ℤ × ℤ)). product (shape_of ds) * size) (last_joined dims last e) ∙ (let once : last.0 * 1 * size ≡ last.0 * size = omega arith in once)
+
+-- one dimension joined: a range for each row
+pub one_joined : (d : Descriptor) (start : ℤ) → is_row_contiguous d.itemsize (last_dim d.dims) ≡ true → ranges_of d start 1 ≡ row_ranges d start
+one_joined d start fit =
+    ap (λ (size : ℕ). cond (eqb (product (shape_of d.dims)) 0) [] (map (range_at size) (places (take (length d.dims - 1) d.dims) start)))
+    (row_size_is d.dims d.itemsize (last_dim d.dims) refl fit)
+
 pub ranges_of_items : (d : Descriptor) (start : ℕ) (rows : List (ℕ × ℤ × ℤ)) (last : ℕ × ℤ × ℤ) → IsRows d start rows last
     → map (range_at d.itemsize) (row_places rows start last.1 last.0) ≡ item_ranges d (pos start)
 ranges_of_items d start rows last r =
@@ -148,10 +209,6 @@ front_of : (rows : List (ℕ × ℤ × ℤ)) (last : ℕ × ℤ × ℤ) → take
 front_of rows last =
     take_at rows (last ∷ []) (length (rows ++ last ∷ []) - 1) (let l = length-append rows (last ∷ []) in let e : length rows ≡ length (rows ++ last ∷ []) - 1 = omega (arith, l) in e)
 
-not_none : (n : ℕ) (xs : List (Range ℕ)) → 0 < n → cond (eqb n 0) [] xs ≡ xs
-not_none zero xs h = absurd (omega arith)
-not_none (suc n) xs h = grind arith
-
 pub ranges_of_rows : (d : Descriptor) (start : ℕ) (rows : List (ℕ × ℤ × ℤ)) (last : ℕ × ℤ × ℤ) → IsRows d start rows last
     → map (range_at (last.0 * d.itemsize)) (row_places rows start (pos 0) 1) ≡ row_ranges d (pos start)
 ranges_of_rows d start rows last r =
@@ -161,27 +218,20 @@ ranges_of_rows d start rows last r =
     (ap (λ ds. take (length ds - 1) ds) r.dims ∙ front_of rows last))
 
 -- which ranges are asked for
-pub asked_items : (d : Descriptor) (start : ℤ) → ranges_of d start false ≡ item_ranges d start
-asked_items d start = refl
+pub asked_items : (d : Descriptor) (start : ℤ) → ranges_of d start (joined_count d false) ≡ item_ranges d start
+asked_items d start = none_joined d start
 
-pub asked_apart : (d : Descriptor) (start : ℤ) (join : Bool) → is_row_contiguous d.itemsize (last_dim d.dims) ≡ false → ranges_of d start join ≡ item_ranges d start
-asked_apart d start true e = ap (λ b. cond b (row_ranges d start) (item_ranges d start)) e
-asked_apart d start false e = refl
+pub asked_apart : (d : Descriptor) (start : ℤ) (join : Bool) → is_row_contiguous d.itemsize (last_dim d.dims) ≡ false → ranges_of d start (joined_count d join) ≡ item_ranges d start
+asked_apart d start true e = ap (λ b. ranges_of d start (cond b 1 0)) e ∙ none_joined d start
+asked_apart d start false e = none_joined d start
 
-pub asked_rows : (d : Descriptor) (start : ℤ) → is_row_contiguous d.itemsize (last_dim d.dims) ≡ true → ranges_of d start true ≡ row_ranges d start
-asked_rows d start e = ap (λ b. cond b (row_ranges d start) (item_ranges d start)) e
-
-no_range : (size : ℕ) (xs : List ℤ) → length xs ≡ 0 → map (range_at size) xs ≡ []
-no_range size [] e = refl
-no_range size (x ∷ xs) e = absurd (let wrong : suc (length xs) ≡ 0 = e in omega arith)
-
-asked_none' : (d : Descriptor) (start : ℤ) (b : Bool) → product (shape_of d.dims) ≡ 0 → cond b (row_ranges d start) (item_ranges d start) ≡ []
-asked_none' d start true e = ap (λ n. cond (eqb n 0) [] (map (range_at (row_size d.itemsize (last_dim d.dims))) (places (take (length d.dims - 1) d.dims) start))) e
-asked_none' d start false e = no_range d.itemsize (places d.dims start) (length-places d.dims start ∙ e)
+pub asked_rows : (d : Descriptor) (start : ℤ) → is_row_contiguous d.itemsize (last_dim d.dims) ≡ true → ranges_of d start (joined_count d true) ≡ row_ranges d start
+asked_rows d start e = ap (λ b. ranges_of d start (cond b 1 0)) e ∙ one_joined d start e
 
 -- without an item there is no range
-pub asked_none : (d : Descriptor) (start : ℤ) (join : Bool) → product (shape_of d.dims) ≡ 0 → ranges_of d start join ≡ []
-asked_none d start join e = asked_none' d start (join && is_row_contiguous d.itemsize (last_dim d.dims)) e
+pub asked_none : (d : Descriptor) (start : ℤ) (joined : ℕ) → product (shape_of d.dims) ≡ 0 → ranges_of d start joined ≡ []
+asked_none d start joined e =
+    ap (λ n. cond (eqb n 0) [] (map (range_at (product (shape_of (joined_dims joined d.dims)) * d.itemsize)) (places (outer_dims joined d.dims) start))) e
 
 no_byte : (size : ℕ) (xs : List ℤ) → length xs ≡ 0 → [] ≡ flat_map (λ place. range_with_len (nat_abs place) size) xs
 no_byte size [] e = refl
@@ -273,3 +323,13 @@ last_is d start rows last r = ap last_dim r.dims ∙ last_of rows last
 pub gap_is : (size : ℕ) (o : Option (ℕ × ℤ × ℤ)) (last : ℕ × ℤ × ℤ) → o ≡ Some last → IsSomeAnd o (λ dim. (dim.1 ≡ pos size) × (dim.2 ≡ pos 0)) → last.1 ≡ pos size
 gap_is size None last e h = absurd h
 gap_is size (Some dim) last e h = let same : dim ≡ last = cc in ap (λ (x : ℕ × ℤ × ℤ). x.1) (sym same) ∙ h.0
+
+first_test : (p q : Bool) → p && q ≡ true → p ≡ true
+first_test true q e = refl
+first_test false q e = e
+
+pub row_gap : (size : ℕ) (o : Option (ℕ × ℤ × ℤ)) (last : ℕ × ℤ × ℤ) → o ≡ Some last → is_row_contiguous size o ≡ true → last.1 ≡ pos size
+row_gap size None last e fit = absurd (true≢false (sym fit))
+row_gap size (Some dim) last e fit =
+    let same : dim ≡ last = cc in
+    ap (λ (x : ℕ × ℤ × ℤ). x.1) (sym same) ∙ (Decides-int_eq dim.1 (pos size)).0 (first_test (int_eq dim.1 (pos size)) (int_eq dim.2 (pos 0)) fit)

@@ -1,7 +1,7 @@
 -- The code's numbers of a slice, which go over bits, are those of the definition.
 use Rattle.std.proofs.Common.{◌≡◌, ℕ, ◌+◌, ◌<◌, ◌≤◌, ℤ, pos, negsuc, ◌+ℤ◌, ◌*ℤ◌, ◌≤ℤ◌, ◌<ℤ◌, List, length, ap, ap₂, sym, ◌∙◌, subst, arith, SFits, w64, to_z, of_z}
 use Rattle.std.proofs.lemmas.Int.{ints, to_z-of_z}
-use Rattle.pybuf_slice.specs.Parts.{SliceParts, IsSaturated, picks_of, clamped}
+use Rattle.pybuf_slice.specs.Parts.{SliceParts, IsSaturated, picks_of, nearest_word}
 use Rattle.pybuf_slice.specs.Runs.{picks_in_span}
 use Rattle.pybuf_desc.specs.Descriptor.{Descriptor}
 use Rattle.pybuf_desc.specs.Valid.{IsPlaced}
@@ -27,9 +27,9 @@ call_of d start dims parts low high count step e placed some saturated s picks n
     }
 
 pub stride_is : (d : Descriptor) (dims : List (ℕ × ℤ × ℤ)) (parts : SliceParts) (r t : ℤ) → dims ≡ d.dims → SFits w64 r → SFits w64 (dim_at dims 0).1 → SFits w64 t → t ≡ parts.step
-    → r ≡ clamped (bits (dim_at dims 0).1 *ℤ bits t) → bits r ≡ clamped ((dim_at d.dims 0).1 *ℤ parts.step)
+    → r ≡ nearest_word (bits (dim_at dims 0).1 *ℤ bits t) → bits r ≡ nearest_word ((dim_at d.dims 0).1 *ℤ parts.step)
 stride_is d dims parts r t e fr fs ft step h =
-    to_z-of_z w64 r fr ∙ h ∙ ap clamped (ap₂ (λ a b. a *ℤ b) (to_z-of_z w64 (dim_at dims 0).1 fs ∙ ap (λ ds. (dim_at ds 0).1) e) (to_z-of_z w64 t ft ∙ step))
+    to_z-of_z w64 r fr ∙ h ∙ ap nearest_word (ap₂ (λ a b. a *ℤ b) (to_z-of_z w64 (dim_at dims 0).1 fs ∙ ap (λ ds. (dim_at ds 0).1) e) (to_z-of_z w64 t ft ∙ step))
 
 first_of : (low high first : ℕ) (t : ℤ) → low < high → (pos 0 ≤ℤ t → first ≡ low) → (t <ℤ pos 0 → first + 1 ≡ high) → pos first ≡ span_first low high t
 first_of low high first (pos s) h rises falls = ap (λ n. pos n) (rises (omega (arith, ints)))

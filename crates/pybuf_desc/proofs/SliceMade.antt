@@ -3,10 +3,11 @@ use Rattle.std.proofs.Common.{◌≡◌, ◌≢◌, ℕ, zero, suc, ◌-◌, ◌
 use Rattle.std.proofs.lemmas.Int.{ints}
 use Rattle.std.specs.List.{AllByRecursion}
 use Rattle.std.proofs.lemmas.List.Elements.{recursion_from_All}
-use Rattle.pybuf_slice.specs.Parts.{SliceParts, IsSaturated, picks_of, clamped}
+use Rattle.pybuf_slice.specs.Parts.{SliceParts, IsSaturated, picks_of, nearest_word}
 use Rattle.pybuf_slice.specs.Picks.{steps_to, comes_before}
 use Rattle.pybuf_slice.specs.Runs.{picks_in_span}
-use Rattle.pybuf_desc.specs.Descriptor.{Descriptor, Layout, shape_of, strides_of, product}
+use Rattle.pybuf_desc.specs.Layouts.{Layout, product}
+use Rattle.pybuf_desc.specs.Descriptor.{Descriptor, shape_of, strides_of}
 use Rattle.pybuf_desc.specs.Places.{places, Stands}
 use Rattle.pybuf_desc.specs.Valid.{IsInside, IsValid, IsPlaced}
 use Rattle.pybuf_desc.specs.Slices.{first_entry, first_stride, slice_at, slice_of}
@@ -104,7 +105,7 @@ entry d start parts low high count first c h e =
 
 pub cut_made : (d : Descriptor) (start : ℕ) (parts : SliceParts) (low high count next : ℕ) → IsCall d start parts low high count
     → (0 < count → pos next ≡ pos start +ℤ span_first low high parts.step *ℤ (dim_at d.dims 0).1)
-    → IsCut (dim_at d.dims 0) start parts.step (picks_of (dim_at d.dims 0).0 parts) next (clamped ((dim_at d.dims 0).1 *ℤ parts.step))
+    → IsCut (dim_at d.dims 0) start parts.step (picks_of (dim_at d.dims 0).0 parts) next (nearest_word ((dim_at d.dims 0).1 *ℤ parts.step))
 cut_made d start parts low high count next c e =
     let few = count_few d start parts low high count c in
     let within = c.within in
@@ -127,14 +128,14 @@ made_is d len count stride h = ap (λ (ds : List (ℕ × ℤ × ℤ)). record d 
 
 pub made_stands : (d : Descriptor) (start : ℕ) (parts : SliceParts) (low high count next len : ℕ) → IsCall d start parts low high count
     → (0 < count → pos next ≡ pos start +ℤ span_first low high parts.step *ℤ (dim_at d.dims 0).1)
-    → (view : Layout) → Stands d start view → Stands (made_of d len count (clamped ((dim_at d.dims 0).1 *ℤ parts.step))) next (slice_of view parts)
+    → (view : Layout) → Stands d start view → Stands (made_of d len count (nearest_word ((dim_at d.dims 0).1 *ℤ parts.step))) next (slice_of view parts)
 made_stands d start parts low high count next len c e view stands =
     let dim : ℕ × ℤ × ℤ = dim_at d.dims 0 in
     let picks : List ℕ = picks_of dim.0 parts in
     let first : first_entry view.shape ≡ dim.0 = ap first_entry (sym stands.shape ∙ ap (λ ds. shape_of ds) (dims_are d c.some)) in
-    subst (λ n. Stands (made_of d len n (clamped (dim.1 *ℤ parts.step))) next (slice_of view parts)) (sym c.count_is)
-    (subst (λ x. Stands x next (slice_of view parts)) (sym (made_is d len (length picks) (clamped (dim.1 *ℤ parts.step)) c.some))
-    (subst (λ n. Stands (cut_of d (drop 1 d.dims) len (length picks) (clamped (dim.1 *ℤ parts.step)) dim.2) next (slice_at view (picks_of n parts) parts.step)) (sym first)
+    subst (λ n. Stands (made_of d len n (nearest_word (dim.1 *ℤ parts.step))) next (slice_of view parts)) (sym c.count_is)
+    (subst (λ x. Stands x next (slice_of view parts)) (sym (made_is d len (length picks) (nearest_word (dim.1 *ℤ parts.step)) c.some))
+    (subst (λ n. Stands (cut_of d (drop 1 d.dims) len (length picks) (nearest_word (dim.1 *ℤ parts.step)) dim.2) next (slice_at view (picks_of n parts) parts.step)) (sym first)
     (stands_cut d (drop 1 d.dims) dim start len parts.step picks next dim.2 view (dims_are d c.some) c.saturated.step (cut_made d start parts low high count next c e) stands)))
 
 -- the bytes of the entries that stay
@@ -144,7 +145,7 @@ entry_bytes size n len rest e = omega (arith, e)
 pub made_valid : (d : Descriptor) (start : ℕ) (parts : SliceParts) (low high count next len : ℕ) → IsCall d start parts low high count
     → (0 < count → pos next ≡ pos start +ℤ span_first low high parts.step *ℤ (dim_at d.dims 0).1)
     → ((entry : ℕ) → d.len ≡ (dim_at d.dims 0).0 * entry → len ≡ count * entry)
-    → (room : ℕ) → IsValid d start room → IsValid (made_of d len count (clamped ((dim_at d.dims 0).1 *ℤ parts.step))) next room
+    → (room : ℕ) → IsValid d start room → IsValid (made_of d len count (nearest_word ((dim_at d.dims 0).1 *ℤ parts.step))) next room
 made_valid d start parts low high count next len c e bytes room valid =
     let dim : ℕ × ℤ × ℤ = dim_at d.dims 0 in
     let picks : List ℕ = picks_of dim.0 parts in
@@ -152,26 +153,26 @@ made_valid d start parts low high count next len c e bytes room valid =
     let whole : d.itemsize * (dim.0 * rest) ≡ d.len = ap (λ ds. d.itemsize * product (shape_of ds)) (sym (dims_are d c.some)) ∙ valid.len in
     let len_is : len ≡ count * (d.itemsize * rest) = bytes (d.itemsize * rest) (entry_bytes d.itemsize dim.0 d.len rest whole) in
     let moves : dim.1 ≢ pos 0 = valid.strides 0 (0, pos 0, pos 0) c.some in
-    subst (λ n. IsValid (made_of d len n (clamped (dim.1 *ℤ parts.step))) next room) (sym c.count_is)
-    (subst (λ x. IsValid x next room) (sym (made_is d len (length picks) (clamped (dim.1 *ℤ parts.step)) c.some))
+    subst (λ n. IsValid (made_of d len n (nearest_word (dim.1 *ℤ parts.step))) next room) (sym c.count_is)
+    (subst (λ x. IsValid x next room) (sym (made_is d len (length picks) (nearest_word (dim.1 *ℤ parts.step)) c.some))
     (valid_cut d (drop 1 d.dims) dim start room len parts.step picks next (dims_are d c.some) c.saturated.moves (product_moves dim.1 parts.step moves c.saturated.moves)
     (cut_made d start parts low high count next c e)
     (entry_bytes d.itemsize (length picks) (d.itemsize * (length picks * rest)) rest refl ∙ sym (len_is ∙ ap (λ n. n * (d.itemsize * rest)) c.count_is)) valid))
 
 pub made_exact : (d : Descriptor) (start : ℕ) (parts : SliceParts) (low high count next : ℕ) → IsCall d start parts low high count
     → (0 < count → pos next ≡ pos start +ℤ span_first low high parts.step *ℤ (dim_at d.dims 0).1)
-    → 1 < count → clamped ((dim_at d.dims 0).1 *ℤ parts.step) ≡ (dim_at d.dims 0).1 *ℤ parts.step
+    → 1 < count → nearest_word ((dim_at d.dims 0).1 *ℤ parts.step) ≡ (dim_at d.dims 0).1 *ℤ parts.step
 made_exact d start parts low high count next c e h =
     (cut_made d start parts low high count next c e).stride_is (subst (λ n. 1 < n) c.count_is h)
 
 -- with two entries or more, the stride is exact
 pub first_of_made : (d x : Descriptor) (start : ℕ) (parts : SliceParts) (low high count next len : ℕ) → IsCall d start parts low high count
     → (0 < count → pos next ≡ pos start +ℤ span_first low high parts.step *ℤ (dim_at d.dims 0).1)
-    → made_of d len count (clamped ((dim_at d.dims 0).1 *ℤ parts.step)) ≡ x
+    → made_of d len count (nearest_word ((dim_at d.dims 0).1 *ℤ parts.step)) ≡ x
     → 1 < first_entry (shape_of x.dims) → first_stride (strides_of x.dims) ≡ first_stride (strides_of d.dims) *ℤ parts.step
 first_of_made d x start parts low high count next len c e made h =
     let dim : ℕ × ℤ × ℤ = dim_at d.dims 0 in
-    let cut : x ≡ cut_of d (drop 1 d.dims) len count (clamped (dim.1 *ℤ parts.step)) dim.2 = sym made ∙ made_is d len count (clamped (dim.1 *ℤ parts.step)) c.some in
+    let cut : x ≡ cut_of d (drop 1 d.dims) len count (nearest_word (dim.1 *ℤ parts.step)) dim.2 = sym made ∙ made_is d len count (nearest_word (dim.1 *ℤ parts.step)) c.some in
     let more : 1 < count = subst (λ y. 1 < first_entry (shape_of y.dims)) cut h in
     ap (λ y. first_stride (strides_of y.dims)) cut
     ∙ made_exact d start parts low high count next c e more

@@ -4,8 +4,9 @@ use Rattle.std.proofs.Math.IntN.{*ℤ_comm}
 use Rattle.std.proofs.lemmas.Int.{ints}
 use Rattle.std.specs.List.{AllByRecursion}
 use Rattle.std.proofs.lemmas.List.Elements.{All-from_recursion, recursion_from_All, All-head, All-tail, All-cons}
-use Rattle.pybuf_slice.specs.Parts.{clamped}
-use Rattle.pybuf_desc.specs.Descriptor.{Descriptor, shape_of, product}
+use Rattle.pybuf_slice.specs.Parts.{nearest_word}
+use Rattle.pybuf_desc.specs.Layouts.{product}
+use Rattle.pybuf_desc.specs.Descriptor.{Descriptor, shape_of}
 use Rattle.pybuf_desc.specs.Places.{places}
 use Rattle.pybuf_desc.specs.Valid.{IsInside, IsValid}
 use Rattle.pybuf_desc.proofs.Inside.{ByRec-append}
@@ -29,9 +30,9 @@ extent_less (suc k) zero a b c e dims h = absurd (omega arith)
 extent_less (suc k) (suc n) a b c e dims h = mul-le-mul_right (extent_of dims) h
 
 pub valid_cut : (d : Descriptor) (dims : List (ℕ × ℤ × ℤ)) (dim : ℕ × ℤ × ℤ) (start room len : ℕ) (step : ℤ) (picks : List ℕ) (next : ℕ)
-    → d.dims ≡ dim ∷ dims → step ≢ pos 0 → dim.1 *ℤ step ≢ pos 0 → IsCut dim start step picks next (clamped (dim.1 *ℤ step))
+    → d.dims ≡ dim ∷ dims → step ≢ pos 0 → dim.1 *ℤ step ≢ pos 0 → IsCut dim start step picks next (nearest_word (dim.1 *ℤ step))
     → d.itemsize * (length picks * product (shape_of dims)) ≡ len
-    → IsValid d start room → IsValid (cut_of d dims len (length picks) (clamped (dim.1 *ℤ step)) dim.2) next room
+    → IsValid d start room → IsValid (cut_of d dims len (length picks) (nearest_word (dim.1 *ℤ step)) dim.2) next room
 valid_cut d dims dim start room len step picks next same moves strides_move cut len_is valid =
     let strides : All (λ x. x.1 ≢ pos 0) (dim ∷ dims) = subst (All (λ (x : ℕ × ℤ × ℤ). x.1 ≢ pos 0)) same valid.strides in
     let suboffsets : All (λ x. x.2 ≡ pos 0) (dim ∷ dims) = subst (All (λ (x : ℕ × ℤ × ℤ). x.2 ≡ pos 0)) same valid.suboffsets in
@@ -41,13 +42,13 @@ valid_cut d dims dim start room len step picks next same moves strides_move cut 
       some_size = valid.some_size;
       size_fits = valid.size_fits;
       few_dimensions = subst (λ (ds : List (ℕ × ℤ × ℤ)). length ds ≤ 64) same valid.few_dimensions;
-      strides = All-cons (λ x. x.1 ≢ pos 0) (length picks, clamped (dim.1 *ℤ step), dim.2) dims (clamped_nonzero (dim.1 *ℤ step) strides_move) (All-tail (λ x. x.1 ≢ pos 0) dim dims strides);
-      suboffsets = All-cons (λ x. x.2 ≡ pos 0) (length picks, clamped (dim.1 *ℤ step), dim.2) dims (All-head (λ x. x.2 ≡ pos 0) dim dims suboffsets) (All-tail (λ x. x.2 ≡ pos 0) dim dims suboffsets);
+      strides = All-cons (λ x. x.1 ≢ pos 0) (length picks, nearest_word (dim.1 *ℤ step), dim.2) dims (clamped_nonzero (dim.1 *ℤ step) strides_move) (All-tail (λ x. x.1 ≢ pos 0) dim dims strides);
+      suboffsets = All-cons (λ x. x.2 ≡ pos 0) (length picks, nearest_word (dim.1 *ℤ step), dim.2) dims (All-head (λ x. x.2 ≡ pos 0) dim dims suboffsets) (All-tail (λ x. x.2 ≡ pos 0) dim dims suboffsets);
       later_entries = subst (λ (ds : List (ℕ × ℤ × ℤ)). All (λ x. 0 < x.0) (drop 1 ds)) same valid.later_entries;
-      extent_fits = lt_of_le_of_lt (mul-le-mul_left d.itemsize (extent_less (length picks) dim.0 (clamped (dim.1 *ℤ step)) dim.2 dim.1 dim.2 dims cut.few)) (subst (λ (ds : List (ℕ × ℤ × ℤ)). d.itemsize * extent_of ds < 2 ^ 63) same valid.extent_fits);
+      extent_fits = lt_of_le_of_lt (mul-le-mul_left d.itemsize (extent_less (length picks) dim.0 (nearest_word (dim.1 *ℤ step)) dim.2 dim.1 dim.2 dims cut.few)) (subst (λ (ds : List (ℕ × ℤ × ℤ)). d.itemsize * extent_of ds < 2 ^ 63) same valid.extent_fits);
       len = len_is;
-      inside = All-from_recursion (IsInside d.itemsize room) (places ((length picks, clamped (dim.1 *ℤ step), dim.2) ∷ dims) (pos next))
-          (subst (AllByRecursion (IsInside d.itemsize room)) (sym (places_cut dims dim start step picks next (clamped (dim.1 *ℤ step)) dim.2 cut))
+      inside = All-from_recursion (IsInside d.itemsize room) (places ((length picks, nearest_word (dim.1 *ℤ step), dim.2) ∷ dims) (pos next))
+          (subst (AllByRecursion (IsInside d.itemsize room)) (sym (places_cut dims dim start step picks next (nearest_word (dim.1 *ℤ step)) dim.2 cut))
           (inside_picks d.itemsize room dim.0 dims dim (pos start) step cut.before picks cut.walks inside));
     }
 
@@ -85,7 +86,7 @@ two_picks size room dims dim p step x y fits some hx hy e all =
     (ap (λ z. z *ℤ dim.1) e ∙ times_sum (pos x) step dim.1 ∙ ap (λ z. pos x *ℤ dim.1 +ℤ z) (*ℤ_comm step dim.1))
 
 pub stride_shown : (size room : ℕ) (dims : List (ℕ × ℤ × ℤ)) (dim : ℕ × ℤ × ℤ) (p step before : ℤ) (picks : List ℕ) → room < 2 ^ 63 → AreNonzero dims → Walks dim.0 step before picks
-    → AllByRecursion (IsInside size room) (places (dim ∷ dims) p) → 1 < length picks → clamped (dim.1 *ℤ step) ≡ dim.1 *ℤ step
+    → AllByRecursion (IsInside size room) (places (dim ∷ dims) p) → 1 < length picks → nearest_word (dim.1 *ℤ step) ≡ dim.1 *ℤ step
 stride_shown size room dims dim p step before [] fits some w all h = absurd (omega arith)
 stride_shown size room dims dim p step before (x ∷ []) fits some w all h = absurd (omega arith)
 stride_shown size room dims dim p step before (x ∷ y ∷ picks) fits some w all h =

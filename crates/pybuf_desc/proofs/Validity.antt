@@ -1,6 +1,7 @@
 -- What the checks of a descriptor come to.
 use Rattle.std.proofs.Common.{◌≡◌, ◌≢◌, ℕ, ◌*◌, ◌^◌, ◌<◌, ◌≤◌, ℤ, pos, Bool, List, length, drop, All, Any, ap, sym, ◌∙◌, arith, mul-zero}
-use Rattle.pybuf_desc.specs.Descriptor.{Descriptor, shape_of, product}
+use Rattle.pybuf_desc.specs.Layouts.{product}
+use Rattle.pybuf_desc.specs.Descriptor.{Descriptor, shape_of}
 use Rattle.pybuf_desc.specs.Places.{places}
 use Rattle.pybuf_desc.specs.Valid.{IsInside, IsValid}
 use Rattle.pybuf_desc.proofs.Steps.{length-places}
@@ -49,5 +50,5 @@ pub len_of_valid : (d : Descriptor) (start room : ℕ) → IsValid d start room 
 len_of_valid d start room valid some =
     sym (ap (λ (n : ℕ). d.itemsize * n) (sym (product-extent d.dims (AreNonzero-from_All d.dims some))) ∙ valid.len)
 
-abbrev pub described : ℕ → Bool → ℕ → List ℕ → List (ℕ × ℤ × ℤ) → Descriptor
-described len readonly itemsize format dims = record { len = len; readonly = readonly; itemsize = itemsize; format = format; dims = dims }
+abbrev pub raw_descriptor : ℕ → Bool → ℕ → List ℕ → List (ℕ × ℤ × ℤ) → Descriptor
+raw_descriptor len readonly itemsize format dims = record { len = len; readonly = readonly; itemsize = itemsize; format = format; dims = dims }

@@ -1,16 +1,11 @@
 -- The bytes of a view as items of another size, in one dimension.
-use Rattle.std.specs.Prelude.{ℕ, ◌+◌, ◌*◌, ◌/◌, pos, List, [], ◌∷◌, length, map}
-use Rattle.std.specs.List.{range_with_len}
-use Rattle.pybuf_desc.specs.Descriptor.{Layout}
+use Rattle.std.specs.Prelude.{ℕ, ◌*◌, ◌/◌, pos, List, [], ◌∷◌, length}
+use Rattle.pybuf_desc.specs.Layouts.{Layout}
+use Rattle.pybuf_desc.specs.Contiguous.{starts_from}
 
 -- how many items of so many bytes the items of the view make
 abbrev pub cast_count : Layout → ℕ → ℕ
 cast_count view size = length view.starts * view.itemsize / size
-
--- so many places, each `size` after the one before, from the first of these on; none where there is none
-abbrev pub starts_from : List ℕ → ℕ → ℕ → List ℕ
-starts_from [] size count = []
-starts_from (first ∷ starts) size count = map (λ k. first + k * size) (range_with_len 0 count)
 
 -- One dimension of items with the new format and size, one after the other from the first byte of
 -- the view on. Read-only stays.

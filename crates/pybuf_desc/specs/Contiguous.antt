@@ -1,16 +1,14 @@
--- Items that lie one after the other without a gap.
-use Rattle.std.specs.Prelude.{◌≡◌, ℕ, ◌*◌, ◌<◌, ℤ, pos, ◌+ℤ◌, List, [], ◌∷◌, length, map, ⊤}
+-- Views whose items lie one after the other without a gap.
+use Rattle.std.specs.Prelude.{ℕ, ◌+◌, ◌*◌, Bool, List, [], ◌∷◌, length, map, bytes_eq}
 use Rattle.std.specs.List.{range_with_len}
-use Rattle.pybuf_desc.specs.Descriptor.{shape_of, product}
+use Rattle.pybuf_desc.specs.Layouts.{Layout}
 
--- place k is the start plus k times the item size
-abbrev pub IsContiguous : ℕ → ℤ → List ℤ → Type 0
-IsContiguous itemsize start starts =
-    starts ≡ map (λ k. start +ℤ pos (k * itemsize)) (range_with_len 0 (length starts))
+-- so many places, each `size` after the one before, from the first of these on; none where there is none
+abbrev pub starts_from : List ℕ → ℕ → ℕ → List ℕ
+starts_from [] size count = []
+starts_from (first ∷ starts) size count = map (λ k. first + k * size) (range_with_len 0 count)
 
--- each dimension of more than one entry has as stride the item size times the number of items of the
--- later dimensions
-abbrev pub AreRowMajorStrides : ℕ → List (ℕ × ℤ × ℤ) → Type 0
-AreRowMajorStrides itemsize [] = ⊤
-AreRowMajorStrides itemsize (dim ∷ dims) =
-    (1 < dim.0 → dim.1 ≡ pos (itemsize * product (shape_of dims))) × AreRowMajorStrides itemsize dims
+-- Item k lies k item sizes after the first, in row-major order: C-contiguous. Without items this is
+-- so. (`bytes_eq` compares lists of numbers.)
+abbrev pub is_contiguous_layout : Layout → Bool
+is_contiguous_layout view = bytes_eq view.starts (starts_from view.starts view.itemsize (length view.starts))

@@ -1,6 +1,5 @@
--- What a descriptor of a buffer says, and the part of a view that it stands for.
-use Rattle.std.specs.Prelude.{ℕ, ◌*◌, ℤ, pos, Bool, List, [], ◌∷◌, map, codes}
-use Rattle.std.specs.List.{range_with_len}
+-- What the code keeps of a view: a descriptor. Where its items start is no part of it.
+use Rattle.std.specs.Prelude.{ℕ, ◌*◌, ℤ, pos, Bool, List, [], ◌∷◌, map}
 
 -- A dimension is a triple: its number of entries, the distance in bytes from one entry to the next
 -- (its stride), and its suboffset.
@@ -12,8 +11,8 @@ pub record Descriptor : Type 0 where
   pub dims : List (ℕ × ℤ × ℤ)
 
 -- one dimension of `count` items, one after the other
-abbrev pub flat : List ℕ → ℕ → ℕ → Bool → Descriptor
-flat format itemsize count readonly =
+abbrev pub flat_descriptor : List ℕ → ℕ → ℕ → Bool → Descriptor
+flat_descriptor format itemsize count readonly =
     record {
       len = count * itemsize;
       readonly = readonly;
@@ -28,42 +27,3 @@ shape_of dims = map (λ dim. dim.0) dims
 
 abbrev pub strides_of : List (ℕ × ℤ × ℤ) → List ℤ
 strides_of dims = map (λ dim. dim.1) dims
-
--- how many items a shape has
-abbrev pub product : List ℕ → ℕ
-product [] = 1
-product (n ∷ shape) = n * product shape
-
--- A view as its user knows it: the first byte's place of each item, row-major, and the strides that
--- it shows.
-pub record Layout : Type 0 where
-  pub format : List ℕ
-  pub itemsize : ℕ
-  pub shape : List ℕ
-  pub starts : List ℕ
-  pub strides : List ℤ
-  pub readonly : Bool
-
--- items one after the other from place 0 on
-abbrev pub flat_layout : List ℕ → ℕ → ℕ → Bool → Layout
-flat_layout format itemsize count readonly =
-    record {
-      format = format;
-      itemsize = itemsize;
-      shape = count ∷ [];
-      starts = map (λ k. k * itemsize) (range_with_len 0 count);
-      strides = pos itemsize ∷ [];
-      readonly = readonly;
-    }
-
--- bytes from place 0 on
-abbrev pub bytes_layout : ℕ → Bool → Layout
-bytes_layout count readonly =
-    record {
-      format = codes "B";
-      itemsize = 1;
-      shape = count ∷ [];
-      starts = range_with_len 0 count;
-      strides = pos 1 ∷ [];
-      readonly = readonly;
-    }

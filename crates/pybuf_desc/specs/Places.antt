@@ -1,7 +1,8 @@
 -- Where the items of a descriptor lie.
-use Rattle.std.specs.Prelude.{◌≡◌, ℕ, ℤ, pos, ◌+ℤ◌, ◌*ℤ◌, List, [], ◌∷◌, map}
+use Rattle.std.specs.Prelude.{◌≡◌, ℕ, ℤ, pos, ◌+ℤ◌, ◌*ℤ◌, nat_abs, List, [], ◌∷◌, map}
 use Rattle.std.specs.List.{flat_map, range_with_len}
-use Rattle.pybuf_desc.specs.Descriptor.{Descriptor, Layout, shape_of, strides_of}
+use Rattle.pybuf_desc.specs.Layouts.{Layout}
+use Rattle.pybuf_desc.specs.Descriptor.{Descriptor, shape_of, strides_of}
 
 -- The place of each item, row-major: for each index of the first dimension, in order, the places of
 -- the other dimensions from `start` plus the index times the stride.
@@ -18,3 +19,15 @@ pub record Stands (d : Descriptor) (start : ℕ) (view : Layout) : Type 0 where
   pub strides : strides_of d.dims ≡ view.strides
   pub readonly : d.readonly ≡ view.readonly
   pub starts : places d.dims (pos start) ≡ map pos view.starts
+
+-- the view that a descriptor with a start stands for, where no item lies before place 0
+abbrev pub layout_at : Descriptor → ℕ → Layout
+layout_at d start =
+    record {
+      format = d.format;
+      itemsize = d.itemsize;
+      shape = shape_of d.dims;
+      starts = map nat_abs (places d.dims (pos start));
+      strides = strides_of d.dims;
+      readonly = d.readonly;
+    }

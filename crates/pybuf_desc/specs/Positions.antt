@@ -4,7 +4,8 @@ use Rattle.pybuf_value.specs.declared.faults.Fault.{Fault}
 use Rattle.pybuf_value.specs.declared.faults.Fault.TheVariants as fault
 use Rattle.pybuf_value.specs.Refusing.{◌>>=◌}
 use Rattle.pybuf_slice.specs.Places.{item_place}
-use Rattle.pybuf_desc.specs.Descriptor.{shape_of, product}
+use Rattle.pybuf_desc.specs.Layouts.{product}
+use Rattle.pybuf_desc.specs.Descriptor.{shape_of}
 
 -- each index is below its dimension's number of entries, and each dimension has one
 abbrev pub AreIndices : List ℕ → List (ℕ × ℤ × ℤ) → Type 0
@@ -23,14 +24,14 @@ number_of_item (index ∷ indices) (dim ∷ dims) =
     index * product (shape_of dims) + number_of_item indices dims
 number_of_item _ _ = 0
 
--- the place that an index names, where a negative one counts from the end
-abbrev pub place_of_index : ℕ → ℤ → Result ℕ Fault
-place_of_index n index = ok_or (item_place n index) fault.Index
+-- the entry that an index names, where a negative one counts from the end
+abbrev pub entry_of_index : ℕ → ℤ → Result ℕ Fault
+entry_of_index n index = ok_or (item_place n index) fault.Index
 
--- the sum of place times stride, where each index names a place
+-- the sum of entry times stride, where each index names an entry
 abbrev pub position_of : List ℤ → List (ℕ × ℤ × ℤ) → Result ℤ Fault
 position_of (index ∷ indices) (dim ∷ dims) = do
-  first ← place_of_index dim.0 index
+  first ← entry_of_index dim.0 index
   others ← position_of indices dims
   Ok (pos first *ℤ dim.1 +ℤ others)
 position_of _ _ = Ok (pos 0)

@@ -3,7 +3,8 @@ use Rattle.std.specs.Prelude.{◌≡◌, ℕ, zero, suc, ◌+◌, ◌-◌, ◌*�
 use Rattle.std.specs.Ordering.{int_eq}
 use Rattle.std.specs.List.{flat_map, range_with_len, AllByRecursion}
 use Rattle.std.specs.declared.ops.Range.{Range}
-use Rattle.pybuf_desc.specs.Descriptor.{Descriptor, shape_of, product}
+use Rattle.pybuf_desc.specs.Layouts.{product}
+use Rattle.pybuf_desc.specs.Descriptor.{Descriptor, shape_of}
 use Rattle.pybuf_desc.specs.Places.{places}
 use Rattle.pybuf_desc.specs.Positions.{offset_of, number_of_item}
 use Rattle.pybuf_desc.specs.Valid.{IsInside}
@@ -17,32 +18,35 @@ abbrev pub is_row_contiguous : ℕ → Option (ℕ × ℤ × ℤ) → Bool
 is_row_contiguous itemsize None = false
 is_row_contiguous itemsize (Some last) = int_eq last.1 (pos itemsize) && int_eq last.2 (pos 0)
 
--- how many bytes the items of a row have
-abbrev pub row_size : ℕ → Option (ℕ × ℤ × ℤ) → ℕ
-row_size itemsize None = itemsize
-row_size itemsize (Some last) = last.0 * itemsize
-
 abbrev pub last_dim : List (ℕ × ℤ × ℤ) → Option (ℕ × ℤ × ℤ)
 last_dim dims = slice_get dims (length dims - 1)
 
--- a range for each item, row-major
-abbrev pub item_ranges : Descriptor → ℤ → List (Range ℕ)
-item_ranges d start = map (range_at d.itemsize) (places d.dims start)
+-- how many of the last dimensions a walk joins: one where it is asked to join rows, and the items of a
+-- row lie one after the other
+abbrev pub joined_count : Descriptor → Bool → ℕ
+joined_count d join = if join && is_row_contiguous d.itemsize (last_dim d.dims) then 1 else 0
 
--- a range for each row: the dimensions before the last lead to its first item
-abbrev pub row_ranges : Descriptor → ℤ → List (Range ℕ)
-row_ranges d start =
+-- so many of the last dimensions, and the dimensions before them
+abbrev pub joined_dims : ℕ → List (ℕ × ℤ × ℤ) → List (ℕ × ℤ × ℤ)
+joined_dims joined dims = drop (length dims - joined) dims
+
+abbrev pub outer_dims : ℕ → List (ℕ × ℤ × ℤ) → List (ℕ × ℤ × ℤ)
+outer_dims joined dims = take (length dims - joined) dims
+
+-- Where so many of the last dimensions are joined: a range for each place of the dimensions before
+-- them, row-major, of as many bytes as the items of the joined ones have. There is none without items.
+abbrev pub ranges_of : Descriptor → ℤ → ℕ → List (Range ℕ)
+ranges_of d start joined =
     if product (shape_of d.dims) == 0 then []
-    else map (range_at (row_size d.itemsize (last_dim d.dims))) (places (take (length d.dims - 1) d.dims) start)
-
--- with `join`, a row whose last dimension is contiguous is one range
-abbrev pub ranges_of : Descriptor → ℤ → Bool → List (Range ℕ)
-ranges_of d start join =
-    if join && is_row_contiguous d.itemsize (last_dim d.dims) then row_ranges d start else item_ranges d start
+    else map (range_at (product (shape_of (joined_dims joined d.dims)) * d.itemsize)) (places (outer_dims joined d.dims) start)
 
 -- the places of a range's bytes
 abbrev pub bytes_of : Range ℕ → List ℕ
 bytes_of range = range_with_len range.start (range.end - range.start)
+
+-- the bytes of a range
+abbrev pub bytes_in : List ℕ → Range ℕ → List ℕ
+bytes_in bytes range = take (range.end - range.start) (drop range.start bytes)
 
 -- the places of the items' bytes, item by item
 abbrev pub item_bytes : Descriptor → ℤ → List ℕ

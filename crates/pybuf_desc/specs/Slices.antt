@@ -1,10 +1,11 @@
 -- The slice of a view along its first dimension.
 use Rattle.std.specs.Prelude.{ℕ, ◌*◌, ◌/◌, ℤ, pos, ◌*ℤ◌, List, [], ◌∷◌, length, take, drop}
 use Rattle.std.specs.List.{flat_map}
-use Rattle.pybuf_slice.specs.Parts.{SliceParts, picks_of, clamped}
-use Rattle.pybuf_desc.specs.Descriptor.{Layout}
+use Rattle.pybuf_slice.specs.Parts.{SliceParts, picks_of, nearest_word}
+use Rattle.pybuf_desc.specs.Layouts.{Layout}
 
--- the first entry of a shape
+-- The first entry of a shape. A view of no dimension is never sliced: it has no such entry, and the 1
+-- counts nothing.
 abbrev pub first_entry : List ℕ → ℕ
 first_entry [] = 1
 first_entry (n ∷ shape) = n
@@ -25,7 +26,7 @@ slice_at view picks step =
     record view {
       shape = length picks ∷ drop 1 view.shape;
       starts = flat_map (λ i. block_at (length view.starts / first_entry view.shape) view.starts i) picks;
-      strides = clamped (first_stride view.strides *ℤ clamped step) ∷ drop 1 view.strides;
+      strides = nearest_word (first_stride view.strides *ℤ nearest_word step) ∷ drop 1 view.strides;
     }
 
 abbrev pub slice_of : Layout → SliceParts → Layout

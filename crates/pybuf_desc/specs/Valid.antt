@@ -1,6 +1,7 @@
 -- When a descriptor describes items that lie inside an exporter's bytes.
 use Rattle.std.specs.Prelude.{◌≡◌, ◌≢◌, ℕ, ◌*◌, ◌^◌, ◌<◌, ◌≤◌, ℤ, pos, ◌+ℤ◌, ◌≤ℤ◌, List, [], ◌∷◌, zero, suc, length, drop, All}
-use Rattle.pybuf_desc.specs.Descriptor.{Descriptor, shape_of, product}
+use Rattle.pybuf_desc.specs.Layouts.{product}
+use Rattle.pybuf_desc.specs.Descriptor.{Descriptor, shape_of}
 use Rattle.pybuf_desc.specs.Places.{places}
 
 -- each byte of an item at this place lies in 0..room
@@ -9,10 +10,10 @@ pub record IsInside (itemsize room : ℕ) (place : ℤ) : Type 0 where
   pub high : (place +ℤ pos itemsize) ≤ℤ pos room
 
 -- the entries that aren't 0
-abbrev pub nonzero : List ℕ → List ℕ
-nonzero [] = []
-nonzero (zero ∷ shape) = nonzero shape
-nonzero (suc n ∷ shape) = suc n ∷ nonzero shape
+abbrev pub nonzero_entries : List ℕ → List ℕ
+nonzero_entries [] = []
+nonzero_entries (zero ∷ shape) = nonzero_entries shape
+nonzero_entries (suc n ∷ shape) = suc n ∷ nonzero_entries shape
 
 pub record IsValid (d : Descriptor) (start room : ℕ) : Type 0 where
   pub some_size : 0 < d.itemsize
@@ -21,7 +22,7 @@ pub record IsValid (d : Descriptor) (start room : ℕ) : Type 0 where
   pub strides : All (λ dim. dim.1 ≢ pos 0) d.dims
   pub suboffsets : All (λ dim. dim.2 ≡ pos 0) d.dims
   pub later_entries : All (λ dim. 0 < dim.0) (drop 1 d.dims)
-  pub extent_fits : d.itemsize * product (nonzero (shape_of d.dims)) < 2 ^ 63
+  pub extent_fits : d.itemsize * product (nonzero_entries (shape_of d.dims)) < 2 ^ 63
   pub len : d.itemsize * product (shape_of d.dims) ≡ d.len
   pub inside : All (IsInside d.itemsize room) (places d.dims (pos start))
 

@@ -1,14 +1,36 @@
 //! The bytes of a descriptor's items, read as items of another size.
-ghost use Rattle.std.specs.Prelude.{◌≡◌, ◌/◌, ◌%◌, ◌^◌, ◌<◌, ℕ, ℤ, IfOk};
-ghost use Rattle.pybuf_desc.specs.Descriptor.{Layout, flat};
-ghost use Rattle.pybuf_desc.specs.Places.{places, Stands};
+ghost use Rattle.std.specs.Prelude.{◌≡◌, ◌*◌, ◌/◌, ◌%◌, ◌^◌, ◌<◌, ◌≤◌, ℕ, true, length, All, IfOk};
+ghost use Rattle.pybuf_desc.specs.Layouts.{Layout, product};
+ghost use Rattle.pybuf_desc.specs.Contiguous.{is_contiguous_layout};
+ghost use Rattle.pybuf_desc.specs.Descriptor.{flat_descriptor};
+ghost use Rattle.pybuf_desc.specs.Places.{Stands};
 ghost use Rattle.pybuf_desc.specs.Valid.{IsValid, IsPlaceable};
-ghost use Rattle.pybuf_desc.specs.Contiguous.{IsContiguous};
+ghost use Rattle.pybuf_desc.specs.RowMajor.{row_major_dims, shaped_cast};
 ghost use Rattle.pybuf_desc.specs.Casts.{cast_of};
+ghost use Rattle.pybuf_desc.specs.ShapedCasts.{cast_to};
 
 use crate::descriptor::BufferDescriptor;
-use pybuf_value::{Made, Text};
+use pybuf_value::{DimList, Made, Text};
 use std::alloc::Global;
+
+/// The dimensions of a shape whose items lie one after the other and have `len` bytes together.
+///
+/// The stride of a dimension is the bytes of one of its entries: those of all entries, divided by
+/// their number.
+fn row_major_dims(alloc: Global, len: usize, itemsize: usize, shape: &[usize]) -> Made<DimList>
+    requires entries { All (λ n. 0 < n) shape.now }
+    requires whole { itemsize * product shape.now ≡ len }
+    requires fits { len < 2 ^ 63 }
+    ensures { IfOk result (λ dims. dims ≡ row_major_dims itemsize shape.now) }
+{
+    let mut dims = DimList::new(alloc);
+    let mut size = len;
+    for n in shape {
+        size /= *n;
+        dims.push((*n, size as isize, 0))?;
+    }
+    Ok(dims)
+}
 
 impl BufferDescriptor {
     /// One dimension of items of another format and size over the same bytes, from the same start.
@@ -17,14 +39,42 @@ impl BufferDescriptor {
     /// ones must make up their bytes: Python's reference has it under `memoryview.cast`.
     pub fn cast_flat(&self, alloc: Global, format: Text, itemsize: usize) -> Made<BufferDescriptor>
         requires valid { IsPlaceable self.now }
-        requires contiguous { (start : ℤ) → IsContiguous self.now.itemsize start (places self.now.dims start) }
+        requires contiguous { (start : ℕ) (view : Layout) → Stands self.now start view → is_contiguous_layout view ≡ true }
         requires some_size { 0 < itemsize }
         requires size_fits { itemsize < 2 ^ 63 }
         requires whole_items { self.now.len % itemsize ≡ 0 }
-        ensures made { IfOk result (λ d. d ≡ flat format itemsize (self.now.len / itemsize) self.now.readonly) }
+        ensures made { IfOk result (λ d. d ≡ flat_descriptor format itemsize (self.now.len / itemsize) self.now.readonly) }
         ensures valid { IfOk result (λ d. (start room : ℕ) → IsValid self.now start room → IsValid d start room) }
         ensures stands { IfOk result (λ d. (start : ℕ) (view : Layout) → Stands self.now start view → Stands d start (cast_of view format itemsize)) }
     {
         BufferDescriptor::format(alloc, self.len(), self.readonly(), itemsize, format)
+    }
+
+    /// Items of another format and size over the same bytes, from the same start, in dimensions of
+    /// these entries, row-major. Without dimensions there is one item.
+    ///
+    /// The items must lie one after the other without a gap, as `is_contiguous` tells, and the new
+    /// ones must make up their bytes: Python's reference has it under `memoryview.cast`. There are
+    /// at most 64 dimensions, each with an entry.
+    pub fn cast_shape(
+        &self,
+        alloc: Global,
+        format: Text,
+        itemsize: usize,
+        shape: &[usize],
+    ) -> Made<BufferDescriptor>
+        requires valid { IsPlaceable self.now }
+        requires contiguous { (start : ℕ) (view : Layout) → Stands self.now start view → is_contiguous_layout view ≡ true }
+        requires some_size { 0 < itemsize }
+        requires size_fits { itemsize < 2 ^ 63 }
+        requires few_dimensions { length shape.now ≤ 64 }
+        requires entries { All (λ n. 0 < n) shape.now }
+        requires whole_items { itemsize * product shape.now ≡ self.now.len }
+        ensures made { IfOk result (λ d. d ≡ shaped_cast self.now format itemsize shape.now) }
+        ensures valid { IfOk result (λ d. (start room : ℕ) → IsValid self.now start room → IsValid d start room) }
+        ensures stands { IfOk result (λ d. (start : ℕ) (view : Layout) → Stands self.now start view → Stands d start (cast_to view format itemsize shape.now)) }
+    {
+        let dims = row_major_dims(alloc, self.len(), itemsize, shape)?;
+        Ok(BufferDescriptor::raw(self.len(), self.readonly(), itemsize, format, dims))
     }
 }

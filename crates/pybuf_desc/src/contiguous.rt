@@ -1,9 +1,11 @@
 //! Items one after the other without a gap.
-ghost use Rattle.std.specs.Prelude.{◌≡◌, ◌*◌, ◌-◌, ◌^◌, ◌<◌, ◌↔◌, ℤ, pos, length, All, IsTrue, IsSomeAnd, slice_get};
-ghost use Rattle.pybuf_desc.specs.Descriptor.{shape_of, product};
-ghost use Rattle.pybuf_desc.specs.Places.{places};
+ghost use Rattle.std.specs.Prelude.{◌≡◌, ℕ, ◌*◌, ◌-◌, ◌^◌, ◌<◌, ◌↔◌, ℤ, pos, length, All, IsTrue, IsSomeAnd, slice_get};
+ghost use Rattle.pybuf_desc.specs.Layouts.{Layout, product};
+ghost use Rattle.pybuf_desc.specs.Contiguous.{is_contiguous_layout};
+ghost use Rattle.pybuf_desc.specs.Descriptor.{shape_of};
+ghost use Rattle.pybuf_desc.specs.Places.{places, Stands};
 ghost use Rattle.pybuf_desc.specs.Valid.{IsPlaceable};
-ghost use Rattle.pybuf_desc.specs.Contiguous.{IsContiguous, AreRowMajorStrides};
+ghost use Rattle.pybuf_desc.specs.RowMajor.{IsContiguous, AreRowMajorStrides};
 
 use crate::descriptor::BufferDescriptor;
 
@@ -35,6 +37,7 @@ impl BufferDescriptor {
     /// so. Takes no memory.
     pub fn is_contiguous(&self) -> bool
         requires { IsPlaceable self.now }
+        ensures view { (start : ℕ) (view : Layout) → Stands self.now start view → result ≡ is_contiguous_layout view }
         ensures places { (start : ℤ) → (IsTrue result ↔ IsContiguous self.now.itemsize start (places self.now.dims start)) }
         ensures strides { 0 < self.now.len → (IsTrue result ↔ AreRowMajorStrides self.now.itemsize self.now.dims) }
     {

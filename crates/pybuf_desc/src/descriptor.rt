@@ -1,5 +1,5 @@
 //! The descriptor, how one is made, and what it says of itself.
-ghost use Rattle.std.specs.Prelude.{◌≡◌, ◌==◌, ◌*◌, ◌/◌, ◌%◌, ◌^◌, ◌<◌, ◌≤◌, ◌↔◌, [], ◌∷◌, pos, true, length, IfOk, IfErr, IsOk, IsTrue, slice_set, slice_index_or, codes};
+ghost use Rattle.std.specs.Prelude.{◌≡◌, ◌==◌, ◌*◌, ◌/◌, ◌%◌, ◌^◌, ◌<◌, ◌≤◌, ◌↔◌, ℕ, [], ◌∷◌, pos, true, length, IfOk, IfErr, IsOk, IsTrue, slice_set, slice_index_or, codes};
 ghost use Rattle.std.specs.List.{Any};
 ghost use Rattle.pybuf_value.specs.declared.faults.Fault.{Fault};
 
@@ -8,7 +8,7 @@ use pybuf_value::{DimList, Fault, Made, Text, Twin};
 use std::alloc::Global;
 use std::marker::Model;
 
-/// What the items of a buffer are and how they are laid out, as Python's C API has it under
+/// What the items of a buffer are and how they are blocks_apart out, as Python's C API has it under
 /// "Buffer Protocol", "Buffer structure" and "NumPy-style: shape and strides". Where the items
 /// start is no part of it.
 ///
@@ -32,7 +32,8 @@ impl Model for BufferDescriptor {
 }
 
 impl BufferDescriptor {
-    ghost use Rattle.pybuf_desc.specs.Descriptor.{Descriptor, flat, flat_layout, bytes_layout};
+    ghost use Rattle.pybuf_desc.specs.Layouts.{Layout, flat_layout, bytes_layout};
+    ghost use Rattle.pybuf_desc.specs.Descriptor.{Descriptor, flat_descriptor};
     ghost use Rattle.pybuf_desc.specs.Places.{Stands};
     ghost use Rattle.pybuf_desc.specs.Valid.{IsValid};
 
@@ -146,7 +147,7 @@ impl BufferDescriptor {
     /// One dimension of bytes: format `B`, and as many items as bytes.
     pub fn simple(alloc: Global, bytes_len: usize, readonly: bool) -> Made<BufferDescriptor>
         requires { bytes_len < 2 ^ 63 }
-        ensures made { IfOk result (λ d. d ≡ flat (codes "B") 1 bytes_len readonly) }
+        ensures made { IfOk result (λ d. d ≡ flat_descriptor (codes "B") 1 bytes_len readonly) }
         ensures valid { IfOk result (λ d. IsValid d 0 bytes_len) }
         ensures stands { IfOk result (λ d. Stands d 0 (bytes_layout bytes_len readonly)) }
     {
@@ -166,7 +167,7 @@ impl BufferDescriptor {
         requires size_fits { itemsize < 2 ^ 63 }
         requires len_fits { bytes_len < 2 ^ 63 }
         requires whole_items { bytes_len % itemsize ≡ 0 }
-        ensures made { IfOk result (λ d. d ≡ flat format itemsize (bytes_len / itemsize) readonly) }
+        ensures made { IfOk result (λ d. d ≡ flat_descriptor format itemsize (bytes_len / itemsize) readonly) }
         ensures valid { IfOk result (λ d. IsValid d 0 bytes_len) }
         ensures stands { IfOk result (λ d. Stands d 0 (flat_layout format itemsize (bytes_len / itemsize) readonly)) }
     {
@@ -202,6 +203,24 @@ impl BufferDescriptor {
             itemsize: self.itemsize,
             format,
             dim_desc: DimList::from_vec(dims),
+        })
+    }
+
+    /// The same items over the same bytes, which may only be read: Python's reference has it under
+    /// `memoryview.toreadonly`. It takes memory for the format and the dimensions.
+    pub fn to_readonly(&self, alloc: Global) -> Made<BufferDescriptor>
+        ensures made { IfOk result (λ d. d ≡ record self.now { readonly = true }) }
+        ensures valid { IfOk result (λ d. (start room : ℕ) → IsValid self.now start room → IsValid d start room) }
+        ensures stands { IfOk result (λ d. (start : ℕ) (view : Layout) → Stands self.now start view → Stands d start (record view { readonly = true })) }
+    {
+        let format = self.format.copy(alloc)?;
+        let dim_desc = self.dim_desc.copy(alloc)?;
+        Ok(BufferDescriptor {
+            len: self.len,
+            readonly: true,
+            itemsize: self.itemsize,
+            format,
+            dim_desc,
         })
     }
 

@@ -4,7 +4,7 @@ ghost use Rattle.std.specs.Int.{w64};
 ghost use Rattle.std.specs.Iterator.{YieldsFirst, item_count};
 ghost use Rattle.std.specs.List.{flat_map};
 ghost use Rattle.pybuf_desc.specs.Valid.{IsPlaced};
-ghost use Rattle.pybuf_desc.specs.Segments.{IsRow, AreRows, rows_left, row_places, range_at, ranges_of, item_bytes, bytes_of};
+ghost use Rattle.pybuf_desc.specs.Segments.{IsRow, AreRows, rows_left, row_places, range_at, ranges_of, joined_count, item_bytes, bytes_of};
 
 use crate::checks::has_zero;
 use crate::descriptor::BufferDescriptor;
@@ -133,7 +133,7 @@ impl BufferDescriptor {
     /// other. There is no range where a dimension has no entry.
     pub fn segments(&self, start: usize, join: bool) -> Segments<'_>
         requires { IsPlaced self.now start }
-        ensures ranges { result ≡ ranges_of self.now (pos start) join }
+        ensures ranges { result ≡ ranges_of self.now (pos start) (joined_count self.now join) }
         ensures bytes { flat_map bytes_of result ≡ item_bytes self.now (pos start) }
     {
         let dims = self.dim_desc();

@@ -1,8 +1,9 @@
 //! The slice of a descriptor along its first dimension.
 ghost use Rattle.std.specs.Prelude.{◌≡◌, ◌+◌, ◌*◌, ◌^◌, ◌<◌, ◌≤◌, ℕ, ℤ, pos, [], ◌∷◌, ◌+ℤ◌, ◌*ℤ◌, ◌≤ℤ◌, ◌<ℤ◌, FitsSigned, IfOk, length, slice_set, slice_index_or};
 ghost use Rattle.std.specs.Int.{w64};
-ghost use Rattle.pybuf_slice.specs.Parts.{picks_of, clamped};
-ghost use Rattle.pybuf_desc.specs.Descriptor.{Descriptor, Layout, shape_of, strides_of};
+ghost use Rattle.pybuf_slice.specs.Parts.{picks_of, nearest_word};
+ghost use Rattle.pybuf_desc.specs.Layouts.{Layout};
+ghost use Rattle.pybuf_desc.specs.Descriptor.{Descriptor, shape_of, strides_of};
 ghost use Rattle.pybuf_desc.specs.Places.{Stands};
 ghost use Rattle.pybuf_desc.specs.Valid.{IsValid, IsPlaced};
 ghost use Rattle.pybuf_desc.specs.Slices.{first_entry, first_stride, slice_of};
@@ -32,7 +33,7 @@ fn len_of_entries(len: usize, shape: usize, count: usize) -> usize
     if count == 0 { 0 } else { len / shape * count }
 }
 
-/// The first index of a span, which is the last of its places where the step is negative.
+/// The first index of a span, which is its greatest where the step is negative.
 fn first_of_span(low: usize, high: usize, step: isize) -> usize
     requires { low < high }
     ensures rises { pos 0 ≤ℤ step → result ≡ low }
@@ -42,8 +43,8 @@ fn first_of_span(low: usize, high: usize, step: isize) -> usize
 }
 
 /// A stride times a step, as the nearest that fits `isize`.
-fn stepped(stride: isize, step: isize) -> isize
-    ensures { result ≡ clamped (stride *ℤ step) }
+fn stride_after(stride: isize, step: isize) -> isize
+    ensures { result ≡ nearest_word (stride *ℤ step) }
 {
     saturate(stride as i128 * step as i128)
 }
@@ -75,7 +76,7 @@ impl BufferDescriptor {
         let stride = dims[0].1;
         let (range, step, count) = slice.adjust_indices(shape);
         let len = len_of_entries(self.len(), shape, count);
-        let descriptor = self.with_first(alloc, len, count, stepped(stride, step))?;
+        let descriptor = self.with_first(alloc, len, count, stride_after(stride, step))?;
         if count == 0 {
             return Ok((descriptor, start));
         }

@@ -1,8 +1,9 @@
 use Rattle.std.proofs.Common.{◌≡◌, ◌*◌, ◌^◌, ◌<◌, drop}
-use Rattle.pybuf_desc.specs.Descriptor.{shape_of, product}
-use Rattle.pybuf_desc.specs.Valid.{nonzero}
+use Rattle.pybuf_desc.specs.Layouts.{product}
+use Rattle.pybuf_desc.specs.Descriptor.{shape_of}
+use Rattle.pybuf_desc.specs.Valid.{nonzero_entries}
 use Rattle.pybuf_desc.proofs.checks.extent.Given as goal
 
 abbrev pub invariant-loop-dim : goal.invariant-loop-dim
 invariant-loop-dim l =
-    (l.extent < 2 ^ 63) × (l.extent * product (nonzero (shape_of (drop l.dim-index l.dims))) ≡ l.itemsize * product (nonzero (shape_of l.dims)))
+    (l.extent < 2 ^ 63) × (l.extent * product (nonzero_entries (shape_of (drop l.dim-index l.dims))) ≡ l.itemsize * product (nonzero_entries (shape_of l.dims)))

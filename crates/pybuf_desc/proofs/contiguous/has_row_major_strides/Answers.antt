@@ -1,6 +1,7 @@
 use Rattle.std.proofs.Common.{◌≡◌, ◌<◌, ◌*◌, ◌-◌, ◌^◌, pos, arith, rules, ap, sym, ◌∙◌, SFits, w64, to_z, of_z, true, false, true≢false, drop}
 use Rattle.std.proofs.lemmas.Int.{ints, to_z-of_z, to_z_pos}
-use Rattle.pybuf_desc.specs.Descriptor.{shape_of, product}
+use Rattle.pybuf_desc.specs.Layouts.{product}
+use Rattle.pybuf_desc.specs.Descriptor.{shape_of}
 use Rattle.pybuf_desc.proofs.Moves.{dim_at}
 use Rattle.pybuf_desc.proofs.Strides.{size_below, next_size, strides_step, strides_fail}
 use Rattle.pybuf_desc.proofs.contiguous.has_row_major_strides.Goals as goal

@@ -1,6 +1,7 @@
 use Rattle.std.proofs.Common.{◌≡◌, ◌*◌, ◌≤◌, length, drop}
-use Rattle.pybuf_desc.specs.Descriptor.{shape_of, product}
-use Rattle.pybuf_desc.specs.Contiguous.{AreRowMajorStrides}
+use Rattle.pybuf_desc.specs.Layouts.{product}
+use Rattle.pybuf_desc.specs.Descriptor.{shape_of}
+use Rattle.pybuf_desc.specs.RowMajor.{AreRowMajorStrides}
 use Rattle.pybuf_desc.proofs.contiguous.has_row_major_strides.Given as goal
 
 abbrev pub decreases-loop-k : goal.decreases-loop-k

@@ -1,13 +1,20 @@
-use Rattle.std.proofs.Common.{◌<◌, ◌*◌, refl, sym, ◌∙◌, subst, All, ◌^◌, IsTrue, ◌↔◌}
-use Rattle.pybuf_desc.specs.Descriptor.{shape_of, product}
+use Rattle.std.proofs.Common.{◌<◌, ◌*◌, pos, true, refl, sym, ◌∙◌, subst, All, ◌^◌, IsTrue, ◌↔◌}
+use Rattle.pybuf_desc.specs.Layouts.{product}
+use Rattle.pybuf_desc.specs.Descriptor.{shape_of}
 use Rattle.pybuf_desc.specs.Places.{places}
-use Rattle.pybuf_desc.specs.Contiguous.{IsContiguous, AreRowMajorStrides}
+use Rattle.pybuf_desc.specs.RowMajor.{IsContiguous, AreRowMajorStrides}
 use Rattle.pybuf_desc.proofs.Strides.{contiguous_without_items, contiguous_by_strides, entries_of, bytes_fit, no_item, All-from_AreNonzero}
+use Rattle.pybuf_desc.proofs.DescribedLayouts.{told_by_places}
 use Rattle.pybuf_desc.proofs.descriptor.BufferDescriptor.is_contiguous.Goals as goal
 
 pub returns-then-len-eq0-clause-places : goal.returns-then-len-eq0-clause-places
 returns-then-len-eq0-clause-places c = λ start.
     (λ _. contiguous_without_items c.args.self.now.itemsize c.args.self.now.dims start (no_item c.args.self.now c.requires (sym c.len.ensures ∙ c.if-len-eq0.true)), λ _. refl)
+
+pub returns-then-len-eq0-clause-view : goal.returns-then-len-eq0-clause-view
+returns-then-len-eq0-clause-view c = λ start view stands.
+    told_by_places c.args.self.now start view true stands
+    ((λ _. contiguous_without_items c.args.self.now.itemsize c.args.self.now.dims (pos start) (no_item c.args.self.now c.requires (sym c.len.ensures ∙ c.if-len-eq0.true))), λ _. refl)
 
 pub has_row_major_strides-requires-clause-entries : goal.has_row_major_strides-requires-clause-entries
 has_row_major_strides-requires-clause-entries c =
@@ -28,3 +35,7 @@ returns-clause-places c = λ start.
     let places_too : AreRowMajorStrides c.args.self.now.itemsize c.args.self.now.dims ↔ IsContiguous c.args.self.now.itemsize start (places c.args.self.now.dims start) =
     contiguous_by_strides c.args.self.now.itemsize c.args.self.now.dims start (entries_of c.args.self.now c.requires (λ e. c.if-len-eq0.false (c.len.ensures ∙ e))) in
     (λ h. places_too.0 (strides.0 h), λ h. strides.1 (places_too.1 h))
+
+pub returns-clause-view : goal.returns-clause-view
+returns-clause-view c = λ start view stands.
+    told_by_places c.args.self.now start view c.has_row_major_strides.result stands (returns-clause-places c (pos start))

@@ -1,5 +1,5 @@
 use Rattle.std.proofs.Common.{rules, arith, ◌≡◌, ◌<◌, ◌^◌, ◌*◌, pos, ◌+ℤ◌, ◌*ℤ◌, ◌≤ℤ◌, ◌<ℤ◌, SFits, w64, sym, ap, ◌∙◌, subst, pos_of_ne-zero}
-use Rattle.pybuf_slice.specs.Parts.{clamped}
+use Rattle.pybuf_slice.specs.Parts.{nearest_word}
 use Rattle.pybuf_desc.specs.Places.{Stands}
 use Rattle.pybuf_desc.specs.Valid.{IsValid}
 use Rattle.pybuf_desc.specs.Slices.{slice_of}
@@ -27,10 +27,10 @@ returns-then-count-eq0-clause-stands c =
     call_of c.args.self.now c.args.start c.dim_desc-dims.result.now c.args.slice.now c.adjust_indices-step.result.0.start c.adjust_indices-step.result.0.end c.adjust_indices-step.result.2 c.adjust_indices-step.result.1 c.dim_desc-dims.ensures c.requires.placed c.requires.some_dimension c.adjust_indices-step.ensures.saturated c.adjust_indices-step.ensures.step c.adjust_indices-step.ensures.picks c.adjust_indices-step.ensures.count c.adjust_indices-step.ensures.within in
     let fs : SFits w64 (dim_at c.dim_desc-dims.result.now 0).1 = search rules in
     let ft : SFits w64 c.adjust_indices-step.result.1 = search rules in
-    let fr : SFits w64 c.stepped.result = search rules in
-    let stride : bits c.stepped.result ≡ clamped ((dim_at c.args.self.now.dims 0).1 *ℤ c.args.slice.now.step) = stride_is c.args.self.now c.dim_desc-dims.result.now c.args.slice.now c.stepped.result c.adjust_indices-step.result.1 c.dim_desc-dims.ensures fr fs ft c.adjust_indices-step.ensures.step c.stepped.ensures in
-    let made : made_of c.args.self.now c.len_of_entries-len.result c.adjust_indices-step.result.2 (clamped ((dim_at c.args.self.now.dims 0).1 *ℤ c.args.slice.now.step)) ≡ c.in_ok-descriptor.descriptor =
-    descriptor_is c.args.self.now c.in_ok-descriptor.descriptor c.len_of_entries-len.result c.adjust_indices-step.result.2 (bits c.stepped.result) (clamped ((dim_at c.args.self.now.dims 0).1 *ℤ c.args.slice.now.step)) stride c.in_ok-descriptor.ensures in
+    let fr : SFits w64 c.stride_after.result = search rules in
+    let stride : bits c.stride_after.result ≡ nearest_word ((dim_at c.args.self.now.dims 0).1 *ℤ c.args.slice.now.step) = stride_is c.args.self.now c.dim_desc-dims.result.now c.args.slice.now c.stride_after.result c.adjust_indices-step.result.1 c.dim_desc-dims.ensures fr fs ft c.adjust_indices-step.ensures.step c.stride_after.ensures in
+    let made : made_of c.args.self.now c.len_of_entries-len.result c.adjust_indices-step.result.2 (nearest_word ((dim_at c.args.self.now.dims 0).1 *ℤ c.args.slice.now.step)) ≡ c.in_ok-descriptor.descriptor =
+    descriptor_is c.args.self.now c.in_ok-descriptor.descriptor c.len_of_entries-len.result c.adjust_indices-step.result.2 (bits c.stride_after.result) (nearest_word ((dim_at c.args.self.now.dims 0).1 *ℤ c.args.slice.now.step)) stride c.in_ok-descriptor.ensures in
     λ view stands.
     subst (λ d. Stands d c.args.start (slice_of view c.args.slice.now)) made
     (made_stands c.args.self.now c.args.start c.args.slice.now c.adjust_indices-step.result.0.start c.adjust_indices-step.result.0.end c.adjust_indices-step.result.2 c.args.start c.len_of_entries-len.result call (λ h. absurd (omega (arith, h, c.if-count-eq0.true))) view stands)
@@ -41,10 +41,10 @@ returns-then-count-eq0-clause-valid c =
     call_of c.args.self.now c.args.start c.dim_desc-dims.result.now c.args.slice.now c.adjust_indices-step.result.0.start c.adjust_indices-step.result.0.end c.adjust_indices-step.result.2 c.adjust_indices-step.result.1 c.dim_desc-dims.ensures c.requires.placed c.requires.some_dimension c.adjust_indices-step.ensures.saturated c.adjust_indices-step.ensures.step c.adjust_indices-step.ensures.picks c.adjust_indices-step.ensures.count c.adjust_indices-step.ensures.within in
     let fs : SFits w64 (dim_at c.dim_desc-dims.result.now 0).1 = search rules in
     let ft : SFits w64 c.adjust_indices-step.result.1 = search rules in
-    let fr : SFits w64 c.stepped.result = search rules in
-    let stride : bits c.stepped.result ≡ clamped ((dim_at c.args.self.now.dims 0).1 *ℤ c.args.slice.now.step) = stride_is c.args.self.now c.dim_desc-dims.result.now c.args.slice.now c.stepped.result c.adjust_indices-step.result.1 c.dim_desc-dims.ensures fr fs ft c.adjust_indices-step.ensures.step c.stepped.ensures in
-    let made : made_of c.args.self.now c.len_of_entries-len.result c.adjust_indices-step.result.2 (clamped ((dim_at c.args.self.now.dims 0).1 *ℤ c.args.slice.now.step)) ≡ c.in_ok-descriptor.descriptor =
-    descriptor_is c.args.self.now c.in_ok-descriptor.descriptor c.len_of_entries-len.result c.adjust_indices-step.result.2 (bits c.stepped.result) (clamped ((dim_at c.args.self.now.dims 0).1 *ℤ c.args.slice.now.step)) stride c.in_ok-descriptor.ensures in
+    let fr : SFits w64 c.stride_after.result = search rules in
+    let stride : bits c.stride_after.result ≡ nearest_word ((dim_at c.args.self.now.dims 0).1 *ℤ c.args.slice.now.step) = stride_is c.args.self.now c.dim_desc-dims.result.now c.args.slice.now c.stride_after.result c.adjust_indices-step.result.1 c.dim_desc-dims.ensures fr fs ft c.adjust_indices-step.ensures.step c.stride_after.ensures in
+    let made : made_of c.args.self.now c.len_of_entries-len.result c.adjust_indices-step.result.2 (nearest_word ((dim_at c.args.self.now.dims 0).1 *ℤ c.args.slice.now.step)) ≡ c.in_ok-descriptor.descriptor =
+    descriptor_is c.args.self.now c.in_ok-descriptor.descriptor c.len_of_entries-len.result c.adjust_indices-step.result.2 (bits c.stride_after.result) (nearest_word ((dim_at c.args.self.now.dims 0).1 *ℤ c.args.slice.now.step)) stride c.in_ok-descriptor.ensures in
     λ room valid.
     subst (λ d. IsValid d c.args.start room) made
     (made_valid c.args.self.now c.args.start c.args.slice.now c.adjust_indices-step.result.0.start c.adjust_indices-step.result.0.end c.adjust_indices-step.result.2 c.args.start c.len_of_entries-len.result call (λ h. absurd (omega (arith, h, c.if-count-eq0.true))) (λ entry e. c.len_of_entries-len.ensures entry (c.len.ensures ∙ e ∙ ap (λ ds. (dim_at ds 0).0 * entry) (sym c.dim_desc-dims.ensures))) room valid)
@@ -126,10 +126,10 @@ returns-clause-stands c =
     call_of c.args.self.now c.args.start c.dim_desc-dims.result.now c.args.slice.now c.adjust_indices-step.result.0.start c.adjust_indices-step.result.0.end c.adjust_indices-step.result.2 c.adjust_indices-step.result.1 c.dim_desc-dims.ensures c.requires.placed c.requires.some_dimension c.adjust_indices-step.ensures.saturated c.adjust_indices-step.ensures.step c.adjust_indices-step.ensures.picks c.adjust_indices-step.ensures.count c.adjust_indices-step.ensures.within in
     let fs : SFits w64 (dim_at c.dim_desc-dims.result.now 0).1 = search rules in
     let ft : SFits w64 c.adjust_indices-step.result.1 = search rules in
-    let fr : SFits w64 c.stepped.result = search rules in
-    let stride : bits c.stepped.result ≡ clamped ((dim_at c.args.self.now.dims 0).1 *ℤ c.args.slice.now.step) = stride_is c.args.self.now c.dim_desc-dims.result.now c.args.slice.now c.stepped.result c.adjust_indices-step.result.1 c.dim_desc-dims.ensures fr fs ft c.adjust_indices-step.ensures.step c.stepped.ensures in
-    let made : made_of c.args.self.now c.len_of_entries-len.result c.adjust_indices-step.result.2 (clamped ((dim_at c.args.self.now.dims 0).1 *ℤ c.args.slice.now.step)) ≡ c.in_ok-descriptor.descriptor =
-    descriptor_is c.args.self.now c.in_ok-descriptor.descriptor c.len_of_entries-len.result c.adjust_indices-step.result.2 (bits c.stepped.result) (clamped ((dim_at c.args.self.now.dims 0).1 *ℤ c.args.slice.now.step)) stride c.in_ok-descriptor.ensures in
+    let fr : SFits w64 c.stride_after.result = search rules in
+    let stride : bits c.stride_after.result ≡ nearest_word ((dim_at c.args.self.now.dims 0).1 *ℤ c.args.slice.now.step) = stride_is c.args.self.now c.dim_desc-dims.result.now c.args.slice.now c.stride_after.result c.adjust_indices-step.result.1 c.dim_desc-dims.ensures fr fs ft c.adjust_indices-step.ensures.step c.stride_after.ensures in
+    let made : made_of c.args.self.now c.len_of_entries-len.result c.adjust_indices-step.result.2 (nearest_word ((dim_at c.args.self.now.dims 0).1 *ℤ c.args.slice.now.step)) ≡ c.in_ok-descriptor.descriptor =
+    descriptor_is c.args.self.now c.in_ok-descriptor.descriptor c.len_of_entries-len.result c.adjust_indices-step.result.2 (bits c.stride_after.result) (nearest_word ((dim_at c.args.self.now.dims 0).1 *ℤ c.args.slice.now.step)) stride c.in_ok-descriptor.ensures in
     let some : 0 < c.adjust_indices-step.result.2 = pos_of_ne-zero c.if-count-eq0.false in
     let wide : c.adjust_indices-step.result.0.start < c.adjust_indices-step.result.0.end = (let few = count_few c.args.self.now c.args.start c.args.slice.now c.adjust_indices-step.result.0.start c.adjust_indices-step.result.0.end c.adjust_indices-step.result.2 call in omega (arith, few, some)) in
     let first : pos c.first_of_span-first.result ≡ span_first c.adjust_indices-step.result.0.start c.adjust_indices-step.result.0.end c.args.slice.now.step =
@@ -146,10 +146,10 @@ returns-clause-valid c =
     call_of c.args.self.now c.args.start c.dim_desc-dims.result.now c.args.slice.now c.adjust_indices-step.result.0.start c.adjust_indices-step.result.0.end c.adjust_indices-step.result.2 c.adjust_indices-step.result.1 c.dim_desc-dims.ensures c.requires.placed c.requires.some_dimension c.adjust_indices-step.ensures.saturated c.adjust_indices-step.ensures.step c.adjust_indices-step.ensures.picks c.adjust_indices-step.ensures.count c.adjust_indices-step.ensures.within in
     let fs : SFits w64 (dim_at c.dim_desc-dims.result.now 0).1 = search rules in
     let ft : SFits w64 c.adjust_indices-step.result.1 = search rules in
-    let fr : SFits w64 c.stepped.result = search rules in
-    let stride : bits c.stepped.result ≡ clamped ((dim_at c.args.self.now.dims 0).1 *ℤ c.args.slice.now.step) = stride_is c.args.self.now c.dim_desc-dims.result.now c.args.slice.now c.stepped.result c.adjust_indices-step.result.1 c.dim_desc-dims.ensures fr fs ft c.adjust_indices-step.ensures.step c.stepped.ensures in
-    let made : made_of c.args.self.now c.len_of_entries-len.result c.adjust_indices-step.result.2 (clamped ((dim_at c.args.self.now.dims 0).1 *ℤ c.args.slice.now.step)) ≡ c.in_ok-descriptor.descriptor =
-    descriptor_is c.args.self.now c.in_ok-descriptor.descriptor c.len_of_entries-len.result c.adjust_indices-step.result.2 (bits c.stepped.result) (clamped ((dim_at c.args.self.now.dims 0).1 *ℤ c.args.slice.now.step)) stride c.in_ok-descriptor.ensures in
+    let fr : SFits w64 c.stride_after.result = search rules in
+    let stride : bits c.stride_after.result ≡ nearest_word ((dim_at c.args.self.now.dims 0).1 *ℤ c.args.slice.now.step) = stride_is c.args.self.now c.dim_desc-dims.result.now c.args.slice.now c.stride_after.result c.adjust_indices-step.result.1 c.dim_desc-dims.ensures fr fs ft c.adjust_indices-step.ensures.step c.stride_after.ensures in
+    let made : made_of c.args.self.now c.len_of_entries-len.result c.adjust_indices-step.result.2 (nearest_word ((dim_at c.args.self.now.dims 0).1 *ℤ c.args.slice.now.step)) ≡ c.in_ok-descriptor.descriptor =
+    descriptor_is c.args.self.now c.in_ok-descriptor.descriptor c.len_of_entries-len.result c.adjust_indices-step.result.2 (bits c.stride_after.result) (nearest_word ((dim_at c.args.self.now.dims 0).1 *ℤ c.args.slice.now.step)) stride c.in_ok-descriptor.ensures in
     let some : 0 < c.adjust_indices-step.result.2 = pos_of_ne-zero c.if-count-eq0.false in
     let wide : c.adjust_indices-step.result.0.start < c.adjust_indices-step.result.0.end = (let few = count_few c.args.self.now c.args.start c.args.slice.now c.adjust_indices-step.result.0.start c.adjust_indices-step.result.0.end c.adjust_indices-step.result.2 call in omega (arith, few, some)) in
     let first : pos c.first_of_span-first.result ≡ span_first c.adjust_indices-step.result.0.start c.adjust_indices-step.result.0.end c.args.slice.now.step =
@@ -166,10 +166,10 @@ returns-clause-exact c =
     call_of c.args.self.now c.args.start c.dim_desc-dims.result.now c.args.slice.now c.adjust_indices-step.result.0.start c.adjust_indices-step.result.0.end c.adjust_indices-step.result.2 c.adjust_indices-step.result.1 c.dim_desc-dims.ensures c.requires.placed c.requires.some_dimension c.adjust_indices-step.ensures.saturated c.adjust_indices-step.ensures.step c.adjust_indices-step.ensures.picks c.adjust_indices-step.ensures.count c.adjust_indices-step.ensures.within in
     let fs : SFits w64 (dim_at c.dim_desc-dims.result.now 0).1 = search rules in
     let ft : SFits w64 c.adjust_indices-step.result.1 = search rules in
-    let fr : SFits w64 c.stepped.result = search rules in
-    let stride : bits c.stepped.result ≡ clamped ((dim_at c.args.self.now.dims 0).1 *ℤ c.args.slice.now.step) = stride_is c.args.self.now c.dim_desc-dims.result.now c.args.slice.now c.stepped.result c.adjust_indices-step.result.1 c.dim_desc-dims.ensures fr fs ft c.adjust_indices-step.ensures.step c.stepped.ensures in
-    let made : made_of c.args.self.now c.len_of_entries-len.result c.adjust_indices-step.result.2 (clamped ((dim_at c.args.self.now.dims 0).1 *ℤ c.args.slice.now.step)) ≡ c.in_ok-descriptor.descriptor =
-    descriptor_is c.args.self.now c.in_ok-descriptor.descriptor c.len_of_entries-len.result c.adjust_indices-step.result.2 (bits c.stepped.result) (clamped ((dim_at c.args.self.now.dims 0).1 *ℤ c.args.slice.now.step)) stride c.in_ok-descriptor.ensures in
+    let fr : SFits w64 c.stride_after.result = search rules in
+    let stride : bits c.stride_after.result ≡ nearest_word ((dim_at c.args.self.now.dims 0).1 *ℤ c.args.slice.now.step) = stride_is c.args.self.now c.dim_desc-dims.result.now c.args.slice.now c.stride_after.result c.adjust_indices-step.result.1 c.dim_desc-dims.ensures fr fs ft c.adjust_indices-step.ensures.step c.stride_after.ensures in
+    let made : made_of c.args.self.now c.len_of_entries-len.result c.adjust_indices-step.result.2 (nearest_word ((dim_at c.args.self.now.dims 0).1 *ℤ c.args.slice.now.step)) ≡ c.in_ok-descriptor.descriptor =
+    descriptor_is c.args.self.now c.in_ok-descriptor.descriptor c.len_of_entries-len.result c.adjust_indices-step.result.2 (bits c.stride_after.result) (nearest_word ((dim_at c.args.self.now.dims 0).1 *ℤ c.args.slice.now.step)) stride c.in_ok-descriptor.ensures in
     let some : 0 < c.adjust_indices-step.result.2 = pos_of_ne-zero c.if-count-eq0.false in
     let wide : c.adjust_indices-step.result.0.start < c.adjust_indices-step.result.0.end = (let few = count_few c.args.self.now c.args.start c.args.slice.now c.adjust_indices-step.result.0.start c.adjust_indices-step.result.0.end c.adjust_indices-step.result.2 call in omega (arith, few, some)) in
     let first : pos c.first_of_span-first.result ≡ span_first c.adjust_indices-step.result.0.start c.adjust_indices-step.result.0.end c.args.slice.now.step =

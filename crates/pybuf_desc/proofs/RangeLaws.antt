@@ -1,0 +1,139 @@
+-- The ranges of a walk and the view that it goes over.
+use Rattle.std.proofs.Common.{◌≡◌, ℕ, zero, suc, ◌+◌, ◌-◌, ◌*◌, ◌<◌, ◌≤◌, ℤ, pos, nat_abs, Bool, true, false, cond, List, [], ◌∷◌, ◌++◌, length, map, take, drop, take-append-drop, flat_map, refl, ap, ap₂, sym, ◌∙◌, subst, arith, mul-pos, true≢false, Option, Some, None, slice_get, eqb}
+use Rattle.std.specs.Prelude.{All}
+use Rattle.std.specs.List.{range_with_len, cons_option, filter_map}
+use Rattle.std.specs.declared.ops.Range.{Range}
+use Rattle.std.proofs.lemmas.Grind.{common_steps}
+use Rattle.std.proofs.lemmas.List.Elements.{filter_map-append, All-append, All-nil, All-cons, All-head, All-tail, All-from_recursion, recursion_from_All}
+use Rattle.std.proofs.lemmas.List.FromFn.{length-range_with_len, get_or-range_with_len}
+use Rattle.pybuf_desc.specs.Layouts.{Layout, LiesInside, product}
+use Rattle.pybuf_desc.specs.Items.{bytes_of_items, content_of_layout}
+use Rattle.pybuf_desc.specs.Descriptor.{Descriptor, shape_of}
+use Rattle.pybuf_desc.specs.Places.{places, Stands}
+use Rattle.pybuf_desc.specs.Valid.{IsPlaced}
+use Rattle.pybuf_desc.specs.Segments.{range_at, ranges_of, joined_count, joined_dims, outer_dims, is_row_contiguous, last_dim, bytes_of, bytes_in, item_bytes}
+use Rattle.pybuf_desc.proofs.Inside.{ByRec-left, ByRec-right}
+use Rattle.pybuf_desc.proofs.Products.{AreNonzero, product-pos}
+use Rattle.pybuf_desc.proofs.Strides.{some_entries}
+use Rattle.pybuf_desc.proofs.DescribedLayouts.{starts_of_stands}
+use Rattle.pybuf_desc.proofs.SegmentFacts as segment
+use Rattle.pybuf_desc.proofs.SegmentFacts.{IsRows, none_joined, one_joined, asked_none, bytes_none, last_joined, ranges_of_rows, bytes_of_rows, row_gap, not_none}
+
+-- ---- put end to end, the ranges have the places of the items' bytes
+
+rows_and_last : (dims : List (ℕ × ℤ × ℤ)) (last : ℕ × ℤ × ℤ) → last_dim dims ≡ Some last → dims ≡ outer_dims 1 dims ++ last ∷ []
+rows_and_last dims last e = sym (ap (λ (ds : List (ℕ × ℤ × ℤ)). outer_dims 1 dims ++ ds) (sym (last_joined dims last e)) ∙ take-append-drop (length dims - 1) dims)
+
+joined_bytes : (n : ℕ) (d : Descriptor) (start : ℕ) (last : ℕ × ℤ × ℤ) → product (shape_of d.dims) ≡ n → last_dim d.dims ≡ Some last → is_row_contiguous d.itemsize (last_dim d.dims) ≡ true → IsPlaced d start
+    → flat_map bytes_of (ranges_of d (pos start) 1) ≡ item_bytes d (pos start)
+joined_bytes zero d start last none e fit placed = ap (λ (rs : List (Range ℕ)). flat_map bytes_of rs) (asked_none d (pos start) 1 none) ∙ bytes_none d (pos start) none
+joined_bytes (suc n) d start last count e fit placed =
+    let some : 0 < product (shape_of d.dims) = omega (arith, count) in
+    let r : IsRows d start (outer_dims 1 d.dims) last = record { placed = placed; dims = rows_and_last d.dims last e; some = some_entries d.dims some } in
+    ap (λ (rs : List (Range ℕ)). flat_map bytes_of rs) (one_joined d (pos start) fit ∙ sym (ranges_of_rows d start (outer_dims 1 d.dims) last r))
+    ∙ bytes_of_rows d start (outer_dims 1 d.dims) last r (row_gap d.itemsize (last_dim d.dims) last e fit)
+
+by_row : (d : Descriptor) (start : ℕ) (b : Bool) (o : Option (ℕ × ℤ × ℤ)) → is_row_contiguous d.itemsize o ≡ b → last_dim d.dims ≡ o → IsPlaced d start
+    → flat_map bytes_of (ranges_of d (pos start) (cond b 1 0)) ≡ item_bytes d (pos start)
+by_row d start false o fit e placed = ap (λ (rs : List (Range ℕ)). flat_map bytes_of rs) (none_joined d (pos start)) ∙ segment.bytes_of_items d (pos start)
+by_row d start true None fit e placed = absurd (true≢false (sym fit))
+by_row d start true (Some last) fit e placed = joined_bytes (product (shape_of d.dims)) d start last refl e (ap (is_row_contiguous d.itemsize) e ∙ fit) placed
+
+pub range_bytes : (d : Descriptor) (start : ℕ) (join : Bool) → IsPlaced d start → flat_map bytes_of (ranges_of d (pos start) (joined_count d join)) ≡ item_bytes d (pos start)
+range_bytes d start false placed = ap (λ (rs : List (Range ℕ)). flat_map bytes_of rs) (none_joined d (pos start)) ∙ segment.bytes_of_items d (pos start)
+range_bytes d start true placed = by_row d start (is_row_contiguous d.itemsize (last_dim d.dims)) (last_dim d.dims) refl refl placed
+
+-- ---- and so the bytes of the items
+
+-- the bytes at places
+abbrev pub bytes_at_places : List ℕ → List ℕ → List ℕ
+bytes_at_places bytes places = filter_map (slice_get bytes) places
+
+first_taken : (bytes : List ℕ) (start n : ℕ) → cons_option (slice_get bytes start) (take n (drop (suc start) bytes)) ≡ take (suc n) (drop start bytes)
+first_taken [] zero n = grind (arith, common_steps)
+first_taken [] (suc start) n = grind (arith, common_steps)
+first_taken (b ∷ bytes) zero n = refl
+first_taken (b ∷ bytes) (suc start) n = first_taken bytes start n
+
+run_of_bytes : (bytes : List ℕ) (start n : ℕ) → bytes_at_places bytes (range_with_len start n) ≡ take n (drop start bytes)
+run_of_bytes bytes start zero = refl
+run_of_bytes bytes start (suc n) =
+    let next : start + 1 ≡ suc start = omega arith in
+    ap (cons_option (slice_get bytes start)) (run_of_bytes bytes (start + 1) n ∙ ap (λ (k : ℕ). take n (drop k bytes)) next) ∙ first_taken bytes start n
+
+bytes_of_ranges : (bytes : List ℕ) (ranges : List (Range ℕ)) → flat_map (λ range. bytes_in bytes range) ranges ≡ bytes_at_places bytes (flat_map bytes_of ranges)
+bytes_of_ranges bytes [] = refl
+bytes_of_ranges bytes (range ∷ ranges) =
+    ap₂ (λ (xs ys : List ℕ). xs ++ ys) (sym (run_of_bytes bytes range.start (range.end - range.start))) (bytes_of_ranges bytes ranges)
+    ∙ sym (filter_map-append (slice_get bytes) (bytes_of range) (flat_map bytes_of ranges))
+
+bytes_of_places : (bytes : List ℕ) (size : ℕ) (ps : List ℤ) → bytes_at_places bytes (flat_map (λ place. range_with_len (nat_abs place) size) ps) ≡ bytes_of_items bytes size (map nat_abs ps)
+bytes_of_places bytes size [] = refl
+bytes_of_places bytes size (p ∷ ps) =
+    filter_map-append (slice_get bytes) (range_with_len (nat_abs p) size) (flat_map (λ place. range_with_len (nat_abs place) size) ps)
+    ∙ ap₂ (λ (xs ys : List ℕ). xs ++ ys) (run_of_bytes bytes (nat_abs p) size) (bytes_of_places bytes size ps)
+
+pub ranges_content : (d : Descriptor) (start : ℕ) (join : Bool) (view : Layout) (bytes : List ℕ) → IsPlaced d start → Stands d start view
+    → flat_map (λ range. bytes_in bytes range) (ranges_of d (pos start) (joined_count d join)) ≡ content_of_layout bytes view
+ranges_content d start join view bytes placed stands =
+    bytes_of_ranges bytes (ranges_of d (pos start) (joined_count d join))
+    ∙ ap (bytes_at_places bytes) (range_bytes d start join placed) ∙ bytes_of_places bytes d.itemsize (places d.dims (pos start))
+    ∙ ap₂ (λ (size : ℕ) (starts : List ℕ). bytes_of_items bytes size starts) stands.itemsize (starts_of_stands d start view stands)
+
+-- ---- inside
+
+run_inside : (room start n : ℕ) → start + n ≤ room → All (λ place. place < room) (range_with_len start n)
+run_inside room start n fits = λ k d below.
+    let within : k < n = omega (arith, below, length-range_with_len start n) in
+    omega (arith, within, fits, get_or-range_with_len start n k d within)
+
+items_inside : (room size : ℕ) (starts : List ℕ) → All (λ start. start + size ≤ room) starts → All (λ place. place < room) (flat_map (λ place. range_with_len (nat_abs place) size) (map (λ x. pos x) starts))
+items_inside room size [] all = All-nil (λ place. place < room)
+items_inside room size (s ∷ starts) all =
+    All-append (λ place. place < room) (range_with_len s size) (flat_map (λ place. range_with_len (nat_abs place) size) (map (λ x. pos x) starts))
+    (run_inside room s size (All-head (λ start. start + size ≤ room) s starts all)) (items_inside room size starts (All-tail (λ start. start + size ≤ room) s starts all))
+
+-- a range's last byte lies inside; a range without bytes must end inside by its start
+range_ends : (room size : ℕ) (p : ℤ) → 0 < size → All (λ place. place < room) (bytes_of (range_at size p)) → nat_abs p + size ≤ room
+range_ends room size p some all =
+    let n : ℕ = nat_abs p + size - nat_abs p in
+    let last : size - 1 < n = omega (arith, some) in
+    let within : size - 1 < length (range_with_len (nat_abs p) n) = omega (arith, last, length-range_with_len (nat_abs p) n) in
+    omega (arith, some, all (size - 1) 0 within, get_or-range_with_len (nat_abs p) n (size - 1) 0 last)
+
+all_left : (P : ℕ → Type 0) (xs ys : List ℕ) → All P (xs ++ ys) → All P xs
+all_left P xs ys all = All-from_recursion P xs (ByRec-left P xs ys (recursion_from_All P (xs ++ ys) all))
+
+all_right : (P : ℕ → Type 0) (xs ys : List ℕ) → All P (xs ++ ys) → All P ys
+all_right P xs ys all = All-from_recursion P ys (ByRec-right P xs ys (recursion_from_All P (xs ++ ys) all))
+
+ends_inside : (room size : ℕ) (ps : List ℤ) → 0 < size → All (λ place. place < room) (flat_map bytes_of (map (range_at size) ps)) → All (λ (range : Range ℕ). range.end ≤ room) (map (range_at size) ps)
+ends_inside room size [] some all = All-nil (λ (range : Range ℕ). range.end ≤ room)
+ends_inside room size (p ∷ ps) some all =
+    All-cons (λ (range : Range ℕ). range.end ≤ room) (range_at size p) (map (range_at size) ps)
+    (range_ends room size p some (all_left (λ place. place < room) (bytes_of (range_at size p)) (flat_map bytes_of (map (range_at size) ps)) all))
+    (ends_inside room size ps some (all_right (λ place. place < room) (bytes_of (range_at size p)) (flat_map bytes_of (map (range_at size) ps)) all))
+
+by_items : (n room size : ℕ) (ps : List ℤ) → (0 < n → 0 < size) → All (λ place. place < room) (flat_map bytes_of (cond (eqb n 0) [] (map (range_at size) ps)))
+    → All (λ (range : Range ℕ). range.end ≤ room) (cond (eqb n 0) [] (map (range_at size) ps))
+by_items zero room size ps sized all = All-nil (λ (range : Range ℕ). range.end ≤ room)
+by_items (suc n) room size ps sized all =
+    let some : 0 < suc n = omega arith in
+    let same = not_none (suc n) (map (range_at size) ps) some in
+    subst (All (λ (range : Range ℕ). range.end ≤ room)) (sym same)
+    (ends_inside room size ps (sized some) (subst (λ (rs : List (Range ℕ)). All (λ place. place < room) (flat_map bytes_of rs)) same all))
+
+some_drop : (k : ℕ) (dims : List (ℕ × ℤ × ℤ)) → AreNonzero dims → AreNonzero (drop k dims)
+some_drop zero dims some = some
+some_drop (suc k) [] some = tt
+some_drop (suc k) (dim ∷ dims) some = some_drop k dims some.1
+
+pub ranges_inside : (d : Descriptor) (start : ℕ) (join : Bool) (view : Layout) (room : ℕ) → IsPlaced d start → Stands d start view → LiesInside room view
+    → All (λ (range : Range ℕ). range.end ≤ room) (ranges_of d (pos start) (joined_count d join))
+ranges_inside d start join view room placed stands inside =
+    let joined : ℕ = joined_count d join in
+    let places_are : item_bytes d (pos start) ≡ flat_map (λ place. range_with_len (nat_abs place) view.itemsize) (map (λ x. pos x) view.starts) =
+    ap₂ (λ (size : ℕ) (ps : List ℤ). flat_map (λ place. range_with_len (nat_abs place) size) ps) stands.itemsize stands.starts in
+    by_items (product (shape_of d.dims)) room (product (shape_of (joined_dims joined d.dims)) * d.itemsize) (places (outer_dims joined d.dims) (pos start))
+    (λ some. mul-pos (product-pos (joined_dims joined d.dims) (some_drop (length d.dims - joined) d.dims (some_entries d.dims some))) placed.valid.some_size)
+    (subst (All (λ place. place < room)) (sym (range_bytes d start join placed ∙ places_are)) (items_inside room view.itemsize view.starts inside))

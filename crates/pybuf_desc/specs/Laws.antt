@@ -1,0 +1,139 @@
+-- What holds of views, and of the descriptors that stand for them.
+use Rattle.std.specs.Prelude.{◌≡◌, ◌≢◌, ◌↔◌, ℕ, ◌+◌, ◌*◌, ◌%◌, ◌^◌, ◌<◌, ℤ, pos, negsuc, ◌+ℤ◌, ◌≤ℤ◌, ◌<ℤ◌, ◌≤◌, nat_abs, Bool, List, [], ◌∷◌, length, slice_get, slice_index, true, None, Some}
+use Rattle.std.specs.List.{All, flat_map}
+use Rattle.std.specs.declared.ops.Range.{Range}
+use Rattle.pybuf_slice.specs.Parts.{SliceParts}
+use Rattle.pybuf_desc.specs.Layouts.{Layout, HasItemsOfItsShape, LiesInside, product}
+use Rattle.pybuf_desc.specs.Items.{content_of_layout}
+use Rattle.pybuf_desc.specs.Contiguous.{is_contiguous_layout}
+use Rattle.pybuf_desc.specs.Strides.{HasRowMajorStrides}
+use Rattle.pybuf_desc.specs.Casts.{cast_count, cast_of}
+use Rattle.pybuf_desc.specs.ShapedCasts.{cast_to}
+use Rattle.pybuf_desc.specs.Slices.{slice_of}
+use Rattle.pybuf_desc.specs.Descriptor.{Descriptor}
+use Rattle.pybuf_desc.specs.Places.{Stands, layout_at}
+use Rattle.pybuf_desc.specs.Valid.{IsValid, IsPlaced}
+use Rattle.pybuf_desc.specs.Positions.{AreIndices, offset_of, number_of_item}
+use Rattle.pybuf_desc.specs.Segments.{ranges_of, joined_count, bytes_in}
+
+-- ---- casts
+
+-- A cast makes its items of the bytes of a view: as many as there are bytes for, item k of them lies
+-- k of its item sizes after the first item of the view, and their bytes, in order, are those of the
+-- view. It is read-only exactly where the view is.
+pub record SharesBytes (bytes : List ℕ) (view cast : Layout) : Type 0 where
+  pub count : length cast.starts * cast.itemsize ≡ length view.starts * view.itemsize
+  pub starts : (k : ℕ) → k < length cast.starts → slice_get cast.starts k ≡ Some (slice_index view.starts 0 + k * cast.itemsize)
+  pub content : content_of_layout bytes cast ≡ content_of_layout bytes view
+  pub readonly : cast.readonly ≡ view.readonly
+
+-- wherever the items of the view lie in the bytes
+abbrev pub CastsShareTheirBytes : Type 0
+CastsShareTheirBytes =
+    (bytes : List ℕ) (view : Layout) (format : List ℕ) (size : ℕ) → is_contiguous_layout view ≡ true → 0 < size → length view.starts * view.itemsize % size ≡ 0
+    → SharesBytes bytes view (cast_of view format size)
+
+abbrev pub CastsStayInside : Type 0
+CastsStayInside =
+    (view : Layout) (format : List ℕ) (size room : ℕ) → is_contiguous_layout view ≡ true → LiesInside room view → LiesInside room (cast_of view format size)
+
+abbrev pub CastsHaveTheirShape : Type 0
+CastsHaveTheirShape = (view : Layout) (format : List ℕ) (size : ℕ) → HasItemsOfItsShape (cast_of view format size)
+
+abbrev pub CastsAreContiguous : Type 0
+CastsAreContiguous = (view : Layout) (format : List ℕ) (size : ℕ) → is_contiguous_layout (cast_of view format size) ≡ true
+
+-- a cast of one dimension is that of a shape of one entry
+abbrev pub FlatCastsHaveOneDimension : Type 0
+FlatCastsHaveOneDimension = (view : Layout) (format : List ℕ) (size : ℕ) → cast_of view format size ≡ cast_to view format size (cast_count view size ∷ [])
+
+-- a cast to a shape whose items make up the bytes of the view
+abbrev pub ShapedCastsShareTheirBytes : Type 0
+ShapedCastsShareTheirBytes =
+    (bytes : List ℕ) (view : Layout) (format : List ℕ) (size : ℕ) (shape : List ℕ) → is_contiguous_layout view ≡ true → 0 < size → length view.starts * view.itemsize ≡ product shape * size
+    → SharesBytes bytes view (cast_to view format size shape)
+
+abbrev pub ShapedCastsStayInside : Type 0
+ShapedCastsStayInside =
+    (view : Layout) (format : List ℕ) (size : ℕ) (shape : List ℕ) (room : ℕ) → is_contiguous_layout view ≡ true → 0 < size → length view.starts * view.itemsize ≡ product shape * size
+    → LiesInside room view → LiesInside room (cast_to view format size shape)
+
+abbrev pub ShapedCastsHaveTheirShape : Type 0
+ShapedCastsHaveTheirShape =
+    (view : Layout) (format : List ℕ) (size : ℕ) (shape : List ℕ) → 0 < size → length view.starts * view.itemsize ≡ product shape * size
+    → HasItemsOfItsShape (cast_to view format size shape)
+
+-- ---- slices of views of one dimension or more, whose first dimension has `n` entries
+
+abbrev pub SlicesStayInside : Type 0
+SlicesStayInside = (view : Layout) (parts : SliceParts) (room : ℕ) → LiesInside room view → LiesInside room (slice_of view parts)
+
+abbrev pub SlicesHaveTheirShape : Type 0
+SlicesHaveTheirShape =
+    (view : Layout) (n : ℕ) (shape : List ℕ) (parts : SliceParts) → view.shape ≡ n ∷ shape → HasItemsOfItsShape view → parts.step ≢ pos 0
+    → HasItemsOfItsShape (slice_of view parts)
+
+-- the slice `::-1`
+abbrev pub backward : SliceParts
+backward = record { start = None; stop = None; step = negsuc 0 }
+
+-- a slice back over all of a view, and back again, has the items of the view where they were
+abbrev pub SlicingBackTwiceIsNothing : Type 0
+SlicingBackTwiceIsNothing =
+    (view : Layout) (n : ℕ) (shape : List ℕ) → view.shape ≡ n ∷ shape → HasItemsOfItsShape view
+    → (slice_of (slice_of view backward) backward).starts ≡ view.starts
+
+-- ---- descriptors
+
+-- a descriptor that is placed stands for one view, and for no other
+abbrev pub PlacedDescriptorsStand : Type 0
+PlacedDescriptorsStand = (d : Descriptor) (start : ℕ) → IsPlaced d start → Stands d start (layout_at d start)
+
+abbrev pub DescriptorsStandForOneView : Type 0
+DescriptorsStandForOneView = (d : Descriptor) (start : ℕ) (view : Layout) → Stands d start view → view ≡ layout_at d start
+
+abbrev pub DescribedViewsHaveTheirShape : Type 0
+DescribedViewsHaveTheirShape = (d : Descriptor) (start : ℕ) (view : Layout) → Stands d start view → HasItemsOfItsShape view
+
+-- a descriptor that is valid for some room is so for another exactly where the items lie inside that
+abbrev pub ValidWhereItemsLieInside : Type 0
+ValidWhereItemsLieInside =
+    (d : Descriptor) (start room : ℕ) (view : Layout) → IsPlaced d start → Stands d start view → (LiesInside room view) ↔ (IsValid d start room)
+
+-- where there are items, they lie one after the other exactly if the strides are row-major
+abbrev pub ContiguityIsOfStrides : Type 0
+ContiguityIsOfStrides =
+    (d : Descriptor) (start : ℕ) (view : Layout) → IsPlaced d start → Stands d start view → 0 < length view.starts
+    → (is_contiguous_layout view ≡ true) ↔ (HasRowMajorStrides view)
+
+-- the items of a descriptor lie without a gap wherever they start, or nowhere
+abbrev pub ContiguityIsTheSameAnywhere : Type 0
+ContiguityIsTheSameAnywhere =
+    (d : Descriptor) (start other : ℕ) (view other_view : Layout) → Stands d start view → Stands d other other_view → is_contiguous_layout view ≡ is_contiguous_layout other_view
+
+-- an item of a view that starts at `start` lies `offset` from there, and all of these fit `isize`
+pub record IsPosition (view : Layout) (start item : ℕ) (offset : ℤ) : Type 0 where
+  pub item_exists : item < length view.starts
+  pub start_fits : start < 2 ^ 63
+  pub low : pos 0 ≤ℤ (pos start +ℤ offset)
+  pub high : (pos start +ℤ offset) <ℤ pos (2 ^ 63)
+  pub place : slice_get view.starts item ≡ Some (nat_abs (pos start +ℤ offset))
+
+-- the item at some indices lies the sum of index times stride from the start
+abbrev pub PositionsArePlaces : Type 0
+PositionsArePlaces =
+    (d : Descriptor) (start : ℕ) (view : Layout) (indices : List ℕ) → IsPlaced d start → Stands d start view → AreIndices indices d.dims
+    → IsPosition view start (number_of_item indices d.dims) (offset_of indices d.dims)
+
+-- ---- the ranges of a walk, whose rows may be joined
+
+-- the bytes at the ranges, end to end, are those of the items in order
+abbrev pub RangesHaveTheContent : Type 0
+RangesHaveTheContent =
+    (d : Descriptor) (start : ℕ) (join : Bool) (view : Layout) (bytes : List ℕ) → IsPlaced d start → Stands d start view
+    → flat_map (λ range. bytes_in bytes range) (ranges_of d (pos start) (joined_count d join)) ≡ content_of_layout bytes view
+
+abbrev pub RangesStayInside : Type 0
+RangesStayInside =
+    (d : Descriptor) (start : ℕ) (join : Bool) (view : Layout) (room : ℕ) → IsPlaced d start → Stands d start view → LiesInside room view
+    → All (λ (range : Range ℕ). range.end ≤ room) (ranges_of d (pos start) (joined_count d join))

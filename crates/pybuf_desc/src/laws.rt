@@ -1,0 +1,109 @@
+//! Laws of the definitions that the contracts cite. Each stands on a function with an empty body.
+ghost use Rattle.pybuf_desc.specs.Laws.{CastsShareTheirBytes, CastsStayInside, CastsHaveTheirShape, CastsAreContiguous, FlatCastsHaveOneDimension, ShapedCastsShareTheirBytes, ShapedCastsStayInside, ShapedCastsHaveTheirShape, SlicesStayInside, SlicesHaveTheirShape, SlicingBackTwiceIsNothing, PlacedDescriptorsStand, DescriptorsStandForOneView, DescribedViewsHaveTheirShape, ValidWhereItemsLieInside, ContiguityIsOfStrides, ContiguityIsTheSameAnywhere, PositionsArePlaces, RangesHaveTheContent, RangesStayInside};
+
+/// The items of a cast of a contiguous view have the view's bytes in their order: its items lie one
+/// new item size apart from the view's first place on, and make up all its bytes.
+pub fn casts_share_their_bytes()
+    ensures { CastsShareTheirBytes }
+{}
+
+/// Where the items of a contiguous view lie inside, so do those of each of its casts.
+pub fn casts_stay_inside()
+    ensures { CastsStayInside }
+{}
+
+/// A cast has as many items as its shape says.
+pub fn casts_have_their_shape()
+    ensures { CastsHaveTheirShape }
+{}
+
+/// The items of a cast lie one after the other.
+pub fn casts_are_contiguous()
+    ensures { CastsAreContiguous }
+{}
+
+/// A cast to one dimension is the cast to the shape of that many entries.
+pub fn flat_casts_have_one_dimension()
+    ensures { FlatCastsHaveOneDimension }
+{}
+
+/// The items of a cast to a shape have the view's bytes in their order.
+pub fn shaped_casts_share_their_bytes()
+    ensures { ShapedCastsShareTheirBytes }
+{}
+
+/// Where the items of a contiguous view lie inside, so do those of each of its casts to a shape.
+pub fn shaped_casts_stay_inside()
+    ensures { ShapedCastsStayInside }
+{}
+
+/// A cast to a shape has as many items as the shape says.
+pub fn shaped_casts_have_their_shape()
+    ensures { ShapedCastsHaveTheirShape }
+{}
+
+/// Where the items of a view lie inside, so do those of each of its slices.
+pub fn slices_stay_inside()
+    ensures { SlicesStayInside }
+{}
+
+/// A slice along the first dimension has as many items as its shape says.
+pub fn slices_have_their_shape()
+    ensures { SlicesHaveTheirShape }
+{
+    pybuf_slice::indices_of_a_slice();
+}
+
+/// A slice `::-1` along the first dimension, sliced by `::-1` again, has each item where it was.
+pub fn slicing_back_twice_is_nothing()
+    ensures { SlicingBackTwiceIsNothing }
+{}
+
+/// A descriptor that is valid from a start stands for the view of its places.
+pub fn placed_descriptors_stand()
+    ensures { PlacedDescriptorsStand }
+{}
+
+/// A descriptor with a start stands for one view at most.
+pub fn descriptors_stand_for_one_view()
+    ensures { DescriptorsStandForOneView }
+{}
+
+/// A view that a descriptor stands for has as many items as its shape says.
+pub fn described_views_have_their_shape()
+    ensures { DescribedViewsHaveTheirShape }
+{}
+
+/// A descriptor that is valid for some number of bytes is valid for another exactly if the items of
+/// its view lie inside those.
+pub fn valid_where_items_lie_inside()
+    ensures { ValidWhereItemsLieInside }
+{}
+
+/// Items lie one after the other exactly if each dimension of more than one entry has as stride the
+/// item size times the number of items of the later dimensions.
+pub fn contiguity_is_of_strides()
+    ensures { ContiguityIsOfStrides }
+{}
+
+/// Whether the items of a descriptor lie one after the other doesn't depend on where they start.
+pub fn contiguity_is_the_same_anywhere()
+    ensures { ContiguityIsTheSameAnywhere }
+{}
+
+/// The item at indices in range lies the sum of index times stride from the start, and neither that
+/// sum nor the place passes `isize`.
+pub fn positions_are_places()
+    ensures { PositionsArePlaces }
+{}
+
+/// The bytes at the ranges of a walk, one range after the other, are those of the items in order,
+/// whether rows are joined or not.
+pub fn ranges_have_the_content()
+    ensures { RangesHaveTheContent }
+{}
+
+/// Where the items of a view lie inside, so do the ranges of a walk over them.
+pub fn ranges_stay_inside()
+    ensures { RangesStayInside }
+{}

@@ -1,0 +1,96 @@
+//! The walk over the items of two views of one shape.
+ghost use Rattle.std.specs.Prelude.{◌≡◌, ◌&&◌, pos, length, map};
+ghost use Rattle.std.specs.Iterator.{YieldsFirst, item_count};
+ghost use Rattle.std.specs.List.{flat_map, zip};
+ghost use Rattle.pybuf_desc.specs.Descriptor.{shape_of};
+ghost use Rattle.pybuf_desc.specs.Valid.{IsPlaced};
+ghost use Rattle.pybuf_desc.specs.Segments.{ranges_of, item_bytes, bytes_of};
+ghost use Rattle.pybuf_desc.specs.Pairs.{are_rows_alike, joined_count_of_both, pairs_of};
+
+use crate::descriptor::BufferDescriptor;
+use crate::segments::Segments;
+use std::marker::Model;
+use std::ops::Range;
+
+/// The pairs of ranges of bytes that two walks have left. A clause sees the list of them.
+#[derive(Debug, Drop)]
+pub struct ZipSegments<'a> {
+    one: Segments<'a>,
+    other: Segments<'a>,
+}
+
+impl<'a> Model for ZipSegments<'a> {
+    ghost use Rattle.std.specs.Prelude.{List, ℕ};
+    ghost use Rattle.std.specs.List.{zip};
+    ghost use Rattle.std.specs.declared.ops.Range.{Range};
+
+    ghost Value = { List (Range ℕ × Range ℕ) };
+
+    ghost view = { λ s. zip s.one s.other };
+}
+
+impl<'a> Iterator for ZipSegments<'a> {
+    type Item = (Range<usize>, Range<usize>);
+
+    ghost next_gives = { YieldsFirst (λ s. s) };
+
+    ghost remaining = { item_count (λ s. s) };
+
+    fn next(&mut self) -> Option<(Range<usize>, Range<usize>)> {
+        let one = self.one.next()?;
+        let other = self.other.next()?;
+        Some((one, other))
+    }
+}
+
+/// Whether rows are to be joined, the items of both have one size, and the rows of both lie without
+/// a gap.
+fn joins_rows(one: &BufferDescriptor, other: &BufferDescriptor, join: bool) -> bool
+    requires { length one.now.dims ≡ length other.now.dims }
+    ensures { result ≡ (join && are_rows_alike one.now other.now) }
+{
+    if !join {
+        return false;
+    }
+    if one.itemsize() != other.itemsize() {
+        return false;
+    }
+    if one.ndim() == 0 {
+        return false;
+    }
+    if !one.is_last_dim_contiguous() {
+        return false;
+    }
+    other.is_last_dim_contiguous()
+}
+
+impl BufferDescriptor {
+    /// The bytes of the items that start at `start` beside those of another descriptor of the same
+    /// shape, whose items start at `other_start`: pairs of ranges, row-major. Takes no memory.
+    ///
+    /// Each pair is one item of each, by its own strides. With `join` it is one row of each, where
+    /// the items of both have one size and the rows of both lie without a gap.
+    pub fn zip_segments<'a>(
+        &'a self,
+        start: usize,
+        other: &'a BufferDescriptor,
+        other_start: usize,
+        join: bool,
+    ) -> ZipSegments<'a>
+        requires placed { IsPlaced self.now start }
+        requires other_placed { IsPlaced other.now other_start }
+        requires same_shape { shape_of self.now.dims ≡ shape_of other.now.dims }
+        ensures pairs { result ≡ pairs_of self.now (pos start) other.now (pos other_start) join }
+        ensures first { map (λ pair. pair.0) result ≡ ranges_of self.now (pos start) (joined_count_of_both self.now other.now join) }
+        ensures second { map (λ pair. pair.1) result ≡ ranges_of other.now (pos other_start) (joined_count_of_both self.now other.now join) }
+        ensures bytes { flat_map bytes_of (map (λ pair. pair.0) result) ≡ item_bytes self.now (pos start) }
+        ensures other_bytes { flat_map bytes_of (map (λ pair. pair.1) result) ≡ item_bytes other.now (pos other_start) }
+        ensures byte_by_byte { self.now.itemsize ≡ other.now.itemsize → flat_map (λ pair. zip (bytes_of pair.0) (bytes_of pair.1)) result ≡ zip (item_bytes self.now (pos start)) (item_bytes other.now (pos other_start)) }
+    {
+        let join = joins_rows(self, other, join);
+        ZipSegments {
+            one: self.segments(start, join),
+            other: other.segments(other_start, join),
+        }
+    }
+}
