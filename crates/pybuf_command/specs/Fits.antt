@@ -1,0 +1,46 @@
+-- Which loans fit.
+use Rattle.std.specs.Prelude.{◌≡◌, ℕ, ◌==◌, Bool, true, false, ◌&&◌, ◌||◌, List, [], ◌∷◌, length}
+use Rattle.std.specs.List.{list_all}
+use Rattle.pybuf_value.specs.declared.snaps.Snap.{Snap}
+use Rattle.pybuf_value.specs.declared.snaps.SnapKind.{SnapKind}
+use Rattle.pybuf_value.specs.declared.snaps.SnapKind.TheVariants as kind
+use Rattle.pybuf_command.specs.declared.loans.Loan.{Loan}
+use Rattle.pybuf_command.specs.declared.loans.Loan.TheVariants as loan
+use Rattle.pybuf_command.specs.Sized.{is_sized, byte_count}
+
+-- the format of bytes: `B`
+abbrev pub is_byte_format : List ℕ → Bool
+is_byte_format (b ∷ []) = b == 66
+is_byte_format _ = false
+
+-- one dimension of so many entries
+abbrev pub is_row_of : ℕ → List ℕ → Bool
+is_row_of count (n ∷ []) = n == count
+is_row_of count _ = false
+
+-- of an exporter: single bytes, as many as there are
+abbrev pub is_whole : Snap → Bool
+is_whole s = s.itemsize == 1 && is_byte_format s.format && is_row_of (length s.content) s.shape
+
+-- of an unreleased view: as many bytes as the items of its shape have
+abbrev pub is_filled : Snap → Bool
+is_filled s = s.released || length s.content == byte_count s.itemsize s.shape
+
+abbrev pub fits_kind : SnapKind → Snap → Bool
+fits_kind kind.View s = is_filled s
+fits_kind kind.Iterator s = true
+fits_kind _ s = is_whole s
+
+abbrev pub fits_snap : Snap → Bool
+fits_snap s = fits_kind s.kind s && is_sized s.format s.itemsize
+
+abbrev pub fits : Loan → Bool
+fits (loan.Other snap) = fits_snap snap
+fits _ = true
+
+abbrev pub all_fit : List (ℕ × Loan) → Bool
+all_fit loans = list_all (λ pair. fits pair.1) loans
+
+-- the loans fit
+abbrev pub LoansFit : List (ℕ × Loan) → Type 0
+LoansFit loans = all_fit loans ≡ true

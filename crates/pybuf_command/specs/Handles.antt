@@ -1,0 +1,49 @@
+-- The handles that a command's values are or hold, and those whose bytes the command reads.
+use Rattle.std.specs.Prelude.{ℕ, List, [], ◌∷◌, ◌++◌, Option, Some, None}
+use Rattle.std.specs.List.{flat_map}
+use Rattle.pybuf_value.specs.declared.values.Scalar.{Scalar}
+use Rattle.pybuf_value.specs.declared.values.Scalar.TheVariants as scalar
+use Rattle.pybuf_value.specs.declared.values.PySlice.{PySlice}
+use Rattle.pybuf_value.specs.declared.values.Value.{Value}
+use Rattle.pybuf_value.specs.declared.values.Value.TheVariants as value
+use Rattle.pybuf_command.specs.declared.kinds.Subject.{Subject}
+use Rattle.pybuf_command.specs.declared.kinds.Subject.TheVariants as subject
+use Rattle.pybuf_command.specs.declared.commands.Verb.{Verb}
+use Rattle.pybuf_command.specs.declared.commands.Verb.TheVariants as verb
+
+abbrev pub handles_in_scalar : Scalar → List ℕ
+handles_in_scalar (scalar.Handle h) = h ∷ []
+handles_in_scalar _ = []
+
+abbrev pub handles_in_slice : PySlice → List ℕ
+handles_in_slice s = handles_in_scalar s.start ++ handles_in_scalar s.stop ++ handles_in_scalar s.step
+
+-- the handles of a value, in order
+abbrev pub handles_in : Value → List ℕ
+handles_in (value.One s) = handles_in_scalar s
+handles_in (value.Slice s) = handles_in_slice s
+handles_in (value.Tuple parts) = flat_map handles_in_scalar parts
+handles_in (value.List parts) = flat_map handles_in_scalar parts
+handles_in (value.Slices slices) = flat_map handles_in_slice slices
+
+abbrev pub handles_in_option : Option Value → List ℕ
+handles_in_option (Some v) = handles_in v
+handles_in_option None = []
+
+-- the handles of all values of a command, in order
+abbrev pub handles_of : Verb → List ℕ
+handles_of (verb.Get key) = handles_in key
+handles_of (verb.Set key value) = handles_in key ++ handles_in value
+handles_of (verb.Cast format shape) = handles_in format ++ handles_in_option shape
+handles_of _ = []
+
+-- the handle that a value is
+abbrev pub handle_of_value : Value → List ℕ
+handle_of_value (value.One s) = handles_in_scalar s
+handle_of_value _ = []
+
+-- The handles whose bytes a command reads: a value that is written through a view. Of every other
+-- handle only that it was given matters.
+abbrev pub handles_read : Subject → Verb → List ℕ
+handles_read (subject.View k) (verb.Set key value) = handle_of_value value
+handles_read _ _ = []

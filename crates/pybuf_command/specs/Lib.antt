@@ -1,0 +1,5 @@
+pub mod Kinds
+pub mod Sized
+pub mod Loans
+pub mod Fits
+pub mod Handles

@@ -1,0 +1,158 @@
+//! Commands and replies of one exporter.
+use crate::kinds::Subject;
+use crate::loans::LoanList;
+use pybuf_value::{ByteList, Fault, Item, Made, NumberList, Text, Twin, Value};
+use std::alloc::Global;
+
+/// A property of an exporter or a view, by the name of the attribute of Python's `memoryview`.
+#[derive(Clone, Copy, Debug, PartialEq, Eq)]
+pub enum PropertyName {
+    /// The number of unreleased views of an exporter.
+    Exports,
+    /// The exporter of a view.
+    Obj,
+    /// The number of bytes of all items.
+    Nbytes,
+    /// Whether the items can only be read.
+    Readonly,
+    /// The number of bytes of an item.
+    Itemsize,
+    /// The number of dimensions.
+    Ndim,
+    /// The number of entries of each dimension.
+    Shape,
+    /// The distance in bytes from one entry to the next, for each dimension.
+    Strides,
+    /// For each dimension 0, since no item is reached through a pointer.
+    Suboffsets,
+    /// The format of an item.
+    Format,
+    /// Whether the items lie one after the other.
+    Contiguous,
+    /// Whether they do in the order of C, which is the same.
+    CContiguous,
+    /// Whether they do in the order of Fortran: so in a contiguous view of at most one dimension.
+    FContiguous,
+}
+
+/// What is asked of a subject.
+#[derive(Debug, Drop)]
+pub enum Verb {
+    /// A new view of the subject, as `memoryview(subject)`.
+    View,
+    /// The item at a key, as `subject[key]`.
+    Get { key: Value },
+    /// Writes the item at a key, as `subject[key] = value`.
+    Set { key: Value, value: Value },
+    /// A new view of the same bytes with items of another format, as `view.cast(format, shape)`.
+    Cast { format: Value, shape: Option<Value> },
+    /// The subject's bytes, as `bytes(subject)`.
+    ToBytes,
+    /// Releases a view, as `view.release()`.
+    Release,
+    /// The number of items, as `len(subject)`.
+    Len,
+    /// A property, as `view.nbytes` and the other attributes of a view.
+    Property { name: PropertyName },
+    /// A new view of the same items, which may only be read, as `view.toreadonly()`.
+    ToReadonly,
+}
+
+/// A command for one exporter, with what the handles of its values name.
+#[derive(Debug, Drop)]
+pub struct LocalCommand {
+    pub subject: Subject,
+    pub verb: Verb,
+    pub loans: LoanList,
+}
+
+/// The reply of one exporter.
+#[derive(Debug, Drop)]
+pub enum LocalReply {
+    /// Done, and there is nothing to say.
+    Ok,
+    /// The number of the view that was made.
+    View(usize),
+    /// The exporter itself.
+    Own,
+    /// A single number, byte, length or place, or an item of a view.
+    Item(Item),
+    /// Bytes.
+    Bytes(ByteList),
+    /// A text.
+    Text(Text),
+    /// A truth value that is no item.
+    Truth(bool),
+    /// Numbers, one for each dimension.
+    Numbers(NumberList),
+    /// Refused: nothing was changed.
+    Refused(Fault),
+}
+
+impl Twin for Verb {
+    fn copy(&self, alloc: Global) -> Made<Verb> {
+        match self {
+            Verb::View => Ok(Verb::View),
+            Verb::Get { key } => {
+                let key = key.copy(alloc)?;
+                Ok(Verb::Get { key })
+            }
+            Verb::Set { key, value } => {
+                let key = key.copy(alloc)?;
+                let value = value.copy(alloc)?;
+                Ok(Verb::Set { key, value })
+            }
+            Verb::Cast { format, shape } => {
+                let format = format.copy(alloc)?;
+                let shape = shape.copy(alloc)?;
+                Ok(Verb::Cast { format, shape })
+            }
+            Verb::ToBytes => Ok(Verb::ToBytes),
+            Verb::Release => Ok(Verb::Release),
+            Verb::Len => Ok(Verb::Len),
+            Verb::Property { name } => Ok(Verb::Property { name: *name }),
+            Verb::ToReadonly => Ok(Verb::ToReadonly),
+        }
+    }
+}
+
+impl Twin for LocalCommand {
+    fn copy(&self, alloc: Global) -> Made<LocalCommand> {
+        let subject = self.subject;
+        let verb = self.verb.copy(alloc)?;
+        let loans = self.loans.copy(alloc)?;
+        Ok(LocalCommand {
+            subject,
+            verb,
+            loans,
+        })
+    }
+}
+
+impl Twin for LocalReply {
+    fn copy(&self, alloc: Global) -> Made<LocalReply> {
+        match self {
+            LocalReply::Ok => Ok(LocalReply::Ok),
+            LocalReply::View(view) => Ok(LocalReply::View(*view)),
+            LocalReply::Own => Ok(LocalReply::Own),
+            LocalReply::Item(item) => {
+                let item = item.copy(alloc)?;
+                Ok(LocalReply::Item(item))
+            }
+            LocalReply::Bytes(bytes) => {
+                let bytes = bytes.copy(alloc)?;
+                Ok(LocalReply::Bytes(bytes))
+            }
+            LocalReply::Text(text) => {
+                let text = text.copy(alloc)?;
+                Ok(LocalReply::Text(text))
+            }
+            LocalReply::Truth(truth) => Ok(LocalReply::Truth(*truth)),
+            LocalReply::Numbers(numbers) => {
+                let numbers = numbers.copy(alloc)?;
+                Ok(LocalReply::Numbers(numbers))
+            }
+            LocalReply::Refused(fault) => Ok(LocalReply::Refused(*fault)),
+        }
+    }
+}

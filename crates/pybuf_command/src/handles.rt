@@ -1,0 +1,112 @@
+//! The handles of a command, and those whose bytes it reads.
+ghost use Rattle.std.specs.Prelude.{◌≡◌, ◌++◌, OnOk, IfOk};
+ghost use Rattle.std.specs.List.{flat_map};
+ghost use Rattle.std.specs.Option.{option_copied};
+ghost use Rattle.pybuf_command.specs.Handles as spec;
+ghost use Rattle.pybuf_command.specs.Loans.{loan_of};
+
+use crate::commands::Verb;
+use crate::kinds::Subject;
+use crate::loans::Loan;
+use pybuf_value::{Made, PySlice, Scalar, Value};
+use std::alloc::Global;
+
+/// The loan of the first pair of a handle, None exactly where there is no such pair.
+pub fn loan_of(loans: &[(u64, Loan)], handle: u64) -> Option<&Loan>
+    ensures { option_copied result ≡ loan_of loans.now handle }
+{
+    for pair in loans {
+        if pair.0 == handle {
+            return Some(&pair.1);
+        }
+    }
+    None
+}
+
+/// Adds the handle that a value is.
+fn push_scalar(handles: &mut Vec<u64>, scalar: &Scalar) -> Made<()>
+    ensures { OnOk result (handles.new.items ≡ handles.old.items ++ spec.handles_in_scalar scalar.now) }
+{
+    if let Scalar::Handle(handle) = scalar {
+        handles.push(*handle)?;
+    }
+    Ok(())
+}
+
+fn push_slice(handles: &mut Vec<u64>, slice: &PySlice) -> Made<()>
+    ensures { OnOk result (handles.new.items ≡ handles.old.items ++ spec.handles_in_slice slice.now) }
+{
+    push_scalar(handles, &slice.start)?;
+    push_scalar(handles, &slice.stop)?;
+    push_scalar(handles, &slice.step)
+}
+
+fn push_scalars(handles: &mut Vec<u64>, scalars: &[Scalar]) -> Made<()>
+    ensures { OnOk result (handles.new.items ≡ handles.old.items ++ flat_map spec.handles_in_scalar scalars.now) }
+{
+    for scalar in scalars {
+        push_scalar(handles, scalar)?;
+    }
+    Ok(())
+}
+
+fn push_slices(handles: &mut Vec<u64>, slices: &[PySlice]) -> Made<()>
+    ensures { OnOk result (handles.new.items ≡ handles.old.items ++ flat_map spec.handles_in_slice slices.now) }
+{
+    for slice in slices {
+        push_slice(handles, slice)?;
+    }
+    Ok(())
+}
+
+fn push_value(handles: &mut Vec<u64>, value: &Value) -> Made<()>
+    ensures { OnOk result (handles.new.items ≡ handles.old.items ++ spec.handles_in value.now) }
+{
+    match value {
+        Value::One(scalar) => push_scalar(handles, scalar),
+        Value::Slice(slice) => push_slice(handles, slice),
+        Value::Tuple(parts) => push_scalars(handles, parts.as_slice()),
+        Value::List(parts) => push_scalars(handles, parts.as_slice()),
+        Value::Slices(slices) => push_slices(handles, slices.as_slice()),
+    }
+}
+
+/// The handles whose bytes a command reads: a value that is written through a view.
+pub fn handles_read(alloc: Global, subject: Subject, verb: &Verb) -> Made<Vec<u64>>
+    ensures { IfOk result (λ handles. handles.items ≡ spec.handles_read subject verb.now) }
+{
+    let mut handles = Vec::new(alloc);
+    if let (
+        Subject::View(_),
+        Verb::Set {
+            key: _,
+            value: Value::One(scalar),
+        },
+    ) = (subject, verb)
+    {
+        push_scalar(&mut handles, scalar)?;
+    }
+    Ok(handles)
+}
+
+/// The handles of all values of a command, in order.
+pub fn handles_of(alloc: Global, verb: &Verb) -> Made<Vec<u64>>
+    ensures { IfOk result (λ handles. handles.items ≡ spec.handles_of verb.now) }
+{
+    let mut handles = Vec::new(alloc);
+    match verb {
+        Verb::Get { key } => push_value(&mut handles, key)?,
+        Verb::Set { key, value } => {
+            push_value(&mut handles, key)?;
+            push_value(&mut handles, value)?;
+        }
+        Verb::Cast { format, shape } => {
+            push_value(&mut handles, format)?;
+            if let Some(shape) = shape {
+                push_value(&mut handles, shape)?;
+            }
+        }
+        _ => {}
+    }
+    Ok(handles)
+}

@@ -1,0 +1,16 @@
+//! The words that are spoken to an exporter: kinds and subjects, commands and replies, and what the
+//! handles of a command are lent as.
+#![tactic(auto)]
+
+mod commands;
+mod handles;
+mod kinds;
+mod loans;
+
+pub use commands::{LocalCommand, LocalReply, PropertyName, Verb};
+pub use handles::{handles_of, handles_read, loan_of};
+pub use kinds::{ExporterKind, Subject};
+pub use loans::{Loan, LoanList, is_byte_format};
+
+#[cfg(test)]
+mod tests;

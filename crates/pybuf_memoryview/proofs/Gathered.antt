@@ -1,0 +1,121 @@
+-- Bytes that are gathered range by range.
+use Rattle.std.proofs.Common.{◌≡◌, ℕ, zero, suc, ◌+◌, ◌*◌, ◌-◌, ◌<◌, ◌≤◌, ℤ, pos, nat_abs, List, [], ◌∷◌, ◌++◌, length, map, take, drop, ap, ap₂, sym, ◌∙◌, refl, subst, arith, append_assoc}
+use Rattle.std.specs.Prelude.{All, slice_get}
+use Rattle.std.specs.List.{flat_map, range_with_len, cons_option, AllByRecursion}
+use Rattle.std.specs.declared.ops.Range.{Range}
+use Rattle.std.proofs.lemmas.Grind.{common_steps}
+use Rattle.std.proofs.lemmas.List.Elements.{filter_map-append, All-append, All-nil, All-head, All-tail, All-from_recursion, recursion_from_All}
+use Rattle.std.proofs.lemmas.List.FromFn.{length-range_with_len, get_or-range_with_len}
+use Rattle.std.proofs.lemmas.List.{length-append, length-take-le, length-drop}
+use Rattle.std.proofs.Math.Nat.{mul-zero}
+use Rattle.pybuf_slice.specs.Reads.{elements_at}
+use Rattle.pybuf_desc.specs.Segments.{bytes_of, item_bytes}
+use Rattle.pybuf_desc.specs.Descriptor.{Descriptor}
+use Rattle.pybuf_desc.specs.Layouts.{Layout, LiesInside}
+use Rattle.pybuf_desc.specs.Items.{bytes_at, bytes_of_items, content_of_layout}
+use Rattle.pybuf_desc.specs.Places.{places, Stands}
+use Rattle.pybuf_memoryview.specs.Laws.{ContentsAreWhole}
+
+abs_of_pos : (xs : List ℕ) → map nat_abs (map (λ x. pos x) xs) ≡ xs
+abs_of_pos [] = refl
+abs_of_pos (x ∷ xs) = ap (λ ys. x ∷ ys) (abs_of_pos xs)
+
+left-recursion : {X : Type 0} (P : X → Type 0) (xs ys : List X) → AllByRecursion P (xs ++ ys) → AllByRecursion P xs
+left-recursion P [] ys all = tt
+left-recursion P (x ∷ xs) ys all = (all.0, left-recursion P xs ys all.1)
+
+right-recursion : {X : Type 0} (P : X → Type 0) (xs ys : List X) → AllByRecursion P (xs ++ ys) → AllByRecursion P ys
+right-recursion P [] ys all = all
+right-recursion P (x ∷ xs) ys all = right-recursion P xs ys all.1
+
+first_taken : (bytes : List ℕ) (start n : ℕ) → cons_option (slice_get bytes start) (take n (drop (suc start) bytes)) ≡ take (suc n) (drop start bytes)
+first_taken [] zero n = grind (arith, common_steps)
+first_taken [] (suc start) n = grind (arith, common_steps)
+first_taken (b ∷ bytes) zero n = refl
+first_taken (b ∷ bytes) (suc start) n = first_taken bytes start n
+
+-- the bytes at places one after the other
+pub run_of_bytes : (bytes : List ℕ) (start n : ℕ) → elements_at bytes (range_with_len start n) ≡ take n (drop start bytes)
+run_of_bytes bytes start zero = refl
+run_of_bytes bytes start (suc n) =
+    let next : start + 1 ≡ suc start = omega arith in
+    ap (cons_option (slice_get bytes start)) (run_of_bytes bytes (start + 1) n ∙ ap (λ (k : ℕ). take n (drop k bytes)) next) ∙ first_taken bytes start n
+
+pub elements_both : (bytes : List ℕ) (xs ys : List ℕ) → elements_at bytes (xs ++ ys) ≡ elements_at bytes xs ++ elements_at bytes ys
+elements_both bytes xs ys = filter_map-append (slice_get bytes) xs ys
+
+-- the bytes at the places of items
+bytes_of_places : (bytes : List ℕ) (size : ℕ) (ps : List ℤ) → elements_at bytes (flat_map (λ place. range_with_len (nat_abs place) size) ps) ≡ bytes_of_items bytes size (map nat_abs ps)
+bytes_of_places bytes size [] = refl
+bytes_of_places bytes size (p ∷ ps) =
+    elements_both bytes (range_with_len (nat_abs p) size) (flat_map (λ place. range_with_len (nat_abs place) size) ps)
+    ∙ ap₂ (λ (xs ys : List ℕ). xs ++ ys) (run_of_bytes bytes (nat_abs p) size) (bytes_of_places bytes size ps)
+
+-- the ranges of a walk over a view's items hold its content
+pub content_gathered : (bytes : List ℕ) (d : Descriptor) (start : ℕ) (layout : Layout) (ranges : List (Range ℕ)) → Stands d start layout → flat_map bytes_of ranges ≡ item_bytes d (pos start)
+    → elements_at bytes (flat_map bytes_of ranges) ≡ content_of_layout bytes layout
+content_gathered bytes d start layout ranges stands same =
+    ap (elements_at bytes) same ∙ bytes_of_places bytes d.itemsize (places d.dims (pos start))
+    ∙ ap₂ (λ (size : ℕ) (starts : List ℕ). bytes_of_items bytes size starts) stands.itemsize (ap (map nat_abs) stands.starts ∙ abs_of_pos layout.starts)
+
+run_inside : (len start n : ℕ) → start + n ≤ len → All (λ place. place < len) (range_with_len start n)
+run_inside len start n fits = λ k d below.
+    let within : k < n = omega (arith, below, length-range_with_len start n) in
+    omega (arith, within, fits, get_or-range_with_len start n k d within)
+
+items_inside : (len size : ℕ) (starts : List ℕ) → All (λ start. start + size ≤ len) starts → All (λ place. place < len) (flat_map (λ place. range_with_len (nat_abs place) size) (map (λ x. pos x) starts))
+items_inside len size [] all = All-nil (λ place. place < len)
+items_inside len size (s ∷ starts) all =
+    All-append (λ place. place < len) (range_with_len s size) (flat_map (λ place. range_with_len (nat_abs place) size) (map (λ x. pos x) starts))
+    (run_inside len s size (All-head (λ start. start + size ≤ len) s starts all)) (items_inside len size starts (All-tail (λ start. start + size ≤ len) s starts all))
+
+-- each byte of a held view's items lies inside
+pub places_inside : (bytes : List ℕ) (d : Descriptor) (start : ℕ) (layout : Layout) (ranges : List (Range ℕ)) → Stands d start layout → flat_map bytes_of ranges ≡ item_bytes d (pos start)
+    → LiesInside (length bytes) layout → All (λ place. place < length bytes) (flat_map bytes_of ranges)
+places_inside bytes d start layout ranges stands same held =
+    subst (All (λ place. place < length bytes)) (sym (same ∙ ap₂ (λ (size : ℕ) (ps : List ℤ). flat_map (λ place. range_with_len (nat_abs place) size) ps) stands.itemsize stands.starts))
+    (items_inside (length bytes) layout.itemsize layout.starts held)
+
+all_left : {X : Type 0} (P : X → Type 0) (xs ys : List X) → All P (xs ++ ys) → All P xs
+all_left P xs ys all = All-from_recursion P xs (left-recursion P xs ys (recursion_from_All P (xs ++ ys) all))
+
+all_right : {X : Type 0} (P : X → Type 0) (xs ys : List X) → All P (xs ++ ys) → All P ys
+all_right P xs ys all = All-from_recursion P ys (right-recursion P xs ys (recursion_from_All P (xs ++ ys) all))
+
+-- the last byte of a range lies inside
+pub range_inside : (bytes : List ℕ) (range : Range ℕ) (ranges rest : List (Range ℕ)) → ranges ≡ range ∷ rest → range.start < range.end
+    → All (λ place. place < length bytes) (flat_map bytes_of ranges) → range.end ≤ length bytes
+range_inside bytes range ranges rest same some all =
+    let here = all_left (λ place. place < length bytes) (bytes_of range) (flat_map bytes_of rest) (subst (λ (rs : List (Range ℕ)). All (λ place. place < length bytes) (flat_map bytes_of rs)) same all) in
+    let n : ℕ = range.end - range.start in
+    let last : n - 1 < n = omega (arith, some) in
+    let within : n - 1 < length (range_with_len range.start n) = omega (arith, last, length-range_with_len range.start n) in
+    omega (arith, some, here (n - 1) 0 within, get_or-range_with_len range.start n (n - 1) 0 last)
+
+pub rest_inside : (bytes : List ℕ) (range : Range ℕ) (ranges rest : List (Range ℕ)) → ranges ≡ range ∷ rest
+    → All (λ place. place < length bytes) (flat_map bytes_of ranges) → All (λ place. place < length bytes) (flat_map bytes_of rest)
+rest_inside bytes range ranges rest same all =
+    all_right (λ place. place < length bytes) (bytes_of range) (flat_map bytes_of rest) (subst (λ (rs : List (Range ℕ)). All (λ place. place < length bytes) (flat_map bytes_of rs)) same all)
+
+pub gather_step : (bytes gathered more total : List ℕ) (range : Range ℕ) (ranges rest : List (Range ℕ)) → ranges ≡ range ∷ rest
+    → more ≡ gathered ++ take (range.end - range.start) (drop range.start bytes) → gathered ++ elements_at bytes (flat_map bytes_of ranges) ≡ total
+    → more ++ elements_at bytes (flat_map bytes_of rest) ≡ total
+gather_step bytes gathered more total range ranges rest same grown so_far =
+    ap (λ (xs : List ℕ). xs ++ elements_at bytes (flat_map bytes_of rest)) grown
+    ∙ append_assoc gathered (take (range.end - range.start) (drop range.start bytes)) (elements_at bytes (flat_map bytes_of rest))
+    ∙ ap (λ (xs : List ℕ). gathered ++ (xs ++ elements_at bytes (flat_map bytes_of rest))) (sym (run_of_bytes bytes range.start (range.end - range.start)))
+    ∙ ap (λ (xs : List ℕ). gathered ++ xs) (sym (elements_both bytes (bytes_of range) (flat_map bytes_of rest)))
+    ∙ ap (λ (rs : List (Range ℕ)). gathered ++ elements_at bytes (flat_map bytes_of rs)) (sym same) ∙ so_far
+
+-- as many bytes as all items have
+pub length-content : (bytes : List ℕ) (size : ℕ) (starts : List ℕ) → All (λ start. start + size ≤ length bytes) starts → length (bytes_of_items bytes size starts) ≡ size * length starts
+length-content bytes size [] inside = sym (mul-zero size)
+length-content bytes size (start ∷ starts) inside =
+    let here : start + size ≤ length bytes = All-head (λ s. s + size ≤ length bytes) start starts inside in
+    let fits : size ≤ length (drop start bytes) = omega (arith, length-drop start bytes) in
+    length-append (bytes_at bytes size start) (bytes_of_items bytes size starts)
+    ∙ ap₂ (λ m n. m + n) (length-take-le size (drop start bytes) fits) (length-content bytes size starts (All-tail (λ s. s + size ≤ length bytes) start starts inside))
+    ∙ grind arith
+
+pub content_is_whole : ContentsAreWhole
+content_is_whole bytes layout inside = length-content bytes layout.itemsize layout.starts inside

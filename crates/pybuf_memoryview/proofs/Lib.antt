@@ -1,0 +1,4 @@
+pub mod Dimensions
+pub mod Gathered
+pub mod Unread
+pub mod SingleBytes

@@ -1,0 +1,88 @@
+-- Items: which one a key names, what an item reads as, and which value it is written as.
+use Rattle.std.specs.Prelude.{ℕ, ◌+◌, ◌==◌, List, [], ◌∷◌, ◌++◌, take, drop, length, slice_index, ℤ, pos, Bool, true, false, not, Result, Ok, Err, ok_or}
+use Rattle.pybuf_value.specs.declared.faults.Fault.{Fault}
+use Rattle.pybuf_value.specs.declared.faults.Fault.TheVariants as fault
+use Rattle.pybuf_value.specs.declared.values.Scalar.{Scalar}
+use Rattle.pybuf_value.specs.declared.values.Scalar.TheVariants as scalar
+use Rattle.pybuf_value.specs.declared.values.Item.{Item}
+use Rattle.pybuf_value.specs.declared.values.Item.TheVariants as item
+use Rattle.pybuf_value.specs.declared.values.Value.{Value}
+use Rattle.pybuf_value.specs.declared.values.Value.TheVariants as value
+use Rattle.pybuf_slice.specs.Places.{item_place}
+use Rattle.pybuf_value.specs.Refusing.{◌>>=◌, unless}
+use Rattle.pybuf_struct.specs.Formats.{format_of}
+use Rattle.pybuf_desc.specs.Layouts.{Layout}
+use Rattle.pybuf_struct.specs.Values.{item_of, unpacked_values}
+use Rattle.pybuf_struct.specs.Packing.{packed_bytes}
+use Rattle.pybuf_value.specs.declared.snaps.Snap.{Snap}
+use Rattle.pybuf_value.specs.Numbers.{number_of, fitted_number}
+
+-- the number of a key, which must fit a word
+abbrev pub index_in : Value → Result ℤ Fault
+index_in key = do
+  n ← number_of key
+  fitted_number fault.Index n
+
+-- the entry among so many that an index names: a negative one counts from the end
+abbrev pub entry_in : ℕ → ℤ → Result ℕ Fault
+entry_in count index = ok_or (item_place count index) fault.Index
+
+-- a view of no dimension has no entries that an index or a slice could name
+abbrev pub has_dimensions : Layout → Result Bool Fault
+has_dimensions layout = unless (length layout.shape == 0) fault.Kind
+
+-- the number of the item that an index names: so in a view of one dimension alone
+abbrev pub item_number : Layout → ℤ → Result ℕ Fault
+item_number layout index = do
+  _ ← unless (not (length layout.shape == 1)) fault.NotImplemented
+  entry_in (slice_index layout.shape 0) index
+
+-- a byte as an item
+abbrev pub byte_item : ℕ → Item
+byte_item b = item.One (scalar.Int (pos b))
+
+-- what values read as: one as itself, any other number as a tuple
+abbrev pub item_of_values : Result (List Scalar) Fault → Item
+item_of_values (Ok values) = item_of values
+item_of_values (Err f) = item.Many []
+
+-- What an item's bytes read as by the text of its format. Every view has a format, of its items'
+-- size; other bytes, or another text, would read as no values.
+abbrev pub item_by : List ℕ → List ℕ → Item
+item_by text bytes = item_of_values (format_of text >>= λ format. unpacked_values format bytes)
+
+abbrev pub is_none : Value → Bool
+is_none (value.One scalar.None) = true
+is_none _ = false
+
+-- whatever refuses a value of an item, the value is of a wrong kind
+abbrev pub kind_fault : {X : Type 0} → Result X Fault → Result X Fault
+kind_fault (Ok x) = Ok x
+kind_fault (Err f) = Err fault.Kind
+
+-- The one value that an item is written as. A tuple, a list or a slice is none, which every field
+-- that looks at its value refuses, as it does an ellipsis.
+abbrev pub scalar_in : Value → Scalar
+scalar_in (value.One s) = s
+scalar_in _ = scalar.Ellipsis
+
+-- a tuple of values, or of slices
+abbrev pub is_tuple : Value → Bool
+is_tuple (value.Tuple parts) = true
+is_tuple (value.Slices slices) = true
+is_tuple _ = false
+
+abbrev pub is_slice : Value → Bool
+is_slice (value.Slice s) = true
+is_slice _ = false
+
+-- the bytes with a piece in place of those from a place on
+abbrev pub bytes_with : List ℕ → ℕ → List ℕ → List ℕ
+bytes_with bytes start piece = take start bytes ++ piece ++ drop (start + length piece) bytes
+
+-- The piece of bytes that a value is written as, by the text of a format; a handle counts as what it
+-- is lent as.
+abbrev pub piece_by : List ℕ → List (ℕ × Snap) → Value → Result (List ℕ) Fault
+piece_by text pairs v = do
+  format ← kind_fault (format_of text)
+  kind_fault (packed_bytes format pairs (scalar_in v ∷ []))

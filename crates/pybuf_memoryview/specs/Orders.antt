@@ -1,0 +1,13 @@
+-- How many bytes the items of a view have, and in which orders they lie without a gap.
+use Rattle.std.specs.Prelude.{ℕ, Bool, ◌&&◌, length, nat_lt}
+use Rattle.pybuf_desc.specs.Layouts.{Layout}
+use Rattle.pybuf_desc.specs.Contiguous.{is_contiguous_layout}
+use Rattle.pybuf_command.specs.Sized.{byte_count}
+
+-- the number of bytes of all items
+abbrev pub nbytes_of : Layout → ℕ
+nbytes_of layout = byte_count layout.itemsize layout.shape
+
+-- contiguous in the order of Fortran: so is a contiguous view of at most one dimension
+abbrev pub is_f_contiguous_layout : Layout → Bool
+is_f_contiguous_layout layout = is_contiguous_layout layout && nat_lt (length layout.shape) 2

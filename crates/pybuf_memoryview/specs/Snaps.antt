@@ -1,0 +1,19 @@
+-- What a view is lent as.
+use Rattle.std.specs.Prelude.{ℕ, Bool, List, [], if◌then◌else◌}
+use Rattle.pybuf_value.specs.declared.snaps.Snap.{Snap}
+use Rattle.pybuf_value.specs.declared.snaps.SnapKind.TheVariants as kind
+use Rattle.pybuf_desc.specs.Layouts.{Layout}
+use Rattle.pybuf_desc.specs.Items.{content_of_layout}
+use Rattle.pybuf_desc.specs.Contiguous.{is_contiguous_layout}
+
+-- a view over these bytes as it stands; there is nothing in one that was released
+abbrev pub snap_of_layout : List ℕ → Layout → Bool → Snap
+snap_of_layout bytes layout released = record {
+  kind = kind.View;
+  format = layout.format;
+  itemsize = layout.itemsize;
+  shape = layout.shape;
+  content = if released then [] else content_of_layout bytes layout;
+  contiguous = is_contiguous_layout layout;
+  released = released;
+}

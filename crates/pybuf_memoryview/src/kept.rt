@@ -1,0 +1,264 @@
+//! Where the items of a view lie and how they read, as it is kept: by a descriptor and a start.
+ghost use Rattle.std.specs.Prelude.{◌≡◌, ◌<◌, ◌%◌, ◌^◌, pos, ◌+ℤ◌, ◌≤ℤ◌, ◌<ℤ◌, nat_abs, true, length, map, replicate, slice_index, IfOk};
+
+use pybuf_desc::BufferDescriptor;
+use pybuf_slice::SaturatedSlice;
+use pybuf_value::{CountList, Made, NumberList, Text, Twin};
+use std::alloc::Global;
+use std::marker::Model;
+
+/// The layout of a view. It costs a few words, whatever it spans. A clause sees the whole layout,
+/// with the place of each item.
+#[derive(Debug, Drop)]
+pub struct KeptLayout {
+    descriptor: BufferDescriptor,
+    start: usize,
+}
+
+impl Model for KeptLayout {
+    ghost use Rattle.pybuf_desc.specs.Layouts.{Layout};
+    ghost use Rattle.pybuf_desc.specs.Places.{layout_at};
+    ghost use Rattle.pybuf_desc.specs.Valid.{IsPlaced};
+
+    ghost Value = { Layout };
+
+    ghost view = { λ v. layout_at v.descriptor v.start };
+
+    ghost invariant = { λ v. IsPlaced v.descriptor v.start };
+}
+
+/// The number of entries of each dimension.
+fn entries_of(alloc: Global, dims: &[(usize, isize, isize)]) -> Made<NumberList>
+    ensures { IfOk result (λ list. list ≡ map (λ dim. pos dim.0) dims.now) }
+{
+    let mut list = NumberList::new(alloc);
+    for dim in dims {
+        list.push(dim.0 as i128)?;
+    }
+    Ok(list)
+}
+
+/// The same, as they are counted.
+fn counts_of(alloc: Global, dims: &[(usize, isize, isize)]) -> Made<CountList>
+    ensures { IfOk result (λ list. list ≡ map (λ dim. dim.0) dims.now) }
+{
+    let mut list = CountList::new(alloc);
+    for dim in dims {
+        list.push(dim.0)?;
+    }
+    Ok(list)
+}
+
+/// The stride of each dimension.
+fn strides_of(alloc: Global, dims: &[(usize, isize, isize)]) -> Made<NumberList>
+    ensures { IfOk result (λ list. list ≡ map (λ dim. dim.1) dims.now) }
+{
+    let mut list = NumberList::new(alloc);
+    for dim in dims {
+        list.push(dim.1 as i128)?;
+    }
+    Ok(list)
+}
+
+/// So many zeros.
+fn zeros(alloc: Global, count: usize) -> Made<NumberList>
+    ensures { IfOk result (λ list. list ≡ replicate count (pos 0)) }
+{
+    let mut list = NumberList::new(alloc);
+    for _ in 0..count {
+        list.push(0)?;
+    }
+    Ok(list)
+}
+
+/// The place that lies so far from another.
+fn place_after(place: usize, distance: isize) -> usize
+    requires place_fits { place < 2 ^ 63 }
+    requires low { pos 0 ≤ℤ (pos place +ℤ distance) }
+    requires high { (pos place +ℤ distance) <ℤ pos (2 ^ 63) }
+    ensures { result ≡ nat_abs (pos place +ℤ distance) }
+{
+    (place as isize + distance) as usize
+}
+
+impl KeptLayout {
+    ghost use Rattle.pybuf_desc.specs.Layouts.{bytes_layout, HasItemsOfItsShape};
+    ghost use Rattle.pybuf_desc.specs.Contiguous.{is_contiguous_layout};
+    ghost use Rattle.pybuf_desc.specs.Slices.{slice_of};
+    ghost use Rattle.pybuf_desc.specs.Casts.{cast_of};
+    ghost use Rattle.pybuf_desc.specs.Places.{Stands};
+    ghost use Rattle.pybuf_desc.specs.Valid.{IsPlaced};
+    ghost use Rattle.pybuf_memoryview.specs.Orders.{nbytes_of, is_f_contiguous_layout};
+
+    /// The layout of all of so many bytes: items of one byte, in one dimension.
+    pub fn whole(alloc: Global, len: usize, readonly: bool) -> Made<KeptLayout>
+        requires { len < 2 ^ 63 }
+        ensures { IfOk result (λ v. v ≡ bytes_layout len readonly) }
+    {
+        pybuf_desc::descriptors_stand_for_one_view();
+        let descriptor = BufferDescriptor::simple(alloc, len, readonly)?;
+        Ok(KeptLayout {
+            descriptor,
+            start: 0,
+        })
+    }
+
+    /// The layout of the items that a slice picks, along the first dimension.
+    pub fn sliced(&self, alloc: Global, slice: SaturatedSlice) -> Made<KeptLayout>
+        requires { 0 < length self.now.shape }
+        ensures { IfOk result (λ v. v ≡ slice_of self.now slice) }
+    {
+        pybuf_desc::placed_descriptors_stand();
+        pybuf_desc::descriptors_stand_for_one_view();
+        let (descriptor, start) = self.descriptor.sliced(alloc, self.start, &slice)?;
+        Ok(KeptLayout { descriptor, start })
+    }
+
+    /// The layout of the same bytes as items of another format and size, in one dimension.
+    pub fn cast(&self, alloc: Global, format: Text, itemsize: usize) -> Made<KeptLayout>
+        requires contiguous { is_contiguous_layout self.now ≡ true }
+        requires some_size { 0 < itemsize }
+        requires size_fits { itemsize < 2 ^ 63 }
+        requires whole_items { nbytes_of self.now % itemsize ≡ 0 }
+        ensures { IfOk result (λ v. v ≡ cast_of self.now format itemsize) }
+    {
+        pybuf_desc::placed_descriptors_stand();
+        pybuf_desc::descriptors_stand_for_one_view();
+        pybuf_desc::contiguity_is_the_same_anywhere();
+        let descriptor = self.descriptor.cast_flat(alloc, format, itemsize)?;
+        Ok(KeptLayout {
+            descriptor,
+            start: self.start,
+        })
+    }
+
+    /// The layout of the same items, which may only be read.
+    pub fn to_readonly(&self, alloc: Global) -> Made<KeptLayout>
+        ensures { IfOk result (λ v. v ≡ record self.now { readonly = true }) }
+    {
+        let descriptor = self.descriptor.to_readonly(alloc)?;
+        let start = self.start;
+        Ok(KeptLayout { descriptor, start })
+    }
+
+    /// The descriptor and where the first item starts.
+    pub fn placed(&self) -> (&BufferDescriptor, usize)
+        ensures stands { Stands result.0.now result.1 self.now }
+        ensures placed { IsPlaced result.0.now result.1 }
+        ensures counted { HasItemsOfItsShape self.now }
+    {
+        pybuf_desc::placed_descriptors_stand();
+        pybuf_desc::described_views_have_their_shape();
+        (&self.descriptor, self.start)
+    }
+
+    /// The number of entries of the first dimension, 0 where there is no dimension.
+    pub fn first_entry(&self) -> usize
+        ensures value { result ≡ slice_index self.now.shape 0 }
+        ensures small { result < 2 ^ 63 }
+    {
+        match self.descriptor.dim_desc().first() {
+            Some(dim) => dim.0,
+            None => 0,
+        }
+    }
+
+    /// The first place of an item, in one dimension.
+    pub fn place(&self, item: usize) -> usize
+        requires one_dimension { length self.now.shape ≡ 1 }
+        requires inside { item < slice_index self.now.shape 0 }
+        ensures value { result ≡ slice_index self.now.starts item }
+        ensures item { item < length self.now.starts }
+    {
+        pybuf_desc::placed_descriptors_stand();
+        pybuf_desc::positions_are_places();
+        let indices = [item];
+        place_after(self.start, self.descriptor.fast_position(&indices))
+    }
+
+    /// The number of bytes of an item.
+    pub fn itemsize(&self) -> usize
+        ensures { result ≡ self.now.itemsize }
+    {
+        self.descriptor.itemsize()
+    }
+
+    /// Whether the items may only be read.
+    pub fn is_readonly(&self) -> bool
+        ensures { result ≡ self.now.readonly }
+    {
+        self.descriptor.readonly()
+    }
+
+    /// Whether the items lie one after the other.
+    pub fn is_contiguous(&self) -> bool
+        ensures { result ≡ is_contiguous_layout self.now }
+    {
+        pybuf_desc::placed_descriptors_stand();
+        self.descriptor.is_contiguous()
+    }
+
+    /// The number of bytes of all items.
+    pub fn nbytes(&self) -> usize
+        ensures { result ≡ nbytes_of self.now }
+    {
+        self.descriptor.len()
+    }
+
+    /// The number of dimensions.
+    pub fn ndim(&self) -> usize
+        ensures { result ≡ length self.now.shape }
+    {
+        self.descriptor.ndim()
+    }
+
+    /// The number of entries of each dimension.
+    pub fn shape(&self, alloc: Global) -> Made<NumberList>
+        ensures { IfOk result (λ list. list ≡ map (λ n. pos n) self.now.shape) }
+    {
+        entries_of(alloc, self.descriptor.dim_desc())
+    }
+
+    /// The same, as they are counted.
+    pub fn counts(&self, alloc: Global) -> Made<CountList>
+        ensures { IfOk result (λ list. list ≡ self.now.shape) }
+    {
+        counts_of(alloc, self.descriptor.dim_desc())
+    }
+
+    /// The stride of each dimension.
+    pub fn strides(&self, alloc: Global) -> Made<NumberList>
+        ensures { IfOk result (λ list. list ≡ self.now.strides) }
+    {
+        strides_of(alloc, self.descriptor.dim_desc())
+    }
+
+    /// The suboffset of each dimension, which is 0.
+    pub fn suboffsets(&self, alloc: Global) -> Made<NumberList>
+        ensures { IfOk result (λ list. list ≡ replicate (length self.now.shape) (pos 0)) }
+    {
+        zeros(alloc, self.descriptor.ndim())
+    }
+
+    /// The format of an item.
+    pub fn format_text(&self) -> &Text
+        ensures { result.now ≡ self.now.format }
+    {
+        self.descriptor.format_text()
+    }
+
+    /// Whether the items lie one after the other in the order of Fortran, too.
+    pub fn is_f_contiguous(&self) -> bool
+        ensures { result ≡ is_f_contiguous_layout self.now }
+    {
+        self.is_contiguous() && self.ndim() < 2
+    }
+}
+
+impl Twin for KeptLayout {
+    fn copy(&self, alloc: Global) -> Made<KeptLayout> {
+        let descriptor = self.descriptor.copy(alloc)?;
+        let start = self.start;
+        Ok(KeptLayout { descriptor, start })
+    }
+}

@@ -1,0 +1,118 @@
+-- What each way of changing an exporter keeps of it.
+use Rattle.std.proofs.Common.{◌≡◌, ℕ, ◌+◌, ◌≤◌, ◌<◌, List, [], ◌∷◌, ◌++◌, length, Bool, true, false, true≢false, ap, sym, ◌∙◌, refl, subst, arith, inl, inr}
+use Rattle.std.specs.Prelude.{Some, Ok, codes, slice_get}
+use Rattle.std.specs.List.{All, range_with_len}
+use Rattle.std.proofs.lemmas.List.Elements.{All-push, All-set, All-weaker}
+use Rattle.std.proofs.lemmas.List.FromFn.{length-range_with_len, get_or-range_with_len}
+use Rattle.pybuf_desc.specs.Layouts.{Layout, LiesInside, bytes_layout}
+use Rattle.pybuf_command.specs.declared.kinds.ExporterKind.{ExporterKind}
+use Rattle.pybuf_command.specs.Kinds.{holds_readonly}
+use Rattle.pybuf_struct.specs.Formats.{codes_in, layout_from, format_after_prefix}
+use Rattle.pybuf_command.specs.Sized.{is_sized}
+use Rattle.pybuf_state.specs.Exporter.{Exporter, View, whole_layout, view_at, live_layout, with_view, released_at}
+use Rattle.pybuf_state.specs.Sound.{IsFormed, IsHeld, IsSoundView, IsSoundExporter}
+use Rattle.pybuf_state.specs.Keeps.{IsSameOrReleased, ViewsStay, LengthsStay, Keeps}
+use Rattle.pybuf_state.specs.Laws.{IsSoundLayout, WholeLayoutsAreSound, LiveLayoutsAreSound, ReadingKeeps, NewViewsKeep, WritingKeeps, ReleasingKeeps}
+use Rattle.pybuf_state.proofs.Finding.{All-slice_get, view_at_given, live_view, slice_get-push, slice_get-set}
+
+-- ---- layouts
+
+-- the format of bytes has the size 1
+bytes_are_sized : is_sized (codes "B") 1 ≡ true
+unfolding codes_in layout_from format_after_prefix
+bytes_are_sized = refl
+
+whole_inside : (n : ℕ) → All (λ start. start + 1 ≤ n) (range_with_len 0 n)
+whole_inside n = λ i d below.
+    let within : i < n = omega (arith, length-range_with_len 0 n, below) in
+    omega (arith, get_or-range_with_len 0 n i d within, within)
+
+pub whole_sound : WholeLayoutsAreSound
+whole_sound e = record {
+  formed = record { sized = bytes_are_sized; counted = length-range_with_len 0 (length e.bytes) ∙ omega arith };
+  inside = whole_inside (length e.bytes);
+  readonly = λ is. is;
+}
+
+pub live_sound : LiveLayoutsAreSound
+live_sound e k layout sound found =
+    let live = live_view e k layout found in
+    let view = All-slice_get (IsSoundView e.kind e.bytes) e.views k live.0 sound.views live.1.given in
+    subst (IsSoundLayout e) live.1.shows (record {
+      formed = view.formed;
+      inside = (view.held live.1.unreleased).inside;
+      readonly = view.readonly;
+    })
+
+-- ---- changes
+
+same : (v : View) → IsSameOrReleased v v
+same v = inl refl
+
+views_same : (views : List View) → ViewsStay views views
+views_same views = λ k v found. (v, found, same v)
+
+pub reading : ReadingKeeps
+reading e sound = record {
+  kind = refl;
+  sound = sound;
+  lengths = record { views = views_same e.views; bytes = λ live. refl };
+  readonly_bytes = λ readonly. refl;
+}
+
+new_view : (e : Exporter) (layout : Layout) → IsSoundLayout e layout → IsSoundView e.kind e.bytes (record { made_at = length e.bytes; layout = layout; released = false })
+new_view e layout made = record {
+  formed = made.formed;
+  readonly = made.readonly;
+  held = λ unreleased. record { inside = made.inside; length_kept = refl };
+}
+
+pub adding : NewViewsKeep
+adding e layout sound made =
+    let v : View = record { made_at = length e.bytes; layout = layout; released = false } in
+    record {
+      kind = refl;
+      sound = record { views = All-push (IsSoundView e.kind e.bytes) e.views v sound.views (new_view e layout made) };
+      lengths = record { views = λ k w found. (w, slice_get-push e.views v w k found, same w); bytes = λ live. refl };
+      readonly_bytes = λ readonly. refl;
+    }
+
+held_by_length : (k : ExporterKind) (old new : List ℕ) (v : View) → length new ≡ length old → IsSoundView k old v → IsSoundView k new v
+held_by_length k old new v same_length view = record {
+  formed = view.formed;
+  readonly = view.readonly;
+  held = λ unreleased.
+      let held = view.held unreleased in
+      record {
+        inside = λ i d below. omega (arith, held.inside i d below, same_length);
+        length_kept = held.length_kept ∙ sym same_length;
+      };
+}
+
+pub writing : WritingKeeps
+writing e bytes sound writable same_length = record {
+  kind = refl;
+  sound = record { views = All-weaker (IsSoundView e.kind e.bytes) (IsSoundView e.kind bytes) (λ v view. held_by_length e.kind e.bytes bytes v same_length view) e.views sound.views };
+  lengths = record { views = views_same e.views; bytes = λ live. same_length };
+  readonly_bytes = λ readonly. absurd (true≢false (sym readonly ∙ writable));
+}
+
+released_sound : (k : ExporterKind) (bytes : List ℕ) (v : View) → IsSoundView k bytes v → IsSoundView k bytes (record v { released = true })
+released_sound k bytes v view = record {
+  formed = view.formed;
+  readonly = view.readonly;
+  held = λ unreleased. absurd (true≢false unreleased);
+}
+
+pub releasing : ReleasingKeeps
+releasing e k v sound found =
+    let at : slice_get e.views k ≡ Some v = view_at_given e k v found in
+    let w : View = record v { released = true } in
+    record {
+      kind = refl;
+      sound = record {
+        views = All-set (IsSoundView e.kind e.bytes) e.views k w (released_sound e.kind e.bytes v (All-slice_get (IsSoundView e.kind e.bytes) e.views k v sound.views at)) sound.views;
+      };
+      lengths = record { views = λ j u there. slice_get-set IsSameOrReleased e.views k j v w u same (inr refl) at there; bytes = λ live. refl };
+      readonly_bytes = λ readonly. refl;
+    }

@@ -1,0 +1,31 @@
+-- What the code of a row owes to its definition.
+use Rattle.std.specs.Prelude.{◌≡◌, [], Result, Ok, Err}
+use Rattle.pybuf_value.specs.declared.faults.Fault.{Fault}
+use Rattle.pybuf_value.specs.declared.halt.Halt.{Halt}
+use Rattle.pybuf_value.specs.declared.halt.Halt.TheVariants as halt
+use Rattle.pybuf_command.specs.declared.commands.LocalReply.{LocalReply}
+use Rattle.pybuf_state.specs.declared.parts.Parts.{Parts}
+use Rattle.pybuf_state.specs.Exporter.{Exporter, exports_of}
+use Rattle.pybuf_state.specs.Sound.{IsSoundExporter}
+
+-- the exporter that the parts keep; no iterator is made yet
+abbrev pub exporter_of : Parts → Exporter
+exporter_of p = record { kind = p.kind; bytes = p.bytes.items; views = p.views.items; iterators = [] }
+
+-- what holds of kept parts: the count is that of the unreleased views, and the exporter is sound
+pub record IsWhole (p : Parts) : Type 0 where
+  pub counted : p.exports ≡ exports_of (exporter_of p)
+  pub sound : IsSoundExporter (exporter_of p)
+
+-- The answer is the row's: its reply with its exporter, or its fault and the exporter as before.
+-- Where memory runs out, the exporter is as before.
+abbrev pub Answers : Result (Exporter × LocalReply) Fault → Exporter → Result LocalReply Halt → Exporter → Type 0
+Answers row old (Ok r) new = row ≡ Ok (new, r)
+Answers row old (Err (halt.Refused f)) new = (row ≡ Err f) × (new ≡ old)
+Answers row old (Err halt.NoMemory) new = new ≡ old
+
+-- the same of a row that only reads
+abbrev pub Reads : Result (Exporter × LocalReply) Fault → Exporter → Result LocalReply Halt → Type 0
+Reads row e (Ok r) = row ≡ Ok (e, r)
+Reads row e (Err (halt.Refused f)) = row ≡ Err f
+Reads row e (Err halt.NoMemory) = Unit {0}

@@ -1,0 +1,76 @@
+-- Exporters of bytes, the views of them, and the iterators over them.
+-- A place is the number of a byte in its exporter.
+use Rattle.std.specs.Prelude.{ℕ, List, [], ◌∷◌, ◌++◌, length, set, Bool, true, false, not, Result, Ok, slice_get, count_by}
+use Rattle.std.specs.Option.{ok_or}
+use Rattle.pybuf_value.specs.declared.faults.Fault.{Fault}
+use Rattle.pybuf_value.specs.declared.faults.Fault.TheVariants as fault
+use Rattle.pybuf_value.specs.Refusing.{◌>>=◌, unless}
+use Rattle.pybuf_desc.specs.Layouts.{Layout, bytes_layout}
+use Rattle.pybuf_command.specs.declared.kinds.ExporterKind.{ExporterKind}
+use Rattle.pybuf_command.specs.Kinds.{holds_readonly}
+use Rattle.pybuf_command.specs.declared.kinds.Subject.{Subject}
+use Rattle.pybuf_command.specs.declared.commands.LocalReply.{LocalReply}
+use Rattle.pybuf_command.specs.declared.commands.LocalReply.TheVariants as reply
+
+-- A view: the length of its exporter when it was made, where its items lie and how they read, and
+-- whether it was released.
+pub record View : Type 0 where
+  pub made_at : ℕ
+  pub layout : Layout
+  pub released : Bool
+
+-- An iterator: what it goes over, the number of the item that comes next, and whether it is exhausted.
+pub record Iterator : Type 0 where
+  pub subject : Subject
+  pub position : ℕ
+  pub exhausted : Bool
+
+-- An exporter: its kind, its bytes, and the views and iterators that were made of it, in order.
+pub record Exporter : Type 0 where
+  pub kind : ExporterKind
+  pub bytes : List ℕ
+  pub views : List View
+  pub iterators : List Iterator
+
+-- an exporter of these bytes, with no view
+abbrev pub new_exporter : ExporterKind → List ℕ → Exporter
+new_exporter k bytes = record { kind = k; bytes = bytes; views = []; iterators = [] }
+
+-- all of an exporter's bytes: items of one byte in one dimension
+abbrev pub whole_layout : Exporter → Layout
+whole_layout e = bytes_layout (length e.bytes) (holds_readonly e.kind)
+
+abbrev pub is_exported : View → Bool
+is_exported v = not v.released
+
+-- the number of unreleased views
+abbrev pub exports_of : Exporter → ℕ
+exports_of e = count_by is_exported e.views
+
+-- the view of a number, which was given
+abbrev pub view_at : Exporter → ℕ → Result View Fault
+view_at e k = ok_or (slice_get e.views k) fault.UnknownName
+
+-- the layout of the view of a number, which must not be released
+abbrev pub live_layout : Exporter → ℕ → Result Layout Fault
+live_layout e k = do
+  v ← view_at e k
+  _ ← unless v.released fault.Value
+  Ok v.layout
+
+-- the exporter with one more view, which is made now, and the reply with its number
+abbrev pub with_view : Exporter → Layout → Exporter × LocalReply
+with_view e layout = (
+  record e { views = e.views ++ (record { made_at = length e.bytes; layout = layout; released = false }) ∷ [] },
+  reply.View (length e.views),
+)
+
+-- the exporter with the view of a number released
+abbrev pub released_at : Exporter → ℕ → View → Exporter
+released_at e k v = record e { views = set e.views k (record v { released = true }) }
+
+-- the same of a number that may not have been given
+abbrev pub released_in : Exporter → ℕ → Result Exporter Fault
+released_in e k = do
+  v ← view_at e k
+  Ok (released_at e k v)

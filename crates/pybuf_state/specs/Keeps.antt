@@ -1,0 +1,47 @@
+-- What a command keeps of an exporter.
+use Rattle.std.specs.Prelude.{◌≡◌, ◌⊎◌, ℕ, ◌<◌, List, length, Bool, true, false, Result, Some, slice_get}
+use Rattle.pybuf_value.specs.declared.faults.Fault.{Fault}
+use Rattle.pybuf_value.specs.Refusing.{IfDone}
+use Rattle.pybuf_command.specs.declared.commands.LocalReply.{LocalReply}
+use Rattle.pybuf_command.specs.declared.commands.LocalReply.TheVariants as reply
+use Rattle.pybuf_command.specs.Kinds.{holds_readonly}
+use Rattle.pybuf_state.specs.Exporter.{Exporter, View, exports_of}
+use Rattle.pybuf_state.specs.Sound.{IsSoundExporter}
+
+-- a view after a command is as it was, or became released
+abbrev pub IsSameOrReleased : View → View → Type 0
+IsSameOrReleased old new = (new ≡ old) ⊎ (new ≡ record old { released = true })
+
+-- each view keeps its number, and the length that it was made at
+abbrev pub ViewsStay : List View → List View → Type 0
+ViewsStay old new = (k : ℕ) (v : View) → slice_get old k ≡ Some v → (w : View) × (slice_get new k ≡ Some w) × IsSameOrReleased v w
+
+-- views are only added or become released, and an exporter with an unreleased view keeps its length
+pub record LengthsStay (old new : Exporter) : Type 0 where
+  pub views : ViewsStay old.views new.views
+  pub bytes : 0 < exports_of old → length new.bytes ≡ length old.bytes
+
+-- the bytes of an exporter that is only read stay
+abbrev pub ReadOnlyBytesStay : Exporter → Exporter → Type 0
+ReadOnlyBytesStay old new = holds_readonly old.kind ≡ true → new.bytes ≡ old.bytes
+
+-- what each command keeps of a sound exporter
+pub record Keeps (old new : Exporter) : Type 0 where
+  pub kind : new.kind ≡ old.kind
+  pub sound : IsSoundExporter new
+  pub lengths : LengthsStay old new
+  pub readonly_bytes : ReadOnlyBytesStay old new
+
+-- a reply that is no refusal
+abbrev pub is_answer : LocalReply → Bool
+is_answer (reply.Refused f) = false
+is_answer _ = true
+
+-- a row that isn't refused keeps all this, and doesn't reply a refusal
+pub record IsCarriedOut (old : Exporter) (after : Exporter × LocalReply) : Type 0 where
+  pub keeps : IsSoundExporter old → Keeps old after.0
+  pub answers : is_answer after.1 ≡ true
+
+-- the same of a row that may be refused
+abbrev pub IsSafe : Exporter → Result (Exporter × LocalReply) Fault → Type 0
+IsSafe old row = IfDone (IsCarriedOut old) row

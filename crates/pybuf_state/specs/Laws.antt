@@ -1,0 +1,39 @@
+-- What is kept of an exporter by each way in which a command changes it.
+use Rattle.std.specs.Prelude.{◌≡◌, ℕ, List, length, true, false, Ok}
+use Rattle.pybuf_value.specs.declared.snaps.Snap.{Snap}
+use Rattle.pybuf_desc.specs.Layouts.{Layout, LiesInside}
+use Rattle.pybuf_command.specs.declared.kinds.ExporterKind.{ExporterKind}
+use Rattle.pybuf_command.specs.declared.kinds.Subject.{Subject}
+use Rattle.pybuf_command.specs.Kinds.{holds_readonly}
+use Rattle.pybuf_command.specs.Fits.{fits_snap}
+use Rattle.pybuf_state.specs.Exporter.{Exporter, View, whole_layout, view_at, live_layout, with_view, released_at}
+use Rattle.pybuf_state.specs.Sound.{IsFormed, IsSoundExporter}
+use Rattle.pybuf_state.specs.Keeps.{Keeps}
+
+-- what is asked of the layout of a new view
+pub record IsSoundLayout (e : Exporter) (layout : Layout) : Type 0 where
+  pub formed : IsFormed layout
+  pub inside : LiesInside (length e.bytes) layout
+  pub readonly : holds_readonly e.kind ≡ true → layout.readonly ≡ true
+
+abbrev pub WholeLayoutsAreSound : Type 0
+WholeLayoutsAreSound = (e : Exporter) → IsSoundLayout e (whole_layout e)
+
+abbrev pub LiveLayoutsAreSound : Type 0
+LiveLayoutsAreSound = (e : Exporter) (k : ℕ) (layout : Layout) → IsSoundExporter e → live_layout e k ≡ Ok layout → IsSoundLayout e layout
+
+-- an exporter that is only read is kept
+abbrev pub ReadingKeeps : Type 0
+ReadingKeeps = (e : Exporter) → IsSoundExporter e → Keeps e e
+
+-- so it is where it gets one more view
+abbrev pub NewViewsKeep : Type 0
+NewViewsKeep = (e : Exporter) (layout : Layout) → IsSoundExporter e → IsSoundLayout e layout → Keeps e (with_view e layout).0
+
+-- and where bytes that may be written get others in their place, as many as there were
+abbrev pub WritingKeeps : Type 0
+WritingKeeps = (e : Exporter) (bytes : List ℕ) → IsSoundExporter e → holds_readonly e.kind ≡ false → length bytes ≡ length e.bytes → Keeps e (record e { bytes = bytes })
+
+-- and where a view is released
+abbrev pub ReleasingKeeps : Type 0
+ReleasingKeeps = (e : Exporter) (k : ℕ) (v : View) → IsSoundExporter e → view_at e k ≡ Ok v → Keeps e (released_at e k v)

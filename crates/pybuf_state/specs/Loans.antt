@@ -1,0 +1,67 @@
+-- Which handles an exporter knows by its loans, and what is lent to the row of a command.
+use Rattle.std.specs.Prelude.{ℕ, Bool, true, false, List, [], ◌∷◌, length, map, Option, Some, None, nat_lt}
+use Rattle.std.specs.List.{flat_map, list_all}
+use Rattle.pybuf_value.specs.declared.snaps.Snap.{Snap}
+use Rattle.pybuf_command.specs.declared.kinds.Subject.{Subject}
+use Rattle.pybuf_command.specs.declared.kinds.Subject.TheVariants as subject
+use Rattle.pybuf_command.specs.declared.loans.Loan.{Loan}
+use Rattle.pybuf_command.specs.declared.loans.Loan.TheVariants as loan
+use Rattle.pybuf_command.specs.Loans.{loan_of}
+use Rattle.pybuf_state.specs.Exporter.{Exporter}
+use Rattle.pybuf_state.specs.Snaps.{snap_of_subject}
+
+-- ---- which handles are known
+
+-- what a loan names is there
+abbrev pub is_named : Exporter → Option Loan → Bool
+is_named e (Some loan.Own) = true
+is_named e (Some (loan.View k)) = nat_lt k (length e.views)
+is_named e (Some (loan.Iter k)) = nat_lt k (length e.iterators)
+is_named e (Some (loan.Other snap)) = true
+is_named e (Some loan.Known) = true
+is_named e (Some loan.Missing) = false
+is_named e None = false
+
+-- the first pair of a handle counts
+abbrev pub is_known : Exporter → List (ℕ × Loan) → ℕ → Bool
+is_known e loans h = is_named e (loan_of loans h)
+
+abbrev pub are_known : Exporter → List (ℕ × Loan) → List ℕ → Bool
+are_known e loans handles = list_all (is_known e loans) handles
+
+-- ---- what is lent
+
+-- What is lent for a handle: what it names as it stands before the command, and which subject of the
+-- exporter itself that is, none where it is another exporter's.
+pub record Lent : Type 0 where
+  pub handle : ℕ
+  pub subject : Option Subject
+  pub snap : Snap
+
+abbrev pub lent_as : ℕ → Option Subject → Option Snap → List Lent
+lent_as h s (Some snap) = record { handle = h; subject = s; snap = snap } ∷ []
+lent_as h s None = []
+
+-- which subject of the exporter a loan names
+abbrev pub subject_in : Option Loan → Option Subject
+subject_in (Some loan.Own) = Some subject.Own
+subject_in (Some (loan.View k)) = Some (subject.View k)
+subject_in _ = None
+
+-- what a loan names, as it stands; nothing where its bytes aren't read
+abbrev pub snap_in : Exporter → Option Loan → Option Snap
+snap_in e (Some loan.Own) = snap_of_subject e subject.Own
+snap_in e (Some (loan.View k)) = snap_of_subject e (subject.View k)
+snap_in e (Some (loan.Other snap)) = Some snap
+snap_in e _ = None
+
+abbrev pub lent_for : Exporter → List (ℕ × Loan) → ℕ → List Lent
+lent_for e loans h = lent_as h (subject_in (loan_of loans h)) (snap_in e (loan_of loans h))
+
+-- what is lent for the handles whose bytes a command reads, in order
+abbrev pub lent_for_each : Exporter → List (ℕ × Loan) → List ℕ → List Lent
+lent_for_each e loans handles = flat_map (lent_for e loans) handles
+
+-- the handles with what they name
+abbrev pub snaps_of : List Lent → List (ℕ × Snap)
+snaps_of lents = map (λ l. (l.handle, l.snap)) lents

@@ -1,0 +1,33 @@
+//! Laws of the definitions that the contracts cite. Each stands on a function with an empty body.
+ghost use Rattle.pybuf_state.specs.Laws.{WholeLayoutsAreSound, LiveLayoutsAreSound, ReadingKeeps, NewViewsKeep, WritingKeeps, ReleasingKeeps};
+
+/// A view of all bytes may be made of every exporter.
+pub fn whole_layouts_are_sound()
+    ensures { WholeLayoutsAreSound }
+{}
+
+/// The items of an unreleased view lie inside its exporter and read by its format, and bytes that are
+/// only read have views that are only read.
+pub fn live_layouts_are_sound()
+    ensures { LiveLayoutsAreSound }
+{}
+
+/// An exporter that is only read is kept.
+pub fn reading_keeps()
+    ensures { ReadingKeeps }
+{}
+
+/// An exporter that gets one more view is kept.
+pub fn new_views_keep()
+    ensures { NewViewsKeep }
+{}
+
+/// An exporter that may be written is kept where as many other bytes take the place of its bytes.
+pub fn writing_keeps()
+    ensures { WritingKeeps }
+{}
+
+/// An exporter is kept where one of its views is released.
+pub fn releasing_keeps()
+    ensures { ReleasingKeeps }
+{}

@@ -1,0 +1,21 @@
+//! The parts of an exporter: its bytes, its views and the count of its exports, what holds of them,
+//! what of them is lent, and what each change of them keeps.
+//!
+//! The rows of commands work on these parts. Users of the library have them as `ExporterState` of
+//! `pybuf_exporter`.
+#![tactic(auto)]
+
+mod known;
+mod laws;
+mod parts;
+mod snaps;
+mod stored;
+
+pub use known::are_known;
+pub use laws::{
+    live_layouts_are_sound, new_views_keep, reading_keeps, releasing_keeps,
+    whole_layouts_are_sound, writing_keeps,
+};
+pub use parts::Parts;
+pub use snaps::{lent_to, snap_of_subject};
+pub use stored::StoredView;

@@ -1,0 +1,85 @@
+//! What is kept of an exporter.
+ghost use Rattle.std.specs.Prelude.{◌≡◌, Ok, Err, length, IfOk, OnErr, MatchResult};
+
+use crate::stored::StoredView;
+use pybuf_command::{ExporterKind, LocalReply};
+use pybuf_memoryview::KeptLayout;
+use pybuf_value::{Fault, Halt};
+use std::alloc::Global;
+
+/// The parts of an exporter: the number of unreleased views is kept beside the views, so that
+/// nothing goes through all views ever made.
+#[derive(Debug, Drop)]
+pub struct Parts {
+    pub kind: ExporterKind,
+    pub bytes: Vec<u8>,
+    pub views: Vec<StoredView>,
+    pub exports: usize,
+    pub alloc: Global,
+}
+
+impl Parts {
+    ghost use Rattle.pybuf_state.specs.Exporter.{view_at, live_layout, with_view, released_in, exports_of};
+    ghost use Rattle.pybuf_state.specs.Answers.{exporter_of, IsWhole, Answers};
+    ghost use Rattle.pybuf_state.specs.Laws.{IsSoundLayout};
+
+    /// The view of a number that was given, released or not.
+    ///
+    /// Refused with `UnknownName` exactly where none was.
+    pub fn view(&self, view: usize) -> Result<&StoredView, Fault>
+        ensures { MatchResult result (λ v. view_at (exporter_of self.now) view ≡ Ok v.now) (λ f. view_at (exporter_of self.now) view ≡ Err f) }
+    {
+        match self.views.get(view) {
+            Some(view) => Ok(view),
+            None => Err(Fault::UnknownName),
+        }
+    }
+
+    /// The layout of the view of a number, which must not be released.
+    ///
+    /// Refused with `UnknownName` where no such view was given, and with `ValueError` where it was
+    /// released.
+    pub fn live_layout(&self, view: usize) -> Result<&KeptLayout, Fault>
+        requires { IsWhole self.now }
+        ensures exact { MatchResult result (λ l. live_layout (exporter_of self.now) view ≡ Ok l.now) (λ f. live_layout (exporter_of self.now) view ≡ Err f) }
+        ensures sound { IfOk result (λ l. IsSoundLayout (exporter_of self.now) l.now) }
+    {
+        let view = self.view(view)?;
+        if view.is_released() {
+            return Err(Fault::Value);
+        }
+        Ok(view.layout())
+    }
+
+    /// One more view, which is unreleased and made now. The reply is its number.
+    pub fn add_view(&mut self, layout: KeptLayout) -> Result<LocalReply, Halt>
+        requires { IsWhole self.old }
+        ensures answer { Answers (Ok (with_view (exporter_of self.old) layout)) (exporter_of self.old) result (exporter_of self.new) }
+        ensures counted { self.new.exports ≡ exports_of (exporter_of self.new) }
+    {
+        let number = self.views.len();
+        self.views.push(StoredView::new(self.bytes.len(), layout))?;
+        self.exports += 1;
+        Ok(LocalReply::View(number))
+    }
+
+    /// Releases a view that was given. The second time changes nothing.
+    ///
+    /// Refused with `UnknownName` exactly where none of this number was given.
+    pub fn release_view(&mut self, view: usize) -> Result<(), Fault>
+        requires { IsWhole self.old }
+        ensures exact { MatchResult result (λ _. released_in (exporter_of self.old) view ≡ Ok (exporter_of self.new)) (λ f. released_in (exporter_of self.old) view ≡ Err f) }
+        ensures err { OnErr result (exporter_of self.new ≡ exporter_of self.old) }
+        ensures counted { self.new.exports ≡ exports_of (exporter_of self.new) }
+    {
+        if view >= self.views.len() {
+            return Err(Fault::UnknownName);
+        }
+        let stored = &mut self.views[view];
+        if !stored.is_released() {
+            stored.release();
+            self.exports -= 1;
+        }
+        Ok(())
+    }
+}
