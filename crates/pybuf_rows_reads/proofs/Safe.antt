@@ -1,0 +1,117 @@
+-- Rows that read keep a sound exporter.
+use Rattle.std.proofs.Common.{◌≡◌, ℕ, ◌+◌, ◌<◌, ◌≤◌, List, [], ◌∷◌, length, Bool, true, false, true≢false, ap, sym, ◌∙◌, refl, subst, arith}
+use Rattle.std.specs.Prelude.{Result, Ok, Err}
+use Rattle.pybuf_value.specs.declared.faults.Fault.{Fault}
+use Rattle.pybuf_value.specs.declared.faults.Fault.TheVariants as fault
+use Rattle.pybuf_value.specs.declared.values.Value.{Value}
+use Rattle.pybuf_value.specs.declared.values.Value.TheVariants as value
+use Rattle.pybuf_value.specs.Refusing.{◌>>=◌, unless, IfDone, done_bind}
+use Rattle.pybuf_desc.specs.Layouts.{Layout}
+use Rattle.pybuf_command.specs.declared.commands.LocalReply.{LocalReply}
+use Rattle.pybuf_command.specs.declared.commands.LocalReply.TheVariants as reply
+use Rattle.pybuf_state.specs.Exporter.{Exporter, live_layout}
+use Rattle.pybuf_state.specs.Sound.{IsSoundExporter}
+use Rattle.pybuf_state.specs.Keeps.{is_answer, IsCarriedOut, IsSafe}
+use Rattle.pybuf_slice.specs.Parts.{saturated_parts_of}
+use Rattle.pybuf_command.specs.declared.kinds.ExporterKind.{ExporterKind}
+use Rattle.pybuf_command.specs.declared.kinds.ExporterKind.TheVariants as kind
+use Rattle.pybuf_command.specs.declared.commands.PropertyName.{PropertyName}
+use Rattle.pybuf_command.specs.declared.commands.PropertyName.TheVariants as property
+use Rattle.pybuf_memoryview.specs.Items.{index_in, entry_in, has_dimensions, item_number}
+use Rattle.pybuf_state.specs.Laws.{ReadingKeeps}
+use Rattle.pybuf_rows_reads.specs.Get.{byte_of_own, part_of_own, get_in_kind, get_of_own, item_of_view}
+use Rattle.pybuf_rows_reads.specs.Property.{is_exports, property_of_own, property_of_layout, property_of_view}
+use Rattle.pybuf_rows_reads.specs.Laws.{GetIsSafe, BytesIsSafe, LenIsSafe, PropertyIsSafe}
+
+bind : {A : Type 0} (e : Exporter) (r : Result A Fault) (f : A → Result (Exporter × LocalReply) Fault) → ((a : A) → r ≡ Ok a → IsSafe e (f a)) → IsSafe e (r >>= f)
+bind e r f after = done_bind (IsCarriedOut e) r f after
+
+read : ReadingKeeps → (e : Exporter) (r : LocalReply) → is_answer r ≡ true → IsCarriedOut e (e, r)
+read reading e r answers = record { keeps = λ sound. reading e sound; answers = answers }
+
+-- ---- get
+
+byte_safe : ReadingKeeps → (e : Exporter) (key : Value) → IsSafe e (byte_of_own e key)
+byte_safe reading e key =
+    bind e (index_in key) _ (λ index _.
+    bind e (entry_in (length e.bytes) index) _ (λ place _. read reading e _ refl))
+
+part_safe : ReadingKeeps → (e : Exporter) (key : Value) → IsSafe e (part_of_own e key)
+part_safe reading e (value.Slice slice) = bind e (saturated_parts_of slice) _ (λ parts _. read reading e _ refl)
+part_safe reading e (value.One s) = byte_safe reading e (value.One s)
+part_safe reading e (value.Tuple parts) = byte_safe reading e (value.Tuple parts)
+part_safe reading e (value.List parts) = byte_safe reading e (value.List parts)
+part_safe reading e (value.Slices slices) = byte_safe reading e (value.Slices slices)
+
+in_kind : (e : Exporter) (k : ExporterKind) (r : Result (Exporter × LocalReply) Fault) → IsSafe e r → IsSafe e (get_in_kind k r)
+in_kind e kind.ByteArray r safe = safe
+in_kind e kind.Bytes r safe = safe
+in_kind e (kind.Vector readonly) r safe = tt
+
+item_safe : ReadingKeeps → (e : Exporter) (k : ℕ) (key : Value) → IsSafe e (item_of_view e k key)
+item_safe reading e k key =
+    bind e (live_layout e k) _ (λ layout _.
+    bind e (has_dimensions layout) _ (λ _ _.
+    bind e (index_in key) _ (λ index _.
+    bind e (item_number layout index) _ (λ item _. read reading e _ refl))))
+
+pub get_safe : ReadingKeeps → GetIsSafe
+get_safe reading = ((λ e key. in_kind e e.kind (part_of_own e key) (part_safe reading e key)), item_safe reading)
+
+-- ---- bytes, len
+
+pub bytes_safe : ReadingKeeps → BytesIsSafe
+bytes_safe reading = ((λ e. read reading e _ refl), (λ e k. bind e (live_layout e k) _ (λ layout _. read reading e _ refl)))
+
+pub len_safe : ReadingKeeps → LenIsSafe
+len_safe reading = (
+  (λ e. read reading e _ refl),
+  (λ e k. bind e (live_layout e k) _ (λ layout _. bind e (has_dimensions layout) _ (λ _ _. read reading e _ refl))),
+)
+
+-- ---- prop
+
+own_safe : ReadingKeeps → (e : Exporter) (name : PropertyName) → IsSafe e (property_of_own e name)
+own_safe reading e property.Exports = read reading e _ refl
+own_safe reading e property.Obj = tt
+own_safe reading e property.Nbytes = tt
+own_safe reading e property.Readonly = tt
+own_safe reading e property.Itemsize = tt
+own_safe reading e property.Ndim = tt
+own_safe reading e property.Shape = tt
+own_safe reading e property.Strides = tt
+own_safe reading e property.Suboffsets = tt
+own_safe reading e property.Format = tt
+own_safe reading e property.Contiguous = tt
+own_safe reading e property.CContiguous = tt
+own_safe reading e property.FContiguous = tt
+
+-- what a view shows is no refusal
+shows_answer : (layout : Layout) (name : PropertyName) → IfDone (λ (r : LocalReply). is_answer r ≡ true) (property_of_layout layout name)
+shows_answer layout property.Exports = tt
+shows_answer layout property.Obj = refl
+shows_answer layout property.Nbytes = refl
+shows_answer layout property.Readonly = refl
+shows_answer layout property.Itemsize = refl
+shows_answer layout property.Ndim = refl
+shows_answer layout property.Shape = refl
+shows_answer layout property.Strides = refl
+shows_answer layout property.Suboffsets = refl
+shows_answer layout property.Format = refl
+shows_answer layout property.Contiguous = refl
+shows_answer layout property.CContiguous = refl
+shows_answer layout property.FContiguous = refl
+
+done : {B : Type 0} (P : B → Type 0) (r : Result B Fault) (x : B) → IfDone P r → r ≡ Ok x → P x
+done P (Ok y) x holds is = let same : y ≡ x = cc in subst P same holds
+done P (Err f) x holds is = absurd (cc)
+
+view_safe : ReadingKeeps → (e : Exporter) (k : ℕ) (name : PropertyName) → IsSafe e (property_of_view e k name)
+view_safe reading e k name =
+    bind e (unless (is_exports name) fault.UnknownName) _ (λ _ _.
+    bind e (live_layout e k) _ (λ layout _.
+    bind e (property_of_layout layout name) _ (λ answer found.
+    read reading e answer (done (λ (r : LocalReply). is_answer r ≡ true) (property_of_layout layout name) answer (shows_answer layout name) found))))
+
+pub property_safe : ReadingKeeps → PropertyIsSafe
+property_safe reading = (own_safe reading, view_safe reading)

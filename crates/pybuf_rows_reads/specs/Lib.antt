@@ -1,0 +1,5 @@
+pub mod Get
+pub mod ToBytes
+pub mod Len
+pub mod Property
+pub mod Laws

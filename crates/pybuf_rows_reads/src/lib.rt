@@ -1,0 +1,10 @@
+//! The commands that only read.
+#![tactic(auto)]
+
+pub mod get;
+mod laws;
+pub mod len;
+pub mod property;
+pub mod to_bytes;
+
+pub use laws::{bytes_is_safe, get_is_safe, len_is_safe, property_is_safe};

@@ -1,0 +1,177 @@
+-- Each row keeps a sound exporter.
+use Rattle.std.proofs.Common.{◌≡◌, ◌≢◌, ℕ, zero, suc, ◌<◌, List, [], ◌∷◌, length, Bool, true, false, true≢false, ap₂, sym, refl, subst, arith}
+use Rattle.pybuf_value.specs.declared.faults.Fault.{Fault}
+use Rattle.pybuf_value.specs.declared.faults.Fault.TheVariants as fault
+use Rattle.pybuf_value.specs.Refusing.{◌>>=◌, unless, IfDone, done_bind}
+use Rattle.pybuf_desc.specs.Layouts.{Layout}
+use Rattle.pybuf_command.specs.declared.commands.LocalReply.{LocalReply}
+use Rattle.pybuf_command.specs.declared.commands.LocalReply.TheVariants as reply
+use Rattle.pybuf_state.specs.Exporter.{Exporter, View, whole_layout, view_at, live_layout, with_view, released_at, released_in}
+use Rattle.pybuf_state.specs.Sound.{IsSoundExporter}
+use Rattle.pybuf_state.specs.Keeps.{IsCarriedOut, IsSafe}
+use Rattle.std.specs.Prelude.{◌==◌, ◌%◌, ◌&&◌, not, nat_lt, min, ℤ, pos, negsuc, Result, Ok, Err}
+use Rattle.std.proofs.lemmas.Int.{ints}
+use Rattle.std.proofs.lemmas.Bool.{eq-eqb}
+use Rattle.pybuf_value.specs.declared.values.PySlice.{PySlice}
+use Rattle.pybuf_value.specs.declared.values.Scalar.{Scalar}
+use Rattle.pybuf_value.specs.declared.values.Scalar.TheVariants as scalar
+use Rattle.pybuf_value.specs.Numbers.{number_in}
+use Rattle.pybuf_slice.specs.Parts.{SliceParts, nonzero, step_in, part_in, nearest_word, parts_of, saturated_parts_of}
+use Rattle.pybuf_struct.specs.Formats.{Format, format_of}
+use Rattle.pybuf_desc.specs.Contiguous.{is_contiguous_layout}
+use Rattle.pybuf_desc.specs.Slices.{slice_of}
+use Rattle.pybuf_desc.specs.Casts.{cast_of}
+use Rattle.pybuf_desc.specs.Laws.{SlicesStayInside, SlicesHaveTheirShape, CastsStayInside, CastsHaveTheirShape}
+use Rattle.pybuf_command.specs.Sized.{is_size_of}
+use Rattle.pybuf_memoryview.specs.Items.{has_dimensions}
+use Rattle.pybuf_memoryview.specs.Orders.{nbytes_of}
+use Rattle.pybuf_state.specs.Laws.{IsSoundLayout, WholeLayoutsAreSound, LiveLayoutsAreSound, NewViewsKeep, ReleasingKeeps}
+use Rattle.pybuf_rows_views.specs.Cast.{text_in, size_of_format}
+use Rattle.pybuf_rows_views.specs.Laws.{ViewIsSafe, SliceIsSafe, CastIsSafe, ReleaseIsSafe, ToReadonlyIsSafe}
+
+bind : {A : Type 0} (e : Exporter) (r : Result A Fault) (f : A → Result (Exporter × LocalReply) Fault) → ((a : A) → r ≡ Ok a → IsSafe e (f a)) → IsSafe e (r >>= f)
+bind e r f after = done_bind (IsCarriedOut e) r f after
+
+-- one more view of a layout that is sound where the exporter is
+new_view : NewViewsKeep → (e : Exporter) (layout : Layout) → (IsSoundExporter e → IsSoundLayout e layout) → IsCarriedOut e (with_view e layout)
+new_view adding e layout made = record { keeps = λ sound. adding e layout sound (made sound); answers = refl }
+
+pub view_safe : NewViewsKeep → WholeLayoutsAreSound → LiveLayoutsAreSound → ViewIsSafe
+view_safe adding whole live = (
+  (λ e. new_view adding e (whole_layout e) (λ sound. whole e)),
+  (λ e k. bind e (live_layout e k) _ (λ layout found. new_view adding e layout (λ sound. live e k layout sound found))),
+)
+
+-- ---- slices
+
+passed : (b : Bool) (f : Fault) (u : Bool) → unless b f ≡ Ok u → b ≡ false
+passed true f u is = absurd (cc)
+passed false f u is = refl
+
+shape_of : (shape : List ℕ) → (length shape == 0) ≡ false → (n : ℕ) × (rest : List ℕ) × (shape ≡ n ∷ rest)
+shape_of [] some = absurd (true≢false some)
+shape_of (n ∷ rest) some = (n, rest, refl)
+
+-- the step of a slice is not 0
+nonzero_moves : (z : ℤ) → IfDone (λ (step : ℤ). step ≢ pos 0) (nonzero z)
+nonzero_moves (pos zero) = tt
+nonzero_moves (pos (suc n)) = λ e. omega (arith, ints, e)
+nonzero_moves (negsuc n) = λ e. omega (arith, ints, e)
+
+number_moves : (r : Result ℤ Fault) → IfDone (λ (step : ℤ). step ≢ pos 0) (r >>= nonzero)
+number_moves (Ok z) = nonzero_moves z
+number_moves (Err f) = tt
+
+step_moves : (s : Scalar) → IfDone (λ (step : ℤ). step ≢ pos 0) (step_in s)
+step_moves scalar.None = λ e. omega (arith, ints, e)
+step_moves (scalar.Bool truth) = number_moves (number_in (scalar.Bool truth))
+step_moves (scalar.Int n) = nonzero_moves n
+step_moves (scalar.Text t) = tt
+step_moves (scalar.Bytes b) = tt
+step_moves scalar.Ellipsis = tt
+step_moves (scalar.Handle h) = tt
+
+clamped_moves : (z : ℤ) → z ≢ pos 0 → nearest_word z ≢ pos 0
+clamped_moves (pos zero) h e = h refl
+clamped_moves (pos (suc n)) h e = let z : min (suc n) 9223372036854775807 ≡ 0 = cc in omega arith
+clamped_moves (negsuc n) h e = cc
+
+done : {B : Type 0} (P : B → Type 0) (r : Result B Fault) (x : B) → IfDone P r → r ≡ Ok x → P x
+done P (Ok y) x holds is = let same : y ≡ x = cc in subst P same holds
+done P (Err f) x holds is = absurd (cc)
+
+slice_moves : (slice : PySlice) → IfDone (λ (parts : SliceParts). parts.step ≢ pos 0) (saturated_parts_of slice)
+slice_moves slice =
+    let P : SliceParts → Type 0 = λ parts. parts.step ≢ pos 0 in
+    done_bind P (parts_of slice) _ (λ parts found.
+    clamped_moves parts.step (done P (parts_of slice) parts
+    (done_bind P (step_in slice.step) _ (λ step at.
+    done_bind P (part_in slice.start) _ (λ start _.
+    done_bind P (part_in slice.stop) _ (λ stop _.
+    done (λ (z : ℤ). z ≢ pos 0) (step_in slice.step) step (step_moves slice.step) at)))) found))
+
+sliced : SlicesStayInside → SlicesHaveTheirShape → (e : Exporter) (layout : Layout) (parts : SliceParts) (u : Bool) → has_dimensions layout ≡ Ok u → parts.step ≢ pos 0
+    → IsSoundLayout e layout → IsSoundLayout e (slice_of layout parts)
+sliced inside shapes e layout parts u some moves sound =
+    let shape = shape_of layout.shape (passed (length layout.shape == 0) fault.Kind u some) in
+    record {
+      formed = record { sized = sound.formed.sized; counted = shapes layout shape.0 shape.1 parts shape.2 sound.formed.counted moves };
+      inside = inside layout parts (length e.bytes) sound.inside;
+      readonly = sound.readonly;
+    }
+
+pub slice_safe : NewViewsKeep → LiveLayoutsAreSound → SlicesStayInside → SlicesHaveTheirShape → SliceIsSafe
+slice_safe adding live inside shapes e k slice =
+    bind e (live_layout e k) _ (λ layout found.
+    bind e (has_dimensions layout) _ (λ u some.
+    bind e (saturated_parts_of slice) _ (λ parts given.
+    new_view adding e (slice_of layout parts) (λ sound.
+    sliced inside shapes e layout parts u some (done (λ (p : SliceParts). p.step ≢ pos 0) (saturated_parts_of slice) parts (slice_moves slice) given) (live e k layout sound found)))))
+
+-- ---- casts
+
+positive : (n : ℕ) → (n == 0) ≡ false → 0 < n
+positive zero is = absurd (true≢false is)
+positive (suc n) is = omega arith
+
+not_false : (b : Bool) → not b ≡ false → b ≡ true
+not_false true is = refl
+not_false false is = absurd (true≢false is)
+
+size_told : (r : Result Format Fault) (size : ℕ) → (r >>= λ f. Ok f.size) ≡ Ok size → 0 < size → is_size_of size r ≡ true
+size_told (Ok f) size is some =
+    let same : f.size ≡ size = cc in
+    rw same (ap₂ (λ (a b : Bool). a && b) (let less : nat_lt 0 size ≡ true = grind (arith, some) in less) (eq-eqb size size refl))
+size_told (Err g) size is some = absurd (cc)
+
+cast : CastsStayInside → CastsHaveTheirShape → (e : Exporter) (layout : Layout) (text : List ℕ) (size : ℕ) → is_contiguous_layout layout ≡ true → size_of_format text ≡ Ok size → 0 < size
+    → IsSoundLayout e layout → IsSoundLayout e (cast_of layout text size)
+cast inside shapes e layout text size flat told some sound = record {
+  formed = record { sized = size_told (format_of text) size told some; counted = shapes layout text size };
+  inside = inside layout text size (length e.bytes) flat sound.inside;
+  readonly = sound.readonly;
+}
+
+pub cast_safe : NewViewsKeep → LiveLayoutsAreSound → CastsStayInside → CastsHaveTheirShape → CastIsSafe
+cast_safe adding live inside shapes e k format =
+    bind e (live_layout e k) _ (λ layout found.
+    bind e (unless (not (is_contiguous_layout layout)) fault.Kind) _ (λ flat is_flat.
+    bind e (text_in format) _ (λ text _.
+    bind e (size_of_format text) _ (λ size told.
+    bind e (unless (size == 0) fault.Kind) _ (λ some is_some.
+    bind e (unless (not (nbytes_of layout % size == 0)) fault.Kind) _ (λ _ _.
+    new_view adding e (cast_of layout text size) (λ sound.
+    cast inside shapes e layout text size
+    (not_false (is_contiguous_layout layout) (passed (not (is_contiguous_layout layout)) fault.Kind flat is_flat)) told
+    (positive size (passed (size == 0) fault.Kind some is_some)) (live e k layout sound found))))))))
+
+-- ---- views that may only be read
+
+read_only : (e : Exporter) (layout : Layout) → IsSoundLayout e layout → IsSoundLayout e (record layout { readonly = true })
+read_only e layout sound = record {
+  formed = record { sized = sound.formed.sized; counted = sound.formed.counted };
+  inside = sound.inside;
+  readonly = λ _. refl;
+}
+
+pub toreadonly_safe : NewViewsKeep → LiveLayoutsAreSound → ToReadonlyIsSafe
+toreadonly_safe adding live e k =
+    bind e (live_layout e k) _ (λ layout found.
+    new_view adding e (record layout { readonly = true }) (λ sound. read_only e layout (live e k layout sound found)))
+
+-- ---- releases
+
+released : ReleasingKeeps → (e : Exporter) (k : ℕ) (r : Result View Fault) → r ≡ view_at e k → IsSafe e ((r >>= (λ v. Ok (released_at e k v))) >>= (λ after. Ok (after, reply.Ok)))
+released releasing e k (Ok v) is = record { keeps = λ sound. releasing e k v sound (sym is); answers = refl }
+released releasing e k (Err f) is = tt
+
+pub release_safe : ReleasingKeeps → ReleaseIsSafe
+release_safe releasing e k = released releasing e k (view_at e k) refl
+
+released_from : ReleasingKeeps → (e new : Exporter) (k : ℕ) (r : Result View Fault) → IsSoundExporter e → r ≡ view_at e k → (r >>= (λ v. Ok (released_at e k v))) ≡ Ok new → IsSoundExporter new
+released_from keeps e new k (Ok v) sound at is = let same : released_at e k v ≡ new = cc in subst IsSoundExporter same (keeps e k v sound (sym at)).sound
+released_from keeps e new k (Err f) sound at is = absurd (cc)
+
+-- an exporter whose view was released is sound
+pub released_is_sound : ReleasingKeeps → (e new : Exporter) (k : ℕ) → IsSoundExporter e → released_in e k ≡ Ok new → IsSoundExporter new
+released_is_sound keeps e new k sound is = released_from keeps e new k (view_at e k) sound refl is

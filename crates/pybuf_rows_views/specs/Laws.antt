@@ -1,0 +1,30 @@
+-- The rows keep a sound exporter, and only a refusal is replied as one.
+use Rattle.std.specs.Prelude.{◌≡◌, ℕ, Ok}
+use Rattle.pybuf_value.specs.declared.values.PySlice.{PySlice}
+use Rattle.pybuf_value.specs.declared.values.Value.{Value}
+use Rattle.pybuf_state.specs.Exporter.{Exporter, released_in}
+use Rattle.pybuf_state.specs.Keeps.{IsSafe}
+use Rattle.pybuf_rows_views.specs.View.{view_of_own, view_of_view}
+use Rattle.pybuf_rows_views.specs.Slice.{slice_of_view}
+use Rattle.pybuf_rows_views.specs.Cast.{cast_of_view}
+use Rattle.pybuf_rows_views.specs.Release.{release_of_view}
+use Rattle.pybuf_rows_views.specs.ToReadonly.{toreadonly_of_view}
+
+abbrev pub ViewIsSafe : Type 0
+ViewIsSafe = ((e : Exporter) → IsSafe e (view_of_own e)) × ((e : Exporter) (k : ℕ) → IsSafe e (view_of_view e k))
+
+abbrev pub SliceIsSafe : Type 0
+SliceIsSafe = (e : Exporter) (k : ℕ) (slice : PySlice) → IsSafe e (slice_of_view e k slice)
+
+abbrev pub CastIsSafe : Type 0
+CastIsSafe = (e : Exporter) (k : ℕ) (format : Value) → IsSafe e (cast_of_view e k format)
+
+abbrev pub ReleaseIsSafe : Type 0
+ReleaseIsSafe = (e : Exporter) (k : ℕ) → IsSafe e (release_of_view e k)
+
+abbrev pub ToReadonlyIsSafe : Type 0
+ToReadonlyIsSafe = (e : Exporter) (k : ℕ) → IsSafe e (toreadonly_of_view e k)
+
+-- releasing a view twice is releasing it once
+abbrev pub ReleasingTwiceIsOnce : Type 0
+ReleasingTwiceIsOnce = (e once : Exporter) (k : ℕ) → released_in e k ≡ Ok once → released_in once k ≡ Ok once

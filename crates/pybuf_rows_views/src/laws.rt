@@ -1,0 +1,52 @@
+//! Laws of the definitions that the contracts cite. Each stands on a function with an empty body, or
+//! one that cites laws of the crates below.
+ghost use Rattle.pybuf_rows_views.specs.Laws.{ViewIsSafe, SliceIsSafe, CastIsSafe, ReleaseIsSafe, ToReadonlyIsSafe, ReleasingTwiceIsOnce};
+
+/// `view` keeps a sound exporter.
+pub fn view_is_safe()
+    ensures { ViewIsSafe }
+{
+    pybuf_state::new_views_keep();
+    pybuf_state::whole_layouts_are_sound();
+    pybuf_state::live_layouts_are_sound();
+}
+
+/// `get` of a view by a slice keeps a sound exporter.
+pub fn slice_is_safe()
+    ensures { SliceIsSafe }
+{
+    pybuf_state::new_views_keep();
+    pybuf_state::live_layouts_are_sound();
+    pybuf_desc::slices_stay_inside();
+    pybuf_desc::slices_have_their_shape();
+}
+
+/// `cast` keeps a sound exporter.
+pub fn cast_is_safe()
+    ensures { CastIsSafe }
+{
+    pybuf_state::new_views_keep();
+    pybuf_state::live_layouts_are_sound();
+    pybuf_desc::casts_stay_inside();
+    pybuf_desc::casts_have_their_shape();
+}
+
+/// `release` keeps a sound exporter.
+pub fn release_is_safe()
+    ensures { ReleaseIsSafe }
+{
+    pybuf_state::releasing_keeps();
+}
+
+/// `toreadonly` keeps a sound exporter.
+pub fn toreadonly_is_safe()
+    ensures { ToReadonlyIsSafe }
+{
+    pybuf_state::new_views_keep();
+    pybuf_state::live_layouts_are_sound();
+}
+
+/// Releasing a view twice is releasing it once.
+pub fn releasing_twice_is_once()
+    ensures { ReleasingTwiceIsOnce }
+{}

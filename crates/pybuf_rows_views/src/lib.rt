@@ -1,0 +1,14 @@
+//! The commands that make and end views.
+#![tactic(auto)]
+
+pub mod cast;
+mod laws;
+pub mod release;
+pub mod slice;
+pub mod to_readonly;
+pub mod view;
+
+pub use laws::{
+    cast_is_safe, release_is_safe, releasing_twice_is_once, slice_is_safe, toreadonly_is_safe,
+    view_is_safe,
+};

@@ -1,0 +1,3 @@
+pub mod Set
+pub mod Writing
+pub mod Laws

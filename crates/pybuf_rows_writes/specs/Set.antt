@@ -1,0 +1,54 @@
+-- `set`: the item at a key is written, and nothing else.
+use Rattle.std.specs.Prelude.{ℕ, List, [], ◌∷◌, length, slice_index, Result, Ok, Err}
+use Rattle.pybuf_value.specs.declared.faults.Fault.{Fault}
+use Rattle.pybuf_value.specs.declared.faults.Fault.TheVariants as fault
+use Rattle.pybuf_value.specs.declared.values.Value.{Value}
+use Rattle.pybuf_value.specs.Refusing.{◌>>=◌, unless}
+use Rattle.pybuf_value.specs.Numbers.{byte_in}
+use Rattle.pybuf_desc.specs.Layouts.{Layout}
+use Rattle.pybuf_command.specs.declared.kinds.ExporterKind.{ExporterKind}
+use Rattle.pybuf_command.specs.declared.kinds.ExporterKind.TheVariants as kind
+use Rattle.pybuf_command.specs.declared.commands.LocalReply.{LocalReply}
+use Rattle.pybuf_command.specs.declared.commands.LocalReply.TheVariants as reply
+use Rattle.pybuf_memoryview.specs.Items.{index_in, entry_in, has_dimensions, item_number, is_none, bytes_with, piece_by}
+use Rattle.pybuf_state.specs.Exporter.{Exporter, live_layout}
+use Rattle.pybuf_state.specs.Loans.{Lent, snaps_of}
+
+-- in a bytearray: the byte
+abbrev pub byte_set : Exporter → Value → Value → Result (Exporter × LocalReply) Fault
+byte_set e key value = do
+  index ← index_in key
+  byte ← byte_in value
+  place ← entry_in (length e.bytes) index
+  Ok (record e { bytes = bytes_with e.bytes place (byte ∷ []) }, reply.Ok)
+
+-- only a bytearray is written by itself
+abbrev pub set_in_kind : ExporterKind → Result (Exporter × LocalReply) Fault → Result (Exporter × LocalReply) Fault
+set_in_kind kind.ByteArray written = written
+set_in_kind _ written = Err fault.UnknownName
+
+abbrev pub set_of_own : Exporter → Value → Value → Result (Exporter × LocalReply) Fault
+set_of_own e key value = set_in_kind e.kind (byte_set e key value)
+
+-- The item of a number gets the bytes of the value by the view's format. A handle counts as what it is
+-- lent as.
+abbrev pub item_set : Exporter → Layout → ℕ → Value → List Lent → Result (Exporter × LocalReply) Fault
+item_set e layout item value lents = do
+  piece ← piece_by layout.format (snaps_of lents) value
+  Ok (record e { bytes = bytes_with e.bytes (slice_index layout.starts item) piece }, reply.Ok)
+
+-- through a view: its layout, and the number of the item that is written
+abbrev pub set_target : Exporter → ℕ → Value → Value → Result (Layout × ℕ) Fault
+set_target e k key value = do
+  layout ← live_layout e k
+  _ ← unless layout.readonly fault.Kind
+  _ ← unless (is_none value) fault.Kind
+  _ ← has_dimensions layout
+  index ← index_in key
+  item ← item_number layout index
+  Ok (layout, item)
+
+abbrev pub set_of_view : Exporter → ℕ → Value → Value → List Lent → Result (Exporter × LocalReply) Fault
+set_of_view e k key value lents = do
+  target ← set_target e k key value
+  item_set e target.0 target.1 value lents

@@ -1,0 +1,132 @@
+//! `set`: the item at a key is written.
+ghost use Rattle.std.specs.Prelude.{◌≡◌, ◌+◌, ◌<◌, ◌≤◌, [], ◌∷◌, length, slice_index, true, false, Ok, Err, IfOk, OnErr, MatchResult};
+ghost use Rattle.pybuf_command.specs.Handles.{handle_of_value};
+ghost use Rattle.pybuf_state.specs.Exporter.{exports_of};
+ghost use Rattle.pybuf_state.specs.Loans.{lent_for_each};
+ghost use Rattle.pybuf_state.specs.Sound.{IsFormed};
+ghost use Rattle.pybuf_state.specs.Answers.{exporter_of, IsWhole, Answers};
+ghost use Rattle.pybuf_rows_writes.specs.Set.{byte_set, set_of_own, set_target, item_set, set_of_view};
+ghost use Rattle.pybuf_rows_writes.specs.Writing.{bytes_packed, single_byte_set};
+
+use pybuf_command::{ExporterKind, LoanList, LocalReply, is_byte_format};
+use pybuf_memoryview::{
+    KeptLayout, args_of, byte_for_item, entry_in, format_of, index_in, is_none,
+};
+use pybuf_state::{Parts, lent_to};
+use pybuf_struct::FormatSpec;
+use pybuf_value::{Fault, Halt, ScalarList, SnapList, Value, value_from_object};
+
+#[tactic(auto, using(crate::proofs::Bytes::bytes_with_one))]
+fn set_byte(parts: &mut Parts, key: &Value, value: &Value) -> Result<LocalReply, Halt>
+    requires { IsWhole parts.old }
+    ensures answer { Answers (byte_set (exporter_of parts.old) key.now value.now) (exporter_of parts.old) result (exporter_of parts.new) }
+    ensures counted { parts.new.exports ≡ exports_of (exporter_of parts.new) }
+{
+    let index = index_in(key)?;
+    let byte = value_from_object(value)?;
+    let place = entry_in(parts.bytes.len(), index)?;
+    parts.bytes[place] = byte;
+    Ok(LocalReply::Ok)
+}
+
+/// Writes the byte of a bytearray at a key.
+pub fn of_own(parts: &mut Parts, key: &Value, value: &Value) -> Result<LocalReply, Halt>
+    requires { IsWhole parts.old }
+    ensures answer { Answers (set_of_own (exporter_of parts.old) key.now value.now) (exporter_of parts.old) result (exporter_of parts.new) }
+    ensures counted { parts.new.exports ≡ exports_of (exporter_of parts.new) }
+{
+    match parts.kind {
+        ExporterKind::ByteArray => set_byte(parts, key, value),
+        _ => Err(Halt::Refused(Fault::UnknownName)),
+    }
+}
+
+/// The layout of the view, and the number of the item that is written.
+fn target<'a>(
+    parts: &'a Parts,
+    view: usize,
+    key: &Value,
+    value: &Value,
+) -> Result<(&'a KeptLayout, usize), Fault>
+    requires { IsWhole parts.now }
+    ensures exact { MatchResult result (λ target. set_target (exporter_of parts.now) view key.now value.now ≡ Ok (target.0.now, target.1)) (λ fault. set_target (exporter_of parts.now) view key.now value.now ≡ Err fault) }
+    ensures one_dimension { IfOk result (λ target. length target.0.now.shape ≡ 1) }
+    ensures item { IfOk result (λ target. target.1 < slice_index target.0.now.shape 0) }
+    ensures formed { IfOk result (λ target. IsFormed target.0.now) }
+    ensures inside { IfOk result (λ target. target.1 < length target.0.now.starts → slice_index target.0.now.starts target.1 + target.0.now.itemsize ≤ length parts.now.bytes.items) }
+{
+    let layout = parts.live_layout(view)?;
+    if layout.is_readonly() {
+        return Err(Fault::Kind);
+    }
+    if is_none(value) {
+        return Err(Fault::Kind);
+    }
+    if layout.ndim() == 0 {
+        return Err(Fault::Kind);
+    }
+    let index = index_in(key)?;
+    if layout.ndim() != 1 {
+        return Err(Fault::NotImplemented);
+    }
+    let item = entry_in(layout.first_entry(), index)?;
+    Ok((layout, item))
+}
+
+/// Writes an item at a place by its format.
+fn write_item(
+    bytes: &mut [u8],
+    place: usize,
+    format: &FormatSpec,
+    args: &ScalarList,
+    pairs: &SnapList,
+) -> Result<(), Fault>
+    requires { place + format.now.size ≤ length bytes.old }
+    ensures exact { MatchResult result (λ _. bytes_packed bytes.old place format.now pairs.now args.now ≡ Ok bytes.new) (λ fault. bytes_packed bytes.old place format.now pairs.now args.now ≡ Err fault) }
+    ensures err { OnErr result (bytes.new ≡ bytes.old) }
+{
+    let end = place + format.size();
+    match format.pack_into(&mut bytes[place..end], args, pairs) {
+        Ok(()) => Ok(()),
+        Err(_) => Err(Fault::Kind),
+    }
+}
+
+/// Writes a byte as an item of the format `B`.
+#[tactic(auto, using(crate::proofs::Bytes::bytes_with_one))]
+fn write_byte(parts: &mut Parts, place: usize, value: &Value) -> Result<LocalReply, Halt>
+    requires whole { IsWhole parts.old }
+    requires inside { place < length parts.old.bytes.items }
+    ensures answer { Answers (single_byte_set (exporter_of parts.old) place value.now) (exporter_of parts.old) result (exporter_of parts.new) }
+    ensures counted { parts.new.exports ≡ exports_of (exporter_of parts.new) }
+{
+    let byte = byte_for_item(value)?;
+    parts.bytes[place] = byte;
+    Ok(LocalReply::Ok)
+}
+
+/// Writes the item of a view at a key. A byte of the format `B`, which most views have, is written
+/// without parsing it.
+pub fn of_view(
+    parts: &mut Parts,
+    view: usize,
+    key: &Value,
+    value: &Value,
+    loans: &LoanList,
+) -> Result<LocalReply, Halt>
+    requires { IsWhole parts.old }
+    ensures answer { Answers (set_of_view (exporter_of parts.old) view key.now value.now (lent_for_each (exporter_of parts.old) loans.now (handle_of_value value.now))) (exporter_of parts.old) result (exporter_of parts.new) }
+    ensures counted { parts.new.exports ≡ exports_of (exporter_of parts.new) }
+{
+    pybuf_memoryview::byte_items_are_their_byte();
+    let (layout, item) = target(parts, view, key, value)?;
+    let place = layout.place(item);
+    if is_byte_format(layout.format_text().as_slice()) {
+        return write_byte(parts, place, value);
+    }
+    let format = format_of(parts.alloc, layout)?;
+    let pairs = lent_to(parts, parts.alloc, &format, loans, value)?;
+    let args = args_of(parts.alloc, value)?;
+    write_item(parts.bytes.as_mut_slice(), place, &format, &args, &pairs)?;
+    Ok(LocalReply::Ok)
+}
