@@ -1,16 +1,2 @@
-pub mod Kept
-pub mod CastKept
-pub mod Gathered
-pub mod ListTests
-pub mod Counts
-pub mod Laid
-pub mod Formed
-pub mod Written
-pub mod Unread
-pub mod Soundness
+pub mod Every
 pub mod Described
-pub mod Refusals
-pub mod Backward
-pub mod Seen
-pub mod Alike
-pub mod SingleBytes

@@ -1,14 +1,4 @@
-pub mod Exporter
-pub mod Layouts
-pub mod Contiguous
-pub mod Loans
-pub mod Handles
-pub mod Items
-pub mod Reading
-pub mod Slices
-pub mod Rows
 pub mod Step
-pub mod Sound
-pub mod Answers
+pub mod Rows
 pub mod Lending
 pub mod Laws

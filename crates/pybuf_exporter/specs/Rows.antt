@@ -1,10 +1,11 @@
--- What each command does to one exporter, a definition for each command and kind of subject:
--- the checks in their order, and then the exporter after it with its reply.
-pub mod View
-pub mod Get
-pub mod Set
-pub mod ToBytes
-pub mod Release
-pub mod Len
-pub mod Property
-pub mod Cast
+-- What all rows owe to the laws over every command.
+use Rattle.std.specs.Prelude.{ℕ, List}
+use Rattle.pybuf_command.specs.declared.kinds.Subject.{Subject}
+use Rattle.pybuf_command.specs.declared.commands.Verb.{Verb}
+use Rattle.pybuf_state.specs.Exporter.{Exporter}
+use Rattle.pybuf_state.specs.Loans.{Lent}
+use Rattle.pybuf_state.specs.Keeps.{IsSafe}
+use Rattle.pybuf_exporter.specs.Step.{row}
+
+abbrev pub RowsAreSafe : Type 0
+RowsAreSafe = (e : Exporter) (s : Subject) (v : Verb) (lents : List Lent) → IsSafe e (row e s v lents)

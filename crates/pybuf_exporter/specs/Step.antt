@@ -1,27 +1,30 @@
--- One command on one exporter.
-use Rattle.std.specs.Prelude.{ℕ, Bool, true, not, ◌&&◌, List, length, None, Result, Ok, Err, if◌then◌else◌}
+-- One command on one exporter: which row it has, and what stands after it.
+use Rattle.std.specs.Prelude.{ℕ, Bool, true, not, ◌&&◌, List, None, Result, Ok, Err, if◌then◌else◌}
 use Rattle.pybuf_value.specs.declared.faults.Fault.{Fault}
 use Rattle.pybuf_value.specs.declared.faults.Fault.TheVariants as fault
-use Rattle.pybuf_exporter.specs.declared.kinds.ExporterKind.{ExporterKind}
-use Rattle.pybuf_exporter.specs.declared.kinds.ExporterKind.TheVariants as kind
-use Rattle.pybuf_exporter.specs.declared.kinds.Subject.{Subject}
-use Rattle.pybuf_exporter.specs.declared.kinds.Subject.TheVariants as subject
-use Rattle.pybuf_exporter.specs.declared.commands.Verb.{Verb}
-use Rattle.pybuf_exporter.specs.declared.commands.Verb.TheVariants as verb
-use Rattle.pybuf_exporter.specs.declared.commands.LocalReply.{LocalReply}
-use Rattle.pybuf_exporter.specs.declared.commands.LocalReply.TheVariants as reply
-use Rattle.pybuf_exporter.specs.Exporter.{Exporter}
-use Rattle.pybuf_exporter.specs.declared.loans.Loan.{Loan}
-use Rattle.pybuf_exporter.specs.Handles.{handles_of, are_known}
-use Rattle.pybuf_exporter.specs.Items.{is_tuple, is_slice}
-use Rattle.pybuf_exporter.specs.Rows.View.{view_of_own, view_of_view}
-use Rattle.pybuf_exporter.specs.Rows.Get.{get_of_own, get_of_view}
-use Rattle.pybuf_exporter.specs.Rows.Set.{set_of_own, set_of_view}
-use Rattle.pybuf_exporter.specs.Rows.Cast.{cast_of_view}
-use Rattle.pybuf_exporter.specs.Rows.ToBytes.{bytes_of_own, bytes_of_view}
-use Rattle.pybuf_exporter.specs.Rows.Release.{release_of_view}
-use Rattle.pybuf_exporter.specs.Rows.Len.{len_of_own, len_of_view}
-use Rattle.pybuf_exporter.specs.Rows.Property.{property_of_own, property_of_view}
+use Rattle.pybuf_value.specs.declared.values.Value.{Value}
+use Rattle.pybuf_value.specs.declared.values.Value.TheVariants as value
+use Rattle.pybuf_command.specs.declared.kinds.Subject.{Subject}
+use Rattle.pybuf_command.specs.declared.kinds.Subject.TheVariants as subject
+use Rattle.pybuf_command.specs.declared.commands.Verb.{Verb}
+use Rattle.pybuf_command.specs.declared.commands.Verb.TheVariants as verb
+use Rattle.pybuf_command.specs.declared.commands.LocalReply.{LocalReply}
+use Rattle.pybuf_command.specs.declared.commands.LocalReply.TheVariants as reply
+use Rattle.pybuf_command.specs.declared.loans.Loan.{Loan}
+use Rattle.pybuf_command.specs.Handles.{handles_of, handles_read}
+use Rattle.pybuf_memoryview.specs.Items.{is_tuple, is_slice}
+use Rattle.pybuf_state.specs.Exporter.{Exporter}
+use Rattle.pybuf_state.specs.Loans.{Lent, are_known, lent_for_each}
+use Rattle.pybuf_rows_views.specs.View.{view_of_own, view_of_view}
+use Rattle.pybuf_rows_views.specs.Slice.{slice_of_view}
+use Rattle.pybuf_rows_views.specs.Cast.{cast_of_view}
+use Rattle.pybuf_rows_views.specs.Release.{release_of_view}
+use Rattle.pybuf_rows_views.specs.ToReadonly.{toreadonly_of_view}
+use Rattle.pybuf_rows_reads.specs.Get.{get_of_own, item_of_view}
+use Rattle.pybuf_rows_reads.specs.ToBytes.{bytes_of_own, bytes_of_view}
+use Rattle.pybuf_rows_reads.specs.Len.{len_of_own, len_of_view}
+use Rattle.pybuf_rows_reads.specs.Property.{property_of_own, property_of_view}
+use Rattle.pybuf_rows_writes.specs.Set.{set_of_own, set_of_view}
 
 -- Which spellings of a command are built for a subject: a key of a view is no tuple, and a key that
 -- is written at is neither a tuple nor a slice. Every other spelling is answered as an unknown name.
@@ -30,47 +33,55 @@ is_built (subject.View k) (verb.Get key) = not (is_tuple key)
 is_built s (verb.Set key value) = not (is_tuple key) && not (is_slice key)
 is_built s _ = true
 
--- only a bytearray is written by itself
-abbrev pub set_in_kind : ExporterKind → Result (Exporter × LocalReply) Fault → Result (Exporter × LocalReply) Fault
-set_in_kind kind.ByteArray written = written
-set_in_kind _ written = Err fault.UnknownName
+-- of a view by a key: a new view of the items that a slice picks, or the item at an index
+abbrev pub get_of_view : Exporter → ℕ → Value → Result (Exporter × LocalReply) Fault
+get_of_view e k (value.Slice slice) = slice_of_view e k slice
+get_of_view e k key = item_of_view e k key
 
--- a vector has no items of its own
-abbrev pub get_in_kind : ExporterKind → Result (Exporter × LocalReply) Fault → Result (Exporter × LocalReply) Fault
-get_in_kind (kind.Vector r) read = Err fault.UnknownName
-get_in_kind _ read = read
+-- the row of a verb on the exporter itself
+abbrev pub row_of_own : Exporter → Verb → List Lent → Result (Exporter × LocalReply) Fault
+row_of_own e verb.View lents = view_of_own e
+row_of_own e (verb.Get key) lents = get_of_own e key
+row_of_own e (verb.Set key value) lents = set_of_own e key value
+row_of_own e verb.ToBytes lents = bytes_of_own e
+row_of_own e verb.Len lents = len_of_own e
+row_of_own e (verb.Property name) lents = property_of_own e name
+row_of_own e _ lents = Err fault.UnknownName
 
--- The row of the subject and the verb, with what the handles of its values name. A subject of a
--- kind that has no such row is an unknown name.
-abbrev pub row : Exporter → Subject → Verb → List (ℕ × Loan) → Result (Exporter × LocalReply) Fault
-row e subject.Own verb.View loans = view_of_own e
-row e (subject.View k) verb.View loans = view_of_view e k
-row e subject.Own (verb.Get key) loans = get_in_kind e.kind (get_of_own e key)
-row e (subject.View k) (verb.Get key) loans = get_of_view e k key
-row e subject.Own (verb.Set key value) loans = set_in_kind e.kind (set_of_own e key value)
-row e (subject.View k) (verb.Set key value) loans = set_of_view e k key value loans
-row e (subject.View k) (verb.Cast format None) loans = cast_of_view e k format
-row e subject.Own verb.ToBytes loans = bytes_of_own e
-row e (subject.View k) verb.ToBytes loans = bytes_of_view e k
-row e (subject.View k) verb.Release loans = release_of_view e k
-row e subject.Own verb.Len loans = len_of_own e
-row e (subject.View k) verb.Len loans = len_of_view e k
-row e subject.Own (verb.Property name) loans = property_of_own e name
-row e (subject.View k) (verb.Property name) loans = property_of_view e k name
-row e _ _ loans = Err fault.UnknownName
+-- the row of a verb on a view
+abbrev pub row_of_view : Exporter → ℕ → Verb → List Lent → Result (Exporter × LocalReply) Fault
+row_of_view e k verb.View lents = view_of_view e k
+row_of_view e k (verb.Get key) lents = get_of_view e k key
+row_of_view e k (verb.Set key value) lents = set_of_view e k key value lents
+row_of_view e k (verb.Cast format None) lents = cast_of_view e k format
+row_of_view e k verb.ToBytes lents = bytes_of_view e k
+row_of_view e k verb.Release lents = release_of_view e k
+row_of_view e k verb.Len lents = len_of_view e k
+row_of_view e k (verb.Property name) lents = property_of_view e k name
+row_of_view e k verb.ToReadonly lents = toreadonly_of_view e k
+row_of_view e k _ lents = Err fault.UnknownName
 
-abbrev pub answered_if_built : Exporter → Subject → Verb → List (ℕ × Loan) → Result (Exporter × LocalReply) Fault
-answered_if_built e s v loans = if is_built s v then row e s v loans else Err fault.UnknownName
+-- The row of the subject and the verb, with what is lent to it. A subject of a kind that has no such
+-- row is an unknown name; no iterator has one yet.
+abbrev pub row : Exporter → Subject → Verb → List Lent → Result (Exporter × LocalReply) Fault
+row e subject.Own v lents = row_of_own e v lents
+row e (subject.View k) v lents = row_of_view e k v lents
+row e (subject.Iter k) v lents = Err fault.UnknownName
 
--- an unknown handle is refused before all else, also in a value that the row would not look at
-abbrev pub answered : Exporter → Subject → Verb → List (ℕ × Loan) → Result (Exporter × LocalReply) Fault
-answered e s v loans = if are_known (length e.views) loans (handles_of v) then answered_if_built e s v loans else Err fault.UnknownName
+abbrev pub answered_if_built : Exporter → Subject → Verb → List Lent → Result (Exporter × LocalReply) Fault
+answered_if_built e s v lents = if is_built s v then row e s v lents else Err fault.UnknownName
+
+-- An unknown handle is refused before all else, also in a value that the row would not look at.
+abbrev pub answer_of : Exporter → Subject → Verb → List (ℕ × Loan) → Result (Exporter × LocalReply) Fault
+answer_of e s v loans =
+    if are_known e loans (handles_of v) then answered_if_built e s v (lent_for_each e loans (handles_read s v))
+    else Err fault.UnknownName
 
 -- a refusal leaves the exporter as it was
-abbrev pub settled : Exporter → Result (Exporter × LocalReply) Fault → Exporter × LocalReply
-settled e (Ok after) = after
-settled e (Err f) = (e, reply.Refused f)
+abbrev pub settled_answer : Exporter → Result (Exporter × LocalReply) Fault → Exporter × LocalReply
+settled_answer e (Ok after) = after
+settled_answer e (Err f) = (e, reply.Refused f)
 
 -- the exporter after a command, and its reply
 abbrev pub estep : Exporter → Subject → Verb → List (ℕ × Loan) → Exporter × LocalReply
-estep e s v loans = settled e (answered e s v loans)
+estep e s v loans = settled_answer e (answer_of e s v loans)

@@ -1,12 +1,11 @@
 //! One exporter with its views.
 ghost use Rattle.std.specs.Prelude.{◌≡◌, ◌<◌, ◌↔◌, [], IfOk, IfSome, IsSome, IsSomeAnd, OnErr, MatchResult, true, false, length, slice_get};
 
-use crate::commands::{LocalCommand, LocalReply, Verb};
-use crate::kinds::{ExporterKind, Subject};
-use crate::loans::LoanList;
-use crate::parts::Parts;
-use crate::{lent, rows};
+use crate::pick;
+use pybuf_command::{ExporterKind, LoanList, LocalCommand, LocalReply, Subject, Verb};
 use pybuf_desc::BufferDescriptor;
+use pybuf_rows_views::release;
+use pybuf_state::{Parts, snap_of_subject};
 use pybuf_value::{ByteList, Fault, Made, Snap, Twin, copy_all};
 use std::alloc::Global;
 use std::marker::Model;
@@ -22,28 +21,29 @@ pub struct ExporterState {
 }
 
 impl Model for ExporterState {
-    ghost use Rattle.pybuf_exporter.specs.Exporter.{Exporter};
-    ghost use Rattle.pybuf_exporter.specs.Answers.{seen, IsWhole};
+    ghost use Rattle.pybuf_state.specs.Exporter.{Exporter};
+    ghost use Rattle.pybuf_state.specs.Answers.{exporter_of, IsWhole};
 
     ghost Value = { Exporter };
 
-    ghost view = { λ s. seen s.parts };
+    ghost view = { λ s. exporter_of s.parts };
 
     ghost invariant = { λ s. IsWhole s.parts };
 }
 
 impl ExporterState {
     ghost use Rattle.std.specs.Borrow.{sem};
-    ghost use Rattle.pybuf_exporter.specs.Exporter.{exports_of, holds_readonly};
+    ghost use Rattle.pybuf_state.specs.Exporter.{exports_of};
+    ghost use Rattle.pybuf_command.specs.Kinds.{holds_readonly};
     ghost use Rattle.pybuf_exporter.specs.Lending.{LendsBytes};
-    ghost use Rattle.pybuf_exporter.specs.Sound.{IsSoundExporter};
-    ghost use Rattle.pybuf_exporter.specs.Layouts.{layout_of};
+    ghost use Rattle.pybuf_state.specs.Sound.{IsSoundExporter};
     ghost use Rattle.pybuf_desc.specs.Places.{Stands};
     ghost use Rattle.pybuf_desc.specs.Valid.{IsValid};
-    ghost use Rattle.pybuf_exporter.specs.Exporter.{new_exporter};
+    ghost use Rattle.pybuf_state.specs.Exporter.{new_exporter};
     ghost use Rattle.pybuf_exporter.specs.Step.{estep};
-    ghost use Rattle.pybuf_exporter.specs.Loans.{LoansFit, snap_of_subject, fits_snap};
-    ghost use Rattle.pybuf_exporter.specs.Rows.Release.{released_in};
+    ghost use Rattle.pybuf_command.specs.Fits.{LoansFit, fits_snap};
+    ghost use Rattle.pybuf_state.specs.Snaps.{snap_of_subject};
+    ghost use Rattle.pybuf_state.specs.Exporter.{released_in};
 
     /// An exporter of these bytes, with no views. Takes no memory.
     pub fn new(alloc: Global, kind: ExporterKind, bytes: ByteList) -> ExporterState
@@ -80,7 +80,7 @@ impl ExporterState {
         ensures err { OnErr result (self.new ≡ self.old) }
         ensures was_sound { IsSoundExporter self.old }
     {
-        rows::pick::carry_out(&mut self.parts, subject, verb, loans)
+        pick::carry_out(&mut self.parts, subject, verb, loans)
     }
 
     /// Releases a view; releasing it again changes nothing. Takes no memory.
@@ -90,7 +90,7 @@ impl ExporterState {
         ensures exact { MatchResult result (λ _. released_in self.old view ≡ Ok self.new) (λ f. released_in self.old view ≡ Err f) }
         ensures err { OnErr result (self.new ≡ self.old) }
     {
-        rows::release::release(&mut self.parts, view)
+        release::release(&mut self.parts, view)
     }
 
     /// What a handle of the exporter or of one of its views names, as it stands; the content of a
@@ -99,7 +99,7 @@ impl ExporterState {
         ensures value { IfOk result (λ snap. snap ≡ snap_of_subject self.now subject) }
         ensures fits { IfOk result (λ snap. IfSome snap (λ s. fits_snap s ≡ true)) }
     {
-        lent::snap(&self.parts, alloc, subject)
+        snap_of_subject(&self.parts, alloc, subject)
     }
 
     /// The kind.
@@ -140,11 +140,12 @@ impl ExporterState {
     /// They stand for the view, and describe items that lie inside the bytes while it is unreleased.
     pub fn view_desc(&self, view: usize) -> Option<(&BufferDescriptor, usize)>
         ensures given { IsSome result ↔ (view < length self.now.views) }
-        ensures stands { IfSome result (λ r. IsSomeAnd (slice_get self.now.views view) (λ v. Stands r.0.now r.1 (layout_of v))) }
+        ensures stands { IfSome result (λ r. IsSomeAnd (slice_get self.now.views view) (λ v. Stands r.0.now r.1 v.layout)) }
         ensures valid { IfSome result (λ r. IsSomeAnd (slice_get self.now.views view) (λ v. v.released ≡ false → IsValid r.0.now r.1 (length self.now.bytes))) }
     {
+        pybuf_desc::valid_where_items_lie_inside();
         match self.parts.view(view) {
-            Ok(view) => Some(view.placed()),
+            Ok(view) => Some(view.layout().placed()),
             Err(_) => None,
         }
     }

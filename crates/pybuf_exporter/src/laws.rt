@@ -1,26 +1,66 @@
-//! Laws of the definitions that the contracts cite. Each stands on a function with an empty body.
-ghost use Rattle.pybuf_exporter.specs.Laws.{SlicingBackTwiceIsNothing, ItemsAreRead, WritesAreSeen, LoansAlikeDoTheSame};
+//! Laws over every command, from the laws of the rows.
+ghost use Rattle.pybuf_exporter.specs.Laws.{CommandsKeepSound, LengthsStayUnderCommands, ReadOnlyBytesStayUnderCommands, RefusedCommandsChangeNothing, LoansAlikeDoTheSame, ItemsAreRead};
+ghost use Rattle.pybuf_exporter.specs.Rows.{RowsAreSafe};
 
-/// A slice `::-1` of a view, sliced by `::-1` again, has the places of the view, also where it has
-/// none.
-pub fn slicing_back_twice_is_nothing()
-    ensures { SlicingBackTwiceIsNothing }
+/// Each row keeps a sound exporter.
+fn rows_are_safe()
+    ensures { RowsAreSafe }
+{
+    pybuf_rows_views::view_is_safe();
+    pybuf_rows_views::slice_is_safe();
+    pybuf_rows_views::cast_is_safe();
+    pybuf_rows_views::release_is_safe();
+    pybuf_rows_views::toreadonly_is_safe();
+    pybuf_rows_reads::get_is_safe();
+    pybuf_rows_reads::bytes_is_safe();
+    pybuf_rows_reads::len_is_safe();
+    pybuf_rows_reads::property_is_safe();
+    pybuf_rows_writes::set_is_safe();
+}
+
+/// Every command leaves a sound exporter sound.
+pub fn commands_keep_sound()
+    ensures { CommandsKeepSound }
+{
+    rows_are_safe();
+    pybuf_state::reading_keeps();
+}
+
+/// Under every command views are only added or become released, each keeps the length that it was
+/// made at, and an exporter with an unreleased view has afterwards the length that it had.
+pub fn lengths_stay()
+    ensures { LengthsStayUnderCommands }
+{
+    rows_are_safe();
+    pybuf_state::reading_keeps();
+}
+
+/// No command changes the bytes of an exporter that is only read.
+pub fn readonly_bytes_stay()
+    ensures { ReadOnlyBytesStayUnderCommands }
+{
+    rows_are_safe();
+    pybuf_state::reading_keeps();
+}
+
+/// A refused command changes nothing of its exporter.
+pub fn refused_commands_change_nothing()
+    ensures { RefusedCommandsChangeNothing }
+{
+    rows_are_safe();
+}
+
+/// Of its loans a command looks at which handles are known, and at what is lent for those whose bytes
+/// it reads.
+pub fn loans_alike_do_the_same()
+    ensures { LoansAlikeDoTheSame }
 {}
 
 /// Every item of an unreleased view of a sound exporter is read as the values of its format's fields:
 /// its format is in the grammar and has its size, and all its bytes are there.
 pub fn items_are_read()
     ensures { ItemsAreRead }
-{}
-
-/// What is written through one view is read through every view of the same bytes, and no other byte
-/// changes: a number as the whole number, a truth value for `?`, and bytes cut or filled with zeros.
-pub fn writes_are_seen()
-    ensures { WritesAreSeen }
-{}
-
-/// Of its loans a command looks at which handles are known, and at what is lent for the handle that is
-/// written through a view.
-pub fn loans_alike_do_the_same()
-    ensures { LoansAlikeDoTheSame }
-{}
+{
+    pybuf_state::live_layouts_are_sound();
+    pybuf_struct::bytes_of_the_size_are_read();
+}

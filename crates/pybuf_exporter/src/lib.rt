@@ -1,27 +1,23 @@
 //! Exporters of bytes and the views of them.
 #![tactic(auto)]
 
-mod commands;
 mod exporter;
-mod halt;
-mod handles;
-mod items;
-mod kinds;
 mod laws;
-mod lent;
-mod loans;
-mod parts;
-mod rows;
-mod stored;
+mod pick;
 
-pub use commands::{LocalCommand, LocalReply, PropertyName, Verb, copy_option};
 pub use exporter::ExporterState;
-pub use handles::{handles_of, looked_at};
-pub use kinds::{ExporterKind, Subject};
 pub use laws::{
-    items_are_read, loans_alike_do_the_same, slicing_back_twice_is_nothing, writes_are_seen,
+    commands_keep_sound, items_are_read, lengths_stay, loans_alike_do_the_same,
+    readonly_bytes_stay, refused_commands_change_nothing,
 };
-pub use loans::{Loan, LoanList};
+pub use pybuf_command::{
+    ExporterKind, Loan, LoanList, LocalCommand, LocalReply, PropertyName, Subject, Verb,
+    handles_of, handles_read,
+};
+pub use pybuf_desc::{
+    casts_share_their_bytes, contiguity_is_of_strides, slicing_back_twice_is_nothing,
+};
+pub use pybuf_rows_writes::writes_are_seen;
 
 #[cfg(test)]
 mod tests;

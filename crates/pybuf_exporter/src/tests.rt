@@ -1,8 +1,6 @@
 //! What no clause says: that the calls succeed with ample memory.
 use super::*;
-use pybuf_value::{
-    ByteList, CountList, Fault, Item, Scalar, ScalarList, Snap, SnapKind, Text, Twin, Value,
-};
+use pybuf_value::{ByteList, Fault, Item, Scalar, ScalarList, Text, Twin, Value};
 use std::alloc::Global;
 use std::test::Fail;
 
@@ -10,7 +8,7 @@ fn number(n: i128) -> Value {
     Value::One(Scalar::Int(n))
 }
 
-fn shown(reply: &LocalReply) -> i128 {
+fn number_of(reply: &LocalReply) -> i128 {
     match reply {
         LocalReply::Ok => -1,
         LocalReply::View(view) => *view as i128,
@@ -34,7 +32,7 @@ fn an_exporter_steps_and_is_copied(rt: HostRuntime) -> Result<(), Fail> {
         verb: Verb::View,
         loans: LoanList::new(rt.alloc()),
     })?;
-    assert_eq!(rt; shown(&view), 0);
+    assert_eq!(rt; number_of(&view), 0);
     let set = exporter.step(&LocalCommand {
         subject: Subject::View(0),
         verb: Verb::Set {
@@ -43,46 +41,10 @@ fn an_exporter_steps_and_is_copied(rt: HostRuntime) -> Result<(), Fail> {
         },
         loans: LoanList::new(rt.alloc()),
     })?;
-    assert_eq!(rt; shown(&set), -1);
+    assert_eq!(rt; number_of(&set), -1);
     let twin = exporter.copy(rt.alloc())?;
     assert_eq!(rt; twin.bytes(), b"abZ".as_slice());
     assert_eq!(rt; twin.exports(), 1);
-    Ok(())
-}
-
-/// What is lent of a bytearray `abc` where a view of it has a format.
-fn snap(alloc: Global, kind: SnapKind, format: char) -> Result<Snap, Fail> {
-    let mut text = Text::new(alloc);
-    text.push(format)?;
-    let mut shape = CountList::new(alloc);
-    shape.push(3)?;
-    Ok(Snap {
-        kind,
-        format: text,
-        itemsize: 1,
-        shape,
-        content: abc(alloc)?,
-        contiguous: true,
-        released: false,
-    })
-}
-
-/// A list with what handle 7 names.
-fn lent(alloc: Global, kind: SnapKind, format: char) -> Result<LoanList, Fail> {
-    let mut loans = LoanList::new(alloc);
-    loans.push(3, Loan::Own)?;
-    loans.push(7, Loan::Other(snap(alloc, kind, format)?))?;
-    Ok(loans)
-}
-
-#[test]
-fn loans_fit_and_are_copied(rt: HostRuntime) -> Result<(), Fail> {
-    let loans = lent(rt.alloc(), SnapKind::ByteArray, 'B')?;
-    assert!(rt; loans.fit(rt.alloc())?);
-    assert_eq!(rt; loans.copy(rt.alloc())?.len(), 2);
-    assert!(rt; lent(rt.alloc(), SnapKind::View, 'c')?.fit(rt.alloc())?);
-    assert!(rt; !lent(rt.alloc(), SnapKind::Bytes, 'c')?.fit(rt.alloc())?);
-    assert!(rt; !lent(rt.alloc(), SnapKind::View, 'h')?.fit(rt.alloc())?);
     Ok(())
 }
 
@@ -90,7 +52,8 @@ fn loans_fit_and_are_copied(rt: HostRuntime) -> Result<(), Fail> {
 fn a_command_has_handles(rt: HostRuntime) -> Result<(), Fail> {
     let bytes = abc(rt.alloc())?;
     let mut exporter = ExporterState::new(rt.alloc(), ExporterKind::ByteArray, bytes);
-    let loans = lent(rt.alloc(), SnapKind::ByteArray, 'B')?;
+    let mut loans = LoanList::new(rt.alloc());
+    loans.push((7, Loan::Own))?;
     let set = Verb::Set {
         key: number(0),
         value: Value::One(Scalar::Handle(7)),
@@ -105,14 +68,17 @@ fn a_command_has_handles(rt: HostRuntime) -> Result<(), Fail> {
         return Err(Fail::from("loans that fit"));
     }
     assert_eq!(rt;
-        shown(&exporter.carry_out(Subject::Own, &Verb::View, &loans)?),
+        number_of(&exporter.carry_out(Subject::Own, &Verb::View, &loans)?),
         0
     );
     assert_eq!(rt;
-        shown(&exporter.carry_out(Subject::View(0), &set, &loans)?),
+        number_of(&exporter.carry_out(Subject::View(0), &set, &loans)?),
         -3
     );
-    assert_eq!(rt; shown(&exporter.carry_out(Subject::Own, &get, &loans)?), -4);
+    assert_eq!(rt;
+        number_of(&exporter.carry_out(Subject::Own, &get, &loans)?),
+        -4
+    );
     Ok(())
 }
 
@@ -126,7 +92,7 @@ fn an_item_is_written_from_its_own_exporter(rt: HostRuntime) -> Result<(), Fail>
     let bytes = ByteList::from_vec(Vec::from_slice(rt.alloc(), b"abcdefgh")?);
     let mut exporter = ExporterState::new(rt.alloc(), ExporterKind::ByteArray, bytes);
     let mut loans = LoanList::new(rt.alloc());
-    loans.push(0, Loan::Own)?;
+    loans.push((0, Loan::Own))?;
     let cast = Verb::Cast {
         format: text(rt.alloc(), "4s")?,
         shape: None,
@@ -139,15 +105,15 @@ fn an_item_is_written_from_its_own_exporter(rt: HostRuntime) -> Result<(), Fail>
         return Err(Fail::from("loans that fit"));
     }
     assert_eq!(rt;
-        shown(&exporter.carry_out(Subject::Own, &Verb::View, &loans)?),
+        number_of(&exporter.carry_out(Subject::Own, &Verb::View, &loans)?),
         0
     );
     assert_eq!(rt;
-        shown(&exporter.carry_out(Subject::View(0), &cast, &loans)?),
+        number_of(&exporter.carry_out(Subject::View(0), &cast, &loans)?),
         1
     );
     assert_eq!(rt;
-        shown(&exporter.carry_out(Subject::View(1), &set, &loans)?),
+        number_of(&exporter.carry_out(Subject::View(1), &set, &loans)?),
         -1
     );
     assert_eq!(rt; exporter.bytes(), b"abcdabcd".as_slice());

@@ -1,20 +1,17 @@
-//! Worlds of exporters and of views of them.
+//! Python's buffer world: exporters of bytes, views of them, and worlds of both that are told
+//! commands and reply. Everything that a caller needs is named here.
 #![tactic(auto)]
 
-mod commands;
-mod laws;
-mod named;
-mod tables;
-mod world;
-
-pub use commands::{ByteInnerNewOptions, Command, Reply, ReplyList};
-pub use laws::{handles_stay, refusals_change_nothing, releasing_twice_is_once};
-pub use named::Named;
-pub use pybuf_exporter::{
-    ExporterKind, ExporterState, Loan, LoanList, LocalCommand, LocalReply, PropertyName, Subject,
-    Verb, items_are_read, loans_alike_do_the_same, slicing_back_twice_is_nothing, writes_are_seen,
+pub use pybuf_command::{
+    ExporterKind, Loan, LoanList, LocalCommand, LocalReply, PropertyName, Subject, Verb,
 };
-pub use world::World;
-
-#[cfg(test)]
-mod tests;
+pub use pybuf_exporter::{
+    ExporterState, casts_share_their_bytes, commands_keep_sound, contiguity_is_of_strides,
+    items_are_read, lengths_stay, loans_alike_do_the_same, readonly_bytes_stay,
+    refused_commands_change_nothing, slicing_back_twice_is_nothing, writes_are_seen,
+};
+pub use pybuf_world::{
+    ByteInnerNewOptions, Command, Named, Reply, ReplyList, World, handles_stay,
+    refusals_change_nothing, releasing_twice_is_once, world_lengths_stay,
+    world_readonly_bytes_stay,
+};

@@ -1,4 +1,4 @@
-use Rattle.pybuf_exporter.proofs.Alike.{alike_steps}
+use Rattle.pybuf_exporter.proofs.Every.{alike_steps}
 use Rattle.pybuf_exporter.proofs.laws.loans_alike_do_the_same.Goals as goal
 
 pub returns : goal.returns

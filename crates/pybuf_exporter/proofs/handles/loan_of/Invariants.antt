@@ -1,6 +1,0 @@
-use Rattle.std.proofs.Common.{◌≡◌, drop}
-use Rattle.pybuf_exporter.specs.Loans.{loan_of}
-use Rattle.pybuf_exporter.proofs.handles.loan_of.Given as goal
-
-abbrev pub invariant-loop-pair : goal.invariant-loop-pair
-invariant-loop-pair l = loan_of (drop l.pair-index l.loans) l.handle ≡ loan_of l.loans l.handle

@@ -1,0 +1,17 @@
+use Rattle.pybuf_exporter.proofs.Every.{rows_safe}
+use Rattle.pybuf_exporter.proofs.laws.rows_are_safe.Goals as goal
+
+pub returns : goal.returns
+returns c =
+    rows_safe (record {
+      view = c.view_is_safe.ensures;
+      slice = c.slice_is_safe.ensures;
+      cast = c.cast_is_safe.ensures;
+      release = c.release_is_safe.ensures;
+      toreadonly = c.toreadonly_is_safe.ensures;
+      get = c.get_is_safe.ensures;
+      bytes = c.bytes_is_safe.ensures;
+      len = c.len_is_safe.ensures;
+      property = c.property_is_safe.ensures;
+      set = c.set_is_safe.ensures;
+    })

@@ -1,5 +1,0 @@
-use Rattle.pybuf_exporter.proofs.Backward.{back_and_back}
-use Rattle.pybuf_exporter.proofs.laws.slicing_back_twice_is_nothing.Goals as goal
-
-pub returns : goal.returns
-returns c = back_and_back

@@ -1,6 +1,0 @@
-use Rattle.std.proofs.Common.{◌≡◌, ◌-◌, ◌^◌, take, min}
-use Rattle.pybuf_exporter.specs.Loans.{byte_count}
-use Rattle.pybuf_exporter.proofs.loans.byte_count.Given as goal
-
-abbrev pub invariant-loop-entries : goal.invariant-loop-entries
-invariant-loop-entries l = l.count ≡ min (byte_count l.itemsize (take l.entries-index l.shape)) (2 ^ 64 - 1)

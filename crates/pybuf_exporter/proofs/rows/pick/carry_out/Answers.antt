@@ -1,8 +1,0 @@
-use Rattle.pybuf_exporter.proofs.Soundness.{answered_is_sound}
-use Rattle.pybuf_exporter.proofs.rows.pick.carry_out.Goals as goal
-
-pub returns-in-Ok-clause-whole : goal.returns-in-Ok-clause-whole
-returns-in-Ok-clause-whole c = record {
-  counted = c.answered.ensures.counted;
-  sound = answered_is_sound _ _ c.args.subject c.args.verb.now c.args.loans.now _ c.requires.whole.sound c.in-Ok.ensures.answer;
-}

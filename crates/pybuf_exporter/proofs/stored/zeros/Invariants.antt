@@ -1,5 +1,0 @@
-use Rattle.std.proofs.Common.{◌≡◌, pos, replicate}
-use Rattle.pybuf_exporter.proofs.stored.zeros.Given as goal
-
-abbrev pub invariant-loop : goal.invariant-loop
-invariant-loop l = l.list ≡ replicate l.counter (pos 0)

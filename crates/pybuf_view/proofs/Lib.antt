@@ -1,5 +1,0 @@
-pub mod Ran
-pub mod Refusals
-pub mod Runs
-pub mod Releases
-pub mod Needed

@@ -1,0 +1,204 @@
+-- Worlds: exporters, and the handles that name them and their views.
+use Rattle.std.specs.Prelude.{ℕ, ◌==◌, Bool, false, List, [], ◌∷◌, ◌++◌, length, map, set, slice_get, nat_lt, Option, Some, None, Result, Ok, Err, if◌then◌else◌}
+use Rattle.std.specs.List.{list_all, position_or_len}
+use Rattle.pybuf_value.specs.declared.faults.Fault.{Fault}
+use Rattle.pybuf_value.specs.declared.faults.Fault.TheVariants as fault
+use Rattle.pybuf_value.specs.declared.snaps.Snap.{Snap}
+use Rattle.pybuf_value.specs.declared.values.Scalar.TheVariants as scalar
+use Rattle.pybuf_value.specs.declared.values.Value.{Value}
+use Rattle.pybuf_value.specs.declared.values.Value.TheVariants as value
+use Rattle.pybuf_command.specs.declared.kinds.ExporterKind.{ExporterKind}
+use Rattle.pybuf_command.specs.declared.kinds.ExporterKind.TheVariants as kind
+use Rattle.pybuf_command.specs.declared.kinds.Subject.{Subject}
+use Rattle.pybuf_command.specs.declared.kinds.Subject.TheVariants as subject
+use Rattle.pybuf_command.specs.declared.commands.Verb.{Verb}
+use Rattle.pybuf_command.specs.declared.commands.LocalReply.{LocalReply}
+use Rattle.pybuf_command.specs.declared.commands.LocalReply.TheVariants as local
+use Rattle.pybuf_command.specs.declared.loans.Loan.{Loan}
+use Rattle.pybuf_command.specs.declared.loans.Loan.TheVariants as loan
+use Rattle.pybuf_command.specs.Handles.{handles_of, handles_in_option}
+use Rattle.pybuf_state.specs.Exporter.{Exporter, new_exporter, released_in}
+use Rattle.pybuf_state.specs.Snaps.{snap_of_subject}
+use Rattle.pybuf_exporter.specs.Step.{estep}
+use Rattle.pybuf_world.specs.declared.named.Named.{Named}
+use Rattle.pybuf_world.specs.declared.named.Named.TheVariants as named
+use Rattle.pybuf_world.specs.declared.named.Target.{Target}
+use Rattle.pybuf_world.specs.declared.commands.ByteInnerNewOptions.{ByteInnerNewOptions}
+use Rattle.pybuf_world.specs.declared.commands.Command.{Command}
+use Rattle.pybuf_world.specs.declared.commands.Command.TheVariants as command
+use Rattle.pybuf_world.specs.declared.commands.Reply.{Reply}
+use Rattle.pybuf_world.specs.declared.commands.Reply.TheVariants as reply
+
+-- A world: its exporters, and what each handle names, in order.
+pub record World : Type 0 where
+  pub exporters : List Exporter
+  pub handles : List Named
+
+abbrev pub empty_world : World
+empty_world = record { exporters = []; handles = [] }
+
+-- ---- what handles name
+
+-- the exporter that is named, or of which a view is
+abbrev pub exporter_of : Named → ℕ
+exporter_of (named.Exporter i) = i
+exporter_of (named.View i k) = i
+
+-- and which of its subjects that is
+abbrev pub subject_of : Named → Subject
+subject_of (named.Exporter i) = subject.Own
+subject_of (named.View i k) = subject.View k
+
+abbrev pub is_name_of : ℕ → Named → Bool
+is_name_of i (named.Exporter j) = j == i
+is_name_of i (named.View j k) = false
+
+-- the handle of an exporter: the first that names it
+abbrev pub handle_of : World → ℕ → ℕ
+handle_of w i = position_or_len (is_name_of i) w.handles
+
+-- ---- a new exporter
+
+-- the world with one more exporter and its handle, and that handle
+abbrev pub with_exporter : World → Exporter → World × Reply
+with_exporter w e = (
+  record {
+    exporters = w.exporters ++ e ∷ [];
+    handles = w.handles ++ named.Exporter (length w.exporters) ∷ [];
+  },
+  reply.Handle (length w.handles),
+)
+
+-- the bytes that a new exporter is made of; a spelling that is not built is an unknown name
+abbrev pub bytes_from : ExporterKind → Option Value → Option Value → Option Value → Result (List ℕ) Fault
+bytes_from kind.ByteArray (Some (value.One (scalar.Bytes bytes))) None None = Ok bytes
+bytes_from kind.Bytes (Some (value.One (scalar.Bytes bytes))) None None = Ok bytes
+bytes_from _ _ _ _ = Err fault.UnknownName
+
+abbrev pub world_with_bytes : World → ExporterKind → Result (List ℕ) Fault → World × Reply
+world_with_bytes w k (Ok bytes) = with_exporter w (new_exporter k bytes)
+world_with_bytes w k (Err f) = (w, reply.Refused f)
+
+abbrev pub handles_of_options : ByteInnerNewOptions → List ℕ
+handles_of_options options = handles_in_option options.source ++ handles_in_option options.encoding ++ handles_in_option options.errors
+
+-- whether all of these handles were given
+abbrev pub are_given : World → List ℕ → Bool
+are_given w handles = list_all (λ handle. nat_lt handle (length w.handles)) handles
+
+-- a new exporter; an unknown handle is refused before all else
+abbrev pub step_of_new : World → ExporterKind → ByteInnerNewOptions → World × Reply
+step_of_new w k options =
+    if are_given w (handles_of_options options) then world_with_bytes w k (bytes_from k options.source options.encoding options.errors)
+    else (w, reply.Refused fault.UnknownName)
+
+-- ---- what is lent
+
+-- what another exporter lends of a subject, as it stands
+abbrev pub loan_of_snap : Option Snap → Loan
+loan_of_snap (Some snap) = loan.Other snap
+loan_of_snap None = loan.Missing
+
+abbrev pub loan_of_other : Option Exporter → Subject → Loan
+loan_of_other (Some e) s = loan_of_snap (snap_of_subject e s)
+loan_of_other None s = loan.Missing
+
+-- what an exporter calls a subject of its own
+abbrev pub loan_of_own : Subject → Loan
+loan_of_own subject.Own = loan.Own
+loan_of_own (subject.View k) = loan.View k
+loan_of_own (subject.Iter k) = loan.Iter k
+
+-- What a handle is lent as to an exporter, by what it names: that exporter itself or a view of it, or
+-- else another exporter or a view of one as it stands. Nothing is lent for a handle that was never given.
+abbrev pub loan_of_name : World → ℕ → Option Named → Loan
+loan_of_name w i (Some n) =
+    if exporter_of n == i then loan_of_own (subject_of n) else loan_of_other (slice_get w.exporters (exporter_of n)) (subject_of n)
+loan_of_name w i None = loan.Missing
+
+abbrev pub loan_for : World → ℕ → ℕ → Loan
+loan_for w i handle = loan_of_name w i (slice_get w.handles handle)
+
+-- the loans to an exporter for a command: one for each handle of its values, in order
+abbrev pub loans_of : World → ℕ → Verb → List (ℕ × Loan)
+loans_of w i v = map (λ handle. (handle, loan_for w i handle)) (handles_of v)
+
+-- ---- a command on what a handle names
+
+-- the handles after a reply: a new view is given the next
+abbrev pub handles_after : World → Target → LocalReply → List Named
+handles_after w t (local.View k) = w.handles ++ named.View t.exporter k ∷ []
+handles_after w t _ = w.handles
+
+-- what is replied: a new view by its handle, and the exporter itself by its own
+abbrev pub reply_after : World → Target → LocalReply → Reply
+reply_after w t local.Ok = reply.Ok
+reply_after w t (local.View k) = reply.Handle (length w.handles)
+reply_after w t local.Own = reply.Handle (handle_of w t.exporter)
+reply_after w t (local.Item x) = reply.Item x
+reply_after w t (local.Bytes bytes) = reply.Bytes bytes
+reply_after w t (local.Text text) = reply.Text text
+reply_after w t (local.Truth truth) = reply.Truth truth
+reply_after w t (local.Numbers numbers) = reply.Numbers numbers
+reply_after w t (local.Refused f) = reply.Refused f
+
+-- the world with the exporter as it is after a command, and the reply
+abbrev pub world_after : World → Target → Exporter × LocalReply → World × Reply
+world_after w t after = (
+  record { exporters = set w.exporters t.exporter after.0; handles = handles_after w t after.1 },
+  reply_after w t after.1,
+)
+
+-- a command on an exporter, where it is there, with these loans
+abbrev pub step_with_loans : World → Target → Verb → List (ℕ × Loan) → Option Exporter → World × Reply
+step_with_loans w t v loans (Some e) = world_after w t (estep e t.subject v loans)
+step_with_loans w t v loans None = (w, reply.Refused fault.UnknownName)
+
+-- a command on what a handle names, with the loans by the world as it is before
+abbrev pub step_of_target : World → Target → Verb → World × Reply
+step_of_target w t v = step_with_loans w t v (loans_of w t.exporter v) (slice_get w.exporters t.exporter)
+
+abbrev pub target_of : ℕ → Named → Target
+target_of handle n = record { handle = handle; exporter = exporter_of n; subject = subject_of n }
+
+-- a command on a handle, where it was given
+abbrev pub step_of_handle : World → ℕ → Verb → Option Named → World × Reply
+step_of_handle w handle v (Some n) = step_of_target w (target_of handle n) v
+step_of_handle w handle v None = (w, reply.Refused fault.UnknownName)
+
+-- ---- commands
+
+-- the world after a command, and its reply
+abbrev pub wstep : World → Command → World × Reply
+wstep w (command.New k options) = step_of_new w k options
+wstep w (command.Do handle v) = step_of_handle w handle v (slice_get w.handles handle)
+
+-- the world after a list of commands
+abbrev pub world_after_all : World → List Command → World
+world_after_all w [] = w
+world_after_all w (c ∷ cs) = world_after_all (wstep w c).0 cs
+
+-- the replies to a list of commands, in order
+abbrev pub replies_of : World → List Command → List Reply
+replies_of w [] = []
+replies_of w (c ∷ cs) = (wstep w c).1 ∷ replies_of (wstep w c).0 cs
+
+-- ---- releasing by a handle
+
+-- the world with the exporter of a number as it is after a release
+abbrev pub world_with_released : World → ℕ → Result Exporter Fault → Result World Fault
+world_with_released w i (Ok e) = Ok (record w { exporters = set w.exporters i e })
+world_with_released w i (Err f) = Err f
+
+abbrev pub released_in_exporter : World → ℕ → ℕ → Option Exporter → Result World Fault
+released_in_exporter w i k (Some e) = world_with_released w i (released_in e k)
+released_in_exporter w i k None = Err fault.UnknownName
+
+abbrev pub released_by_name : World → Option Named → Result World Fault
+released_by_name w (Some (named.View i k)) = released_in_exporter w i k (slice_get w.exporters i)
+released_by_name w (Some (named.Exporter i)) = Err fault.UnknownName
+released_by_name w None = Err fault.UnknownName
+
+-- the world with the view that a handle names released, where it names one
+abbrev pub released_by : World → ℕ → Result World Fault
+released_by w handle = released_by_name w (slice_get w.handles handle)

@@ -1,0 +1,65 @@
+//! Commands and replies of a world.
+
+use pybuf_command::{ExporterKind, Verb};
+use pybuf_value::{ByteList, Fault, Item, Items, Made, NumberList, Text, Twin, Value};
+use std::alloc::Global;
+
+/// What bytes are made of, as the arguments of Python's `bytes(source, encoding, errors)`.
+#[derive(Debug, Drop)]
+pub struct ByteInnerNewOptions {
+    pub source: Option<Value>,
+    pub encoding: Option<Value>,
+    pub errors: Option<Value>,
+}
+
+/// A command for a world.
+#[derive(Debug, Drop)]
+pub enum Command {
+    /// A new exporter.
+    New {
+        kind: ExporterKind,
+        options: ByteInnerNewOptions,
+    },
+    /// Something asked of what a handle names.
+    Do {
+        subject: u64,
+        verb: Verb,
+    },
+}
+
+/// The reply of a world.
+#[derive(Debug, Drop)]
+pub enum Reply {
+    /// Done, and there is nothing to say.
+    Ok,
+    /// The handle of what was made.
+    Handle(u64),
+    /// A single number, byte, length or place, or an item of a view.
+    Item(Item),
+    /// Bytes.
+    Bytes(ByteList),
+    /// A text.
+    Text(Text),
+    /// A truth value that is no item.
+    Truth(bool),
+    /// Numbers, one for each dimension.
+    Numbers(NumberList),
+    /// Refused: nothing was changed, and no handle was used up.
+    Refused(Fault),
+}
+
+/// Replies, in the order of their commands.
+pub type ReplyList = Items<Reply>;
+
+impl Twin for ByteInnerNewOptions {
+    fn copy(&self, alloc: Global) -> Made<ByteInnerNewOptions> {
+        let source = self.source.copy(alloc)?;
+        let encoding = self.encoding.copy(alloc)?;
+        let errors = self.errors.copy(alloc)?;
+        Ok(ByteInnerNewOptions {
+            source,
+            encoding,
+            errors,
+        })
+    }
+}

@@ -1,0 +1,39 @@
+//! Laws over every command on a world, from the laws over every command on one exporter.
+ghost use Rattle.pybuf_rows_views.specs.Laws.{ReleasingTwiceIsOnce};
+ghost use Rattle.pybuf_world.specs.Laws.{RefusalsChangeNothing, HandlesStay, ReleasingByHandleTwiceIsOnce, WorldLengthsStay, WorldReadOnlyBytesStay};
+
+/// A refused command leaves the whole world as it was, so no handle is used up.
+pub fn refusals_change_nothing()
+    ensures { RefusalsChangeNothing }
+{
+    pybuf_exporter::refused_commands_change_nothing();
+}
+
+/// A handle names after a command what it named before.
+pub fn handles_stay()
+    ensures { HandlesStay }
+{}
+
+/// Releasing a view twice is releasing it once, by its number and by its handle.
+pub fn releasing_twice_is_once()
+    ensures by_number { ReleasingTwiceIsOnce }
+    ensures by_handle { ReleasingByHandleTwiceIsOnce }
+{
+    pybuf_rows_views::releasing_twice_is_once();
+}
+
+/// Under every command on a sound world the views of each exporter are only added or become released,
+/// each keeps the length that it was made at, and an exporter with an unreleased view has afterwards
+/// the length that it had.
+pub fn world_lengths_stay()
+    ensures { WorldLengthsStay }
+{
+    pybuf_exporter::lengths_stay();
+}
+
+/// No command on a sound world changes the bytes of an exporter that is only read.
+pub fn world_readonly_bytes_stay()
+    ensures { WorldReadOnlyBytesStay }
+{
+    pybuf_exporter::readonly_bytes_stay();
+}

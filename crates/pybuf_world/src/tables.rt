@@ -1,0 +1,398 @@
+//! What is kept of a world, and the work on it.
+ghost use Rattle.std.specs.Prelude.{◌≡◌, ◌<◌, ◌++◌, slice_get, slice_index, length, map, Some, IfOk, OnOk, OnErr, MatchResult};
+ghost use Rattle.std.specs.Prelude.{true, false};
+ghost use Rattle.pybuf_command.specs.Handles.{handles_read};
+ghost use Rattle.pybuf_command.specs.Fits.{fits, LoansFit};
+ghost use Rattle.pybuf_state.specs.Snaps.{snap_of_subject};
+ghost use Rattle.pybuf_world.specs.World.{bytes_from, loan_of_own, loan_of_snap};
+ghost use Rattle.pybuf_world.specs.Needed.{loan_if_read, is_read, needed_for, loans_needed};
+
+use crate::commands::{ByteInnerNewOptions, Command, Reply, ReplyList};
+use crate::named::{Named, Target};
+use pybuf_command::{
+    ExporterKind, Loan, LoanList, LocalReply, Subject, Verb, handles_of, handles_read,
+};
+use pybuf_exporter::{ExporterState, commands_keep_sound, loans_alike_do_the_same};
+use pybuf_rows_views::release_is_safe;
+use pybuf_value::{ByteList, Fault, Made, NoMemory, Scalar, Twin, Value, push_reserved};
+use std::alloc::Global;
+use std::mem;
+
+/// The exporters and the handles of a world. Beside them stands the handle of each exporter, so that
+/// it isn't searched for among all handles.
+#[derive(Debug, Drop)]
+pub struct Tables {
+    pub exporters: Vec<ExporterState>,
+    pub handles: Vec<Named>,
+    pub owners: Vec<u64>,
+    pub alloc: Global,
+}
+
+/// The bytes that a new exporter is made of. No option that is taken is or has a handle, so none is
+/// asked for: a handle that was never given is refused with the same fault as one that was.
+fn bytes_from(
+    alloc: Global,
+    kind: ExporterKind,
+    options: &ByteInnerNewOptions,
+) -> Made<Result<ByteList, Fault>>
+    ensures { IfOk result (λ r. r ≡ bytes_from kind options.now.source options.now.encoding options.now.errors) }
+{
+    match (kind, &options.source, &options.encoding, &options.errors) {
+        (ExporterKind::ByteArray, Some(Value::One(Scalar::Bytes(bytes))), None, None) => {
+            let bytes = bytes.copy(alloc)?;
+            Ok(Ok(bytes))
+        }
+        (ExporterKind::Bytes, Some(Value::One(Scalar::Bytes(bytes))), None, None) => {
+            let bytes = bytes.copy(alloc)?;
+            Ok(Ok(bytes))
+        }
+        _ => Ok(Err(Fault::UnknownName)),
+    }
+}
+
+/// The handle of an exporter.
+fn owner_in(owners: &[u64], exporter: usize) -> u64
+    ensures { result ≡ slice_index owners.now exporter }
+{
+    owners.get(exporter).copied().unwrap_or(0)
+}
+
+/// Whether a handle is among those whose bytes are read.
+fn is_read(reads: &[u64], handle: u64) -> bool
+    ensures { result ≡ is_read reads.now handle }
+{
+    reads.contains(&handle)
+}
+
+/// What an exporter calls a subject of its own.
+fn loan_of_own(subject: Subject) -> Loan
+    ensures value { result ≡ loan_of_own subject }
+    ensures same_unread { (read : _) → loan_if_read read result ≡ result }
+    ensures fits { fits result ≡ true }
+{
+    match subject {
+        Subject::Own => Loan::Own,
+        Subject::View(view) => Loan::View(view),
+        Subject::Iter(iterator) => Loan::Iter(iterator),
+    }
+}
+
+/// What an exporter lends of itself or of a view of it, whole.
+fn loan_of_bytes(alloc: Global, lender: &ExporterState, subject: Subject) -> Made<Loan>
+    ensures value { IfOk result (λ loan. loan ≡ loan_of_snap (snap_of_subject lender.now subject)) }
+    ensures fits { IfOk result (λ loan. fits loan ≡ true) }
+{
+    match lender.snap(alloc, subject)? {
+        Some(snap) => Ok(Loan::Other(snap)),
+        None => Ok(Loan::Missing),
+    }
+}
+
+/// The same where nobody reads its bytes: whether there is such a subject.
+fn loan_of_known(lender: &ExporterState, subject: Subject) -> Loan
+    ensures value { result ≡ loan_if_read false (loan_of_snap (snap_of_subject lender.now subject)) }
+    ensures fits { fits result ≡ true }
+{
+    let is_there = match subject {
+        Subject::Own => true,
+        Subject::View(view) => view < lender.view_count(),
+        Subject::Iter(_) => false,
+    };
+    if is_there { Loan::Known } else { Loan::Missing }
+}
+
+impl Tables {
+    ghost use Rattle.pybuf_world.specs.Tables.{world_of_tables, AreOwners, IsKept};
+    ghost use Rattle.pybuf_world.specs.World as spec;
+    ghost use Rattle.pybuf_world.specs.Sound.{StopsAt};
+
+    /// Nothing. Takes no memory.
+    pub fn new(alloc: Global) -> Tables
+        ensures world { world_of_tables result ≡ spec.empty_world }
+        ensures kept { IsKept result }
+    {
+        Tables {
+            exporters: Vec::new(alloc),
+            handles: Vec::new(alloc),
+            owners: Vec::new(alloc),
+            alloc,
+        }
+    }
+
+    /// The number of handles that were given, which is the next one.
+    pub fn next_handle(&self) -> u64
+        ensures { result ≡ length (world_of_tables self.now).handles }
+    {
+        self.handles.len() as u64
+    }
+
+    /// The number of exporters, which the next one gets.
+    fn next_exporter(&self) -> usize
+        ensures { result ≡ length (world_of_tables self.now).exporters }
+    {
+        self.exporters.len()
+    }
+
+    /// A new exporter and its handle.
+    fn add(&mut self, exporter: ExporterState) -> Made<Reply>
+        requires { IsKept self.old }
+        ensures ok { IfOk result (λ r. spec.with_exporter (world_of_tables self.old) exporter ≡ (world_of_tables self.new, r)) }
+        ensures err { OnErr result (world_of_tables self.new ≡ world_of_tables self.old) }
+        ensures owned { AreOwners (world_of_tables self.new) self.new.owners.items }
+    {
+        let handle = self.next_handle();
+        let number = self.next_exporter();
+        self.handles.reserve(1)?;
+        self.owners.reserve(1)?;
+        self.exporters.push(exporter)?;
+        push_reserved(&mut self.handles, Named::Exporter(number));
+        push_reserved(&mut self.owners, handle);
+        Ok(Reply::Handle(handle))
+    }
+
+    /// A new exporter of bytes.
+    fn make(&mut self, kind: ExporterKind, options: &ByteInnerNewOptions) -> Made<Reply>
+        requires { IsKept self.old }
+        ensures ok { IfOk result (λ r. spec.step_of_new (world_of_tables self.old) kind options.now ≡ (world_of_tables self.new, r)) }
+        ensures err { OnErr result (world_of_tables self.new ≡ world_of_tables self.old) }
+        ensures owned { AreOwners (world_of_tables self.new) self.new.owners.items }
+    {
+        match bytes_from(self.alloc, kind, options)? {
+            Ok(bytes) => self.add(ExporterState::new(self.alloc, kind, bytes)),
+            Err(fault) => Ok(Reply::Refused(fault)),
+        }
+    }
+
+    /// What an exporter lends of itself or of a view of it, as it stands. Where nobody reads it,
+    /// nothing is copied.
+    fn loan_of_other(&self, exporter: usize, subject: Subject, is_read: bool) -> Made<Loan>
+        ensures value { IfOk result (λ loan. loan ≡ loan_if_read is_read (spec.loan_of_other (slice_get (world_of_tables self.now).exporters exporter) subject)) }
+        ensures fits { IfOk result (λ loan. fits loan ≡ true) }
+    {
+        let Some(lender) = self.exporters.get(exporter) else {
+            return Ok(Loan::Missing);
+        };
+        if is_read {
+            return loan_of_bytes(self.alloc, lender, subject);
+        }
+        Ok(loan_of_known(lender, subject))
+    }
+
+    /// What a name is lent as to an exporter. Nothing is copied of that exporter itself, nor where
+    /// nobody reads it.
+    fn loan_of_name(&self, exporter: usize, named: Named, is_read: bool) -> Made<Loan>
+        ensures value { IfOk result (λ loan. loan ≡ loan_if_read is_read (spec.loan_of_name (world_of_tables self.now) exporter (Some named))) }
+        ensures fits { IfOk result (λ loan. fits loan ≡ true) }
+    {
+        if named.exporter() == exporter {
+            return Ok(loan_of_own(named.subject()));
+        }
+        self.loan_of_other(named.exporter(), named.subject(), is_read)
+    }
+
+    /// What a handle is lent as to an exporter.
+    fn loan(&self, exporter: usize, handle: u64, is_read: bool) -> Made<Loan>
+        ensures value { IfOk result (λ loan. loan ≡ loan_if_read is_read (spec.loan_for (world_of_tables self.now) exporter handle)) }
+        ensures fits { IfOk result (λ loan. fits loan ≡ true) }
+    {
+        let named = self.handles.get(handle as usize).copied();
+        match named {
+            Some(named) => self.loan_of_name(exporter, named, is_read),
+            None => Ok(Loan::Missing),
+        }
+    }
+
+    fn loans_for(&self, exporter: usize, handles: &[u64], reads: &[u64]) -> Made<LoanList>
+        ensures value { IfOk result (λ loans. loans ≡ map (λ handle. (handle, needed_for (world_of_tables self.now) exporter reads.now handle)) handles.now) }
+        ensures fit { IfOk result (λ loans. LoansFit loans) }
+    {
+        let mut loans = LoanList::new(self.alloc);
+        for handle in handles {
+            let loan = self.loan(exporter, *handle, is_read(reads, *handle))?;
+            loans.push((*handle, loan))?;
+        }
+        Ok(loans)
+    }
+
+    /// What each handle of a command is lent as. Takes no memory where there is no handle.
+    fn loans(&self, exporter: usize, subject: Subject, verb: &Verb) -> Made<LoanList>
+        ensures value { IfOk result (λ loans. loans ≡ loans_needed (world_of_tables self.now) exporter subject verb.now) }
+        ensures fit { IfOk result (λ loans. LoansFit loans) }
+    {
+        let handles = handles_of(self.alloc, verb)?;
+        let reads = handles_read(self.alloc, subject, verb)?;
+        self.loans_for(exporter, handles.as_slice(), reads.as_slice())
+    }
+
+    /// The handle of an exporter.
+    fn owner_of(&self, exporter: usize) -> u64
+        requires kept { IsKept self.now }
+        requires there { exporter < length (world_of_tables self.now).exporters }
+        ensures { result ≡ spec.handle_of (world_of_tables self.now) exporter }
+    {
+        owner_in(self.owners.as_slice(), exporter)
+    }
+
+    /// What a target that is there does with loans; a new view is given a handle.
+    fn work(&mut self, target: Target, verb: &Verb, loans: &LoanList) -> Made<Reply>
+        requires kept { IsKept self.old }
+        requires fit { LoansFit loans.now }
+        ensures ok { IfOk result (λ r. spec.step_with_loans (world_of_tables self.old) target verb.now loans.now (slice_get (world_of_tables self.old).exporters target.exporter) ≡ (world_of_tables self.new, r)) }
+        ensures err { OnErr result (world_of_tables self.new ≡ world_of_tables self.old) }
+        ensures owners { self.new.owners.items ≡ self.old.owners.items }
+    {
+        let exporter = target.exporter;
+        if exporter >= self.exporters.len() {
+            return Ok(Reply::Refused(Fault::UnknownName));
+        }
+        let owner = self.owner_of(exporter);
+        let handle = self.next_handle();
+        self.handles.reserve(1)?;
+        let worker = &mut self.exporters[exporter];
+        match worker.carry_out(target.subject, verb, loans)? {
+            LocalReply::Ok => Ok(Reply::Ok),
+            LocalReply::View(view) => {
+                push_reserved(&mut self.handles, Named::View { exporter, view });
+                Ok(Reply::Handle(handle))
+            }
+            LocalReply::Own => Ok(Reply::Handle(owner)),
+            LocalReply::Item(item) => Ok(Reply::Item(item)),
+            LocalReply::Bytes(bytes) => Ok(Reply::Bytes(bytes)),
+            LocalReply::Text(text) => Ok(Reply::Text(text)),
+            LocalReply::Truth(truth) => Ok(Reply::Truth(truth)),
+            LocalReply::Numbers(numbers) => Ok(Reply::Numbers(numbers)),
+            LocalReply::Refused(fault) => Ok(Reply::Refused(fault)),
+        }
+    }
+
+    /// The same, where the handles of the exporters stay what they are.
+    fn step_with_loans(&mut self, target: Target, verb: &Verb, loans: &LoanList) -> Made<Reply>
+        requires kept { IsKept self.old }
+        requires fit { LoansFit loans.now }
+        ensures ok { IfOk result (λ r. spec.step_with_loans (world_of_tables self.old) target verb.now loans.now (slice_get (world_of_tables self.old).exporters target.exporter) ≡ (world_of_tables self.new, r)) }
+        ensures err { OnErr result (world_of_tables self.new ≡ world_of_tables self.old) }
+        ensures owned { AreOwners (world_of_tables self.new) self.new.owners.items }
+    {
+        match self.work(target, verb, loans) {
+            Ok(reply) => Ok(reply),
+            Err(NoMemory) => Err(NoMemory),
+        }
+    }
+
+    /// What a target does, with the loans by the world as it is.
+    fn step_of_target(&mut self, target: Target, verb: &Verb) -> Made<Reply>
+        requires { IsKept self.old }
+        ensures ok { IfOk result (λ r. spec.step_of_target (world_of_tables self.old) target verb.now ≡ (world_of_tables self.new, r)) }
+        ensures err { OnErr result (world_of_tables self.new ≡ world_of_tables self.old) }
+        ensures owned { AreOwners (world_of_tables self.new) self.new.owners.items }
+    {
+        loans_alike_do_the_same();
+        let loans = self.loans(target.exporter, target.subject, verb)?;
+        self.step_with_loans(target, verb, &loans)
+    }
+
+    /// A command on what a handle names.
+    fn step_of_handle(&mut self, handle: u64, verb: &Verb) -> Made<Reply>
+        requires { IsKept self.old }
+        ensures ok { IfOk result (λ r. spec.step_of_handle (world_of_tables self.old) handle verb.now (slice_get (world_of_tables self.old).handles handle) ≡ (world_of_tables self.new, r)) }
+        ensures err { OnErr result (world_of_tables self.new ≡ world_of_tables self.old) }
+        ensures owned { AreOwners (world_of_tables self.new) self.new.owners.items }
+    {
+        let named = self.handles.get(handle as usize).copied();
+        match named {
+            Some(named) => self.step_of_target(named.target(handle), verb),
+            None => Ok(Reply::Refused(Fault::UnknownName)),
+        }
+    }
+
+    /// Carries out a command.
+    fn step_unchecked(&mut self, command: &Command) -> Made<Reply>
+        requires { IsKept self.old }
+        ensures ok { IfOk result (λ r. spec.wstep (world_of_tables self.old) command.now ≡ (world_of_tables self.new, r)) }
+        ensures err { OnErr result (world_of_tables self.new ≡ world_of_tables self.old) }
+        ensures owned { AreOwners (world_of_tables self.new) self.new.owners.items }
+    {
+        match command {
+            Command::New { kind, options } => self.make(*kind, options),
+            Command::Do { subject, verb } => self.step_of_handle(*subject, verb),
+        }
+    }
+
+    /// Carries out a command, by which the world stays sound.
+    pub fn step(&mut self, command: &Command) -> Made<Reply>
+        requires { IsKept self.old }
+        ensures ok { IfOk result (λ r. spec.wstep (world_of_tables self.old) command.now ≡ (world_of_tables self.new, r)) }
+        ensures err { OnErr result (world_of_tables self.new ≡ world_of_tables self.old) }
+        ensures kept { IsKept self.new }
+    {
+        commands_keep_sound();
+        match self.step_unchecked(command) {
+            Ok(reply) => Ok(reply),
+            Err(NoMemory) => Err(NoMemory),
+        }
+    }
+
+    /// Carries out the commands in order, and adds a reply for each.
+    fn run_onto(&mut self, commands: &[Command], replies: &mut Vec<Reply>) -> Made<()>
+        requires { IsKept self.old }
+        ensures world { OnOk result (world_of_tables self.new ≡ spec.world_after_all (world_of_tables self.old) commands.now) }
+        ensures replies { OnOk result (replies.new.items ≡ replies.old.items ++ spec.replies_of (world_of_tables self.old) commands.now) }
+        ensures stopped { OnErr result (StopsAt (world_of_tables self.old) commands.now (world_of_tables self.new) replies.old.items replies.new.items) }
+        ensures kept { IsKept self.new }
+    {
+        for command in commands {
+            replies.reserve(1)?;
+            let reply = self.step(command)?;
+            push_reserved(replies, reply);
+        }
+        Ok(())
+    }
+
+    /// The same, onto a list of replies.
+    pub fn run(&mut self, commands: &[Command], replies: &mut ReplyList) -> Made<()>
+        requires { IsKept self.old }
+        ensures world { OnOk result (world_of_tables self.new ≡ spec.world_after_all (world_of_tables self.old) commands.now) }
+        ensures replies { OnOk result (replies.new ≡ replies.old ++ spec.replies_of (world_of_tables self.old) commands.now) }
+        ensures stopped { OnErr result (StopsAt (world_of_tables self.old) commands.now (world_of_tables self.new) replies.old replies.new) }
+        ensures kept { IsKept self.new }
+    {
+        let mut answered = mem::replace(replies, ReplyList::new(self.alloc)).into_vec();
+        let answer = self.run_onto(commands, &mut answered);
+        *replies = ReplyList::from_vec(answered);
+        answer
+    }
+
+    /// Releases the view that a handle names.
+    fn release_named(&mut self, handle: u64) -> Result<(), Fault>
+        ensures exact { MatchResult result (λ _. spec.released_by (world_of_tables self.old) handle ≡ Ok (world_of_tables self.new)) (λ f. spec.released_by (world_of_tables self.old) handle ≡ Err f) }
+        ensures err { OnErr result (world_of_tables self.new ≡ world_of_tables self.old) }
+        ensures owners { self.new.owners.items ≡ self.old.owners.items }
+    {
+        let named = self.handles.get(handle as usize).copied();
+        let Some(Named::View { exporter, view }) = named else {
+            return Err(Fault::UnknownName);
+        };
+        if exporter >= self.exporters.len() {
+            return Err(Fault::UnknownName);
+        }
+        let holder = &mut self.exporters[exporter];
+        match holder.release_view(view) {
+            Ok(()) => Ok(()),
+            Err(fault) => Err(fault),
+        }
+    }
+
+    /// The same, by which the world stays sound.
+    pub fn release(&mut self, handle: u64) -> Result<(), Fault>
+        requires { IsKept self.old }
+        ensures exact { MatchResult result (λ _. spec.released_by (world_of_tables self.old) handle ≡ Ok (world_of_tables self.new)) (λ f. spec.released_by (world_of_tables self.old) handle ≡ Err f) }
+        ensures err { OnErr result (world_of_tables self.new ≡ world_of_tables self.old) }
+        ensures kept { IsKept self.new }
+    {
+        release_is_safe();
+        match self.release_named(handle) {
+            Ok(()) => Ok(()),
+            Err(fault) => Err(fault),
+        }
+    }
+}

@@ -1,0 +1,120 @@
+//! What no clause says: that the calls succeed with ample memory.
+use super::*;
+use pybuf_command::{ExporterKind, PropertyName, Verb};
+use pybuf_value::{ByteList, Fault, Scalar, ScalarList, Text, Twin, Value};
+use std::alloc::Global;
+use std::test::Fail;
+
+fn abc(alloc: Global) -> Result<ByteList, Fail> {
+    Ok(ByteList::from_vec(Vec::from_slice(alloc, b"abc")?))
+}
+
+fn new_of(source: Option<Value>) -> Command {
+    Command::New {
+        kind: ExporterKind::ByteArray,
+        options: ByteInnerNewOptions {
+            source,
+            encoding: None,
+            errors: None,
+        },
+    }
+}
+
+fn new_bytearray(alloc: Global) -> Result<Command, Fail> {
+    Ok(new_of(Some(Value::One(Scalar::Bytes(abc(alloc)?)))))
+}
+
+fn ask(subject: u64, verb: Verb) -> Command {
+    Command::Do { subject, verb }
+}
+
+fn handle(handle: u64) -> Value {
+    Value::One(Scalar::Handle(handle))
+}
+
+fn set(value: Value) -> Verb {
+    Verb::Set {
+        key: Value::One(Scalar::Int(0)),
+        value,
+    }
+}
+
+fn number_of(reply: &Reply) -> i128 {
+    match reply {
+        Reply::Ok => -1,
+        Reply::Handle(handle) => *handle as i128,
+        Reply::Refused(Fault::Kind) => -3,
+        Reply::Refused(Fault::UnknownName) => -4,
+        _ => -2,
+    }
+}
+
+#[test]
+fn a_world_runs(rt: HostRuntime) -> Result<(), Fail> {
+    let commands = vec![in rt.alloc();
+        new_bytearray(rt.alloc())?,
+        ask(0, Verb::View),
+        ask(1, Verb::Release),
+        ask(9, Verb::Release),
+    ]?;
+    let mut world = World::new(rt.alloc());
+    let mut replies = ReplyList::new(rt.alloc());
+    let ran = world.run(commands.as_slice(), &mut replies);
+    assert!(rt; ran.is_ok());
+    assert_eq!(rt; replies.len(), 4);
+    assert_eq!(rt; world.handle_count(), 2);
+    Ok(())
+}
+
+#[test]
+fn a_world_lends(rt: HostRuntime) -> Result<(), Fail> {
+    let mut world = World::new(rt.alloc());
+    assert_eq!(rt; number_of(&world.step(&new_bytearray(rt.alloc())?)?), 0);
+    assert_eq!(rt; number_of(&world.step(&new_bytearray(rt.alloc())?)?), 1);
+    assert_eq!(rt; number_of(&world.step(&ask(1, Verb::View))?), 2);
+    assert_eq!(rt; number_of(&world.step(&ask(2, set(handle(0))))?), -3);
+    assert_eq!(rt; number_of(&world.step(&ask(0, set(handle(2))))?), -3);
+    assert_eq!(rt; number_of(&world.step(&ask(2, set(handle(1))))?), -3);
+    let mut parts = ScalarList::new(rt.alloc());
+    parts.push(Scalar::Handle(0))?;
+    parts.push(Scalar::Handle(3))?;
+    let key = Value::List(parts);
+    assert_eq!(rt; number_of(&world.step(&ask(0, Verb::Get { key }))?), -4);
+    Ok(())
+}
+
+#[test]
+fn an_exporter_is_named_by_its_handle(rt: HostRuntime) -> Result<(), Fail> {
+    let mut world = World::new(rt.alloc());
+    assert_eq!(rt; number_of(&world.step(&new_bytearray(rt.alloc())?)?), 0);
+    assert_eq!(rt; number_of(&world.step(&ask(0, Verb::View))?), 1);
+    assert_eq!(rt; number_of(&world.step(&new_bytearray(rt.alloc())?)?), 2);
+    assert_eq!(rt; number_of(&world.step(&ask(2, Verb::View))?), 3);
+    let name = PropertyName::Obj;
+    assert_eq!(rt;
+        number_of(&world.step(&ask(3, Verb::Property { name }))?),
+        2
+    );
+    assert_eq!(rt; number_of(&world.step(&new_of(Some(handle(9))))?), -4);
+    Ok(())
+}
+
+#[test]
+fn options_are_copied(rt: HostRuntime) -> Result<(), Fail> {
+    let mut encoding = Text::new(rt.alloc());
+    encoding.push('B')?;
+    let options = ByteInnerNewOptions {
+        source: Some(Value::One(Scalar::Bytes(abc(rt.alloc())?))),
+        encoding: Some(Value::One(Scalar::Text(encoding))),
+        errors: None,
+    };
+    let copied = options.copy(rt.alloc())?;
+    let is_same = match (copied.source, copied.encoding, copied.errors) {
+        (Some(Value::One(Scalar::Bytes(bytes))), Some(Value::One(Scalar::Text(text))), None) => {
+            bytes.as_slice() == b"abc".as_slice() && text.as_slice() == b"B".as_slice()
+        }
+        _ => false,
+    };
+    assert!(rt; is_same);
+    Ok(())
+}

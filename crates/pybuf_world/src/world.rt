@@ -1,0 +1,89 @@
+//! Worlds of exporters, and the handles that name them and their views.
+ghost use Rattle.std.specs.Prelude.{◌≡◌, ◌++◌, length, IfOk, OnOk, OnErr, MatchResult};
+
+use crate::commands::{Command, Reply, ReplyList};
+use crate::tables::Tables;
+use pybuf_exporter::{ExporterState, commands_keep_sound};
+use pybuf_value::{Fault, Made, NoMemory};
+use std::alloc::Global;
+use std::marker::Model;
+
+/// A world of exporters. Handles count up from 0, and name exporters and their views.
+#[derive(Debug, Drop)]
+pub struct World {
+    tables: Tables,
+}
+
+impl Model for World {
+    ghost use Rattle.pybuf_world.specs.World.{World};
+    ghost use Rattle.pybuf_world.specs.Tables.{world_of_tables, IsKept};
+
+    ghost Value = { World };
+
+    ghost view = { λ w. world_of_tables w.tables };
+
+    ghost invariant = { λ w. IsKept w.tables };
+}
+
+impl World {
+    ghost use Rattle.pybuf_world.specs.World.{empty_world, wstep, world_after_all, replies_of, released_by};
+    ghost use Rattle.pybuf_world.specs.Sound.{IsSoundWorld, StaysSound, StopsAt};
+
+    /// A world with nothing in it. Takes no memory.
+    pub fn new(alloc: Global) -> World
+        ensures { result ≡ empty_world }
+    {
+        World {
+            tables: Tables::new(alloc),
+        }
+    }
+
+    /// The number of handles that were given.
+    pub fn handle_count(&self) -> u64
+        ensures { result ≡ length self.now.handles }
+    {
+        self.tables.next_handle()
+    }
+
+    /// The exporters, in the order in which they were made.
+    pub fn exporters(&self) -> &[ExporterState]
+        ensures value { result.now ≡ self.now.exporters }
+        ensures sound { IsSoundWorld self.now }
+    {
+        self.tables.exporters.as_slice()
+    }
+
+    /// Carries out a command. A refusal is a reply, changes nothing and uses up no handle. Where
+    /// memory runs out, nothing is changed.
+    pub fn step(&mut self, command: &Command) -> Made<Reply>
+        ensures ok { IfOk result (λ r. wstep self.old command.now ≡ (self.new, r)) }
+        ensures err { OnErr result (self.new ≡ self.old) }
+    {
+        self.tables.step(command)
+    }
+
+    /// Carries out the commands in order, and appends one reply for each; refusals are replies.
+    ///
+    /// Where memory runs out, world and replies are those of the commands that were answered before.
+    /// In every case the world is sound after each command: each byte of each item of an unreleased
+    /// view lies inside its exporter, and that exporter is as long as when the view was made.
+    pub fn run(&mut self, commands: &[Command], replies: &mut ReplyList) -> Result<(), NoMemory>
+        ensures world { OnOk result (self.new ≡ world_after_all self.old commands.now) }
+        ensures replies { OnOk result (replies.new ≡ replies.old ++ replies_of self.old commands.now) }
+        ensures stopped { OnErr result (StopsAt self.old commands.now self.new replies.old replies.new) }
+        ensures sound { StaysSound self.old commands.now }
+    {
+        commands_keep_sound();
+        self.tables.run(commands, replies)
+    }
+
+    /// Releases the view that a handle names; releasing it again changes nothing. Takes no memory.
+    ///
+    /// Refused with `UnknownName` exactly where the handle was never given, or names no view.
+    pub fn release(&mut self, handle: u64) -> Result<(), Fault>
+        ensures exact { MatchResult result (λ _. released_by self.old handle ≡ Ok self.new) (λ f. released_by self.old handle ≡ Err f) }
+        ensures err { OnErr result (self.new ≡ self.old) }
+    {
+        self.tables.release(handle)
+    }
+}
