@@ -1,5 +1,5 @@
 //! The program `pybuf`: it hands the words after its name, its input and its output to the top
-//! call, and ends with the number of the status.
+//! call. Where that returns, its status is the status of the process.
 #![tactic(auto)]
 
 use pybuf_cli::{ReaderSource, Status, WriterSink, serve};

@@ -1,10 +1,3 @@
 pub mod Devices
 pub mod Endings
-pub mod Parts
-pub mod Scalars
-pub mod Spellings
-pub mod Lines
-pub mod Replies
-pub mod Reading
 pub mod Program
-pub mod Laws

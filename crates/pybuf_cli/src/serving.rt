@@ -1,38 +1,27 @@
 //! The top call: from the words and the input to the output and the status.
-ghost use Rattle.std.specs.Prelude.{◌≡◌, ◌≢◌, ◌≤◌, ◌⊎◌, ◌^◌, List, ℕ, ◌↔◌, IfOk, Some, Ok, Err, length, take, true, false};
-ghost use Rattle.pybuf_view.specs.declared.commands.Command.{Command};
-ghost use Rattle.pybuf_view.specs.World.{empty_world, replies_of};
-ghost use Rattle.pybuf_view.specs.Sound.{StaysSound};
+ghost use Rattle.std.specs.Prelude.{◌≡◌, ◌≢◌, ◌≤◌, ◌⊎◌, ◌^◌, List, [], ℕ, ◌↔◌, IfOk, Some, None, Ok, Err, length, take};
+ghost use Rattle.pybuf_world.specs.declared.commands.Command.{Command};
+ghost use Rattle.pybuf_world.specs.World.{empty_world, replies_of};
+ghost use Rattle.pybuf_world.specs.Sound.{StaysSound};
 ghost use Rattle.pybuf_cli.specs.Devices.{Put, PutPrefix, Rose};
-ghost use Rattle.pybuf_cli.specs.Lines.{commands_in};
-ghost use Rattle.pybuf_cli.specs.Replies.{reply_lines, bad_line_text};
-ghost use Rattle.pybuf_cli.specs.Program.{asks_run, program, due_for, ending_for, text_due, ending, IsRun, IsDone, IsBadLine, IsTooLong};
+ghost use Rattle.pybuf_line.specs.Scalars.{handle_in};
+ghost use Rattle.pybuf_line.specs.Lines.{commands_in};
+ghost use Rattle.pybuf_line.specs.Replies.{bad_line_text};
+ghost use Rattle.pybuf_cli.specs.declared.forms.Form.{Form};
+ghost use Rattle.pybuf_cli.specs.Program.{form_of, program, due_for, ending_for, text_due, ending, IsDone, IsBadLine, IsTooLong, Serves};
 
 use crate::devices::{PutFault, Sink, Source};
-use crate::inputs::commands_of;
+use crate::forms::{Form, form_named};
 use crate::loops::{ReadStop, read_all, write_all};
 use crate::memory::{QuietSink, QuietSource};
 use crate::status::Status;
-use crate::texts::push_bad_line;
-use crate::unread::Misread;
-use crate::words::is_word;
 use crate::writing::write_replies;
+use pybuf_line::{Misread, commands_of, push_bad_line};
 use pybuf_value::{ByteList, Made, Text};
 use pybuf_view::{Command, ReplyList, World};
 use std::alloc::Global;
 use std::sync::Wait;
 use std::thread::Threads;
-
-/// Whether the words ask for a run.
-fn is_run(words: &[Text]) -> bool
-    ensures { result ≡ asks_run words.now }
-{
-    match words {
-        [] => true,
-        [word] => is_word(word.as_slice(), "run"),
-        _ => false,
-    }
-}
 
 /// The replies of a world that begins empty.
 fn replies_of_run(alloc: Global, commands: &[Command]) -> Made<ReplyList>
@@ -91,13 +80,13 @@ fn write_bad_line<K: Sink>(alloc: Global, sink: &mut K, number: u64) -> Status
 
 /// Answers an input: runs its lines, or tells the first that is no command.
 fn answer<K: Sink>(alloc: Global, sink: &mut K, input: &[u8]) -> Status
-    ensures done { result ≡ Status.Done → (commands : List Command) × (commands_in input.now ≡ Ok commands)
+    ensures done { result ≡ Status.Done → (commands : List Command) × (commands_in handle_in input.now ≡ Ok commands)
         × StaysSound empty_world commands × Put (K.bytes_held sink.old) (program commands) (K.bytes_held sink.new) }
-    ensures bad_line { result ≡ Status.BadLine → (line : ℕ) × (commands_in input.now ≡ Err line)
+    ensures bad_line { result ≡ Status.BadLine → (line : ℕ) × (commands_in handle_in input.now ≡ Err line)
         × Put (K.bytes_held sink.old) (bad_line_text line) (K.bytes_held sink.new) }
-    ensures prefix { PutPrefix (K.bytes_held sink.old) (due_for (commands_in input.now)) (K.bytes_held sink.new) }
+    ensures prefix { PutPrefix (K.bytes_held sink.old) (due_for (commands_in handle_in input.now)) (K.bytes_held sink.new) }
     ensures rose { result ≡ Status.WriteFault → Rose (K.faults sink.old) (K.faults sink.new) }
-    ensures ending { (result ≡ ending_for (commands_in input.now)) ⊎ ((result ≡ Status.NoMemory) ⊎ (result ≡ Status.WriteFault)) }
+    ensures ending { (result ≡ ending_for (commands_in handle_in input.now)) ⊎ ((result ≡ Status.NoMemory) ⊎ (result ≡ Status.WriteFault)) }
 {
     match commands_of(alloc, input) {
         Ok(commands) => run_commands(alloc, sink, &commands),
@@ -106,28 +95,8 @@ fn answer<K: Sink>(alloc: Global, sink: &mut K, input: &[u8]) -> Status
     }
 }
 
-/// Does all that the program `pybuf` does, but for forms of words that need more than one thread.
-///
-/// With no word, or with the one word `run`, it reads the whole input, at most 1,048,576 bytes,
-/// makes a command of each line, runs them in order in a new world, and puts one line for each
-/// reply. What it needs more memory for is given up with `NoMemory` at any point; what was put then
-/// is the front of what was due.
-pub fn serve_alone<S: Source, K: Sink>(
-    alloc: Global,
-    words: &[Text],
-    source: &mut S,
-    sink: &mut K,
-) -> Status
-    // Other words are refused before anything is read or written.
-    ensures usage { (result ≡ Status.Usage) ↔ (asks_run words.now ≡ false) }
-    ensures usage_reads_nothing { result ≡ Status.Usage → source.new ≡ source.old }
-    ensures usage_writes_nothing { result ≡ Status.Usage → sink.new ≡ sink.old }
-
-    // Whether or not the source tells its bytes.
-    ensures run { result ≡ Status.Done →
-        IsRun (S.bytes_left source.old) (S.bytes_left source.new) (K.bytes_held sink.old) (K.bytes_held sink.new) }
-
-    // Where the source tells its bytes.
+/// Reads the whole input, and answers it.
+fn run<S: Source, K: Sink>(alloc: Global, source: &mut S, sink: &mut K) -> Status
     ensures done { result ≡ Status.Done → (input : List ℕ) → S.bytes_left source.old ≡ Some input →
         IsDone input (S.bytes_left source.new) (K.bytes_held sink.old) (K.bytes_held sink.new) }
     ensures bad_line { result ≡ Status.BadLine → (input : List ℕ) → S.bytes_left source.old ≡ Some input →
@@ -135,21 +104,17 @@ pub fn serve_alone<S: Source, K: Sink>(
     ensures too_long { result ≡ Status.TooLong → (input : List ℕ) → S.bytes_left source.old ≡ Some input →
         IsTooLong input (S.bytes_left source.new) }
     ensures prefix { (input : List ℕ) → S.bytes_left source.old ≡ Some input →
-        PutPrefix (K.bytes_held sink.old) (text_due input) (K.bytes_held sink.new) }
-    ensures complete { (input : List ℕ) → S.bytes_left source.old ≡ Some input → asks_run words.now ≡ true →
+        PutPrefix (K.bytes_held sink.old) (text_due Form.Run input) (K.bytes_held sink.new) }
+    ensures complete { (input : List ℕ) → S.bytes_left source.old ≡ Some input →
         ¬ (Rose (S.faults source.old) (S.faults source.new)) → ¬ (Rose (K.faults sink.old) (K.faults sink.new)) →
-        (result ≡ ending input) ⊎ (result ≡ Status.NoMemory) }
-
-    // Faults are the devices'.
+        (result ≡ ending Form.Run input) ⊎ (result ≡ Status.NoMemory) }
     ensures read_fault { result ≡ Status.ReadFault → Rose (S.faults source.old) (S.faults source.new) }
     ensures write_fault { result ≡ Status.WriteFault → Rose (K.faults sink.old) (K.faults sink.new) }
     ensures read_fault_writes_nothing { result ≡ Status.ReadFault → sink.new ≡ sink.old }
     ensures too_long_writes_nothing { result ≡ Status.TooLong → sink.new ≡ sink.old }
+    ensures usage { result ≢ Status.Usage }
     ensures disagree { result ≢ Status.Disagree }
 {
-    if !is_run(words) {
-        return Status::Usage;
-    }
     match read_all(alloc, source) {
         Ok(input) => answer(alloc, sink, input.as_slice()),
         Err(ReadStop::NoMemory) => Status::NoMemory,
@@ -158,18 +123,44 @@ pub fn serve_alone<S: Source, K: Sink>(
     }
 }
 
+/// Does all that the program `pybuf` does, but for forms of words that need more than one thread.
+///
+/// With no word, or with the one word `run`, it reads the whole input, at most 1,048,576 bytes,
+/// makes a command of each line, runs them in order in a new world, and puts one line for each
+/// reply. What it needs more memory for is given up with `NoMemory` at any point; what was put then
+/// is the front of what was due. Other words are refused with `Usage`.
+///
+/// It ends where each call of the source and of the sink does.
+pub fn serve_alone<S: Source, K: Sink>(
+    alloc: Global,
+    words: &[Text],
+    source: &mut S,
+    sink: &mut K,
+) -> Status
+    ensures { Serves words.now result S.bytes_left S.faults K.bytes_held K.faults source.old source.new sink.old sink.new }
+{
+    match form_named(words) {
+        None => Status::Usage,
+        Some(Form::Run) => run(alloc, source, sink),
+    }
+}
+
 /// Does what `serve_alone` does with bytes in memory: gives the bytes that it puts, and its status.
 /// Nothing can fail but memory.
 pub fn serve_bytes(alloc: Global, words: &[Text], input: ByteList) -> (ByteList, Status)
-    ensures usage { (result.1 ≡ Status.Usage) ↔ (asks_run words.now ≡ false) }
-    ensures complete { asks_run words.now ≡ true → (result.1 ≡ ending input) ⊎ (result.1 ≡ Status.NoMemory) }
-    ensures done { result.1 ≡ Status.Done →
-        (commands : List Command) × (commands_in input ≡ Ok commands) × (result.0 ≡ program commands) }
-    ensures bad_line { result.1 ≡ Status.BadLine →
-        (line : ℕ) × (commands_in input ≡ Err line) × (result.0 ≡ bad_line_text line) }
-    ensures prefix { (count : ℕ) × (count ≤ length (text_due input)) × (result.0 ≡ take count (text_due input)) }
+    ensures usage { (result.1 ≡ Status.Usage) ↔ (form_of words.now ≡ None) }
+    ensures usage_writes_nothing { result.1 ≡ Status.Usage → result.0 ≡ [] }
+    ensures done { form_of words.now ≡ Some Form.Run → result.1 ≡ Status.Done →
+        (commands : List Command) × (commands_in handle_in input ≡ Ok commands) × (result.0 ≡ program commands) }
+    ensures bad_line { form_of words.now ≡ Some Form.Run → result.1 ≡ Status.BadLine →
+        (line : ℕ) × (commands_in handle_in input ≡ Err line) × (result.0 ≡ bad_line_text line) }
+    ensures prefix { (f : Form) → form_of words.now ≡ Some f →
+        (count : ℕ) × (count ≤ length (text_due f input)) × (result.0 ≡ take count (text_due f input)) }
+    ensures complete { (f : Form) → form_of words.now ≡ Some f →
+        (result.1 ≡ ending f input) ⊎ (result.1 ≡ Status.NoMemory) }
     ensures no_read_fault { result.1 ≢ Status.ReadFault }
     ensures no_write_fault { result.1 ≢ Status.WriteFault }
+    ensures disagree { result.1 ≢ Status.Disagree }
 {
     let mut source = QuietSource::new(input);
     let mut sink = QuietSink::new(alloc);
@@ -186,34 +177,7 @@ pub fn serve<R: Threads + Wait + Sync, S: Source, K: Sink>(
     source: &mut S,
     sink: &mut K,
 ) -> Status
-    // Other words are refused before anything is read or written.
-    ensures usage { (result ≡ Status.Usage) ↔ (asks_run words.now ≡ false) }
-    ensures usage_reads_nothing { result ≡ Status.Usage → source.new ≡ source.old }
-    ensures usage_writes_nothing { result ≡ Status.Usage → sink.new ≡ sink.old }
-
-    // Whether or not the source tells its bytes.
-    ensures run { result ≡ Status.Done →
-        IsRun (S.bytes_left source.old) (S.bytes_left source.new) (K.bytes_held sink.old) (K.bytes_held sink.new) }
-
-    // Where the source tells its bytes.
-    ensures done { result ≡ Status.Done → (input : List ℕ) → S.bytes_left source.old ≡ Some input →
-        IsDone input (S.bytes_left source.new) (K.bytes_held sink.old) (K.bytes_held sink.new) }
-    ensures bad_line { result ≡ Status.BadLine → (input : List ℕ) → S.bytes_left source.old ≡ Some input →
-        IsBadLine input (S.bytes_left source.new) (K.bytes_held sink.old) (K.bytes_held sink.new) }
-    ensures too_long { result ≡ Status.TooLong → (input : List ℕ) → S.bytes_left source.old ≡ Some input →
-        IsTooLong input (S.bytes_left source.new) }
-    ensures prefix { (input : List ℕ) → S.bytes_left source.old ≡ Some input →
-        PutPrefix (K.bytes_held sink.old) (text_due input) (K.bytes_held sink.new) }
-    ensures complete { (input : List ℕ) → S.bytes_left source.old ≡ Some input → asks_run words.now ≡ true →
-        ¬ (Rose (S.faults source.old) (S.faults source.new)) → ¬ (Rose (K.faults sink.old) (K.faults sink.new)) →
-        (result ≡ ending input) ⊎ (result ≡ Status.NoMemory) }
-
-    // Faults are the devices'.
-    ensures read_fault { result ≡ Status.ReadFault → Rose (S.faults source.old) (S.faults source.new) }
-    ensures write_fault { result ≡ Status.WriteFault → Rose (K.faults sink.old) (K.faults sink.new) }
-    ensures read_fault_writes_nothing { result ≡ Status.ReadFault → sink.new ≡ sink.old }
-    ensures too_long_writes_nothing { result ≡ Status.TooLong → sink.new ≡ sink.old }
-    ensures disagree { result ≢ Status.Disagree }
+    ensures { Serves words.now result S.bytes_left S.faults K.bytes_held K.faults source.old source.new sink.old sink.new }
 {
     serve_alone(alloc, words, source, sink)
 }

@@ -2,9 +2,7 @@
 //! readers and writers do when they fail in mid-stream.
 use super::*;
 use crate::loops::{ReadStop, read_all, write_all};
-use crate::texts::push_reply_line;
-use pybuf_value::{ByteList, Item, NumberList, Scalar, ScalarList, Text};
-use pybuf_view::Reply;
+use pybuf_value::ByteList;
 use std::io::{Error, ErrorKind, Read, Write};
 use std::test::Fail;
 
@@ -85,32 +83,5 @@ fn bytes_in_memory_are_read_and_put_with_ample_memory(rt: HostRuntime) -> Result
     let mut sink = QuietSink::new(rt.alloc());
     assert_eq!(rt; write_all(&mut sink, input.as_slice()), Ok(()));
     assert_eq!(rt; sink.bytes(), input.as_slice());
-    Ok(())
-}
-
-#[test]
-fn replies_are_printed_with_ample_memory(rt: HostRuntime) -> Result<(), Fail> {
-    let numbers = NumberList::from_vec(Vec::from_slice(rt.alloc(), &[2, -3, 0])?);
-    let one = NumberList::from_vec(Vec::from_slice(rt.alloc(), &[7])?);
-    let mut parts = ScalarList::new(rt.alloc());
-    parts.push(Scalar::Int(1))?;
-    parts.push(Scalar::Bool(true))?;
-    let replies = [
-        Reply::Numbers(numbers),
-        Reply::Numbers(one),
-        Reply::Numbers(NumberList::new(rt.alloc())),
-        Reply::Item(Item::Many(parts)),
-        Reply::Truth(false),
-        Reply::Text(Text::from_string(String::from_str(rt.alloc(), "<hH")?)),
-    ];
-    let mut out = Vec::new(rt.alloc());
-    for reply in &replies {
-        push_reply_line(&mut out, reply)?;
-    }
-    // the texts are those of Python's `print`
-    assert_eq!(rt;
-        out.as_slice(),
-        b"(2, -3, 0)\n(7,)\n()\n(1, True)\nFalse\n<hH\n".as_slice()
-    );
     Ok(())
 }

@@ -1,12 +1,13 @@
 //! The replies of a run, written line by line.
 ghost use Rattle.std.specs.Prelude.{◌≡◌, ◌≤◌, ◌^◌, OnOk, OnErr, IfErr};
 ghost use Rattle.pybuf_cli.specs.Devices.{Put, PutPrefix, Rose, Sends};
-ghost use Rattle.pybuf_cli.specs.Replies.{reply_lines};
+ghost use Rattle.pybuf_line.specs.Scalars.{handle_text};
+ghost use Rattle.pybuf_line.specs.Replies.{reply_lines};
 ghost use Rattle.pybuf_cli.specs.declared.devices.PutFault.{PutFault};
 
 use crate::devices::{PutFault, Sink};
 use crate::loops::{PIECE, write_all};
-use crate::texts::push_reply_line;
+use pybuf_line::push_reply_line;
 use pybuf_view::Reply;
 use std::alloc::Global;
 
@@ -30,8 +31,8 @@ pub fn write_replies<K: Sink>(
     sink: &mut K,
     replies: &[Reply],
 ) -> Result<(), PutFault>
-    ensures all { OnOk result (Put (K.bytes_held sink.old) (reply_lines replies.now) (K.bytes_held sink.new)) }
-    ensures prefix { OnErr result (PutPrefix (K.bytes_held sink.old) (reply_lines replies.now) (K.bytes_held sink.new)) }
+    ensures all { OnOk result (Put (K.bytes_held sink.old) (reply_lines handle_text replies.now) (K.bytes_held sink.new)) }
+    ensures prefix { OnErr result (PutPrefix (K.bytes_held sink.old) (reply_lines handle_text replies.now) (K.bytes_held sink.new)) }
     ensures rose { IfErr result (λ fault. fault ≡ PutFault.Failed → Rose (K.faults sink.old) (K.faults sink.new)) }
     ensures later { K.faults sink.old ≤ K.faults sink.new }
 {

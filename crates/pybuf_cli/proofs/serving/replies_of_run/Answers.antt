@@ -1,6 +1,6 @@
 use Rattle.std.proofs.Common.{subst}
-use Rattle.pybuf_view.specs.World.{World}
-use Rattle.pybuf_view.specs.Sound.{StaysSound}
+use Rattle.pybuf_world.specs.World.{World}
+use Rattle.pybuf_world.specs.Sound.{StaysSound}
 use Rattle.pybuf_cli.proofs.serving.replies_of_run.Goals as goal
 
 pub returns-in_err-run-clause-sound : goal.returns-in_err-run-clause-sound

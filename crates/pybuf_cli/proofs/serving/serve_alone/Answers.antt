@@ -1,21 +1,22 @@
-use Rattle.pybuf_cli.proofs.Served.{ran, ran_some, refused, took_too_many}
+use Rattle.pybuf_cli.proofs.OneForm.{some_form, prefix_of_run, complete_of_run}
 use Rattle.pybuf_cli.proofs.serving.serve_alone.Goals as goal
 
-pub returns-in-Ok-clause-done : goal.returns-in-Ok-clause-done
-returns-in-Ok-clause-done g c =
-    λ done input told. ran _ _ _ _ input c.in-Ok.input.items c.as_slice.result.now c.in-Ok.ensures.took c.in-Ok.ensures.end c.in-Ok.ensures.limit
-    c.as_slice.ensures.value (c.answer.ensures.done done) told
-
-pub returns-in-Ok-clause-bad_line : goal.returns-in-Ok-clause-bad_line
-returns-in-Ok-clause-bad_line g c =
-    λ bad input told. refused _ _ _ _ input c.in-Ok.input.items c.as_slice.result.now c.in-Ok.ensures.took c.in-Ok.ensures.end c.in-Ok.ensures.limit
-    c.as_slice.ensures.value (c.answer.ensures.bad_line bad) told
-
-pub returns-in-Err-TooLong-clause-too_long : goal.returns-in-Err-TooLong-clause-too_long
-returns-in-Err-TooLong-clause-too_long g c =
-    λ _ input told. took_too_many _ _ input (c.in-Err-TooLong.ensures.too_long c.in-Err-TooLong.field-0-is) told
-
-pub returns-in-Ok-clause-run : goal.returns-in-Ok-clause-run
-returns-in-Ok-clause-run g c =
-    λ done. ran_some _ _ _ _ c.in-Ok.input.items c.as_slice.result.now c.in-Ok.ensures.took c.in-Ok.ensures.end c.in-Ok.ensures.limit
-    c.as_slice.ensures.value (c.answer.ensures.done done)
+pub returns-in-Some-Run : goal.returns-in-Some-Run
+returns-in-Some-Run g c = record {
+  usage = (
+    λ refused. absurd (c.run.ensures.usage refused),
+    λ none. absurd (some_form c.args.words.now c.form_named.result _ c.form_named.ensures c.in-Some-Run.is none),
+  );
+  usage_reads_nothing = λ refused. absurd (c.run.ensures.usage refused);
+  usage_writes_nothing = λ refused. absurd (c.run.ensures.usage refused);
+  done = λ _. c.run.ensures.done;
+  bad_line = λ _. c.run.ensures.bad_line;
+  too_long = λ _. c.run.ensures.too_long;
+  prefix = prefix_of_run c.args.words.now _ _ _ c.run.ensures.prefix;
+  complete = complete_of_run c.args.words.now _ c.run.result _ _ c.run.ensures.complete;
+  read_fault = c.run.ensures.read_fault;
+  write_fault = c.run.ensures.write_fault;
+  read_fault_writes_nothing = c.run.ensures.read_fault_writes_nothing;
+  too_long_writes_nothing = c.run.ensures.too_long_writes_nothing;
+  disagree = c.run.ensures.disagree;
+}

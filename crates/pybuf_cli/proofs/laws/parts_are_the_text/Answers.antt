@@ -1,8 +1,0 @@
-use Rattle.pybuf_cli.proofs.SpellingLaws.{parts_join, parts_single}
-use Rattle.pybuf_cli.proofs.laws.parts_are_the_text.Goals as goal
-
-pub returns-clause-joined : goal.returns-clause-joined
-returns-clause-joined c = parts_join
-
-pub returns-clause-single : goal.returns-clause-single
-returns-clause-single c = parts_single

@@ -1,5 +1,0 @@
-use Rattle.pybuf_cli.proofs.SpellingLaws.{scalars_read}
-use Rattle.pybuf_cli.proofs.laws.scalars_read_back.Goals as goal
-
-pub returns : goal.returns
-returns c = scalars_read

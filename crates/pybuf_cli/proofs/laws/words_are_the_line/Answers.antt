@@ -1,5 +1,0 @@
-use Rattle.pybuf_cli.proofs.LineLaws.{words_join}
-use Rattle.pybuf_cli.proofs.laws.words_are_the_line.Goals as goal
-
-pub returns : goal.returns
-returns c = words_join

@@ -1,5 +1,0 @@
-use Rattle.pybuf_cli.proofs.Printed.{text_is_utf8}
-use Rattle.pybuf_cli.proofs.scalars.text_of.Goals as goal
-
-pub returns-in-Err : goal.returns-in-Err
-returns-in-Err c = absurd (c.in-Err.ensures.cases.0 (text_is_utf8 c.args.bytes.now c.requires))

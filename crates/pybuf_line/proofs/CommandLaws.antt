@@ -1,0 +1,215 @@
+-- A command that was written is read back.
+use Rattle.std.proofs.Common.{◌≡◌, ℕ, ◌<◌, ◌^◌, List, [], ◌∷◌, ◌++◌, Bool, true, false, not, cond, ◌==◌, Some, None, refl, sym, ◌∙◌, ap, subst, arith, tests}
+use Rattle.std.specs.List.{join_with_byte, onto_first, list_all, AllByRecursion}
+use Rattle.hex.specs.Hex.{IsBytes}
+use Rattle.pybuf_value.specs.declared.values.Scalar.{Scalar}
+use Rattle.pybuf_value.specs.declared.values.Scalar.TheVariants as scalar
+use Rattle.pybuf_value.specs.declared.values.PySlice.{PySlice}
+use Rattle.pybuf_value.specs.declared.values.Value.{Value}
+use Rattle.pybuf_value.specs.declared.values.Value.TheVariants as value
+use Rattle.pybuf_command.specs.declared.kinds.ExporterKind.{ExporterKind}
+use Rattle.pybuf_command.specs.declared.kinds.ExporterKind.TheVariants as kind
+use Rattle.pybuf_command.specs.declared.commands.PropertyName.{PropertyName}
+use Rattle.pybuf_command.specs.declared.commands.PropertyName.TheVariants as property
+use Rattle.pybuf_command.specs.declared.commands.Verb.{Verb}
+use Rattle.pybuf_command.specs.declared.commands.Verb.TheVariants as verb
+use Rattle.pybuf_world.specs.declared.commands.ByteInnerNewOptions.{ByteInnerNewOptions}
+use Rattle.pybuf_world.specs.declared.commands.Command.TheVariants as command
+use Rattle.pybuf_line.specs.declared.words.Word.TheVariants as word
+use Rattle.pybuf_line.specs.Parts.{parts_at}
+use Rattle.pybuf_line.specs.Words.{words, word_in, written_word, written_kind, written_name}
+use Rattle.pybuf_line.specs.Scalars.{handle_in, handle_text, is_text_byte, written_scalar}
+use Rattle.pybuf_line.specs.Spellings.{written_slice, written_parts, written_value}
+use Rattle.pybuf_line.specs.Commands.{verb_in, word_of, written_arguments, new_in, written_source, command_of_words, command_in, written_words}
+use Rattle.pybuf_line.specs.Laws.{IsMade, IsSpelled, IsSpelledSlice, IsSpelledValue, IsSpelledVerb, IsSpelledNew, CommandsReadBack}
+use Rattle.pybuf_line.proofs.NameLaws.{kinds_read, properties_read}
+use Rattle.pybuf_line.proofs.SpellingLaws.{handle_read, hex_read}
+use Rattle.pybuf_line.proofs.ValueLaws.{is_free, IsFree, part_free, each_text_byte, values_read}
+
+-- no blank in a text
+abbrev is_unbroken : ℕ → Bool
+is_unbroken b = not (b == 32)
+
+abbrev IsUnbroken : List ℕ → Type 0
+IsUnbroken text = list_all is_unbroken text ≡ true
+
+-- blanks cut
+no_blank : (x : ℕ) → is_unbroken x ≡ true → (x == 32) ≡ false
+no_blank x h = grind (arith, tests)
+
+first_of_all : (p : ℕ → Bool) (x : ℕ) (xs : List ℕ) → list_all p (x ∷ xs) ≡ true → p x ≡ true
+first_of_all p x xs h = grind (arith, tests)
+
+rest_of_all : (p : ℕ → Bool) (x : ℕ) (xs : List ℕ) → list_all p (x ∷ xs) ≡ true → list_all p xs ≡ true
+rest_of_all p x xs h = grind (arith, tests)
+
+byte_on : (x : ℕ) (text : List ℕ) → is_unbroken x ≡ true → parts_at 32 (x ∷ text) ≡ onto_first x (parts_at 32 text)
+byte_on x text h = ap (λ cut. cond cut ([] ∷ parts_at 32 text) (onto_first x (parts_at 32 text))) (no_blank x h)
+
+blank_cuts : (a rest : List ℕ) → IsUnbroken a → parts_at 32 (a ++ 32 ∷ rest) ≡ a ∷ parts_at 32 rest
+blank_cuts [] rest h = refl
+blank_cuts (x ∷ a) rest h =
+    byte_on x (a ++ 32 ∷ rest) (first_of_all is_unbroken x a h) ∙ ap (onto_first x) (blank_cuts a rest (rest_of_all is_unbroken x a h))
+
+nothing_cuts : (a : List ℕ) → IsUnbroken a → parts_at 32 a ≡ a ∷ []
+nothing_cuts [] h = refl
+nothing_cuts (x ∷ a) h = byte_on x a (first_of_all is_unbroken x a h) ∙ ap (onto_first x) (nothing_cuts a (rest_of_all is_unbroken x a h))
+
+words_of : (a : List ℕ) (more : List (List ℕ)) → AllByRecursion IsUnbroken (a ∷ more) → words (join_with_byte 32 (a ∷ more)) ≡ a ∷ more
+words_of a [] h = nothing_cuts a h.0
+words_of a (b ∷ more) h = blank_cuts a (join_with_byte 32 (b ∷ more)) h.0 ∙ ap (λ others. a ∷ others) (words_of b more h.1)
+
+-- what is written for a value has no blank
+both : (xs ys : List ℕ) → IsUnbroken xs → IsUnbroken ys → IsUnbroken (xs ++ ys)
+both [] ys h k = k
+both (x ∷ xs) ys h k = rw (first_of_all is_unbroken x xs h, both xs ys (rest_of_all is_unbroken x xs h) k) refl
+
+all_of : (p : ℕ → Bool) → ((b : ℕ) → p b ≡ true → is_unbroken b ≡ true) → (text : List ℕ) → list_all p text ≡ true → IsUnbroken text
+all_of p each [] h = refl
+all_of p each (x ∷ xs) h = rw (each x (first_of_all p x xs h), all_of p each xs (rest_of_all p x xs h)) refl
+
+free_byte : (b : ℕ) → is_free b ≡ true → is_unbroken b ≡ true
+free_byte b h = grind (arith, tests)
+
+text_byte : (b : ℕ) → is_text_byte b ≡ true → is_unbroken b ≡ true
+text_byte b h = grind (arith, tests)
+
+free : (text : List ℕ) → IsFree text → IsUnbroken text
+free text h = all_of is_free free_byte text h
+
+scalar_unbroken : (s : Scalar) → IsSpelled s → IsUnbroken (written_scalar handle_text s)
+scalar_unbroken scalar.None h = refl
+scalar_unbroken (scalar.Bool true) h = refl
+scalar_unbroken (scalar.Bool false) h = refl
+scalar_unbroken (scalar.Int number) h = free (written_scalar handle_text (scalar.Int number)) (part_free (scalar.Int number) h)
+scalar_unbroken (scalar.Text text) h = both text (39 ∷ []) (all_of is_text_byte text_byte text (each_text_byte text h)) refl
+scalar_unbroken (scalar.Bytes bytes) h = free (written_scalar handle_text (scalar.Bytes bytes)) (part_free (scalar.Bytes bytes) h)
+scalar_unbroken scalar.Ellipsis h = refl
+scalar_unbroken (scalar.Handle handle) h = free (written_scalar handle_text (scalar.Handle handle)) (part_free (scalar.Handle handle) h)
+
+slice_unbroken : (s : PySlice) → IsSpelledSlice s → IsUnbroken (written_slice handle_text s)
+slice_unbroken s h =
+    both (written_scalar handle_text s.start) (58 ∷ written_scalar handle_text s.stop ++ 58 ∷ written_scalar handle_text s.step)
+    (free (written_scalar handle_text s.start) (part_free s.start h.0))
+    (both (written_scalar handle_text s.stop) (58 ∷ written_scalar handle_text s.step) (free (written_scalar handle_text s.stop) (part_free s.stop h.1))
+    (free (written_scalar handle_text s.step) (part_free s.step h.2)))
+
+parts_unbroken : {A : Type 0} (text : A → List ℕ) (P : A → Type 0) → ((a : A) → P a → IsUnbroken (text a)) → (all : List A) →
+    AllByRecursion P all → IsUnbroken (written_parts text all)
+parts_unbroken text P each [] h = refl
+parts_unbroken text P each (a ∷ []) h = each a h.0
+parts_unbroken text P each (a ∷ b ∷ more) h =
+    both (text a) (44 ∷ written_parts text (b ∷ more)) (each a h.0) (parts_unbroken text P each (b ∷ more) h.1)
+
+value_unbroken : (v : Value) → IsSpelledValue v → IsUnbroken (written_value handle_text v)
+value_unbroken (value.One one) h = scalar_unbroken one h
+value_unbroken (value.Slice slice) h = slice_unbroken slice h
+value_unbroken (value.Tuple parts) h =
+    both (written_parts (written_scalar handle_text) parts) (41 ∷ []) (parts_unbroken (written_scalar handle_text) IsSpelled scalar_unbroken parts h) refl
+value_unbroken (value.List parts) h =
+    both (written_parts (written_scalar handle_text) parts) (93 ∷ []) (parts_unbroken (written_scalar handle_text) IsSpelled scalar_unbroken parts h) refl
+value_unbroken (value.Slices slices) h =
+    both (written_parts (written_slice handle_text) slices) (41 ∷ []) (parts_unbroken (written_slice handle_text) IsSpelledSlice slice_unbroken slices h.1) refl
+
+name_unbroken : (p : PropertyName) → IsUnbroken (written_name p)
+name_unbroken property.Exports = refl
+name_unbroken property.Obj = refl
+name_unbroken property.Nbytes = refl
+name_unbroken property.Readonly = refl
+name_unbroken property.Itemsize = refl
+name_unbroken property.Ndim = refl
+name_unbroken property.Shape = refl
+name_unbroken property.Strides = refl
+name_unbroken property.Suboffsets = refl
+name_unbroken property.Format = refl
+name_unbroken property.Contiguous = refl
+name_unbroken property.CContiguous = refl
+name_unbroken property.FContiguous = refl
+
+-- a command of a handle
+arguments_unbroken : (v : Verb) → IsSpelledVerb v → AllByRecursion IsUnbroken (written_arguments handle_text v)
+arguments_unbroken verb.View h = tt
+arguments_unbroken (verb.Get key) h = (value_unbroken key h, tt)
+arguments_unbroken (verb.Set key item) h = (value_unbroken key h.1, (value_unbroken item h.2, tt))
+arguments_unbroken (verb.Cast format shape) h = (value_unbroken format h.0, tt)
+arguments_unbroken verb.ToBytes h = tt
+arguments_unbroken verb.Release h = tt
+arguments_unbroken verb.Len h = tt
+arguments_unbroken (verb.Property name) h = (name_unbroken name, tt)
+arguments_unbroken verb.ToReadonly h = tt
+
+word_unbroken : (v : Verb) → IsUnbroken (written_word (word_of v))
+word_unbroken verb.View = refl
+word_unbroken (verb.Get key) = refl
+word_unbroken (verb.Set key item) = refl
+word_unbroken (verb.Cast format shape) = refl
+word_unbroken verb.ToBytes = refl
+word_unbroken verb.Release = refl
+word_unbroken verb.Len = refl
+word_unbroken (verb.Property name) = refl
+word_unbroken verb.ToReadonly = refl
+
+handle_unbroken : (n : ℕ) → n < 2 ^ 64 → IsUnbroken (handle_text n)
+handle_unbroken n h = free (handle_text n) (part_free (scalar.Handle n) h)
+
+verb_read : (v : Verb) → IsSpelledVerb v → verb_in handle_in (word_of v) (written_arguments handle_text v) ≡ Some v
+verb_read verb.View h = refl
+verb_read (verb.Get key) h = rw (values_read key h) refl
+verb_read (verb.Set key item) h = rw (values_read key h.1, h.0, values_read item h.2) refl
+verb_read (verb.Cast format shape) h = rw (values_read format h.0) (ap (λ s. Some (verb.Cast format s)) (sym h.1))
+verb_read verb.ToBytes h = refl
+verb_read verb.Release h = refl
+verb_read verb.Len h = refl
+verb_read (verb.Property name) h = rw (properties_read.read name tt) refl
+verb_read verb.ToReadonly h = refl
+
+do_read : (n : ℕ) (v : Verb) → n < 2 ^ 64 → IsSpelledVerb v →
+    command_of_words handle_in (written_words handle_text (command.Do n v)) ≡ Some (command.Do n v)
+unfolding word_in
+do_read n verb.View h k = rw (handle_read n h) refl
+do_read n (verb.Get key) h k = rw (handle_read n h, verb_read (verb.Get key) k) refl
+do_read n (verb.Set key item) h k = rw (handle_read n h, verb_read (verb.Set key item) k) refl
+do_read n (verb.Cast format shape) h k = rw (handle_read n h, verb_read (verb.Cast format shape) k) refl
+do_read n verb.ToBytes h k = rw (handle_read n h) refl
+do_read n verb.Release h k = rw (handle_read n h) refl
+do_read n verb.Len h k = rw (handle_read n h) refl
+do_read n (verb.Property name) h k = rw (handle_read n h, verb_read (verb.Property name) k) refl
+do_read n verb.ToReadonly h k = rw (handle_read n h) refl
+
+-- a new exporter
+abbrev made_of : List ℕ → ByteInnerNewOptions
+made_of bytes = record { source = Some (value.One (scalar.Bytes bytes)); encoding = None; errors = None }
+
+new_of_bytes : (k : ExporterKind) (bytes : List ℕ) → IsMade k → IsBytes bytes →
+    new_in (written_kind k ∷ written_source handle_text (made_of bytes).source ∷ []) ≡ Some (command.New k (made_of bytes))
+new_of_bytes k bytes made h = rw (kinds_read.read k made, hex_read bytes h) refl
+
+new_read : (k : ExporterKind) (options : ByteInnerNewOptions) → IsMade k → IsSpelledNew options →
+    command_of_words handle_in (written_words handle_text (command.New k options)) ≡ Some (command.New k options)
+unfolding word_in
+new_read k options made h =
+    let P : ByteInnerNewOptions → Type 0 = λ o. new_in (written_kind k ∷ written_source handle_text o.source ∷ []) ≡ Some (command.New k o) in
+    subst P (sym h.alone) (new_of_bytes k h.bytes made h.are_bytes)
+
+kind_unbroken : (k : ExporterKind) → IsUnbroken (written_kind k)
+kind_unbroken kind.Bytes = refl
+kind_unbroken kind.ByteArray = refl
+kind_unbroken (kind.Vector readonly) = refl
+
+source_unbroken : (options : ByteInnerNewOptions) → IsSpelledNew options → IsUnbroken (written_source handle_text options.source)
+source_unbroken options h =
+    let P : ByteInnerNewOptions → Type 0 = λ o. IsUnbroken (written_source handle_text o.source) in
+    subst P (sym h.alone) (scalar_unbroken (scalar.Bytes h.bytes) h.are_bytes)
+
+pub commands_read : CommandsReadBack
+unfolding command_in
+commands_read (command.New k options) h =
+    ap (command_of_words handle_in)
+    (words_of (written_word word.New) (written_kind k ∷ written_source handle_text options.source ∷ [])
+    (refl, (kind_unbroken k, (source_unbroken options h.1, tt))))
+    ∙ new_read k options h.0 h.1
+commands_read (command.Do n v) h =
+    ap (command_of_words handle_in)
+    (words_of (written_word (word_of v)) (handle_text n ∷ written_arguments handle_text v)
+    (word_unbroken v, (handle_unbroken n h.0, arguments_unbroken v h.1)))
+    ∙ do_read n v h.0 h.1

@@ -1,0 +1,14 @@
+pub mod Digits
+pub mod Joined
+pub mod Commands
+pub mod LineParts
+pub mod Spelled
+pub mod Commas
+pub mod Colons
+pub mod Printed
+pub mod LineLaws
+pub mod SpellingLaws
+pub mod ReplyLaws
+pub mod NameLaws
+pub mod ValueLaws
+pub mod CommandLaws

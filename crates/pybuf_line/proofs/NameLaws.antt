@@ -1,0 +1,78 @@
+-- The tables of words are read back.
+use Rattle.std.proofs.Common.{◌≡◌, ℕ, List, [], ◌∷◌, Bool, true, false, cond, Option, Some, refl}
+use Rattle.std.specs.List.{find}
+use Rattle.std.specs.Str.{bytes_eq}
+use Rattle.std.proofs.lemmas.Slice.Eq.{bytes_eq-Decides}
+use Rattle.pybuf_command.specs.declared.kinds.ExporterKind.{ExporterKind}
+use Rattle.pybuf_command.specs.declared.kinds.ExporterKind.TheVariants as kind
+use Rattle.pybuf_command.specs.declared.commands.PropertyName.{PropertyName}
+use Rattle.pybuf_command.specs.declared.commands.PropertyName.TheVariants as property
+use Rattle.pybuf_line.specs.declared.words.Word.{Word}
+use Rattle.pybuf_line.specs.declared.words.Word.TheVariants as word
+use Rattle.pybuf_line.specs.Words.{named_in, written_word, every_word, word_in, written_kind, every_kind, kind_in, written_name, every_property, property_in}
+use Rattle.pybuf_line.specs.Laws.{IsAny, IsMade, WordsReadBack, KindsReadBack, PropertiesReadBack}
+
+-- what is found passes the test
+found_by : {A : Type 0} (p : A → Bool) (first : A) (others : Option A) (found : A) (passes : Bool) → p first ≡ passes →
+    (others ≡ Some found → p found ≡ true) → cond passes (Some first) others ≡ Some found → p found ≡ true
+found_by p first others found true e later h = cc
+found_by p first others found false e later h = later h
+
+found_passes : {A : Type 0} (p : A → Bool) (table : List A) (found : A) → find p table ≡ Some found → p found ≡ true
+found_passes p [] found h = cc
+found_passes p (first ∷ more) found h = found_by p first (find p more) found (p first) refl (found_passes p more found) h
+
+named_is : {A : Type 0} (name : A → List ℕ) (table : List A) (text : List ℕ) (found : A) → named_in name table text ≡ Some found → text ≡ name found
+named_is name table text found h =
+    (bytes_eq-Decides text (name found)).0 (found_passes (λ one. bytes_eq text (name one)) table found h)
+
+word_read : (w : Word) → IsAny w → word_in (written_word w) ≡ Some w
+unfolding word_in
+word_read word.New h = refl
+word_read word.View h = refl
+word_read word.Get h = refl
+word_read word.Set h = refl
+word_read word.ToBytes h = refl
+word_read word.Release h = refl
+word_read word.Len h = refl
+word_read word.Cast h = refl
+word_read word.Property h = refl
+word_read word.ToReadonly h = refl
+
+word_written : (text : List ℕ) (w : Word) → word_in text ≡ Some w → text ≡ written_word w
+unfolding word_in
+word_written text w h = named_is written_word every_word text w h
+
+pub words_read : WordsReadBack
+words_read = record { read = word_read; written = word_written }
+
+kind_read : (k : ExporterKind) → IsMade k → kind_in (written_kind k) ≡ Some k
+kind_read kind.Bytes h = refl
+kind_read kind.ByteArray h = refl
+kind_read (kind.Vector readonly) h = absurd h
+
+pub kinds_read : KindsReadBack
+kinds_read = record { read = kind_read; written = named_is written_kind every_kind }
+
+property_read : (p : PropertyName) → IsAny p → property_in (written_name p) ≡ Some p
+unfolding property_in
+property_read property.Exports h = refl
+property_read property.Obj h = refl
+property_read property.Nbytes h = refl
+property_read property.Readonly h = refl
+property_read property.Itemsize h = refl
+property_read property.Ndim h = refl
+property_read property.Shape h = refl
+property_read property.Strides h = refl
+property_read property.Suboffsets h = refl
+property_read property.Format h = refl
+property_read property.Contiguous h = refl
+property_read property.CContiguous h = refl
+property_read property.FContiguous h = refl
+
+property_written : (text : List ℕ) (p : PropertyName) → property_in text ≡ Some p → text ≡ written_name p
+unfolding property_in
+property_written text p h = named_is written_name every_property text p h
+
+pub properties_read : PropertiesReadBack
+properties_read = record { read = property_read; written = property_written }

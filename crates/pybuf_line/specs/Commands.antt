@@ -1,0 +1,110 @@
+-- The command that a line spells, and how a command is written. How a handle is read and written is given.
+use Rattle.std.specs.Prelude.{ℕ, List, [], ◌∷◌, Option, Some, None}
+use Rattle.std.specs.List.{join_with_byte}
+use Rattle.pybuf_value.specs.Choosing.{◌>>=◌}
+use Rattle.pybuf_value.specs.declared.values.Value.{Value}
+use Rattle.pybuf_value.specs.declared.values.Value.TheVariants as value
+use Rattle.pybuf_command.specs.declared.commands.Verb.{Verb}
+use Rattle.pybuf_command.specs.declared.commands.Verb.TheVariants as verb
+use Rattle.pybuf_world.specs.declared.commands.Command.{Command}
+use Rattle.pybuf_world.specs.declared.commands.Command.TheVariants as command
+use Rattle.pybuf_line.specs.declared.words.Word.{Word}
+use Rattle.pybuf_line.specs.declared.words.Word.TheVariants as word
+use Rattle.pybuf_line.specs.Words.{words, word_in, written_word, kind_in, written_kind, property_in, written_name}
+use Rattle.pybuf_line.specs.Scalars.{bytes_in}
+use Rattle.pybuf_line.specs.Spellings.{value_in, written_value}
+
+-- the keys that `set` takes: tuples and slices are none
+abbrev pub set_key : Value → Option Value
+set_key (value.One scalar) = Some (value.One scalar)
+set_key (value.List parts) = Some (value.List parts)
+set_key _ = None
+
+abbrev pub set_key_in : (List ℕ → Option ℕ) → List ℕ → Option Value
+set_key_in name_in text = do
+  key ← value_in name_in text
+  set_key key
+
+-- A line `WORD hN ARGS` by its word and its arguments: the place where a new verb goes.
+abbrev pub verb_in : (List ℕ → Option ℕ) → Word → List (List ℕ) → Option Verb
+verb_in name_in word.View [] = Some verb.View
+verb_in name_in word.Get (key ∷ []) = do
+  k ← value_in name_in key
+  Some (verb.Get k)
+verb_in name_in word.Set (key ∷ item ∷ []) = do
+  k ← set_key_in name_in key
+  v ← value_in name_in item
+  Some (verb.Set k v)
+verb_in name_in word.ToBytes [] = Some verb.ToBytes
+verb_in name_in word.Release [] = Some verb.Release
+verb_in name_in word.Len [] = Some verb.Len
+verb_in name_in word.Cast (format ∷ []) = do
+  f ← value_in name_in format
+  Some (verb.Cast f None)
+verb_in name_in word.Property (name ∷ []) = do
+  n ← property_in name
+  Some (verb.Property n)
+verb_in name_in word.ToReadonly [] = Some verb.ToReadonly
+verb_in _ _ _ = None
+
+-- the word that a verb is written with
+abbrev pub word_of : Verb → Word
+word_of verb.View = word.View
+word_of (verb.Get key) = word.Get
+word_of (verb.Set key item) = word.Set
+word_of (verb.Cast format shape) = word.Cast
+word_of verb.ToBytes = word.ToBytes
+word_of verb.Release = word.Release
+word_of verb.Len = word.Len
+word_of (verb.Property name) = word.Property
+word_of verb.ToReadonly = word.ToReadonly
+
+-- the words after the subject that a verb is written with; no line has a shape
+abbrev pub written_arguments : (ℕ → List ℕ) → Verb → List (List ℕ)
+written_arguments name (verb.Get key) = written_value name key ∷ []
+written_arguments name (verb.Set key item) = written_value name key ∷ written_value name item ∷ []
+written_arguments name (verb.Cast format shape) = written_value name format ∷ []
+written_arguments name (verb.Property property) = written_name property ∷ []
+written_arguments name _ = []
+
+-- `new bytes xHEX` and `new bytearray xHEX`
+abbrev pub new_in : List (List ℕ) → Option Command
+new_in (kind ∷ source ∷ []) = do
+  k ← kind_in kind
+  bytes ← bytes_in source
+  Some (command.New k (record { source = Some (value.One bytes); encoding = None; errors = None }))
+new_in _ = None
+
+-- the bytes that `new` is written with
+abbrev pub written_source : (ℕ → List ℕ) → Option Value → List ℕ
+written_source name (Some source) = written_value name source
+written_source name None = []
+
+abbrev pub do_in : (List ℕ → Option ℕ) → Word → List (List ℕ) → Option Command
+do_in name_in w [] = None
+do_in name_in w (subject ∷ arguments) = do
+  handle ← name_in subject
+  v ← verb_in name_in w arguments
+  Some (command.Do handle v)
+
+abbrev pub command_by : (List ℕ → Option ℕ) → Option Word → List (List ℕ) → Option Command
+command_by name_in None rest = None
+command_by name_in (Some word.New) rest = new_in rest
+command_by name_in (Some w) rest = do_in name_in w rest
+
+abbrev pub command_of_words : (List ℕ → Option ℕ) → List (List ℕ) → Option Command
+command_of_words name_in [] = None
+command_of_words name_in (first ∷ rest) = command_by name_in (word_in first) rest
+
+-- the one command that a line spells, or none
+unfoldable pub command_in : (List ℕ → Option ℕ) → List ℕ → Option Command
+command_in name_in line = command_of_words name_in (words line)
+
+-- the words that a command is written with
+abbrev pub written_words : (ℕ → List ℕ) → Command → List (List ℕ)
+written_words name (command.New kind options) = written_word word.New ∷ written_kind kind ∷ written_source name options.source ∷ []
+written_words name (command.Do handle v) = written_word (word_of v) ∷ name handle ∷ written_arguments name v
+
+-- how a command is written
+abbrev pub written_command : (ℕ → List ℕ) → Command → List ℕ
+written_command name c = join_with_byte 32 (written_words name c)

@@ -1,0 +1,9 @@
+pub mod Parts
+pub mod Words
+pub mod Scalars
+pub mod Spellings
+pub mod Commands
+pub mod Lines
+pub mod Replies
+pub mod Reading
+pub mod Laws

@@ -1,0 +1,64 @@
+-- The text of a reply, by how a handle is written.
+use Rattle.std.specs.Prelude.{ℕ, List, [], ◌∷◌, ◌++◌, Bool, true, false, codes, decimal}
+use Rattle.std.specs.Fmt.{signed_decimal}
+use Rattle.std.specs.List.{flat_map}
+use Rattle.pybuf_value.specs.Names.{python_name_of}
+use Rattle.pybuf_value.specs.Quoted.{quoted_text}
+use Rattle.pybuf_value.specs.declared.values.Scalar.{Scalar}
+use Rattle.pybuf_value.specs.declared.values.Scalar.TheVariants as scalar
+use Rattle.pybuf_value.specs.declared.values.Item.{Item}
+use Rattle.pybuf_value.specs.declared.values.Item.TheVariants as item
+use Rattle.pybuf_world.specs.declared.commands.Reply.{Reply}
+use Rattle.pybuf_world.specs.declared.commands.Reply.TheVariants as reply
+
+abbrev pub bytes_text : List ℕ → List ℕ
+bytes_text bytes = codes "b" ++ quoted_text bytes
+
+abbrev pub truth_text : Bool → List ℕ
+truth_text true = codes "True"
+truth_text false = codes "False"
+
+abbrev pub scalar_text : (ℕ → List ℕ) → Scalar → List ℕ
+scalar_text name scalar.None = codes "None"
+scalar_text name (scalar.Bool truth) = truth_text truth
+scalar_text name (scalar.Int number) = signed_decimal number
+scalar_text name (scalar.Text text) = quoted_text text
+scalar_text name (scalar.Bytes bytes) = bytes_text bytes
+scalar_text name scalar.Ellipsis = codes "Ellipsis"
+scalar_text name (scalar.Handle handle) = name handle
+
+-- a part of a tuple after the first, by the text of a part
+abbrev pub next_part_text : {A : Type 0} → (A → List ℕ) → A → List ℕ
+next_part_text text part = codes ", " ++ text part
+
+-- a tuple by the text of a part: one of a single part has a comma after it
+abbrev pub tuple_text : {A : Type 0} → (A → List ℕ) → List A → List ℕ
+tuple_text text [] = codes "()"
+tuple_text text (part ∷ []) = codes "(" ++ text part ++ codes ",)"
+tuple_text text (part ∷ next ∷ more) = codes "(" ++ text part ++ flat_map (next_part_text text) (next ∷ more) ++ codes ")"
+
+abbrev pub item_text : (ℕ → List ℕ) → Item → List ℕ
+item_text name (item.One part) = scalar_text name part
+item_text name (item.Many parts) = tuple_text (scalar_text name) parts
+
+abbrev pub reply_text : (ℕ → List ℕ) → Reply → List ℕ
+reply_text name reply.Ok = codes "ok"
+reply_text name (reply.Handle handle) = name handle
+reply_text name (reply.Item shown) = item_text name shown
+reply_text name (reply.Bytes bytes) = bytes_text bytes
+reply_text name (reply.Text text) = quoted_text text
+reply_text name (reply.Truth truth) = truth_text truth
+reply_text name (reply.Numbers numbers) = tuple_text signed_decimal numbers
+reply_text name (reply.Refused fault) = codes "! " ++ python_name_of fault
+
+-- a reply with its line feed
+abbrev pub reply_line : (ℕ → List ℕ) → Reply → List ℕ
+reply_line name reply = reply_text name reply ++ 10 ∷ []
+
+-- a line for each reply
+abbrev pub reply_lines : (ℕ → List ℕ) → List Reply → List ℕ
+reply_lines name replies = flat_map (reply_line name) replies
+
+-- what is written of an input whose line of this number is no command
+abbrev pub bad_line_text : ℕ → List ℕ
+bad_line_text n = codes "line " ++ decimal n ++ codes " is not a command\n"

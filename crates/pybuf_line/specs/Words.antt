@@ -1,0 +1,75 @@
+-- The words of a line, and those that name something: each kind of these is a table, of what is written for each, and of all
+-- of them.
+use Rattle.std.specs.Prelude.{ℕ, List, [], ◌∷◌, codes, Option}
+use Rattle.std.specs.Str.{bytes_eq}
+use Rattle.std.specs.List.{find}
+use Rattle.pybuf_command.specs.declared.kinds.ExporterKind.{ExporterKind}
+use Rattle.pybuf_command.specs.declared.kinds.ExporterKind.TheVariants as kind
+use Rattle.pybuf_command.specs.declared.commands.PropertyName.{PropertyName}
+use Rattle.pybuf_command.specs.declared.commands.PropertyName.TheVariants as property
+use Rattle.pybuf_line.specs.declared.words.Word.{Word}
+use Rattle.pybuf_line.specs.declared.words.Word.TheVariants as word
+use Rattle.pybuf_line.specs.Parts.{parts_at}
+
+-- The words of a line have one blank between them.
+abbrev pub words : List ℕ → List (List ℕ)
+words line = parts_at 32 line
+
+-- the one of a table that a text names, byte by byte, by what is written for each
+abbrev pub named_in : {A : Type 0} → (A → List ℕ) → List A → List ℕ → Option A
+named_in name table text = find (λ one. bytes_eq text (name one)) table
+
+-- the first words of lines
+abbrev pub written_word : Word → List ℕ
+written_word word.New = codes "new"
+written_word word.View = codes "view"
+written_word word.Get = codes "get"
+written_word word.Set = codes "set"
+written_word word.ToBytes = codes "bytes"
+written_word word.Release = codes "release"
+written_word word.Len = codes "len"
+written_word word.Cast = codes "cast"
+written_word word.Property = codes "prop"
+written_word word.ToReadonly = codes "toreadonly"
+
+abbrev pub every_word : List Word
+every_word = word.New ∷ word.View ∷ word.Get ∷ word.Set ∷ word.ToBytes ∷ word.Release ∷ word.Len ∷ word.Cast ∷ word.Property ∷ word.ToReadonly ∷ []
+
+unfoldable pub word_in : List ℕ → Option Word
+word_in text = named_in written_word every_word text
+
+-- the kinds of exporters that lines make
+abbrev pub written_kind : ExporterKind → List ℕ
+written_kind kind.Bytes = codes "bytes"
+written_kind kind.ByteArray = codes "bytearray"
+written_kind (kind.Vector readonly) = []  -- no line makes one
+
+abbrev pub every_kind : List ExporterKind
+every_kind = kind.Bytes ∷ kind.ByteArray ∷ []
+
+abbrev pub kind_in : List ℕ → Option ExporterKind
+kind_in text = named_in written_kind every_kind text
+
+-- the names of properties
+abbrev pub written_name : PropertyName → List ℕ
+written_name property.Exports = codes "exports"
+written_name property.Obj = codes "obj"
+written_name property.Nbytes = codes "nbytes"
+written_name property.Readonly = codes "readonly"
+written_name property.Itemsize = codes "itemsize"
+written_name property.Ndim = codes "ndim"
+written_name property.Shape = codes "shape"
+written_name property.Strides = codes "strides"
+written_name property.Suboffsets = codes "suboffsets"
+written_name property.Format = codes "format"
+written_name property.Contiguous = codes "contiguous"
+written_name property.CContiguous = codes "c_contiguous"
+written_name property.FContiguous = codes "f_contiguous"
+
+abbrev pub every_property : List PropertyName
+every_property =
+    property.Exports ∷ property.Obj ∷ property.Nbytes ∷ property.Readonly ∷ property.Itemsize ∷ property.Ndim ∷ property.Shape
+    ∷ property.Strides ∷ property.Suboffsets ∷ property.Format ∷ property.Contiguous ∷ property.CContiguous ∷ property.FContiguous ∷ []
+
+unfoldable pub property_in : List ℕ → Option PropertyName
+property_in text = named_in written_name every_property text

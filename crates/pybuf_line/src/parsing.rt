@@ -1,0 +1,144 @@
+//! The commands that lines spell.
+ghost use Rattle.std.specs.Prelude.{◌≡◌, ◌+◌, ◌≤◌, ◌<◌, ◌^◌, map, vec_items, Ok, Err};
+ghost use Rattle.pybuf_line.specs.Scalars.{handle_in};
+ghost use Rattle.pybuf_line.specs.Commands.{set_key_in, verb_in, new_in, do_in, command_of_words, command_in};
+ghost use Rattle.pybuf_line.specs.Reading.{Reads};
+
+use crate::scalars::{bytes, handle};
+use crate::spellings::value;
+use crate::splitting::words_of;
+use crate::unread::Unread;
+use crate::words::{Word, first_word, kind_named, property_named};
+use pybuf_value::Value;
+use pybuf_view::{ByteInnerNewOptions, Command, Verb};
+use std::alloc::Global;
+
+/// The key that a text spells for `set`, which takes no tuple and no slice.
+fn written(alloc: Global, text: &[u8]) -> Result<Value, Unread>
+    ensures { Reads result (set_key_in handle_in text.now) }
+{
+    match value(alloc, text)? {
+        Value::One(scalar) => Ok(Value::One(scalar)),
+        Value::List(parts) => Ok(Value::List(parts)),
+        _ => Err(Unread::NoCommand),
+    }
+}
+
+/// The verb of a word with its arguments.
+fn verb_of(alloc: Global, word: Word, arguments: &[&[u8]]) -> Result<Verb, Unread>
+    ensures { Reads result (verb_in handle_in word (map (λ argument. argument.now) arguments.now)) }
+{
+    match word {
+        Word::View => match arguments {
+            [] => Ok(Verb::View),
+            _ => Err(Unread::NoCommand),
+        },
+        Word::Get => match arguments {
+            [key] => {
+                let key = value(alloc, key)?;
+                Ok(Verb::Get { key })
+            }
+            _ => Err(Unread::NoCommand),
+        },
+        Word::Set => match arguments {
+            [key, item] => {
+                let key = written(alloc, key)?;
+                let value = value(alloc, item)?;
+                Ok(Verb::Set { key, value })
+            }
+            _ => Err(Unread::NoCommand),
+        },
+        Word::ToBytes => match arguments {
+            [] => Ok(Verb::ToBytes),
+            _ => Err(Unread::NoCommand),
+        },
+        Word::Release => match arguments {
+            [] => Ok(Verb::Release),
+            _ => Err(Unread::NoCommand),
+        },
+        Word::Len => match arguments {
+            [] => Ok(Verb::Len),
+            _ => Err(Unread::NoCommand),
+        },
+        Word::Cast => match arguments {
+            [format] => {
+                let format = value(alloc, format)?;
+                let shape = None;
+                Ok(Verb::Cast { format, shape })
+            }
+            _ => Err(Unread::NoCommand),
+        },
+        Word::Property => match arguments {
+            [name] => match property_named(name) {
+                Some(name) => Ok(Verb::Property { name }),
+                None => Err(Unread::NoCommand),
+            },
+            _ => Err(Unread::NoCommand),
+        },
+        Word::ToReadonly => match arguments {
+            [] => Ok(Verb::ToReadonly),
+            _ => Err(Unread::NoCommand),
+        },
+        Word::New => Err(Unread::NoCommand),
+    }
+}
+
+/// `new`, by the words after it.
+fn new_of(alloc: Global, rest: &[&[u8]]) -> Result<Command, Unread>
+    ensures { Reads result (new_in (map (λ word. word.now) rest.now)) }
+{
+    match rest {
+        [kind, source] => {
+            let Some(kind) = kind_named(kind) else {
+                return Err(Unread::NoCommand);
+            };
+            let source = bytes(alloc, source)?;
+            let options = ByteInnerNewOptions {
+                source: Some(Value::One(source)),
+                encoding: None,
+                errors: None,
+            };
+            Ok(Command::New { kind, options })
+        }
+        _ => Err(Unread::NoCommand),
+    }
+}
+
+/// What is asked of a handle, by the words after the first.
+fn do_of(alloc: Global, word: Word, rest: &[&[u8]]) -> Result<Command, Unread>
+    ensures { Reads result (do_in handle_in word (map (λ word. word.now) rest.now)) }
+{
+    match rest {
+        [subject, arguments @ ..] => {
+            let Some(subject) = handle(subject) else {
+                return Err(Unread::NoCommand);
+            };
+            let verb = verb_of(alloc, word, arguments)?;
+            Ok(Command::Do { subject, verb })
+        }
+        [] => Err(Unread::NoCommand),
+    }
+}
+
+/// The command that words spell.
+fn command_of(alloc: Global, words: &[&[u8]]) -> Result<Command, Unread>
+    ensures { Reads result (command_of_words handle_in (map (λ word. word.now) words.now)) }
+{
+    match words {
+        [first, rest @ ..] => match first_word(first) {
+            None => Err(Unread::NoCommand),
+            Some(Word::New) => new_of(alloc, rest),
+            Some(word) => do_of(alloc, word, rest),
+        },
+        [] => Err(Unread::NoCommand),
+    }
+}
+
+/// The one command that a line spells.
+#[tactic(auto, unfolding(crate::specs::Commands::command_in))]
+pub fn command(alloc: Global, line: &[u8]) -> Result<Command, Unread>
+    ensures { Reads result (command_in handle_in line.now) }
+{
+    let words = words_of(alloc, line)?;
+    command_of(alloc, &words)
+}

@@ -1,0 +1,54 @@
+//! What no clause says: that the calls succeed with ample memory.
+use super::*;
+use pybuf_value::{Item, NumberList, Scalar, ScalarList, Text};
+use pybuf_view::Reply;
+use std::test::Fail;
+
+#[test]
+fn replies_are_printed_with_ample_memory(rt: HostRuntime) -> Result<(), Fail> {
+    let numbers = NumberList::from_vec(Vec::from_slice(rt.alloc(), &[2, -3, 0])?);
+    let one = NumberList::from_vec(Vec::from_slice(rt.alloc(), &[7])?);
+    let mut parts = ScalarList::new(rt.alloc());
+    parts.push(Scalar::Int(1))?;
+    parts.push(Scalar::Bool(true))?;
+    let replies = [
+        Reply::Numbers(numbers),
+        Reply::Numbers(one),
+        Reply::Numbers(NumberList::new(rt.alloc())),
+        Reply::Item(Item::Many(parts)),
+        Reply::Truth(false),
+        Reply::Text(Text::from_string(String::from_str(rt.alloc(), "<hH")?)),
+    ];
+    let mut out = Vec::new(rt.alloc());
+    for reply in &replies {
+        push_reply_line(&mut out, reply)?;
+    }
+    // the texts are those of Python's `repr`
+    assert_eq!(rt;
+        out.as_slice(),
+        b"(2, -3, 0)\n(7,)\n()\n(1, True)\nFalse\n'<hH'\n".as_slice()
+    );
+    Ok(())
+}
+
+#[test]
+fn lines_are_read_with_ample_memory(rt: HostRuntime) {
+    let lines = b"new bytearray x616263\nview h0\nget h1 None:None:-1\nset h2 [1,'a,b'] (0:1:1)";
+    let count = commands_of(rt.alloc(), lines).map(|commands| commands.len());
+    assert_eq!(rt; count.ok(), Some(4));
+    let bad = commands_of(rt.alloc(), b"view h0\nview  h0\n").map(|commands| commands.len());
+    assert_eq!(rt; bad.err(), Some(Misread::BadLine(2)));
+    assert!(rt; command(rt.alloc(), b"release h7").is_ok());
+    assert_eq!(rt;
+        command(rt.alloc(), b"release").err(),
+        Some(Unread::NoCommand)
+    );
+}
+
+#[test]
+fn a_bad_line_is_told_with_ample_memory(rt: HostRuntime) -> Result<(), Fail> {
+    let mut out = Vec::new(rt.alloc());
+    push_bad_line(&mut out, 12)?;
+    assert_eq!(rt; out.as_slice(), b"line 12 is not a command\n".as_slice());
+    Ok(())
+}

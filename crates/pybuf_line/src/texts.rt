@@ -1,0 +1,171 @@
+//! The texts of replies.
+ghost use Rattle.std.specs.Prelude.{◌≡◌, ◌++◌, List, ℕ, OnOk, decimal};
+ghost use Rattle.std.specs.Fmt.{signed_decimal};
+ghost use Rattle.std.specs.List.{flat_map};
+ghost use Rattle.pybuf_value.specs.Quoted.{quoted_text};
+ghost use Rattle.pybuf_line.specs.Scalars.{handle_text};
+ghost use Rattle.pybuf_line.specs.Replies.{bytes_text, truth_text, scalar_text, next_part_text, tuple_text, item_text, reply_text, reply_line, bad_line_text};
+
+use itoa::Buffer;
+use pybuf_value::{Item, Made, Scalar, push_quoted};
+use pybuf_view::Reply;
+
+/// Adds a decimal number.
+fn push_decimal(out: &mut Vec<u8>, number: u64) -> Made<()>
+    ensures { OnOk result (out.new.items ≡ out.old.items ++ decimal number) }
+{
+    let mut buffer = Buffer::new();
+    out.extend_from_slice(buffer.format(number).as_bytes())?;
+    Ok(())
+}
+
+/// Adds a decimal number with its sign.
+fn push_signed_decimal(out: &mut Vec<u8>, number: i128) -> Made<()>
+    ensures { OnOk result (out.new.items ≡ out.old.items ++ signed_decimal number) }
+{
+    let mut buffer = Buffer::new();
+    out.extend_from_slice(buffer.format(number).as_bytes())?;
+    Ok(())
+}
+
+/// Adds bytes as Python's `repr` writes them.
+fn push_bytes(out: &mut Vec<u8>, bytes: &[u8]) -> Made<()>
+    ensures { OnOk result (out.new.items ≡ out.old.items ++ bytes_text bytes.now) }
+{
+    out.push(b'b')?;
+    push_quoted(out, bytes)
+}
+
+/// Adds a truth value.
+fn push_truth(out: &mut Vec<u8>, truth: bool) -> Made<()>
+    ensures { OnOk result (out.new.items ≡ out.old.items ++ truth_text truth) }
+{
+    if truth {
+        out.extend_from_slice(b"True")?;
+    } else {
+        out.extend_from_slice(b"False")?;
+    }
+    Ok(())
+}
+
+/// What a tuple may have as its parts.
+trait Part {
+    // the text of a part
+    ghost text: { Self → List ℕ };
+
+    /// Adds the part.
+    fn push_part(&self, out: &mut Vec<u8>) -> Made<()>
+        ensures { OnOk result (out.new.items ≡ out.old.items ++ text self.now) };
+}
+
+impl Part for i128 {
+    ghost text = { signed_decimal };
+
+    fn push_part(&self, out: &mut Vec<u8>) -> Made<()> {
+        push_signed_decimal(out, *self)
+    }
+}
+
+impl Part for Scalar {
+    ghost text = { scalar_text handle_text };
+
+    fn push_part(&self, out: &mut Vec<u8>) -> Made<()> {
+        match self {
+            Scalar::None => out.extend_from_slice(b"None")?,
+            Scalar::Bool(truth) => push_truth(out, *truth)?,
+            Scalar::Int(number) => push_signed_decimal(out, *number)?,
+            Scalar::Text(text) => push_quoted(out, text.as_slice())?,
+            Scalar::Bytes(bytes) => push_bytes(out, bytes.as_slice())?,
+            Scalar::Ellipsis => out.extend_from_slice(b"Ellipsis")?,
+            Scalar::Handle(handle) => {
+                out.push(b'h')?;
+                push_decimal(out, *handle)?;
+            }
+        }
+        Ok(())
+    }
+}
+
+/// Adds the parts of a tuple after the first.
+fn push_next_parts<T: Part>(out: &mut Vec<u8>, parts: &[T]) -> Made<()>
+    ensures { OnOk result (out.new.items ≡ out.old.items ++ flat_map (next_part_text T.text) parts.now) }
+{
+    for part in parts {
+        out.extend_from_slice(b", ")?;
+        part.push_part(out)?;
+    }
+    Ok(())
+}
+
+/// Adds a tuple.
+fn push_tuple<T: Part>(out: &mut Vec<u8>, parts: &[T]) -> Made<()>
+    ensures { OnOk result (out.new.items ≡ out.old.items ++ tuple_text T.text parts.now) }
+{
+    match parts {
+        [] => out.extend_from_slice(b"()")?,
+        [part] => {
+            out.push(b'(')?;
+            part.push_part(out)?;
+            out.extend_from_slice(b",)")?;
+        }
+        [part, more @ ..] => {
+            out.push(b'(')?;
+            part.push_part(out)?;
+            push_next_parts(out, more)?;
+            out.push(b')')?;
+        }
+    }
+    Ok(())
+}
+
+/// Adds an item.
+fn push_item(out: &mut Vec<u8>, item: &Item) -> Made<()>
+    ensures { OnOk result (out.new.items ≡ out.old.items ++ item_text handle_text item.now) }
+{
+    match item {
+        Item::One(part) => part.push_part(out),
+        Item::Many(parts) => push_tuple(out, parts.as_slice()),
+    }
+}
+
+/// Adds a reply.
+pub fn push_reply(out: &mut Vec<u8>, reply: &Reply) -> Made<()>
+    ensures { OnOk result (out.new.items ≡ out.old.items ++ reply_text handle_text reply.now) }
+{
+    match reply {
+        Reply::Ok => out.extend_from_slice(b"ok")?,
+        Reply::Handle(handle) => {
+            out.push(b'h')?;
+            push_decimal(out, *handle)?;
+        }
+        Reply::Item(item) => push_item(out, item)?,
+        Reply::Bytes(bytes) => push_bytes(out, bytes.as_slice())?,
+        Reply::Text(text) => push_quoted(out, text.as_slice())?,
+        Reply::Truth(truth) => push_truth(out, *truth)?,
+        Reply::Numbers(numbers) => push_tuple(out, numbers.as_slice())?,
+        Reply::Refused(fault) => {
+            out.extend_from_slice(b"! ")?;
+            out.extend_from_slice(fault.python_name().as_bytes())?;
+        }
+    }
+    Ok(())
+}
+
+/// Adds a reply and its line feed.
+pub fn push_reply_line(out: &mut Vec<u8>, reply: &Reply) -> Made<()>
+    ensures { OnOk result (out.new.items ≡ out.old.items ++ reply_line handle_text reply.now) }
+{
+    push_reply(out, reply)?;
+    out.push(b'\n')?;
+    Ok(())
+}
+
+/// Adds what is written of an input whose line of this number is no command.
+pub fn push_bad_line(out: &mut Vec<u8>, number: u64) -> Made<()>
+    ensures { OnOk result (out.new.items ≡ out.old.items ++ bad_line_text number) }
+{
+    out.extend_from_slice(b"line ")?;
+    push_decimal(out, number)?;
+    out.extend_from_slice(b" is not a command\n")?;
+    Ok(())
+}

@@ -1,0 +1,126 @@
+//! The first words of lines, and the names that stand on them.
+ghost use Rattle.std.specs.Prelude.{◌≡◌};
+ghost use Rattle.std.specs.Str.{bytes_eq};
+ghost use Rattle.pybuf_line.specs.Words.{word_in, kind_in, property_in};
+
+use pybuf_view::{ExporterKind, PropertyName};
+
+/// The first word of a line.
+#[derive(Clone, Copy, Debug, PartialEq, Eq)]
+pub enum Word {
+    New,
+    View,
+    Get,
+    Set,
+    ToBytes,
+    Release,
+    Len,
+    Cast,
+    Property,
+    ToReadonly,
+}
+
+/// Whether a text is a word, byte by byte.
+pub fn is_word(text: &[u8], word: &str) -> bool
+    ensures { result ≡ bytes_eq text.now word.now }
+{
+    text == word.as_bytes()
+}
+
+/// The first word that a text spells.
+#[tactic(auto, unfolding(crate::specs::Words::word_in))]
+pub fn first_word(text: &[u8]) -> Option<Word>
+    ensures { result ≡ word_in text.now }
+{
+    if is_word(text, "new") {
+        return Some(Word::New);
+    }
+    if is_word(text, "view") {
+        return Some(Word::View);
+    }
+    if is_word(text, "get") {
+        return Some(Word::Get);
+    }
+    if is_word(text, "set") {
+        return Some(Word::Set);
+    }
+    if is_word(text, "bytes") {
+        return Some(Word::ToBytes);
+    }
+    if is_word(text, "release") {
+        return Some(Word::Release);
+    }
+    if is_word(text, "len") {
+        return Some(Word::Len);
+    }
+    if is_word(text, "cast") {
+        return Some(Word::Cast);
+    }
+    if is_word(text, "prop") {
+        return Some(Word::Property);
+    }
+    if is_word(text, "toreadonly") {
+        return Some(Word::ToReadonly);
+    }
+    None
+}
+
+/// The kind of exporter that a text names.
+pub fn kind_named(text: &[u8]) -> Option<ExporterKind>
+    ensures { result ≡ kind_in text.now }
+{
+    if is_word(text, "bytes") {
+        return Some(ExporterKind::Bytes);
+    }
+    if is_word(text, "bytearray") {
+        return Some(ExporterKind::ByteArray);
+    }
+    None
+}
+
+/// The property that a text names.
+#[tactic(auto, unfolding(crate::specs::Words::property_in))]
+pub fn property_named(text: &[u8]) -> Option<PropertyName>
+    ensures { result ≡ property_in text.now }
+{
+    if is_word(text, "exports") {
+        return Some(PropertyName::Exports);
+    }
+    if is_word(text, "obj") {
+        return Some(PropertyName::Obj);
+    }
+    if is_word(text, "nbytes") {
+        return Some(PropertyName::Nbytes);
+    }
+    if is_word(text, "readonly") {
+        return Some(PropertyName::Readonly);
+    }
+    if is_word(text, "itemsize") {
+        return Some(PropertyName::Itemsize);
+    }
+    if is_word(text, "ndim") {
+        return Some(PropertyName::Ndim);
+    }
+    if is_word(text, "shape") {
+        return Some(PropertyName::Shape);
+    }
+    if is_word(text, "strides") {
+        return Some(PropertyName::Strides);
+    }
+    if is_word(text, "suboffsets") {
+        return Some(PropertyName::Suboffsets);
+    }
+    if is_word(text, "format") {
+        return Some(PropertyName::Format);
+    }
+    if is_word(text, "contiguous") {
+        return Some(PropertyName::Contiguous);
+    }
+    if is_word(text, "c_contiguous") {
+        return Some(PropertyName::CContiguous);
+    }
+    if is_word(text, "f_contiguous") {
+        return Some(PropertyName::FContiguous);
+    }
+    None
+}
