@@ -15,12 +15,12 @@ import sys
 
 sys.dont_write_bytecode = True
 
-from python_objects import NATIVE_CODES, Items, NoName, World
+from python_objects import NATIVE_CODES, Items, NoName, SlicesAreBytes
 
 WORD = 2**63
 
 
-class Ours(World):
+class Ours(SlicesAreBytes):
     """Python's objects with our replies where we differ by choice."""
 
     def __init__(self):
@@ -45,6 +45,7 @@ class Ours(World):
             "prop": is_view != (words[-1] == "exports"),
             "cast": is_view,
             "release": is_view,
+            "toreadonly": is_view,
             "set": is_view or isinstance(self.objects[handle], bytearray),
             "get": not (is_view and words[-1][0] == "("),
         }
@@ -62,6 +63,9 @@ class Ours(World):
     def do_view(self, handle, subject):
         made = subject[:] if isinstance(subject, Items) else memoryview(subject)
         return self.view_made(made, handle, self.stride.get(handle, 1))
+
+    def do_toreadonly(self, handle, subject):
+        return self.view_made(subject.toreadonly(), handle, self.stride[handle])
 
     def do_get(self, handle, subject, key):
         if handle in self.exporters and isinstance(key, slice):
@@ -111,8 +115,11 @@ class Ours(World):
             raise TypeError("the length is no multiple of the size of an item")
         if isinstance(subject, Items):
             memory = subject.flat()
+        elif subject.nbytes:
+            memory = subject.cast("B")
         else:
-            memory = subject.cast("B") if subject.nbytes else memoryview(subject.obj)[0:0]
+            empty = memoryview(subject.obj)[0:0]
+            memory = empty.toreadonly() if subject.readonly else empty
         code = text.removeprefix("@")
         if len(code) == 1 and code in NATIVE_CODES:
             made = memory.cast(text)
@@ -210,7 +217,7 @@ class Drawn:
         if kind < 0.02 or not self.world.objects:
             size = self.one([0, 1, 2, 4, 8, 8, 12, 16, 16, 24])
             return f"new {self.one(['bytes', 'bytearray', 'bytearray'])} x{self.draw.randbytes(size).hex()}"
-        verb = self.one("view get get get get set set set set set cast cast cast cast prop prop bytes bytes len release".split())
+        verb = self.one("view get get get get set set set set set cast cast cast cast prop prop bytes bytes len release toreadonly".split())
         if verb == "release" and self.draw.random() < 0.5 or kind < 0.05:
             verb = "view"
         handle = self.handle()

@@ -2,6 +2,9 @@
 
 A `World` keeps a list of objects, `h0` being the first: `bytes`, `bytearray`, `memoryview`, and an
 `Items` where a view has a format that Python's `memoryview` can't be cast to.
+
+What a command finds is written as Python's `repr` writes it. What has no value in Python is written
+as this program does: `ok`, a handle for an object that has a name, and `!` with a refusal.
 """
 import re
 import struct
@@ -47,6 +50,11 @@ class Items:
 
     def release(self):
         self.memory.release()
+
+    def toreadonly(self):
+        same = Items(self.memory.toreadonly(), self.format, self.reader.format)
+        same.picked = self.live()
+        return same
 
     def flat(self):
         """The bytes of contiguous items."""
@@ -112,10 +120,10 @@ class World:
         subject = self.object(handle)
         arguments = words[2:]
         if words[0] == "prop":
-            return shown(self.property(handle, subject, *arguments))
+            return written(self.property(handle, subject, *arguments))
         values = [value_of(word, self) for word in arguments]
         done = getattr(self, f"do_{words[0]}")(handle, subject, *values)
-        return done if isinstance(done, Reply) else shown(done)
+        return written(done)
 
     def object(self, handle):
         if handle >= len(self.objects):
@@ -141,7 +149,7 @@ class World:
         found = subject[key]
         if isinstance(found, (memoryview, Items)):
             return self.named(found, self.exporter_of(handle))
-        return bytes(found) if isinstance(found, bytearray) else found
+        return found
 
     def do_set(self, handle, subject, key, value):
         subject[key] = value
@@ -168,6 +176,9 @@ class World:
         memory = subject if plain else subject.flat()
         return self.named(Items(memory, text), self.exporter_of(handle))
 
+    def do_toreadonly(self, handle, subject):
+        return self.named(subject.toreadonly(), self.exporter_of(handle))
+
     def property(self, handle, subject, name):
         if name == "obj":
             assert subject.obj is self.objects[self.exporters[handle]]
@@ -192,17 +203,22 @@ class World:
         return len(views)
 
 
+class SlicesAreBytes(World):
+    """Python's objects, but for one difference that `docs/DIFFERENCES.md` names: a slice of a
+    bytearray is `bytes`."""
+
+    def do_get(self, handle, subject, key):
+        found = super().do_get(handle, subject, key)
+        return bytes(found) if isinstance(found, bytearray) else found
+
+
 class Reply(str):
-    """A reply text."""
+    """A reply text that stands for no object."""
 
 
-def shown(found):
-    """How the reply text spells what was found: a text, which only a format is, as it stands."""
-    if isinstance(found, str):
-        return found
-    if isinstance(found, bytearray):
-        found = bytes(found)
-    return repr(found)
+def written(found):
+    """The reply text of what was found."""
+    return found if isinstance(found, Reply) else repr(found)
 
 
 def handle_of(word):

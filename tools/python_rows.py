@@ -1,24 +1,27 @@
 #!/usr/bin/env python3
-"""Writes the tables of pybuf_rows whose answers come from Python's own objects.
+"""Writes the cases of `cases/`, whose answers come from Python's own objects.
 
     python3 tools/python_rows.py            writes them
-    python3 tools/python_rows.py --check    writes nothing, and ends with 1 where one would change
+    python3 tools/python_rows.py --check    writes nothing, and ends with 1 where a file would change
 
-`crates/pybuf_rows/src/python_rows.rt` has lines whose replies are Python's. In `differences.rt`
-beside it the replies are this program's own, written down here by hand, with Python's beside them
-wherever they differ; that a difference is said and there is none, or the other way round, stops
-the script. `python_objects.py` carries the lines out. Made with CPython 3.11, and with nothing
-random: the drawn lines come from a fixed seed.
+A case is an input, a file without an ending, and beside it what the program writes for it, with the
+ending `.stdout`. In `cases/python` the replies are Python's. In `cases/differences` they are this
+program's own, written down here by hand, and `cases/differences.txt` has Python's beside them
+wherever they differ; that a difference is said and there is none, or the other way round, stops the
+script. The name of a file is that of its case, with `-` in place of blanks and signs.
+`python_objects.py` carries the lines out. Made with CPython 3.11, and with nothing random: the
+drawn lines come from a fixed seed.
 """
 import pathlib
 import random
+import re
 import sys
 
 sys.dont_write_bytecode = True
 
-from python_objects import World
+from python_objects import SlicesAreBytes, World
 
-SOURCES = pathlib.Path(__file__).parent.parent / "crates" / "pybuf_rows" / "src"
+CASES = pathlib.Path(__file__).parent.parent / "cases"
 
 
 class Case:
@@ -29,7 +32,7 @@ class Case:
         self.lines = [line for line in lines.strip().split("\n") if line]
 
 
-BYTES = [
+PYTHON = [
     Case(
         "a write through a view is seen by the bytearray and by every view",
         """
@@ -464,9 +467,6 @@ bytes h1
 get h3 1
 """,
     ),
-]
-
-PROPERTIES_AND_CASTS = [
     Case(
         "properties of a view of all bytes",
         """
@@ -865,6 +865,120 @@ prop h0 exports
 """,
     ),
     Case(
+        "a read-only view shows what is written through others",
+        """
+new bytearray x616263
+view h0
+toreadonly h1
+prop h1 readonly
+prop h2 readonly
+set h2 1 90
+set h2 9 90
+set h2 'a' 90
+set h2 1 None
+get h2 1
+set h1 1 90
+get h2 1
+set h0 2 89
+bytes h2
+len h2
+prop h2 obj
+prop h0 exports
+new bytes x6162
+view h3
+toreadonly h4
+prop h5 readonly
+set h5 0 65
+get h5 -1
+""",
+    ),
+    Case(
+        "what is made of a read-only view may only be read",
+        """
+new bytearray x01000200
+view h0
+toreadonly h1
+view h2
+get h2 None:None:-1
+cast h2 'H'
+cast h2 '<H'
+toreadonly h2
+set h3 0 9
+set h4 0 9
+set h5 0 9
+set h6 0 9
+set h7 0 9
+get h6 0:1:1
+set h8 0 9
+get h1 1:None:None
+set h9 0 9
+get h5 0
+get h6 0
+bytes h4
+bytes h7
+prop h0 exports
+""",
+    ),
+    Case(
+        "a read-only view has the items of its view",
+        """
+new bytearray x0102030405060708
+view h0
+cast h1 'H'
+get h2 None:None:-1
+toreadonly h3
+prop h4 format
+prop h4 itemsize
+prop h4 shape
+prop h4 strides
+prop h4 nbytes
+prop h4 ndim
+prop h4 contiguous
+get h4 0
+get h4 -1
+get h4 4
+get h4 1:3:1
+bytes h5
+cast h4 'B'
+cast h1 '>hH'
+get h6 None:None:-1
+toreadonly h7
+get h8 0
+prop h8 format
+prop h8 shape
+prop h8 readonly
+bytes h8
+get h1 8:None:None
+toreadonly h9
+prop h10 shape
+bytes h10
+get h10 0
+""",
+    ),
+    Case(
+        "a read-only view and its view are released each by itself",
+        """
+new bytearray x6162
+view h0
+toreadonly h1
+release h1
+toreadonly h1
+get h2 0
+prop h0 exports
+toreadonly h2
+release h2
+release h2
+toreadonly h2
+get h2 0
+prop h2 readonly
+get h3 1
+prop h0 exports
+view h0
+set h4 1 90
+bytes h3
+""",
+    ),
+    Case(
         "handles of bytes as values of items",
         """
 new bytes x01020304
@@ -941,8 +1055,8 @@ def drawn_writes(draw):
     return "\n".join(lines)
 
 
-BYTES += [Case(f"slices of slices of a view, drawn ({seed})", drawn_slices(Draw(seed))) for seed in (1, 2, 3, 4)]
-BYTES += [Case(f"items read and written, drawn ({seed})", drawn_writes(Draw(seed))) for seed in (5, 6, 7)]
+PYTHON += [Case(f"slices of slices of a view, drawn ({seed})", drawn_slices(Draw(seed))) for seed in (1, 2, 3, 4)]
+PYTHON += [Case(f"items read and written, drawn ({seed})", drawn_writes(Draw(seed))) for seed in (5, 6, 7)]
 
 # Beside each line our reply, written by hand; Python's is put beside it where it differs.
 DIFFERENCES = [
@@ -983,6 +1097,7 @@ view h1                            ! UnknownName  !
 bytes h1                           ! UnknownName  !
 len h1                             ! UnknownName  !
 release h1                         ! UnknownName  !
+toreadonly h1                      ! UnknownName  !
 view h0                            h1
 get h1 0                           97
 """,
@@ -994,8 +1109,10 @@ new bytes x61                      h0
 set h0 0 65                        ! UnknownName  !
 set h0 'a' None                    ! UnknownName  !
 release h0                         ! UnknownName  !
+toreadonly h0                      ! UnknownName  !
 new bytearray x61                  h1
 release h1                         ! UnknownName  !
+toreadonly h1                      ! UnknownName  !
 bytes h0                           b'a'
 """,
     ),
@@ -1156,6 +1273,17 @@ bytes h1                           b'\\x01\\x02\\x03\\x04'   !
 """,
     ),
     Case(
+        "a slice of a bytearray is bytes",
+        """
+new bytearray x616263              h0
+get h0 0:2:1                       b'ab'          !
+get h0 None:None:-1                b'cba'         !
+get h0 2:1:1                       b''            !
+new bytes x616263                  h1
+get h1 0:2:1                       b'ab'
+""",
+    ),
+    Case(
         "a handle among the values that was never given",
         """
 new bytearray x01                  h0
@@ -1170,14 +1298,20 @@ bytes h0                           b'\\x01'
 ]
 
 
-def python_rows(cases):
-    """The cases with the replies of Python's objects."""
-    return [(case.title, list(zip(case.lines, World().run(case.lines)))) for case in cases]
+def text(lines):
+    return "".join(f"{line}\n" for line in lines)
 
 
-def difference_rows(cases):
-    """The cases with our replies, and Python's where they differ."""
-    for case in cases:
+def python_cases():
+    """Each case with its lines and the replies of Python's objects, where slices of a bytearray are
+    `bytes`."""
+    for case in PYTHON:
+        yield case.title, list(zip(case.lines, SlicesAreBytes().run(case.lines)))
+
+
+def difference_cases():
+    """Each case with its lines and our replies, and with Python's where they differ."""
+    for case in DIFFERENCES:
         rows = [tuple(part.strip() for part in line.split("  ") if part.strip()) for line in case.lines]
         python = World().run([row[0] for row in rows])
         for row, reply in zip(rows, python):
@@ -1188,66 +1322,37 @@ def difference_rows(cases):
 
 def in_columns(rows):
     """The rows, each as one line of columns."""
-    widths = [max((len(row[at]) for row in rows if len(row) > at + 1 and len(row[at]) <= 44), default=0) for at in (0, 1)]
-    for row in rows:
-        assert not any("  " in part for part in row), row
-        yield "   ".join([part.ljust(width) for part, width in zip(row, [*widths, 0])]).rstrip()
+    widths = [max((len(row[at]) for row in rows if len(row) > at + 1), default=0) for at in (0, 1)]
+    return ["   ".join(part.ljust(width) for part, width in zip(row, [*widths, 0])).rstrip() for row in rows]
 
 
-def literal(text):
-    """A raw literal of the text, between as few marks as serve."""
-    marks = next(it for it in ("", "#", "##", "###") if '"' + it not in text)
-    return f'r{marks}"{text}"{marks}'
-
-
-def source(head, rows, tables):
-    """The source file of tables with a test for each, and the number of lines."""
-    out = [*head, "use crate::judging::judge_cases;", "use std::test::Fail;"]
-    count = 0
-    for name, test, cases in tables:
-        cases = list(rows(cases))
-        count += sum(len(lines) for _, lines in cases)
-        out += ["", "/// What each case shows, and its lines with the replies beside them.", f"const {name}: [(&str, &str); {len(cases)}] = ["]
-        for title, lines in cases:
-            table = "\n".join(["", *in_columns(lines), ""])
-            out += ["    (", f'        "{title}",', f"        {literal(table)},", "    ),"]
-        out += ["];", "", "#[test]", f"fn {test}(rt: HostRuntime) -> Result<(), Fail> {{", f"    judge_cases(&rt, rt.alloc(), &{name})", "}"]
-    return "\n".join(out) + "\n", count
-
-
-MADE = {
-    "python_rows.rt": (
-        [
-            "//! Lines whose replies are those of Python's own `bytes`, `bytearray`, `memoryview` and `struct`.",
-            "//!",
-            "//! Made by `tools/python_rows.py`, which carries each line out on these objects: change it there.",
-        ],
-        python_rows,
-        [("BYTES", "as_python_answers", BYTES), ("PROPERTIES_AND_CASTS", "properties_and_casts_as_python_answers", PROPERTIES_AND_CASTS)],
-    ),
-    "differences.rt": (
-        [
-            "//! Lines whose replies differ from Python's by choice, with Python's in the last column.",
-            "//!",
-            "//! Made by `tools/python_rows.py`, where our replies are written down by hand, and Python's come",
-            "//! from its own objects: change it there. `docs/DIFFERENCES.md` has the reasons.",
-        ],
-        difference_rows,
-        [("CASES", "differences_by_choice", DIFFERENCES)],
-    ),
-}
+def files():
+    """The text of each file, by its path."""
+    table = ["Our replies, and Python's where they differ. Made by tools/python_rows.py: change it there."]
+    for folder, cases in {"python": python_cases(), "differences": difference_cases()}.items():
+        for title, rows in cases:
+            name = re.sub("[^A-Za-z0-9]+", "-", title.replace("'", "")).strip("-")
+            yield CASES / folder / name, text(row[0] for row in rows)
+            yield CASES / folder / f"{name}.stdout", text(row[1] for row in rows)
+            if folder == "differences":
+                table += ["", title, "", *(f"    {line}" for line in in_columns(rows))]
+    yield CASES / "differences.txt", text(table)
 
 
 def main():
-    changed = False
-    for name, made in MADE.items():
-        text, count = source(*made)
-        path = SOURCES / name
-        differs = not path.exists() or path.read_text() != text
-        changed |= differs
-        if "--check" not in sys.argv and differs:
-            path.write_text(text)
-        print(f"{name}: {count} lines{', changed' if differs else ''}")
+    made = dict(files())
+    old = {path for folder in {path.parent for path in made} for path in folder.glob("*") if path.is_file()}
+    changed = sorted(path for path in {*made, *old} if path not in old or path not in made or path.read_text() != made[path])
+    for path in changed:
+        print(path.relative_to(CASES.parent))
+        if "--check" in sys.argv:
+            continue
+        if path in made:
+            path.parent.mkdir(parents=True, exist_ok=True)
+            path.write_text(made[path])
+        else:
+            path.unlink()
+    print(f"{len(made)} files, {len(changed)} of them changed")
     return 1 if changed and "--check" in sys.argv else 0
 
 
