@@ -13,10 +13,6 @@ use Rattle.pybuf_slice.specs.Runs.{span_start, span_end}
 abbrev pub replaced_range : {X : Type 0} → List X → ℕ → ℕ → List X → List X
 replaced_range items start end others = take start items ++ (others ++ drop end items)
 
--- an element between the first ones and the rest
-abbrev pub inserted_list : {X : Type 0} → List X → ℕ → X → List X
-inserted_list items index x = replaced_range items index index (x ∷ [])
-
 -- each element at its index
 abbrev pub set_at : {X : Type 0} → List X → List ℕ → List X → List X
 set_at items [] others = items

@@ -79,8 +79,8 @@ pub(crate) fn do_delete_range<T: Twin>(list: &mut Vec<T>, range: Range<usize>)
     drop(list.drain(range));
 }
 
-/// Takes the elements at rising indices of a range out of the list. Each element that stays moves at
-/// most once.
+/// Takes the elements at rising indices of a range out of the list. Each element of the range that
+/// stays moves at most once; those after the range move together, once.
 pub(crate) fn do_delete_indexes<T: Twin>(
     list: &mut Vec<T>,
     range: Range<usize>,

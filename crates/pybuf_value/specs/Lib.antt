@@ -3,5 +3,5 @@ pub mod Refusing
 pub mod Choosing
 pub mod Numbers
 pub mod Snaps
-pub mod Quoted
+pub mod Quotes
 pub mod Halting

@@ -6,7 +6,7 @@ mod faults;
 mod halt;
 mod list;
 mod numbers;
-mod quoted;
+mod quotes;
 mod snaps;
 mod text;
 mod values;
@@ -20,7 +20,7 @@ pub use list::{
 };
 pub use numbers::{ByteOr, fit_count, fit_index, index_of, saturate, value_from_object};
 pub use pybuf_copy::{Exact, Made, NoMemory, Twin, copy_all};
-pub use quoted::{push_escaped, push_quoted, quote};
+pub use quotes::{push_escaped, push_quoted, quote};
 pub use snaps::{Lender, Snap, SnapKind, SnapList};
 pub use text::Text;
 pub use values::{CompareOp, Item, PySlice, Scalar, Value};

@@ -2,7 +2,7 @@
 ghost use Rattle.std.specs.Prelude.{◌≡◌, ◌<◌, ◌==◌, ◌++◌, OnOk, slice_index};
 ghost use Rattle.std.specs.List.{list_any};
 ghost use Rattle.hex.specs.Hex.{lower_digits};
-ghost use Rattle.pybuf_value.specs.Quoted.{quote_of, escaped_byte, quoted_text};
+ghost use Rattle.pybuf_value.specs.Quotes.{quote_of, escaped_byte, quoted_text};
 
 use pybuf_copy::Made;
 
