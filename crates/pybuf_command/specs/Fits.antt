@@ -1,5 +1,6 @@
 -- Which loans fit.
 use Rattle.std.specs.Prelude.{◌≡◌, ℕ, ◌==◌, Bool, true, false, ◌&&◌, ◌||◌, List, [], ◌∷◌, length}
+use Rattle.std.specs.Str.{byte}
 use Rattle.std.specs.List.{list_all}
 use Rattle.pybuf_value.specs.declared.snaps.Snap.{Snap}
 use Rattle.pybuf_value.specs.declared.snaps.SnapKind.{SnapKind}
@@ -10,7 +11,7 @@ use Rattle.pybuf_command.specs.Sized.{is_sized, byte_count}
 
 -- the format of bytes: `B`
 abbrev pub is_byte_format : List ℕ → Bool
-is_byte_format (b ∷ []) = b == 66
+is_byte_format (b ∷ []) = b == byte "B"
 is_byte_format _ = false
 
 -- one dimension of so many entries

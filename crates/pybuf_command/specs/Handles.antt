@@ -32,6 +32,7 @@ handles_in_option None = []
 
 -- the handles of all values of a command, in order
 abbrev pub handles_of : Verb → List ℕ
+handles_of (verb.Range from to) = handles_in from ++ handles_in to
 handles_of (verb.Get key) = handles_in key
 handles_of (verb.Set key value) = handles_in key ++ handles_in value
 handles_of (verb.Cast format shape) = handles_in format ++ handles_in_option shape

@@ -1,7 +1,9 @@
 //! Commands and replies of one exporter.
 use crate::kinds::Subject;
 use crate::loans::LoanList;
-use pybuf_value::{ByteList, Fault, Item, Made, NumberList, Text, Twin, Value};
+use pybuf_value::{
+    ByteList, CountList, Fault, Item, ItemList, Made, NumberList, Snap, Text, Twin, Value,
+};
 use std::alloc::Global;
 
 /// A property of an exporter or a view, by the name of the attribute of Python's `memoryview`.
@@ -40,6 +42,9 @@ pub enum PropertyName {
 pub enum Verb {
     /// A new view of the subject, as `memoryview(subject)`.
     View,
+    /// A new view of the bytes of an exporter from one place up to another, as
+    /// `memoryview(subject)[from:to]` where both places are there.
+    Range { from: Value, to: Value },
     /// The item at a key, as `subject[key]`.
     Get { key: Value },
     /// Writes the item at a key, as `subject[key] = value`.
@@ -50,6 +55,16 @@ pub enum Verb {
     ToBytes,
     /// Releases a view, as `view.release()`.
     Release,
+    /// The view itself, as `view.__enter__()`.
+    Enter,
+    /// Releases a view, as `view.__exit__()`.
+    Exit,
+    /// A new vector of a view's bytes, and a view of it with items of the same format and shape that
+    /// lie one after the other, as `PyMemoryView_GetContiguous(view, PyBUF_READ, 'C')` of a view that
+    /// isn't contiguous.
+    ToContiguous,
+    /// The items with the shape of the view, as `view.tolist()`.
+    ToList,
     /// The number of items, as `len(subject)`.
     Len,
     /// A property, as `view.nbytes` and the other attributes of a view.
@@ -73,10 +88,14 @@ pub enum LocalReply {
     Ok,
     /// The number of the view that was made.
     View(usize),
+    /// The subject itself.
+    Itself,
     /// The exporter itself.
     Own,
     /// A single number, byte, length or place, or an item of a view.
     Item(Item),
+    /// Items, row-major, and the number of entries of each dimension.
+    Items { shape: CountList, items: ItemList },
     /// Bytes.
     Bytes(ByteList),
     /// A text.
@@ -85,6 +104,9 @@ pub enum LocalReply {
     Truth(bool),
     /// Numbers, one for each dimension.
     Numbers(NumberList),
+    /// What a new exporter is to be made of: of a view, a vector of its content with a view of it in
+    /// this format and shape.
+    Fresh(Snap),
     /// Refused: nothing was changed.
     Refused(Fault),
 }
@@ -93,6 +115,11 @@ impl Twin for Verb {
     fn copy(&self, alloc: Global) -> Made<Verb> {
         match self {
             Verb::View => Ok(Verb::View),
+            Verb::Range { from, to } => {
+                let from = from.copy(alloc)?;
+                let to = to.copy(alloc)?;
+                Ok(Verb::Range { from, to })
+            }
             Verb::Get { key } => {
                 let key = key.copy(alloc)?;
                 Ok(Verb::Get { key })
@@ -109,6 +136,10 @@ impl Twin for Verb {
             }
             Verb::ToBytes => Ok(Verb::ToBytes),
             Verb::Release => Ok(Verb::Release),
+            Verb::Enter => Ok(Verb::Enter),
+            Verb::Exit => Ok(Verb::Exit),
+            Verb::ToContiguous => Ok(Verb::ToContiguous),
+            Verb::ToList => Ok(Verb::ToList),
             Verb::Len => Ok(Verb::Len),
             Verb::Property { name } => Ok(Verb::Property { name: *name }),
             Verb::ToReadonly => Ok(Verb::ToReadonly),
@@ -134,10 +165,16 @@ impl Twin for LocalReply {
         match self {
             LocalReply::Ok => Ok(LocalReply::Ok),
             LocalReply::View(view) => Ok(LocalReply::View(*view)),
+            LocalReply::Itself => Ok(LocalReply::Itself),
             LocalReply::Own => Ok(LocalReply::Own),
             LocalReply::Item(item) => {
                 let item = item.copy(alloc)?;
                 Ok(LocalReply::Item(item))
+            }
+            LocalReply::Items { shape, items } => {
+                let shape = shape.copy(alloc)?;
+                let items = items.copy(alloc)?;
+                Ok(LocalReply::Items { shape, items })
             }
             LocalReply::Bytes(bytes) => {
                 let bytes = bytes.copy(alloc)?;
@@ -151,6 +188,10 @@ impl Twin for LocalReply {
             LocalReply::Numbers(numbers) => {
                 let numbers = numbers.copy(alloc)?;
                 Ok(LocalReply::Numbers(numbers))
+            }
+            LocalReply::Fresh(snap) => {
+                let snap = snap.copy(alloc)?;
+                Ok(LocalReply::Fresh(snap))
             }
             LocalReply::Refused(fault) => Ok(LocalReply::Refused(*fault)),
         }

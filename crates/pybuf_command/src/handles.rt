@@ -95,6 +95,10 @@ pub fn handles_of(alloc: Global, verb: &Verb) -> Made<Vec<u64>>
 {
     let mut handles = Vec::new(alloc);
     match verb {
+        Verb::Range { from, to } => {
+            push_value(&mut handles, from)?;
+            push_value(&mut handles, to)?;
+        }
         Verb::Get { key } => push_value(&mut handles, key)?,
         Verb::Set { key, value } => {
             push_value(&mut handles, key)?;

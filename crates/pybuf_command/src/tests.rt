@@ -1,7 +1,8 @@
 //! What no clause says: that the calls succeed with ample memory.
 use super::*;
 use pybuf_value::{
-    ByteList, CountList, Fault, Item, NumberList, Scalar, Snap, SnapKind, Text, Twin, Value,
+    ByteList, CountList, Fault, Item, ItemList, NumberList, Scalar, Snap, SnapKind, Text, Twin,
+    Value,
 };
 use std::alloc::Global;
 use std::test::Fail;
@@ -42,6 +43,11 @@ fn sum_of(verb: &Verb) -> (i128, i128) {
         Verb::Len => (6, 0),
         Verb::Property { name } => (7, *name as i128),
         Verb::ToReadonly => (8, 0),
+        Verb::Range { from, to } => (number_of(from), number_of(to)),
+        Verb::Enter => (9, 0),
+        Verb::Exit => (10, 0),
+        Verb::ToContiguous => (11, 0),
+        Verb::ToList => (12, 0),
     }
 }
 
@@ -83,6 +89,17 @@ fn verbs_are_copied(rt: HostRuntime) -> Result<(), Fail> {
             (7, 4),
         ),
         (Verb::ToReadonly, (8, 0)),
+        (
+            Verb::Range {
+                from: number(15),
+                to: number(16),
+            },
+            (15, 16),
+        ),
+        (Verb::Enter, (9, 0)),
+        (Verb::Exit, (10, 0)),
+        (Verb::ToContiguous, (11, 0)),
+        (Verb::ToList, (12, 0)),
     ];
     for (verb, sum) in &verbs {
         assert_eq!(rt; sum_of(&verb.copy(rt.alloc())?), *sum);
@@ -103,6 +120,9 @@ fn sum_of_reply(reply: &LocalReply) -> (i128, i128) {
         LocalReply::Truth(truth) => (8, *truth as i128),
         LocalReply::Numbers(numbers) => (9, numbers.len() as i128),
         LocalReply::Refused(fault) => (10, *fault as i128),
+        LocalReply::Itself => (11, 0),
+        LocalReply::Fresh(snap) => (12, snap.content.len() as i128),
+        LocalReply::Items { shape, items } => (shape.len() as i128, 100 + items.len() as i128),
     }
 }
 
@@ -120,6 +140,29 @@ fn replies_are_copied(rt: HostRuntime) -> Result<(), Fail> {
         (LocalReply::Truth(true), (8, 1)),
         (LocalReply::Numbers(numbers), (9, 1)),
         (LocalReply::Refused(Fault::Buffer), (10, 3)),
+    ];
+    for (reply, sum) in &replies {
+        assert_eq!(rt; sum_of_reply(&reply.copy(rt.alloc())?), *sum);
+    }
+    Ok(())
+}
+
+/// A list of one number.
+fn list(alloc: Global) -> Result<LocalReply, Fail> {
+    let mut shape = CountList::new(alloc);
+    shape.push(1)?;
+    let mut items = ItemList::new(alloc);
+    items.push(Item::One(Scalar::Int(4)))?;
+    Ok(LocalReply::Items { shape, items })
+}
+
+#[test]
+fn lists_and_what_is_fresh_are_copied(rt: HostRuntime) -> Result<(), Fail> {
+    let fresh = LocalReply::Fresh(snap(rt.alloc(), SnapKind::View, 'B')?);
+    let replies = [
+        (LocalReply::Itself, (11, 0)),
+        (list(rt.alloc())?, (1, 101)),
+        (fresh, (12, 3)),
     ];
     for (reply, sum) in &replies {
         assert_eq!(rt; sum_of_reply(&reply.copy(rt.alloc())?), *sum);

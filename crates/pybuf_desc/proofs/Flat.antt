@@ -3,7 +3,7 @@ use Rattle.std.proofs.Common.{◌≡◌, ◌≢◌, ℕ, zero, suc, ◌+◌, ◌
 use Rattle.std.proofs.lemmas.Int.{ints}
 use Rattle.std.specs.List.{range_with_len}
 use Rattle.std.proofs.lemmas.List.Elements.{All-nil, All-cons, All-from_recursion}
-use Rattle.pybuf_desc.specs.Layouts.{flat_layout, bytes_layout}
+use Rattle.pybuf_desc.specs.Layouts.{flat_layout, bytes_layout, bytes_layout_from}
 use Rattle.pybuf_desc.specs.Descriptor.{flat_descriptor}
 use Rattle.pybuf_desc.specs.Places.{places, Stands}
 use Rattle.pybuf_desc.specs.Valid.{IsInside, IsValid}
@@ -62,7 +62,7 @@ places-flat size count start =
     places_from_strides size ((count, pos size, pos 0) ∷ []) ((λ _. ap (λ n. pos n) (sym (mul-one size))), tt) start
     ∙ ap (λ n. run size start n) (mul-one count) ∙ sym (map-run-0 size count start)
 
-map-pos : (size n i : ℕ) → map (λ k. pos 0 +ℤ pos (k * size)) (range_with_len i n) ≡ map pos (map (λ k. k * size) (range_with_len i n))
+pub map-pos : (size n i : ℕ) → map (λ k. pos 0 +ℤ pos (k * size)) (range_with_len i n) ≡ map pos (map (λ k. k * size) (range_with_len i n))
 map-pos size zero i = refl
 map-pos size (suc n) i = ap₂ (λ (x : ℤ) (xs : List ℤ). x ∷ xs) (let e : pos 0 +ℤ pos (i * size) ≡ pos (i * size) = omega (arith, ints) in e) (map-pos size n (i + 1))
 
@@ -91,3 +91,29 @@ stands_bytes count readonly =
       readonly = refl;
       starts = places-flat 1 count (pos 0) ∙ map-pos 1 count 0 ∙ ap (λ (xs : List ℕ). map pos xs) (map-times-1 count 0);
     }
+
+-- ---- bytes from any place on
+
+map-pos-from : (n i start : ℕ) → map (λ k. pos start +ℤ pos (k * 1)) (range_with_len i n) ≡ map pos (range_with_len (start + i) n)
+map-pos-from zero i start = refl
+map-pos-from (suc n) i start =
+    ap₂ (λ (x : ℤ) (xs : List ℤ). x ∷ xs) (let e : pos start +ℤ pos (i * 1) ≡ pos (start + i) = omega (arith, ints) in e)
+    (map-pos-from n (i + 1) start ∙ ap (λ (m : ℕ). map pos (range_with_len m n)) (let e : start + (i + 1) ≡ start + i + 1 = omega arith in e))
+
+lit_fits : 1 < 2 ^ 63
+lit_fits = lit≤ tt
+
+pub stands_bytes_from : (count start : ℕ) (readonly : Bool) → Stands (flat_descriptor (codes "B") 1 count readonly) start (bytes_layout_from start count readonly)
+stands_bytes_from count start readonly =
+    record {
+      format = refl;
+      itemsize = refl;
+      shape = refl;
+      strides = refl;
+      readonly = refl;
+      starts = places-flat 1 count (pos start) ∙ map-pos-from count 0 start ∙ ap (λ (m : ℕ). map pos (range_with_len m count)) (let e : start + 0 ≡ start = omega arith in e);
+    }
+
+pub valid_bytes_from : (count start room : ℕ) (readonly : Bool) → count < 2 ^ 63 → start + count ≤ room → IsValid (flat_descriptor (codes "B") 1 count readonly) start room
+valid_bytes_from count start room readonly fits inside =
+    valid_flat_at (codes "B") 1 count count start room readonly (omega arith) (lit_fits) (mul-one count) fits (λ _. inside)

@@ -39,7 +39,7 @@ bytes_of_run bytes size first (suc n) i =
     ∙ take_both size (n * size) (drop (first + i * size) bytes)
     ∙ ap (λ (m : ℕ). take m (drop (first + i * size) bytes)) (let e : size + n * size ≡ suc n * size = omega arith in e)
 
-bytes_from : (bytes : List ℕ) (size first n : ℕ) → bytes_of_items bytes size (map (λ k. first + k * size) (range_with_len 0 n)) ≡ take (n * size) (drop first bytes)
+pub bytes_from : (bytes : List ℕ) (size first n : ℕ) → bytes_of_items bytes size (map (λ k. first + k * size) (range_with_len 0 n)) ≡ take (n * size) (drop first bytes)
 bytes_from bytes size first n =
     bytes_of_run bytes size first n 0 ∙ ap (λ (m : ℕ). take (n * size) (drop m bytes)) (let e : first + 0 * size ≡ first = omega arith in e)
 

@@ -25,4 +25,6 @@ pub mod DescribedLayouts
 pub mod RangeLaws
 pub mod PairFacts
 pub mod ShapedCasts
+pub mod PackedDims
+pub mod PackedItems
 pub mod PlaceBits

@@ -25,11 +25,11 @@ pub shape-row_major : (size : ℕ) (shape : List ℕ) → shape_of (row_major_di
 shape-row_major size [] = refl
 shape-row_major size (n ∷ shape) = ap (λ (ns : List ℕ). n ∷ ns) (shape-row_major size shape)
 
-strides-row_major : (size : ℕ) (shape : List ℕ) → strides_of (row_major_dims size shape) ≡ row_major_strides size shape
+pub strides-row_major : (size : ℕ) (shape : List ℕ) → strides_of (row_major_dims size shape) ≡ row_major_strides size shape
 strides-row_major size [] = refl
 strides-row_major size (n ∷ shape) = ap (λ (ts : List ℤ). pos (size * product shape) ∷ ts) (strides-row_major size shape)
 
-length-row_major : (size : ℕ) (shape : List ℕ) → length (row_major_dims size shape) ≡ length shape
+pub length-row_major : (size : ℕ) (shape : List ℕ) → length (row_major_dims size shape) ≡ length shape
 length-row_major size [] = refl
 length-row_major size (n ∷ shape) = ap suc (length-row_major size shape)
 
@@ -45,11 +45,11 @@ some_dims size [] some = All-nil (λ (dim : ℕ × ℤ × ℤ). 0 < dim.0)
 some_dims size (n ∷ shape) some =
     All-cons (λ (dim : ℕ × ℤ × ℤ). 0 < dim.0) (n, pos (size * product shape), pos 0) (row_major_dims size shape) (All-head (λ m. 0 < m) n shape some) (some_dims size shape (All-tail (λ m. 0 < m) n shape some))
 
-some_product : (shape : List ℕ) → All (λ n. 0 < n) shape → 0 < product shape
+pub some_product : (shape : List ℕ) → All (λ n. 0 < n) shape → 0 < product shape
 some_product [] some = omega arith
 some_product (n ∷ shape) some = mul-pos (All-head (λ m. 0 < m) n shape some) (some_product shape (All-tail (λ m. 0 < m) n shape some))
 
-pos_some : (n : ℕ) → 0 < n → pos n ≢ pos 0
+pub pos_some : (n : ℕ) → 0 < n → pos n ≢ pos 0
 pos_some zero h e = omega arith
 pos_some (suc n) h e = cc
 
@@ -59,7 +59,7 @@ some_strides size (n ∷ shape) sized some =
     let later = All-tail (λ m. 0 < m) n shape some in
     All-cons (λ (dim : ℕ × ℤ × ℤ). dim.1 ≢ pos 0) (n, pos (size * product shape), pos 0) (row_major_dims size shape) (pos_some (size * product shape) (mul-pos sized (some_product shape later))) (some_strides size shape sized later)
 
-no_suboffsets : (size : ℕ) (shape : List ℕ) → All (λ (dim : ℕ × ℤ × ℤ). dim.2 ≡ pos 0) (row_major_dims size shape)
+pub no_suboffsets : (size : ℕ) (shape : List ℕ) → All (λ (dim : ℕ × ℤ × ℤ). dim.2 ≡ pos 0) (row_major_dims size shape)
 no_suboffsets size [] = All-nil (λ (dim : ℕ × ℤ × ℤ). dim.2 ≡ pos 0)
 no_suboffsets size (n ∷ shape) = All-cons (λ (dim : ℕ × ℤ × ℤ). dim.2 ≡ pos 0) (n, pos (size * product shape), pos 0) (row_major_dims size shape) refl (no_suboffsets size shape)
 
@@ -69,14 +69,14 @@ later_dims (dim ∷ dims) some = All-tail (λ (d : ℕ × ℤ × ℤ). 0 < d.0) 
 
 -- ---- inside
 
-run_inside : (size room n : ℕ) (p : ℤ) → pos 0 ≤ℤ p → (p +ℤ pos (n * size)) ≤ℤ pos room → AllByRecursion (IsInside size room) (run size p n)
+pub run_inside : (size room n : ℕ) (p : ℤ) → pos 0 ≤ℤ p → (p +ℤ pos (n * size)) ≤ℤ pos room → AllByRecursion (IsInside size room) (run size p n)
 run_inside size room zero p low high = tt
 run_inside size room (suc n) p low high = (
   record { low = low; high = (let more : size ≤ suc n * size = grind arith in omega (arith, ints, high, more)) },
   run_inside size room n (p +ℤ pos size) (omega (arith, ints, low)) (let same : suc n * size ≡ size + n * size = omega arith in omega (arith, ints, high, same)),
 )
 
-places_row_major : (size : ℕ) (shape : List ℕ) (start : ℤ) → places (row_major_dims size shape) start ≡ run size start (product shape)
+pub places_row_major : (size : ℕ) (shape : List ℕ) (start : ℤ) → places (row_major_dims size shape) start ≡ run size start (product shape)
 places_row_major size shape start =
     places_from_strides size (row_major_dims size shape) (are_row_major size shape) start ∙ ap (λ (ns : List ℕ). run size start (product ns)) (shape-row_major size shape)
 
@@ -135,7 +135,7 @@ stands_shaped d format size shape can cast start view stands =
 
 -- ---- one more dimension
 
-next_size : (itemsize n rest size : ℕ) → size ≡ itemsize * (n * rest) → 0 < n → size / n ≡ itemsize * rest
+pub next_size : (itemsize n rest size : ℕ) → size ≡ itemsize * (n * rest) → 0 < n → size / n ≡ itemsize * rest
 next_size itemsize n rest size e some =
     ap (λ (k : ℕ). k / n) (e ∙ (let same : itemsize * (n * rest) ≡ n * (itemsize * rest) = omega arith in same) ∙ mul_comm n (itemsize * rest)) ∙ mul-div_cancel (itemsize * rest) some
 

@@ -9,6 +9,7 @@ use Rattle.pybuf_desc.specs.Contiguous.{is_contiguous_layout}
 use Rattle.pybuf_desc.specs.Strides.{HasRowMajorStrides}
 use Rattle.pybuf_desc.specs.Casts.{cast_count, cast_of}
 use Rattle.pybuf_desc.specs.ShapedCasts.{cast_to}
+use Rattle.pybuf_desc.specs.Packed.{row_major_of}
 use Rattle.pybuf_desc.specs.Slices.{slice_of}
 use Rattle.pybuf_desc.specs.Descriptor.{Descriptor}
 use Rattle.pybuf_desc.specs.Places.{Stands, layout_at}
@@ -62,6 +63,21 @@ abbrev pub ShapedCastsHaveTheirShape : Type 0
 ShapedCastsHaveTheirShape =
     (view : Layout) (format : List ℕ) (size : ℕ) (shape : List ℕ) → 0 < size → length view.starts * view.itemsize ≡ product shape * size
     → HasItemsOfItsShape (cast_to view format size shape)
+
+-- ---- copies
+
+-- The bytes of a view, copied, hold its items one after the other: in the same shape and format, with
+-- the same bytes, inside the copy, and with strides without a gap.
+pub record IsCopiedLayout (bytes : List ℕ) (view copy : Layout) : Type 0 where
+  pub counted : HasItemsOfItsShape copy
+  pub inside : LiesInside (length (content_of_layout bytes view)) copy
+  pub content : content_of_layout (content_of_layout bytes view) copy ≡ content_of_layout bytes view
+  pub contiguous : is_contiguous_layout copy ≡ true
+  pub strides : HasRowMajorStrides copy
+
+abbrev pub CopiesHaveTheirBytes : Type 0
+CopiesHaveTheirBytes =
+    (bytes : List ℕ) (view : Layout) → HasItemsOfItsShape view → LiesInside (length bytes) view → IsCopiedLayout bytes view (row_major_of view)
 
 -- ---- slices of views of one dimension or more, whose first dimension has `n` entries
 

@@ -9,6 +9,7 @@ pub mod Descriptor
 pub mod Places
 pub mod Valid
 pub mod RowMajor
+pub mod Packed
 pub mod Positions
 pub mod Segments
 pub mod Laws

@@ -1,5 +1,5 @@
 //! The descriptor, how one is made, and what it says of itself.
-ghost use Rattle.std.specs.Prelude.{◌≡◌, ◌==◌, ◌*◌, ◌/◌, ◌%◌, ◌^◌, ◌<◌, ◌≤◌, ◌↔◌, ℕ, [], ◌∷◌, pos, true, length, IfOk, IfErr, IsOk, IsTrue, slice_set, slice_index_or, codes};
+ghost use Rattle.std.specs.Prelude.{◌≡◌, ◌==◌, ◌+◌, ◌*◌, ◌/◌, ◌%◌, ◌^◌, ◌<◌, ◌≤◌, ◌↔◌, ℕ, [], ◌∷◌, pos, true, length, IfOk, IfErr, IsOk, IsTrue, slice_set, slice_index_or, codes};
 ghost use Rattle.std.specs.List.{Any};
 ghost use Rattle.pybuf_value.specs.declared.faults.Fault.{Fault};
 
@@ -32,7 +32,7 @@ impl Model for BufferDescriptor {
 }
 
 impl BufferDescriptor {
-    ghost use Rattle.pybuf_desc.specs.Layouts.{Layout, flat_layout, bytes_layout};
+    ghost use Rattle.pybuf_desc.specs.Layouts.{Layout, flat_layout, bytes_layout, bytes_layout_from};
     ghost use Rattle.pybuf_desc.specs.Descriptor.{Descriptor, flat_descriptor};
     ghost use Rattle.pybuf_desc.specs.Places.{Stands};
     ghost use Rattle.pybuf_desc.specs.Valid.{IsValid};
@@ -144,12 +144,14 @@ impl BufferDescriptor {
         }
     }
 
-    /// One dimension of bytes: format `B`, and as many items as bytes.
+    /// One dimension of bytes: format `B`, and as many items as bytes, wherever the first lies.
     pub fn simple(alloc: Global, bytes_len: usize, readonly: bool) -> Made<BufferDescriptor>
         requires { bytes_len < 2 ^ 63 }
         ensures made { IfOk result (λ d. d ≡ flat_descriptor (codes "B") 1 bytes_len readonly) }
         ensures valid { IfOk result (λ d. IsValid d 0 bytes_len) }
         ensures stands { IfOk result (λ d. Stands d 0 (bytes_layout bytes_len readonly)) }
+        ensures valid_from { IfOk result (λ d. (start room : ℕ) → start + bytes_len ≤ room → IsValid d start room) }
+        ensures stands_from { IfOk result (λ d. (start : ℕ) → Stands d start (bytes_layout_from start bytes_len readonly)) }
     {
         let text = String::from_str(alloc, "B")?;
         BufferDescriptor::format(alloc, bytes_len, readonly, 1, Text::from_string(text))

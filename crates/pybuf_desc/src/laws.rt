@@ -1,5 +1,5 @@
 //! Laws of the definitions that the contracts cite. Each stands on a function with an empty body.
-ghost use Rattle.pybuf_desc.specs.Laws.{CastsShareTheirBytes, CastsStayInside, CastsHaveTheirShape, CastsAreContiguous, FlatCastsHaveOneDimension, ShapedCastsShareTheirBytes, ShapedCastsStayInside, ShapedCastsHaveTheirShape, SlicesStayInside, SlicesHaveTheirShape, SlicingBackTwiceIsNothing, PlacedDescriptorsStand, DescriptorsStandForOneView, DescribedViewsHaveTheirShape, ValidWhereItemsLieInside, ContiguityIsOfStrides, ContiguityIsTheSameAnywhere, PositionsArePlaces, RangesHaveTheContent, RangesStayInside};
+ghost use Rattle.pybuf_desc.specs.Laws.{CastsShareTheirBytes, CastsStayInside, CastsHaveTheirShape, CastsAreContiguous, FlatCastsHaveOneDimension, ShapedCastsShareTheirBytes, ShapedCastsStayInside, ShapedCastsHaveTheirShape, CopiesHaveTheirBytes, SlicesStayInside, SlicesHaveTheirShape, SlicingBackTwiceIsNothing, PlacedDescriptorsStand, DescriptorsStandForOneView, DescribedViewsHaveTheirShape, ValidWhereItemsLieInside, ContiguityIsOfStrides, ContiguityIsTheSameAnywhere, PositionsArePlaces, RangesHaveTheContent, RangesStayInside};
 
 /// The items of a cast of a contiguous view have the view's bytes in their order: its items lie one
 /// new item size apart from the view's first place on, and make up all its bytes.
@@ -40,6 +40,12 @@ pub fn shaped_casts_stay_inside()
 /// A cast to a shape has as many items as the shape says.
 pub fn shaped_casts_have_their_shape()
     ensures { ShapedCastsHaveTheirShape }
+{}
+
+/// The bytes of a view, copied, hold its items one after the other, in its shape: with the same
+/// bytes, inside the copy and without a gap.
+pub fn copies_have_their_bytes()
+    ensures { CopiesHaveTheirBytes }
 {}
 
 /// Where the items of a view lie inside, so do those of each of its slices.

@@ -333,3 +333,18 @@ fn pairs_of_rows_are_those_of_python(rt: HostRuntime) -> Result<(), Fail> {
     assert_eq!(rt; pairs(&one, 7, &other, 21, true), (2, 9560));
     Ok(())
 }
+
+/// Bytes that may only be read, as they lie in a copy of them.
+fn bytes_in_a_copy(alloc: Global) -> Made<BufferDescriptor> {
+    let bytes = BufferDescriptor::simple(alloc, 24, true)?;
+    bytes.to_row_major(alloc)
+}
+
+#[test]
+fn a_copy_has_the_shape_of_its_items(rt: HostRuntime) -> Result<(), Fail> {
+    let d = bytes_in_a_copy(rt.alloc())?;
+    assert_eq!(rt; d.len(), 24);
+    assert_eq!(rt; d.readonly(), true);
+    assert_eq!(rt; d.dim_desc(), [(24, 1, 0)].as_slice());
+    Ok(())
+}

@@ -1,6 +1,6 @@
 -- The descriptor of a view stands for it, and is valid for the exporter's length while it is unreleased.
 use Rattle.std.proofs.Common.{◌≡◌, ℕ, zero, suc, ◌<◌, List, [], ◌∷◌, length, true, false, sym, subst, refl, arith}
-use Rattle.std.specs.Prelude.{Option, Some, None, Result, Ok, Err, IsSomeAnd, slice_get}
+use Rattle.std.specs.Prelude.{Option, Some, None, Ok, Err, IsSomeAnd, slice_get}
 use Rattle.std.specs.List.{All}
 use Rattle.std.specs.Option.{ok_or}
 use Rattle.std.proofs.lemmas.Option.{slice_get_within, get_or_from_slice_get}

@@ -1,6 +1,6 @@
 -- Every command, by the laws of its row.
-use Rattle.std.proofs.Common.{◌≡◌, ℕ, ◌+◌, ◌<◌, ◌≤◌, List, [], ◌∷◌, length, take, drop, Bool, true, false, true≢false, ap, ap₂, sym, ◌∙◌, refl, subst, arith}
-use Rattle.std.specs.Prelude.{◌==◌, ◌&&◌, nat_lt, slice_index, None, Some, Result, Ok, Err, if◌then◌else◌}
+use Rattle.std.proofs.Common.{◌≡◌, ℕ, ◌+◌, ◌≤◌, List, length, Bool, true, false, true≢false, ap, ap₂, sym, ◌∙◌, refl, subst, arith}
+use Rattle.std.specs.Prelude.{◌==◌, ◌&&◌, nat_lt, slice_index, Result, Ok, Err, if◌then◌else◌}
 use Rattle.std.proofs.lemmas.Bool.{eqb-true}
 use Rattle.std.proofs.lemmas.Grind.{common_steps}
 use Rattle.pybuf_value.specs.declared.faults.Fault.{Fault}
@@ -9,11 +9,10 @@ use Rattle.pybuf_value.specs.declared.values.Value.{Value}
 use Rattle.pybuf_value.specs.declared.values.Value.TheVariants as value
 use Rattle.pybuf_value.specs.Refusing.{◌>>=◌, IfDone}
 use Rattle.pybuf_struct.specs.Formats.{Format, format_of}
-use Rattle.pybuf_struct.specs.Values.{unpacked_values, values}
+use Rattle.pybuf_struct.specs.Values.{unpacked_values}
 use Rattle.pybuf_struct.specs.Laws.{BytesOfTheSizeAreRead}
-use Rattle.pybuf_desc.specs.Layouts.{Layout}
 use Rattle.pybuf_desc.specs.Items.{bytes_at}
-use Rattle.pybuf_command.specs.Sized.{is_size_of, is_sized}
+use Rattle.pybuf_command.specs.Sized.{is_size_of}
 use Rattle.pybuf_command.specs.declared.kinds.Subject.{Subject}
 use Rattle.pybuf_command.specs.declared.kinds.Subject.TheVariants as subject
 use Rattle.pybuf_command.specs.declared.commands.Verb.{Verb}
@@ -23,30 +22,37 @@ use Rattle.pybuf_command.specs.declared.commands.LocalReply.TheVariants as reply
 use Rattle.pybuf_command.specs.declared.loans.Loan.{Loan}
 use Rattle.pybuf_command.specs.Handles.{handles_of, handles_read}
 use Rattle.pybuf_memoryview.specs.Items.{item_of_values}
-use Rattle.pybuf_state.specs.Exporter.{Exporter, live_layout}
+use Rattle.pybuf_state.specs.Exporter.{Exporter}
 use Rattle.pybuf_state.specs.Loans.{Lent, are_known, lent_for_each}
 use Rattle.pybuf_state.specs.Sound.{IsSoundExporter}
-use Rattle.pybuf_state.specs.Keeps.{Keeps, is_answer, IsCarriedOut, IsSafe}
+use Rattle.pybuf_value.specs.declared.snaps.Snap.{Snap}
+use Rattle.pybuf_state.specs.Fresh.{IsCopyOf}
+use Rattle.pybuf_state.specs.Keeps.{Keeps, is_answer, IsSafe, RepliesCopy, IsCopied}
 use Rattle.pybuf_state.specs.Laws.{ReadingKeeps, LiveLayoutsAreSound}
-use Rattle.pybuf_rows_views.specs.Laws.{ViewIsSafe, SliceIsSafe, CastIsSafe, ReleaseIsSafe, ToReadonlyIsSafe}
-use Rattle.pybuf_rows_reads.specs.Laws.{GetIsSafe, BytesIsSafe, LenIsSafe, PropertyIsSafe}
-use Rattle.pybuf_rows_writes.specs.Laws.{SetIsSafe}
-use Rattle.pybuf_exporter.specs.Step.{is_built, get_of_view, row, answered_if_built, answer_of, settled_answer, estep}
-use Rattle.pybuf_exporter.specs.Rows.{RowsAreSafe}
-use Rattle.pybuf_exporter.specs.Laws.{CommandsKeepSound, LengthsStayUnderCommands, ReadOnlyBytesStayUnderCommands, RefusedCommandsChangeNothing, LoansAlikeDoTheSame, ItemsAreRead}
+use Rattle.pybuf_rows_views.specs.Laws.{ViewIsSafe, SliceIsSafe, CastIsSafe, ReleaseIsSafe, ToReadonlyIsSafe, RangeIsSafe, EnterIsSafe, ContiguousIsCopied}
+use Rattle.pybuf_rows_reads.specs.Laws.{GetIsSafe, BytesIsSafe, LenIsSafe, PropertyIsSafe, ToListIsSafe}
+use Rattle.pybuf_rows_writes.specs.Laws.{SetIsSafe, AssignIsSafe}
+use Rattle.pybuf_exporter.specs.Step.{is_built, get_of_view, row, answered_if_built, answer_of, settled_answer, estep, set_through_view}
+use Rattle.pybuf_exporter.specs.Rows.{RowsAreSafe, RowIsSafe}
+use Rattle.pybuf_exporter.specs.Laws.{CommandsKeepSound, LengthsStayUnderCommands, ReadOnlyBytesStayUnderCommands, RefusedCommandsChangeNothing, LoansAlikeDoTheSame, ItemsAreRead, FreshRepliesAreCopies}
 
 -- the laws of the rows
 pub record RowLaws : Type 0 where
   pub view : ViewIsSafe
+  pub range : RangeIsSafe
   pub slice : SliceIsSafe
   pub cast : CastIsSafe
   pub release : ReleaseIsSafe
+  pub enter : EnterIsSafe
+  pub contiguous : ContiguousIsCopied
   pub toreadonly : ToReadonlyIsSafe
   pub get : GetIsSafe
   pub bytes : BytesIsSafe
   pub len : LenIsSafe
   pub property : PropertyIsSafe
+  pub tolist : ToListIsSafe
   pub set : SetIsSafe
+  pub assign : AssignIsSafe
 
 get_of_view_safe : RowLaws → (e : Exporter) (k : ℕ) (key : Value) → IsSafe e (get_of_view e k key)
 get_of_view_safe laws e k (value.Slice slice) = laws.slice e k slice
@@ -54,6 +60,13 @@ get_of_view_safe laws e k (value.One s) = laws.get.1 e k (value.One s)
 get_of_view_safe laws e k (value.Tuple parts) = laws.get.1 e k (value.Tuple parts)
 get_of_view_safe laws e k (value.List parts) = laws.get.1 e k (value.List parts)
 get_of_view_safe laws e k (value.Slices slices) = laws.get.1 e k (value.Slices slices)
+
+set_through_view_safe : RowLaws → (e : Exporter) (k : ℕ) (key v : Value) (lents : List Lent) → IsSafe e (set_through_view e k key v lents)
+set_through_view_safe laws e k (value.Slice slice) v lents = laws.assign e k slice v lents
+set_through_view_safe laws e k (value.One s) v lents = laws.set.1 e k (value.One s) v lents
+set_through_view_safe laws e k (value.Tuple parts) v lents = laws.set.1 e k (value.Tuple parts) v lents
+set_through_view_safe laws e k (value.List parts) v lents = laws.set.1 e k (value.List parts) v lents
+set_through_view_safe laws e k (value.Slices slices) v lents = laws.set.1 e k (value.Slices slices) v lents
 
 -- a line for each row
 pub rows_safe : RowLaws → RowsAreSafe
@@ -66,36 +79,113 @@ rows_safe laws e subject.Own verb.Release lents = tt
 rows_safe laws e subject.Own verb.Len lents = laws.len.0 e
 rows_safe laws e subject.Own (verb.Property name) lents = laws.property.0 e name
 rows_safe laws e subject.Own verb.ToReadonly lents = tt
+rows_safe laws e subject.Own (verb.Range from to) lents = laws.range e from to
+rows_safe laws e subject.Own verb.Enter lents = tt
+rows_safe laws e subject.Own verb.Exit lents = tt
+rows_safe laws e subject.Own verb.ToContiguous lents = tt
+rows_safe laws e subject.Own verb.ToList lents = tt
 rows_safe laws e (subject.View k) verb.View lents = laws.view.1 e k
 rows_safe laws e (subject.View k) (verb.Get key) lents = get_of_view_safe laws e k key
-rows_safe laws e (subject.View k) (verb.Set key value) lents = laws.set.1 e k key value lents
-rows_safe laws e (subject.View k) (verb.Cast format None) lents = laws.cast e k format
-rows_safe laws e (subject.View k) (verb.Cast format (Some shape)) lents = tt
+rows_safe laws e (subject.View k) (verb.Set key value) lents = set_through_view_safe laws e k key value lents
+rows_safe laws e (subject.View k) (verb.Cast format shape) lents = laws.cast e k format shape
 rows_safe laws e (subject.View k) verb.ToBytes lents = laws.bytes.1 e k
 rows_safe laws e (subject.View k) verb.Release lents = laws.release e k
 rows_safe laws e (subject.View k) verb.Len lents = laws.len.1 e k
 rows_safe laws e (subject.View k) (verb.Property name) lents = laws.property.1 e k name
 rows_safe laws e (subject.View k) verb.ToReadonly lents = laws.toreadonly e k
+rows_safe laws e (subject.View k) (verb.Range from to) lents = tt
+rows_safe laws e (subject.View k) verb.Enter lents = laws.enter e k
+rows_safe laws e (subject.View k) verb.Exit lents = laws.release e k
+rows_safe laws e (subject.View k) verb.ToContiguous lents = laws.contiguous e k
+rows_safe laws e (subject.View k) verb.ToList lents = laws.tolist e k
 rows_safe laws e (subject.Iter k) v lents = tt
 
 -- ---- every command
 
-chosen : (e : Exporter) (b : Bool) (r : Result (Exporter × LocalReply) Fault) → IsSafe e r → IsSafe e (if b then r else Err fault.UnknownName)
-chosen e true r safe = safe
-chosen e false r safe = tt
+-- a reply is no refusal, and something fresh is a copy, by which the exporter is as before
+abbrev pub IsReplyTo : Exporter → Subject → Exporter → LocalReply → Type 0
+IsReplyTo e s new (reply.Refused f) = ⊥
+IsReplyTo e s new (reply.Fresh snap) = (new ≡ e) × IsCopyOf e s snap
+IsReplyTo e s new _ = Unit {0}
 
-answered_safe : RowsAreSafe → (e : Exporter) (s : Subject) (v : Verb) (loans : List (ℕ × Loan)) → IsSafe e (answer_of e s v loans)
-answered_safe rows e s v loans =
+-- what every row owes where it isn't refused
+pub record IsStep (e : Exporter) (s : Subject) (after : Exporter × LocalReply) : Type 0 where
+  pub keeps : IsSoundExporter e → Keeps e after.0
+  pub replies : IsReplyTo e s after.0 after.1
+
+ordinary : (e : Exporter) (s : Subject) (new : Exporter) (r : LocalReply) → is_answer r ≡ true → IsReplyTo e s new r
+ordinary e s new (reply.Refused f) is = absurd (true≢false (sym is))
+ordinary e s new (reply.Fresh snap) is = absurd (true≢false (sym is))
+ordinary e s new reply.Ok is = tt
+ordinary e s new (reply.View k) is = tt
+ordinary e s new reply.Itself is = tt
+ordinary e s new reply.Own is = tt
+ordinary e s new (reply.Item x) is = tt
+ordinary e s new (reply.Items shape items) is = tt
+ordinary e s new (reply.Bytes bytes) is = tt
+ordinary e s new (reply.Text text) is = tt
+ordinary e s new (reply.Truth truth) is = tt
+ordinary e s new (reply.Numbers numbers) is = tt
+
+copied_reply : (e : Exporter) (s : Subject) (new : Exporter) (r : LocalReply) → new ≡ e → RepliesCopy e s r → IsReplyTo e s new r
+copied_reply e s new (reply.Fresh snap) same copied = (same, copied)
+copied_reply e s new (reply.Refused f) same copied = copied
+copied_reply e s new reply.Ok same copied = tt
+copied_reply e s new (reply.View k) same copied = tt
+copied_reply e s new reply.Itself same copied = tt
+copied_reply e s new reply.Own same copied = tt
+copied_reply e s new (reply.Item x) same copied = tt
+copied_reply e s new (reply.Items shape items) same copied = tt
+copied_reply e s new (reply.Bytes bytes) same copied = tt
+copied_reply e s new (reply.Text text) same copied = tt
+copied_reply e s new (reply.Truth truth) same copied = tt
+copied_reply e s new (reply.Numbers numbers) same copied = tt
+
+safe_step : (e : Exporter) (s : Subject) (r : Result (Exporter × LocalReply) Fault) → IsSafe e r → IfDone (IsStep e s) r
+safe_step e s (Ok after) safe = record { keeps = safe.keeps; replies = ordinary e s after.0 after.1 safe.answers }
+safe_step e s (Err f) safe = tt
+
+copied_step : ReadingKeeps → (e : Exporter) (s : Subject) (r : Result (Exporter × LocalReply) Fault) → IfDone (IsCopied e s) r → IfDone (IsStep e s) r
+copied_step reading e s (Ok after) copied = record {
+  keeps = λ sound. subst (λ (x : Exporter). Keeps e x) (sym copied.same) (reading e sound);
+  replies = copied_reply e s after.0 after.1 copied.same copied.copied;
+}
+copied_step reading e s (Err f) copied = tt
+
+row_step : ReadingKeeps → (e : Exporter) (s : Subject) (v : Verb) (r : Result (Exporter × LocalReply) Fault) → RowIsSafe e s v r → IfDone (IsStep e s) r
+row_step reading e subject.Own v r safe = safe_step e subject.Own r safe
+row_step reading e (subject.Iter k) v r safe = safe_step e (subject.Iter k) r safe
+row_step reading e (subject.View k) verb.ToContiguous r safe = copied_step reading e (subject.View k) r safe
+row_step reading e (subject.View k) verb.View r safe = safe_step e (subject.View k) r safe
+row_step reading e (subject.View k) (verb.Range from to) r safe = safe_step e (subject.View k) r safe
+row_step reading e (subject.View k) (verb.Get key) r safe = safe_step e (subject.View k) r safe
+row_step reading e (subject.View k) (verb.Set key value) r safe = safe_step e (subject.View k) r safe
+row_step reading e (subject.View k) (verb.Cast format shape) r safe = safe_step e (subject.View k) r safe
+row_step reading e (subject.View k) verb.ToBytes r safe = safe_step e (subject.View k) r safe
+row_step reading e (subject.View k) verb.Release r safe = safe_step e (subject.View k) r safe
+row_step reading e (subject.View k) verb.Enter r safe = safe_step e (subject.View k) r safe
+row_step reading e (subject.View k) verb.Exit r safe = safe_step e (subject.View k) r safe
+row_step reading e (subject.View k) verb.ToList r safe = safe_step e (subject.View k) r safe
+row_step reading e (subject.View k) verb.Len r safe = safe_step e (subject.View k) r safe
+row_step reading e (subject.View k) (verb.Property name) r safe = safe_step e (subject.View k) r safe
+row_step reading e (subject.View k) verb.ToReadonly r safe = safe_step e (subject.View k) r safe
+
+chosen : (e : Exporter) (s : Subject) (b : Bool) (r : Result (Exporter × LocalReply) Fault) → IfDone (IsStep e s) r → IfDone (IsStep e s) (if b then r else Err fault.UnknownName)
+chosen e s true r step = step
+chosen e s false r step = tt
+
+answered_step : RowsAreSafe → ReadingKeeps → (e : Exporter) (s : Subject) (v : Verb) (loans : List (ℕ × Loan)) → IfDone (IsStep e s) (answer_of e s v loans)
+answered_step rows reading e s v loans =
     let lents = lent_for_each e loans (handles_read s v) in
-    chosen e (are_known e loans (handles_of v)) (answered_if_built e s v lents)
-    (chosen e (is_built s v) (row e s v lents) (rows e s v lents))
+    chosen e s (are_known e loans (handles_of v)) (answered_if_built e s v lents)
+    (chosen e s (is_built s v) (row e s v lents) (row_step reading e s v (row e s v lents) (rows e s v lents)))
 
-settled_keeps : ReadingKeeps → (e : Exporter) (r : Result (Exporter × LocalReply) Fault) → IsSafe e r → IsSoundExporter e → Keeps e (settled_answer e r).0
-settled_keeps reading e (Ok after) safe sound = safe.keeps sound
-settled_keeps reading e (Err f) safe sound = reading e sound
+settled_keeps : ReadingKeeps → (e : Exporter) (s : Subject) (r : Result (Exporter × LocalReply) Fault) → IfDone (IsStep e s) r → IsSoundExporter e → Keeps e (settled_answer e r).0
+settled_keeps reading e s (Ok after) step sound = step.keeps sound
+settled_keeps reading e s (Err f) step sound = reading e sound
 
 step_keeps : RowsAreSafe → ReadingKeeps → (e : Exporter) (s : Subject) (v : Verb) (loans : List (ℕ × Loan)) → IsSoundExporter e → Keeps e (estep e s v loans).0
-step_keeps rows reading e s v loans sound = settled_keeps reading e (answer_of e s v loans) (answered_safe rows e s v loans) sound
+step_keeps rows reading e s v loans sound = settled_keeps reading e s (answer_of e s v loans) (answered_step rows reading e s v loans) sound
 
 pub sound_stays : RowsAreSafe → ReadingKeeps → CommandsKeepSound
 sound_stays rows reading e s v loans sound = (step_keeps rows reading e s v loans sound).sound
@@ -107,12 +197,21 @@ pub bytes_stay_so : RowsAreSafe → ReadingKeeps → ReadOnlyBytesStayUnderComma
 bytes_stay_so rows reading e s v loans sound = (step_keeps rows reading e s v loans sound).readonly_bytes
 
 -- where the reply is a refusal, the exporter is as before
-settled_refusal : (e : Exporter) (r : Result (Exporter × LocalReply) Fault) (f : Fault) → IsSafe e r → (settled_answer e r).1 ≡ reply.Refused f → (settled_answer e r).0 ≡ e
-settled_refusal e (Ok after) f safe is = absurd (true≢false (sym safe.answers ∙ ap is_answer is))
-settled_refusal e (Err g) f safe is = refl
+settled_refusal : (e : Exporter) (s : Subject) (r : Result (Exporter × LocalReply) Fault) (f : Fault) → IfDone (IsStep e s) r → (settled_answer e r).1 ≡ reply.Refused f → (settled_answer e r).0 ≡ e
+settled_refusal e s (Ok after) f step is = absurd (subst (IsReplyTo e s after.0) is step.replies)
+settled_refusal e s (Err g) f step is = refl
 
-pub refusals_stay_so : RowsAreSafe → RefusedCommandsChangeNothing
-refusals_stay_so rows e s v loans f is = settled_refusal e (answer_of e s v loans) f (answered_safe rows e s v loans) is
+pub refusals_stay_so : RowsAreSafe → ReadingKeeps → RefusedCommandsChangeNothing
+refusals_stay_so rows reading e s v loans f is = settled_refusal e s (answer_of e s v loans) f (answered_step rows reading e s v loans) is
+
+-- where the reply is something fresh, the exporter is as before, and it is a copy
+settled_fresh : (e : Exporter) (s : Subject) (r : Result (Exporter × LocalReply) Fault) (snap : Snap) → IfDone (IsStep e s) r → (settled_answer e r).1 ≡ reply.Fresh snap
+    → ((settled_answer e r).0 ≡ e) × (IsCopyOf e s snap)
+settled_fresh e s (Ok after) snap step is = subst (IsReplyTo e s after.0) is step.replies
+settled_fresh e s (Err g) snap step is = absurd (cc)
+
+pub fresh_are_copies : RowsAreSafe → ReadingKeeps → FreshRepliesAreCopies
+fresh_are_copies rows reading e s v loans snap is = settled_fresh e s (answer_of e s v loans) snap (answered_step rows reading e s v loans) is
 
 pub alike_steps : LoansAlikeDoTheSame
 alike_steps e s v loans others alike =

@@ -1,2 +1,4 @@
 pub mod Every
 pub mod Described
+pub mod Beside
+pub mod Lent

@@ -1,6 +1,7 @@
 -- Laws over every command on one exporter.
 use Rattle.std.specs.Prelude.{◌≡◌, ℕ, ◌<◌, List, length, slice_index, Ok}
 use Rattle.pybuf_value.specs.declared.faults.Fault.{Fault}
+use Rattle.pybuf_value.specs.declared.snaps.Snap.{Snap}
 use Rattle.pybuf_struct.specs.Formats.{Format, format_of}
 use Rattle.pybuf_struct.specs.Values.{item_of, values}
 use Rattle.pybuf_desc.specs.Layouts.{Layout}
@@ -14,6 +15,7 @@ use Rattle.pybuf_memoryview.specs.Items.{item_by}
 use Rattle.pybuf_state.specs.Exporter.{Exporter, live_layout}
 use Rattle.pybuf_state.specs.Loans.{are_known, lent_for_each}
 use Rattle.pybuf_state.specs.Sound.{IsSoundExporter}
+use Rattle.pybuf_state.specs.Fresh.{IsCopyOf}
 use Rattle.pybuf_state.specs.Keeps.{LengthsStay, ReadOnlyBytesStay}
 use Rattle.pybuf_exporter.specs.Step.{estep}
 
@@ -33,6 +35,13 @@ ReadOnlyBytesStayUnderCommands = (e : Exporter) (s : Subject) (v : Verb) (loans 
 -- a refused command changes nothing
 abbrev pub RefusedCommandsChangeNothing : Type 0
 RefusedCommandsChangeNothing = (e : Exporter) (s : Subject) (v : Verb) (loans : List (ℕ × Loan)) (f : Fault) → (estep e s v loans).1 ≡ reply.Refused f → (estep e s v loans).0 ≡ e
+
+-- a command that replies something fresh changes nothing, and replies the copy of the view that it is
+-- asked of
+abbrev pub FreshRepliesAreCopies : Type 0
+FreshRepliesAreCopies =
+    (e : Exporter) (s : Subject) (v : Verb) (loans : List (ℕ × Loan)) (snap : Snap) → (estep e s v loans).1 ≡ reply.Fresh snap
+    → ((estep e s v loans).0 ≡ e) × (IsCopyOf e s snap)
 
 -- Two lists of loans know the same handles of a command, and lend the same for those whose bytes it
 -- reads.

@@ -1,6 +1,9 @@
 -- How an exporter ends whose bytes were lent to be written.
-use Rattle.std.specs.Prelude.{ℕ, List, ◌++◌, length, take, drop}
-use Rattle.std.specs.Borrow.{Lends, MutBor, Fml, Array, u8}
+use Rattle.std.specs.Prelude.{ℕ, List, ◌++◌, length, take, drop, slice_index, Result}
+use Rattle.std.specs.Borrow.{Lends, LendsIfOk, MutBor, Fml, Array, u8}
+use Rattle.pybuf_value.specs.declared.faults.Fault.{Fault}
+use Rattle.pybuf_state.specs.Lending.{Bytes, bytes_row}
+use Rattle.pybuf_state.specs.Live.{layout_of}
 use Rattle.pybuf_state.specs.Exporter.{Exporter}
 use Rattle.pybuf_exporter.specs.contracts.exporter.ExporterState.{the_row}
 
@@ -11,3 +14,21 @@ overwritten_exporter e bytes = record e { bytes = take (length e.bytes) (bytes +
 -- the exporter ends with the last bytes behind the loan, and nothing else of it changes
 abbrev pub LendsBytes : MutBor Exporter → MutBor (List ℕ) → Fml
 LendsBytes s r = Lends the_row (Array u8 0) s r (overwritten_exporter s.now)
+
+-- the exporter with other bytes, of any number
+abbrev pub resized_exporter : Exporter → Bytes → Exporter
+resized_exporter e bytes = record e { bytes = bytes.items }
+
+-- the same where the bytes are lent to be changed in any way, if they are
+abbrev pub LendsAll : MutBor Exporter → Result (MutBor Bytes) Fault → Fml
+LendsAll s r = LendsIfOk the_row bytes_row s r (resized_exporter s.now) s.now
+
+-- the exporter with these bytes in place of its own from a place on, as many as there are, and not past
+-- its end
+abbrev pub written_from : Exporter → ℕ → List ℕ → Exporter
+written_from e place bytes = overwritten_exporter e (take place e.bytes ++ (bytes ++ drop (length bytes) (drop place e.bytes)))
+
+-- the exporter ends with the last bytes behind the loan in the place of those of the view, which begin
+-- at its first item, and nothing else of it changes
+abbrev pub LendsRunOf : MutBor Exporter → ℕ → MutBor (List ℕ) → Fml
+LendsRunOf s k r = Lends the_row (Array u8 0) s r (written_from s.now (slice_index (layout_of s.now k).starts 0))

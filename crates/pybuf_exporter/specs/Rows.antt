@@ -1,11 +1,21 @@
 -- What all rows owe to the laws over every command.
-use Rattle.std.specs.Prelude.{ℕ, List}
+use Rattle.std.specs.Prelude.{List, Result}
+use Rattle.pybuf_value.specs.declared.faults.Fault.{Fault}
+use Rattle.pybuf_value.specs.Refusing.{IfDone}
 use Rattle.pybuf_command.specs.declared.kinds.Subject.{Subject}
+use Rattle.pybuf_command.specs.declared.kinds.Subject.TheVariants as subject
 use Rattle.pybuf_command.specs.declared.commands.Verb.{Verb}
+use Rattle.pybuf_command.specs.declared.commands.Verb.TheVariants as verb
+use Rattle.pybuf_command.specs.declared.commands.LocalReply.{LocalReply}
 use Rattle.pybuf_state.specs.Exporter.{Exporter}
 use Rattle.pybuf_state.specs.Loans.{Lent}
-use Rattle.pybuf_state.specs.Keeps.{IsSafe}
+use Rattle.pybuf_state.specs.Keeps.{IsSafe, IsCopied}
 use Rattle.pybuf_exporter.specs.Step.{row}
 
+-- `contig` of a view replies a copy of it; every other row is safe
+abbrev pub RowIsSafe : Exporter → Subject → Verb → Result (Exporter × LocalReply) Fault → Type 0
+RowIsSafe e (subject.View k) verb.ToContiguous after = IfDone (IsCopied e (subject.View k)) after
+RowIsSafe e s v after = IsSafe e after
+
 abbrev pub RowsAreSafe : Type 0
-RowsAreSafe = (e : Exporter) (s : Subject) (v : Verb) (lents : List Lent) → IsSafe e (row e s v lents)
+RowsAreSafe = (e : Exporter) (s : Subject) (v : Verb) (lents : List Lent) → RowIsSafe e s v (row e s v lents)

@@ -1,9 +1,10 @@
 -- One command on one exporter: which row it has, and what stands after it.
-use Rattle.std.specs.Prelude.{ℕ, Bool, true, not, ◌&&◌, List, None, Result, Ok, Err, if◌then◌else◌}
+use Rattle.std.specs.Prelude.{ℕ, Bool, true, not, List, None, Result, Ok, Err, if◌then◌else◌, Option, Some}
 use Rattle.pybuf_value.specs.declared.faults.Fault.{Fault}
 use Rattle.pybuf_value.specs.declared.faults.Fault.TheVariants as fault
 use Rattle.pybuf_value.specs.declared.values.Value.{Value}
 use Rattle.pybuf_value.specs.declared.values.Value.TheVariants as value
+use Rattle.pybuf_value.specs.declared.values.Scalar.TheVariants as scalar
 use Rattle.pybuf_command.specs.declared.kinds.Subject.{Subject}
 use Rattle.pybuf_command.specs.declared.kinds.Subject.TheVariants as subject
 use Rattle.pybuf_command.specs.declared.commands.Verb.{Verb}
@@ -12,35 +13,52 @@ use Rattle.pybuf_command.specs.declared.commands.LocalReply.{LocalReply}
 use Rattle.pybuf_command.specs.declared.commands.LocalReply.TheVariants as reply
 use Rattle.pybuf_command.specs.declared.loans.Loan.{Loan}
 use Rattle.pybuf_command.specs.Handles.{handles_of, handles_read}
-use Rattle.pybuf_memoryview.specs.Items.{is_tuple, is_slice}
+use Rattle.pybuf_memoryview.specs.Items.{is_slice}
 use Rattle.pybuf_state.specs.Exporter.{Exporter}
 use Rattle.pybuf_state.specs.Loans.{Lent, are_known, lent_for_each}
 use Rattle.pybuf_rows_views.specs.View.{view_of_own, view_of_view}
+use Rattle.pybuf_rows_views.specs.Range.{range_of_own}
 use Rattle.pybuf_rows_views.specs.Slice.{slice_of_view}
 use Rattle.pybuf_rows_views.specs.Cast.{cast_of_view}
 use Rattle.pybuf_rows_views.specs.Release.{release_of_view}
+use Rattle.pybuf_rows_views.specs.Enter.{enter_of_view}
+use Rattle.pybuf_rows_views.specs.Contiguous.{contiguous_of_view}
 use Rattle.pybuf_rows_views.specs.ToReadonly.{toreadonly_of_view}
 use Rattle.pybuf_rows_reads.specs.Get.{get_of_own, item_of_view}
 use Rattle.pybuf_rows_reads.specs.ToBytes.{bytes_of_own, bytes_of_view}
 use Rattle.pybuf_rows_reads.specs.Len.{len_of_own, len_of_view}
 use Rattle.pybuf_rows_reads.specs.Property.{property_of_own, property_of_view}
+use Rattle.pybuf_rows_reads.specs.ToList.{list_of_view}
 use Rattle.pybuf_rows_writes.specs.Set.{set_of_own, set_of_view}
+use Rattle.pybuf_rows_writes.specs.Assign.{assign_of_view}
 
--- Which spellings of a command are built for a subject: a key of a view is no tuple, and a key that
--- is written at is neither a tuple nor a slice. Every other spelling is answered as an unknown name.
+-- Which spellings of a command are built for a subject: a key that an exporter itself is written at is
+-- no slice. Every other spelling is answered as an unknown name.
 abbrev pub is_built : Subject → Verb → Bool
-is_built (subject.View k) (verb.Get key) = not (is_tuple key)
-is_built s (verb.Set key value) = not (is_tuple key) && not (is_slice key)
+is_built (subject.View k) (verb.Set key value) = true
+is_built s (verb.Set key value) = not (is_slice key)
 is_built s _ = true
 
--- of a view by a key: a new view of the items that a slice picks, or the item at an index
+-- of a view by a key: a new view of the items that a slice picks, or the item that any other key names
 abbrev pub get_of_view : Exporter → ℕ → Value → Result (Exporter × LocalReply) Fault
 get_of_view e k (value.Slice slice) = slice_of_view e k slice
 get_of_view e k key = item_of_view e k key
 
+-- to a view by a key: items over those that a slice picks, or the item at an index
+abbrev pub set_through_view : Exporter → ℕ → Value → Value → List Lent → Result (Exporter × LocalReply) Fault
+set_through_view e k (value.Slice slice) v lents = assign_of_view e k slice v lents
+set_through_view e k key v lents = set_of_view e k key v lents
+
+-- The handle that a command copies items from: the value that a view is written by a slice. Its bytes
+-- are read where they lie.
+abbrev pub slice_source : Subject → Verb → Option ℕ
+slice_source (subject.View k) (verb.Set (value.Slice slice) (value.One (scalar.Handle h))) = Some h
+slice_source s v = None
+
 -- the row of a verb on the exporter itself
 abbrev pub row_of_own : Exporter → Verb → List Lent → Result (Exporter × LocalReply) Fault
 row_of_own e verb.View lents = view_of_own e
+row_of_own e (verb.Range from to) lents = range_of_own e from to
 row_of_own e (verb.Get key) lents = get_of_own e key
 row_of_own e (verb.Set key value) lents = set_of_own e key value
 row_of_own e verb.ToBytes lents = bytes_of_own e
@@ -52,10 +70,14 @@ row_of_own e _ lents = Err fault.UnknownName
 abbrev pub row_of_view : Exporter → ℕ → Verb → List Lent → Result (Exporter × LocalReply) Fault
 row_of_view e k verb.View lents = view_of_view e k
 row_of_view e k (verb.Get key) lents = get_of_view e k key
-row_of_view e k (verb.Set key value) lents = set_of_view e k key value lents
-row_of_view e k (verb.Cast format None) lents = cast_of_view e k format
+row_of_view e k (verb.Set key value) lents = set_through_view e k key value lents
+row_of_view e k (verb.Cast format shape) lents = cast_of_view e k format shape
 row_of_view e k verb.ToBytes lents = bytes_of_view e k
 row_of_view e k verb.Release lents = release_of_view e k
+row_of_view e k verb.Enter lents = enter_of_view e k
+row_of_view e k verb.Exit lents = release_of_view e k
+row_of_view e k verb.ToContiguous lents = contiguous_of_view e k
+row_of_view e k verb.ToList lents = list_of_view e k
 row_of_view e k verb.Len lents = len_of_view e k
 row_of_view e k (verb.Property name) lents = property_of_view e k name
 row_of_view e k verb.ToReadonly lents = toreadonly_of_view e k

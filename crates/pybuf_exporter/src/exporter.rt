@@ -1,12 +1,13 @@
 //! One exporter with its views.
-ghost use Rattle.std.specs.Prelude.{◌≡◌, ◌<◌, ◌↔◌, [], IfOk, IfSome, IsSome, IsSomeAnd, OnErr, MatchResult, true, false, length, slice_get};
+ghost use Rattle.std.specs.Prelude.{◌≡◌, ◌<◌, ◌↔◌, [], ◌∷◌, Some, IfOk, IfSome, IsSome, IsSomeAnd, IsOk, IfErr, OnErr, MatchResult, MatchOption, true, false, length, slice_get};
 
 use crate::pick;
 use pybuf_command::{ExporterKind, LoanList, LocalCommand, LocalReply, Subject, Verb};
 use pybuf_desc::BufferDescriptor;
+use pybuf_memoryview::KeptLayout;
 use pybuf_rows_views::release;
-use pybuf_state::{Parts, snap_of_subject};
-use pybuf_value::{ByteList, Fault, Made, Snap, Twin, copy_all};
+use pybuf_state::{Parts, copies_are_faithful, new_views_keep, snap_of_subject, vector_of_copy};
+use pybuf_value::{ByteList, Fault, Made, NoMemory, Snap, Twin, copy_all};
 use std::alloc::Global;
 use std::marker::Model;
 
@@ -35,15 +36,26 @@ impl ExporterState {
     ghost use Rattle.std.specs.Borrow.{sem};
     ghost use Rattle.pybuf_state.specs.Exporter.{exports_of};
     ghost use Rattle.pybuf_command.specs.Kinds.{holds_readonly};
-    ghost use Rattle.pybuf_exporter.specs.Lending.{LendsBytes};
+    ghost use Rattle.pybuf_exporter.specs.Lending.{LendsBytes, LendsAll, LendsRunOf};
+    ghost use Rattle.pybuf_state.specs.Live.{is_live, layout_of, is_writable_run};
+    ghost use Rattle.pybuf_desc.specs.Contiguous.{is_contiguous_layout};
+    ghost use Rattle.pybuf_desc.specs.Items.{content_of_layout};
+    ghost use Rattle.pybuf_value.specs.declared.faults.Fault.{Fault};
+    ghost use Rattle.pybuf_command.specs.declared.commands.LocalReply.TheVariants as replies;
+    ghost use Rattle.pybuf_desc.specs.Places.{layout_at};
+    ghost use Rattle.pybuf_desc.specs.Valid.{IsPlaced};
+    ghost use Rattle.pybuf_state.specs.Exporter.{with_view};
+    ghost use Rattle.pybuf_state.specs.Laws.{IsSoundLayout};
     ghost use Rattle.pybuf_state.specs.Sound.{IsSoundExporter};
     ghost use Rattle.pybuf_desc.specs.Places.{Stands};
     ghost use Rattle.pybuf_desc.specs.Valid.{IsValid};
     ghost use Rattle.pybuf_state.specs.Exporter.{new_exporter};
-    ghost use Rattle.pybuf_exporter.specs.Step.{estep};
+    ghost use Rattle.pybuf_exporter.specs.Step.{estep, slice_source};
+    ghost use Rattle.pybuf_state.specs.Loans.{loan_of_snap};
     ghost use Rattle.pybuf_command.specs.Fits.{LoansFit, fits_snap};
     ghost use Rattle.pybuf_state.specs.Snaps.{snap_of_subject};
     ghost use Rattle.pybuf_state.specs.Exporter.{released_in};
+    ghost use Rattle.pybuf_state.specs.Fresh.{IsCopyOf, is_readonly_subject, vector_of};
 
     /// An exporter of these bytes, with no views. Takes no memory.
     pub fn new(alloc: Global, kind: ExporterKind, bytes: ByteList) -> ExporterState
@@ -81,6 +93,47 @@ impl ExporterState {
         ensures was_sound { IsSoundExporter self.old }
     {
         pick::carry_out(&mut self.parts, subject, verb, loans)
+    }
+
+    /// The vector that is made of the copy of one of the views: its content, and one view of all of
+    /// it, with items of the same format in the same shape. It can be read alone where the view can.
+    ///
+    /// Such a copy is what a step replies as `LocalReply::Fresh`.
+    pub fn vector_of_copy(&self, alloc: Global, subject: Subject, copy: Snap) -> Made<ExporterState>
+        requires { IsCopyOf self.now subject copy }
+        ensures { IfOk result (λ made. made ≡ vector_of (is_readonly_subject self.now subject) copy) }
+    {
+        copies_are_faithful();
+        let parts = vector_of_copy(&self.parts, alloc, subject, copy)?;
+        Ok(ExporterState { parts })
+    }
+
+    /// The same of a command that copies items from a handle over those of a slice of a view, where
+    /// another exporter or a view of it is lent for this handle as it is: its bytes are copied from
+    /// where they lie. For this handle no loan is looked at.
+    pub fn carry_out_beside(
+        &mut self,
+        subject: Subject,
+        verb: &Verb,
+        loans: &LoanList,
+        handle: u64,
+        lender: &ExporterState,
+        lent: Subject,
+    ) -> Made<LocalReply>
+        requires { slice_source subject verb.now ≡ Some handle }
+        ensures ok { IfOk result (λ r. estep self.old subject verb.now ((handle, loan_of_snap (snap_of_subject lender.now lent)) ∷ loans.now) ≡ (self.new, r)) }
+        ensures err { OnErr result (self.new ≡ self.old) }
+        ensures was_sound { IsSoundExporter self.old }
+    {
+        pick::carry_out_beside(
+            &mut self.parts,
+            subject,
+            verb,
+            loans,
+            handle,
+            &lender.parts,
+            lent,
+        )
     }
 
     /// Releases a view; releasing it again changes nothing. Takes no memory.
@@ -126,6 +179,80 @@ impl ExporterState {
         self.parts.bytes.as_mut_slice()
     }
 
+    /// The bytes, lent to be changed in any way, in number too; views and iterators stay. Takes no
+    /// memory.
+    ///
+    /// Refused with `BufferError` exactly where a view is unreleased: Python's C API has it under
+    /// "Buffer Protocol", `PyBuffer_Release`.
+    pub fn resizable(&mut self) -> Result<&mut Vec<u8>, Fault>
+        requires { holds_readonly self.old.kind ≡ false }
+        ensures* writes_back { sem 𝓛 (LendsAll self.entry result) }
+        ensures value { IfOk result (λ bytes. bytes.now.items ≡ self.old.bytes) }
+        ensures refused { IfErr result (λ fault. fault ≡ Fault.Buffer) }
+        ensures exact { IsOk result ↔ (exports_of self.old ≡ 0) }
+    {
+        if self.parts.exports > 0 {
+            return Err(Fault::Buffer);
+        }
+        Ok(&mut self.parts.bytes)
+    }
+
+    /// Whether a view of this number was given and is unreleased.
+    pub fn is_live(&self, view: usize) -> bool
+        ensures { result ≡ is_live self.now view }
+    {
+        if let Ok(given) = self.parts.view(view) {
+            return !given.is_released();
+        }
+        false
+    }
+
+    /// The bytes of an unreleased view, lent without a copy. None exactly where its items don't lie
+    /// one after the other.
+    pub fn contiguous_bytes(&self, view: usize) -> Option<&[u8]>
+        requires { is_live self.now view ≡ true }
+        ensures { MatchOption result (is_contiguous_layout (layout_of self.now view) ≡ false) (λ bytes. (is_contiguous_layout (layout_of self.now view) ≡ true) × (bytes.now ≡ content_of_layout self.now.bytes (layout_of self.now view))) }
+    {
+        self.parts.contiguous_bytes(view)
+    }
+
+    /// Whether the items of an unreleased view lie one after the other and may be written.
+    pub fn is_writable_run(&self, view: usize) -> bool
+        requires { is_live self.now view ≡ true }
+        ensures { result ≡ is_writable_run (layout_of self.now view) }
+    {
+        self.parts.is_writable_run(view)
+    }
+
+    /// The bytes of an unreleased view whose items lie one after the other, lent to be written. What
+    /// is written there takes the place of the bytes of the view, and of no others.
+    pub fn contiguous_bytes_mut(&mut self, view: usize) -> &mut [u8]
+        requires live { is_live self.old view ≡ true }
+        requires writable { is_writable_run (layout_of self.old view) ≡ true }
+        ensures* writes_back { sem 𝓛 (LendsRunOf self.entry view result) }
+        ensures value { result.now ≡ content_of_layout self.old.bytes (layout_of self.old view) }
+    {
+        self.parts.contiguous_bytes_mut(view)
+    }
+
+    /// One more view, by a descriptor and the place of its first item. The answer is its number.
+    pub fn add_view(&mut self, descriptor: BufferDescriptor, start: usize) -> Made<usize>
+        requires placed { IsPlaced descriptor start }
+        requires sound { IsSoundLayout self.old (layout_at descriptor start) }
+        ensures ok { IfOk result (λ view. with_view self.old (layout_at descriptor start) ≡ (self.new, replies.View view)) }
+        ensures err { OnErr result (self.new ≡ self.old) }
+    {
+        new_views_keep();
+        let number = self.view_count();
+        match self
+            .parts
+            .add_view(KeptLayout::of_descriptor(descriptor, start))
+        {
+            Ok(_) => Ok(number),
+            Err(_) => Err(NoMemory),
+        }
+    }
+
     /// The number of unreleased views.
     pub fn exports(&self) -> usize
         ensures count { result ≡ exports_of self.now }
@@ -138,9 +265,11 @@ impl ExporterState {
     /// number was given.
     ///
     /// They stand for the view, and describe items that lie inside the bytes while it is unreleased.
+    /// Wherever they lie, walks over them are safe.
     pub fn view_desc(&self, view: usize) -> Option<(&BufferDescriptor, usize)>
         ensures given { IsSome result ↔ (view < length self.now.views) }
         ensures stands { IfSome result (λ r. IsSomeAnd (slice_get self.now.views view) (λ v. Stands r.0.now r.1 v.layout)) }
+        ensures placed { IfSome result (λ r. IsPlaced r.0.now r.1) }
         ensures valid { IfSome result (λ r. IsSomeAnd (slice_get self.now.views view) (λ v. v.released ≡ false → IsValid r.0.now r.1 (length self.now.bytes))) }
     {
         pybuf_desc::valid_where_items_lie_inside();

@@ -1,21 +1,26 @@
 //! Laws over every command, from the laws of the rows.
-ghost use Rattle.pybuf_exporter.specs.Laws.{CommandsKeepSound, LengthsStayUnderCommands, ReadOnlyBytesStayUnderCommands, RefusedCommandsChangeNothing, LoansAlikeDoTheSame, ItemsAreRead};
+ghost use Rattle.pybuf_exporter.specs.Laws.{CommandsKeepSound, LengthsStayUnderCommands, ReadOnlyBytesStayUnderCommands, RefusedCommandsChangeNothing, FreshRepliesAreCopies, LoansAlikeDoTheSame, ItemsAreRead};
 ghost use Rattle.pybuf_exporter.specs.Rows.{RowsAreSafe};
 
-/// Each row keeps a sound exporter.
+/// Each row keeps a sound exporter, or replies a copy.
 fn rows_are_safe()
     ensures { RowsAreSafe }
 {
     pybuf_rows_views::view_is_safe();
+    pybuf_rows_views::range_is_safe();
     pybuf_rows_views::slice_is_safe();
     pybuf_rows_views::cast_is_safe();
     pybuf_rows_views::release_is_safe();
+    pybuf_rows_views::enter_is_safe();
+    pybuf_rows_views::contiguous_is_copied();
     pybuf_rows_views::toreadonly_is_safe();
     pybuf_rows_reads::get_is_safe();
     pybuf_rows_reads::bytes_is_safe();
     pybuf_rows_reads::len_is_safe();
     pybuf_rows_reads::property_is_safe();
+    pybuf_rows_reads::tolist_is_safe();
     pybuf_rows_writes::set_is_safe();
+    pybuf_rows_writes::assign_is_safe();
 }
 
 /// Every command leaves a sound exporter sound.
@@ -48,6 +53,16 @@ pub fn refused_commands_change_nothing()
     ensures { RefusedCommandsChangeNothing }
 {
     rows_are_safe();
+    pybuf_state::reading_keeps();
+}
+
+/// A command that replies something fresh changes nothing of its exporter, and replies the copy of
+/// the view that it is asked of.
+pub fn fresh_replies_are_copies()
+    ensures { FreshRepliesAreCopies }
+{
+    rows_are_safe();
+    pybuf_state::reading_keeps();
 }
 
 /// Of its loans a command looks at which handles are known, and at what is lent for those whose bytes

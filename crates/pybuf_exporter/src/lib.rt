@@ -7,17 +7,21 @@ mod pick;
 
 pub use exporter::ExporterState;
 pub use laws::{
-    commands_keep_sound, items_are_read, lengths_stay, loans_alike_do_the_same,
-    readonly_bytes_stay, refused_commands_change_nothing,
+    commands_keep_sound, fresh_replies_are_copies, items_are_read, lengths_stay,
+    loans_alike_do_the_same, readonly_bytes_stay, refused_commands_change_nothing,
 };
+pub use pick::slice_source;
 pub use pybuf_command::{
     ExporterKind, Loan, LoanList, LocalCommand, LocalReply, PropertyName, Subject, Verb,
     handles_of, handles_read,
 };
 pub use pybuf_desc::{
-    casts_share_their_bytes, contiguity_is_of_strides, slicing_back_twice_is_nothing,
+    casts_share_their_bytes, contiguity_is_of_strides, shaped_casts_share_their_bytes,
+    slicing_back_twice_is_nothing,
 };
-pub use pybuf_rows_writes::writes_are_seen;
+pub use pybuf_rows_reads::lists_hold_the_items;
+pub use pybuf_rows_writes::{assignments_are_by_value, writes_are_seen};
+pub use pybuf_state::copies_are_faithful;
 
 #[cfg(test)]
 mod tests;

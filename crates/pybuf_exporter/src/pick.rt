@@ -1,39 +1,31 @@
 //! Which row a command has.
-ghost use Rattle.std.specs.Prelude.{◌≡◌, IfOk, OnErr};
+ghost use Rattle.std.specs.Prelude.{◌≡◌, ◌∷◌, Some, IfOk, OnErr};
 ghost use Rattle.pybuf_command.specs.declared.commands.Verb.TheVariants as verbs;
 ghost use Rattle.pybuf_command.specs.declared.kinds.Subject.TheVariants as subjects;
-ghost use Rattle.pybuf_command.specs.Handles.{handles_read};
+ghost use Rattle.pybuf_command.specs.Handles.{handle_of_value, handles_read};
+ghost use Rattle.pybuf_command.specs.Fits.{LoansFit};
 ghost use Rattle.pybuf_state.specs.Exporter.{exports_of};
-ghost use Rattle.pybuf_state.specs.Loans.{lent_for_each};
+ghost use Rattle.pybuf_state.specs.Loans.{lent_for_each, loan_of_snap};
+ghost use Rattle.pybuf_state.specs.Snaps.{snap_of_subject};
 ghost use Rattle.pybuf_state.specs.Answers.{exporter_of, IsWhole, Answers};
 ghost use Rattle.pybuf_exporter.specs.Step as spec;
 
 use pybuf_command::{LoanList, LocalReply, Subject, Verb, handles_of};
-use pybuf_memoryview::{is_slice, is_tuple};
-use pybuf_rows_reads::{get, len, property, to_bytes};
-use pybuf_rows_views::{cast, release, slice, to_readonly, view};
-use pybuf_rows_writes::set;
-use pybuf_state::{Parts, are_known};
-use pybuf_value::{Fault, Halt, Made, NoMemory, Value};
+use pybuf_memoryview::is_slice;
+use pybuf_rows_reads::{get, len, property, to_bytes, to_list};
+use pybuf_rows_views::{cast, contiguous, enter, range, release, slice, to_readonly, view};
+use pybuf_rows_writes::{assign, set};
+use pybuf_state::{Parts, are_known, are_known_beside, is_lent};
+use pybuf_value::{Fault, Halt, Made, NoMemory, Scalar, Value};
 
-/// Whether `get` with a key is built for a subject.
-fn is_get_built(subject: Subject, key: &Value) -> bool
-    ensures { result ≡ spec.is_built subject (verbs.Get key.now) }
+/// Whether `set` with a key is built for a subject.
+fn is_set_built(subject: Subject, key: &Value) -> bool
+    ensures { (value : _) → result ≡ spec.is_built subject (verbs.Set key.now value) }
 {
     match subject {
-        Subject::View(_) => !is_tuple(key),
-        _ => true,
+        Subject::View(_) => true,
+        _ => !is_slice(key),
     }
-}
-
-/// Whether a key is neither a tuple nor a slice, as one that is written at.
-fn is_set_built(key: &Value) -> bool
-    ensures { (s : _) (value : _) → result ≡ spec.is_built s (verbs.Set key.now value) }
-{
-    if is_tuple(key) {
-        return false;
-    }
-    !is_slice(key)
 }
 
 /// Whether a command's spelling is built for a subject.
@@ -41,13 +33,12 @@ fn is_built(subject: Subject, verb: &Verb) -> bool
     ensures { result ≡ spec.is_built subject verb.now }
 {
     match verb {
-        Verb::Get { key } => is_get_built(subject, key),
-        Verb::Set { key, value: _ } => is_set_built(key),
+        Verb::Set { key, value: _ } => is_set_built(subject, key),
         _ => true,
     }
 }
 
-/// `get` of a view: a new view of the items that a slice picks, or the item at an index.
+/// `get` of a view: a new view of the items that a slice picks, or the item that any other key names.
 fn get_of_view(parts: &mut Parts, view: usize, key: &Value) -> Result<LocalReply, Halt>
     requires { IsWhole parts.old }
     ensures answer { Answers (spec.get_of_view (exporter_of parts.old) view key.now) (exporter_of parts.old) result (exporter_of parts.new) }
@@ -59,6 +50,25 @@ fn get_of_view(parts: &mut Parts, view: usize, key: &Value) -> Result<LocalReply
     }
 }
 
+/// `set` of a view: items over those that a slice picks, or the item at an index.
+fn set_through_view(
+    parts: &mut Parts,
+    view: usize,
+    key: &Value,
+    value: &Value,
+    loans: &LoanList,
+) -> Result<LocalReply, Halt>
+    requires whole { IsWhole parts.old }
+    requires fit { LoansFit loans.now }
+    ensures answer { Answers (spec.set_through_view (exporter_of parts.old) view key.now value.now (lent_for_each (exporter_of parts.old) loans.now (handle_of_value value.now))) (exporter_of parts.old) result (exporter_of parts.new) }
+    ensures counted { parts.new.exports ≡ exports_of (exporter_of parts.new) }
+{
+    match key {
+        Value::Slice(slice) => assign::of_view(parts, view, slice, value, loans),
+        _ => set::of_view(parts, view, key, value, loans),
+    }
+}
+
 /// The row of a verb on the exporter itself.
 fn row_of_own(parts: &mut Parts, verb: &Verb) -> Result<LocalReply, Halt>
     requires { IsWhole parts.old }
@@ -67,6 +77,7 @@ fn row_of_own(parts: &mut Parts, verb: &Verb) -> Result<LocalReply, Halt>
 {
     match verb {
         Verb::View => view::of_own(parts),
+        Verb::Range { from, to } => range::of_own(parts, from, to),
         Verb::Get { key } => get::of_own(parts, key),
         Verb::Set { key, value } => set::of_own(parts, key, value),
         Verb::ToBytes => to_bytes::of_own(parts),
@@ -83,20 +94,22 @@ fn row_of_view(
     verb: &Verb,
     loans: &LoanList,
 ) -> Result<LocalReply, Halt>
-    requires { IsWhole parts.old }
+    requires whole { IsWhole parts.old }
+    requires fit { LoansFit loans.now }
     ensures answer { Answers (spec.row_of_view (exporter_of parts.old) k verb.now (lent_for_each (exporter_of parts.old) loans.now (handles_read (subjects.View k) verb.now))) (exporter_of parts.old) result (exporter_of parts.new) }
     ensures counted { parts.new.exports ≡ exports_of (exporter_of parts.new) }
 {
     match verb {
         Verb::View => view::of_view(parts, k),
         Verb::Get { key } => get_of_view(parts, k, key),
-        Verb::Set { key, value } => set::of_view(parts, k, key, value, loans),
-        Verb::Cast {
-            format,
-            shape: None,
-        } => cast::of_view(parts, k, format),
+        Verb::Set { key, value } => set_through_view(parts, k, key, value, loans),
+        Verb::Cast { format, shape } => cast::of_view(parts, k, format, shape),
         Verb::ToBytes => to_bytes::of_view(parts, k),
         Verb::Release => release::of_view(parts, k),
+        Verb::Enter => enter::of_view(parts, k),
+        Verb::Exit => release::of_view(parts, k),
+        Verb::ToContiguous => contiguous::of_view(parts, k),
+        Verb::ToList => to_list::of_view(parts, k),
         Verb::Len => len::of_view(parts, k),
         Verb::Property { name } => property::of_view(parts, k, *name),
         Verb::ToReadonly => to_readonly::of_view(parts, k),
@@ -111,7 +124,8 @@ fn row(
     verb: &Verb,
     loans: &LoanList,
 ) -> Result<LocalReply, Halt>
-    requires { IsWhole parts.old }
+    requires whole { IsWhole parts.old }
+    requires fit { LoansFit loans.now }
     ensures answer { Answers (spec.row (exporter_of parts.old) subject verb.now (lent_for_each (exporter_of parts.old) loans.now (handles_read subject verb.now))) (exporter_of parts.old) result (exporter_of parts.new) }
     ensures counted { parts.new.exports ≡ exports_of (exporter_of parts.new) }
 {
@@ -128,7 +142,8 @@ fn if_built(
     verb: &Verb,
     loans: &LoanList,
 ) -> Result<LocalReply, Halt>
-    requires { IsWhole parts.old }
+    requires whole { IsWhole parts.old }
+    requires fit { LoansFit loans.now }
     ensures answer { Answers (spec.answered_if_built (exporter_of parts.old) subject verb.now (lent_for_each (exporter_of parts.old) loans.now (handles_read subject verb.now))) (exporter_of parts.old) result (exporter_of parts.new) }
     ensures counted { parts.new.exports ≡ exports_of (exporter_of parts.new) }
 {
@@ -138,13 +153,113 @@ fn if_built(
     row(parts, subject, verb, loans)
 }
 
+/// The handle that a command copies items from: the value that a view is written by a slice. None
+/// exactly where a command is no such one.
+pub fn slice_source(subject: Subject, verb: &Verb) -> Option<u64>
+    ensures { result ≡ spec.slice_source subject verb.now }
+{
+    match (subject, verb) {
+        (
+            Subject::View(_),
+            Verb::Set {
+                key: Value::Slice(_),
+                value: Value::One(Scalar::Handle(handle)),
+            },
+        ) => Some(*handle),
+        _ => None,
+    }
+}
+
+/// The row of a command that copies items from a handle, which another exporter lends.
+fn row_beside(
+    parts: &mut Parts,
+    subject: Subject,
+    verb: &Verb,
+    handle: u64,
+    lender: &Parts,
+    lent: Subject,
+) -> Result<LocalReply, Halt>
+    requires whole { IsWhole parts.old }
+    requires lender_whole { IsWhole lender.now }
+    requires source { spec.slice_source subject verb.now ≡ Some handle }
+    ensures answer { (loans : _) → Answers (spec.answered_if_built (exporter_of parts.old) subject verb.now (lent_for_each (exporter_of parts.old) ((handle, loan_of_snap (snap_of_subject (exporter_of lender.now) lent)) ∷ loans) (handles_read subject verb.now))) (exporter_of parts.old) result (exporter_of parts.new) }
+    ensures counted { parts.new.exports ≡ exports_of (exporter_of parts.new) }
+{
+    match (subject, verb) {
+        (
+            Subject::View(view),
+            Verb::Set {
+                key: Value::Slice(slice),
+                value,
+            },
+        ) => assign::of_view_beside(parts, view, slice, value, lender, lent),
+        _ => Err(Halt::Refused(Fault::UnknownName)),
+    }
+}
+
+fn answered_beside(
+    parts: &mut Parts,
+    subject: Subject,
+    verb: &Verb,
+    loans: &LoanList,
+    handle: u64,
+    lender: &Parts,
+    lent: Subject,
+) -> Result<LocalReply, Halt>
+    requires whole { IsWhole parts.old }
+    requires lender_whole { IsWhole lender.now }
+    requires source { spec.slice_source subject verb.now ≡ Some handle }
+    ensures answer { Answers (spec.answer_of (exporter_of parts.old) subject verb.now ((handle, loan_of_snap (snap_of_subject (exporter_of lender.now) lent)) ∷ loans.now)) (exporter_of parts.old) result (exporter_of parts.new) }
+    ensures counted { parts.new.exports ≡ exports_of (exporter_of parts.new) }
+{
+    let handles = handles_of(parts.alloc, verb)?;
+    let is_there = is_lent(lender, lent);
+    if !are_known_beside(
+        parts,
+        loans.as_slice(),
+        handles.as_slice(),
+        handle,
+        is_there,
+    ) {
+        return Err(Halt::Refused(Fault::UnknownName));
+    }
+    row_beside(parts, subject, verb, handle, lender, lent)
+}
+
+/// Carries out a command that copies items from a handle, which another exporter lends as it is. A
+/// refusal is a reply.
+pub fn carry_out_beside(
+    parts: &mut Parts,
+    subject: Subject,
+    verb: &Verb,
+    loans: &LoanList,
+    handle: u64,
+    lender: &Parts,
+    lent: Subject,
+) -> Made<LocalReply>
+    requires whole { IsWhole parts.old }
+    requires lender_whole { IsWhole lender.now }
+    requires source { spec.slice_source subject verb.now ≡ Some handle }
+    ensures ok { IfOk result (λ r. spec.estep (exporter_of parts.old) subject verb.now ((handle, loan_of_snap (snap_of_subject (exporter_of lender.now) lent)) ∷ loans.now) ≡ (exporter_of parts.new, r)) }
+    ensures err { OnErr result (exporter_of parts.new ≡ exporter_of parts.old) }
+    ensures whole { IsWhole parts.new }
+{
+    crate::laws::commands_keep_sound();
+    match answered_beside(parts, subject, verb, loans, handle, lender, lent) {
+        Err(Halt::Refused(refusal)) => Ok(LocalReply::Refused(refusal)),
+        Err(Halt::NoMemory) => Err(NoMemory),
+        Ok(reply) => Ok(reply),
+    }
+}
+
 fn answered(
     parts: &mut Parts,
     subject: Subject,
     verb: &Verb,
     loans: &LoanList,
 ) -> Result<LocalReply, Halt>
-    requires { IsWhole parts.old }
+    requires whole { IsWhole parts.old }
+    requires fit { LoansFit loans.now }
     ensures answer { Answers (spec.answer_of (exporter_of parts.old) subject verb.now loans.now) (exporter_of parts.old) result (exporter_of parts.new) }
     ensures counted { parts.new.exports ≡ exports_of (exporter_of parts.new) }
 {
@@ -162,7 +277,8 @@ pub fn carry_out(
     verb: &Verb,
     loans: &LoanList,
 ) -> Made<LocalReply>
-    requires { IsWhole parts.old }
+    requires whole { IsWhole parts.old }
+    requires fit { LoansFit loans.now }
     ensures ok { IfOk result (λ r. spec.estep (exporter_of parts.old) subject verb.now loans.now ≡ (exporter_of parts.new, r)) }
     ensures err { OnErr result (exporter_of parts.new ≡ exporter_of parts.old) }
     ensures whole { IsWhole parts.new }

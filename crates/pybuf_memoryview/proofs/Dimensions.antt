@@ -1,6 +1,7 @@
 -- Dimensions of kept layouts.
-use Rattle.std.proofs.Common.{◌≡◌, ℕ, ◌+◌, ◌*◌, ◌<◌, List, [], ◌∷◌, length, get_or, zero, suc, ◌^◌, ◌≤◌, ap, sym, ◌∙◌, refl, subst, arith, lit<}
-use Rattle.std.specs.Prelude.{ℤ, pos, map, Some, slice_get}
+use Rattle.std.proofs.Common.{◌≡◌, ℕ, ◌+◌, ◌*◌, ◌<◌, List, [], ◌∷◌, length, get_or, zero, suc, ◌^◌, ◌≤◌, Bool, ap, sym, ◌∙◌, refl, subst, arith, lit<, le_refl, zero-mul, mul-le-mul_left, lt_of_le_of_lt}
+use Rattle.std.specs.Prelude.{ℤ, pos, map, Some, slice_get, ◌==◌, ◌||◌}
+use Rattle.std.specs.List.{list_any}
 use Rattle.std.proofs.Math.Nat.{le-mul_of_pos_right}
 use Rattle.pybuf_desc.specs.Descriptor.{Descriptor, shape_of}
 use Rattle.pybuf_desc.specs.Layouts.{Layout, product}
@@ -61,3 +62,21 @@ pub position_of_item : (d : Descriptor) (view : Layout) (start item : ℕ) (offs
     → IsPosition view start (number_of_item (item ∷ []) d.dims) (offset_of (item ∷ []) d.dims) → IsPosition view start item offset
 position_of_item d view start item offset one is at =
     subst (λ (z : ℤ). IsPosition view start item z) (sym is) (subst (λ (k : ℕ). IsPosition view start k (offset_of (item ∷ []) d.dims)) (number_is d.dims item one) at)
+
+-- ---- how many bytes there are
+
+items_below : (shape : List ℕ) → product shape ≤ product (nonzero_entries shape)
+items_below [] = le_refl 1
+items_below (zero ∷ shape) = let none : zero * product shape ≡ 0 = zero-mul (product shape) in omega (arith, none)
+items_below (suc n ∷ shape) = mul-le-mul_left (suc n) (items_below shape)
+
+-- the bytes of the items of a placed descriptor fit `isize`
+pub len_fits : (d : Descriptor) (start : ℕ) → IsPlaced d start → d.len < 2 ^ 63
+len_fits d start placed =
+    subst (λ n. n < 2 ^ 63) placed.valid.len (lt_of_le_of_lt (mul-le-mul_left d.itemsize (items_below (shape_of d.dims))) placed.valid.extent_fits)
+
+-- ---- dimensions without an entry
+
+pub any_entry : (dims : List (ℕ × ℤ × ℤ)) → list_any (λ (dim : ℕ × ℤ × ℤ). dim.0 == 0) dims ≡ list_any (λ n. n == 0) (shape_of dims)
+any_entry [] = refl
+any_entry (dim ∷ dims) = ap (λ (b : Bool). (dim.0 == 0) || b) (any_entry dims)

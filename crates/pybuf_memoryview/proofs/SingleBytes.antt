@@ -1,9 +1,9 @@
 -- Items of the format `B` are their one byte.
-use Rattle.std.proofs.Common.{◌≡◌, ℕ, ◌+◌, ◌*◌, pos, negsuc, List, [], ◌∷◌, Bool, true, false, true≢false, ap, sym, ◌∙◌, arith, refl}
+use Rattle.std.proofs.Common.{◌≡◌, ℕ, ◌+◌, ◌*◌, pos, negsuc, List, [], ◌∷◌, Bool, true, false, ap, arith, refl}
 use Rattle.std.specs.Prelude.{nat_lt, Result, Ok, Err, if◌then◌else◌}
 use Rattle.std.specs.Int.{bytes_low_first}
 use Rattle.std.proofs.Math.Nat.{mod-eq_of_lt}
-use Rattle.std.proofs.lemmas.Bool.{ltb-true, eqb-true}
+use Rattle.std.proofs.lemmas.Bool.{ltb-true}
 use Rattle.pybuf_value.specs.declared.faults.Fault.{Fault}
 use Rattle.pybuf_value.specs.declared.faults.Fault.TheVariants as fault
 use Rattle.pybuf_value.specs.Refusing.{◌>>=◌}
@@ -12,9 +12,9 @@ use Rattle.pybuf_value.specs.declared.values.Value.{Value}
 use Rattle.pybuf_value.specs.declared.values.Value.TheVariants as value
 use Rattle.pybuf_value.specs.declared.values.Item.TheVariants as item
 use Rattle.pybuf_value.specs.declared.snaps.Snap.{Snap}
-use Rattle.pybuf_struct.specs.Formats.{format_of, Field, codes_in, layout_from, format_after_prefix}
+use Rattle.pybuf_struct.specs.Formats.{Field, codes_in, layout_from, format_after_prefix}
 use Rattle.pybuf_struct.specs.declared.table.FormatType.TheVariants as code
-use Rattle.pybuf_struct.specs.Packing.{contents_of, room_with_contents, packed_bytes}
+use Rattle.pybuf_struct.specs.Packing.{contents_of, room_with_contents}
 use Rattle.pybuf_memoryview.specs.Items.{item_by, byte_item, kind_fault, piece_by}
 use Rattle.pybuf_memoryview.specs.SingleBytes.{byte_for_item}
 

@@ -1,5 +1,5 @@
--- Items: which one a key names, what an item reads as, and which value it is written as.
-use Rattle.std.specs.Prelude.{ℕ, ◌+◌, ◌==◌, List, [], ◌∷◌, ◌++◌, take, drop, length, slice_index, ℤ, pos, Bool, true, false, not, Result, Ok, Err, ok_or}
+-- Items: which entry an index names, what an item reads as, and which value it is written as.
+use Rattle.std.specs.Prelude.{ℕ, ◌+◌, ◌==◌, List, [], ◌∷◌, ◌++◌, take, drop, length, ℤ, pos, Bool, true, false, Result, Ok, Err, ok_or}
 use Rattle.pybuf_value.specs.declared.faults.Fault.{Fault}
 use Rattle.pybuf_value.specs.declared.faults.Fault.TheVariants as fault
 use Rattle.pybuf_value.specs.declared.values.Scalar.{Scalar}
@@ -31,12 +31,6 @@ entry_in count index = ok_or (item_place count index) fault.Index
 abbrev pub has_dimensions : Layout → Result Bool Fault
 has_dimensions layout = unless (length layout.shape == 0) fault.Kind
 
--- the number of the item that an index names: so in a view of one dimension alone
-abbrev pub item_number : Layout → ℤ → Result ℕ Fault
-item_number layout index = do
-  _ ← unless (not (length layout.shape == 1)) fault.NotImplemented
-  entry_in (slice_index layout.shape 0) index
-
 -- a byte as an item
 abbrev pub byte_item : ℕ → Item
 byte_item b = item.One (scalar.Int (pos b))
@@ -65,12 +59,6 @@ kind_fault (Err f) = Err fault.Kind
 abbrev pub scalar_in : Value → Scalar
 scalar_in (value.One s) = s
 scalar_in _ = scalar.Ellipsis
-
--- a tuple of values, or of slices
-abbrev pub is_tuple : Value → Bool
-is_tuple (value.Tuple parts) = true
-is_tuple (value.Slices slices) = true
-is_tuple _ = false
 
 abbrev pub is_slice : Value → Bool
 is_slice (value.Slice s) = true

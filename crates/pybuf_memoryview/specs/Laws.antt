@@ -1,14 +1,15 @@
 -- What holds of items and of the bytes of views.
-use Rattle.std.specs.Prelude.{◌≡◌, ℕ, ◌*◌, List, [], ◌∷◌, length, codes, false, Ok}
+use Rattle.std.specs.Prelude.{◌≡◌, ℕ, ◌*◌, ◌<◌, List, [], ◌∷◌, length, map, pos, codes, false, Ok, ⊤}
 use Rattle.pybuf_value.specs.declared.values.Scalar.{Scalar}
 use Rattle.pybuf_value.specs.declared.values.Value.{Value}
 use Rattle.pybuf_value.specs.declared.snaps.Snap.{Snap}
 use Rattle.pybuf_value.specs.Refusing.{◌>>=◌}
 use Rattle.pybuf_struct.specs.Formats.{Format}
 use Rattle.pybuf_struct.specs.Packing.{packed_bytes}
-use Rattle.pybuf_desc.specs.Layouts.{Layout, LiesInside}
+use Rattle.pybuf_desc.specs.Layouts.{Layout, LiesInside, product}
 use Rattle.pybuf_desc.specs.Items.{content_of_layout}
 use Rattle.pybuf_memoryview.specs.Items.{piece_by}
+use Rattle.pybuf_memoryview.specs.Keys.{item_at_indices, item_of_key}
 use Rattle.pybuf_memoryview.specs.SingleBytes.{byte_for_item}
 use Rattle.pybuf_memoryview.specs.Reading.{reads_bytes}
 
@@ -19,6 +20,27 @@ ByteItemsAreTheirByte = (pairs : List (ℕ × Snap)) (v : Value) → piece_by (c
 -- a format without codes for bytes writes the same whatever is lent
 abbrev pub NumbersLookAtNoLoan : Type 0
 NumbersLookAtNoLoan = (f : Format) (pairs : List (ℕ × Snap)) (vs : List Scalar) → reads_bytes f ≡ false → packed_bytes f [] vs ≡ packed_bytes f pairs vs
+
+-- the item that a key names is one of the view's
+abbrev pub KeysNameItems : Type 0
+KeysNameItems = (shape : List ℕ) (key : Value) (item : ℕ) → item_of_key shape key ≡ Ok item → item < product shape
+
+-- an entry of each dimension
+abbrev pub AreEntries : List ℕ → List ℕ → Type 0
+AreEntries [] [] = ⊤
+AreEntries (n ∷ shape) (entry ∷ entries) = (entry < n) × AreEntries shape entries
+AreEntries _ _ = ⊥
+
+-- an item is named by an entry of each dimension, and by no other such entries
+pub record HasItsEntries (shape : List ℕ) (item : ℕ) : Type 0 where
+  pub entries : List ℕ
+  pub there : AreEntries shape entries
+  pub named : item_at_indices shape (map pos entries) ≡ Ok item
+  pub alone : (others : List ℕ) → AreEntries shape others → item_at_indices shape (map pos others) ≡ Ok item → others ≡ entries
+
+-- each item of a view is
+abbrev pub ItemsHaveTheirEntries : Type 0
+ItemsHaveTheirEntries = (shape : List ℕ) (item : ℕ) → item < product shape → HasItsEntries shape item
 
 -- the items of a view that lie inside have all their bytes
 abbrev pub ContentsAreWhole : Type 0

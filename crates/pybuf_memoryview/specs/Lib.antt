@@ -1,6 +1,9 @@
 pub mod Orders
 pub mod Items
+pub mod Keys
 pub mod SingleBytes
 pub mod Reading
 pub mod Snaps
+pub mod Lists
+pub mod Laid
 pub mod Laws

@@ -1,5 +1,5 @@
 -- What a view is lent as.
-use Rattle.std.specs.Prelude.{ℕ, Bool, List, [], if◌then◌else◌}
+use Rattle.std.specs.Prelude.{ℕ, Bool, List, [], true, false, if◌then◌else◌}
 use Rattle.pybuf_value.specs.declared.snaps.Snap.{Snap}
 use Rattle.pybuf_value.specs.declared.snaps.SnapKind.TheVariants as kind
 use Rattle.pybuf_desc.specs.Layouts.{Layout}
@@ -17,3 +17,7 @@ snap_of_layout bytes layout released = record {
   contiguous = is_contiguous_layout layout;
   released = released;
 }
+
+-- an unreleased view as a copy of its bytes has it, where its items lie one after the other
+abbrev pub snap_of_copy : List ℕ → Layout → Snap
+snap_of_copy bytes layout = record (snap_of_layout bytes layout false) { contiguous = true }

@@ -48,7 +48,7 @@ pub fn byte_item(byte: u8) -> Item
 }
 
 /// Values as an item: one as itself, any other number as a tuple.
-fn item_of(values: ScalarList) -> Item
+pub(crate) fn item_of(values: ScalarList) -> Item
     ensures { result ≡ item_of values }
 {
     let mut values = values.into_vec();
@@ -129,17 +129,6 @@ pub fn format_of(alloc: Global, layout: &KeptLayout) -> Result<FormatSpec, Halt>
     match FormatSpec::parse(alloc, layout.format_text().as_slice())? {
         Outcome::Done(format) => Ok(format),
         Outcome::Refused(_) => Err(Halt::Refused(Fault::Kind)),
-    }
-}
-
-/// Whether a value is a tuple, of values or of slices.
-pub fn is_tuple(value: &Value) -> bool
-    ensures { result ≡ spec.is_tuple value.now }
-{
-    match value {
-        Value::Tuple(_) => true,
-        Value::Slices(_) => true,
-        _ => false,
     }
 }
 

@@ -1,9 +1,10 @@
 //! Where the items of a view lie and how they read, as it is kept: by a descriptor and a start.
-ghost use Rattle.std.specs.Prelude.{◌≡◌, ◌<◌, ◌%◌, ◌^◌, pos, ◌+ℤ◌, ◌≤ℤ◌, ◌<ℤ◌, nat_abs, true, length, map, replicate, slice_index, IfOk};
+ghost use Rattle.std.specs.Prelude.{◌≡◌, ◌<◌, ◌≤◌, ◌+◌, ◌*◌, ◌%◌, ◌^◌, All, pos, ◌+ℤ◌, ◌≤ℤ◌, ◌<ℤ◌, nat_abs, true, length, map, replicate, slice_index, IfOk, ◌==◌, Ok, Err, MatchResult};
+ghost use Rattle.std.specs.List.{list_any};
 
 use pybuf_desc::BufferDescriptor;
 use pybuf_slice::SaturatedSlice;
-use pybuf_value::{CountList, Made, NumberList, Text, Twin};
+use pybuf_value::{CountList, Fault, Made, NumberList, Text, Twin};
 use std::alloc::Global;
 use std::marker::Model;
 
@@ -60,6 +61,13 @@ fn strides_of(alloc: Global, dims: &[(usize, isize, isize)]) -> Made<NumberList>
     Ok(list)
 }
 
+/// Whether a dimension has no entry.
+fn is_zero_among(dims: &[(usize, isize, isize)]) -> bool
+    ensures { result ≡ list_any (λ dim. dim.0 == 0) dims.now }
+{
+    dims.iter().any(|dim| dim.0 == 0)
+}
+
 /// So many zeros.
 fn zeros(alloc: Global, count: usize) -> Made<NumberList>
     ensures { IfOk result (λ list. list ≡ replicate count (pos 0)) }
@@ -82,13 +90,25 @@ fn place_after(place: usize, distance: isize) -> usize
 }
 
 impl KeptLayout {
-    ghost use Rattle.pybuf_desc.specs.Layouts.{bytes_layout, HasItemsOfItsShape};
+    ghost use Rattle.pybuf_desc.specs.Layouts.{bytes_layout, bytes_layout_from, product, HasItemsOfItsShape};
     ghost use Rattle.pybuf_desc.specs.Contiguous.{is_contiguous_layout};
     ghost use Rattle.pybuf_desc.specs.Slices.{slice_of};
     ghost use Rattle.pybuf_desc.specs.Casts.{cast_of};
-    ghost use Rattle.pybuf_desc.specs.Places.{Stands};
+    ghost use Rattle.pybuf_desc.specs.ShapedCasts.{cast_to};
+    ghost use Rattle.pybuf_desc.specs.Packed.{row_major_of};
+    ghost use Rattle.pybuf_desc.specs.Places.{Stands, layout_at};
     ghost use Rattle.pybuf_desc.specs.Valid.{IsPlaced};
-    ghost use Rattle.pybuf_memoryview.specs.Orders.{nbytes_of, is_f_contiguous_layout};
+    ghost use Rattle.pybuf_memoryview.specs.Orders.{nbytes_of, has_zero_entry, is_f_contiguous_layout};
+    ghost use Rattle.pybuf_memoryview.specs.Keys.{item_at_indices, IsStartOf};
+
+    /// The layout that a descriptor stands for where the first item starts at this place. Takes no
+    /// memory.
+    pub fn of_descriptor(descriptor: BufferDescriptor, start: usize) -> KeptLayout
+        requires { IsPlaced descriptor start }
+        ensures { result ≡ layout_at descriptor start }
+    {
+        KeptLayout { descriptor, start }
+    }
 
     /// The layout of all of so many bytes: items of one byte, in one dimension.
     pub fn whole(alloc: Global, len: usize, readonly: bool) -> Made<KeptLayout>
@@ -101,6 +121,16 @@ impl KeptLayout {
             descriptor,
             start: 0,
         })
+    }
+
+    /// The layout of so many bytes from a place on: items of one byte, in one dimension.
+    pub fn range(alloc: Global, start: usize, count: usize, readonly: bool) -> Made<KeptLayout>
+        requires { start + count < 2 ^ 63 }
+        ensures { IfOk result (λ v. v ≡ bytes_layout_from start count readonly) }
+    {
+        pybuf_desc::descriptors_stand_for_one_view();
+        let descriptor = BufferDescriptor::simple(alloc, count, readonly)?;
+        Ok(KeptLayout { descriptor, start })
     }
 
     /// The layout of the items that a slice picks, along the first dimension.
@@ -129,6 +159,46 @@ impl KeptLayout {
         Ok(KeptLayout {
             descriptor,
             start: self.start,
+        })
+    }
+
+    /// The layout of the same bytes as items of another format and size, in dimensions of these
+    /// entries.
+    pub fn cast_shape(
+        &self,
+        alloc: Global,
+        format: Text,
+        itemsize: usize,
+        shape: &[usize],
+    ) -> Made<KeptLayout>
+        requires contiguous { is_contiguous_layout self.now ≡ true }
+        requires some_size { 0 < itemsize }
+        requires size_fits { itemsize < 2 ^ 63 }
+        requires few_dimensions { length shape.now ≤ 64 }
+        requires entries { All (λ n. 0 < n) shape.now }
+        requires whole_items { itemsize * product shape.now ≡ nbytes_of self.now }
+        ensures { IfOk result (λ v. v ≡ cast_to self.now format itemsize shape.now) }
+    {
+        pybuf_desc::placed_descriptors_stand();
+        pybuf_desc::descriptors_stand_for_one_view();
+        pybuf_desc::contiguity_is_the_same_anywhere();
+        let descriptor = self.descriptor.cast_shape(alloc, format, itemsize, shape)?;
+        Ok(KeptLayout {
+            descriptor,
+            start: self.start,
+        })
+    }
+
+    /// The layout of the same items one after the other, as they lie in a copy of their bytes.
+    pub fn to_row_major(&self, alloc: Global) -> Made<KeptLayout>
+        ensures { IfOk result (λ v. v ≡ row_major_of self.now) }
+    {
+        pybuf_desc::placed_descriptors_stand();
+        pybuf_desc::descriptors_stand_for_one_view();
+        let descriptor = self.descriptor.to_row_major(alloc)?;
+        Ok(KeptLayout {
+            descriptor,
+            start: 0,
         })
     }
 
@@ -176,6 +246,28 @@ impl KeptLayout {
         place_after(self.start, self.descriptor.fast_position(&indices))
     }
 
+    /// The first place of the item at an index for each dimension, where a negative index counts from
+    /// the end. Takes no memory.
+    ///
+    /// Refused with `IndexError` where an index is out of bounds.
+    pub(crate) fn place_at(&self, indices: &[isize]) -> Result<usize, Fault>
+        requires { length indices.now ≡ length self.now.shape }
+        ensures { MatchResult result (λ place. IsStartOf self.now (item_at_indices self.now.shape indices.now) place) (λ fault. item_at_indices self.now.shape indices.now ≡ Err fault) }
+    {
+        pybuf_desc::placed_descriptors_stand();
+        pybuf_desc::positions_are_places();
+        let offset = self.descriptor.position(indices)?;
+        Ok(place_after(self.start, offset))
+    }
+
+    /// The first place of the one item of a view without dimensions: the view's own start.
+    pub(crate) fn first_place(&self) -> usize
+        requires { length self.now.shape ≡ 0 }
+        ensures { IsStartOf self.now (Ok 0) result }
+    {
+        self.start
+    }
+
     /// The number of bytes of an item.
     pub fn itemsize(&self) -> usize
         ensures { result ≡ self.now.itemsize }
@@ -207,9 +299,17 @@ impl KeptLayout {
 
     /// The number of dimensions.
     pub fn ndim(&self) -> usize
-        ensures { result ≡ length self.now.shape }
+        ensures value { result ≡ length self.now.shape }
+        ensures few { result ≤ 64 }
     {
         self.descriptor.ndim()
+    }
+
+    /// Whether a dimension has no entry.
+    pub fn has_zero(&self) -> bool
+        ensures { result ≡ has_zero_entry self.now.shape }
+    {
+        is_zero_among(self.descriptor.dim_desc())
     }
 
     /// The number of entries of each dimension.

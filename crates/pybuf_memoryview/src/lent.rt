@@ -46,6 +46,16 @@ pub fn snap_of_layout(
     })
 }
 
+/// An unreleased view as a copy of its bytes has it, where its items lie one after the other.
+pub fn snap_of_copy(alloc: Global, bytes: &[u8], layout: &KeptLayout) -> Made<Snap>
+    requires { LiesInside (length bytes.now) layout.now }
+    ensures { IfOk result (λ snap. snap ≡ spec.snap_of_copy bytes.now layout.now) }
+{
+    let mut snap = snap_of_layout(alloc, bytes, layout, false)?;
+    snap.contiguous = true;
+    Ok(snap)
+}
+
 /// Whether a code's values are bytes.
 fn is_bytes_code(code: &FormatCode) -> bool
     ensures { result ≡ reading.is_bytes_code code.now.code }

@@ -1,6 +1,6 @@
 -- Rows that read keep a sound exporter.
-use Rattle.std.proofs.Common.{◌≡◌, ℕ, ◌+◌, ◌<◌, ◌≤◌, List, [], ◌∷◌, length, Bool, true, false, true≢false, ap, sym, ◌∙◌, refl, subst, arith}
-use Rattle.std.specs.Prelude.{Result, Ok, Err}
+use Rattle.std.proofs.Common.{◌≡◌, ℕ, length, Bool, true, false, refl, subst}
+use Rattle.std.specs.Prelude.{Result, Ok, Err, if◌then◌else◌}
 use Rattle.pybuf_value.specs.declared.faults.Fault.{Fault}
 use Rattle.pybuf_value.specs.declared.faults.Fault.TheVariants as fault
 use Rattle.pybuf_value.specs.declared.values.Value.{Value}
@@ -10,18 +10,18 @@ use Rattle.pybuf_desc.specs.Layouts.{Layout}
 use Rattle.pybuf_command.specs.declared.commands.LocalReply.{LocalReply}
 use Rattle.pybuf_command.specs.declared.commands.LocalReply.TheVariants as reply
 use Rattle.pybuf_state.specs.Exporter.{Exporter, live_layout}
-use Rattle.pybuf_state.specs.Sound.{IsSoundExporter}
 use Rattle.pybuf_state.specs.Keeps.{is_answer, IsCarriedOut, IsSafe}
 use Rattle.pybuf_slice.specs.Parts.{saturated_parts_of}
 use Rattle.pybuf_command.specs.declared.kinds.ExporterKind.{ExporterKind}
 use Rattle.pybuf_command.specs.declared.kinds.ExporterKind.TheVariants as kind
 use Rattle.pybuf_command.specs.declared.commands.PropertyName.{PropertyName}
 use Rattle.pybuf_command.specs.declared.commands.PropertyName.TheVariants as property
-use Rattle.pybuf_memoryview.specs.Items.{index_in, entry_in, has_dimensions, item_number}
+use Rattle.pybuf_memoryview.specs.Items.{index_in, entry_in, has_dimensions}
+use Rattle.pybuf_memoryview.specs.Keys.{item_of_key, names_itself}
 use Rattle.pybuf_state.specs.Laws.{ReadingKeeps}
-use Rattle.pybuf_rows_reads.specs.Get.{byte_of_own, part_of_own, get_in_kind, get_of_own, item_of_view}
+use Rattle.pybuf_rows_reads.specs.Get.{byte_of_own, part_of_own, get_in_kind, item_of_layout, item_of_view}
 use Rattle.pybuf_rows_reads.specs.Property.{is_exports, property_of_own, property_of_layout, property_of_view}
-use Rattle.pybuf_rows_reads.specs.Laws.{GetIsSafe, BytesIsSafe, LenIsSafe, PropertyIsSafe}
+use Rattle.pybuf_rows_reads.specs.Laws.{GetIsSafe, BytesIsSafe, LenIsSafe, PropertyIsSafe, ToListIsSafe}
 
 bind : {A : Type 0} (e : Exporter) (r : Result A Fault) (f : A → Result (Exporter × LocalReply) Fault) → ((a : A) → r ≡ Ok a → IsSafe e (f a)) → IsSafe e (r >>= f)
 bind e r f after = done_bind (IsCarriedOut e) r f after
@@ -48,12 +48,13 @@ in_kind e kind.ByteArray r safe = safe
 in_kind e kind.Bytes r safe = safe
 in_kind e (kind.Vector readonly) r safe = tt
 
+-- an item, or the view itself
+either_safe : ReadingKeeps → (e : Exporter) (layout : Layout) (key : Value) (b : Bool) → IsSafe e (if b then Ok (e, reply.Itself) else item_of_layout e layout key)
+either_safe reading e layout key true = read reading e reply.Itself refl
+either_safe reading e layout key false = bind e (item_of_key layout.shape key) _ (λ item _. read reading e _ refl)
+
 item_safe : ReadingKeeps → (e : Exporter) (k : ℕ) (key : Value) → IsSafe e (item_of_view e k key)
-item_safe reading e k key =
-    bind e (live_layout e k) _ (λ layout _.
-    bind e (has_dimensions layout) _ (λ _ _.
-    bind e (index_in key) _ (λ index _.
-    bind e (item_number layout index) _ (λ item _. read reading e _ refl))))
+item_safe reading e k key = bind e (live_layout e k) _ (λ layout _. either_safe reading e layout key (names_itself layout.shape key))
 
 pub get_safe : ReadingKeeps → GetIsSafe
 get_safe reading = ((λ e key. in_kind e e.kind (part_of_own e key) (part_safe reading e key)), item_safe reading)
@@ -115,3 +116,8 @@ view_safe reading e k name =
 
 pub property_safe : ReadingKeeps → PropertyIsSafe
 property_safe reading = (own_safe reading, view_safe reading)
+
+-- ---- tolist
+
+pub tolist_safe : ReadingKeeps → ToListIsSafe
+tolist_safe reading e k = bind e (live_layout e k) _ (λ layout _. read reading e _ refl)

@@ -1,5 +1,5 @@
 -- `get`: the item at a key, or the bytes that a slice picks.
-use Rattle.std.specs.Prelude.{ℕ, length, slice_index, Result, Ok, Err}
+use Rattle.std.specs.Prelude.{ℕ, length, slice_index, Result, Ok, Err, if◌then◌else◌}
 use Rattle.pybuf_value.specs.declared.faults.Fault.{Fault}
 use Rattle.pybuf_value.specs.declared.faults.Fault.TheVariants as fault
 use Rattle.pybuf_value.specs.declared.values.Value.{Value}
@@ -7,12 +7,14 @@ use Rattle.pybuf_value.specs.declared.values.Value.TheVariants as value
 use Rattle.pybuf_value.specs.Refusing.{◌>>=◌}
 use Rattle.pybuf_slice.specs.Parts.{saturated_parts_of, picks_of}
 use Rattle.pybuf_slice.specs.Reads.{elements_at}
+use Rattle.pybuf_desc.specs.Layouts.{Layout}
 use Rattle.pybuf_desc.specs.Items.{bytes_at}
 use Rattle.pybuf_command.specs.declared.kinds.ExporterKind.{ExporterKind}
 use Rattle.pybuf_command.specs.declared.kinds.ExporterKind.TheVariants as kind
 use Rattle.pybuf_command.specs.declared.commands.LocalReply.{LocalReply}
 use Rattle.pybuf_command.specs.declared.commands.LocalReply.TheVariants as reply
-use Rattle.pybuf_memoryview.specs.Items.{index_in, entry_in, has_dimensions, item_number, byte_item, item_by}
+use Rattle.pybuf_memoryview.specs.Items.{index_in, entry_in, byte_item, item_by}
+use Rattle.pybuf_memoryview.specs.Keys.{item_of_key, names_itself}
 use Rattle.pybuf_state.specs.Exporter.{Exporter, live_layout}
 
 -- the byte of an exporter at an index
@@ -37,11 +39,14 @@ get_in_kind _ read = read
 abbrev pub get_of_own : Exporter → Value → Result (Exporter × LocalReply) Fault
 get_of_own e key = get_in_kind e.kind (part_of_own e key)
 
--- of a view: the item at an index
+-- the item of a view that a key names
+abbrev pub item_of_layout : Exporter → Layout → Value → Result (Exporter × LocalReply) Fault
+item_of_layout e layout key = do
+  item ← item_of_key layout.shape key
+  Ok (e, reply.Item (item_by layout.format (bytes_at e.bytes layout.itemsize (slice_index layout.starts item))))
+
+-- of a view: the item that a key names, or the view itself
 abbrev pub item_of_view : Exporter → ℕ → Value → Result (Exporter × LocalReply) Fault
 item_of_view e k key = do
   layout ← live_layout e k
-  _ ← has_dimensions layout
-  index ← index_in key
-  item ← item_number layout index
-  Ok (e, reply.Item (item_by layout.format (bytes_at e.bytes layout.itemsize (slice_index layout.starts item))))
+  if names_itself layout.shape key then Ok (e, reply.Itself) else item_of_layout e layout key

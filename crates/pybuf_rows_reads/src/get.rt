@@ -5,7 +5,7 @@ ghost use Rattle.pybuf_state.specs.Answers.{exporter_of, IsWhole, Reads};
 ghost use Rattle.pybuf_rows_reads.specs.Get.{part_of_own, get_of_own, item_of_view};
 
 use pybuf_command::{ExporterKind, LocalReply};
-use pybuf_memoryview::{byte_item, entry_in, index_in, item_by};
+use pybuf_memoryview::{byte_item, entry_in, index_in, item_by, names_itself, place_of_key};
 use pybuf_slice::SaturatedSlice;
 use pybuf_slice::slices::getitem_by_slice;
 use pybuf_state::Parts;
@@ -41,21 +41,16 @@ pub fn of_own(parts: &Parts, key: &Value) -> Result<LocalReply, Halt>
     }
 }
 
-/// The item of a view at an index.
+/// The item of a view at a key, or the view itself.
 pub fn of_view(parts: &Parts, view: usize, key: &Value) -> Result<LocalReply, Halt>
     requires { IsWhole parts.now }
     ensures { Reads (item_of_view (exporter_of parts.now) view key.now) (exporter_of parts.now) result }
 {
     let layout = parts.live_layout(view)?;
-    if layout.ndim() == 0 {
-        return Err(Halt::Refused(Fault::Kind));
+    if names_itself(layout, key) {
+        return Ok(LocalReply::Itself);
     }
-    let index = index_in(key)?;
-    if layout.ndim() != 1 {
-        return Err(Halt::Refused(Fault::NotImplemented));
-    }
-    let item = entry_in(layout.first_entry(), index)?;
-    let place = layout.place(item);
+    let place = place_of_key(layout, key)?;
     let bytes = &parts.bytes[place..place + layout.itemsize()];
     let item = item_by(parts.alloc, layout.format_text(), bytes)?;
     Ok(LocalReply::Item(item))

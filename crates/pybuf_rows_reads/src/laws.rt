@@ -1,5 +1,5 @@
 //! Laws of the definitions that the contracts cite.
-ghost use Rattle.pybuf_rows_reads.specs.Laws.{GetIsSafe, BytesIsSafe, LenIsSafe, PropertyIsSafe};
+ghost use Rattle.pybuf_rows_reads.specs.Laws.{GetIsSafe, BytesIsSafe, LenIsSafe, PropertyIsSafe, ToListIsSafe, ListsHoldTheItems};
 
 /// `get` of bytes and of an item keeps a sound exporter.
 pub fn get_is_safe()
@@ -27,4 +27,21 @@ pub fn property_is_safe()
     ensures { PropertyIsSafe }
 {
     pybuf_state::reading_keeps();
+}
+
+/// `tolist` keeps a sound exporter.
+pub fn tolist_is_safe()
+    ensures { ToListIsSafe }
+{
+    pybuf_state::reading_keeps();
+}
+
+/// The items that `tolist` lists, put end to end, are those of the view in order: what `get` reads at
+/// a key stands at the number of the item that the key names. There are as many as the shape has
+/// places, so that they are nested by it exactly.
+pub fn lists_hold_the_items()
+    ensures { ListsHoldTheItems }
+{
+    pybuf_state::live_layouts_are_sound();
+    pybuf_memoryview::keys_name_items();
 }

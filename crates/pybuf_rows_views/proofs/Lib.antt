@@ -1,2 +1,3 @@
+pub mod CastEntries
 pub mod Safe
 pub mod Twice

@@ -1,33 +1,38 @@
 -- Each row keeps a sound exporter.
-use Rattle.std.proofs.Common.{◌≡◌, ◌≢◌, ℕ, zero, suc, ◌<◌, List, [], ◌∷◌, length, Bool, true, false, true≢false, ap₂, sym, refl, subst, arith}
+use Rattle.std.proofs.Common.{◌≡◌, ◌≢◌, ℕ, zero, suc, ◌<◌, ◌≤◌, ◌+◌, ◌-◌, ◌*◌, mul_comm, ap, ◌∙◌, List, [], ◌∷◌, length, Bool, true, false, true≢false, ap₂, sym, refl, subst, arith}
 use Rattle.pybuf_value.specs.declared.faults.Fault.{Fault}
 use Rattle.pybuf_value.specs.declared.faults.Fault.TheVariants as fault
 use Rattle.pybuf_value.specs.Refusing.{◌>>=◌, unless, IfDone, done_bind}
-use Rattle.pybuf_desc.specs.Layouts.{Layout}
+use Rattle.pybuf_desc.specs.Layouts.{Layout, product, bytes_layout_from}
 use Rattle.pybuf_command.specs.declared.commands.LocalReply.{LocalReply}
 use Rattle.pybuf_command.specs.declared.commands.LocalReply.TheVariants as reply
 use Rattle.pybuf_state.specs.Exporter.{Exporter, View, whole_layout, view_at, live_layout, with_view, released_at, released_in}
 use Rattle.pybuf_state.specs.Sound.{IsSoundExporter}
-use Rattle.pybuf_state.specs.Keeps.{IsCarriedOut, IsSafe}
-use Rattle.std.specs.Prelude.{◌==◌, ◌%◌, ◌&&◌, not, nat_lt, min, ℤ, pos, negsuc, Result, Ok, Err}
+use Rattle.pybuf_command.specs.declared.kinds.Subject.TheVariants as subject
+use Rattle.pybuf_command.specs.Kinds.{holds_readonly}
+use Rattle.pybuf_state.specs.Keeps.{IsCarriedOut, IsSafe, IsCopied}
+use Rattle.std.specs.Prelude.{◌==◌, ◌%◌, ◌&&◌, not, nat_lt, nat_le, min, Option, Some, None, if◌then◌else◌, ℤ, pos, negsuc, Result, Ok, Err}
 use Rattle.std.proofs.lemmas.Int.{ints}
-use Rattle.std.proofs.lemmas.Bool.{eq-eqb}
+use Rattle.std.proofs.lemmas.Bool.{eq-eqb, eqb-true}
 use Rattle.pybuf_value.specs.declared.values.PySlice.{PySlice}
 use Rattle.pybuf_value.specs.declared.values.Scalar.{Scalar}
 use Rattle.pybuf_value.specs.declared.values.Scalar.TheVariants as scalar
-use Rattle.pybuf_value.specs.Numbers.{number_in}
+use Rattle.pybuf_value.specs.declared.values.Value.{Value}
+use Rattle.pybuf_value.specs.declared.values.Value.TheVariants as value
+use Rattle.pybuf_value.specs.Numbers.{number_in, number_of}
 use Rattle.pybuf_slice.specs.Parts.{SliceParts, nonzero, step_in, part_in, nearest_word, parts_of, saturated_parts_of}
 use Rattle.pybuf_struct.specs.Formats.{Format, format_of}
 use Rattle.pybuf_desc.specs.Contiguous.{is_contiguous_layout}
 use Rattle.pybuf_desc.specs.Slices.{slice_of}
 use Rattle.pybuf_desc.specs.Casts.{cast_of}
-use Rattle.pybuf_desc.specs.Laws.{SlicesStayInside, SlicesHaveTheirShape, CastsStayInside, CastsHaveTheirShape}
+use Rattle.pybuf_desc.specs.Laws.{SlicesStayInside, SlicesHaveTheirShape, CastsStayInside, CastsHaveTheirShape, ShapedCastsStayInside, ShapedCastsHaveTheirShape}
 use Rattle.pybuf_command.specs.Sized.{is_size_of}
 use Rattle.pybuf_memoryview.specs.Items.{has_dimensions}
-use Rattle.pybuf_memoryview.specs.Orders.{nbytes_of}
-use Rattle.pybuf_state.specs.Laws.{IsSoundLayout, WholeLayoutsAreSound, LiveLayoutsAreSound, NewViewsKeep, ReleasingKeeps}
-use Rattle.pybuf_rows_views.specs.Cast.{text_in, size_of_format}
-use Rattle.pybuf_rows_views.specs.Laws.{ViewIsSafe, SliceIsSafe, CastIsSafe, ReleaseIsSafe, ToReadonlyIsSafe}
+use Rattle.pybuf_memoryview.specs.Orders.{nbytes_of, has_zero_entry}
+use Rattle.pybuf_state.specs.Laws.{IsSoundLayout, WholeLayoutsAreSound, PartLayoutsAreSound, LiveLayoutsAreSound, ReadingKeeps, NewViewsKeep, ReleasingKeeps}
+use Rattle.pybuf_rows_views.specs.Range.{part_between}
+use Rattle.pybuf_rows_views.specs.Cast.{text_in, size_of_format, size_for, entries_of, flat_layout_of, shaped_layout_of, layout_in_shape}
+use Rattle.pybuf_rows_views.specs.Laws.{ViewIsSafe, RangeIsSafe, SliceIsSafe, CastIsSafe, ReleaseIsSafe, EnterIsSafe, ContiguousIsCopied, ToReadonlyIsSafe}
 
 bind : {A : Type 0} (e : Exporter) (r : Result A Fault) (f : A → Result (Exporter × LocalReply) Fault) → ((a : A) → r ≡ Ok a → IsSafe e (f a)) → IsSafe e (r >>= f)
 bind e r f after = done_bind (IsCarriedOut e) r f after
@@ -132,18 +137,111 @@ cast inside shapes e layout text size flat told some sound = record {
   readonly = sound.readonly;
 }
 
-pub cast_safe : NewViewsKeep → LiveLayoutsAreSound → CastsStayInside → CastsHaveTheirShape → CastIsSafe
-cast_safe adding live inside shapes e k format =
+-- the laws that a cast rests on
+pub record CastLaws : Type 0 where
+  pub adding : NewViewsKeep
+  pub live : LiveLayoutsAreSound
+  pub inside : CastsStayInside
+  pub shapes : CastsHaveTheirShape
+  pub shaped_inside : ShapedCastsStayInside
+  pub shaped_shapes : ShapedCastsHaveTheirShape
+
+size_last : (n size : ℕ) (part : Bool) → (unless part fault.Kind >>= λ _. Ok n) ≡ Ok size → n ≡ size
+size_last n size true is = absurd (cc)
+size_last n size false is = cc
+
+size_case : (n len size : ℕ) (none : Bool) → (n == 0) ≡ none → (unless none fault.Kind >>= λ _. unless (not (len % n == 0)) fault.Kind >>= λ _. Ok n) ≡ Ok size → (n ≡ size) × (0 < size)
+size_case n len size true some is = absurd (cc)
+size_case n len size false some is =
+    let same : n ≡ size = size_last n size (not (len % n == 0)) is in
+    (same, subst (λ (m : ℕ). 0 < m) same (positive n some))
+
+-- the size of items that make up some bytes
+size_bound : (r : Result ℕ Fault) (len size : ℕ) → (r >>= λ n. unless (n == 0) fault.Kind >>= λ _. unless (not (len % n == 0)) fault.Kind >>= λ _. Ok n) ≡ Ok size → (r ≡ Ok size) × (0 < size)
+size_bound (Err f) len size is = absurd (cc)
+size_bound (Ok n) len size is = let both = size_case n len size (n == 0) refl is in (ap (λ (m : ℕ). Ok m) both.0, both.1)
+
+flat_sound : CastLaws → (e : Exporter) (layout : Layout) (text : List ℕ) → is_contiguous_layout layout ≡ true → IfDone (λ (l : Layout). IsSoundLayout e layout → IsSoundLayout e l) (flat_layout_of layout text)
+flat_sound laws e layout text flat =
+    let P : Layout → Type 0 = λ l. IsSoundLayout e layout → IsSoundLayout e l in
+    done_bind P (unless (not (length layout.shape == 1) && has_zero_entry layout.shape) fault.Kind) _ (λ _ _.
+    done_bind P (size_for (nbytes_of layout) text) _ (λ size told.
+    let sized = size_bound (size_of_format text) (nbytes_of layout) size told in
+    (λ sound. cast laws.inside laws.shapes e layout text size flat sized.0 sized.1 sound)))
+
+-- as many bytes as the items of the view have
+bytes_told : (n m : ℕ) (b : Bool) → unless (not (n == m)) fault.Kind ≡ Ok b → n ≡ m
+bytes_told n m b is = eqb-true n m (not_false (n == m) (passed (not (n == m)) fault.Kind b is))
+
+shaped_sound : CastLaws → (e : Exporter) (layout : Layout) (text : List ℕ) (parts : List Scalar) → is_contiguous_layout layout ≡ true
+    → IfDone (λ (l : Layout). IsSoundLayout e layout → IsSoundLayout e l) (shaped_layout_of layout text parts)
+shaped_sound laws e layout text parts flat =
+    let P : Layout → Type 0 = λ l. IsSoundLayout e layout → IsSoundLayout e l in
+    done_bind P (unless (has_zero_entry layout.shape) fault.Kind) _ (λ _ _.
+    done_bind P (unless (not (length layout.shape == 1) && not (length parts == 1)) fault.Kind) _ (λ _ _.
+    done_bind P (unless (nat_lt 64 (length parts)) fault.Value) _ (λ _ _.
+    done_bind P (size_for (nbytes_of layout) text) _ (λ size told.
+    done_bind P (entries_of size parts) _ (λ entries _.
+    done_bind P (unless (not (size * product entries == nbytes_of layout)) fault.Kind) _ (λ b whole.
+    let sized = size_bound (size_of_format text) (nbytes_of layout) size told in
+    let counted : size * product entries ≡ nbytes_of layout = bytes_told (size * product entries) (nbytes_of layout) b whole in
+    (λ sound.
+    let bytes : length layout.starts * layout.itemsize ≡ product entries * size =
+    ap (λ (n : ℕ). n * layout.itemsize) sound.formed.counted ∙ mul_comm (product layout.shape) layout.itemsize ∙ sym counted ∙ mul_comm size (product entries) in
+    record {
+      formed = record { sized = size_told (format_of text) size sized.0 sized.1; counted = laws.shaped_shapes layout text size entries sized.1 bytes };
+      inside = laws.shaped_inside layout text size entries (length e.bytes) flat sized.1 bytes sound.inside;
+      readonly = sound.readonly;
+    })))))))
+
+in_shape_sound : CastLaws → (e : Exporter) (layout : Layout) (text : List ℕ) (shape : Option Value) → is_contiguous_layout layout ≡ true
+    → IfDone (λ (l : Layout). IsSoundLayout e layout → IsSoundLayout e l) (layout_in_shape layout text shape)
+in_shape_sound laws e layout text None flat = flat_sound laws e layout text flat
+in_shape_sound laws e layout text (Some (value.Tuple parts)) flat = shaped_sound laws e layout text parts flat
+in_shape_sound laws e layout text (Some (value.List parts)) flat = shaped_sound laws e layout text parts flat
+in_shape_sound laws e layout text (Some (value.One s)) flat = tt
+in_shape_sound laws e layout text (Some (value.Slice s)) flat = tt
+in_shape_sound laws e layout text (Some (value.Slices s)) flat = tt
+
+pub cast_safe : CastLaws → CastIsSafe
+cast_safe laws e k format shape =
     bind e (live_layout e k) _ (λ layout found.
-    bind e (unless (not (is_contiguous_layout layout)) fault.Kind) _ (λ flat is_flat.
+    bind e (unless (not (is_contiguous_layout layout)) fault.Kind) _ (λ b is_flat.
     bind e (text_in format) _ (λ text _.
-    bind e (size_of_format text) _ (λ size told.
-    bind e (unless (size == 0) fault.Kind) _ (λ some is_some.
-    bind e (unless (not (nbytes_of layout % size == 0)) fault.Kind) _ (λ _ _.
-    new_view adding e (cast_of layout text size) (λ sound.
-    cast inside shapes e layout text size
-    (not_false (is_contiguous_layout layout) (passed (not (is_contiguous_layout layout)) fault.Kind flat is_flat)) told
-    (positive size (passed (size == 0) fault.Kind some is_some)) (live e k layout sound found))))))))
+    bind e (layout_in_shape layout text shape) _ (λ made given.
+    new_view laws.adding e made (λ sound.
+    let flat = not_false (is_contiguous_layout layout) (passed (not (is_contiguous_layout layout)) fault.Kind b is_flat) in
+    let P : Layout → Type 0 = λ l. IsSoundLayout e layout → IsSoundLayout e l in
+    done P (layout_in_shape layout text shape) made (in_shape_sound laws e layout text shape flat) given (laws.live e k layout sound found))))))
+
+-- ---- ranges
+
+part_case : (count from to : ℕ) (b : Bool) → (nat_le from to && nat_le to count) ≡ b → IfDone {B = ℕ × ℕ} (λ part. part.0 + part.1 ≤ count) (if b then Ok (from, to - from) else Err fault.Index)
+part_case count from to true is = grind (arith, is)
+part_case count from to false is = tt
+
+part_within : (count : ℕ) (first end : ℤ) → IfDone (λ (part : ℕ × ℕ). part.0 + part.1 ≤ count) (part_between count first end)
+part_within count (pos from) (pos to) = part_case count from to (nat_le from to && nat_le to count) refl
+part_within count (pos from) (negsuc to) = tt
+part_within count (negsuc from) (pos to) = tt
+part_within count (negsuc from) (negsuc to) = tt
+
+pub range_safe : NewViewsKeep → PartLayoutsAreSound → RangeIsSafe
+range_safe adding part e from to =
+    bind e (number_of from) _ (λ first _.
+    bind e (number_of to) _ (λ end _.
+    bind e (part_between (length e.bytes) first end) _ (λ found is.
+    new_view adding e (bytes_layout_from found.0 found.1 (holds_readonly e.kind)) (λ sound.
+    part e found.0 found.1 (done (λ (p : ℕ × ℕ). p.0 + p.1 ≤ length e.bytes) (part_between (length e.bytes) first end) found (part_within (length e.bytes) first end) is)))))
+
+-- ---- the view itself, and its copy
+
+pub enter_safe : ReadingKeeps → EnterIsSafe
+enter_safe reading e k = bind e (live_layout e k) _ (λ layout found. record { keeps = λ sound. reading e sound; answers = refl })
+
+pub contiguous_copied : ContiguousIsCopied
+contiguous_copied e k =
+    done_bind (IsCopied e (subject.View k)) (live_layout e k) _ (λ layout found. record { same = refl; copied = (layout, found, refl) })
 
 -- ---- views that may only be read
 

@@ -1,16 +1,23 @@
--- `cast`: a new view of the same bytes, with items of another format.
-use Rattle.std.specs.Prelude.{ℕ, ◌%◌, ◌==◌, not, List, Result, Ok, Err}
+-- `cast`: a new view of the same bytes, with items of another format, in one dimension or in those of
+-- a shape.
+use Rattle.std.specs.Prelude.{◌≡◌, ℕ, ◌*◌, ◌/◌, ◌%◌, ◌==◌, ◌&&◌, ◌||◌, not, List, [], ◌∷◌, length, nat_lt, ℤ, pos, negsuc, Option, Some, None, Result, Ok, Err, if◌then◌else◌}
 use Rattle.pybuf_value.specs.declared.faults.Fault.{Fault}
 use Rattle.pybuf_value.specs.declared.faults.Fault.TheVariants as fault
+use Rattle.pybuf_value.specs.declared.values.Scalar.{Scalar}
 use Rattle.pybuf_value.specs.declared.values.Scalar.TheVariants as scalar
 use Rattle.pybuf_value.specs.declared.values.Value.{Value}
 use Rattle.pybuf_value.specs.declared.values.Value.TheVariants as value
 use Rattle.pybuf_value.specs.Refusing.{◌>>=◌, unless}
+use Rattle.pybuf_value.specs.declared.halt.Halt.{Halt}
+use Rattle.pybuf_value.specs.declared.halt.Halt.TheVariants as halt
+use Rattle.pybuf_value.specs.Numbers.{number_in, fitted_number}
 use Rattle.pybuf_struct.specs.Formats.{format_of}
+use Rattle.pybuf_desc.specs.Layouts.{Layout, product}
 use Rattle.pybuf_desc.specs.Contiguous.{is_contiguous_layout}
 use Rattle.pybuf_desc.specs.Casts.{cast_of}
+use Rattle.pybuf_desc.specs.ShapedCasts.{cast_to}
 use Rattle.pybuf_command.specs.declared.commands.LocalReply.{LocalReply}
-use Rattle.pybuf_memoryview.specs.Orders.{nbytes_of}
+use Rattle.pybuf_memoryview.specs.Orders.{nbytes_of, has_zero_entry}
 use Rattle.pybuf_state.specs.Exporter.{Exporter, live_layout, with_view}
 
 -- the bytes of a text
@@ -24,13 +31,70 @@ size_of_format text = do
   format ← format_of text
   Ok format.size
 
--- the view must be contiguous, and the text must be a format whose items make up its bytes
-abbrev pub cast_of_view : Exporter → ℕ → Value → Result (Exporter × LocalReply) Fault
-cast_of_view e k format = do
+-- the size of the items of a format that make up so many bytes
+abbrev pub size_for : ℕ → List ℕ → Result ℕ Fault
+size_for len text = do
+  size ← size_of_format text
+  _ ← unless (size == 0) fault.Kind
+  _ ← unless (not (len % size == 0)) fault.Kind
+  Ok size
+
+-- an entry of a shape, which must be above 0 and at most the greatest word divided by the product so far
+abbrev pub entry_above_0 : ℕ → ℤ → Result ℕ Fault
+entry_above_0 size (pos n) = if n == 0 || nat_lt (9223372036854775807 / size) n then Err fault.Value else Ok n
+entry_above_0 size (negsuc n) = Err fault.Value
+
+abbrev pub entry_of : ℕ → Scalar → Result ℕ Fault
+entry_of size part = do
+  number ← number_in part
+  word ← fitted_number fault.Overflow number
+  entry_above_0 size word
+
+-- the entries of a shape, in order; the product so far begins with the size of an item
+abbrev pub entries_of : ℕ → List Scalar → Result (List ℕ) Fault
+entries_of size [] = Ok []
+entries_of size (part ∷ parts) = do
+  entry ← entry_of size part
+  entries ← entries_of (size * entry) parts
+  Ok (entry ∷ entries)
+
+-- entries that are given with their product are those of a definition, or its refusal
+abbrev pub GivesEntries : Result (List ℕ) Fault → Result (List ℕ × ℕ) Halt → Type 0
+GivesEntries wanted (Ok given) = wanted ≡ Ok given.0
+GivesEntries wanted (Err (halt.Refused f)) = wanted ≡ Err f
+GivesEntries wanted (Err halt.NoMemory) = Unit {0}
+
+-- the items in one dimension; where the view has another number of dimensions, each must have an entry
+abbrev pub flat_layout_of : Layout → List ℕ → Result Layout Fault
+flat_layout_of layout text = do
+  _ ← unless (not (length layout.shape == 1) && has_zero_entry layout.shape) fault.Kind
+  size ← size_for (nbytes_of layout) text
+  Ok (cast_of layout text size)
+
+-- The items in the dimensions of a shape: the view or the shape has one dimension, each dimension of
+-- the view an entry, and the items of the shape make up the bytes. An empty shape has one item.
+abbrev pub shaped_layout_of : Layout → List ℕ → List Scalar → Result Layout Fault
+shaped_layout_of layout text parts = do
+  _ ← unless (has_zero_entry layout.shape) fault.Kind
+  _ ← unless (not (length layout.shape == 1) && not (length parts == 1)) fault.Kind
+  _ ← unless (nat_lt 64 (length parts)) fault.Value
+  size ← size_for (nbytes_of layout) text
+  entries ← entries_of size parts
+  _ ← unless (not (size * product entries == nbytes_of layout)) fault.Kind
+  Ok (cast_to layout text size entries)
+
+-- by a shape that may not be given, and else is a tuple or a list
+abbrev pub layout_in_shape : Layout → List ℕ → Option Value → Result Layout Fault
+layout_in_shape layout text None = flat_layout_of layout text
+layout_in_shape layout text (Some (value.Tuple parts)) = shaped_layout_of layout text parts
+layout_in_shape layout text (Some (value.List parts)) = shaped_layout_of layout text parts
+layout_in_shape layout text (Some _) = Err fault.Kind
+
+-- the view must be contiguous
+abbrev pub cast_of_view : Exporter → ℕ → Value → Option Value → Result (Exporter × LocalReply) Fault
+cast_of_view e k format shape = do
   layout ← live_layout e k
   _ ← unless (not (is_contiguous_layout layout)) fault.Kind
   text ← text_in format
-  size ← size_of_format text
-  _ ← unless (size == 0) fault.Kind
-  _ ← unless (not (nbytes_of layout % size == 0)) fault.Kind
-  Ok (with_view e (cast_of layout text size))
+  cast ← layout_in_shape layout text shape
+  Ok (with_view e cast)

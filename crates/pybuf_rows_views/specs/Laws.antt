@@ -1,26 +1,41 @@
 -- The rows keep a sound exporter, and only a refusal is replied as one.
-use Rattle.std.specs.Prelude.{◌≡◌, ℕ, Ok}
+use Rattle.std.specs.Prelude.{◌≡◌, ℕ, Option, Ok}
 use Rattle.pybuf_value.specs.declared.values.PySlice.{PySlice}
 use Rattle.pybuf_value.specs.declared.values.Value.{Value}
 use Rattle.pybuf_state.specs.Exporter.{Exporter, released_in}
-use Rattle.pybuf_state.specs.Keeps.{IsSafe}
+use Rattle.pybuf_command.specs.declared.kinds.Subject.TheVariants as subject
+use Rattle.pybuf_value.specs.Refusing.{IfDone}
+use Rattle.pybuf_state.specs.Keeps.{IsSafe, IsCopied}
 use Rattle.pybuf_rows_views.specs.View.{view_of_own, view_of_view}
+use Rattle.pybuf_rows_views.specs.Range.{range_of_own}
 use Rattle.pybuf_rows_views.specs.Slice.{slice_of_view}
 use Rattle.pybuf_rows_views.specs.Cast.{cast_of_view}
 use Rattle.pybuf_rows_views.specs.Release.{release_of_view}
+use Rattle.pybuf_rows_views.specs.Enter.{enter_of_view}
+use Rattle.pybuf_rows_views.specs.Contiguous.{contiguous_of_view}
 use Rattle.pybuf_rows_views.specs.ToReadonly.{toreadonly_of_view}
 
 abbrev pub ViewIsSafe : Type 0
 ViewIsSafe = ((e : Exporter) → IsSafe e (view_of_own e)) × ((e : Exporter) (k : ℕ) → IsSafe e (view_of_view e k))
 
+abbrev pub RangeIsSafe : Type 0
+RangeIsSafe = (e : Exporter) (from to : Value) → IsSafe e (range_of_own e from to)
+
 abbrev pub SliceIsSafe : Type 0
 SliceIsSafe = (e : Exporter) (k : ℕ) (slice : PySlice) → IsSafe e (slice_of_view e k slice)
 
 abbrev pub CastIsSafe : Type 0
-CastIsSafe = (e : Exporter) (k : ℕ) (format : Value) → IsSafe e (cast_of_view e k format)
+CastIsSafe = (e : Exporter) (k : ℕ) (format : Value) (shape : Option Value) → IsSafe e (cast_of_view e k format shape)
 
 abbrev pub ReleaseIsSafe : Type 0
 ReleaseIsSafe = (e : Exporter) (k : ℕ) → IsSafe e (release_of_view e k)
+
+abbrev pub EnterIsSafe : Type 0
+EnterIsSafe = (e : Exporter) (k : ℕ) → IsSafe e (enter_of_view e k)
+
+-- `contig` leaves the exporter as it is, and replies a copy of the view
+abbrev pub ContiguousIsCopied : Type 0
+ContiguousIsCopied = (e : Exporter) (k : ℕ) → IfDone (IsCopied e (subject.View k)) (contiguous_of_view e k)
 
 abbrev pub ToReadonlyIsSafe : Type 0
 ToReadonlyIsSafe = (e : Exporter) (k : ℕ) → IsSafe e (toreadonly_of_view e k)

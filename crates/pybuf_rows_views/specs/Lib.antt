@@ -1,6 +1,9 @@
 pub mod View
+pub mod Range
 pub mod Slice
 pub mod Cast
 pub mod Release
+pub mod Enter
+pub mod Contiguous
 pub mod ToReadonly
 pub mod Laws

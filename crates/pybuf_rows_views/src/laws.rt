@@ -1,6 +1,6 @@
 //! Laws of the definitions that the contracts cite. Each stands on a function with an empty body, or
 //! one that cites laws of the crates below.
-ghost use Rattle.pybuf_rows_views.specs.Laws.{ViewIsSafe, SliceIsSafe, CastIsSafe, ReleaseIsSafe, ToReadonlyIsSafe, ReleasingTwiceIsOnce};
+ghost use Rattle.pybuf_rows_views.specs.Laws.{ViewIsSafe, RangeIsSafe, SliceIsSafe, CastIsSafe, ReleaseIsSafe, EnterIsSafe, ContiguousIsCopied, ToReadonlyIsSafe, ReleasingTwiceIsOnce};
 
 /// `view` keeps a sound exporter.
 pub fn view_is_safe()
@@ -9,6 +9,14 @@ pub fn view_is_safe()
     pybuf_state::new_views_keep();
     pybuf_state::whole_layouts_are_sound();
     pybuf_state::live_layouts_are_sound();
+}
+
+/// `range` keeps a sound exporter.
+pub fn range_is_safe()
+    ensures { RangeIsSafe }
+{
+    pybuf_state::new_views_keep();
+    pybuf_state::part_layouts_are_sound();
 }
 
 /// `get` of a view by a slice keeps a sound exporter.
@@ -29,6 +37,8 @@ pub fn cast_is_safe()
     pybuf_state::live_layouts_are_sound();
     pybuf_desc::casts_stay_inside();
     pybuf_desc::casts_have_their_shape();
+    pybuf_desc::shaped_casts_stay_inside();
+    pybuf_desc::shaped_casts_have_their_shape();
 }
 
 /// `release` keeps a sound exporter.
@@ -37,6 +47,18 @@ pub fn release_is_safe()
 {
     pybuf_state::releasing_keeps();
 }
+
+/// `enter` keeps a sound exporter.
+pub fn enter_is_safe()
+    ensures { EnterIsSafe }
+{
+    pybuf_state::reading_keeps();
+}
+
+/// `contig` leaves the exporter as it is, and replies a copy of the view.
+pub fn contiguous_is_copied()
+    ensures { ContiguousIsCopied }
+{}
 
 /// `toreadonly` keeps a sound exporter.
 pub fn toreadonly_is_safe()

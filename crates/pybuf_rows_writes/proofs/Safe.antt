@@ -1,36 +1,36 @@
 -- Rows that write keep a sound exporter.
-use Rattle.std.proofs.Common.{◌≡◌, ℕ, zero, suc, ◌+◌, ◌*◌, ◌<◌, ◌≤◌, List, [], ◌∷◌, ◌++◌, length, take, drop, Bool, true, false, true≢false, ap, ap₂, sym, ◌∙◌, refl, subst, arith}
-use Rattle.std.specs.Prelude.{ℤ, pos, negsuc, ◌==◌, ◌&&◌, not, nat_lt, slice_index, Result, Ok, Err}
+use Rattle.std.proofs.Common.{◌≡◌, ℕ, ◌+◌, ◌<◌, ◌≤◌, List, [], ◌∷◌, length, Bool, true, false, true≢false, ap, sym, ◌∙◌, refl, subst, arith}
+use Rattle.std.specs.Prelude.{not, ℤ, pos, negsuc, ◌==◌, ◌&&◌, nat_lt, slice_index, Result, Ok, Err}
 use Rattle.std.proofs.lemmas.Bool.{eqb-true}
 use Rattle.std.proofs.lemmas.Grind.{common_steps}
 use Rattle.pybuf_value.specs.declared.faults.Fault.{Fault}
 use Rattle.pybuf_value.specs.declared.faults.Fault.TheVariants as fault
 use Rattle.pybuf_value.specs.declared.values.Value.{Value}
-use Rattle.pybuf_value.specs.declared.values.Scalar.{Scalar}
 use Rattle.pybuf_value.specs.declared.snaps.Snap.{Snap}
 use Rattle.pybuf_value.specs.Refusing.{◌>>=◌, unless, IfDone, done_bind}
-use Rattle.pybuf_struct.specs.Formats.{Format, format_of, fields}
+use Rattle.pybuf_struct.specs.Formats.{Format, format_of}
 use Rattle.pybuf_struct.specs.Packing.{packed_bytes}
 use Rattle.pybuf_struct.specs.Laws.{PackingFillsTheFormat}
-use Rattle.pybuf_desc.specs.Layouts.{Layout, product}
+use Rattle.pybuf_desc.specs.Layouts.{Layout}
 use Rattle.pybuf_command.specs.Sized.{is_size_of, is_sized}
 use Rattle.pybuf_command.specs.declared.commands.LocalReply.{LocalReply}
-use Rattle.pybuf_command.specs.declared.commands.LocalReply.TheVariants as reply
-use Rattle.pybuf_memoryview.specs.Items.{index_in, entry_in, has_dimensions, item_number, is_none, kind_fault, scalar_in, bytes_with, piece_by}
+use Rattle.pybuf_memoryview.specs.Items.{index_in, entry_in, is_none, kind_fault, scalar_in, bytes_with, piece_by}
+use Rattle.pybuf_memoryview.specs.Keys.{item_of_key}
+use Rattle.pybuf_memoryview.specs.Laws.{KeysNameItems}
 use Rattle.pybuf_state.specs.Exporter.{Exporter, live_layout}
 use Rattle.pybuf_state.specs.Loans.{Lent, snaps_of}
-use Rattle.pybuf_state.specs.Sound.{IsFormed, IsSoundExporter}
-use Rattle.pybuf_state.specs.Laws.{IsSoundLayout, LiveLayoutsAreSound, WritingKeeps}
+use Rattle.pybuf_state.specs.Sound.{IsFormed}
+use Rattle.pybuf_state.specs.Laws.{LiveLayoutsAreSound, WritingKeeps}
 use Rattle.pybuf_value.specs.Numbers.{byte_in}
 use Rattle.pybuf_command.specs.declared.kinds.ExporterKind.{ExporterKind}
 use Rattle.pybuf_command.specs.declared.kinds.ExporterKind.TheVariants as kind
 use Rattle.pybuf_command.specs.Kinds.{holds_readonly}
 use Rattle.pybuf_state.specs.Keeps.{IsCarriedOut, IsSafe}
-use Rattle.pybuf_rows_writes.specs.Set.{byte_set, set_in_kind, set_of_own, item_set, set_target, set_of_view}
+use Rattle.pybuf_rows_writes.specs.Set.{byte_set, set_in_kind, item_set, set_target}
 use Rattle.pybuf_rows_writes.specs.Laws.{SetIsSafe}
 use Rattle.pybuf_rows_writes.proofs.Bytes.{length-bytes_with}
 
-bind : {A : Type 0} (e : Exporter) (r : Result A Fault) (f : A → Result (Exporter × LocalReply) Fault) → ((a : A) → r ≡ Ok a → IsSafe e (f a)) → IsSafe e (r >>= f)
+pub bind : {A : Type 0} (e : Exporter) (r : Result A Fault) (f : A → Result (Exporter × LocalReply) Fault) → ((a : A) → r ≡ Ok a → IsSafe e (f a)) → IsSafe e (r >>= f)
 bind e r f after = done_bind (IsCarriedOut e) r f after
 
 pub done : {B : Type 0} (P : B → Type 0) (r : Result B Fault) (x : B) → IfDone P r → r ≡ Ok x → P x
@@ -66,29 +66,9 @@ pub passed : (b : Bool) (f : Fault) (u : Bool) → unless b f ≡ Ok u → b ≡
 passed true f u is = absurd (cc)
 passed false f u is = refl
 
-not_false : (b : Bool) → not b ≡ false → b ≡ true
+pub not_false : (b : Bool) → not b ≡ false → b ≡ true
 not_false true is = refl
 not_false false is = absurd (true≢false is)
-
--- a view of one dimension has as many items as that has entries
-one_dimension : (shape : List ℕ) (starts : ℕ) → length shape ≡ 1 → starts ≡ product shape → starts ≡ slice_index shape 0
-one_dimension [] starts one is = absurd (omega (arith, one))
-one_dimension (n ∷ []) starts one is = is ∙ omega arith
-one_dimension (n ∷ (m ∷ shape)) starts one is = absurd (omega (arith, one))
-
-done_entry : (layout : Layout) (index : ℤ) → length layout.starts ≡ slice_index layout.shape 0 → (r : Result ℕ Fault) → entry_in (slice_index layout.shape 0) index ≡ r → IfDone (λ (i : ℕ). i < length layout.starts) r
-done_entry layout index count (Ok i) is = let below = entry_below (slice_index layout.shape 0) index i is in omega (arith, below, count)
-done_entry layout index count (Err f) is = tt
-
-numbered : (layout : Layout) (index : ℤ) → IsFormed layout → IfDone (λ (i : ℕ). i < length layout.starts) (item_number layout index)
-numbered layout index formed =
-    let P : ℕ → Type 0 = λ i. i < length layout.starts in
-    done_bind P (unless (not (length layout.shape == 1)) fault.NotImplemented) _ (λ u one.
-    done_entry layout index (one_dimension layout.shape (length layout.starts) (eqb-true (length layout.shape) 1 (not_false (length layout.shape == 1) (passed (not (length layout.shape == 1)) fault.NotImplemented u one))) formed.counted)
-    (entry_in (slice_index layout.shape 0) index) refl)
-
-pub item_below : (layout : Layout) (index : ℤ) (item : ℕ) → IsFormed layout → item_number layout index ≡ Ok item → item < length layout.starts
-item_below layout index item formed found = done (λ (i : ℕ). i < length layout.starts) (item_number layout index) item (numbered layout index formed) found
 
 -- what is asked of a target
 pub record IsTarget (e : Exporter) (k : ℕ) (target : Layout × ℕ) : Type 0 where
@@ -96,16 +76,18 @@ pub record IsTarget (e : Exporter) (k : ℕ) (target : Layout × ℕ) : Type 0 w
   pub writable : target.0.readonly ≡ false
   pub item : IsFormed target.0 → target.1 < length target.0.starts
 
-pub target_is : (e : Exporter) (k : ℕ) (key value : Value) → IfDone (IsTarget e k) (set_target e k key value)
-target_is e k key value =
+pub target_is : KeysNameItems → (e : Exporter) (k : ℕ) (key value : Value) → IfDone (IsTarget e k) (set_target e k key value)
+target_is names e k key value =
     let P = IsTarget e k in
     done_bind P (live_layout e k) _ (λ layout found.
     done_bind P (unless layout.readonly fault.Kind) _ (λ u writable.
     done_bind P (unless (is_none value) fault.Kind) _ (λ _ _.
-    done_bind P (has_dimensions layout) _ (λ _ _.
-    done_bind P (index_in key) _ (λ index _.
-    done_bind P (item_number layout index) _ (λ item numbered.
-    record { live = found; writable = passed layout.readonly fault.Kind u writable; item = λ formed. item_below layout index item formed numbered }))))))
+    done_bind P (item_of_key layout.shape key) _ (λ item named.
+    record {
+      live = found;
+      writable = passed layout.readonly fault.Kind u writable;
+      item = λ formed. let below = names layout.shape key item named in omega (arith, below, formed.counted);
+    }))))
 
 both_true : (a b : Bool) → (a && b) ≡ true → (a ≡ true) × (b ≡ true)
 both_true true b is = (refl, is)
@@ -154,7 +136,7 @@ by_kind : (k : ExporterKind) (b : Bool) (layout : Layout) → holds_readonly k �
 by_kind k true layout is free only = absurd (true≢false (sym (only is) ∙ free))
 by_kind k false layout is free only = is
 
-writable : (k : ExporterKind) (layout : Layout) → layout.readonly ≡ false → (holds_readonly k ≡ true → layout.readonly ≡ true) → holds_readonly k ≡ false
+pub writable : (k : ExporterKind) (layout : Layout) → layout.readonly ≡ false → (holds_readonly k ≡ true → layout.readonly ≡ true) → holds_readonly k ≡ false
 writable k layout free only = by_kind k (holds_readonly k) layout refl free only
 
 item_safe : WritingKeeps → LiveLayoutsAreSound → PackingFillsTheFormat → (e : Exporter) (k : ℕ) (target : Layout × ℕ) (value : Value) (lents : List Lent) → IsTarget e k target → IsSafe e (item_set e target.0 target.1 value lents)
@@ -171,10 +153,10 @@ item_safe writing live fills e k target value lents is =
       answers = refl;
     })
 
-pub set_safe : WritingKeeps → LiveLayoutsAreSound → PackingFillsTheFormat → SetIsSafe
-set_safe writing live fills = (
+pub set_safe : WritingKeeps → LiveLayoutsAreSound → PackingFillsTheFormat → KeysNameItems → SetIsSafe
+set_safe writing live fills names = (
   (λ e key value. in_kind e e.kind (byte_set e key value) refl (λ writable. byte_safe writing e key value writable)),
   (λ e k key value lents.
       bind e (set_target e k key value) _ (λ target found.
-      item_safe writing live fills e k target value lents (done (IsTarget e k) (set_target e k key value) target (target_is e k key value) found))),
+      item_safe writing live fills e k target value lents (done (IsTarget e k) (set_target e k key value) target (target_is names e k key value) found))),
 )

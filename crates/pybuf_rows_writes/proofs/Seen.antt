@@ -1,32 +1,26 @@
 -- What is written through one view is read through every view of the same bytes.
-use Rattle.std.proofs.Common.{◌≡◌, ℕ, zero, suc, ◌+◌, ◌*◌, ◌<◌, ◌≤◌, List, [], ◌∷◌, ◌++◌, length, take, drop, Bool, true, false, true≢false, ap, ap₂, sym, ◌∙◌, refl, subst, arith}
-use Rattle.std.specs.Prelude.{ℤ, pos, negsuc, ◌==◌, ◌&&◌, not, nat_lt, slice_index, Result, Ok, Err}
-use Rattle.std.proofs.lemmas.Bool.{eqb-true}
-use Rattle.std.proofs.lemmas.Grind.{common_steps}
+use Rattle.std.proofs.Common.{◌≡◌, ℕ, ◌+◌, ◌≤◌, List, [], ◌∷◌, length, take, drop, ap, ap₂, sym, ◌∙◌, refl, subst, arith}
+use Rattle.std.specs.Prelude.{slice_index, Result, Ok, Err}
 use Rattle.pybuf_value.specs.declared.faults.Fault.{Fault}
-use Rattle.pybuf_value.specs.declared.faults.Fault.TheVariants as fault
 use Rattle.pybuf_value.specs.declared.values.Value.{Value}
 use Rattle.pybuf_value.specs.declared.values.Scalar.{Scalar}
 use Rattle.pybuf_value.specs.declared.snaps.Snap.{Snap}
-use Rattle.pybuf_value.specs.Refusing.{◌>>=◌, unless, IfDone, done_bind}
+use Rattle.pybuf_value.specs.Refusing.{◌>>=◌}
 use Rattle.pybuf_struct.specs.Formats.{Format, format_of, fields}
 use Rattle.pybuf_struct.specs.Packing.{packed_bytes}
 use Rattle.pybuf_struct.specs.Laws.{PackingFillsTheFormat}
 use Rattle.pybuf_desc.specs.Layouts.{Layout}
-use Rattle.pybuf_command.specs.Sized.{is_size_of, is_sized}
 use Rattle.pybuf_command.specs.declared.commands.LocalReply.{LocalReply}
 use Rattle.pybuf_command.specs.declared.commands.LocalReply.TheVariants as reply
-use Rattle.pybuf_memoryview.specs.Items.{index_in, entry_in, has_dimensions, item_number, is_none, kind_fault, scalar_in, bytes_with, piece_by}
-use Rattle.pybuf_state.specs.Exporter.{Exporter, live_layout}
-use Rattle.pybuf_state.specs.Loans.{Lent, snaps_of}
-use Rattle.pybuf_state.specs.Sound.{IsFormed, IsSoundExporter}
-use Rattle.pybuf_state.specs.Laws.{IsSoundLayout, LiveLayoutsAreSound, WritingKeeps}
-use Rattle.pybuf_value.specs.declared.values.Item.{Item}
+use Rattle.pybuf_memoryview.specs.Items.{scalar_in, bytes_with, piece_by}
+use Rattle.pybuf_state.specs.Exporter.{Exporter}
+use Rattle.pybuf_state.specs.Loans.{snaps_of}
+use Rattle.pybuf_state.specs.Sound.{IsFormed}
+use Rattle.pybuf_state.specs.Laws.{LiveLayoutsAreSound}
 use Rattle.pybuf_struct.specs.Values.{item_of, unpacked_values}
 use Rattle.pybuf_struct.specs.Laws.{normal_values, ReadsWhatWasWritten}
 use Rattle.pybuf_desc.specs.Items.{bytes_at}
 use Rattle.pybuf_memoryview.specs.Items.{item_by, item_of_values}
-use Rattle.pybuf_rows_writes.specs.Set.{item_set}
 use Rattle.pybuf_rows_writes.specs.Laws.{IsWritten, WritesAreSeen}
 use Rattle.pybuf_rows_writes.proofs.Bytes.{taken, dropped, between}
 use Rattle.pybuf_rows_writes.proofs.Safe.{done, IsPiece, piece_is}

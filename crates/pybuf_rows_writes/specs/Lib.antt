@@ -1,3 +1,4 @@
 pub mod Set
 pub mod Writing
+pub mod Assign
 pub mod Laws

@@ -10,7 +10,8 @@ use Rattle.pybuf_command.specs.declared.kinds.ExporterKind.{ExporterKind}
 use Rattle.pybuf_command.specs.declared.kinds.ExporterKind.TheVariants as kind
 use Rattle.pybuf_command.specs.declared.commands.LocalReply.{LocalReply}
 use Rattle.pybuf_command.specs.declared.commands.LocalReply.TheVariants as reply
-use Rattle.pybuf_memoryview.specs.Items.{index_in, entry_in, has_dimensions, item_number, is_none, bytes_with, piece_by}
+use Rattle.pybuf_memoryview.specs.Items.{index_in, entry_in, is_none, bytes_with, piece_by}
+use Rattle.pybuf_memoryview.specs.Keys.{item_of_key}
 use Rattle.pybuf_state.specs.Exporter.{Exporter, live_layout}
 use Rattle.pybuf_state.specs.Loans.{Lent, snaps_of}
 
@@ -43,9 +44,7 @@ set_target e k key value = do
   layout ← live_layout e k
   _ ← unless layout.readonly fault.Kind
   _ ← unless (is_none value) fault.Kind
-  _ ← has_dimensions layout
-  index ← index_in key
-  item ← item_number layout index
+  item ← item_of_key layout.shape key
   Ok (layout, item)
 
 abbrev pub set_of_view : Exporter → ℕ → Value → Value → List Lent → Result (Exporter × LocalReply) Fault

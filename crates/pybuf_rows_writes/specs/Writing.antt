@@ -1,5 +1,5 @@
 -- Writing an item, as its code does it: by a format that was read, and for the format `B` by itself.
-use Rattle.std.specs.Prelude.{ℕ, List, [], ◌∷◌, Result, Ok}
+use Rattle.std.specs.Prelude.{◌≡◌, ℕ, ◌<◌, List, [], ◌∷◌, length, slice_index, Result, Ok}
 use Rattle.pybuf_value.specs.declared.faults.Fault.{Fault}
 use Rattle.pybuf_value.specs.declared.values.Scalar.{Scalar}
 use Rattle.pybuf_value.specs.declared.values.Value.{Value}
@@ -7,6 +7,7 @@ use Rattle.pybuf_value.specs.declared.snaps.Snap.{Snap}
 use Rattle.pybuf_value.specs.Refusing.{◌>>=◌}
 use Rattle.pybuf_struct.specs.Formats.{Format}
 use Rattle.pybuf_struct.specs.Packing.{packed_bytes}
+use Rattle.pybuf_desc.specs.Layouts.{Layout}
 use Rattle.pybuf_command.specs.declared.commands.LocalReply.{LocalReply}
 use Rattle.pybuf_command.specs.declared.commands.LocalReply.TheVariants as reply
 use Rattle.pybuf_memoryview.specs.Items.{kind_fault, bytes_with}
@@ -24,3 +25,10 @@ abbrev pub single_byte_set : Exporter → ℕ → Value → Result (Exporter × 
 single_byte_set e place value = do
   byte ← byte_for_item value
   Ok (record e { bytes = bytes_with e.bytes place (byte ∷ []) }, reply.Ok)
+
+-- a target's item is there, and it starts at the place
+pub record IsStartOfTarget (target : Result (Layout × ℕ) Fault) (layout : Layout) (place : ℕ) : Type 0 where
+  pub item : ℕ
+  pub found : target ≡ Ok (layout, item)
+  pub there : item < length layout.starts
+  pub starts : place ≡ slice_index layout.starts item

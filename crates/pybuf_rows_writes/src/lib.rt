@@ -1,7 +1,8 @@
 //! The commands that write items.
 #![tactic(auto)]
 
+pub mod assign;
 mod laws;
 pub mod set;
 
-pub use laws::{set_is_safe, writes_are_seen};
+pub use laws::{assign_is_safe, assignments_are_by_value, set_is_safe, writes_are_seen};

@@ -6,11 +6,11 @@ ghost use Rattle.pybuf_state.specs.Loans.{lent_for_each};
 ghost use Rattle.pybuf_state.specs.Sound.{IsFormed};
 ghost use Rattle.pybuf_state.specs.Answers.{exporter_of, IsWhole, Answers};
 ghost use Rattle.pybuf_rows_writes.specs.Set.{byte_set, set_of_own, set_target, item_set, set_of_view};
-ghost use Rattle.pybuf_rows_writes.specs.Writing.{bytes_packed, single_byte_set};
+ghost use Rattle.pybuf_rows_writes.specs.Writing.{bytes_packed, single_byte_set, IsStartOfTarget};
 
 use pybuf_command::{ExporterKind, LoanList, LocalReply, is_byte_format};
 use pybuf_memoryview::{
-    KeptLayout, args_of, byte_for_item, entry_in, format_of, index_in, is_none,
+    KeptLayout, args_of, byte_for_item, entry_in, format_of, index_in, is_none, place_of_key,
 };
 use pybuf_state::{Parts, lent_to};
 use pybuf_struct::FormatSpec;
@@ -41,7 +41,7 @@ pub fn of_own(parts: &mut Parts, key: &Value, value: &Value) -> Result<LocalRepl
     }
 }
 
-/// The layout of the view, and the number of the item that is written.
+/// The layout of the view, and where the item that is written starts.
 fn target<'a>(
     parts: &'a Parts,
     view: usize,
@@ -49,11 +49,9 @@ fn target<'a>(
     value: &Value,
 ) -> Result<(&'a KeptLayout, usize), Fault>
     requires { IsWhole parts.now }
-    ensures exact { MatchResult result (λ target. set_target (exporter_of parts.now) view key.now value.now ≡ Ok (target.0.now, target.1)) (λ fault. set_target (exporter_of parts.now) view key.now value.now ≡ Err fault) }
-    ensures one_dimension { IfOk result (λ target. length target.0.now.shape ≡ 1) }
-    ensures item { IfOk result (λ target. target.1 < slice_index target.0.now.shape 0) }
+    ensures exact { MatchResult result (λ target. IsStartOfTarget (set_target (exporter_of parts.now) view key.now value.now) target.0.now target.1) (λ fault. set_target (exporter_of parts.now) view key.now value.now ≡ Err fault) }
     ensures formed { IfOk result (λ target. IsFormed target.0.now) }
-    ensures inside { IfOk result (λ target. target.1 < length target.0.now.starts → slice_index target.0.now.starts target.1 + target.0.now.itemsize ≤ length parts.now.bytes.items) }
+    ensures inside { IfOk result (λ target. target.1 + target.0.now.itemsize ≤ length parts.now.bytes.items) }
 {
     let layout = parts.live_layout(view)?;
     if layout.is_readonly() {
@@ -62,15 +60,8 @@ fn target<'a>(
     if is_none(value) {
         return Err(Fault::Kind);
     }
-    if layout.ndim() == 0 {
-        return Err(Fault::Kind);
-    }
-    let index = index_in(key)?;
-    if layout.ndim() != 1 {
-        return Err(Fault::NotImplemented);
-    }
-    let item = entry_in(layout.first_entry(), index)?;
-    Ok((layout, item))
+    let place = place_of_key(layout, key)?;
+    Ok((layout, place))
 }
 
 /// Writes an item at a place by its format.
@@ -119,8 +110,7 @@ pub fn of_view(
     ensures counted { parts.new.exports ≡ exports_of (exporter_of parts.new) }
 {
     pybuf_memoryview::byte_items_are_their_byte();
-    let (layout, item) = target(parts, view, key, value)?;
-    let place = layout.place(item);
+    let (layout, place) = target(parts, view, key, value)?;
     if is_byte_format(layout.format_text().as_slice()) {
         return write_byte(parts, place, value);
     }

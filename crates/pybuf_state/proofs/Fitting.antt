@@ -1,5 +1,5 @@
 -- What is lent of an exporter and of its views fits.
-use Rattle.std.proofs.Common.{◌≡◌, ℕ, ◌*◌, List, [], ◌∷◌, length, Bool, true, false, ap, ap₂, sym, ◌∙◌, refl, subst}
+use Rattle.std.proofs.Common.{◌≡◌, ℕ, ◌*◌, List, [], length, Bool, true, false, ap, ap₂, sym, ◌∙◌, refl, subst}
 use Rattle.std.specs.Prelude.{◌&&◌, ◌||◌, ◌==◌, Option, Some, None, codes, if◌then◌else◌, IfSome, slice_get}
 use Rattle.std.specs.Option.{option_map}
 use Rattle.std.specs.Prelude.{IfOk, Result, Ok, Err}

@@ -1,18 +1,17 @@
 -- What each way of changing an exporter keeps of it.
-use Rattle.std.proofs.Common.{◌≡◌, ℕ, ◌+◌, ◌≤◌, ◌<◌, List, [], ◌∷◌, ◌++◌, length, Bool, true, false, true≢false, ap, sym, ◌∙◌, refl, subst, arith, inl, inr}
-use Rattle.std.specs.Prelude.{Some, Ok, codes, slice_get}
+use Rattle.std.proofs.Common.{◌≡◌, ℕ, ◌+◌, ◌≤◌, ◌<◌, List, length, true, false, true≢false, sym, ◌∙◌, refl, subst, arith, inl, inr}
+use Rattle.std.specs.Prelude.{Some, codes, slice_get}
 use Rattle.std.specs.List.{All, range_with_len}
 use Rattle.std.proofs.lemmas.List.Elements.{All-push, All-set, All-weaker}
 use Rattle.std.proofs.lemmas.List.FromFn.{length-range_with_len, get_or-range_with_len}
-use Rattle.pybuf_desc.specs.Layouts.{Layout, LiesInside, bytes_layout}
+use Rattle.pybuf_desc.specs.Layouts.{Layout}
 use Rattle.pybuf_command.specs.declared.kinds.ExporterKind.{ExporterKind}
-use Rattle.pybuf_command.specs.Kinds.{holds_readonly}
 use Rattle.pybuf_struct.specs.Formats.{codes_in, layout_from, format_after_prefix}
 use Rattle.pybuf_command.specs.Sized.{is_sized}
-use Rattle.pybuf_state.specs.Exporter.{Exporter, View, whole_layout, view_at, live_layout, with_view, released_at}
-use Rattle.pybuf_state.specs.Sound.{IsFormed, IsHeld, IsSoundView, IsSoundExporter}
-use Rattle.pybuf_state.specs.Keeps.{IsSameOrReleased, ViewsStay, LengthsStay, Keeps}
-use Rattle.pybuf_state.specs.Laws.{IsSoundLayout, WholeLayoutsAreSound, LiveLayoutsAreSound, ReadingKeeps, NewViewsKeep, WritingKeeps, ReleasingKeeps}
+use Rattle.pybuf_state.specs.Exporter.{Exporter, View}
+use Rattle.pybuf_state.specs.Sound.{IsSoundView}
+use Rattle.pybuf_state.specs.Keeps.{IsSameOrReleased, ViewsStay}
+use Rattle.pybuf_state.specs.Laws.{IsSoundLayout, WholeLayoutsAreSound, PartLayoutsAreSound, LiveLayoutsAreSound, ReadingKeeps, NewViewsKeep, WritingKeeps, ReleasingKeeps}
 use Rattle.pybuf_state.proofs.Finding.{All-slice_get, view_at_given, live_view, slice_get-push, slice_get-set}
 
 -- ---- layouts
@@ -31,6 +30,18 @@ pub whole_sound : WholeLayoutsAreSound
 whole_sound e = record {
   formed = record { sized = bytes_are_sized; counted = length-range_with_len 0 (length e.bytes) ∙ omega arith };
   inside = whole_inside (length e.bytes);
+  readonly = λ is. is;
+}
+
+part_inside : (start n room : ℕ) → start + n ≤ room → All (λ place. place + 1 ≤ room) (range_with_len start n)
+part_inside start n room within = λ i d below.
+    let less : i < n = omega (arith, length-range_with_len start n, below) in
+    omega (arith, get_or-range_with_len start n i d less, less, within)
+
+pub part_sound : PartLayoutsAreSound
+part_sound e start count within = record {
+  formed = record { sized = bytes_are_sized; counted = length-range_with_len start count ∙ omega arith };
+  inside = part_inside start count (length e.bytes) within;
   readonly = λ is. is;
 }
 

@@ -4,9 +4,11 @@ use Rattle.pybuf_value.specs.declared.faults.Fault.{Fault}
 use Rattle.pybuf_value.specs.Refusing.{IfDone}
 use Rattle.pybuf_command.specs.declared.commands.LocalReply.{LocalReply}
 use Rattle.pybuf_command.specs.declared.commands.LocalReply.TheVariants as reply
+use Rattle.pybuf_command.specs.declared.kinds.Subject.{Subject}
 use Rattle.pybuf_command.specs.Kinds.{holds_readonly}
 use Rattle.pybuf_state.specs.Exporter.{Exporter, View, exports_of}
 use Rattle.pybuf_state.specs.Sound.{IsSoundExporter}
+use Rattle.pybuf_state.specs.Fresh.{IsCopyOf}
 
 -- a view after a command is as it was, or became released
 abbrev pub IsSameOrReleased : View → View → Type 0
@@ -32,12 +34,13 @@ pub record Keeps (old new : Exporter) : Type 0 where
   pub lengths : LengthsStay old new
   pub readonly_bytes : ReadOnlyBytesStay old new
 
--- a reply that is no refusal
+-- a reply that is no refusal, and by which no exporter is made
 abbrev pub is_answer : LocalReply → Bool
 is_answer (reply.Refused f) = false
+is_answer (reply.Fresh snap) = false
 is_answer _ = true
 
--- a row that isn't refused keeps all this, and doesn't reply a refusal
+-- a row that isn't refused keeps all this, and replies neither a refusal nor something fresh
 pub record IsCarriedOut (old : Exporter) (after : Exporter × LocalReply) : Type 0 where
   pub keeps : IsSoundExporter old → Keeps old after.0
   pub answers : is_answer after.1 ≡ true
@@ -45,3 +48,13 @@ pub record IsCarriedOut (old : Exporter) (after : Exporter × LocalReply) : Type
 -- the same of a row that may be refused
 abbrev pub IsSafe : Exporter → Result (Exporter × LocalReply) Fault → Type 0
 IsSafe old row = IfDone (IsCarriedOut old) row
+
+-- the reply is a copy of the subject
+abbrev pub RepliesCopy : Exporter → Subject → LocalReply → Type 0
+RepliesCopy old s (reply.Fresh snap) = IsCopyOf old s snap
+RepliesCopy old s _ = ⊥
+
+-- a row that isn't refused leaves the exporter as it is, and replies a copy of the view
+pub record IsCopied (old : Exporter) (s : Subject) (after : Exporter × LocalReply) : Type 0 where
+  pub same : after.0 ≡ old
+  pub copied : RepliesCopy old s after.1

@@ -1,14 +1,13 @@
 -- What is kept of an exporter by each way in which a command changes it.
-use Rattle.std.specs.Prelude.{◌≡◌, ℕ, List, length, true, false, Ok}
+use Rattle.std.specs.Prelude.{◌≡◌, ℕ, ◌+◌, ◌≤◌, List, length, true, false, Ok}
 use Rattle.pybuf_value.specs.declared.snaps.Snap.{Snap}
-use Rattle.pybuf_desc.specs.Layouts.{Layout, LiesInside}
-use Rattle.pybuf_command.specs.declared.kinds.ExporterKind.{ExporterKind}
+use Rattle.pybuf_desc.specs.Layouts.{Layout, LiesInside, bytes_layout_from}
 use Rattle.pybuf_command.specs.declared.kinds.Subject.{Subject}
 use Rattle.pybuf_command.specs.Kinds.{holds_readonly}
-use Rattle.pybuf_command.specs.Fits.{fits_snap}
 use Rattle.pybuf_state.specs.Exporter.{Exporter, View, whole_layout, view_at, live_layout, with_view, released_at}
 use Rattle.pybuf_state.specs.Sound.{IsFormed, IsSoundExporter}
 use Rattle.pybuf_state.specs.Keeps.{Keeps}
+use Rattle.pybuf_state.specs.Fresh.{IsCopyOf, vector_of, is_readonly_subject, HoldsCopy}
 
 -- what is asked of the layout of a new view
 pub record IsSoundLayout (e : Exporter) (layout : Layout) : Type 0 where
@@ -18,6 +17,10 @@ pub record IsSoundLayout (e : Exporter) (layout : Layout) : Type 0 where
 
 abbrev pub WholeLayoutsAreSound : Type 0
 WholeLayoutsAreSound = (e : Exporter) → IsSoundLayout e (whole_layout e)
+
+-- of the bytes from a place on, where they lie inside
+abbrev pub PartLayoutsAreSound : Type 0
+PartLayoutsAreSound = (e : Exporter) (start count : ℕ) → start + count ≤ length e.bytes → IsSoundLayout e (bytes_layout_from start count (holds_readonly e.kind))
 
 abbrev pub LiveLayoutsAreSound : Type 0
 LiveLayoutsAreSound = (e : Exporter) (k : ℕ) (layout : Layout) → IsSoundExporter e → live_layout e k ≡ Ok layout → IsSoundLayout e layout
@@ -37,3 +40,11 @@ WritingKeeps = (e : Exporter) (bytes : List ℕ) → IsSoundExporter e → holds
 -- and where a view is released
 abbrev pub ReleasingKeeps : Type 0
 ReleasingKeeps = (e : Exporter) (k : ℕ) (v : View) → IsSoundExporter e → view_at e k ≡ Ok v → Keeps e (released_at e k v)
+
+-- ---- copies of views
+
+-- a vector that is made of the copy of a view is sound, and holds the bytes of that view in its shape
+abbrev pub CopiesAreFaithful : Type 0
+CopiesAreFaithful =
+    (e : Exporter) (s : Subject) (snap : Snap) → IsSoundExporter e → IsCopyOf e s snap
+    → (IsSoundExporter (vector_of (is_readonly_subject e s) snap)) × (HoldsCopy e s (vector_of (is_readonly_subject e s) snap))

@@ -3,5 +3,8 @@ pub mod Sound
 pub mod Snaps
 pub mod Loans
 pub mod Keeps
+pub mod Fresh
 pub mod Answers
 pub mod Laws
+pub mod Live
+pub mod Lending

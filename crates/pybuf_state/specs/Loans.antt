@@ -31,6 +31,11 @@ are_known e loans handles = list_all (is_known e loans) handles
 
 -- ---- what is lent
 
+-- what another exporter lends of a subject, as it stands
+abbrev pub loan_of_snap : Option Snap → Loan
+loan_of_snap (Some snap) = loan.Other snap
+loan_of_snap None = loan.Missing
+
 -- What is lent for a handle: what it names as it stands before the command, and which subject of the
 -- exporter itself that is, none where it is another exporter's.
 pub record Lent : Type 0 where

@@ -1,10 +1,13 @@
 //! Which handles an exporter knows by its loans.
-ghost use Rattle.std.specs.Prelude.{◌≡◌, Some};
+ghost use Rattle.std.specs.Prelude.{◌≡◌, ◌∷◌, Some};
 ghost use Rattle.pybuf_state.specs.Answers.{exporter_of};
+ghost use Rattle.pybuf_command.specs.declared.loans.Loan as spec_loan;
+ghost use Rattle.pybuf_state.specs.Exporter.{Exporter};
 ghost use Rattle.pybuf_state.specs.Loans as spec;
+ghost use Rattle.pybuf_state.specs.Snaps.{snap_of_subject};
 
 use crate::parts::Parts;
-use pybuf_command::{Loan, loan_of};
+use pybuf_command::{Loan, Subject, loan_of};
 
 /// Whether what a loan names is there.
 fn is_named(parts: &Parts, loan: &Loan) -> bool
@@ -28,6 +31,52 @@ fn is_known(parts: &Parts, loans: &[(u64, Loan)], handle: u64) -> bool
         Some(loan) => is_named(parts, loan),
         None => false,
     }
+}
+
+/// Whether there is such a subject, which an exporter lends to another.
+pub fn is_lent(lender: &Parts, subject: Subject) -> bool
+    ensures { (e : Exporter) → result ≡ spec.is_named e (Some (spec.loan_of_snap (snap_of_subject (exporter_of lender.now) subject))) }
+{
+    match subject {
+        Subject::Own => true,
+        Subject::View(view) => view < lender.views.len(),
+        Subject::Iter(_) => false,
+    }
+}
+
+/// Whether a handle is known, where another loan of one handle comes before all, of something that is
+/// there or not.
+fn is_known_beside(
+    parts: &Parts,
+    loans: &[(u64, Loan)],
+    handle: u64,
+    other: u64,
+    is_there: bool,
+) -> bool
+    ensures { (l : spec_loan.Loan) → spec.is_named (exporter_of parts.now) (Some l) ≡ is_there → spec.is_known (exporter_of parts.now) ((other, l) ∷ loans.now) handle ≡ result }
+{
+    if other == handle {
+        return is_there;
+    }
+    is_known(parts, loans, handle)
+}
+
+/// The same of each of these handles.
+pub fn are_known_beside(
+    parts: &Parts,
+    loans: &[(u64, Loan)],
+    handles: &[u64],
+    other: u64,
+    is_there: bool,
+) -> bool
+    ensures { (l : spec_loan.Loan) → spec.is_named (exporter_of parts.now) (Some l) ≡ is_there → spec.are_known (exporter_of parts.now) ((other, l) ∷ loans.now) handles.now ≡ result }
+{
+    for handle in handles {
+        if !is_known_beside(parts, loans, *handle, other, is_there) {
+            return false;
+        }
+    }
+    true
 }
 
 /// Whether each of these handles is known by its loan: as the exporter itself, as a view that it

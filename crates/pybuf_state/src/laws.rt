@@ -1,9 +1,14 @@
 //! Laws of the definitions that the contracts cite. Each stands on a function with an empty body.
-ghost use Rattle.pybuf_state.specs.Laws.{WholeLayoutsAreSound, LiveLayoutsAreSound, ReadingKeeps, NewViewsKeep, WritingKeeps, ReleasingKeeps};
+ghost use Rattle.pybuf_state.specs.Laws.{WholeLayoutsAreSound, PartLayoutsAreSound, LiveLayoutsAreSound, CopiesAreFaithful, ReadingKeeps, NewViewsKeep, WritingKeeps, ReleasingKeeps};
 
 /// A view of all bytes may be made of every exporter.
 pub fn whole_layouts_are_sound()
     ensures { WholeLayoutsAreSound }
+{}
+
+/// A view of the bytes from one place up to another may be made where they lie inside.
+pub fn part_layouts_are_sound()
+    ensures { PartLayoutsAreSound }
 {}
 
 /// The items of an unreleased view lie inside its exporter and read by its format, and bytes that are
@@ -31,3 +36,13 @@ pub fn writing_keeps()
 pub fn releasing_keeps()
     ensures { ReleasingKeeps }
 {}
+
+/// A vector that is made of the copy of a view is sound, and its one view has the bytes of that view,
+/// in the same format and shape, without a gap.
+pub fn copies_are_faithful()
+    ensures { CopiesAreFaithful }
+{
+    live_layouts_are_sound();
+    new_views_keep();
+    pybuf_desc::copies_have_their_bytes();
+}

@@ -5,16 +5,19 @@
 //! `pybuf_exporter`.
 #![tactic(auto)]
 
+mod fresh;
 mod known;
 mod laws;
+mod lending;
 mod parts;
 mod snaps;
 mod stored;
 
-pub use known::are_known;
+pub use fresh::vector_of_copy;
+pub use known::{are_known, are_known_beside, is_lent};
 pub use laws::{
-    live_layouts_are_sound, new_views_keep, reading_keeps, releasing_keeps,
-    whole_layouts_are_sound, writing_keeps,
+    copies_are_faithful, live_layouts_are_sound, new_views_keep, part_layouts_are_sound,
+    reading_keeps, releasing_keeps, whole_layouts_are_sound, writing_keeps,
 };
 pub use parts::Parts;
 pub use snaps::{lent_to, snap_of_subject};

@@ -1,5 +1,5 @@
 //! What is kept of an exporter.
-ghost use Rattle.std.specs.Prelude.{◌≡◌, Ok, Err, length, IfOk, OnErr, MatchResult};
+ghost use Rattle.std.specs.Prelude.{◌≡◌, ◌↔◌, Ok, Err, length, IfOk, IfErr, IsOk, OnErr, MatchResult};
 
 use crate::stored::StoredView;
 use pybuf_command::{ExporterKind, LocalReply};
@@ -22,6 +22,9 @@ impl Parts {
     ghost use Rattle.pybuf_state.specs.Exporter.{view_at, live_layout, with_view, released_in, exports_of};
     ghost use Rattle.pybuf_state.specs.Answers.{exporter_of, IsWhole, Answers};
     ghost use Rattle.pybuf_state.specs.Laws.{IsSoundLayout};
+    ghost use Rattle.std.specs.Borrow.{sem};
+    ghost use Rattle.pybuf_value.specs.declared.faults.Fault.{Fault};
+    ghost use Rattle.pybuf_state.specs.Lending.{LendsAllParts};
 
     /// The view of a number that was given, released or not.
     ///
@@ -61,6 +64,21 @@ impl Parts {
         self.views.push(StoredView::new(self.bytes.len(), layout))?;
         self.exports += 1;
         Ok(LocalReply::View(number))
+    }
+
+    /// The bytes, lent to be changed in any way.
+    ///
+    /// Refused with `BufferError` exactly where a view is unreleased.
+    pub fn resizable(&mut self) -> Result<&mut Vec<u8>, Fault>
+        ensures* writes_back { sem 𝓛 (LendsAllParts self.entry result) }
+        ensures value { IfOk result (λ bytes. bytes.now ≡ self.old.bytes) }
+        ensures refused { IfErr result (λ fault. fault ≡ Fault.Buffer) }
+        ensures exact { IsOk result ↔ (self.old.exports ≡ 0) }
+    {
+        if self.exports > 0 {
+            return Err(Fault::Buffer);
+        }
+        Ok(&mut self.bytes)
     }
 
     /// Releases a view that was given. The second time changes nothing.

@@ -1,8 +1,11 @@
 pub mod Lists
+pub mod Steps
 pub mod Handles
 pub mod Sound
 pub mod Runs
 pub mod Refusals
 pub mod Stays
 pub mod Needed
+pub mod Beside
 pub mod Releases
+pub mod Copies

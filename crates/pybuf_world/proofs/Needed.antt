@@ -1,5 +1,5 @@
 -- A command does with the loans that it needs what it does with all.
-use Rattle.std.proofs.Common.{◌≡◌, ℕ, List, [], ◌∷◌, ◌++◌, length, map, Bool, true, false, true≢false, get_or, ap, ap₂, sym, ◌∙◌, refl, ◌≢◌}
+use Rattle.std.proofs.Common.{◌≡◌, ℕ, List, [], ◌∷◌, ◌++◌, map, Bool, true, false, true≢false, get_or, ap, ap₂, sym, ◌∙◌, refl, ◌≢◌}
 use Rattle.std.specs.Prelude.{◌==◌, ◌&&◌, slice_get, Option, Some, None, if◌then◌else◌}
 use Rattle.std.specs.List.{list_all, flat_map}
 use Rattle.std.proofs.lemmas.Bool.{eqb-true, eq-eqb, ne_eqb}
@@ -20,10 +20,10 @@ use Rattle.pybuf_world.specs.World.{World, exporter_of, subject_of, loan_of_own,
 use Rattle.pybuf_world.specs.Needed.{loan_if_read, is_read, needed_for, loans_needed}
 
 -- all loans of these handles, and those that are needed
-abbrev whole_loans : World → ℕ → List ℕ → List (ℕ × Loan)
+abbrev pub whole_loans : World → ℕ → List ℕ → List (ℕ × Loan)
 whole_loans w i handles = map (λ h. (h, loan_for w i h)) handles
 
-abbrev read_loans : World → ℕ → List ℕ → List ℕ → List (ℕ × Loan)
+abbrev pub read_loans : World → ℕ → List ℕ → List ℕ → List (ℕ × Loan)
 read_loans w i reads handles = map (λ h. (h, needed_for w i reads h)) handles
 
 -- ---- they know the same
@@ -42,7 +42,7 @@ either_named : (e : Exporter) (first : Bool) (l m : Loan) (o p : Option Loan) �
 either_named e true l m o p same rest = same
 either_named e false l m o p same rest = rest
 
-known_alike : (e : Exporter) (w : World) (i : ℕ) (reads handles : List ℕ) (x : ℕ) → is_known e (whole_loans w i handles) x ≡ is_known e (read_loans w i reads handles) x
+pub known_alike : (e : Exporter) (w : World) (i : ℕ) (reads handles : List ℕ) (x : ℕ) → is_known e (whole_loans w i handles) x ≡ is_known e (read_loans w i reads handles) x
 known_alike e w i reads [] x = refl
 known_alike e w i reads (h ∷ hs) x =
     either_named e (h == x) (loan_for w i h) (needed_for w i reads h) (loan_of (whole_loans w i hs) x) (loan_of (read_loans w i reads hs) x)

@@ -1,5 +1,6 @@
 -- A refused command changes nothing, and handles stay.
-use Rattle.std.proofs.Common.{◌≡◌, ℕ, ◌<◌, Bool, true, false, List, [], ◌∷◌, ◌++◌, length, set, ap, sym, ◌∙◌, refl}
+use Rattle.std.proofs.Common.{◌≡◌, ℕ, ◌+◌, ◌<◌, Bool, true, false, List, [], ◌∷◌, ◌++◌, length, set, ap, ◌∙◌, refl, arith}
+use Rattle.std.proofs.lemmas.List.{length-append}
 use Rattle.std.specs.Prelude.{Option, Some, None, Result, Ok, Err, slice_get, if◌then◌else◌}
 use Rattle.pybuf_value.specs.declared.faults.Fault.{Fault}
 use Rattle.pybuf_value.specs.declared.faults.Fault.TheVariants as fault
@@ -14,11 +15,9 @@ use Rattle.pybuf_command.specs.declared.kinds.ExporterKind.{ExporterKind}
 use Rattle.pybuf_world.specs.declared.named.Named.{Named}
 use Rattle.pybuf_world.specs.declared.named.Named.TheVariants as named
 use Rattle.pybuf_world.specs.declared.named.Target.{Target}
-use Rattle.pybuf_world.specs.declared.commands.Command.{Command}
 use Rattle.pybuf_world.specs.declared.commands.Command.TheVariants as command
-use Rattle.pybuf_world.specs.declared.commands.Reply.{Reply}
 use Rattle.pybuf_world.specs.declared.commands.Reply.TheVariants as reply
-use Rattle.pybuf_world.specs.World.{World, bytes_from, world_with_bytes, handles_of_options, are_given, loans_of, handles_after, world_after, step_with_loans, target_of, step_of_handle, wstep}
+use Rattle.pybuf_world.specs.World.{World, bytes_from, world_with_bytes, handles_of_options, are_given, loans_of, handles_after, world_after, step_with_loans, target_of, step_of_handle}
 use Rattle.pybuf_world.specs.Laws.{RefusalsChangeNothing, HandlesStay}
 use Rattle.pybuf_world.proofs.Lists.{slice_get-append, set-slice_get}
 
@@ -30,9 +29,12 @@ after_refusal : (w : World) (t : Target) (e : Exporter) (r : LocalReply) (f : Fa
 after_refusal w t e (local.Refused g) f kept is =
     let same : g ≡ f = cc in ap (λ (xs : List Exporter). record w { exporters = xs }) (kept (ap local.Refused same))
 after_refusal w t e (local.View k) f kept is = absurd (cc)
+after_refusal w t e (local.Fresh snap) f kept is = absurd (cc)
 after_refusal w t e local.Ok f kept is = absurd (cc)
+after_refusal w t e local.Itself f kept is = absurd (cc)
 after_refusal w t e local.Own f kept is = absurd (cc)
 after_refusal w t e (local.Item x) f kept is = absurd (cc)
+after_refusal w t e (local.Items shape items) f kept is = absurd (cc)
 after_refusal w t e (local.Bytes bytes) f kept is = absurd (cc)
 after_refusal w t e (local.Text text) f kept is = absurd (cc)
 after_refusal w t e (local.Truth truth) f kept is = absurd (cc)
@@ -68,9 +70,15 @@ refusals_leave_all stays w (command.Do handle v) f is = handle_refusal stays w h
 
 after_handles : (w : World) (t : Target) (r : LocalReply) (h : ℕ) → h < length w.handles → slice_get (handles_after w t r) h ≡ slice_get w.handles h
 after_handles w t (local.View k) h below = slice_get-append w.handles (named.View t.exporter k ∷ []) h below
+after_handles w t (local.Fresh snap) h below =
+    let more : length (w.handles ++ named.Exporter (length w.exporters) ∷ []) ≡ length w.handles + 1 = length-append w.handles (named.Exporter (length w.exporters) ∷ []) in
+    slice_get-append (w.handles ++ named.Exporter (length w.exporters) ∷ []) (named.View (length w.exporters) 0 ∷ []) h (omega (arith, below, more))
+    ∙ slice_get-append w.handles (named.Exporter (length w.exporters) ∷ []) h below
 after_handles w t local.Ok h below = refl
+after_handles w t local.Itself h below = refl
 after_handles w t local.Own h below = refl
 after_handles w t (local.Item x) h below = refl
+after_handles w t (local.Items shape items) h below = refl
 after_handles w t (local.Bytes bytes) h below = refl
 after_handles w t (local.Text text) h below = refl
 after_handles w t (local.Truth truth) h below = refl

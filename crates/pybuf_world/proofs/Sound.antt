@@ -1,7 +1,6 @@
 -- Every world after a command is sound, and the handles that the tables keep for the exporters stay theirs.
 use Rattle.std.proofs.Common.{◌≡◌, ℕ, ◌+◌, ◌<◌, Bool, true, false, List, [], ◌∷◌, ◌++◌, length, take, set, ap, ap₂, sym, ◌∙◌, refl, subst, arith}
-use Rattle.std.specs.Prelude.{Option, Some, None, Result, Ok, Err, slice_get, slice_index, if◌then◌else◌}
-use Rattle.std.specs.List.{All}
+use Rattle.std.specs.Prelude.{Option, Some, None, Result, Ok, Err, slice_get, if◌then◌else◌}
 use Rattle.std.proofs.lemmas.Option.{slice_get_within}
 use Rattle.std.proofs.lemmas.List.{length-append, length-set}
 use Rattle.std.proofs.lemmas.List.Elements.{All-push, All-set, All-nil}
@@ -18,7 +17,9 @@ use Rattle.pybuf_state.specs.Keeps.{IsSafe}
 use Rattle.pybuf_state.specs.Sound.{IsSoundView, IsSoundExporter}
 use Rattle.pybuf_rows_views.specs.Laws.{ReleaseIsSafe}
 use Rattle.pybuf_exporter.specs.Step.{estep}
-use Rattle.pybuf_exporter.specs.Laws.{CommandsKeepSound}
+use Rattle.pybuf_state.specs.Fresh.{is_readonly_subject, vector_of}
+use Rattle.pybuf_state.specs.Laws.{CopiesAreFaithful}
+use Rattle.pybuf_exporter.specs.Laws.{CommandsKeepSound, FreshRepliesAreCopies}
 use Rattle.pybuf_world.specs.declared.named.Named.{Named}
 use Rattle.pybuf_world.specs.declared.named.Named.TheVariants as named
 use Rattle.pybuf_world.specs.declared.named.Target.{Target}
@@ -27,9 +28,9 @@ use Rattle.pybuf_world.specs.declared.commands.Command.{Command}
 use Rattle.pybuf_world.specs.declared.commands.Command.TheVariants as command
 use Rattle.pybuf_world.specs.declared.commands.Reply.{Reply}
 use Rattle.pybuf_world.specs.declared.commands.Reply.TheVariants as reply
-use Rattle.pybuf_world.specs.World.{World, empty_world, exporter_of, with_exporter, bytes_from, world_with_bytes, handles_of_options, are_given, step_of_new, loans_of, handles_after, world_after, step_with_loans, step_of_target, target_of, step_of_handle, wstep, world_after_all, world_with_released, released_in_exporter, released_by_name, released_by}
+use Rattle.pybuf_world.specs.World.{World, empty_world, exporter_of, with_exporter, bytes_from, world_with_bytes, handles_of_options, are_given, step_of_new, loans_of, reply_after, world_after, step_with_loans, target_of, step_of_handle, wstep, world_after_all, world_with_released, released_in_exporter, released_by_name, released_by}
 use Rattle.pybuf_world.specs.Sound.{IsSoundWorld, StaysSound}
-use Rattle.pybuf_world.specs.Tables.{AreOwners}
+use Rattle.pybuf_world.specs.Tables.{AreOwners, owners_after}
 use Rattle.pybuf_world.proofs.Handles.{NameExporters, AreNamed, AreFirst, stay_named, stay_first, named_with_new, first_with_new, there_with_new}
 use Rattle.pybuf_world.proofs.Lists.{All-slice_get}
 
@@ -129,43 +130,102 @@ with_handle_owned w name owners names owned = record {
   first = stay_first (length w.exporters) w.handles name owners names owned.first;
 }
 
-after_sound : (w : World) (t : Target) (e : Exporter) (r : LocalReply) → IsSoundWorld w → t.exporter < length w.exporters → IsSoundExporter e → IsSoundWorld (world_after w t (e, r)).0
-after_sound w t e (local.View k) sound there sound_e =
+-- and one more exporter with a view, and the handles of both
+with_viewed_sound : (w : World) (e : Exporter) (n : ℕ) → length w.exporters ≡ n → IsSoundWorld w → IsSoundExporter e
+    → IsSoundWorld (record { exporters = w.exporters ++ e ∷ []; handles = (w.handles ++ named.Exporter n ∷ []) ++ named.View n 0 ∷ [] })
+with_viewed_sound w e n same sound sound_e =
+    let more : length (w.exporters ++ e ∷ []) ≡ length w.exporters + 1 = length-append w.exporters (e ∷ []) in
+    subst (λ (m : ℕ). IsSoundWorld (record { exporters = w.exporters ++ e ∷ []; handles = (w.handles ++ named.Exporter m ∷ []) ++ named.View m 0 ∷ [] })) same
+    (with_handle_sound (with_exporter w e).0 (named.View (length w.exporters) 0) (with_exporter_sound w e sound sound_e) (omega (arith, more)))
+
+with_viewed_owned : (w : World) (e : Exporter) (n : ℕ) (owners : List ℕ) → length w.exporters ≡ n → IsSoundWorld w → IsSoundExporter e → AreOwners w owners
+    → AreOwners (record { exporters = w.exporters ++ e ∷ []; handles = (w.handles ++ named.Exporter n ∷ []) ++ named.View n 0 ∷ [] }) (owners ++ length w.handles ∷ [])
+with_viewed_owned w e n owners same sound sound_e owned =
+    subst (λ (m : ℕ). AreOwners (record { exporters = w.exporters ++ e ∷ []; handles = (w.handles ++ named.Exporter m ∷ []) ++ named.View m 0 ∷ [] }) (owners ++ length w.handles ∷ [])) same
+    (with_handle_owned (with_exporter w e).0 (named.View (length w.exporters) 0) (owners ++ length w.handles ∷ []) (with_exporter_sound w e sound sound_e).exporters_are_named
+    (with_exporter_owned w e owners sound owned))
+
+-- what is made of something fresh is sound
+abbrev IsSoundFresh : Exporter → Target → LocalReply → Type 0
+IsSoundFresh e t (local.Fresh snap) = IsSoundExporter (vector_of (is_readonly_subject e t.subject) snap)
+IsSoundFresh e t _ = Unit {0}
+
+after_sound : (w : World) (t : Target) (e : Exporter) (r : LocalReply) → IsSoundWorld w → t.exporter < length w.exporters → IsSoundExporter e → IsSoundFresh e t r → IsSoundWorld (world_after w t (e, r)).0
+after_sound w t e (local.View k) sound there sound_e fresh =
     let below : t.exporter < length (set w.exporters t.exporter e) = subst (λ (n : ℕ). t.exporter < n) (sym (length-set w.exporters t.exporter e)) there in
     with_handle_sound (record w { exporters = set w.exporters t.exporter e }) (named.View t.exporter k) (with_set_sound w t.exporter e sound sound_e) below
-after_sound w t e local.Ok sound there sound_e = with_set_sound w t.exporter e sound sound_e
-after_sound w t e local.Own sound there sound_e = with_set_sound w t.exporter e sound sound_e
-after_sound w t e (local.Item x) sound there sound_e = with_set_sound w t.exporter e sound sound_e
-after_sound w t e (local.Bytes bytes) sound there sound_e = with_set_sound w t.exporter e sound sound_e
-after_sound w t e (local.Text text) sound there sound_e = with_set_sound w t.exporter e sound sound_e
-after_sound w t e (local.Truth truth) sound there sound_e = with_set_sound w t.exporter e sound sound_e
-after_sound w t e (local.Numbers numbers) sound there sound_e = with_set_sound w t.exporter e sound sound_e
-after_sound w t e (local.Refused f) sound there sound_e = with_set_sound w t.exporter e sound sound_e
+after_sound w t e (local.Fresh snap) sound there sound_e fresh =
+    with_viewed_sound (record w { exporters = set w.exporters t.exporter e }) (vector_of (is_readonly_subject e t.subject) snap) (length w.exporters) (length-set w.exporters t.exporter e)
+    (with_set_sound w t.exporter e sound sound_e) fresh
+after_sound w t e local.Ok sound there sound_e fresh = with_set_sound w t.exporter e sound sound_e
+after_sound w t e local.Itself sound there sound_e fresh = with_set_sound w t.exporter e sound sound_e
+after_sound w t e local.Own sound there sound_e fresh = with_set_sound w t.exporter e sound sound_e
+after_sound w t e (local.Item x) sound there sound_e fresh = with_set_sound w t.exporter e sound sound_e
+after_sound w t e (local.Items shape items) sound there sound_e fresh = with_set_sound w t.exporter e sound sound_e
+after_sound w t e (local.Bytes bytes) sound there sound_e fresh = with_set_sound w t.exporter e sound sound_e
+after_sound w t e (local.Text text) sound there sound_e fresh = with_set_sound w t.exporter e sound sound_e
+after_sound w t e (local.Truth truth) sound there sound_e fresh = with_set_sound w t.exporter e sound sound_e
+after_sound w t e (local.Numbers numbers) sound there sound_e fresh = with_set_sound w t.exporter e sound sound_e
+after_sound w t e (local.Refused f) sound there sound_e fresh = with_set_sound w t.exporter e sound sound_e
 
-after_owned : (w : World) (t : Target) (e : Exporter) (r : LocalReply) (owners : List ℕ) → IsSoundWorld w → AreOwners w owners → AreOwners (world_after w t (e, r)).0 owners
-after_owned w t e (local.View k) owners sound owned =
+after_owned : (w : World) (t : Target) (e : Exporter) (r : LocalReply) (owners : List ℕ) → IsSoundWorld w → IsSoundExporter e → IsSoundFresh e t r → AreOwners w owners
+    → AreOwners (world_after w t (e, r)).0 (owners_after owners (reply_after w t r))
+after_owned w t e (local.View k) owners sound sound_e fresh owned =
     let names : AreNamed (length (set w.exporters t.exporter e)) w.handles = subst (λ (n : ℕ). AreNamed n w.handles) (sym (length-set w.exporters t.exporter e)) sound.exporters_are_named in
     with_handle_owned (record w { exporters = set w.exporters t.exporter e }) (named.View t.exporter k) owners names (with_set_owned w t.exporter e owners owned)
-after_owned w t e local.Ok owners sound owned = with_set_owned w t.exporter e owners owned
-after_owned w t e local.Own owners sound owned = with_set_owned w t.exporter e owners owned
-after_owned w t e (local.Item x) owners sound owned = with_set_owned w t.exporter e owners owned
-after_owned w t e (local.Bytes bytes) owners sound owned = with_set_owned w t.exporter e owners owned
-after_owned w t e (local.Text text) owners sound owned = with_set_owned w t.exporter e owners owned
-after_owned w t e (local.Truth truth) owners sound owned = with_set_owned w t.exporter e owners owned
-after_owned w t e (local.Numbers numbers) owners sound owned = with_set_owned w t.exporter e owners owned
-after_owned w t e (local.Refused f) owners sound owned = with_set_owned w t.exporter e owners owned
+after_owned w t e (local.Fresh snap) owners sound sound_e fresh owned =
+    with_viewed_owned (record w { exporters = set w.exporters t.exporter e }) (vector_of (is_readonly_subject e t.subject) snap) (length w.exporters) owners (length-set w.exporters t.exporter e)
+    (with_set_sound w t.exporter e sound sound_e) fresh (with_set_owned w t.exporter e owners owned)
+after_owned w t e local.Ok owners sound sound_e fresh owned = with_set_owned w t.exporter e owners owned
+after_owned w t e local.Itself owners sound sound_e fresh owned = with_set_owned w t.exporter e owners owned
+after_owned w t e local.Own owners sound sound_e fresh owned = with_set_owned w t.exporter e owners owned
+after_owned w t e (local.Item x) owners sound sound_e fresh owned = with_set_owned w t.exporter e owners owned
+after_owned w t e (local.Items shape items) owners sound sound_e fresh owned = with_set_owned w t.exporter e owners owned
+after_owned w t e (local.Bytes bytes) owners sound sound_e fresh owned = with_set_owned w t.exporter e owners owned
+after_owned w t e (local.Text text) owners sound sound_e fresh owned = with_set_owned w t.exporter e owners owned
+after_owned w t e (local.Truth truth) owners sound sound_e fresh owned = with_set_owned w t.exporter e owners owned
+after_owned w t e (local.Numbers numbers) owners sound sound_e fresh owned = with_set_owned w t.exporter e owners owned
+after_owned w t e (local.Refused f) owners sound sound_e fresh owned = with_set_owned w t.exporter e owners owned
 
-loans_sound : CommandsKeepSound → (w : World) (t : Target) (v : Verb) (loans : List (ℕ × Loan)) (o : Option Exporter) → slice_get w.exporters t.exporter ≡ o → IsSoundWorld w → IsSoundWorld (step_with_loans w t v loans o).0
-loans_sound keeps w t v loans (Some e) at sound =
+-- the laws of the exporters that a world rests on
+pub record ExporterLaws : Type 0 where
+  pub keeps : CommandsKeepSound
+  pub copies : FreshRepliesAreCopies
+  pub faithful : CopiesAreFaithful
+
+fresh_by_reply : ExporterLaws → (e : Exporter) (t : Target) (v : Verb) (loans : List (ℕ × Loan)) (r : LocalReply) → IsSoundExporter e → (estep e t.subject v loans).1 ≡ r → IsSoundFresh (estep e t.subject v loans).0 t r
+fresh_by_reply laws e t v loans (local.Fresh snap) sound is =
+    let copied = laws.copies e t.subject v loans snap is in
+    subst (λ (x : Exporter). IsSoundExporter (vector_of (is_readonly_subject x t.subject) snap)) (sym copied.0) ((laws.faithful e t.subject snap sound copied.1).0)
+fresh_by_reply laws e t v loans (local.View k) sound is = tt
+fresh_by_reply laws e t v loans local.Ok sound is = tt
+fresh_by_reply laws e t v loans local.Itself sound is = tt
+fresh_by_reply laws e t v loans local.Own sound is = tt
+fresh_by_reply laws e t v loans (local.Item x) sound is = tt
+fresh_by_reply laws e t v loans (local.Items shape items) sound is = tt
+fresh_by_reply laws e t v loans (local.Bytes bytes) sound is = tt
+fresh_by_reply laws e t v loans (local.Text text) sound is = tt
+fresh_by_reply laws e t v loans (local.Truth truth) sound is = tt
+fresh_by_reply laws e t v loans (local.Numbers numbers) sound is = tt
+fresh_by_reply laws e t v loans (local.Refused f) sound is = tt
+
+fresh_sound : ExporterLaws → (e : Exporter) (t : Target) (v : Verb) (loans : List (ℕ × Loan)) → IsSoundExporter e → IsSoundFresh (estep e t.subject v loans).0 t (estep e t.subject v loans).1
+fresh_sound laws e t v loans sound = fresh_by_reply laws e t v loans (estep e t.subject v loans).1 sound refl
+
+loans_sound : ExporterLaws → (w : World) (t : Target) (v : Verb) (loans : List (ℕ × Loan)) (o : Option Exporter) → slice_get w.exporters t.exporter ≡ o → IsSoundWorld w → IsSoundWorld (step_with_loans w t v loans o).0
+loans_sound laws w t v loans (Some e) at sound =
     let sound_e = All-slice_get IsSoundExporter w.exporters t.exporter e sound.exporters_are_sound at in
-    after_sound w t (estep e t.subject v loans).0 (estep e t.subject v loans).1 sound (slice_get_within w.exporters t.exporter e at) (keeps e t.subject v loans sound_e)
-loans_sound keeps w t v loans None at sound = sound
+    after_sound w t (estep e t.subject v loans).0 (estep e t.subject v loans).1 sound (slice_get_within w.exporters t.exporter e at) (laws.keeps e t.subject v loans sound_e) (fresh_sound laws e t v loans sound_e)
+loans_sound laws w t v loans None at sound = sound
 
-loans_owned : (w : World) (t : Target) (v : Verb) (loans : List (ℕ × Loan)) (o : Option Exporter) (owners : List ℕ) → IsSoundWorld w → AreOwners w owners → AreOwners (step_with_loans w t v loans o).0 owners
-loans_owned w t v loans (Some e) owners sound owned = after_owned w t (estep e t.subject v loans).0 (estep e t.subject v loans).1 owners sound owned
-loans_owned w t v loans None owners sound owned = owned
+loans_owned : ExporterLaws → (w : World) (t : Target) (v : Verb) (loans : List (ℕ × Loan)) (o : Option Exporter) (owners : List ℕ) → slice_get w.exporters t.exporter ≡ o → IsSoundWorld w → AreOwners w owners
+    → AreOwners (step_with_loans w t v loans o).0 (owners_after owners (step_with_loans w t v loans o).1)
+loans_owned laws w t v loans (Some e) owners at sound owned =
+    let sound_e = All-slice_get IsSoundExporter w.exporters t.exporter e sound.exporters_are_sound at in
+    after_owned w t (estep e t.subject v loans).0 (estep e t.subject v loans).1 owners sound (laws.keeps e t.subject v loans sound_e) (fresh_sound laws e t v loans sound_e) owned
+loans_owned laws w t v loans None owners at sound owned = owned
 
-handle_sound : CommandsKeepSound → (w : World) (handle : ℕ) (v : Verb) (o : Option Named) → IsSoundWorld w → IsSoundWorld (step_of_handle w handle v o).0
+handle_sound : ExporterLaws → (w : World) (handle : ℕ) (v : Verb) (o : Option Named) → IsSoundWorld w → IsSoundWorld (step_of_handle w handle v o).0
 handle_sound keeps w handle v (Some name) sound =
     let t = target_of handle name in loans_sound keeps w t v (loans_of w t.exporter v) (slice_get w.exporters t.exporter) refl sound
 handle_sound keeps w handle v None sound = sound
@@ -173,27 +233,27 @@ handle_sound keeps w handle v None sound = sound
 -- ---- commands
 
 -- a command keeps a world sound
-pub wstep_sound : CommandsKeepSound → (w : World) (c : Command) → IsSoundWorld w → IsSoundWorld (wstep w c).0
+pub wstep_sound : ExporterLaws → (w : World) (c : Command) → IsSoundWorld w → IsSoundWorld (wstep w c).0
 wstep_sound keeps w (command.New k options) sound = step_of_new_sound w k options sound
 wstep_sound keeps w (command.Do handle v) sound = handle_sound keeps w handle v (slice_get w.handles handle) sound
 
 -- and so does a run of them
-all_sound : CommandsKeepSound → (w : World) (cs : List Command) → IsSoundWorld w → IsSoundWorld (world_after_all w cs)
+all_sound : ExporterLaws → (w : World) (cs : List Command) → IsSoundWorld w → IsSoundWorld (world_after_all w cs)
 all_sound keeps w [] sound = sound
 all_sound keeps w (c ∷ cs) sound = all_sound keeps (wstep w c).0 cs (wstep_sound keeps w c sound)
 
-pub stays_sound : CommandsKeepSound → (w : World) (cs : List Command) → IsSoundWorld w → StaysSound w cs
+pub stays_sound : ExporterLaws → (w : World) (cs : List Command) → IsSoundWorld w → StaysSound w cs
 stays_sound keeps w cs sound k = all_sound keeps w (take k cs) sound
 
-pub sound_after_step : CommandsKeepSound → (w after : World) (c : Command) (r : Reply) → wstep w c ≡ (after, r) → IsSoundWorld w → IsSoundWorld after
+pub sound_after_step : ExporterLaws → (w after : World) (c : Command) (r : Reply) → wstep w c ≡ (after, r) → IsSoundWorld w → IsSoundWorld after
 sound_after_step keeps w after c r is sound = subst IsSoundWorld (ap (λ (p : World × Reply). p.0) is) (wstep_sound keeps w c sound)
 
-pub owned_after_loans : (w after : World) (t : Target) (v : Verb) (loans : List (ℕ × Loan)) (r : Reply) (owners later : List ℕ)
-    → step_with_loans w t v loans (slice_get w.exporters t.exporter) ≡ (after, r) → later ≡ owners → IsSoundWorld w → AreOwners w owners → AreOwners after later
-owned_after_loans w after t v loans r owners later is same sound owned =
+pub owned_after_loans : ExporterLaws → (w after : World) (t : Target) (v : Verb) (loans : List (ℕ × Loan)) (r : Reply) (owners later : List ℕ)
+    → step_with_loans w t v loans (slice_get w.exporters t.exporter) ≡ (after, r) → later ≡ owners_after owners r → IsSoundWorld w → AreOwners w owners → AreOwners after later
+owned_after_loans laws w after t v loans r owners later is same sound owned =
     subst (AreOwners after) (sym same)
-    (subst (λ (x : World). AreOwners x owners) (ap (λ (p : World × Reply). p.0) is)
-    (loans_owned w t v loans (slice_get w.exporters t.exporter) owners sound owned))
+    (subst (λ (x : World × Reply). AreOwners x.0 (owners_after owners x.1)) is
+    (loans_owned laws w t v loans (slice_get w.exporters t.exporter) owners refl sound owned))
 
 -- ---- releasing
 

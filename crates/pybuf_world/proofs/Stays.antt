@@ -1,5 +1,5 @@
 -- What every command keeps of an exporter, it keeps of each exporter of a world.
-use Rattle.std.proofs.Common.{◌≡◌, ℕ, ◌⊎◌, inl, inr, Bool, true, false, List, [], ◌∷◌, ◌++◌, length, set, ap, sym, ◌∙◌, refl, subst, arith, ◌≢◌}
+use Rattle.std.proofs.Common.{◌≡◌, ℕ, ◌⊎◌, inl, inr, Bool, true, false, List, [], ◌∷◌, set, ap, sym, ◌∙◌, refl, subst, ◌≢◌}
 use Rattle.std.specs.Prelude.{◌==◌, Option, Some, None, Result, Ok, Err, slice_get, if◌then◌else◌}
 use Rattle.std.proofs.lemmas.Bool.Decides.{eqb_tells}
 use Rattle.std.proofs.lemmas.Option.{slice_get_within}
@@ -9,6 +9,8 @@ use Rattle.pybuf_command.specs.declared.kinds.ExporterKind.{ExporterKind}
 use Rattle.pybuf_command.specs.declared.kinds.Subject.{Subject}
 use Rattle.pybuf_command.specs.declared.commands.Verb.{Verb}
 use Rattle.pybuf_command.specs.declared.loans.Loan.{Loan}
+use Rattle.pybuf_command.specs.declared.commands.LocalReply.{LocalReply}
+use Rattle.pybuf_command.specs.declared.commands.LocalReply.TheVariants as local
 use Rattle.pybuf_state.specs.Exporter.{Exporter}
 use Rattle.pybuf_state.specs.Keeps.{LengthsStay, ReadOnlyBytesStay}
 use Rattle.pybuf_state.specs.Sound.{IsSoundExporter}
@@ -18,9 +20,8 @@ use Rattle.pybuf_world.specs.declared.named.Named.{Named}
 use Rattle.pybuf_world.specs.declared.named.Target.{Target}
 use Rattle.pybuf_world.specs.declared.commands.Command.{Command}
 use Rattle.pybuf_world.specs.declared.commands.Command.TheVariants as command
-use Rattle.pybuf_world.specs.declared.commands.Reply.{Reply}
 use Rattle.pybuf_world.specs.declared.commands.Reply.TheVariants as reply
-use Rattle.pybuf_world.specs.World.{World, bytes_from, world_with_bytes, handles_of_options, are_given, loans_of, step_with_loans, target_of, step_of_handle, wstep}
+use Rattle.pybuf_world.specs.World.{World, bytes_from, world_with_bytes, handles_of_options, are_given, loans_of, world_after, step_with_loans, target_of, step_of_handle, wstep}
 use Rattle.pybuf_world.specs.Sound.{IsSoundWorld}
 use Rattle.pybuf_world.specs.Laws.{EachExporterStays, WorldLengthsStay, WorldReadOnlyBytesStay}
 use Rattle.pybuf_world.proofs.Lists.{slice_get-append, slice_get-set, slice_get-set_other, All-slice_get}
@@ -47,11 +48,29 @@ one_set Stays kept w j old new found stays i e (inl same) at =
 one_set Stays kept w j old new found stays i e (inr other) at =
     (e, slice_get-set_other w.exporters j i new other.1 ∙ at, kept.same e)
 
+-- and where one more is added behind them
+set_or_more : (Stays : Exporter → Exporter → Type 0) → IsKeptBySteps Stays → (w : World) (t : Target) (old new : Exporter) (r : LocalReply) → slice_get w.exporters t.exporter ≡ Some old → Stays old new
+    → EachExporterStays Stays w (world_after w t (new, r)).0
+set_or_more Stays kept w t old new (local.Fresh snap) found stays i e at =
+    let one = one_set Stays kept w t.exporter old new found stays i e (eqb_tells t.exporter i) at in
+    (one.0, slice_get-append (set w.exporters t.exporter new) (_ ∷ []) i (slice_get_within (set w.exporters t.exporter new) i one.0 one.1) ∙ one.1, one.2)
+set_or_more Stays kept w t old new (local.View k) found stays i e at = one_set Stays kept w t.exporter old new found stays i e (eqb_tells t.exporter i) at
+set_or_more Stays kept w t old new local.Ok found stays i e at = one_set Stays kept w t.exporter old new found stays i e (eqb_tells t.exporter i) at
+set_or_more Stays kept w t old new local.Itself found stays i e at = one_set Stays kept w t.exporter old new found stays i e (eqb_tells t.exporter i) at
+set_or_more Stays kept w t old new local.Own found stays i e at = one_set Stays kept w t.exporter old new found stays i e (eqb_tells t.exporter i) at
+set_or_more Stays kept w t old new (local.Item x) found stays i e at = one_set Stays kept w t.exporter old new found stays i e (eqb_tells t.exporter i) at
+set_or_more Stays kept w t old new (local.Items shape items) found stays i e at = one_set Stays kept w t.exporter old new found stays i e (eqb_tells t.exporter i) at
+set_or_more Stays kept w t old new (local.Bytes bytes) found stays i e at = one_set Stays kept w t.exporter old new found stays i e (eqb_tells t.exporter i) at
+set_or_more Stays kept w t old new (local.Text text) found stays i e at = one_set Stays kept w t.exporter old new found stays i e (eqb_tells t.exporter i) at
+set_or_more Stays kept w t old new (local.Truth truth) found stays i e at = one_set Stays kept w t.exporter old new found stays i e (eqb_tells t.exporter i) at
+set_or_more Stays kept w t old new (local.Numbers numbers) found stays i e at = one_set Stays kept w t.exporter old new found stays i e (eqb_tells t.exporter i) at
+set_or_more Stays kept w t old new (local.Refused f) found stays i e at = one_set Stays kept w t.exporter old new found stays i e (eqb_tells t.exporter i) at
+
 loans_stay : (Stays : Exporter → Exporter → Type 0) → IsKeptBySteps Stays → (w : World) (t : Target) (v : Verb) (loans : List (ℕ × Loan)) (o : Option Exporter) → slice_get w.exporters t.exporter ≡ o
     → IsSoundWorld w → EachExporterStays Stays w (step_with_loans w t v loans o).0
 loans_stay Stays kept w t v loans (Some old) found sound i e at =
     let sound_old = All-slice_get IsSoundExporter w.exporters t.exporter old sound.exporters_are_sound found in
-    one_set Stays kept w t.exporter old (estep old t.subject v loans).0 found (kept.step old t.subject v loans sound_old) i e (eqb_tells t.exporter i) at
+    set_or_more Stays kept w t old (estep old t.subject v loans).0 (estep old t.subject v loans).1 found (kept.step old t.subject v loans sound_old) i e at
 loans_stay Stays kept w t v loans None found sound i e at = (e, at, kept.same e)
 
 handle_stays : (Stays : Exporter → Exporter → Type 0) → IsKeptBySteps Stays → (w : World) (handle : ℕ) (v : Verb) (o : Option Named) → IsSoundWorld w → EachExporterStays Stays w (step_of_handle w handle v o).0

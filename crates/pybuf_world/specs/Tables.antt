@@ -1,7 +1,18 @@
 -- The world that the tables keep, and what holds of them.
-use Rattle.std.specs.Prelude.{◌≡◌, ℕ, ◌<◌, List, length, slice_index}
+use Rattle.std.specs.Prelude.{◌≡◌, ℕ, ◌+◌, ◌<◌, List, [], ◌∷◌, ◌++◌, length, slice_index, slice_get, Option, Some, None}
+use Rattle.pybuf_value.specs.declared.faults.Fault.TheVariants as fault
+use Rattle.pybuf_value.specs.declared.snaps.Snap.{Snap}
+use Rattle.pybuf_command.specs.declared.kinds.Subject.{Subject}
+use Rattle.pybuf_state.specs.Exporter.{Exporter}
+use Rattle.pybuf_state.specs.Fresh.{IsCopyOf, is_readonly_subject, vector_of}
+use Rattle.pybuf_world.specs.declared.commands.Reply.{Reply}
+use Rattle.pybuf_world.specs.declared.commands.Reply.TheVariants as reply
+use Rattle.pybuf_world.specs.declared.named.Named.TheVariants as named
 use Rattle.pybuf_world.specs.declared.tables.Tables.{Tables}
-use Rattle.pybuf_world.specs.World.{World, handle_of}
+use Rattle.pybuf_command.specs.declared.commands.LocalReply.{LocalReply}
+use Rattle.pybuf_command.specs.declared.commands.LocalReply.TheVariants as local
+use Rattle.pybuf_world.specs.declared.named.Target.{Target}
+use Rattle.pybuf_world.specs.World.{World, handle_of, handles_after, reply_after}
 use Rattle.pybuf_world.specs.Sound.{IsSoundWorld}
 
 abbrev pub world_of_tables : Tables → World
@@ -15,3 +26,39 @@ pub record AreOwners (w : World) (owners : List ℕ) : Type 0 where
 pub record IsKept (t : Tables) : Type 0 where
   pub sound : IsSoundWorld (world_of_tables t)
   pub owned : AreOwners (world_of_tables t) t.owners.items
+
+-- the handles of the exporters after a reply: a new exporter has the first of its two
+abbrev pub owners_after : List ℕ → Reply → List ℕ
+owners_after owners (reply.Pair exporter view) = owners ++ exporter ∷ []
+owners_after owners _ = owners
+
+-- the exporter is there, and the snap is the copy of its subject
+abbrev pub IsCopyAt : Option Exporter → Subject → Snap → Type 0
+IsCopyAt (Some e) s snap = IsCopyOf e s snap
+IsCopyAt None s snap = ⊥
+
+-- the world with the vector that is made of the copy, and the handles of it and of its view
+abbrev pub with_copy : World → Option Exporter → Subject → Snap → World × Reply
+with_copy w (Some e) s snap = (
+  record {
+    exporters = w.exporters ++ vector_of (is_readonly_subject e s) snap ∷ [];
+    handles = (w.handles ++ named.Exporter (length w.exporters) ∷ []) ++ named.View (length w.exporters) 0 ∷ [];
+  },
+  reply.Pair (length w.handles) (length w.handles + 1),
+)
+with_copy w None s snap = (w, reply.Refused fault.UnknownName)
+
+-- the reply makes an exporter
+abbrev pub IsFresh : LocalReply → Type 0
+IsFresh (local.Fresh snap) = Unit {0}
+IsFresh _ = ⊥
+
+-- what is asked of the copy of which a reply makes an exporter
+abbrev pub IfFresh : LocalReply → (Snap → Type 0) → Type 0
+IfFresh (local.Fresh snap) P = P snap
+IfFresh _ P = Unit {0}
+
+-- the world whose exporter has stepped, with the handles that its reply gives, and what is replied
+abbrev pub answered : World → Target → LocalReply → World × Reply
+answered w t (local.Fresh snap) = with_copy w (slice_get w.exporters t.exporter) t.subject snap
+answered w t r = (record w { handles = handles_after w t r }, reply_after w t r)

@@ -1,9 +1,8 @@
 -- Worlds: exporters, and the handles that name them and their views.
-use Rattle.std.specs.Prelude.{ℕ, ◌==◌, Bool, false, List, [], ◌∷◌, ◌++◌, length, map, set, slice_get, nat_lt, Option, Some, None, Result, Ok, Err, if◌then◌else◌}
+use Rattle.std.specs.Prelude.{ℕ, ◌+◌, ◌==◌, Bool, false, List, [], ◌∷◌, ◌++◌, length, map, set, slice_get, nat_lt, Option, Some, None, Result, Ok, Err, if◌then◌else◌}
 use Rattle.std.specs.List.{list_all, position_or_len}
 use Rattle.pybuf_value.specs.declared.faults.Fault.{Fault}
 use Rattle.pybuf_value.specs.declared.faults.Fault.TheVariants as fault
-use Rattle.pybuf_value.specs.declared.snaps.Snap.{Snap}
 use Rattle.pybuf_value.specs.declared.values.Scalar.TheVariants as scalar
 use Rattle.pybuf_value.specs.declared.values.Value.{Value}
 use Rattle.pybuf_value.specs.declared.values.Value.TheVariants as value
@@ -18,6 +17,8 @@ use Rattle.pybuf_command.specs.declared.loans.Loan.{Loan}
 use Rattle.pybuf_command.specs.declared.loans.Loan.TheVariants as loan
 use Rattle.pybuf_command.specs.Handles.{handles_of, handles_in_option}
 use Rattle.pybuf_state.specs.Exporter.{Exporter, new_exporter, released_in}
+use Rattle.pybuf_state.specs.Fresh.{is_readonly_subject, vector_of}
+use Rattle.pybuf_state.specs.Loans.{loan_of_snap}
 use Rattle.pybuf_state.specs.Snaps.{snap_of_subject}
 use Rattle.pybuf_exporter.specs.Step.{estep}
 use Rattle.pybuf_world.specs.declared.named.Named.{Named}
@@ -95,10 +96,6 @@ step_of_new w k options =
 -- ---- what is lent
 
 -- what another exporter lends of a subject, as it stands
-abbrev pub loan_of_snap : Option Snap → Loan
-loan_of_snap (Some snap) = loan.Other snap
-loan_of_snap None = loan.Missing
-
 abbrev pub loan_of_other : Option Exporter → Subject → Loan
 loan_of_other (Some e) s = loan_of_snap (snap_of_subject e s)
 loan_of_other None s = loan.Missing
@@ -125,27 +122,37 @@ loans_of w i v = map (λ handle. (handle, loan_for w i handle)) (handles_of v)
 
 -- ---- a command on what a handle names
 
--- the handles after a reply: a new view is given the next
+-- the exporter as it is after a command, and one more that is made of a copy
+abbrev pub exporters_after : World → Target → Exporter → LocalReply → List Exporter
+exporters_after w t e (local.Fresh snap) = set w.exporters t.exporter e ++ vector_of (is_readonly_subject e t.subject) snap ∷ []
+exporters_after w t e _ = set w.exporters t.exporter e
+
+-- the handles after a reply: a new view is given the next, and a new exporter and its view the next two
 abbrev pub handles_after : World → Target → LocalReply → List Named
 handles_after w t (local.View k) = w.handles ++ named.View t.exporter k ∷ []
+handles_after w t (local.Fresh snap) = (w.handles ++ named.Exporter (length w.exporters) ∷ []) ++ named.View (length w.exporters) 0 ∷ []
 handles_after w t _ = w.handles
 
--- what is replied: a new view by its handle, and the exporter itself by its own
+-- what is replied: a new view by its handle, a new exporter and its view by theirs, and the subject and
+-- its exporter by their own
 abbrev pub reply_after : World → Target → LocalReply → Reply
 reply_after w t local.Ok = reply.Ok
 reply_after w t (local.View k) = reply.Handle (length w.handles)
+reply_after w t local.Itself = reply.Handle t.handle
 reply_after w t local.Own = reply.Handle (handle_of w t.exporter)
 reply_after w t (local.Item x) = reply.Item x
+reply_after w t (local.Items shape items) = reply.Items shape items
 reply_after w t (local.Bytes bytes) = reply.Bytes bytes
 reply_after w t (local.Text text) = reply.Text text
 reply_after w t (local.Truth truth) = reply.Truth truth
 reply_after w t (local.Numbers numbers) = reply.Numbers numbers
+reply_after w t (local.Fresh snap) = reply.Pair (length w.handles) (length w.handles + 1)
 reply_after w t (local.Refused f) = reply.Refused f
 
--- the world with the exporter as it is after a command, and the reply
+-- the world after a command on an exporter, and the reply
 abbrev pub world_after : World → Target → Exporter × LocalReply → World × Reply
 world_after w t after = (
-  record { exporters = set w.exporters t.exporter after.0; handles = handles_after w t after.1 },
+  record { exporters = exporters_after w t after.0 after.1; handles = handles_after w t after.1 },
   reply_after w t after.1,
 )
 

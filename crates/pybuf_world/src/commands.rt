@@ -1,7 +1,9 @@
 //! Commands and replies of a world.
 
 use pybuf_command::{ExporterKind, Verb};
-use pybuf_value::{ByteList, Fault, Item, Items, Made, NumberList, Text, Twin, Value};
+use pybuf_value::{
+    ByteList, CountList, Fault, Item, ItemList, Items, Made, NumberList, Text, Twin, Value,
+};
 use std::alloc::Global;
 
 /// What bytes are made of, as the arguments of Python's `bytes(source, encoding, errors)`.
@@ -34,8 +36,12 @@ pub enum Reply {
     Ok,
     /// The handle of what was made.
     Handle(u64),
+    /// The handles of an exporter that was made, and of its one view.
+    Pair { exporter: u64, view: u64 },
     /// A single number, byte, length or place, or an item of a view.
     Item(Item),
+    /// Items, row-major, and the number of entries of each dimension.
+    Items { shape: CountList, items: ItemList },
     /// Bytes.
     Bytes(ByteList),
     /// A text.

@@ -1,6 +1,6 @@
 //! Laws over every command on a world, from the laws over every command on one exporter.
 ghost use Rattle.pybuf_rows_views.specs.Laws.{ReleasingTwiceIsOnce};
-ghost use Rattle.pybuf_world.specs.Laws.{RefusalsChangeNothing, HandlesStay, ReleasingByHandleTwiceIsOnce, WorldLengthsStay, WorldReadOnlyBytesStay};
+ghost use Rattle.pybuf_world.specs.Laws.{RefusalsChangeNothing, HandlesStay, ReleasingByHandleTwiceIsOnce, WorldLengthsStay, WorldReadOnlyBytesStay, CopiesAreExportersOfTheirOwn};
 
 /// A refused command leaves the whole world as it was, so no handle is used up.
 pub fn refusals_change_nothing()
@@ -36,4 +36,14 @@ pub fn world_readonly_bytes_stay()
     ensures { WorldReadOnlyBytesStay }
 {
     pybuf_exporter::readonly_bytes_stay();
+}
+
+/// A command that replies two handles has made an exporter of its own, behind those that there were,
+/// which stay as they are; its one view has the bytes of the view that was copied, in the same format
+/// and shape, without a gap. So a write to one isn't seen by the other.
+pub fn copies_are_exporters_of_their_own()
+    ensures { CopiesAreExportersOfTheirOwn }
+{
+    pybuf_exporter::fresh_replies_are_copies();
+    pybuf_exporter::copies_are_faithful();
 }

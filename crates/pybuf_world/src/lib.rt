@@ -9,8 +9,8 @@ mod world;
 
 pub use commands::{ByteInnerNewOptions, Command, Reply, ReplyList};
 pub use laws::{
-    handles_stay, refusals_change_nothing, releasing_twice_is_once, world_lengths_stay,
-    world_readonly_bytes_stay,
+    copies_are_exporters_of_their_own, handles_stay, refusals_change_nothing,
+    releasing_twice_is_once, world_lengths_stay, world_readonly_bytes_stay,
 };
 pub use named::{Named, Target};
 pub use world::World;

@@ -1,20 +1,24 @@
 //! What is kept of a world, and the work on it.
-ghost use Rattle.std.specs.Prelude.{◌≡◌, ◌<◌, ◌++◌, slice_get, slice_index, length, map, Some, IfOk, OnOk, OnErr, MatchResult};
+ghost use Rattle.std.specs.Prelude.{◌≡◌, ◌<◌, ◌+◌, ◌++◌, [], ◌∷◌, slice_get, slice_index, length, map, Some, IfOk, IfSome, OnOk, OnErr, MatchResult, vec_len, vec_capacity};
 ghost use Rattle.std.specs.Prelude.{true, false};
-ghost use Rattle.pybuf_command.specs.Handles.{handles_read};
 ghost use Rattle.pybuf_command.specs.Fits.{fits, LoansFit};
+ghost use Rattle.pybuf_state.specs.Loans.{loan_of_snap};
 ghost use Rattle.pybuf_state.specs.Snaps.{snap_of_subject};
-ghost use Rattle.pybuf_world.specs.World.{bytes_from, loan_of_own, loan_of_snap};
-ghost use Rattle.pybuf_world.specs.Needed.{loan_if_read, is_read, needed_for, loans_needed};
+ghost use Rattle.pybuf_world.specs.World.{bytes_from, loan_of_own, loan_for};
+ghost use Rattle.pybuf_world.specs.Beside.{IsLentBeside, reads_beside, loans_beside, other_loans, local_step};
+ghost use Rattle.pybuf_world.specs.Needed.{loan_if_read, is_read, needed_for};
 
 use crate::commands::{ByteInnerNewOptions, Command, Reply, ReplyList};
 use crate::named::{Named, Target};
 use pybuf_command::{
     ExporterKind, Loan, LoanList, LocalReply, Subject, Verb, handles_of, handles_read,
 };
-use pybuf_exporter::{ExporterState, commands_keep_sound, loans_alike_do_the_same};
+use pybuf_exporter::{
+    ExporterState, commands_keep_sound, copies_are_faithful, fresh_replies_are_copies,
+    loans_alike_do_the_same, slice_source,
+};
 use pybuf_rows_views::release_is_safe;
-use pybuf_value::{ByteList, Fault, Made, NoMemory, Scalar, Twin, Value, push_reserved};
+use pybuf_value::{ByteList, Fault, Made, NoMemory, Scalar, Snap, Twin, Value, push_reserved};
 use std::alloc::Global;
 use std::mem;
 
@@ -101,8 +105,17 @@ fn loan_of_known(lender: &ExporterState, subject: Subject) -> Loan
     if is_there { Loan::Known } else { Loan::Missing }
 }
 
+/// Adds a name where room was reserved for it and for one more.
+fn push_before_last(handles: &mut Vec<Named>, named: Named)
+    requires { vec_len handles.old + 1 < vec_capacity handles.old }
+    ensures items { handles.new.items ≡ handles.old.items ++ named ∷ [] }
+    ensures room { vec_len handles.new < vec_capacity handles.new }
+{
+    let _ = handles.push(named);
+}
+
 impl Tables {
-    ghost use Rattle.pybuf_world.specs.Tables.{world_of_tables, AreOwners, IsKept};
+    ghost use Rattle.pybuf_world.specs.Tables.{world_of_tables, AreOwners, IsKept, owners_after, IsCopyAt, IfFresh, IsFresh, with_copy, answered};
     ghost use Rattle.pybuf_world.specs.World as spec;
     ghost use Rattle.pybuf_world.specs.Sound.{StopsAt};
 
@@ -214,14 +227,99 @@ impl Tables {
         Ok(loans)
     }
 
-    /// What each handle of a command is lent as. Takes no memory where there is no handle.
-    fn loans(&self, exporter: usize, subject: Subject, verb: &Verb) -> Made<LoanList>
-        ensures value { IfOk result (λ loans. loans ≡ loans_needed (world_of_tables self.now) exporter subject verb.now) }
+    /// The handles whose bytes a command reads by their loans.
+    fn reads(&self, subject: Subject, verb: &Verb, beside: Option<(u64, Named)>) -> Made<Vec<u64>>
+        ensures { IfOk result (λ handles. handles.items ≡ reads_beside beside subject verb.now) }
+    {
+        if beside.is_some() {
+            return Ok(Vec::new(self.alloc));
+        }
+        handles_read(self.alloc, subject, verb)
+    }
+
+    /// What each handle of a command is lent as by a loan. Takes no memory where there is no handle.
+    fn loans(&self, target: Target, verb: &Verb, beside: Option<(u64, Named)>) -> Made<LoanList>
+        ensures value { IfOk result (λ loans. loans ≡ other_loans (world_of_tables self.now) target verb.now beside) }
         ensures fit { IfOk result (λ loans. LoansFit loans) }
     {
         let handles = handles_of(self.alloc, verb)?;
-        let reads = handles_read(self.alloc, subject, verb)?;
-        self.loans_for(exporter, handles.as_slice(), reads.as_slice())
+        let reads = self.reads(target.subject, verb, beside)?;
+        self.loans_for(target.exporter, handles.as_slice(), reads.as_slice())
+    }
+
+    /// The handle from which a command copies items, and what it names, where that is of another
+    /// exporter: so its bytes can be copied from where they lie.
+    fn lent_beside(&self, target: Target, verb: &Verb) -> Option<(u64, Named)>
+        ensures { IfSome result (λ beside. IsLentBeside (world_of_tables self.now) target verb.now beside.0 beside.1) }
+    {
+        let handle = slice_source(target.subject, verb)?;
+        let named = self.handles.get(handle as usize).copied()?;
+        if named.exporter() == target.exporter {
+            return None;
+        }
+        if named.exporter() >= self.exporters.len() {
+            return None;
+        }
+        Some((handle, named))
+    }
+
+    /// A command that copies items from another exporter, which stands beside: the stepping exporter
+    /// is taken out of the table for the step. Takes no memory.
+    fn step_beside(
+        &mut self,
+        target: Target,
+        verb: &Verb,
+        loans: &LoanList,
+        handle: u64,
+        named: Named,
+    ) -> Made<LocalReply>
+        requires there { target.exporter < length (world_of_tables self.old).exporters }
+        requires beside { IsLentBeside (world_of_tables self.old) target verb.now handle named }
+        ensures ok { IfOk result (λ r. local_step (world_of_tables self.old) target verb.now ((handle, loan_for (world_of_tables self.old) target.exporter handle) ∷ loans.now) (slice_get (world_of_tables self.old).exporters target.exporter) ≡ (world_of_tables self.new, r)) }
+        ensures err { OnErr result (world_of_tables self.new ≡ world_of_tables self.old) }
+        ensures owners { self.new.owners.items ≡ self.old.owners.items }
+        ensures handles { self.new.handles ≡ self.old.handles }
+    {
+        let nothing = ExporterState::new(
+            self.alloc,
+            ExporterKind::Bytes,
+            ByteList::new(self.alloc),
+        );
+        let mut worker = mem::replace(&mut self.exporters[target.exporter], nothing);
+        let lender = &self.exporters[named.exporter()];
+        let answer = worker.carry_out_beside(
+            target.subject,
+            verb,
+            loans,
+            handle,
+            lender,
+            named.subject(),
+        );
+        self.exporters[target.exporter] = worker;
+        answer
+    }
+
+    /// What the exporter of a target does.
+    fn local_step(
+        &mut self,
+        target: Target,
+        verb: &Verb,
+        loans: &LoanList,
+        beside: Option<(u64, Named)>,
+    ) -> Made<LocalReply>
+        requires there { target.exporter < length (world_of_tables self.old).exporters }
+        requires fit { LoansFit loans.now }
+        requires beside { IfSome beside (λ b. IsLentBeside (world_of_tables self.old) target verb.now b.0 b.1) }
+        ensures ok { IfOk result (λ r. local_step (world_of_tables self.old) target verb.now (loans_beside (world_of_tables self.old) target.exporter beside loans.now) (slice_get (world_of_tables self.old).exporters target.exporter) ≡ (world_of_tables self.new, r)) }
+        ensures err { OnErr result (world_of_tables self.new ≡ world_of_tables self.old) }
+        ensures owners { self.new.owners.items ≡ self.old.owners.items }
+        ensures handles { self.new.handles ≡ self.old.handles }
+    {
+        if let Some((handle, named)) = beside {
+            return self.step_beside(target, verb, loans, handle, named);
+        }
+        let worker = &mut self.exporters[target.exporter];
+        worker.carry_out(target.subject, verb, loans)
     }
 
     /// The handle of an exporter.
@@ -233,47 +331,116 @@ impl Tables {
         owner_in(self.owners.as_slice(), exporter)
     }
 
-    /// What a target that is there does with loans; a new view is given a handle.
-    fn work(&mut self, target: Target, verb: &Verb, loans: &LoanList) -> Made<Reply>
-        requires kept { IsKept self.old }
-        requires fit { LoansFit loans.now }
-        ensures ok { IfOk result (λ r. spec.step_with_loans (world_of_tables self.old) target verb.now loans.now (slice_get (world_of_tables self.old).exporters target.exporter) ≡ (world_of_tables self.new, r)) }
+    /// A vector that is made of the copy of a subject, and the handles of it and of its view.
+    fn add_copy(&mut self, exporter: usize, subject: Subject, copy: Snap) -> Made<Reply>
+        requires { IsCopyAt (slice_get (world_of_tables self.old).exporters exporter) subject copy }
+        ensures ok { IfOk result (λ r. with_copy (world_of_tables self.old) (slice_get (world_of_tables self.old).exporters exporter) subject copy ≡ (world_of_tables self.new, r)) }
         ensures err { OnErr result (world_of_tables self.new ≡ world_of_tables self.old) }
-        ensures owners { self.new.owners.items ≡ self.old.owners.items }
+        ensures owners { IfOk result (λ r. self.new.owners.items ≡ owners_after self.old.owners.items r) }
+        ensures owners_kept { OnErr result (self.new.owners.items ≡ self.old.owners.items) }
+    {
+        let own = self.next_handle();
+        let number = self.next_exporter();
+        let Some(holder) = self.exporters.get(exporter) else {
+            return Ok(Reply::Refused(Fault::UnknownName));
+        };
+        let made = holder.vector_of_copy(self.alloc, subject, copy)?;
+        self.handles.reserve(2)?;
+        self.owners.reserve(1)?;
+        self.exporters.push(made)?;
+        push_before_last(&mut self.handles, Named::Exporter(number));
+        let view = self.next_handle();
+        let named = Named::View {
+            exporter: number,
+            view: 0,
+        };
+        push_reserved(&mut self.handles, named);
+        push_reserved(&mut self.owners, own);
+        Ok(Reply::Pair {
+            exporter: own,
+            view,
+        })
+    }
+
+    /// What is replied to a target whose exporter has stepped: a new view is given a handle, and a new
+    /// exporter one for itself and one for its view. Only where an exporter is made may memory run out.
+    fn answer(&mut self, target: Target, owner: u64, reply: LocalReply) -> Made<Reply>
+        requires room { vec_len self.old.handles < vec_capacity self.old.handles }
+        requires owner { owner ≡ spec.handle_of (world_of_tables self.old) target.exporter }
+        requires copy { IfFresh reply (IsCopyAt (slice_get (world_of_tables self.old).exporters target.exporter) target.subject) }
+        ensures ok { IfOk result (λ r. answered (world_of_tables self.old) target reply ≡ (world_of_tables self.new, r)) }
+        ensures err { OnErr result (world_of_tables self.new ≡ world_of_tables self.old) }
+        ensures only_fresh { OnErr result (IsFresh reply) }
+        ensures owners { IfOk result (λ r. self.new.owners.items ≡ owners_after self.old.owners.items r) }
+        ensures owners_kept { OnErr result (self.new.owners.items ≡ self.old.owners.items) }
     {
         let exporter = target.exporter;
-        if exporter >= self.exporters.len() {
-            return Ok(Reply::Refused(Fault::UnknownName));
-        }
-        let owner = self.owner_of(exporter);
         let handle = self.next_handle();
-        self.handles.reserve(1)?;
-        let worker = &mut self.exporters[exporter];
-        match worker.carry_out(target.subject, verb, loans)? {
+        match reply {
             LocalReply::Ok => Ok(Reply::Ok),
             LocalReply::View(view) => {
                 push_reserved(&mut self.handles, Named::View { exporter, view });
                 Ok(Reply::Handle(handle))
             }
+            LocalReply::Itself => Ok(Reply::Handle(target.handle)),
             LocalReply::Own => Ok(Reply::Handle(owner)),
             LocalReply::Item(item) => Ok(Reply::Item(item)),
+            LocalReply::Items { shape, items } => Ok(Reply::Items { shape, items }),
             LocalReply::Bytes(bytes) => Ok(Reply::Bytes(bytes)),
             LocalReply::Text(text) => Ok(Reply::Text(text)),
             LocalReply::Truth(truth) => Ok(Reply::Truth(truth)),
             LocalReply::Numbers(numbers) => Ok(Reply::Numbers(numbers)),
+            LocalReply::Fresh(copy) => self.add_copy(exporter, target.subject, copy),
             LocalReply::Refused(fault) => Ok(Reply::Refused(fault)),
         }
     }
 
-    /// The same, where the handles of the exporters stay what they are.
-    fn step_with_loans(&mut self, target: Target, verb: &Verb, loans: &LoanList) -> Made<Reply>
+    /// What a target that is there does with loans.
+    fn work(
+        &mut self,
+        target: Target,
+        verb: &Verb,
+        loans: &LoanList,
+        beside: Option<(u64, Named)>,
+    ) -> Made<Reply>
         requires kept { IsKept self.old }
         requires fit { LoansFit loans.now }
-        ensures ok { IfOk result (λ r. spec.step_with_loans (world_of_tables self.old) target verb.now loans.now (slice_get (world_of_tables self.old).exporters target.exporter) ≡ (world_of_tables self.new, r)) }
+        requires beside { IfSome beside (λ b. IsLentBeside (world_of_tables self.old) target verb.now b.0 b.1) }
+        ensures ok { IfOk result (λ r. spec.step_with_loans (world_of_tables self.old) target verb.now (loans_beside (world_of_tables self.old) target.exporter beside loans.now) (slice_get (world_of_tables self.old).exporters target.exporter) ≡ (world_of_tables self.new, r)) }
+        ensures err { OnErr result (world_of_tables self.new ≡ world_of_tables self.old) }
+        ensures owners { IfOk result (λ r. self.new.owners.items ≡ owners_after self.old.owners.items r) }
+        ensures owners_kept { OnErr result (self.new.owners.items ≡ self.old.owners.items) }
+    {
+        fresh_replies_are_copies();
+        let exporter = target.exporter;
+        if exporter >= self.exporters.len() {
+            return Ok(Reply::Refused(Fault::UnknownName));
+        }
+        let owner = self.owner_of(exporter);
+        self.handles.reserve(1)?;
+        let reply = self.local_step(target, verb, loans, beside)?;
+        self.answer(target, owner, reply)
+    }
+
+    /// The same, where the handles of the exporters stay what they are.
+    fn step_with_loans(
+        &mut self,
+        target: Target,
+        verb: &Verb,
+        loans: &LoanList,
+        beside: Option<(u64, Named)>,
+    ) -> Made<Reply>
+        requires kept { IsKept self.old }
+        requires fit { LoansFit loans.now }
+        requires beside { IfSome beside (λ b. IsLentBeside (world_of_tables self.old) target verb.now b.0 b.1) }
+        ensures ok { IfOk result (λ r. spec.step_with_loans (world_of_tables self.old) target verb.now (loans_beside (world_of_tables self.old) target.exporter beside loans.now) (slice_get (world_of_tables self.old).exporters target.exporter) ≡ (world_of_tables self.new, r)) }
         ensures err { OnErr result (world_of_tables self.new ≡ world_of_tables self.old) }
         ensures owned { AreOwners (world_of_tables self.new) self.new.owners.items }
     {
-        match self.work(target, verb, loans) {
+        commands_keep_sound();
+        fresh_replies_are_copies();
+        copies_are_faithful();
+        match self.work(target, verb, loans, beside) {
             Ok(reply) => Ok(reply),
             Err(NoMemory) => Err(NoMemory),
         }
@@ -287,8 +454,9 @@ impl Tables {
         ensures owned { AreOwners (world_of_tables self.new) self.new.owners.items }
     {
         loans_alike_do_the_same();
-        let loans = self.loans(target.exporter, target.subject, verb)?;
-        self.step_with_loans(target, verb, &loans)
+        let beside = self.lent_beside(target, verb);
+        let loans = self.loans(target, verb, beside)?;
+        self.step_with_loans(target, verb, &loans, beside)
     }
 
     /// A command on what a handle names.
@@ -326,6 +494,8 @@ impl Tables {
         ensures kept { IsKept self.new }
     {
         commands_keep_sound();
+        fresh_replies_are_copies();
+        copies_are_faithful();
         match self.step_unchecked(command) {
             Ok(reply) => Ok(reply),
             Err(NoMemory) => Err(NoMemory),

@@ -43,6 +43,7 @@ fn number_of(reply: &Reply) -> i128 {
     match reply {
         Reply::Ok => -1,
         Reply::Handle(handle) => *handle as i128,
+        Reply::Pair { exporter, view } => exporter.wrapping_mul(100).wrapping_add(*view) as i128,
         Reply::Refused(Fault::Kind) => -3,
         Reply::Refused(Fault::UnknownName) => -4,
         _ => -2,
@@ -116,5 +117,26 @@ fn options_are_copied(rt: HostRuntime) -> Result<(), Fail> {
         _ => false,
     };
     assert!(rt; is_same);
+    Ok(())
+}
+
+#[test]
+fn a_copy_has_an_exporter_and_a_view(rt: HostRuntime) -> Result<(), Fail> {
+    let mut world = World::new(rt.alloc());
+    assert_eq!(rt; number_of(&world.step(&new_bytearray(rt.alloc())?)?), 0);
+    assert_eq!(rt; number_of(&world.step(&ask(0, Verb::View))?), 1);
+    assert_eq!(rt; number_of(&world.step(&ask(1, Verb::ToContiguous))?), 203);
+    let name = PropertyName::Obj;
+    assert_eq!(rt;
+        number_of(&world.step(&ask(3, Verb::Property { name }))?),
+        2
+    );
+    let value = Value::One(Scalar::Int(90));
+    assert_eq!(rt; number_of(&world.step(&ask(1, set(value)))?), -1);
+    assert_eq!(rt; world.exporters().len(), 2);
+    let Some(copy) = world.exporters().get(1) else {
+        return Err(Fail::from("an exporter"));
+    };
+    assert_eq!(rt; copy.bytes(), b"abc".as_slice());
     Ok(())
 }

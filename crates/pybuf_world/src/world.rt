@@ -3,7 +3,9 @@ ghost use Rattle.std.specs.Prelude.{◌≡◌, ◌++◌, length, IfOk, OnOk, OnE
 
 use crate::commands::{Command, Reply, ReplyList};
 use crate::tables::Tables;
-use pybuf_exporter::{ExporterState, commands_keep_sound};
+use pybuf_exporter::{
+    ExporterState, commands_keep_sound, copies_are_faithful, fresh_replies_are_copies,
+};
 use pybuf_value::{Fault, Made, NoMemory};
 use std::alloc::Global;
 use std::marker::Model;
@@ -74,6 +76,8 @@ impl World {
         ensures sound { StaysSound self.old commands.now }
     {
         commands_keep_sound();
+        fresh_replies_are_copies();
+        copies_are_faithful();
         self.tables.run(commands, replies)
     }
 

@@ -5,13 +5,18 @@ pub returns : goal.returns
 returns c =
     rows_safe (record {
       view = c.view_is_safe.ensures;
+      range = c.range_is_safe.ensures;
       slice = c.slice_is_safe.ensures;
       cast = c.cast_is_safe.ensures;
       release = c.release_is_safe.ensures;
+      enter = c.enter_is_safe.ensures;
+      contiguous = c.contiguous_is_copied.ensures;
       toreadonly = c.toreadonly_is_safe.ensures;
       get = c.get_is_safe.ensures;
       bytes = c.bytes_is_safe.ensures;
       len = c.len_is_safe.ensures;
       property = c.property_is_safe.ensures;
+      tolist = c.tolist_is_safe.ensures;
       set = c.set_is_safe.ensures;
+      assign = c.assign_is_safe.ensures;
     })

@@ -1,4 +1,4 @@
-use Rattle.std.proofs.Common.{to_z, of_z, ◌≡◌, ℕ, ◌+◌, ◌<◌, pos, List, [], ◌∷◌, length, get_or, ap, sym, ◌∙◌, subst}
+use Rattle.std.proofs.Common.{to_z, of_z, ◌≡◌, ℕ, ◌<◌, pos, [], ◌∷◌, length, ap, sym, ◌∙◌, subst}
 use Rattle.std.specs.Prelude.{ℤ, ◌+ℤ◌, ◌≤ℤ◌, ◌<ℤ◌, ◌^◌, nat_abs, slice_index}
 use Rattle.std.specs.Int.{w64}
 use Rattle.std.proofs.lemmas.Int.{to_z-of_z}

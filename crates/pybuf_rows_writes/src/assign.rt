@@ -1,0 +1,337 @@
+//! `set` of a view by a slice: items are copied over those that the slice picks.
+ghost use Rattle.std.specs.Prelude.{◌≡◌, [], ◌∷◌, true, false, length, codes, Some, Ok, Err, IfOk, MatchResult};
+ghost use Rattle.std.specs.Option.{option_copied, ForSome};
+ghost use Rattle.pybuf_value.specs.Halting.{Gives};
+ghost use Rattle.pybuf_desc.specs.Layouts.{Layout, LiesInside};
+ghost use Rattle.pybuf_command.specs.declared.kinds.ExporterKind.{ExporterKind};
+ghost use Rattle.pybuf_command.specs.declared.kinds.Subject.TheVariants as subjects;
+ghost use Rattle.pybuf_command.specs.Handles.{handle_of_value};
+ghost use Rattle.pybuf_command.specs.Fits.{LoansFit, fits, fits_snap, is_row_of};
+ghost use Rattle.pybuf_memoryview.specs.Snaps.{snap_of_layout};
+ghost use Rattle.pybuf_state.specs.Exporter.{Exporter, exports_of, new_exporter};
+ghost use Rattle.pybuf_state.specs.Loans.{lent_for_each, snap_in};
+ghost use Rattle.pybuf_state.specs.Snaps.{snap_of_exporter, snap_of_subject};
+ghost use Rattle.pybuf_state.specs.Answers.{exporter_of, IsWhole, Answers};
+ghost use Rattle.pybuf_state.specs.Laws.{IsSoundLayout};
+ghost use Rattle.pybuf_rows_writes.specs.Assign as spec;
+
+use pybuf_command::{Loan, LoanList, LocalReply, Subject, is_byte_format, loan_of};
+use pybuf_memoryview::{KeptLayout, content_of, first_place, is_none, lay, lay_across, lay_moved};
+use pybuf_slice::SaturatedSlice;
+use pybuf_state::Parts;
+use pybuf_value::{Fault, Halt, PySlice, Scalar, Snap, SnapKind, Value};
+
+/// The layout of the items that are written.
+fn target(parts: &Parts, view: usize, slice: &PySlice, value: &Value) -> Result<KeptLayout, Halt>
+    requires { IsWhole parts.now }
+    ensures exact { Gives (spec.assign_target (exporter_of parts.now) view slice.now value.now) result }
+    ensures one_dimension { IfOk result (λ target. length target.shape ≡ 1) }
+    ensures inside { IfOk result (λ target. LiesInside (length parts.now.bytes.items) target) }
+{
+    pybuf_desc::slices_stay_inside();
+    let layout = parts.live_layout(view)?;
+    if layout.is_readonly() {
+        return Err(Halt::Refused(Fault::Kind));
+    }
+    if is_none(value) {
+        return Err(Halt::Refused(Fault::Kind));
+    }
+    if layout.ndim() == 0 {
+        return Err(Halt::Refused(Fault::Kind));
+    }
+    if layout.ndim() != 1 {
+        return Err(Halt::Refused(Fault::NotImplemented));
+    }
+    let slice = SaturatedSlice::with_slice(slice)?;
+    let target = layout.sliced(parts.alloc, slice)?;
+    Ok(target)
+}
+
+/// Whether a shape is one dimension of so many entries.
+fn is_row_of(count: usize, shape: &[usize]) -> bool
+    ensures { result ≡ is_row_of count shape.now }
+{
+    match shape {
+        [n] => *n == count,
+        _ => false,
+    }
+}
+
+/// Whether items have the format, the item size and the shape of those that are written.
+fn has_form_of(target: &KeptLayout, format: &[u8], itemsize: usize, shape: &[usize]) -> bool
+    ensures { result ≡ spec.has_form_of target.now format.now itemsize shape.now }
+{
+    format == target.format_text().as_slice()
+        && itemsize == target.itemsize()
+        && is_row_of(target.first_entry(), shape)
+}
+
+/// The same of so many bytes.
+fn takes_bytes(target: &KeptLayout, count: usize) -> bool
+    ensures { result ≡ spec.has_form_of target.now (codes "B") 1 (count ∷ []) }
+{
+    is_byte_format(target.format_text().as_slice())
+        && target.itemsize() == 1
+        && target.first_entry() == count
+}
+
+/// The same of the items of another view.
+fn has_form_of_layout(target: &KeptLayout, source: &KeptLayout) -> bool
+    ensures { result ≡ spec.has_form_of target.now source.now.format source.now.itemsize source.now.shape }
+{
+    source.format_text().as_slice() == target.format_text().as_slice()
+        && source.itemsize() == target.itemsize()
+        && source.ndim() == 1
+        && source.first_entry() == target.first_entry()
+}
+
+/// Whether a snap is of an iterator.
+fn is_iterator(kind: SnapKind) -> bool
+    ensures { result ≡ spec.is_iterator kind }
+{
+    match kind {
+        SnapKind::Iterator => true,
+        _ => false,
+    }
+}
+
+/// Copies bytes that lie outside the exporter.
+fn from_bytes(parts: &mut Parts, target: &KeptLayout, bytes: &[u8]) -> Result<LocalReply, Halt>
+    requires whole { IsWhole parts.old }
+    requires one_dimension { length target.now.shape ≡ 1 }
+    requires inside { LiesInside (length parts.old.bytes.items) target.now }
+    ensures answer { (kind : ExporterKind) → Answers (spec.assigned (exporter_of parts.old) target.now (snap_of_exporter (new_exporter kind bytes.now))) (exporter_of parts.old) result (exporter_of parts.new) }
+    ensures counted { parts.new.exports ≡ exports_of (exporter_of parts.new) }
+{
+    if !takes_bytes(target, bytes.len()) {
+        return Err(Halt::Refused(Fault::Value));
+    }
+    lay(parts.bytes.as_mut_slice(), target, bytes);
+    Ok(LocalReply::Ok)
+}
+
+/// Copies the items of a snap that is no iterator's.
+fn from_snap(parts: &mut Parts, target: &KeptLayout, snap: &Snap) -> Result<LocalReply, Halt>
+    requires whole { IsWhole parts.old }
+    requires one_dimension { length target.now.shape ≡ 1 }
+    requires inside { LiesInside (length parts.old.bytes.items) target.now }
+    requires fits { fits_snap snap.now ≡ true }
+    requires no_iterator { spec.is_iterator snap.now.kind ≡ false }
+    ensures answer { Answers (spec.assigned (exporter_of parts.old) target.now snap.now) (exporter_of parts.old) result (exporter_of parts.new) }
+    ensures counted { parts.new.exports ≡ exports_of (exporter_of parts.new) }
+{
+    if snap.released {
+        return Err(Halt::Refused(Fault::Value));
+    }
+    if !has_form_of(
+        target,
+        snap.format.as_slice(),
+        snap.itemsize,
+        snap.shape.as_slice(),
+    ) {
+        return Err(Halt::Refused(Fault::Value));
+    }
+    lay(parts.bytes.as_mut_slice(), target, snap.content.as_slice());
+    Ok(LocalReply::Ok)
+}
+
+/// Copies what was lent of another exporter, as it stood.
+fn from_other(parts: &mut Parts, target: &KeptLayout, snap: &Snap) -> Result<LocalReply, Halt>
+    requires whole { IsWhole parts.old }
+    requires one_dimension { length target.now.shape ≡ 1 }
+    requires inside { LiesInside (length parts.old.bytes.items) target.now }
+    requires fits { fits_snap snap.now ≡ true }
+    ensures answer { Answers (spec.assigned_from (exporter_of parts.old) target.now (Some snap.now)) (exporter_of parts.old) result (exporter_of parts.new) }
+    ensures counted { parts.new.exports ≡ exports_of (exporter_of parts.new) }
+{
+    if is_iterator(snap.kind) {
+        return Err(Halt::Refused(Fault::Kind));
+    }
+    from_snap(parts, target, snap)
+}
+
+/// Copies all bytes of the exporter itself: by one move where the target has no gaps, else as they
+/// were before the first is written.
+fn from_own(parts: &mut Parts, target: &KeptLayout) -> Result<LocalReply, Halt>
+    requires whole { IsWhole parts.old }
+    requires one_dimension { length target.now.shape ≡ 1 }
+    requires inside { LiesInside (length parts.old.bytes.items) target.now }
+    ensures answer { Answers (spec.assigned (exporter_of parts.old) target.now (snap_of_exporter (exporter_of parts.old))) (exporter_of parts.old) result (exporter_of parts.new) }
+    ensures counted { parts.new.exports ≡ exports_of (exporter_of parts.new) }
+{
+    if !takes_bytes(target, parts.bytes.len()) {
+        return Err(Halt::Refused(Fault::Value));
+    }
+    if target.is_contiguous() {
+        lay_moved(parts.bytes.as_mut_slice(), target, 0);
+        return Ok(LocalReply::Ok);
+    }
+    let content = Vec::from_slice(parts.alloc, parts.bytes.as_slice())?;
+    lay(parts.bytes.as_mut_slice(), target, content.as_slice());
+    Ok(LocalReply::Ok)
+}
+
+/// The layout of a view of an exporter that items are copied from.
+fn source(parts: &Parts, view: usize) -> Result<&KeptLayout, Fault>
+    requires { IsWhole parts.now }
+    ensures exact { MatchResult result (λ l. spec.source_of (snap_of_subject (exporter_of parts.now) (subjects.View view)) ≡ Ok (snap_of_layout parts.now.bytes.items l.now false)) (λ f. (e : Exporter) (target : Layout) → spec.assigned_from e target (snap_of_subject (exporter_of parts.now) (subjects.View view)) ≡ Err f) }
+    ensures sound { IfOk result (λ l. IsSoundLayout (exporter_of parts.now) l.now) }
+{
+    match parts.live_layout(view) {
+        Ok(layout) => Ok(layout),
+        Err(Fault::Value) => Err(Fault::Value),
+        Err(_) => Err(Fault::Kind),
+    }
+}
+
+/// Copies the items of a view of the exporter itself: by one move where neither side has gaps, else
+/// as they were before the first byte is written.
+fn from_view(parts: &mut Parts, target: &KeptLayout, view: usize) -> Result<LocalReply, Halt>
+    requires whole { IsWhole parts.old }
+    requires one_dimension { length target.now.shape ≡ 1 }
+    requires inside { LiesInside (length parts.old.bytes.items) target.now }
+    ensures answer { Answers (spec.assigned_from (exporter_of parts.old) target.now (snap_of_subject (exporter_of parts.old) (subjects.View view))) (exporter_of parts.old) result (exporter_of parts.new) }
+    ensures counted { parts.new.exports ≡ exports_of (exporter_of parts.new) }
+{
+    pybuf_memoryview::contents_are_whole();
+    let source = source(parts, view)?;
+    if !has_form_of_layout(target, source) {
+        return Err(Halt::Refused(Fault::Value));
+    }
+    if target.is_contiguous() && source.is_contiguous() {
+        let from = first_place(source);
+        lay_moved(parts.bytes.as_mut_slice(), target, from);
+        return Ok(LocalReply::Ok);
+    }
+    let content = content_of(parts.alloc, parts.bytes.as_slice(), source)?;
+    lay(parts.bytes.as_mut_slice(), target, content.as_slice());
+    Ok(LocalReply::Ok)
+}
+
+/// Copies what a handle is lent as.
+fn from_loan(
+    parts: &mut Parts,
+    target: &KeptLayout,
+    loan: Option<&Loan>,
+) -> Result<LocalReply, Halt>
+    requires whole { IsWhole parts.old }
+    requires one_dimension { length target.now.shape ≡ 1 }
+    requires inside { LiesInside (length parts.old.bytes.items) target.now }
+    requires fits { ForSome (option_copied loan) (λ l. fits l ≡ true) }
+    ensures answer { Answers (spec.assigned_from (exporter_of parts.old) target.now (snap_in (exporter_of parts.old) (option_copied loan.entry))) (exporter_of parts.old) result (exporter_of parts.new) }
+    ensures counted { parts.new.exports ≡ exports_of (exporter_of parts.new) }
+{
+    match loan {
+        Some(Loan::Own) => from_own(parts, target),
+        Some(Loan::View(view)) => from_view(parts, target, *view),
+        Some(Loan::Other(snap)) => from_other(parts, target, snap),
+        _ => Err(Halt::Refused(Fault::Kind)),
+    }
+}
+
+/// Copies what a value is or names.
+fn from_value(
+    parts: &mut Parts,
+    target: &KeptLayout,
+    value: &Value,
+    loans: &LoanList,
+) -> Result<LocalReply, Halt>
+    requires whole { IsWhole parts.old }
+    requires one_dimension { length target.now.shape ≡ 1 }
+    requires inside { LiesInside (length parts.old.bytes.items) target.now }
+    requires fit { LoansFit loans.now }
+    ensures answer { Answers (spec.assigned_of_value (exporter_of parts.old) target.now value.now (lent_for_each (exporter_of parts.old) loans.now (handle_of_value value.now))) (exporter_of parts.old) result (exporter_of parts.new) }
+    ensures counted { parts.new.exports ≡ exports_of (exporter_of parts.new) }
+{
+    match value {
+        Value::One(Scalar::Bytes(bytes)) => from_bytes(parts, target, bytes.as_slice()),
+        Value::One(Scalar::Handle(handle)) => {
+            from_loan(parts, target, loan_of(loans.as_slice(), *handle))
+        }
+        _ => Err(Halt::Refused(Fault::Kind)),
+    }
+}
+
+/// Copies over the items that a slice of a view picks.
+pub fn of_view(
+    parts: &mut Parts,
+    view: usize,
+    slice: &PySlice,
+    value: &Value,
+    loans: &LoanList,
+) -> Result<LocalReply, Halt>
+    requires whole { IsWhole parts.old }
+    requires fit { LoansFit loans.now }
+    ensures answer { Answers (spec.assign_of_view (exporter_of parts.old) view slice.now value.now (lent_for_each (exporter_of parts.old) loans.now (handle_of_value value.now))) (exporter_of parts.old) result (exporter_of parts.new) }
+    ensures counted { parts.new.exports ≡ exports_of (exporter_of parts.new) }
+{
+    let target = target(parts, view, slice, value)?;
+    from_value(parts, &target, value, loans)
+}
+
+/// Copies the items of a view of another exporter from where they lie, row by row.
+fn from_view_beside(
+    parts: &mut Parts,
+    target: &KeptLayout,
+    lender: &Parts,
+    view: usize,
+) -> Result<LocalReply, Halt>
+    requires whole { IsWhole parts.old }
+    requires lender_whole { IsWhole lender.now }
+    requires one_dimension { length target.now.shape ≡ 1 }
+    requires inside { LiesInside (length parts.old.bytes.items) target.now }
+    ensures answer { Answers (spec.assigned_from (exporter_of parts.old) target.now (snap_of_subject (exporter_of lender.now) (subjects.View view))) (exporter_of parts.old) result (exporter_of parts.new) }
+    ensures counted { parts.new.exports ≡ exports_of (exporter_of parts.new) }
+{
+    let source = source(lender, view)?;
+    if !has_form_of_layout(target, source) {
+        return Err(Halt::Refused(Fault::Value));
+    }
+    lay_across(
+        parts.bytes.as_mut_slice(),
+        target,
+        lender.bytes.as_slice(),
+        source,
+    );
+    Ok(LocalReply::Ok)
+}
+
+/// Copies a subject of another exporter from where its bytes lie.
+fn from_beside(
+    parts: &mut Parts,
+    target: &KeptLayout,
+    lender: &Parts,
+    lent: Subject,
+) -> Result<LocalReply, Halt>
+    requires whole { IsWhole parts.old }
+    requires lender_whole { IsWhole lender.now }
+    requires one_dimension { length target.now.shape ≡ 1 }
+    requires inside { LiesInside (length parts.old.bytes.items) target.now }
+    ensures answer { Answers (spec.assigned_from (exporter_of parts.old) target.now (snap_of_subject (exporter_of lender.now) lent)) (exporter_of parts.old) result (exporter_of parts.new) }
+    ensures counted { parts.new.exports ≡ exports_of (exporter_of parts.new) }
+{
+    match lent {
+        Subject::Own => from_bytes(parts, target, lender.bytes.as_slice()),
+        Subject::View(view) => from_view_beside(parts, target, lender, view),
+        Subject::Iter(_) => Err(Halt::Refused(Fault::Kind)),
+    }
+}
+
+/// Copies over the items that a slice of a view picks, from another exporter that is lent itself, or
+/// from a view of it: no byte is copied between.
+pub fn of_view_beside(
+    parts: &mut Parts,
+    view: usize,
+    slice: &PySlice,
+    value: &Value,
+    lender: &Parts,
+    lent: Subject,
+) -> Result<LocalReply, Halt>
+    requires whole { IsWhole parts.old }
+    requires lender_whole { IsWhole lender.now }
+    ensures answer { Answers (spec.assign_beside (exporter_of parts.old) view slice.now value.now (snap_of_subject (exporter_of lender.now) lent)) (exporter_of parts.old) result (exporter_of parts.new) }
+    ensures counted { parts.new.exports ≡ exports_of (exporter_of parts.new) }
+{
+    let target = target(parts, view, slice, value)?;
+    from_beside(parts, &target, lender, lent)
+}
