@@ -2,16 +2,19 @@
 //! commands and reply. Everything that a caller needs is named here.
 #![tactic(auto)]
 
+pub use pybuf_buffer::{PyBuffer, Steps};
 pub use pybuf_command::{
     ExporterKind, Loan, LoanList, LocalCommand, LocalReply, PropertyName, Subject, Verb,
 };
 pub use pybuf_exporter::{
-    ExporterState, casts_share_their_bytes, commands_keep_sound, contiguity_is_of_strides,
-    items_are_read, lengths_stay, loans_alike_do_the_same, readonly_bytes_stay,
-    refused_commands_change_nothing, slicing_back_twice_is_nothing, writes_are_seen,
+    ExporterState, assignments_are_by_value, casts_share_their_bytes, commands_keep_sound,
+    contiguity_is_of_strides, copies_are_faithful, fresh_replies_are_copies, items_are_read,
+    lengths_stay, lists_hold_the_items, loans_alike_do_the_same, readonly_bytes_stay,
+    refused_commands_change_nothing, shaped_casts_share_their_bytes, slicing_back_twice_is_nothing,
+    writes_are_seen,
 };
 pub use pybuf_world::{
-    ByteInnerNewOptions, Command, Named, Reply, ReplyList, World, handles_stay,
-    refusals_change_nothing, releasing_twice_is_once, world_lengths_stay,
-    world_readonly_bytes_stay,
+    ByteInnerNewOptions, Command, Named, Reply, ReplyList, World,
+    copies_are_exporters_of_their_own, handles_stay, refusals_change_nothing,
+    releasing_twice_is_once, world_lengths_stay, world_readonly_bytes_stay,
 };

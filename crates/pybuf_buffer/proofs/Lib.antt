@@ -1,0 +1,4 @@
+pub mod Live
+pub mod Ranges
+pub mod Adding
+pub mod Appended

@@ -1,0 +1,16 @@
+use Rattle.std.proofs.Common.{◌≡◌, ℕ, true, length, sym, subst, ap, ◌∙◌, rules}
+use Rattle.pybuf_desc.specs.Layouts.{Layout, bytes_layout}
+use Rattle.pybuf_desc.specs.Places.{layout_at}
+use Rattle.pybuf_command.specs.declared.kinds.ExporterKind.TheVariants as kinds
+use Rattle.pybuf_state.specs.Exporter.{Exporter, new_exporter, with_view}
+use Rattle.pybuf_state.specs.Laws.{IsSoundLayout}
+use Rattle.pybuf_buffer.proofs.Adding.{vector_sound, vector_made}
+use Rattle.pybuf_buffer.proofs.buffer.PyBuffer.from_byte_vector.Goals as goal
+
+pub add_view-requires-clause-sound : goal.add_view-requires-clause-sound
+add_view-requires-clause-sound c =
+    vector_sound c.descriptors_stand_for_one_view.ensures c.whole_layouts_are_sound.ensures c.new-state.result c.in_ok-descriptor.descriptor c.args.bytes.items c.len.result (search rules) (search rules) c.in_ok-descriptor.ensures.stands
+
+pub returns-clause-state : goal.returns-clause-state
+returns-clause-state c =
+    vector_made c.descriptors_stand_for_one_view.ensures c.new-state.result c.add_view.new.self c.in_ok-descriptor.descriptor c.args.bytes.items c.len.result c.in_ok-view.view (search rules) (search rules) c.in_ok-descriptor.ensures.stands c.in_ok-view.ensures.ok

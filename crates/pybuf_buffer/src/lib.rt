@@ -1,0 +1,14 @@
+//! Lent buffers: Python's buffer protocol for users of the library. A buffer names a view of an
+//! exporter, whose bytes it lends without a copy where they lie together, and appends item by item or
+//! row by row where they don't.
+#![tactic(auto)]
+
+mod append;
+mod buffer;
+mod steps;
+
+pub use buffer::PyBuffer;
+pub use steps::Steps;
+
+#[cfg(test)]
+mod tests;
