@@ -15,7 +15,7 @@ import sys
 
 sys.dont_write_bytecode = True
 
-from python_objects import NATIVE_CODES, Items, NoName, SlicesAreBytes
+from python_objects import NATIVE_CODES, Items, Reply, SlicesAreBytes, row_major
 
 WORD = 2**63
 
@@ -25,8 +25,10 @@ class Ours(SlicesAreBytes):
 
     def __init__(self):
         super().__init__()
-        # the stride of each view
-        self.stride = {}
+        # the strides of each view
+        self.strides = {}
+        # the handles of copies of views
+        self.vectors = set()
 
     def reply(self, line):
         words = line.split(" ")
@@ -36,51 +38,97 @@ class Ours(SlicesAreBytes):
         return super().reply(line)
 
     def is_unknown(self, words):
-        """A subject or a property of another kind, and a tuple as the key of a view."""
+        """A subject or a property of another kind, and a slice of a bytearray that is assigned."""
         if words[0] == "new":
             return False
         handle = int(words[1][1:])
-        is_view = handle in self.exporters
+        if handle >= len(self.objects):
+            return True
+        is_view, is_vector = handle in self.exporters, handle in self.vectors
         kinds = {
             "prop": is_view != (words[-1] == "exports"),
-            "cast": is_view,
-            "release": is_view,
-            "toreadonly": is_view,
-            "set": is_view or isinstance(self.objects[handle], bytearray),
-            "get": not (is_view and words[-1][0] == "("),
+            "range": not is_view,
+            "get": not is_vector,
+            "set": is_view or not is_vector and isinstance(self.objects[handle], bytearray) and not self.is_slice(words[-2]),
         }
-        return not kinds.get(words[0], True)
+        return not kinds.get(words[0], is_view or words[0] in ("view", "bytes", "len"))
 
-    def view_made(self, made, of, stride):
+    def is_slice(self, word):
+        return ":" in word and word[0] not in "'(["
+
+    def view_made(self, made, of, strides):
         reply = self.named(made, self.exporter_of(of))
-        self.stride[int(reply[1:])] = stride
+        self.strides[int(reply[1:])] = tuple(strides)
         return reply
 
     def is_contiguous(self, handle):
         view = self.objects[handle]
-        return len(view) < 2 or self.stride[handle] == view.itemsize
+        return not view.nbytes or all(entries < 2 or stride == kept for entries, stride, kept in zip(view.shape, self.strides[handle], row_major(view)))
 
     def do_view(self, handle, subject):
-        made = subject[:] if isinstance(subject, Items) else memoryview(subject)
-        return self.view_made(made, handle, self.stride.get(handle, 1))
+        made = subject.alike(subject.memory[:], subject.live()) if isinstance(subject, Items) else memoryview(subject)
+        return self.view_made(made, handle, self.strides.get(handle, (1,)))
+
+    def do_range(self, handle, subject, start, stop):
+        reply = super().do_range(handle, subject, start, stop)
+        self.strides[int(reply[1:])] = (1,)
+        return reply
 
     def do_toreadonly(self, handle, subject):
-        return self.view_made(subject.toreadonly(), handle, self.stride[handle])
+        return self.view_made(subject.toreadonly(), handle, self.strides[handle])
+
+    def do_len(self, handle, subject):
+        if handle in self.exporters and not subject.shape:
+            raise TypeError("no dimension")
+        return super().do_len(handle, subject)
+
+    def do_tolist(self, handle, subject):
+        return subject.tolist() if subject.shape else [subject[()]]
+
+    def do_contig(self, handle, subject):
+        size, content = subject.nbytes, subject.tobytes()
+        copy = content if subject.readonly else bytearray(content)
+        if isinstance(subject, Items):
+            made = Items(memoryview(copy), subject.format, subject.reader.format, subject.shape)
+        elif len(subject.shape) == 1:
+            made = memoryview(copy).cast(subject.format)
+        else:
+            assert size
+            made = memoryview(copy).cast(subject.format, subject.shape)
+        exporter = self.named(copy)
+        number = len(self.objects) - 1
+        self.vectors.add(number)
+        return Reply(f"{exporter} {self.view_made(made, number, row_major(subject))}")
+
+    def check_key(self, subject, key):
+        """What is looked at of the key of a view before anything else."""
+        if not subject.shape and key is not ... and key != ():
+            raise TypeError("no key of a view without dimensions")
+        numbers = key if isinstance(key, tuple) else (key,)
+        if all(isinstance(it, int) for it in numbers) and not all(-WORD <= it < WORD for it in numbers):
+            raise IndexError("past a word")
 
     def do_get(self, handle, subject, key):
-        if handle in self.exporters and isinstance(key, slice):
+        if handle not in self.exporters:
+            return super().do_get(handle, subject, key)
+        subject.nbytes
+        self.check_key(subject, key)
+        if isinstance(key, slice):
             found = subject[key]
-            step = max(-WORD, min(WORD - 1, 1 if key.step is None else int(key.step)))
-            stride = max(-WORD, min(WORD - 1, self.stride[handle] * step))
-            return self.view_made(found, handle, stride)
+            clamped = lambda stride: max(-WORD, min(WORD - 1, stride))
+            first, *others = self.strides[handle]
+            return self.view_made(found, handle, [clamped(first * clamped(1 if key.step is None else int(key.step))), *others])
         return super().do_get(handle, subject, key)
 
     def do_set(self, handle, subject, key, value):
         if handle not in self.exporters:
             return super().do_set(handle, subject, key, value)
-        len(subject)
+        subject.nbytes
         if subject.readonly or value is None:
             raise TypeError("read-only, or None")
+        self.check_key(subject, key)
+        if isinstance(key, slice):
+            return self.assign(subject, key, value)
         subject[key]
         text = re.sub("(?<![0-9])0+[^0-9sp]|[0-9@=<>!x]", "", subject.format)
         if text == "?" and not isinstance(value, int):
@@ -100,13 +148,39 @@ class Ours(SlicesAreBytes):
         except (ValueError, struct.error):
             raise TypeError("no value of the format")
 
+    def assign(self, subject, key, source):
+        """A slice of a view is assigned, by the bytes of the source as they were before."""
+        if len(subject.shape) != 1:
+            raise NotImplementedError("several dimensions")
+        target = subject[key]
+        if not isinstance(source, (bytes, bytearray, memoryview, Items)):
+            raise TypeError("no bytes")
+        if isinstance(source, (bytes, bytearray)):
+            source = memoryview(source)
+        if (source.format, source.itemsize, source.shape) != (target.format, target.itemsize, target.shape):
+            raise ValueError("other items, or another number of them")
+        before = memoryview(source.tobytes())
+        if isinstance(target, Items):
+            target[:] = Items(before, target.format, target.reader.format) if before.nbytes else source
+        else:
+            target[:] = before.cast(target.format)
+        return Reply("ok")
+
     def place_of(self, view):
         return next(at for at, it in enumerate(self.objects) if it is view)
 
-    def do_cast(self, handle, subject, text):
-        len(subject)
+    def do_cast(self, handle, subject, text, *shape):
+        subject.nbytes
         if not self.is_contiguous(handle) or not isinstance(text, str):
             raise TypeError("not contiguous, or no text")
+        if shape and (not isinstance(shape[0], (list, tuple)) or any(isinstance(it, slice) for it in shape[0])):
+            raise TypeError("no shape")
+        if (shape or len(subject.shape) != 1) and 0 in subject.shape:
+            raise TypeError("no items")
+        if shape and len(subject.shape) != 1 and len(shape[0]) != 1:
+            raise TypeError("several dimensions on both sides")
+        if shape and len(shape[0]) > 64:
+            raise ValueError("too many dimensions")
         read = text.replace("u", "i") if text[0] not in "=<>!" else text
         if re.search("[efdPu]", read):
             raise struct.error("no code")
@@ -122,25 +196,42 @@ class Ours(SlicesAreBytes):
             memory = empty.toreadonly() if subject.readonly else empty
         code = text.removeprefix("@")
         if len(code) == 1 and code in NATIVE_CODES:
-            made = memory.cast(text)
+            made = memory.cast(text, *shape)
         else:
-            made = Items(memory, text, read)
-        return self.view_made(made, handle, size)
+            made = Items(memory, text, read, self.shape_of(subject.nbytes, size, *shape))
+        return self.view_made(made, handle, row_major(made))
+
+    def shape_of(self, length, size, shape=None):
+        """A shape of so many bytes, looked at as Python does for native formats."""
+        product = size
+        for it in shape or ():
+            if not isinstance(it, int):
+                raise TypeError("no number")
+            if not -WORD <= it < WORD:
+                raise OverflowError("past a word")
+            if it <= 0 or it > (WORD - 1) // product:
+                raise ValueError("no entries, or too many")
+            product *= it
+        if shape is not None and product != length:
+            raise TypeError("other than the bytes")
+        return shape if shape is None else tuple(map(int, shape))
 
     def property(self, handle, subject, name):
         if handle in self.exporters:
-            len(subject)
+            subject.nbytes
         if name == "suboffsets":
-            return (0,)
+            return (0,) * len(subject.shape)
         if name == "strides":
-            return (self.stride[handle],)
+            return self.strides[handle]
         if name.endswith("contiguous"):
-            return self.is_contiguous(handle)
+            return self.is_contiguous(handle) and (name[0] != "f" or len(subject.shape) < 2)
         return super().property(handle, subject, name)
 
 
 NUMBERS = [sign * it + more for it in (0, 1, 2**7, 2**8, 2**15, 2**16, 2**31, 2**32, 2**63, 2**64, 2**126) for sign in (1, -1) for more in (-1, 0, 1)]
 FORMATS = ["4s", "2s", "2H", "BH", "<Bb2x", ">i", "!q", "4p", "2p", "xH", "3xB", "u", "@u", "2u", "<u", "HB", "BHB", "<hH", ">2Hi", "2?", "2c", "8x", "x?", "@cxH", "0HB", "B0H", "B0Q", "0s", "3", "@", "d", "<n", "y", "HB0I", "B2", "<<B", "2B2", "99999999999999999999B", "4611686018427387904H"]
+# how often each is drawn
+VERBS = [verb for verb, often in {"get": 10, "set": 10, "cast": 8, "prop": 4, "bytes": 3, "tolist": 3, "view": 2, "release": 2, "toreadonly": 2, "len": 1, "range": 1, "contig": 1, "enter": 1, "exit": 1}.items() for _ in range(often)]
 PROPERTIES = "exports obj nbytes readonly itemsize ndim shape strides suboffsets format contiguous c_contiguous f_contiguous".split()
 
 
@@ -175,10 +266,21 @@ class Drawn:
         return None if at >= len(self.world.objects) or at in self.world.released else self.world.objects[at]
 
     def place(self, subject):
-        """An index, mostly of an item."""
+        """An index or a tuple, mostly of an item."""
         if subject is None or self.draw.random() < 0.1:
             return self.number()
-        return str(self.draw.randrange(-len(subject), len(subject) + 1))
+        shape = getattr(subject, "shape", (len(subject),))
+        parts = [str(self.draw.randrange(-entries, entries + 1)) for entries in shape]
+        if len(parts) == 1 and self.draw.random() < 0.9:
+            return parts[0]
+        odd = self.draw.random()
+        if odd < 0.1:
+            parts.append(self.scalar())
+        elif odd < 0.2:
+            parts = parts[1:]
+        elif odd < 0.25:
+            return "..."
+        return f"({','.join(parts)})"
 
     def content(self, subject):
         """A value that an item might take."""
@@ -193,6 +295,22 @@ class Drawn:
         odd = lambda: self.one([self.bytes, self.handle])() if self.draw.random() < 0.02 else part()
         step = self.one(["None", "1", "-1", "2", "-2", "3", odd()])
         return f"{odd()}:{odd()}:{step}"
+
+    def assigned(self, subject):
+        """A slice, and what might be assigned to it."""
+        sources = [at for at, it in enumerate(self.world.objects) if at not in self.world.released and getattr(it, "format", "B") == getattr(subject, "format", "B")]
+        if subject is None or not sources or self.draw.random() < 0.2:
+            return f"{self.slice()} {self.value()}"
+        source = self.one(sources[-8:])
+        found = self.world.objects[source]
+        count, room = len(found) if getattr(found, "shape", "1") else 1, len(subject) if getattr(subject, "shape", "1") else 1
+        step = self.one([-3, -2, -1, -1, 1, 1, 2, 3])
+        span = max(0, count - 1) * abs(step)
+        if span >= room:
+            return f"{self.slice()} h{source}"
+        start = self.draw.randrange(room - span) + (span if step < 0 else 0)
+        stop = start + count * step
+        return f"{start}:{stop if stop >= 0 else None}:{step} h{source}"
 
     def value(self):
         kind = self.draw.random()
@@ -212,23 +330,54 @@ class Drawn:
             return f"'{self.one(['', '@', '<', '>'])}{''.join(parts)}'"
         return self.value()
 
+    def shape(self, subject, text):
+        """A shape, mostly of as many items as there are."""
+        if subject is None or self.draw.random() < 0.1:
+            return self.value()
+        try:
+            size = max(1, struct.calcsize(text.strip("'")))
+        except struct.error:
+            size = 1
+        parts, left = [], subject.nbytes // size if hasattr(subject, "nbytes") else 1
+        while left > 1 and self.draw.random() < 0.8:
+            part = self.one([it for it in (1, 2, 3, 4, left) if left % it == 0])
+            parts.append(str(part))
+            left //= part
+        if left != 1:
+            parts.append(str(left))
+        if self.draw.random() < 0.1:
+            parts.append(self.scalar())
+        return f"[{','.join(parts)}]" if self.draw.random() < 0.8 else f"({','.join(parts)})"
+
     def line(self):
         kind = self.draw.random()
         if kind < 0.02 or not self.world.objects:
             size = self.one([0, 1, 2, 4, 8, 8, 12, 16, 16, 24])
             return f"new {self.one(['bytes', 'bytearray', 'bytearray'])} x{self.draw.randbytes(size).hex()}"
-        verb = self.one("view get get get get set set set set set cast cast cast cast prop prop bytes bytes len release toreadonly".split())
-        if verb == "release" and self.draw.random() < 0.5 or kind < 0.05:
+        verb = self.one(VERBS)
+        if verb in ("release", "exit") and self.draw.random() < 0.7 or kind < 0.05:
             verb = "view"
-        handle = self.handle()
+        handles = [self.handle() for _ in range(4)]
+        # mostly of a subject that has the command
+        handle = next((it for it in handles if self.draw.random() < 0.1 or not self.world.is_unknown([verb, it, "0", "0"])), handles[0])
         subject = self.subject(handle)
         if verb == "get":
             return f"get {handle} {self.one([lambda: self.place(subject), self.slice, self.slice, self.value])()}"
         if verb == "set":
-            key = self.place(subject) if self.draw.random() < 0.9 else self.scalar()
+            if self.draw.random() < 0.3:
+                return f"set {handle} {self.assigned(subject)}"
+            key = self.place(subject) if self.draw.random() < 0.9 else self.value()
             return f"set {handle} {key} {self.content(subject) if self.draw.random() < 0.8 else self.value()}"
         if verb == "cast":
-            return f"cast {handle} {self.format()}"
+            text = self.format()
+            if self.draw.random() < 0.4:
+                return f"cast {handle} {text} {self.shape(subject, text)}"
+            return f"cast {handle} {text}"
+        if verb == "range":
+            return f"range {handle} {self.place(subject)} {self.place(subject)}" if self.draw.random() < 0.9 else f"range {handle} {self.scalar()} {self.scalar()}"
+        if verb == "contig" and subject is not None and len(getattr(subject, "shape", "1")) != 1 and not subject.nbytes:
+            # no call of Python gives a shape to no bytes
+            verb = "tolist"
         return f"prop {handle} {self.one(PROPERTIES)}" if verb == "prop" else f"{verb} {handle}"
 
     def input(self, count):

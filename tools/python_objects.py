@@ -6,12 +6,22 @@ A `World` keeps a list of objects, `h0` being the first: `bytes`, `bytearray`, `
 What a command finds is written as Python's `repr` writes it. What has no value in Python is written
 as this program does: `ok`, a handle for an object that has a name, and `!` with a refusal.
 """
+import copy
+import ctypes
+import math
+import operator
 import re
 import struct
 
 # Codes of which `memoryview` itself makes items; of every other format `struct` reads and writes
 # the items, over the same bytes.
 NATIVE_CODES = "bBcHhiIlLqQnN?"
+
+# `PyMemoryView_GetContiguous` of Python's C API, which no call of Python reaches.
+CONTIGUOUS = ctypes.pythonapi.PyMemoryView_GetContiguous
+CONTIGUOUS.restype = ctypes.py_object
+CONTIGUOUS.argtypes = [ctypes.py_object, ctypes.c_int, ctypes.c_char]
+TO_READ = 0x100
 
 
 class NoCommand(Exception):
@@ -23,25 +33,31 @@ class NoName(NameError):
 
 
 class Items:
-    """Items of a `struct` format, one after another, over a contiguous `memoryview` of bytes."""
+    """Items of a `struct` format, one after another, over a contiguous `memoryview` of bytes.
 
-    def __init__(self, memory, text, read=None):
+    They have a shape, of one dimension where none is given. What is picked is entries of the first
+    dimension, each a block of items."""
+
+    def __init__(self, memory, text, read=None, shape=None):
         self.memory = memory.cast("B")
         self.format = text
         self.reader = struct.Struct(read or text)
         self.itemsize = self.reader.size
         if not self.itemsize or self.memory.nbytes % self.itemsize:
             raise TypeError("the length is no multiple of the size of an item")
-        self.picked = range(self.memory.nbytes // self.itemsize)
+        first, *inner = [self.memory.nbytes // self.itemsize] if shape is None else shape or [1]
+        self.ndim = 1 if shape is None else len(shape)
+        self.inner = tuple(inner)
+        self.block = math.prod(inner)
+        self.picked = range(first)
         self.readonly = memory.readonly
         self.obj = memory.obj
-        self.ndim = 1
 
     # What Python's memoryview answers of these items' picks, strides being its own rule.
-    nbytes = property(lambda self: len(self.live()) * self.itemsize)
-    shape = property(lambda self: (len(self.live()),))
-    strides = property(lambda self: (self.live().step * self.itemsize,))
-    contiguous = property(lambda self: len(self.live()) < 2 or self.live().step == 1)
+    nbytes = property(lambda self: len(self.live()) * self.block * self.itemsize)
+    shape = property(lambda self: (len(self.live()), *self.inner)[: self.ndim])
+    strides = property(lambda self: (self.live().step * self.block * self.itemsize, *row_major(self)[1:])[: self.ndim])
+    contiguous = property(lambda self: not self.nbytes or len(self.live()) < 2 or self.live().step == 1)
     c_contiguous = f_contiguous = contiguous
 
     def live(self):
@@ -51,40 +67,105 @@ class Items:
     def release(self):
         self.memory.release()
 
+    def alike(self, memory, picked):
+        """Items of the same kind, of which others are picked."""
+        same = copy.copy(self)
+        same.memory, same.picked = memory, picked
+        return same
+
     def toreadonly(self):
-        same = Items(self.memory.toreadonly(), self.format, self.reader.format)
-        same.picked = self.live()
+        self.live()
+        same = self.alike(self.memory.toreadonly(), self.picked)
+        same.readonly = True
         return same
 
     def flat(self):
         """The bytes of contiguous items."""
-        start, size = self.live().start * self.itemsize, self.nbytes
+        start, size = self.live().start * self.block * self.itemsize, self.nbytes
         return self.memory[start : start + size]
 
     def __len__(self):
         return len(self.live())
 
     def tobytes(self):
-        size = self.itemsize
+        size = self.block * self.itemsize
         return b"".join(bytes(self.memory[i * size : (i + 1) * size]) for i in self.live())
 
     def __getitem__(self, key):
-        if isinstance(key, slice):
-            part = Items(self.memory, self.format, self.reader.format)
-            part.readonly = self.readonly
-            part.obj = self.obj
-            part.picked = self.live()[key]
-            return part
-        values = self.reader.unpack_from(self.memory, self.live()[key] * self.itemsize)
-        return values[0] if len(values) == 1 else values
+        self.live()
+        if self.ndim == 0 and key is ...:
+            return self
+        if self.ndim and isinstance(key, slice):
+            return self.alike(self.memory[:], self.picked[key])
+        return self.item(self.place(key))
 
     def __setitem__(self, key, value):
         if self.readonly:
             raise TypeError("the items are only read")
-        place = self.live()[key]
+        if self.ndim and isinstance(key, slice):
+            return self.assign(self[key].picked, value)
+        place = self.place(() if self.ndim == 0 and key is ... else key)
         if len(self.reader.unpack(bytes(self.itemsize))) != 1:
             raise TypeError("an item of several values is not written")
         self.reader.pack_into(self.memory, place * self.itemsize, value)
+
+    def assign(self, places, source):
+        """The items at places become those of a source, as they were before."""
+        if self.ndim != 1:
+            raise NotImplementedError("a slice of several dimensions")
+        if not isinstance(source, Items):
+            source = memoryview(source)
+        if (source.format, source.itemsize, source.shape) != (self.format, self.itemsize, (len(places),)):
+            raise ValueError("other items, or another number of them")
+        size, new = self.itemsize, source.tobytes()
+        for at, place in enumerate(places):
+            self.memory[place * size : (place + 1) * size] = new[at * size : (at + 1) * size]
+
+    def place(self, key):
+        """The item at a key that is no slice."""
+        if self.ndim and isinstance(key, int):
+            if self.ndim > 1:
+                raise NotImplementedError("an entry of several dimensions")
+            key = (key,)
+        if not isinstance(key, tuple) or not self.ndim and key:
+            raise TypeError("no key")
+        if key and all(isinstance(it, slice) for it in key):
+            raise NotImplementedError("a tuple of slices")
+        if not all(isinstance(it, int) for it in key) or len(key) > self.ndim:
+            raise TypeError("a tuple of others than numbers, or of too many")
+        if len(key) < self.ndim:
+            raise NotImplementedError("a tuple of too few numbers")
+        place = 0
+        for index, entries in zip(key, (self.live(), *map(range, self.inner))):
+            place = place * len(entries) + entries[index] if entries is not self.picked else entries[index]
+        return place
+
+    def item(self, place):
+        values = self.reader.unpack_from(self.memory, place * self.itemsize)
+        return values[0] if len(values) == 1 else values
+
+    def tolist(self):
+        """The items by their shape; without dimensions the one item."""
+        if not self.ndim:
+            return self[()]
+        inner = lambda first, shape: [inner(first * shape[0] + at, shape[1:]) for at in range(shape[0])] if shape else self.item(first)
+        return [inner(at, self.inner) for at in self.live()]
+
+    def __enter__(self):
+        self.live()
+        return self
+
+    def __exit__(self, *_):
+        self.release()
+
+
+def row_major(view):
+    """The strides of items one after the other."""
+    strides, size = [], view.itemsize
+    for entries in reversed(view.shape):
+        strides.insert(0, size)
+        size *= entries
+    return tuple(strides)
 
 
 class World:
@@ -147,9 +228,42 @@ class World:
 
     def do_get(self, handle, subject, key):
         found = subject[key]
+        if found is subject and handle in self.exporters:
+            return Reply(f"h{handle}")
         if isinstance(found, (memoryview, Items)):
             return self.named(found, self.exporter_of(handle))
         return found
+
+    def do_range(self, handle, subject, start, stop):
+        """A slice of a view of all bytes, but with both places in bounds."""
+        if handle in self.exporters:
+            raise NoName(handle)
+        start, stop = operator.index(start), operator.index(stop)
+        if not 0 <= start <= stop <= len(subject):
+            raise IndexError("outside of the bytes")
+        return self.named(memoryview(subject)[start:stop], handle)
+
+    def do_enter(self, handle, subject):
+        assert subject.__enter__() is subject
+        return Reply(f"h{handle}")
+
+    def do_exit(self, handle, subject):
+        subject.__exit__(None, None, None)
+        self.released.add(handle)
+        return Reply("ok")
+
+    def do_contig(self, handle, subject):
+        """The call of C gives a view of a copy; of a contiguous view it gives another view of the same
+        bytes."""
+        len(subject.shape)
+        made = CONTIGUOUS(subject, TO_READ, b"C")
+        if subject.contiguous:
+            return self.named(made, self.exporter_of(handle))
+        exporter = self.named(made.obj)
+        return Reply(f"{exporter} {self.named(made, len(self.objects) - 1)}")
+
+    def do_tolist(self, handle, subject):
+        return subject.tolist()
 
     def do_set(self, handle, subject, key, value):
         subject[key] = value
@@ -166,14 +280,16 @@ class World:
         self.released.add(handle)
         return Reply("ok")
 
-    def do_cast(self, handle, subject, text):
+    def do_cast(self, handle, subject, text, *shape):
         code = text[1:] if isinstance(text, str) and text[:1] == "@" else text
         plain = isinstance(subject, memoryview)
-        if plain and (not isinstance(code, str) or len(code) == 1 and code in NATIVE_CODES):
-            return self.named(subject.cast(text), self.exporter_of(handle))
+        if plain and (shape or not isinstance(code, str) or len(code) == 1 and code in NATIVE_CODES):
+            return self.named(subject.cast(text, *shape), self.exporter_of(handle))
         if not plain and not subject.contiguous:
             raise TypeError("not contiguous")
         memory = subject if plain else subject.flat()
+        if shape:
+            return self.named(memory.cast(text, *shape), self.exporter_of(handle))
         return self.named(Items(memory, text), self.exporter_of(handle))
 
     def do_toreadonly(self, handle, subject):
@@ -242,7 +358,7 @@ def value_of(word, world):
     if re.fullmatch(r"'[!-&(-~]+'", word):
         return word[1:-1]
     parts = word.split(":")
-    if len(parts) == 3 and word[0] not in "([":
+    if len(parts) == 3 and word[0] not in "([" and "'" not in word:
         return slice(*(value_of(part, world) for part in parts))
     if word[0] + word[-1] in ("()", "[]"):
         inside = re.findall(r"(?:'[^']*'|[^,'])+", word[1:-1])

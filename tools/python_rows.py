@@ -1016,6 +1016,704 @@ set h0 0 (h1,h0)
 bytes h0
 """,
     ),
+    Case(
+        "items of a view of two dimensions, by tuples",
+        """
+new bytearray x000102030405
+view h0
+cast h1 'B' [2,3]
+get h2 (0,0)
+get h2 (1,2)
+get h2 (-1,-3)
+get h2 (-2,2)
+get h2 (True,False)
+get h2 (2,0)
+get h2 (0,3)
+get h2 (-3,0)
+get h2 (0,-4)
+get h2 (9223372036854775807,0)
+get h2 (0,-9223372036854775808)
+set h2 (1,0) 90
+set h2 (-1,True) 91
+set h2 (2,0) 1
+set h2 (0,3) 1
+bytes h0
+get h0 3
+tolist h2
+len h2
+""",
+    ),
+    Case(
+        "tuples of too few, of too many and of wrong parts",
+        """
+new bytearray x000102030405
+view h0
+cast h1 'B' [2,3]
+get h2 ()
+get h2 (1)
+get h2 (5)
+get h2 (0,0,0)
+get h2 (5,5,5)
+get h2 ('a',0)
+get h2 (0,'a')
+get h2 (None)
+get h2 (x00,0)
+get h2 (...,0)
+get h2 (h0,0)
+get h2 (0,h1)
+get h2 (9223372036854775808,0)
+get h2 (0,-9223372036854775809)
+get h2 (0:1:1)
+get h2 (0:1:1,0:1:1)
+get h2 (0:1:0)
+get h2 0
+get h2 9
+get h2 -1
+get h2 9223372036854775808
+get h2 'a'
+get h2 None
+get h2 ...
+get h2 [0,0]
+set h2 () 1
+set h2 (1) 1
+set h2 (0,0,0) 1
+set h2 ('a',0) 1
+set h2 (0,'a') 1
+set h2 (9223372036854775808,0) 1
+set h2 (0,9223372036854775808) 1
+set h2 (0:1:1) 1
+set h2 (0:1:1,0:1:1) 1
+set h2 0 1
+set h2 9 1
+set h2 'a' 1
+set h2 ... 1
+set h2 [0,0] 1
+bytes h0
+""",
+    ),
+    Case(
+        "tuples as keys of a view of one dimension",
+        """
+new bytearray x616263
+view h0
+get h1 (0)
+get h1 (-1)
+get h1 (True)
+get h1 (3)
+get h1 (-4)
+get h1 (9223372036854775808)
+get h1 ()
+get h1 (0,1)
+get h1 ('a')
+get h1 (0:1:1)
+get h1 (0:1:1,0:1:1)
+get h1 ...
+set h1 (1) 90
+set h1 (-1) 91
+set h1 (3) 1
+set h1 () 1
+set h1 (0,1) 1
+set h1 (0:1:1) 1
+set h1 ... 1
+bytes h0
+get h0 (0)
+set h0 (0) 1
+""",
+    ),
+    Case(
+        "slices of a view of three dimensions share its bytes",
+        """
+new bytearray x000102030405060708090a0b0c0d0e0f1011121314151617
+view h0
+cast h1 'B' [3,4,2]
+get h2 None:None:-1
+prop h3 shape
+prop h3 strides
+prop h3 ndim
+prop h3 nbytes
+prop h3 itemsize
+prop h3 format
+prop h3 contiguous
+prop h3 c_contiguous
+prop h3 f_contiguous
+prop h3 readonly
+prop h3 obj
+bytes h3
+tolist h3
+get h3 (0,0,0)
+get h3 (2,3,1)
+set h3 (0,3,1) 255
+bytes h0
+get h2 1:None:None
+prop h4 shape
+prop h4 strides
+prop h4 contiguous
+prop h4 f_contiguous
+bytes h4
+get h2 None:None:2
+prop h5 shape
+prop h5 strides
+prop h5 contiguous
+tolist h5
+get h5 None:None:-1
+prop h6 strides
+tolist h6
+get h6 1:1:1
+prop h7 shape
+prop h7 strides
+prop h7 nbytes
+prop h7 contiguous
+prop h7 c_contiguous
+tolist h7
+bytes h7
+len h7
+get h7 (0,0,0)
+get h2 -1:None:None
+prop h8 shape
+prop h8 contiguous
+tolist h8
+get h2 0:1:0
+get h2 x61:1:1
+get h2 0:x61:1
+prop h0 exports
+""",
+    ),
+    Case(
+        "casts to a shape and back",
+        """
+new bytearray x000102030405060708090a0b
+view h0
+cast h1 'B' [3,4]
+cast h2 'B'
+prop h3 shape
+cast h2 'H'
+prop h4 shape
+get h4 5
+cast h2 'I' [3]
+tolist h5
+cast h2 'B' (12)
+bytes h6
+cast h1 'H' [2,3]
+prop h7 strides
+prop h7 nbytes
+tolist h7
+get h7 (1,2)
+set h7 (0,1) 65535
+bytes h0
+cast h7 'B'
+tolist h8
+cast h7 'B' [12]
+cast h2 'B' [4,3]
+cast h2 'B' [2,6]
+cast h2 'B' []
+cast h2 'B' [11]
+cast h2 'l'
+cast h2 'B' [True]
+cast h1 'B' [True,12]
+prop h10 shape
+get h2 None:None:-1
+cast h11 'B'
+cast h11 'B' [12]
+get h2 1:None:None
+cast h12 'B'
+prop h13 shape
+get h2 3:None:None
+cast h14 'B'
+cast h14 'B' [0]
+get h1 12:None:None
+cast h15 'B' [0]
+cast h15 'B' []
+cast h15 'B' (1,1)
+prop h0 exports
+""",
+    ),
+    Case(
+        "shapes that are refused",
+        """
+new bytes x0001020304050607
+view h0
+cast h1 'B' 8
+cast h1 'B' None
+cast h1 'B' 'B'
+cast h1 'B' x08
+cast h1 'B' h0
+cast h1 'B' 0:1:1
+cast h1 'B' (0:1:1)
+cast h1 'B' [2,'a']
+cast h1 'B' [x02,4]
+cast h1 'B' [None,4]
+cast h1 'B' [...,4]
+cast h1 'B' [h0]
+cast h1 'B' [0]
+cast h1 'B' [8,0]
+cast h1 'B' [-8]
+cast h1 'B' [8,-1]
+cast h1 'B' [-9223372036854775808]
+cast h1 'B' [False,8]
+cast h1 'B' [9223372036854775807]
+cast h1 'B' [9223372036854775808]
+cast h1 'B' [-9223372036854775809]
+cast h1 'B' [170141183460469231731687303715884105727]
+cast h1 'B' [9223372036854775807,2]
+cast h1 'B' [2,9223372036854775807]
+cast h1 'B' [3037000500,3037000500]
+cast h1 'B' [3037000499,3037000499]
+cast h1 'H' [4611686018427387904]
+cast h1 'H' [4611686018427387903]
+cast h1 'B' [9223372036854775807,'a']
+cast h1 'B' [0,'a']
+cast h1 'B' ['a',0]
+cast h1 'B' [0,9223372036854775808]
+cast h1 'B' []
+cast h1 'B' ()
+cast h1 'B' [7]
+cast h1 'B' [2,2]
+cast h1 'B' [2,2,2]
+cast h1 'B' [1,1,1,1,1,1,1,1,1,1,1,1,1,1,1,1,1,1,1,1,1,1,1,1,1,1,1,1,1,1,1,1,1,1,1,1,1,1,1,1,1,1,1,1,1,1,1,1,1,1,1,1,1,1,1,1,1,1,1,1,1,1,1,1,1]
+cast h1 'B' [1,1,1,1,1,1,1,1,1,1,1,1,1,1,1,1,1,1,1,1,1,1,1,1,1,1,1,1,1,1,1,1,1,1,1,1,1,1,1,1,1,1,1,1,1,1,1,1,1,1,1,1,1,1,1,1,1,1,1,1,1,1,1,1]
+cast h1 'H' [1,1,1,1,1,1,1,1,1,1,1,1,1,1,1,1,1,1,1,1,1,1,1,1,1,1,1,1,1,1,1,1,1,1,1,1,1,1,1,1,1,1,1,1,1,1,1,1,1,1,1,1,1,1,1,1,1,1,1,1,1,1,1,1,1]
+cast h1 5 [1,1,1,1,1,1,1,1,1,1,1,1,1,1,1,1,1,1,1,1,1,1,1,1,1,1,1,1,1,1,1,1,1,1,1,1,1,1,1,1,1,1,1,1,1,1,1,1,1,1,1,1,1,1,1,1,1,1,1,1,1,1,1,1,1]
+cast h1 None [0]
+cast h1 'Q' [1,1,1,1,1,1,1,1,1,1,1,1,1,1,1,1,1,1,1,1,1,1,1,1,1,1,1,1,1,1,1,1,1,1,1,1,1,1,1,1,1,1,1,1,1,1,1,1,1,1,1,1,1,1,1,1,1,1,1,1,1,1,1,1]
+prop h3 ndim
+prop h3 nbytes
+get h3 (0,0,0,0,0,0,0,0,0,0,0,0,0,0,0,0,0,0,0,0,0,0,0,0,0,0,0,0,0,0,0,0,0,0,0,0,0,0,0,0,0,0,0,0,0,0,0,0,0,0,0,0,0,0,0,0,0,0,0,0,0,0,0,0)
+get h3 (0,0,0,0,0,0,0,0,0,0,0,0,0,0,0,0,0,0,0,0,0,0,0,0,0,0,0,0,0,0,0,0,0,0,0,0,0,0,0,0,0,0,0,0,0,0,0,0,0,0,0,0,0,0,0,0,0,0,0,0,0,0,0)
+get h3 (0,0,0,0,0,0,0,0,0,0,0,0,0,0,0,0,0,0,0,0,0,0,0,0,0,0,0,0,0,0,0,0,0,0,0,0,0,0,0,0,0,0,0,0,0,0,0,0,0,0,0,0,0,0,0,0,0,0,0,0,0,0,0,0,0)
+get h3 (0,0,0,0,0,0,0,0,0,0,0,0,0,0,0,0,0,0,0,0,0,0,0,0,0,0,0,0,0,0,0,0,0,0,0,0,0,0,0,0,0,0,0,0,0,0,0,0,0,0,0,0,0,0,0,0,0,0,0,0,0,0,0,1)
+tolist h3
+get h3 None:None:-1
+bytes h4
+prop h0 exports
+""",
+    ),
+    Case(
+        "lists of items by their format, and by the shape",
+        """
+new bytes x0001ff7f80fe0100
+view h0
+tolist h1
+cast h1 'b' [2,2,2]
+tolist h2
+cast h1 'H' [2,2]
+tolist h3
+cast h1 'h'
+tolist h4
+cast h1 'i' [1,2]
+tolist h5
+cast h1 'Q' [1,1]
+tolist h6
+cast h1 'c' [4,2]
+tolist h7
+cast h1 '?' [2,4]
+tolist h8
+get h7 None:None:-2
+tolist h9
+get h3 1:1:1
+tolist h10
+get h4 3:0:-2
+tolist h11
+get h1 8:None:None
+tolist h12
+new bytes x
+view h13
+tolist h14
+""",
+    ),
+    Case(
+        "a view without dimensions has one item, at its own start",
+        """
+new bytearray x7856341200ff0102
+view h0
+get h1 0:4:None
+cast h2 'i' []
+get h3 ()
+get h3 ...
+prop h3 shape
+prop h3 strides
+prop h3 suboffsets
+prop h3 ndim
+prop h3 nbytes
+prop h3 itemsize
+prop h3 format
+prop h3 contiguous
+prop h3 c_contiguous
+prop h3 f_contiguous
+bytes h3
+set h3 () 1
+bytes h0
+set h3 ... -2
+bytes h0
+get h1 6:None:None
+cast h4 'H' []
+get h5 ()
+set h5 () 65535
+bytes h0
+bytes h5
+get h1 7:None:None
+cast h6 'B' ()
+get h7 ()
+set h7 ... 7
+bytes h0
+view h7
+get h8 ()
+toreadonly h8
+get h9 ()
+set h9 () 1
+set h9 ... 1
+set h9 0 1
+cast h9 'b'
+tolist h10
+cast h7 'B' [1]
+tolist h11
+cast h7 'B' [1,1]
+cast h7 'B' []
+cast h5 'B' [2]
+tolist h12
+cast h5 'B' [1,2]
+""",
+    ),
+    Case(
+        "keys of a view without dimensions",
+        """
+new bytearray x05
+view h0
+cast h1 'B' []
+get h2 0
+get h2 -1
+get h2 1
+get h2 (0)
+get h2 (0,0)
+get h2 0:1:1
+get h2 0:1:0
+get h2 (0:1:1)
+get h2 'a'
+get h2 None
+get h2 []
+get h2 9223372036854775808
+get h2 (9223372036854775808)
+set h2 0 1
+set h2 (0) 1
+set h2 0:1:1 x01
+set h2 (0:1:1) 1
+set h2 'a' 1
+set h2 None 1
+set h2 [] 1
+set h2 ... None
+set h2 () None
+get h2 ()
+release h2
+get h2 ()
+get h2 ...
+set h2 () 1
+prop h2 shape
+""",
+    ),
+    Case(
+        "a part of the bytes, by the places where it begins and ends",
+        """
+new bytearray x000102030405
+range h0 2 5
+bytes h1
+prop h1 shape
+prop h1 strides
+prop h1 format
+prop h1 readonly
+prop h1 obj
+set h1 0 90
+bytes h0
+get h1 None:None:-1
+bytes h2
+range h0 0 6
+bytes h3
+range h0 3 3
+bytes h4
+prop h4 shape
+range h0 0 0
+range h0 6 6
+range h0 False True
+bytes h7
+range h0 5 7
+range h0 7 7
+range h0 4 3
+range h0 -1 3
+range h0 -3 -1
+range h0 0 -1
+range h0 0 9223372036854775808
+range h0 -9223372036854775809 0
+range h0 170141183460469231731687303715884105727 0
+range h0 None 3
+range h0 0 None
+range h0 'a' 'b'
+range h0 0:1:1 3
+range h0 [0] 3
+range h0 h0 3
+range h0 9 'a'
+range h0 ... x00
+prop h0 exports
+new bytes x0102
+range h8 1 2
+prop h9 readonly
+set h9 0 1
+bytes h9
+""",
+    ),
+    Case(
+        "a view that is entered is itself, and one that is left is released",
+        """
+new bytearray x0102
+view h0
+enter h1
+enter h1
+get h1 0
+exit h1
+prop h0 exports
+exit h1
+exit h1
+release h1
+enter h1
+get h1 0
+view h0
+release h2
+exit h2
+enter h2
+view h0
+cast h3 'B' [1,2]
+enter h4
+exit h4
+get h3 0
+prop h0 exports
+""",
+    ),
+    Case(
+        "a copy of a view of bytes whose items do not lie one after the other",
+        """
+new bytes x000102030405060708090a0b
+view h0
+get h1 None:None:-2
+contig h2
+bytes h3
+bytes h4
+prop h4 shape
+prop h4 strides
+prop h4 format
+prop h4 readonly
+prop h4 obj
+prop h4 contiguous
+prop h3 exports
+prop h0 exports
+set h4 0 1
+len h3
+view h3
+bytes h5
+release h2
+bytes h4
+cast h1 'B' [2,3,2]
+get h6 None:None:-1
+contig h7
+prop h9 shape
+prop h9 strides
+prop h9 contiguous
+prop h7 strides
+tolist h9
+bytes h8
+get h9 (0,0,1)
+cast h1 'H' [3,2]
+get h10 None:None:-2
+contig h11
+prop h13 format
+prop h13 strides
+tolist h13
+cast h13 'B'
+tolist h14
+release h13
+release h14
+contig h13
+bytes h12
+prop h12 exports
+range h12 2 5
+bytes h15
+""",
+    ),
+    Case(
+        "a slice is assigned from bytes, from an exporter and from views",
+        """
+new bytearray x616263646566
+view h0
+set h1 1:4:None x313233
+bytes h0
+set h1 None:None:-2 x414243
+bytes h0
+new bytes x010203040506
+set h1 None:None:None h2
+bytes h0
+view h2
+set h1 None:None:-1 h3
+bytes h0
+get h3 None:None:-3
+set h1 0:2:1 h4
+bytes h0
+new bytearray x7879
+set h1 4:None:None h5
+bytes h0
+view h5
+set h1 0:4:2 h6
+set h1 1:4:2 h6
+bytes h1
+set h1 0:0:1 x
+set h1 6:9:1 x
+set h1 3:1:1 x
+get h1 2:2:1
+set h1 5:5:1 h7
+set h1 h0 h0
+set h1 None:None:None h0
+bytes h0
+set h1 True:2:True x21
+bytes h0
+toreadonly h1
+set h1 0:2:1 h6
+set h1 2:4:1 h6
+bytes h8
+prop h0 exports
+""",
+    ),
+    Case(
+        "slices assigned onto themselves and onto parts of themselves",
+        """
+new bytearray x616263646566
+view h0
+set h1 None:None:-1 h1
+bytes h0
+set h1 None:None:-1 h0
+bytes h0
+get h1 0:4:None
+set h1 1:5:None h2
+bytes h0
+get h1 2:None:None
+set h1 0:4:1 h3
+bytes h0
+get h1 None:None:-1
+set h1 None:None:None h4
+bytes h0
+set h4 None:None:None h4
+set h4 None:None:-1 h4
+bytes h0
+get h1 None:None:2
+set h1 0:3:1 h5
+bytes h0
+set h1 3:None:-1 h5
+set h1 2:None:-1 h5
+bytes h0
+get h1 0:1:1
+get h1 1:2:1
+set h6 None:None:None h7
+bytes h0
+new bytearray x0102030405060708
+view h8
+cast h9 'H'
+set h10 None:None:-1 h10
+bytes h8
+get h10 0:3:1
+set h10 1:4:1 h11
+bytes h8
+get h10 None:None:2
+set h10 2:0:-1 h12
+bytes h8
+get h12 None:None:-1
+set h12 None:None:None h13
+bytes h8
+""",
+    ),
+    Case(
+        "slice assignments that are refused",
+        """
+new bytearray x616263646566
+view h0
+set h1 0:3:1 x3132
+set h1 0:3:1 x31323334
+set h1 0:3:1 x
+set h1 0:0:1 x31
+set h1 0:3:1 h0
+set h1 0:3:1 5
+set h1 0:3:1 None
+set h1 0:3:1 'abc'
+set h1 0:3:1 ...
+set h1 0:3:1 True
+set h1 0:3:1 [1,2,3]
+set h1 0:3:1 (1,2,3)
+set h1 0:3:1 0:1:1
+set h1 0:3:1 (0:1:1)
+set h1 x61:3:1 x313233
+set h1 0:x61:1 x313233
+set h1 0:3:x61 x313233
+set h1 0:3:0 x313233
+set h1 x:x61:0 x313233
+set h1 x61:3:... x313233
+set h1 h0:3:1 x313233
+cast h1 'H'
+set h1 0:3:1 h2
+set h2 0:3:1 h1
+set h2 0:1:1 x3132
+set h2 0:1:1 h0
+cast h1 'b'
+set h1 0:6:1 h3
+set h3 0:6:1 x313233343536
+cast h1 'B' [2,3]
+set h4 0:1:1 x313233
+set h4 0:2:1 h4
+set h4 0:2:1 5
+set h4 None:None:-1 h4
+get h4 0:1:1
+set h1 0:1:1 h4
+set h1 0:3:1 h5
+cast h1 'B' [6,1]
+set h1 0:6:1 h6
+new bytes x313233
+view h7
+set h8 0:3:1 x616263
+set h8 0:1:0 x616263
+set h8 x61:1:1 5
+set h8 0:9:1 None
+release h8
+set h1 0:3:1 h8
+set h1 0:2:1 h8
+set h1 None:None:None h8
+set h8 0:3:1 x616263
+bytes h0
+prop h0 exports
+""",
+    ),
+    Case(
+        "a slice of another format is assigned from items of the same format alone",
+        """
+new bytearray x0102030405060708
+new bytes x1112131415161718
+view h0
+view h1
+cast h2 'H'
+cast h3 'H'
+set h4 None:None:-1 h5
+bytes h0
+get h5 None:None:-2
+set h4 0:2:1 h6
+bytes h0
+set h4 1:3:1 h6
+bytes h0
+cast h3 'h'
+set h4 0:4:1 h7
+cast h3 'I'
+cast h2 'I'
+set h9 None:None:-1 h8
+bytes h0
+get h9 0
+cast h2 'c'
+cast h3 'c'
+set h10 0:3:1 h11
+get h11 7:1:-2
+set h10 2:5:1 h12
+bytes h0
+""",
+    ),
 ]
 
 
@@ -1055,8 +1753,63 @@ def drawn_writes(draw):
     return "\n".join(lines)
 
 
+def drawn_shapes(draw):
+    """Items read and written by tuples through slices of views of several dimensions."""
+    shape = draw.one_of([[2, 3, 2], [3, 4], [2, 2, 3], [4, 3], [1, 2, 6]])
+    lines = [f"new bytearray x{bytes(range(97, 97 + 12)).hex()}", "view h0", f"cast h1 'B' {shape}".replace(", ", ",")]
+    made = 2
+    bounds = ["None", "None", *map(str, range(-shape[0] - 1, shape[0] + 2))]
+    for _ in range(12):
+        of = 2 + draw.below(made - 1)
+        lines.append(f"get h{of} {draw.one_of(bounds)}:{draw.one_of(bounds)}:{draw.one_of(['None', '1', '-1', '-1', '2', '-2'])}")
+        made += 1
+        key = ",".join(str(draw.below(2 * entries + 1) - entries) for entries in shape)
+        lines.append(draw.one_of([f"get h{made} ({key})", f"set h{made} ({key}) {draw.below(26) + 65}"]))
+        lines.append(draw.one_of([f"tolist h{made}", f"bytes h{made}", f"prop h{made} strides", f"prop h{made} shape", f"prop h{made} c_contiguous"]))
+    return "\n".join(lines + ["bytes h0"])
+
+
+STEPS = [-3, -2, -1, 1, 2, 3]
+
+
+def slice_of(start, count, step):
+    """The slice of so many items from a place on, and their places."""
+    stop = start + count * step
+    places = list(range(start, stop, step))
+    return f"{start}:{stop if stop >= 0 else None}:{step}" if count else f"{start}:{start}:{step}", places
+
+
+def placed(draw, room, count, step):
+    """A slice of so many items, somewhere among so many bytes."""
+    span = (count - 1) * abs(step) if count else 0
+    start = draw.below(room - span) + (span if step < 0 else 0)
+    return slice_of(start, count, step)
+
+
+def assigned(draw, step, others):
+    """A slice of each step and length is assigned to one of a given step, of the same bytes or of
+    others. What the bytes then are follows from lists too, and is compared."""
+    room = 18
+    target, source = bytearray(range(97, 97 + room)), bytes(range(65, 65 + room))
+    lines = [f"new bytearray x{target.hex()}", f"new bytes x{source.hex()}", "view h0", "view h1"]
+    replies = ["h0", "h1", "h2", "h3"]
+    for of_step in STEPS:
+        for count in range(7):
+            key, places = placed(draw, room, count, step)
+            of_key, of_places = placed(draw, room, count, of_step)
+            made = f"h{3 + len(lines) // 3}"
+            before = source if others else bytes(target)
+            for place, of_place in zip(places, of_places):
+                target[place] = before[of_place]
+            lines += [f"get h{3 if others else 2} {of_key}", f"set h2 {key} {made}", "bytes h0"]
+            replies += [made, "ok", repr(bytes(target))]
+    return Case(f"slices of {'other bytes' if others else 'the same bytes'} assigned to one of step {step}", "\n".join(lines)), replies
+
+
 PYTHON += [Case(f"slices of slices of a view, drawn ({seed})", drawn_slices(Draw(seed))) for seed in (1, 2, 3, 4)]
 PYTHON += [Case(f"items read and written, drawn ({seed})", drawn_writes(Draw(seed))) for seed in (5, 6, 7)]
+PYTHON += [Case(f"items of several dimensions, drawn ({seed})", drawn_shapes(Draw(seed))) for seed in (8, 9, 10, 11)]
+ASSIGNED = [assigned(Draw(12 + number), step, others) for others in (False, True) for number, step in enumerate(STEPS)]
 
 # Beside each line our reply, written by hand; Python's is put beside it where it differs.
 DIFFERENCES = [
@@ -1114,20 +1867,6 @@ new bytearray x61                  h1
 release h1                         ! UnknownName  !
 toreadonly h1                      ! UnknownName  !
 bytes h0                           b'a'
-""",
-    ),
-    Case(
-        "a tuple as the key of a view is an unknown name",
-        """
-new bytes x616263                  h0
-view h0                            h1
-get h1 (0)                         ! UnknownName  !
-get h1 (3)                         ! UnknownName  !
-get h1 (0,0)                       ! UnknownName  !
-get h1 ()                          ! UnknownName  !
-get h1 (0:1:1)                     ! UnknownName  !
-get h1 [0]                         ! TypeError
-get h0 (0)                         ! TypeError
 """,
     ),
     Case(
@@ -1284,6 +2023,282 @@ get h1 0:2:1                       b'ab'
 """,
     ),
     Case(
+        "a number of a tuple that does not fit a word comes before how many there are",
+        """
+new bytes x000102030405             h0
+view h0                             h1
+cast h1 'B' [2,3]                   h2
+get h2 (9223372036854775808)        ! IndexError    !
+get h2 (-9223372036854775809)       ! IndexError    !
+get h2 (0,0,9223372036854775808)    ! IndexError    !
+get h2 (0,9223372036854775808,0)    ! IndexError    !
+get h2 (9223372036854775808,0)      ! IndexError
+get h2 (0,9223372036854775808)      ! IndexError
+get h1 (0,9223372036854775808)      ! IndexError    !
+get h2 (9223372036854775808,'a')    ! TypeError
+get h2 (9223372036854775807)        ! NotImplementedError
+get h2 (0,0,9223372036854775807)    ! TypeError
+""",
+    ),
+    Case(
+        "an index that does not fit a word comes before how many dimensions there are",
+        """
+new bytearray x000102030405         h0
+view h0                             h1
+cast h1 'B' [2,3]                   h2
+set h2 9223372036854775808 1        ! IndexError    !
+get h2 9223372036854775808          ! IndexError
+set h2 9223372036854775807 1        ! NotImplementedError
+set h2 (9223372036854775808) 1      ! IndexError    !
+bytes h0                            b'\\x00\\x01\\x02\\x03\\x04\\x05'
+""",
+    ),
+    Case(
+        "the parts of a slice are looked at before what is assigned to it",
+        """
+new bytearray x616263               h0
+view h0                             h1
+set h1 0:1:0 5                      ! ValueError    !
+set h1 0:1:0 'a'                    ! ValueError    !
+set h1 x61:1:1 h9                   ! UnknownName   !
+set h1 0:1:0 x41                    ! ValueError
+set h1 0:1:1 5                      ! TypeError
+view h0                             h2
+release h2                          ok
+set h1 x61:1:1 h2                   ! TypeError     !
+set h1 0:1:1 h2                     ! ValueError
+bytes h0                            b'abc'
+""",
+    ),
+    Case(
+        "formats are compared as they are written where a slice is assigned",
+        """
+new bytearray x616263               h0
+view h0                             h1
+cast h1 '@B'                        h2
+set h1 0:3:1 h2                     ! ValueError    !
+set h2 0:1:1 x41                    ! ValueError    !
+set h2 0:3:1 h0                     ! ValueError    !
+set h2 0:2:1 h2                     ! ValueError
+set h2 None:None:-1 h2              ok
+bytes h0                            b'cba'          !
+""",
+    ),
+    Case(
+        "a slice of items of any format is assigned",
+        """
+new bytearray x0102030405060708     h0
+view h0                             h1
+cast h1 '>H'                        h2
+cast h1 '>H'                        h3
+set h2 None:None:-1 h3              ok
+bytes h0                            b'\\x07\\x08\\x05\\x06\\x03\\x04\\x01\\x02'
+cast h1 '<H'                        h4
+set h2 0:4:1 h4                     ! ValueError
+cast h1 'BH'                        h5
+cast h1 'BH'                        h6
+get h5 0:1:1                        h7
+set h6 1:2:1 h7                     ok
+bytes h0                            b'\\x07\\x08\\x05\\x06\\x07\\x08\\x05\\x06'
+set h6 0:1:1 h5                     ! ValueError
+""",
+    ),
+    Case(
+        "a shape of many entries for a view that is not of one dimension",
+        """
+new bytes x0001                     h0
+view h0                             h1
+cast h1 'B' [1,2]                   h2
+cast h2 'B' [1,1,1,1,1,1,1,1,1,1,1,1,1,1,1,1,1,1,1,1,1,1,1,1,1,1,1,1,1,1,1,1,1,1,1,1,1,1,1,1,1,1,1,1,1,1,1,1,1,1,1,1,1,1,1,1,1,1,1,1,1,1,1,1,1]  ! TypeError     !
+cast h1 'B' [1,1,1,1,1,1,1,1,1,1,1,1,1,1,1,1,1,1,1,1,1,1,1,1,1,1,1,1,1,1,1,1,1,1,1,1,1,1,1,1,1,1,1,1,1,1,1,1,1,1,1,1,1,1,1,1,1,1,1,1,1,1,1,1,1]  ! ValueError
+cast h2 'B' [1,2]                   ! TypeError
+""",
+    ),
+    Case(
+        "a cast to a shape takes every format",
+        """
+new bytearray x000102030405060708090a0b  h0
+view h0                             h1
+cast h1 '>H' [2,3]                  h2              !
+tolist h2                           [[1, 515, 1029], [1543, 2057, 2571]]  !
+get h2 (1,0)                        1543            !
+set h2 (0,2) 258                    ok              !
+bytes h0                            b'\\x00\\x01\\x02\\x03\\x01\\x02\\x06\\x07\\x08\\t\\n\\x0b'  !
+cast h1 'BB' [2,3]                  h3              !
+get h3 (1,1)                        (8, 9)          !
+set h3 (1,1) 1                      ! TypeError     !
+cast h1 '4s' [3,1]                  h4              !
+get h4 None:None:-1                 h5              !
+tolist h5                           [[b'\\x08\\t\\n\\x0b'], [b'\\x01\\x02\\x06\\x07'], [b'\\x00\\x01\\x02\\x03']]  !
+cast h1 '12s' []                    h6              !
+get h6 ()                           b'\\x00\\x01\\x02\\x03\\x01\\x02\\x06\\x07\\x08\\t\\n\\x0b'  !
+cast h1 'y' [0]                     ! StructError   !
+cast h1 '0s' [0]                    ! TypeError     !
+cast h1 'y' 0                       ! TypeError
+""",
+    ),
+    Case(
+        "a cast of several dimensions from items of several bytes to others",
+        """
+new bytes x0102030405060708         h0
+view h0                             h1
+cast h1 'H' [2,2]                   h2
+cast h2 'I'                         h3              !
+tolist h3                           [67305985, 134678021]  !
+""",
+    ),
+    Case(
+        "f_contiguous is for at most one dimension",
+        """
+new bytes x000102                   h0
+view h0                             h1
+cast h1 'B' [1,3]                   h2
+prop h2 c_contiguous                True
+prop h2 f_contiguous                False           !
+cast h1 'B' [3,1]                   h3
+prop h3 f_contiguous                False           !
+get h3 0:0:1                        h4
+prop h4 f_contiguous                False           !
+prop h1 f_contiguous                True
+cast h1 'B' [1,3]                   h5
+prop h5 contiguous                  True
+get h3 None:None:2                  h6
+prop h6 contiguous                  False
+""",
+    ),
+    Case(
+        "suboffsets of several dimensions are one 0 for each",
+        """
+new bytes x000102                   h0
+view h0                             h1
+cast h1 'B' [1,3]                   h2
+prop h2 suboffsets                  (0, 0)          !
+get h1 0:1:1                        h3
+cast h3 'B' []                      h4
+prop h4 suboffsets                  ()
+""",
+    ),
+    Case(
+        "a list of a view without dimensions has one item",
+        """
+new bytes x05                       h0
+view h0                             h1
+cast h1 'B' []                      h2
+tolist h2                           [5]             !
+get h2 ()                           5
+cast h2 'b' [1]                     h3
+tolist h3                           [5]
+""",
+    ),
+    Case(
+        "a view without dimensions has no length",
+        """
+new bytes x05                       h0
+view h0                             h1
+cast h1 'B' []                      h2
+len h2                              ! TypeError     !
+prop h2 nbytes                      1
+""",
+    ),
+    Case(
+        "contig makes a copy of every view, writable as the view",
+        """
+new bytearray x61626364             h0
+view h0                             h1
+get h1 None:None:-1                 h2
+toreadonly h1                       h3
+contig h2                           h4 h5
+prop h5 readonly                    False           !
+set h5 0 90                         ok              !
+bytes h4                            b'Zcba'         !
+bytes h0                            b'abcd'
+contig h1                           h6 h7           !
+set h7 1 90                         ok              !
+bytes h7                            b'aZcd'         !
+bytes h0                            b'abcd'
+prop h7 obj                         h6              !
+prop h0 exports                     3               !
+prop h6 exports                     1               !
+contig h3                           h8 h9           !
+prop h9 readonly                    True            !
+set h9 0 1                          ! TypeError     !
+view h8                             h10             !
+set h10 0 1                         ! TypeError     !
+""",
+    ),
+    Case(
+        "a vector has the commands of an exporter without items",
+        """
+new bytes x616263                   h0
+view h0                             h1
+get h1 None:None:-1                 h2
+contig h2                           h3 h4
+len h3                              3
+bytes h3                            b'cba'
+get h3 0                            ! UnknownName   !
+get h3 0:1:1                        ! UnknownName   !
+set h3 0 1                          ! UnknownName   !
+cast h3 'B'                         ! UnknownName   !
+release h3                          ! UnknownName   !
+contig h3                           ! UnknownName   !
+prop h3 exports                     1
+""",
+    ),
+    Case(
+        "views alone are entered, left, copied and listed, and a part by places is of bytes alone",
+        """
+new bytearray x616263               h0
+view h0                             h1
+enter h0                            ! UnknownName   !
+exit h0                             ! UnknownName   !
+contig h0                           ! UnknownName   !
+tolist h0                           ! UnknownName   !
+range h1 0 1                        ! UnknownName   !
+range h1 'a' 9                      ! UnknownName   !
+enter h9                            ! UnknownName   !
+exit h9                             ! UnknownName   !
+contig h9                           ! UnknownName   !
+tolist h9                           ! UnknownName   !
+range h9 0 1                        ! UnknownName   !
+range h0 h9 1                       ! UnknownName   !
+cast h1 'B' [h9]                    ! UnknownName   !
+get h1 (h9)                         ! UnknownName   !
+set h1 0:1:1 h9                     ! UnknownName   !
+set h1 (h9) 1                       ! UnknownName   !
+release h1                          ok
+range h1 0 1                        ! UnknownName   !
+prop h0 exports                     0
+""",
+    ),
+    Case(
+        "a slice of a bytearray is not assigned yet",
+        """
+new bytearray x616263               h0
+set h0 0:1:1 x41                    ! UnknownName   !
+set h0 0:1:0 x41                    ! UnknownName   !
+set h0 None:None:None 5             ! UnknownName   !
+view h0                             h1
+set h1 0:1:1 x41                    ok
+bytes h0                            b'Abc'
+""",
+    ),
+    Case(
+        "None is refused before a key of several dimensions is looked at",
+        """
+new bytearray x0001                 h0
+view h0                             h1
+cast h1 'B' [1,2]                   h2
+set h2 0 None                       ! TypeError     !
+set h2 (1,0) None                   ! TypeError     !
+set h2 (0) None                     ! TypeError     !
+set h1 0:1:0 None                   ! TypeError
+set h2 0:1:1 None                   ! TypeError     !
+set h2 (0,0) 256                    ! TypeError     !
+set h2 (1,0) 256                    ! IndexError
+bytes h0                            b'\\x00\\x01'
+""",
+    ),
+    Case(
         "a handle among the values that was never given",
         """
 new bytearray x01                  h0
@@ -1307,6 +2322,10 @@ def python_cases():
     `bytes`."""
     for case in PYTHON:
         yield case.title, list(zip(case.lines, SlicesAreBytes().run(case.lines)))
+    for case, replies in ASSIGNED:
+        if World().run(case.lines) != replies:
+            sys.exit(f"{case.title}: Python's slices are not those of lists")
+        yield case.title, list(zip(case.lines, replies))
 
 
 def difference_cases():

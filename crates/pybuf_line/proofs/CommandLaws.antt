@@ -130,13 +130,19 @@ name_unbroken property.FContiguous = refl
 arguments_unbroken : (v : Verb) → IsSpelledVerb v → AllByRecursion IsUnbroken (written_arguments handle_text v)
 arguments_unbroken verb.View h = tt
 arguments_unbroken (verb.Get key) h = (value_unbroken key h, tt)
-arguments_unbroken (verb.Set key item) h = (value_unbroken key h.1, (value_unbroken item h.2, tt))
-arguments_unbroken (verb.Cast format shape) h = (value_unbroken format h.0, tt)
+arguments_unbroken (verb.Set key item) h = (value_unbroken key h.0, (value_unbroken item h.1, tt))
+arguments_unbroken (verb.Cast format None) h = (value_unbroken format h, tt)
+arguments_unbroken (verb.Cast format (Some shape)) h = (value_unbroken format h.0, (value_unbroken shape h.1, tt))
 arguments_unbroken verb.ToBytes h = tt
 arguments_unbroken verb.Release h = tt
 arguments_unbroken verb.Len h = tt
 arguments_unbroken (verb.Property name) h = (name_unbroken name, tt)
 arguments_unbroken verb.ToReadonly h = tt
+arguments_unbroken (verb.Range from to) h = (value_unbroken from h.0, (value_unbroken to h.1, tt))
+arguments_unbroken verb.Enter h = tt
+arguments_unbroken verb.Exit h = tt
+arguments_unbroken verb.ToContiguous h = tt
+arguments_unbroken verb.ToList h = tt
 
 word_unbroken : (v : Verb) → IsUnbroken (written_word (word_of v))
 word_unbroken verb.View = refl
@@ -148,6 +154,11 @@ word_unbroken verb.Release = refl
 word_unbroken verb.Len = refl
 word_unbroken (verb.Property name) = refl
 word_unbroken verb.ToReadonly = refl
+word_unbroken (verb.Range from to) = refl
+word_unbroken verb.Enter = refl
+word_unbroken verb.Exit = refl
+word_unbroken verb.ToContiguous = refl
+word_unbroken verb.ToList = refl
 
 handle_unbroken : (n : ℕ) → n < 2 ^ 64 → IsUnbroken (handle_text n)
 handle_unbroken n h = free (handle_text n) (part_free (scalar.Handle n) h)
@@ -155,13 +166,19 @@ handle_unbroken n h = free (handle_text n) (part_free (scalar.Handle n) h)
 verb_read : (v : Verb) → IsSpelledVerb v → verb_in handle_in (word_of v) (written_arguments handle_text v) ≡ Some v
 verb_read verb.View h = refl
 verb_read (verb.Get key) h = rw (values_read key h) refl
-verb_read (verb.Set key item) h = rw (values_read key h.1, h.0, values_read item h.2) refl
-verb_read (verb.Cast format shape) h = rw (values_read format h.0) (ap (λ s. Some (verb.Cast format s)) (sym h.1))
+verb_read (verb.Set key item) h = rw (values_read key h.0, values_read item h.1) refl
+verb_read (verb.Cast format None) h = rw (values_read format h) refl
+verb_read (verb.Cast format (Some shape)) h = rw (values_read format h.0, values_read shape h.1) refl
 verb_read verb.ToBytes h = refl
 verb_read verb.Release h = refl
 verb_read verb.Len h = refl
 verb_read (verb.Property name) h = rw (properties_read.read name tt) refl
 verb_read verb.ToReadonly h = refl
+verb_read (verb.Range from to) h = rw (values_read from h.0, values_read to h.1) refl
+verb_read verb.Enter h = refl
+verb_read verb.Exit h = refl
+verb_read verb.ToContiguous h = refl
+verb_read verb.ToList h = refl
 
 do_read : (n : ℕ) (v : Verb) → n < 2 ^ 64 → IsSpelledVerb v →
     command_of_words handle_in (written_words handle_text (command.Do n v)) ≡ Some (command.Do n v)
@@ -169,12 +186,18 @@ unfolding word_in
 do_read n verb.View h k = rw (handle_read n h) refl
 do_read n (verb.Get key) h k = rw (handle_read n h, verb_read (verb.Get key) k) refl
 do_read n (verb.Set key item) h k = rw (handle_read n h, verb_read (verb.Set key item) k) refl
-do_read n (verb.Cast format shape) h k = rw (handle_read n h, verb_read (verb.Cast format shape) k) refl
+do_read n (verb.Cast format None) h k = rw (handle_read n h, verb_read (verb.Cast format None) k) refl
+do_read n (verb.Cast format (Some shape)) h k = rw (handle_read n h, verb_read (verb.Cast format (Some shape)) k) refl
 do_read n verb.ToBytes h k = rw (handle_read n h) refl
 do_read n verb.Release h k = rw (handle_read n h) refl
 do_read n verb.Len h k = rw (handle_read n h) refl
 do_read n (verb.Property name) h k = rw (handle_read n h, verb_read (verb.Property name) k) refl
 do_read n verb.ToReadonly h k = rw (handle_read n h) refl
+do_read n (verb.Range from to) h k = rw (handle_read n h, verb_read (verb.Range from to) k) refl
+do_read n verb.Enter h k = rw (handle_read n h) refl
+do_read n verb.Exit h k = rw (handle_read n h) refl
+do_read n verb.ToContiguous h k = rw (handle_read n h) refl
+do_read n verb.ToList h k = rw (handle_read n h) refl
 
 -- a new exporter
 abbrev made_of : List ℕ → ByteInnerNewOptions

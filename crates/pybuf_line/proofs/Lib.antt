@@ -12,3 +12,5 @@ pub mod ReplyLaws
 pub mod NameLaws
 pub mod ValueLaws
 pub mod CommandLaws
+pub mod NestingLaws
+pub mod Nested

@@ -38,6 +38,11 @@ word_read word.Len h = refl
 word_read word.Cast h = refl
 word_read word.Property h = refl
 word_read word.ToReadonly h = refl
+word_read word.Range h = refl
+word_read word.Enter h = refl
+word_read word.Exit h = refl
+word_read word.ToContiguous h = refl
+word_read word.ToList h = refl
 
 word_written : (text : List ℕ) (w : Word) → word_in text ≡ Some w → text ≡ written_word w
 unfolding word_in

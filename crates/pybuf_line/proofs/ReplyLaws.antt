@@ -12,9 +12,9 @@ use Rattle.pybuf_value.specs.declared.values.Scalar.TheVariants as scalar
 use Rattle.pybuf_value.specs.declared.values.Item.{Item}
 use Rattle.pybuf_value.specs.declared.values.Item.TheVariants as item
 use Rattle.pybuf_world.specs.declared.commands.Reply.TheVariants as reply
-use Rattle.pybuf_value.specs.Quoted.{quote_of, escaped_byte, quoted_text}
+use Rattle.pybuf_value.specs.Quotes.{quote_of, escaped_byte, quoted_text}
 use Rattle.pybuf_line.specs.Scalars.{handle_text}
-use Rattle.pybuf_line.specs.Replies.{truth_text, scalar_text, next_part_text, tuple_text, item_text}
+use Rattle.pybuf_line.specs.Replies.{truth_text, scalar_text, next_part_text, tuple_text, item_text, list_text, blocks, nested_text}
 use Rattle.pybuf_line.specs.Laws.{IsOneLine, RepliesAreSingle, NamesStaySingle}
 
 both : (xs ys : List ℕ) → IsOneLine xs → IsOneLine ys → IsOneLine (xs ++ ys)
@@ -101,6 +101,19 @@ item_single : (name : ℕ → List ℕ) → ((n : ℕ) → IsOneLine (name n)) �
 item_single name single (item.One part) = scalar_single name single part
 item_single name single (item.Many parts) = tuple_single (scalar_text name) (scalar_single name single) parts
 
+list_single : {A : Type 0} (text : A → List ℕ) → ((part : A) → IsOneLine (text part)) → (parts : List A) → IsOneLine (list_text text parts)
+list_single text single [] = refl
+list_single text single (part ∷ more) =
+    both (text part ++ flat_map (next_part_text text) more) (codes "]")
+    (both (text part) (flat_map (next_part_text text) more) (single part) (parts_single text single more)) refl
+
+nested_single : {A : Type 0} (text : A → List ℕ) → ((part : A) → IsOneLine (text part)) → (shape : List ℕ) (items : List A) →
+    IsOneLine (nested_text text shape items)
+nested_single text single [] items = list_single text single items
+nested_single text single (n ∷ []) items = list_single text single items
+nested_single text single (n ∷ m ∷ more) items =
+    list_single (nested_text text (m ∷ more)) (nested_single text single (m ∷ more)) (blocks n items)
+
 name_single : (f : Fault) → IsOneLine (python_name_of f)
 name_single fault.Index = refl
 name_single fault.Value = refl
@@ -114,6 +127,9 @@ name_single fault.UnknownName = refl
 pub reply_single : NamesStaySingle
 reply_single name single reply.Ok = refl
 reply_single name single (reply.Handle handle) = single handle
+reply_single name single (reply.Pair exporter view) =
+    both (name exporter) (32 ∷ name view) (single exporter) (single view)
+reply_single name single (reply.Items shape items) = nested_single (item_text name) (item_single name single) shape items
 reply_single name single (reply.Item shown) = item_single name single shown
 reply_single name single (reply.Bytes bytes) = quoted_single bytes
 reply_single name single (reply.Text text) = quoted_single text

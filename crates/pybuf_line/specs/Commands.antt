@@ -14,17 +14,6 @@ use Rattle.pybuf_line.specs.Words.{words, word_in, written_word, kind_in, writte
 use Rattle.pybuf_line.specs.Scalars.{bytes_in}
 use Rattle.pybuf_line.specs.Spellings.{value_in, written_value}
 
--- the keys that `set` takes: tuples and slices are none
-abbrev pub set_key : Value → Option Value
-set_key (value.One scalar) = Some (value.One scalar)
-set_key (value.List parts) = Some (value.List parts)
-set_key _ = None
-
-abbrev pub set_key_in : (List ℕ → Option ℕ) → List ℕ → Option Value
-set_key_in name_in text = do
-  key ← value_in name_in text
-  set_key key
-
 -- A line `WORD hN ARGS` by its word and its arguments: the place where a new verb goes.
 abbrev pub verb_in : (List ℕ → Option ℕ) → Word → List (List ℕ) → Option Verb
 verb_in name_in word.View [] = Some verb.View
@@ -32,7 +21,7 @@ verb_in name_in word.Get (key ∷ []) = do
   k ← value_in name_in key
   Some (verb.Get k)
 verb_in name_in word.Set (key ∷ item ∷ []) = do
-  k ← set_key_in name_in key
+  k ← value_in name_in key
   v ← value_in name_in item
   Some (verb.Set k v)
 verb_in name_in word.ToBytes [] = Some verb.ToBytes
@@ -41,10 +30,22 @@ verb_in name_in word.Len [] = Some verb.Len
 verb_in name_in word.Cast (format ∷ []) = do
   f ← value_in name_in format
   Some (verb.Cast f None)
+verb_in name_in word.Cast (format ∷ shape ∷ []) = do
+  f ← value_in name_in format
+  s ← value_in name_in shape
+  Some (verb.Cast f (Some s))
 verb_in name_in word.Property (name ∷ []) = do
   n ← property_in name
   Some (verb.Property n)
 verb_in name_in word.ToReadonly [] = Some verb.ToReadonly
+verb_in name_in word.Range (from ∷ to ∷ []) = do
+  f ← value_in name_in from
+  t ← value_in name_in to
+  Some (verb.Range f t)
+verb_in name_in word.Enter [] = Some verb.Enter
+verb_in name_in word.Exit [] = Some verb.Exit
+verb_in name_in word.ToContiguous [] = Some verb.ToContiguous
+verb_in name_in word.ToList [] = Some verb.ToList
 verb_in _ _ _ = None
 
 -- the word that a verb is written with
@@ -58,12 +59,19 @@ word_of verb.Release = word.Release
 word_of verb.Len = word.Len
 word_of (verb.Property name) = word.Property
 word_of verb.ToReadonly = word.ToReadonly
+word_of (verb.Range from to) = word.Range
+word_of verb.Enter = word.Enter
+word_of verb.Exit = word.Exit
+word_of verb.ToContiguous = word.ToContiguous
+word_of verb.ToList = word.ToList
 
--- the words after the subject that a verb is written with; no line has a shape
+-- the words after the subject that a verb is written with
 abbrev pub written_arguments : (ℕ → List ℕ) → Verb → List (List ℕ)
 written_arguments name (verb.Get key) = written_value name key ∷ []
 written_arguments name (verb.Set key item) = written_value name key ∷ written_value name item ∷ []
-written_arguments name (verb.Cast format shape) = written_value name format ∷ []
+written_arguments name (verb.Cast format None) = written_value name format ∷ []
+written_arguments name (verb.Cast format (Some shape)) = written_value name format ∷ written_value name shape ∷ []
+written_arguments name (verb.Range from to) = written_value name from ∷ written_value name to ∷ []
 written_arguments name (verb.Property property) = written_name property ∷ []
 written_arguments name _ = []
 

@@ -20,13 +20,13 @@ use Rattle.pybuf_line.specs.Parts.{parts_outside_quotes}
 use Rattle.pybuf_line.specs.Words.{words, written_word, word_in, written_kind, kind_in, written_name, property_in}
 use Rattle.pybuf_line.specs.Scalars.{enclosed_text, is_text, scalar_in, handle_in, handle_text, written_scalar}
 use Rattle.pybuf_line.specs.Spellings.{value_in, written_value}
-use Rattle.pybuf_line.specs.Commands.{command_in, written_command, set_key}
+use Rattle.pybuf_line.specs.Commands.{command_in, written_command}
 use Rattle.pybuf_line.specs.Lines.{lines, commands_in}
 use Rattle.pybuf_line.specs.Replies.{reply_text}
 
 -- a line with its line feed
 abbrev pub ended_line : List ℕ → List ℕ
-ended_line line = line ++ 10 ∷ []
+ended_line line = line ++ byte "\n" ∷ []
 
 -- the lines of an input, each with its line feed, are the input, which may lack the last one
 abbrev pub LinesJoin : Type 0
@@ -34,14 +34,14 @@ LinesJoin = (input : List ℕ) → (flat_map ended_line (lines input) ≡ input)
 
 -- no line holds a line feed
 abbrev pub IsOneLine : List ℕ → Type 0
-IsOneLine line = list_any (λ b. b == 10) line ≡ false
+IsOneLine line = list_any (λ b. b == byte "\n") line ≡ false
 
 abbrev pub LinesAreSingle : Type 0
 LinesAreSingle = (input : List ℕ) → AllByRecursion IsOneLine (lines input)
 
 -- the words of a line with a blank between them are the line
 abbrev pub WordsJoin : Type 0
-WordsJoin = (line : List ℕ) → join_with_byte 32 (words line) ≡ line
+WordsJoin = (line : List ℕ) → join_with_byte (byte " ") (words line) ≡ line
 
 -- the commands of an input are those of its lines
 abbrev pub CommandsAreOfLines : Type 0
@@ -142,8 +142,10 @@ PropertiesReadBack = IsRead written_name property_in IsAny
 -- the verbs that lines spell
 abbrev pub IsSpelledVerb : Verb → Type 0
 IsSpelledVerb (verb.Get key) = IsSpelledValue key
-IsSpelledVerb (verb.Set key item) = (set_key key ≡ Some key) × IsSpelledValue key × IsSpelledValue item
-IsSpelledVerb (verb.Cast format shape) = IsSpelledValue format × (shape ≡ None)
+IsSpelledVerb (verb.Set key item) = IsSpelledValue key × IsSpelledValue item
+IsSpelledVerb (verb.Cast format None) = IsSpelledValue format
+IsSpelledVerb (verb.Cast format (Some shape)) = IsSpelledValue format × IsSpelledValue shape
+IsSpelledVerb (verb.Range from to) = IsSpelledValue from × IsSpelledValue to
 IsSpelledVerb _ = Unit {0}
 
 -- the options of `new` that lines spell: bytes, and nothing else

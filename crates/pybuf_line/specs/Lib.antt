@@ -5,5 +5,6 @@ pub mod Spellings
 pub mod Commands
 pub mod Lines
 pub mod Replies
+pub mod Nesting
 pub mod Reading
 pub mod Laws

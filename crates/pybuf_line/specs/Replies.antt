@@ -1,9 +1,10 @@
 -- The text of a reply, by how a handle is written.
-use Rattle.std.specs.Prelude.{ℕ, List, [], ◌∷◌, ◌++◌, Bool, true, false, codes, decimal}
+use Rattle.std.specs.Prelude.{ℕ, zero, suc, ◌/◌, length, take, drop, List, [], ◌∷◌, ◌++◌, Bool, true, false, codes, decimal}
 use Rattle.std.specs.Fmt.{signed_decimal}
+use Rattle.std.specs.Str.{byte}
 use Rattle.std.specs.List.{flat_map}
 use Rattle.pybuf_value.specs.Names.{python_name_of}
-use Rattle.pybuf_value.specs.Quoted.{quoted_text}
+use Rattle.pybuf_value.specs.Quotes.{quoted_text}
 use Rattle.pybuf_value.specs.declared.values.Scalar.{Scalar}
 use Rattle.pybuf_value.specs.declared.values.Scalar.TheVariants as scalar
 use Rattle.pybuf_value.specs.declared.values.Item.{Item}
@@ -41,9 +42,32 @@ abbrev pub item_text : (ℕ → List ℕ) → Item → List ℕ
 item_text name (item.One part) = scalar_text name part
 item_text name (item.Many parts) = tuple_text (scalar_text name) parts
 
+-- a list by the text of a part
+abbrev pub list_text : {A : Type 0} → (A → List ℕ) → List A → List ℕ
+list_text text [] = codes "[]"
+list_text text (part ∷ more) = codes "[" ++ text part ++ flat_map (next_part_text text) more ++ codes "]"
+
+-- the first so many blocks, each of so many items
+abbrev pub cut : {A : Type 0} → ℕ → ℕ → List A → List (List A)
+cut zero size items = []
+cut (suc n) size items = take size items ∷ cut n size (drop size items)
+
+-- the items cut into so many blocks of the same length
+abbrev pub blocks : {A : Type 0} → ℕ → List A → List (List A)
+blocks n items = cut n (length items / n) items
+
+-- Items nested by a shape, by the text of an item: of several dimensions, the entries of the first one are lists, each of its
+-- block of the items, nested by the rest of the shape. Without dimensions it is a list of the one item.
+abbrev pub nested_text : {A : Type 0} → (A → List ℕ) → List ℕ → List A → List ℕ
+nested_text text [] items = list_text text items
+nested_text text (n ∷ []) items = list_text text items
+nested_text text (n ∷ m ∷ more) items = list_text (nested_text text (m ∷ more)) (blocks n items)
+
 abbrev pub reply_text : (ℕ → List ℕ) → Reply → List ℕ
 reply_text name reply.Ok = codes "ok"
 reply_text name (reply.Handle handle) = name handle
+reply_text name (reply.Pair exporter view) = name exporter ++ byte " " ∷ name view
+reply_text name (reply.Items shape items) = nested_text (item_text name) shape items
 reply_text name (reply.Item shown) = item_text name shown
 reply_text name (reply.Bytes bytes) = bytes_text bytes
 reply_text name (reply.Text text) = quoted_text text
@@ -53,7 +77,7 @@ reply_text name (reply.Refused fault) = codes "! " ++ python_name_of fault
 
 -- a reply with its line feed
 abbrev pub reply_line : (ℕ → List ℕ) → Reply → List ℕ
-reply_line name reply = reply_text name reply ++ 10 ∷ []
+reply_line name reply = reply_text name reply ++ byte "\n" ∷ []
 
 -- a line for each reply
 abbrev pub reply_lines : (ℕ → List ℕ) → List Reply → List ℕ

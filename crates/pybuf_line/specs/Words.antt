@@ -31,9 +31,16 @@ written_word word.Len = codes "len"
 written_word word.Cast = codes "cast"
 written_word word.Property = codes "prop"
 written_word word.ToReadonly = codes "toreadonly"
+written_word word.Range = codes "range"
+written_word word.Enter = codes "enter"
+written_word word.Exit = codes "exit"
+written_word word.ToContiguous = codes "contig"
+written_word word.ToList = codes "tolist"
 
 abbrev pub every_word : List Word
-every_word = word.New ∷ word.View ∷ word.Get ∷ word.Set ∷ word.ToBytes ∷ word.Release ∷ word.Len ∷ word.Cast ∷ word.Property ∷ word.ToReadonly ∷ []
+every_word =
+    word.New ∷ word.View ∷ word.Get ∷ word.Set ∷ word.ToBytes ∷ word.Release ∷ word.Len ∷ word.Cast ∷ word.Property
+    ∷ word.ToReadonly ∷ word.Range ∷ word.Enter ∷ word.Exit ∷ word.ToContiguous ∷ word.ToList ∷ []
 
 unfoldable pub word_in : List ℕ → Option Word
 word_in text = named_in written_word every_word text

@@ -1,5 +1,6 @@
 //! Laws of the definitions that the contracts cite. Each stands on a function with an empty body.
 ghost use Rattle.pybuf_line.specs.Scalars.{handle_text};
+ghost use Rattle.pybuf_line.specs.Nesting.{NestingIsTheShape, ItemsStandInOrder};
 ghost use Rattle.pybuf_line.specs.Laws.{LinesJoin, LinesAreSingle, WordsJoin, CommandsAreOfLines, BadLineIsFirst, RepliesAreSingle, NamesStaySingle, PartsJoin, PartsAreSingle, EnclosedIsBetween, BetweenIsEnclosed, ScalarsReadBack, ValuesReadBack, WordsReadBack, KindsReadBack, PropertiesReadBack, CommandsReadBack};
 
 /// The lines of an input, each with its line feed, are the input, which may lack the last one. No
@@ -26,6 +27,17 @@ pub fn commands_are_of_lines()
 pub fn replies_are_single_lines()
     ensures handles { RepliesAreSingle handle_text }
     ensures names { NamesStaySingle }
+{}
+
+/// The text of items is nested by their shape: its blocks are those of the first dimension, each
+/// nested by the dimensions that are left, and put end to end they are the items.
+pub fn nesting_is_the_shape()
+    ensures { NestingIsTheShape handle_text }
+{}
+
+/// The text of items is made of brackets, of separators and of the texts of all the items, in order.
+pub fn items_stand_in_order()
+    ensures { ItemsStandInOrder handle_text }
 {}
 
 /// The parts of a text between the commas outside quotes, with a comma between each two, are the

@@ -1,7 +1,7 @@
 //! The commands that lines spell.
 ghost use Rattle.std.specs.Prelude.{◌≡◌, ◌+◌, ◌≤◌, ◌<◌, ◌^◌, map, vec_items, Ok, Err};
 ghost use Rattle.pybuf_line.specs.Scalars.{handle_in};
-ghost use Rattle.pybuf_line.specs.Commands.{set_key_in, verb_in, new_in, do_in, command_of_words, command_in};
+ghost use Rattle.pybuf_line.specs.Commands.{verb_in, new_in, do_in, command_of_words, command_in};
 ghost use Rattle.pybuf_line.specs.Reading.{Reads};
 
 use crate::scalars::{bytes, handle};
@@ -12,17 +12,6 @@ use crate::words::{Word, first_word, kind_named, property_named};
 use pybuf_value::Value;
 use pybuf_view::{ByteInnerNewOptions, Command, Verb};
 use std::alloc::Global;
-
-/// The key that a text spells for `set`, which takes no tuple and no slice.
-fn written(alloc: Global, text: &[u8]) -> Result<Value, Unread>
-    ensures { Reads result (set_key_in handle_in text.now) }
-{
-    match value(alloc, text)? {
-        Value::One(scalar) => Ok(Value::One(scalar)),
-        Value::List(parts) => Ok(Value::List(parts)),
-        _ => Err(Unread::NoCommand),
-    }
-}
 
 /// The verb of a word with its arguments.
 fn verb_of(alloc: Global, word: Word, arguments: &[&[u8]]) -> Result<Verb, Unread>
@@ -42,7 +31,7 @@ fn verb_of(alloc: Global, word: Word, arguments: &[&[u8]]) -> Result<Verb, Unrea
         },
         Word::Set => match arguments {
             [key, item] => {
-                let key = written(alloc, key)?;
+                let key = value(alloc, key)?;
                 let value = value(alloc, item)?;
                 Ok(Verb::Set { key, value })
             }
@@ -66,6 +55,11 @@ fn verb_of(alloc: Global, word: Word, arguments: &[&[u8]]) -> Result<Verb, Unrea
                 let shape = None;
                 Ok(Verb::Cast { format, shape })
             }
+            [format, shape] => {
+                let format = value(alloc, format)?;
+                let shape = Some(value(alloc, shape)?);
+                Ok(Verb::Cast { format, shape })
+            }
             _ => Err(Unread::NoCommand),
         },
         Word::Property => match arguments {
@@ -77,6 +71,30 @@ fn verb_of(alloc: Global, word: Word, arguments: &[&[u8]]) -> Result<Verb, Unrea
         },
         Word::ToReadonly => match arguments {
             [] => Ok(Verb::ToReadonly),
+            _ => Err(Unread::NoCommand),
+        },
+        Word::Range => match arguments {
+            [from, to] => {
+                let from = value(alloc, from)?;
+                let to = value(alloc, to)?;
+                Ok(Verb::Range { from, to })
+            }
+            _ => Err(Unread::NoCommand),
+        },
+        Word::Enter => match arguments {
+            [] => Ok(Verb::Enter),
+            _ => Err(Unread::NoCommand),
+        },
+        Word::Exit => match arguments {
+            [] => Ok(Verb::Exit),
+            _ => Err(Unread::NoCommand),
+        },
+        Word::ToContiguous => match arguments {
+            [] => Ok(Verb::ToContiguous),
+            _ => Err(Unread::NoCommand),
+        },
+        Word::ToList => match arguments {
+            [] => Ok(Verb::ToList),
             _ => Err(Unread::NoCommand),
         },
         Word::New => Err(Unread::NoCommand),

@@ -1,6 +1,7 @@
 //! Texts cut into lines, and lines into words.
 ghost use Rattle.std.specs.Prelude.{◌≡◌, ◌==◌, ◌&&◌, not, IfOk, map};
 ghost use Rattle.std.specs.List.{join_with_byte};
+ghost use Rattle.std.specs.Str.{byte};
 ghost use Rattle.pybuf_line.specs.Parts.{parts_at, parts_outside_quotes};
 ghost use Rattle.pybuf_line.specs.Words.{words};
 ghost use Rattle.pybuf_line.specs.Lines.{lines};
@@ -36,7 +37,7 @@ pub fn words_of(alloc: Global, line: &[u8]) -> Result<Vec<&[u8]>, AllocError>
 
 /// Whether a part ends at a byte.
 fn ends_part(b: u8, quoted: bool) -> bool
-    ensures { result ≡ (b == 44 && not quoted) }
+    ensures { result ≡ (b == byte "," && not quoted) }
 {
     b == b',' && !quoted
 }

@@ -1,8 +1,18 @@
 //! What no clause says: that the calls succeed with ample memory.
 use super::*;
-use pybuf_value::{Item, NumberList, Scalar, ScalarList, Text};
+use pybuf_value::{CountList, Item, ItemList, Made, NumberList, Scalar, ScalarList, Text};
 use pybuf_view::Reply;
+use std::alloc::Global;
 use std::test::Fail;
+
+/// Items of these numbers.
+fn items_of(alloc: Global, numbers: &[i128]) -> Made<ItemList> {
+    let mut items = ItemList::new(alloc);
+    for number in numbers {
+        items.push(Item::One(Scalar::Int(*number)))?;
+    }
+    Ok(items)
+}
 
 #[test]
 fn replies_are_printed_with_ample_memory(rt: HostRuntime) -> Result<(), Fail> {
@@ -11,7 +21,27 @@ fn replies_are_printed_with_ample_memory(rt: HostRuntime) -> Result<(), Fail> {
     let mut parts = ScalarList::new(rt.alloc());
     parts.push(Scalar::Int(1))?;
     parts.push(Scalar::Bool(true))?;
+    let pair = Vec::from_slice(rt.alloc(), &[2, 3])?;
+    let none = Vec::from_slice(rt.alloc(), &[2, 0])?;
+    let items = items_of(rt.alloc(), &[0, 1, 2, 3, 4, 5])?;
+    let alone = items_of(rt.alloc(), &[7])?;
     let replies = [
+        Reply::Pair {
+            exporter: 4,
+            view: 5,
+        },
+        Reply::Items {
+            shape: CountList::from_vec(pair),
+            items,
+        },
+        Reply::Items {
+            shape: CountList::from_vec(none),
+            items: ItemList::new(rt.alloc()),
+        },
+        Reply::Items {
+            shape: CountList::new(rt.alloc()),
+            items: alone,
+        },
         Reply::Numbers(numbers),
         Reply::Numbers(one),
         Reply::Numbers(NumberList::new(rt.alloc())),
@@ -26,14 +56,14 @@ fn replies_are_printed_with_ample_memory(rt: HostRuntime) -> Result<(), Fail> {
     // the texts are those of Python's `repr`
     assert_eq!(rt;
         out.as_slice(),
-        b"(2, -3, 0)\n(7,)\n()\n(1, True)\nFalse\n'<hH'\n".as_slice()
+        b"h4 h5\n[[0, 1, 2], [3, 4, 5]]\n[[], []]\n[7]\n(2, -3, 0)\n(7,)\n()\n(1, True)\nFalse\n'<hH'\n".as_slice()
     );
     Ok(())
 }
 
 #[test]
 fn lines_are_read_with_ample_memory(rt: HostRuntime) {
-    let lines = b"new bytearray x616263\nview h0\nget h1 None:None:-1\nset h2 [1,'a,b'] (0:1:1)";
+    let lines = b"new bytearray x616263\nview h0\ncast h1 'B' [1,3]\nset h2 (0,1) (0:1:1)";
     let count = commands_of(rt.alloc(), lines).map(|commands| commands.len());
     assert_eq!(rt; count.ok(), Some(4));
     let bad = commands_of(rt.alloc(), b"view h0\nview  h0\n").map(|commands| commands.len());

@@ -2,9 +2,9 @@
 ghost use Rattle.std.specs.Prelude.{◌≡◌, ◌++◌, List, ℕ, OnOk, decimal};
 ghost use Rattle.std.specs.Fmt.{signed_decimal};
 ghost use Rattle.std.specs.List.{flat_map};
-ghost use Rattle.pybuf_value.specs.Quoted.{quoted_text};
+ghost use Rattle.pybuf_value.specs.Quotes.{quoted_text};
 ghost use Rattle.pybuf_line.specs.Scalars.{handle_text};
-ghost use Rattle.pybuf_line.specs.Replies.{bytes_text, truth_text, scalar_text, next_part_text, tuple_text, item_text, reply_text, reply_line, bad_line_text};
+ghost use Rattle.pybuf_line.specs.Replies.{bytes_text, truth_text, scalar_text, next_part_text, tuple_text, item_text, list_text, nested_text, reply_text, reply_line, bad_line_text};
 
 use itoa::Buffer;
 use pybuf_value::{Item, Made, Scalar, push_quoted};
@@ -48,7 +48,15 @@ fn push_truth(out: &mut Vec<u8>, truth: bool) -> Made<()>
     Ok(())
 }
 
-/// What a tuple may have as its parts.
+/// Adds a handle.
+fn push_handle(out: &mut Vec<u8>, handle: u64) -> Made<()>
+    ensures { OnOk result (out.new.items ≡ out.old.items ++ handle_text handle) }
+{
+    out.push(b'h')?;
+    push_decimal(out, handle)
+}
+
+/// What a tuple or a list may have as its parts.
 trait Part {
     // the text of a part
     ghost text: { Self → List ℕ };
@@ -77,16 +85,13 @@ impl Part for Scalar {
             Scalar::Text(text) => push_quoted(out, text.as_slice())?,
             Scalar::Bytes(bytes) => push_bytes(out, bytes.as_slice())?,
             Scalar::Ellipsis => out.extend_from_slice(b"Ellipsis")?,
-            Scalar::Handle(handle) => {
-                out.push(b'h')?;
-                push_decimal(out, *handle)?;
-            }
+            Scalar::Handle(handle) => push_handle(out, *handle)?,
         }
         Ok(())
     }
 }
 
-/// Adds the parts of a tuple after the first.
+/// Adds the parts of a tuple or a list after the first.
 fn push_next_parts<T: Part>(out: &mut Vec<u8>, parts: &[T]) -> Made<()>
     ensures { OnOk result (out.new.items ≡ out.old.items ++ flat_map (next_part_text T.text) parts.now) }
 {
@@ -118,14 +123,55 @@ fn push_tuple<T: Part>(out: &mut Vec<u8>, parts: &[T]) -> Made<()>
     Ok(())
 }
 
-/// Adds an item.
-fn push_item(out: &mut Vec<u8>, item: &Item) -> Made<()>
-    ensures { OnOk result (out.new.items ≡ out.old.items ++ item_text handle_text item.now) }
-{
-    match item {
-        Item::One(part) => part.push_part(out),
-        Item::Many(parts) => push_tuple(out, parts.as_slice()),
+impl Part for Item {
+    ghost text = { item_text handle_text };
+
+    fn push_part(&self, out: &mut Vec<u8>) -> Made<()> {
+        match self {
+            Item::One(part) => part.push_part(out),
+            Item::Many(parts) => push_tuple(out, parts.as_slice()),
+        }
     }
+}
+
+/// Adds a list.
+fn push_list<T: Part>(out: &mut Vec<u8>, parts: &[T]) -> Made<()>
+    ensures { OnOk result (out.new.items ≡ out.old.items ++ list_text T.text parts.now) }
+{
+    match parts {
+        [] => out.extend_from_slice(b"[]")?,
+        [part, more @ ..] => {
+            out.push(b'[')?;
+            part.push_part(out)?;
+            push_next_parts(out, more)?;
+            out.push(b']')?;
+        }
+    }
+    Ok(())
+}
+
+/// Adds items nested by a shape. Each block is lent, and none is copied.
+fn push_nested(out: &mut Vec<u8>, shape: &[usize], items: &[Item]) -> Made<()>
+    ensures { OnOk result (out.new.items ≡ out.old.items ++ nested_text (item_text handle_text) shape.now items.now) }
+{
+    match shape {
+        [] | [_] => push_list(out, items)?,
+        [0, ..] => out.extend_from_slice(b"[]")?,
+        [entries, inner @ ..] => {
+            let size = items.len() / *entries;
+            let (block, mut rest) = items.split_at(size);
+            out.push(b'[')?;
+            push_nested(out, inner, block)?;
+            for _ in 1..*entries {
+                let (block, more) = rest.split_at(size);
+                out.extend_from_slice(b", ")?;
+                push_nested(out, inner, block)?;
+                rest = more;
+            }
+            out.push(b']')?;
+        }
+    }
+    Ok(())
 }
 
 /// Adds a reply.
@@ -134,11 +180,14 @@ pub fn push_reply(out: &mut Vec<u8>, reply: &Reply) -> Made<()>
 {
     match reply {
         Reply::Ok => out.extend_from_slice(b"ok")?,
-        Reply::Handle(handle) => {
-            out.push(b'h')?;
-            push_decimal(out, *handle)?;
+        Reply::Handle(handle) => push_handle(out, *handle)?,
+        Reply::Pair { exporter, view } => {
+            push_handle(out, *exporter)?;
+            out.push(b' ')?;
+            push_handle(out, *view)?;
         }
-        Reply::Item(item) => push_item(out, item)?,
+        Reply::Item(item) => item.push_part(out)?,
+        Reply::Items { shape, items } => push_nested(out, shape.as_slice(), items.as_slice())?,
         Reply::Bytes(bytes) => push_bytes(out, bytes.as_slice())?,
         Reply::Text(text) => push_quoted(out, text.as_slice())?,
         Reply::Truth(truth) => push_truth(out, *truth)?,

@@ -18,6 +18,11 @@ pub enum Word {
     Cast,
     Property,
     ToReadonly,
+    Range,
+    Enter,
+    Exit,
+    ToContiguous,
+    ToList,
 }
 
 /// Whether a text is a word, byte by byte.
@@ -61,6 +66,21 @@ pub fn first_word(text: &[u8]) -> Option<Word>
     }
     if is_word(text, "toreadonly") {
         return Some(Word::ToReadonly);
+    }
+    if is_word(text, "range") {
+        return Some(Word::Range);
+    }
+    if is_word(text, "enter") {
+        return Some(Word::Enter);
+    }
+    if is_word(text, "exit") {
+        return Some(Word::Exit);
+    }
+    if is_word(text, "contig") {
+        return Some(Word::ToContiguous);
+    }
+    if is_word(text, "tolist") {
+        return Some(Word::ToList);
     }
     None
 }

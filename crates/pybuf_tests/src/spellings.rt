@@ -5,7 +5,7 @@ use std::process::Abort;
 use std::test::Fail;
 
 /// Lines that are no commands.
-const NONE: [&str; 38] = [
+const NONE: [&str; 35] = [
     "get h0 ''",
     "get h0 'a",
     "get h0 a'",
@@ -41,13 +41,10 @@ const NONE: [&str; 38] = [
     "get h0 none",
     "get h0 ....",
     "get h0 h18446744073709551616",
-    "set h0 (0) 1",
-    "set h0 0:1:1 1",
-    "set h0 (0:1:1) 1",
 ];
 
 /// Lines that are none for another reason than a value.
-const OTHER: [&str; 8] = [
+const OTHER: [&str; 16] = [
     "get h18446744073709551616 0",
     "get h-1 0",
     "get h 0",
@@ -56,6 +53,14 @@ const OTHER: [&str; 8] = [
     "new bytes",
     "new bytes 3",
     "new Bytes x",
+    "range h0 1",
+    "range h0 1 2 3",
+    "enter h0 0",
+    "exit",
+    "contig h0 0",
+    "tolist h0 0",
+    "cast h0",
+    "cast h0 'B' [3] [3]",
 ];
 
 fn each_ends(rt: &impl Abort, alloc: Global, lines: &[&str]) -> Result<(), Fail> {
