@@ -5,12 +5,16 @@ It reads all lines, then carries them out, then writes all replies, as the progr
 import sys
 
 
-def value(word):
+def value(word, objects):
     """The value that a word spells."""
     if word[0] == "x":
         return bytes.fromhex(word[1:])
     if word[0] == "'":
         return word[1:-1]
+    if word[0] == "h":
+        return objects[int(word[1:])]
+    if word[0] in "([":
+        return tuple([int(part) for part in word[1:-1].split(",")])
     if ":" in word:
         return slice(*[None if part == "None" else int(part) for part in word.split(":")])
     return int(word)
@@ -24,36 +28,38 @@ def replies(lines):
         word = words[0]
         try:
             if word == "new":
-                objects.append((bytes if words[1] == "bytes" else bytearray)(value(words[2])))
+                objects.append((bytes if words[1] == "bytes" else bytearray)(value(words[2], objects)))
                 yield f"h{len(objects) - 1}"
                 continue
             subject = objects[int(words[1][1:])]
             if word == "get":
-                found = subject[value(words[2])]
+                found = subject[value(words[2], objects)]
                 if type(found) is memoryview:
                     objects.append(found)
                     yield f"h{len(objects) - 1}"
                 else:
                     yield repr(bytes(found) if type(found) is bytearray else found)
             elif word == "set":
-                subject[value(words[2])] = value(words[3])
+                subject[value(words[2], objects)] = value(words[3], objects)
                 yield "ok"
             elif word == "view":
                 objects.append(memoryview(subject))
                 yield f"h{len(objects) - 1}"
             elif word == "bytes":
                 yield repr(bytes(subject))
+            elif word == "tolist":
+                yield repr(subject.tolist())
             elif word == "release":
                 subject.release()
                 yield "ok"
             elif word == "len":
                 yield repr(len(subject))
             elif word == "cast":
-                objects.append(subject.cast(value(words[2])))
+                objects.append(subject.cast(*[value(word, objects) for word in words[2:]]))
                 yield f"h{len(objects) - 1}"
             else:
                 sys.exit(f"no command of this loop: {line}")
-        except (IndexError, TypeError, ValueError) as fault:
+        except (IndexError, NotImplementedError, TypeError, ValueError) as fault:
             yield f"! {type(fault).__name__}"
 
 
