@@ -4,9 +4,14 @@ import sys
 SIZE = 1_048_576
 
 
+def filled():
+    """A bytearray of one mebibyte."""
+    return bytearray((bytes(range(251)) * (SIZE // 251 + 1))[:SIZE])
+
+
 def counted(word):
     """How many objects and assignments a run makes."""
-    first = bytearray(at % 251 for at in range(SIZE))
+    first = filled()
     view = memoryview(first)
     if word == "slices":
         planes = view.cast("B", (256, 256, 16))
@@ -15,7 +20,7 @@ def counted(word):
             made.append(planes[::-1])
             made.append(planes[1:255])
         return len(made)
-    second = bytearray(at % 251 for at in range(SIZE))
+    second = filled()
     other = memoryview(second)
     count = 4
     if word == "contiguous":
