@@ -6,8 +6,6 @@ use Rattle.pybuf_value.specs.declared.values.Scalar.{Scalar}
 use Rattle.pybuf_value.specs.declared.values.Scalar.TheVariants as scalar
 use Rattle.pybuf_value.specs.declared.values.Item.{Item}
 use Rattle.pybuf_value.specs.declared.values.Item.TheVariants as item
-use Rattle.pybuf_value.specs.declared.faults.Outcome.{Outcome}
-use Rattle.pybuf_value.specs.declared.faults.Outcome.TheVariants as outcome
 use Rattle.pybuf_struct.specs.declared.table.Endianness.{Endianness}
 use Rattle.pybuf_struct.specs.declared.table.FormatType.{FormatType}
 use Rattle.pybuf_struct.specs.declared.table.FormatType.TheVariants as code
@@ -44,11 +42,6 @@ unpacked_values f bytes = if length bytes == f.size then Ok (values f bytes) els
 abbrev pub item_of : List Scalar → Item
 item_of (v ∷ []) = item.One v
 item_of vs = item.Many vs
-
--- what a call answers that may be refused
-abbrev pub outcome_of : {A : Type 0} → Result A Fault → Outcome A
-outcome_of (Ok x) = outcome.Done x
-outcome_of (Err f) = outcome.Refused f
 
 -- whether a field of a code may have so many bytes: `s` and `p` any, and every other code those of one unit
 abbrev pub is_length : Endianness → FormatType → ℕ → Bool

@@ -3,7 +3,7 @@ ghost use Rattle.std.specs.Prelude.{◌≡◌, ◌+◌, ◌-◌, ◌*◌, ◌<�
 ghost use Rattle.std.specs.Char.{is_ascii_digit};
 ghost use Rattle.pybuf_value.specs.declared.faults.Fault.{Fault};
 ghost use Rattle.pybuf_struct.specs.Formats.{allowed_code, prefix_of, code_at, offset_after, format_after_prefix, format_of};
-ghost use Rattle.pybuf_struct.specs.Values.{outcome_of};
+ghost use Rattle.pybuf_value.specs.Halting.{outcome_of};
 
 use crate::format::{FormatCode, FormatSpec};
 use crate::table::{Endianness, FormatType};

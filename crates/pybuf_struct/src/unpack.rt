@@ -2,7 +2,8 @@
 ghost use Rattle.std.specs.Prelude.{◌≡◌, ◌+◌, ◌*◌, ◌≤◌, ◌<◌, ◌^◌, ◌++◌, length, map, IfOk, OnOk, IsTrue};
 ghost use Rattle.pybuf_struct.specs.Table.{size_of};
 ghost use Rattle.pybuf_struct.specs.Formats.{span, extent, fields_in_row, fields_of_code, fields_from};
-ghost use Rattle.pybuf_struct.specs.Values.{is_length, pascal_content, value_of, value_in, unpacked_values, outcome_of};
+ghost use Rattle.pybuf_value.specs.Halting.{outcome_of};
+ghost use Rattle.pybuf_struct.specs.Values.{is_length, pascal_content, value_of, value_in, unpacked_values};
 
 use crate::digits::number;
 use crate::format::{FormatCode, FormatSpec};

@@ -1,6 +1,8 @@
 -- Results that a refusal or want of memory can stand in place of.
 use Rattle.std.specs.Prelude.{◌≡◌, Result, Ok, Err}
 use Rattle.pybuf_value.specs.declared.faults.Fault.{Fault}
+use Rattle.pybuf_value.specs.declared.faults.Outcome.{Outcome}
+use Rattle.pybuf_value.specs.declared.faults.Outcome.TheVariants as outcome
 use Rattle.pybuf_value.specs.declared.halt.Halt.{Halt}
 use Rattle.pybuf_value.specs.declared.halt.Halt.TheVariants as halt
 
@@ -9,3 +11,8 @@ abbrev pub Gives : {X : Type 0} → Result X Fault → Result X Halt → Type 0
 Gives wanted (Ok x) = wanted ≡ Ok x
 Gives wanted (Err (halt.Refused f)) = wanted ≡ Err f
 Gives wanted (Err halt.NoMemory) = Unit {0}
+
+-- what a call answers that may be refused
+abbrev pub outcome_of : {X : Type 0} → Result X Fault → Outcome X
+outcome_of (Ok x) = outcome.Done x
+outcome_of (Err f) = outcome.Refused f

@@ -4,6 +4,10 @@ use Rattle.pybuf_value.specs.declared.faults.Fault.{Fault}
 use Rattle.pybuf_value.specs.declared.faults.Fault.TheVariants as fault
 use Rattle.pybuf_value.specs.declared.values.Scalar.{Scalar}
 use Rattle.pybuf_value.specs.declared.values.Scalar.TheVariants as scalar
+use Rattle.pybuf_value.specs.declared.values.Value.{Value}
+use Rattle.pybuf_value.specs.declared.values.Value.TheVariants as value
+use Rattle.pybuf_value.specs.Refusing.{◌>>=◌}
+use Rattle.pybuf_value.specs.Numbers.{number_in, byte_of}
 use Rattle.pybuf_value.specs.declared.snaps.Snap.{Snap}
 use Rattle.pybuf_value.specs.declared.snaps.SnapKind.{SnapKind}
 use Rattle.pybuf_value.specs.declared.snaps.SnapKind.TheVariants as kind
@@ -49,3 +53,58 @@ abbrev pub bytes_alone : List (ℕ × Snap) → Scalar → Result (List ℕ) Fau
 bytes_alone pairs (scalar.Bytes bytes) = Ok bytes
 bytes_alone pairs (scalar.Handle h) = content_of_bytes (snap_of pairs h)
 bytes_alone pairs _ = Err fault.Kind
+
+-- ---- arguments that are read as bytes
+
+-- the bytes of a view, whose items may lie apart, unless it was released
+abbrev pub content_if_unreleased : Bool → List ℕ → Result (List ℕ) Fault
+content_if_unreleased true content = Err fault.Value
+content_if_unreleased false content = Ok content
+
+abbrev pub content_read : SnapKind → Bool → List ℕ → Result (List ℕ) Fault
+content_read kind.Iterator released content = Err fault.Kind
+content_read kind.View released content = content_if_unreleased released content
+content_read _ released content = Ok content
+
+abbrev pub content_of_named : Option Snap → Result (List ℕ) Fault
+content_of_named None = Err fault.UnknownName
+content_of_named (Some snap) = content_read snap.kind snap.released snap.content
+
+-- the byte that a part of a list is: a number first, then its range
+abbrev pub byte_in_scalar : Scalar → Result ℕ Fault
+byte_in_scalar s = do
+  n ← number_in s
+  byte_of n
+
+-- the bytes that the parts of a list are; the first part that is none decides
+abbrev pub bytes_in_parts : List Scalar → Result (List ℕ) Fault
+bytes_in_parts [] = Ok []
+bytes_in_parts (s ∷ parts) = do
+  byte ← byte_in_scalar s
+  bytes ← bytes_in_parts parts
+  Ok (byte ∷ bytes)
+
+-- The bytes that a value is read as: those of a bytes value, those of the exporter or the view that a
+-- handle names, and those that the parts of a list or a tuple are.
+abbrev pub bytes_in : List (ℕ × Snap) → Value → Result (List ℕ) Fault
+bytes_in pairs (value.One (scalar.Bytes bytes)) = Ok bytes
+bytes_in pairs (value.One (scalar.Handle h)) = content_of_named (snap_of pairs h)
+bytes_in pairs (value.Tuple parts) = bytes_in_parts parts
+bytes_in pairs (value.List parts) = bytes_in_parts parts
+bytes_in pairs _ = Err fault.Kind
+
+-- the bytes of an exporter that is Python's `bytes` or `bytearray`
+abbrev pub content_of_string : SnapKind → List ℕ → Option (List ℕ)
+content_of_string kind.Bytes content = Some content
+content_of_string kind.ByteArray content = Some content
+content_of_string _ content = None
+
+abbrev pub string_of_named : Option Snap → Option (List ℕ)
+string_of_named None = None
+string_of_named (Some snap) = content_of_string snap.kind snap.content
+
+-- the bytes of a bytes value, or of such an exporter; none of any other value
+abbrev pub string_bytes_of : List (ℕ × Snap) → Value → Option (List ℕ)
+string_bytes_of pairs (value.One (scalar.Bytes bytes)) = Some bytes
+string_bytes_of pairs (value.One (scalar.Handle h)) = string_of_named (snap_of pairs h)
+string_bytes_of pairs _ = None

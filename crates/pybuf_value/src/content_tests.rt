@@ -51,3 +51,57 @@ fn bytes_are_those_that_a_handle_names(rt: HostRuntime) -> Result<(), Fail> {
     }
     Ok(())
 }
+
+/// A handle, and what `bytes_from_object` and `try_as_bytes` give of it.
+const READ: [(u64, Result<&[u8], Fault>, Option<&[u8]>); 7] = [
+    (1, Ok(b"k"), Some(b"k")),
+    (2, Ok(b"xyz"), None),
+    (3, Ok(b"v"), None),
+    (4, Ok(b"w"), None),
+    (5, Err(Fault::Value), None),
+    (6, Err(Fault::Kind), None),
+    (7, Err(Fault::UnknownName), None),
+];
+
+/// The bytes that were copied, or why not.
+fn copied(outcome: &Outcome<ByteList>) -> Result<&[u8], Fault> {
+    match outcome {
+        Outcome::Done(bytes) => Ok(bytes.as_slice()),
+        Outcome::Refused(fault) => Err(*fault),
+    }
+}
+
+#[test]
+fn bytes_are_copied_of_what_a_handle_names(rt: HostRuntime) -> Result<(), Fail> {
+    let lender = lender(rt.alloc())?;
+    for (handle, read, string) in &READ {
+        let value = Value::One(Scalar::Handle(*handle));
+        let outcome = bytes_from_object(rt.alloc(), &value, &lender)?;
+        assert!(rt; copied(&outcome) == *read, "{handle}");
+        assert!(rt; try_as_bytes(&value, &lender) == *string, "{handle}");
+    }
+    Ok(())
+}
+
+/// The numbers of a list, and its bytes: those of Python's `bytes([..])`.
+const PARTS: [(&[i128], Result<&[u8], Fault>); 5] = [
+    (&[], Ok(b"")),
+    (&[0, 97, 255], Ok(b"\x00a\xff")),
+    (&[97, 256], Err(Fault::Value)),
+    (&[-1, 97], Err(Fault::Value)),
+    (&[1, 2, 3, 4], Ok(b"\x01\x02\x03\x04")),
+];
+
+#[test]
+fn bytes_are_those_of_the_parts(rt: HostRuntime) -> Result<(), Fail> {
+    let lender = SnapList::new(rt.alloc());
+    for (numbers, wanted) in &PARTS {
+        let mut parts = ScalarList::new(rt.alloc());
+        for number in *numbers {
+            parts.push(Scalar::Int(*number))?;
+        }
+        let outcome = bytes_from_object(rt.alloc(), &Value::List(parts), &lender)?;
+        assert!(rt; copied(&outcome) == *wanted, "{numbers:?}");
+    }
+    Ok(())
+}

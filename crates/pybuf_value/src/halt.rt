@@ -1,8 +1,10 @@
 //! Why a row of the command table stops: it is refused, or memory ran out.
-ghost use Rattle.std.specs.Prelude.{◌≡◌};
+ghost use Rattle.std.specs.Prelude.{◌≡◌, Result, IfOk};
+ghost use Rattle.pybuf_value.specs.Halting.{Gives, outcome_of};
+ghost use Rattle.pybuf_value.specs.declared.faults.Fault as faults;
 ghost use Rattle.pybuf_value.specs.declared.halt.Halt.TheVariants as halts;
 
-use crate::faults::Fault;
+use crate::faults::{Fault, Outcome, Tried};
 use pybuf_copy::NoMemory;
 use std::alloc::{AllocError, AllocFailed};
 
@@ -11,6 +13,17 @@ use std::alloc::{AllocError, AllocFailed};
 pub enum Halt {
     Refused(Fault),
     NoMemory,
+}
+
+/// The answer of a public call, by the result of its body, which may stop for either cause.
+pub fn tried<T>(answer: Result<T, Halt>) -> Tried<T>
+    ensures { (wanted : Result T faults.Fault) → Gives wanted answer → IfOk result (λ o. o ≡ outcome_of wanted) }
+{
+    match answer {
+        Ok(value) => Ok(Outcome::Done(value)),
+        Err(Halt::Refused(fault)) => Ok(Outcome::Refused(fault)),
+        Err(Halt::NoMemory) => Err(NoMemory),
+    }
 }
 
 impl From<Fault> for Halt {

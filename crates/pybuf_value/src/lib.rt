@@ -11,9 +11,9 @@ mod snaps;
 mod text;
 mod values;
 
-pub use contents::{bytes_alone, bytes_like};
+pub use contents::{bytes_alone, bytes_from_object, bytes_like, text_in, try_as_bytes};
 pub use faults::{Fault, Outcome, Tried};
-pub use halt::Halt;
+pub use halt::{Halt, tried};
 pub use list::{
     ByteList, ByteLists, CountList, DimList, ItemList, Items, NumberList, ScalarList, SliceList,
     ValueList, push_reserved,

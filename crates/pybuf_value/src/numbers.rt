@@ -2,10 +2,21 @@
 ghost use Rattle.std.specs.Prelude.{◌≡◌, ◌↔◌, ℕ, Result, IsOk, FitsSigned};
 ghost use Rattle.std.specs.Int.{w64, saturate_signed};
 ghost use Rattle.pybuf_value.specs.declared.faults.Fault.{Fault};
-ghost use Rattle.pybuf_value.specs.Numbers.{number_of, fitted_number, byte_of, byte_in};
+ghost use Rattle.pybuf_value.specs.Numbers.{number_in, number_of, fitted_number, byte_of, byte_in};
 
 use crate::faults::Fault;
 use crate::values::{Scalar, Value};
+
+/// The same of a value without parts.
+pub(crate) fn number_in(value: &Scalar) -> Result<i128, Fault>
+    ensures { result ≡ number_in value.now }
+{
+    match value {
+        Scalar::Int(number) => Ok(*number),
+        Scalar::Bool(truth) => { if *truth { Ok(1) } else { Ok(0) } }
+        _ => Err(Fault::Kind),
+    }
+}
 
 /// The number of a whole number or of a truth value, which counts as 0 or 1.
 ///
@@ -14,8 +25,7 @@ pub fn index_of(value: &Value) -> Result<i128, Fault>
     ensures { result ≡ number_of value.now }
 {
     match value {
-        Value::One(Scalar::Int(number)) => Ok(*number),
-        Value::One(Scalar::Bool(truth)) => { if *truth { Ok(1) } else { Ok(0) } }
+        Value::One(scalar) => number_in(scalar),
         _ => Err(Fault::Kind),
     }
 }

@@ -1,0 +1,11 @@
+//! Strings of bytes, and what they are made of.
+#![tactic(auto)]
+
+mod inner;
+mod options;
+
+pub use inner::PyBytesInner;
+pub use options::ByteInnerNewOptions;
+
+#[cfg(test)]
+mod tests;
