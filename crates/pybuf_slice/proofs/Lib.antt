@@ -5,3 +5,4 @@ pub mod PartLemmas
 pub mod TwinLemmas
 pub mod EditLemmas
 pub mod PartedLemmas
+pub mod LengthLemmas

@@ -2,7 +2,8 @@
 use Rattle.std.specs.Prelude.{◌≡◌, ◌≢◌, ℤ, pos, Bool, List, [], ◌∷◌, length, reverse, Option, if◌then◌else◌}
 use Rattle.pybuf_slice.specs.Picks.{is_negative, picks}
 use Rattle.pybuf_slice.specs.Reads.{elements_at}
-use Rattle.pybuf_slice.specs.Edits.{elements_off}
+use Rattle.pybuf_slice.specs.Parts.{SliceParts, picks_of}
+use Rattle.pybuf_slice.specs.Edits.{elements_off, assigned_list}
 
 -- the elements that are marked, in order
 abbrev pub marked_elements : {X : Type 0} → List Bool → List X → List X
@@ -33,3 +34,7 @@ abbrev pub SlicePartsList : {X : Type 0} → List X → Option ℤ → Option �
 SlicePartsList items start stop step =
     step ≢ pos 0
     → AreParted items (elements_at items (picks (length items) start stop step)) (elements_off items (picks (length items) start stop step)) step
+
+-- as many elements in place of those of a slice keep the length
+abbrev pub AsManyKeepTheLength : {X : Type 0} → List X → SliceParts → List X → Type 0
+AsManyKeepTheLength items parts others = length (picks_of (length items) parts) ≡ length others → length (assigned_list items parts others) ≡ length items

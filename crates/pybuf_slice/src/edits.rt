@@ -84,7 +84,7 @@ pub(crate) fn do_delete_range<T: Twin>(list: &mut Vec<T>, range: Range<usize>)
 pub(crate) fn do_delete_indexes<T: Twin>(
     list: &mut Vec<T>,
     range: Range<usize>,
-    mut indexes: SaturatedSliceIter,
+    indexes: SaturatedSliceIter,
 )
     requires ordered { range.start ≤ range.end }
     requires inside { range.end ≤ length list.old.items }
@@ -92,17 +92,37 @@ pub(crate) fn do_delete_indexes<T: Twin>(
     requires within { All (λ i. (range.start ≤ i) × (i < range.end)) indexes }
     ensures { list.new.items ≡ elements_off list.old.items indexes }
 {
+    let end = range.end;
+    let kept = close_up_indexes(list.as_mut_slice(), range, indexes);
+    do_delete_range(list, kept..end);
+}
+
+/// Moves the elements of a range that are off rising indices to its front, in order, each at most
+/// once. The answer is where they end: what is left of the range is all that has to be taken out.
+fn close_up_indexes<T: Twin>(
+    items: &mut [T],
+    range: Range<usize>,
+    mut indexes: SaturatedSliceIter,
+) -> usize
+    requires ordered { range.start ≤ range.end }
+    requires inside { range.end ≤ length items.old }
+    requires rising { IsStrictlyIncreasing indexes }
+    requires within { All (λ i. (range.start ≤ i) × (i < range.end)) indexes }
+    ensures list { replaced_range items.new result range.end [] ≡ elements_off items.old indexes }
+    ensures ordered { result ≤ range.end }
+    ensures length { length items.new ≡ length items.old }
+{
     let mut kept = range.start;
     let mut next = next_before(&mut indexes, range.end);
     for place in range.start..range.end {
         if place == next {
             next = next_before(&mut indexes, range.end);
         } else {
-            list.swap(kept, place);
+            items.swap(kept, place);
             kept += 1;
         }
     }
-    do_delete_range(list, kept..range.end);
+    kept
 }
 
 /// The next index, or the end where there is none.
@@ -167,11 +187,26 @@ pub(crate) fn delitem_by_slice<T: Twin>(list: &mut Vec<T>, slice: SaturatedSlice
     requires { length list.old.items < 2 ^ 63 }
     ensures { list.new.items ≡ elements_off list.old.items (picks_of (length list.old.items) slice) }
 {
-    let (range, step, count) = slice.adjust_indices(list.len());
+    let left = close_up(list.as_mut_slice(), slice);
+    do_delete_range(list, left);
+}
+
+/// Moves the elements between the indices of a slice to the front of its span, in order, each at most
+/// once. The answer is the range that is left: without its elements, the list is the one from which
+/// those at the indices are deleted.
+pub fn close_up<T: Twin>(items: &mut [T], slice: SaturatedSlice) -> Range<usize>
+    requires { length items.old < 2 ^ 63 }
+    ensures list { replaced_range items.new result.start result.end [] ≡ elements_off items.old (picks_of (length items.old) slice) }
+    ensures ordered { result.start ≤ result.end }
+    ensures inside { result.end ≤ length items.old }
+    ensures length { length items.new ≡ length items.old }
+{
+    let (range, step, count) = slice.adjust_indices(items.len());
     if step == 1 || step == -1 {
-        do_delete_range(list, range);
-        return;
+        return range;
     }
+    let end = range.end;
     let indexes = SaturatedSliceIter::from_adjust_indices(range.start..range.end, step, count);
-    do_delete_indexes(list, range, indexes.positive_order());
+    let kept = close_up_indexes(items, range, indexes.positive_order());
+    kept..end
 }

@@ -1,7 +1,8 @@
 //! What holds of the indices of every slice, and of edits by them.
 ghost use Rattle.std.specs.Prelude.{ℕ, ℤ, List, Option};
-ghost use Rattle.pybuf_slice.specs.EditLaws.{SlicePartsList};
+ghost use Rattle.pybuf_slice.specs.EditLaws.{SlicePartsList, AsManyKeepTheLength};
 ghost use Rattle.pybuf_value.specs.declared.values.PySlice.{PySlice};
+ghost use Rattle.pybuf_slice.specs.Parts.{SliceParts};
 ghost use Rattle.pybuf_slice.specs.Laws.{EachSlice, PicksAre, SameWhenClamped, IndicesAgree};
 
 /// The indices of a slice are exactly the numbers that lie so many steps from its start and before
@@ -27,4 +28,9 @@ pub fn indices_and_adjust_indices_agree()
 /// two. What stays is in the order of the list, and what is read is in the direction of the step.
 pub fn reading_and_deleting_part_a_list<T>()
     ensures { (items : List T) (start stop : Option ℤ) (step : ℤ) → SlicePartsList items start stop step }
+{}
+
+/// As many elements in place of those of a slice keep the length of a list.
+pub fn as_many_keep_the_length<T>()
+    ensures { (items : List T) (parts : SliceParts) (others : List T) → AsManyKeepTheLength items parts others }
 {}

@@ -1,5 +1,5 @@
 -- A step of 1, up or down, picks a whole range. The order of the indices changes nothing.
-use Rattle.std.proofs.Common.{◌≡◌, ◌≢◌, ◌⊎◌, ◌<◌, ◌≤◌, pos, negsuc, length, ap, sym, ◌∙◌, inl, inr, of_z, arith}
+use Rattle.std.proofs.Common.{◌≡◌, ◌≢◌, ◌⊎◌, ◌<◌, ◌≤◌, pos, negsuc, length, ap, sym, ◌∙◌, inl, inr, of_z}
 use Rattle.std.specs.Prelude.{FitsSigned, reverse}
 use Rattle.std.proofs.lemmas.Int.{to_z-of_z}
 use Rattle.std.specs.Int.{w64}
@@ -9,11 +9,11 @@ use Rattle.pybuf_slice.specs.Runs.{picks_in_span}
 use Rattle.pybuf_slice.specs.Edits.{elements_off}
 use Rattle.pybuf_slice.proofs.LawLemmas.{span_within, one_from_bits, less_one_from_bits}
 use Rattle.pybuf_slice.proofs.EditLemmas.{off_range, off_same, has_reverse, all_reverse}
-use Rattle.pybuf_slice.proofs.edits.delitem_by_slice.Goals as goal
-use Rattle.pybuf_slice.proofs.edits.delitem_by_slice.Goals.{then-step-eq1-via-then-step-eq1, then-step-eq1-via-else-step-eq1+then-step}
+use Rattle.pybuf_slice.proofs.edits.close_up.Goals as goal
+use Rattle.pybuf_slice.proofs.edits.close_up.Goals.{then-step-eq1-via-then-step-eq1, then-step-eq1-via-else-step-eq1+then-step}
 
-pub returns-then-step-eq1 : goal.returns-then-step-eq1
-returns-then-step-eq1 g c =
+pub returns-then-step-eq1-clause-list : goal.returns-then-step-eq1-clause-list
+returns-then-step-eq1-clause-list g c =
     let adjusted_part = c.adjust_indices-step.ensures in
     let step = c.adjust_indices-step.result.1 in
     let whole : (step ≡ pos 1) ⊎ (step ≡ negsuc 0) =
@@ -23,12 +23,11 @@ returns-then-step-eq1 g c =
       | then-step-eq1-via-else-step-eq1+then-step w ↦
           inr (adjusted_part.step ∙ less_one_from_bits c.args.slice.step adjusted_part.saturated.step (ap (of_z w64) (sym adjusted_part.step) ∙ w.if-step.true))
     ] in
-    c.do_delete_range.ensures
-    ∙ off_range c.args.list.now.items c.adjust_indices-step.result.0.start c.adjust_indices-step.result.0.end step whole adjusted_part.ordered (omega (arith, adjusted_part.within, c.len.ensures, c.args.list.now.ok.0))
-    ∙ ap (elements_off c.args.list.now.items) (adjusted_part.picks ∙ ap (λ n. picks_of n c.args.slice) (c.len.ensures ∙ c.args.list.now.ok.0))
+    off_range c.args.items.now c.adjust_indices-step.result.0.start c.adjust_indices-step.result.0.end step whole adjusted_part.ordered adjusted_part.within
+    ∙ ap (elements_off c.args.items.now) adjusted_part.picks
 
-pub do_delete_indexes-requires-clause-within : goal.do_delete_indexes-requires-clause-within
-do_delete_indexes-requires-clause-within g c =
+pub close_up_indexes-kept-requires-clause-within : goal.close_up_indexes-kept-requires-clause-within
+close_up_indexes-kept-requires-clause-within g c =
     let adjusted_part = c.adjust_indices-step.ensures in
     let low = c.adjust_indices-step.result.0.start in
     let high = c.adjust_indices-step.result.0.end in
@@ -43,18 +42,18 @@ do_delete_indexes-requires-clause-within g c =
           (all_reverse (λ i. (low ≤ i) × (i < high)) (picks_in_span low high step) inside)
     ]
 
-pub returns : goal.returns
-returns g c =
+pub returns-clause-list : goal.returns-clause-list
+returns-clause-list g c =
     let adjusted_part = c.adjust_indices-step.ensures in
-    let items = c.args.list.now.items in
+    let items = c.args.items.now in
     let picks = picks_of (length items) c.args.slice in
     let low = c.adjust_indices-step.result.0.start in
     let high = c.adjust_indices-step.result.0.end in
     let step = c.adjust_indices-step.result.1 in
     let fits : FitsSigned w64 step = rw adjusted_part.step adjusted_part.saturated.step in
     let from : c.from_adjust_indices-indexes.result ≡ picks =
-    c.from_adjust_indices-indexes.ensures ∙ ap (picks_in_span low high) (to_z-of_z w64 step fits) ∙ adjusted_part.picks ∙ ap (λ n. picks_of n c.args.slice) (c.len.ensures ∙ c.args.list.now.ok.0) in
-    c.do_delete_indexes.ensures
+    c.from_adjust_indices-indexes.ensures ∙ ap (picks_in_span low high) (to_z-of_z w64 step fits) ∙ adjusted_part.picks in
+    c.close_up_indexes-kept.ensures.list
     ∙ elim c.positive_order.ensures.same [
       | inl same ↦ ap (elements_off items) (same ∙ from)
       | inr turned ↦ ap (elements_off items) (turned ∙ ap reverse from) ∙ off_same items 0 (reverse picks) picks (has_reverse picks)
