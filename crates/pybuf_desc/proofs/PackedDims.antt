@@ -11,7 +11,8 @@ use Rattle.pybuf_desc.specs.Places.{places, Stands}
 use Rattle.pybuf_desc.specs.Valid.{IsInside, IsValid, IsPlaceable, nonzero_entries}
 use Rattle.pybuf_desc.specs.RowMajor.{row_major_dims}
 use Rattle.pybuf_desc.specs.Strides.{row_major_strides}
-use Rattle.pybuf_desc.specs.Packed.{row_major_of, row_major_descriptor}
+use Rattle.pybuf_desc.specs.Packed.{row_major_of}
+use Rattle.pybuf_desc.specs.PackedDescriptor.{row_major_descriptor}
 use Rattle.pybuf_desc.proofs.Products.{extent_of, extent_skips, extent_grows, AreNonzero-from_All, product-extent}
 use Rattle.pybuf_desc.proofs.Runs.{map-run-0}
 use Rattle.pybuf_desc.proofs.Flat.{map-pos}

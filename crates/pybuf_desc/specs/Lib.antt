@@ -10,6 +10,7 @@ pub mod Places
 pub mod Valid
 pub mod RowMajor
 pub mod Packed
+pub mod PackedDescriptor
 pub mod Positions
 pub mod Segments
 pub mod Laws

@@ -3,8 +3,6 @@ use Rattle.std.specs.Prelude.{ℕ, ◌*◌, Bool, List, map}
 use Rattle.std.specs.List.{range_with_len}
 use Rattle.pybuf_desc.specs.Layouts.{Layout, product}
 use Rattle.pybuf_desc.specs.Strides.{row_major_strides}
-use Rattle.pybuf_desc.specs.Descriptor.{Descriptor, shape_of}
-use Rattle.pybuf_desc.specs.RowMajor.{row_major_dims}
 
 -- items of this format and size in this shape, one after the other from place 0 on
 abbrev pub row_major_layout : List ℕ → ℕ → List ℕ → Bool → Layout
@@ -21,7 +19,3 @@ row_major_layout format itemsize shape readonly =
 -- the items of a view, without a gap
 abbrev pub row_major_of : Layout → Layout
 row_major_of view = row_major_layout view.format view.itemsize view.shape view.readonly
-
--- the descriptor of these
-abbrev pub row_major_descriptor : Descriptor → Descriptor
-row_major_descriptor d = record d { dims = row_major_dims d.itemsize (shape_of d.dims) }

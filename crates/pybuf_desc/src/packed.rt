@@ -5,7 +5,8 @@ ghost use Rattle.pybuf_desc.specs.Descriptor.{shape_of};
 ghost use Rattle.pybuf_desc.specs.Places.{Stands};
 ghost use Rattle.pybuf_desc.specs.Valid.{IsValid, IsPlaceable, nonzero_entries};
 ghost use Rattle.pybuf_desc.specs.RowMajor.{row_major_dims};
-ghost use Rattle.pybuf_desc.specs.Packed.{row_major_of, row_major_descriptor};
+ghost use Rattle.pybuf_desc.specs.Packed.{row_major_of};
+ghost use Rattle.pybuf_desc.specs.PackedDescriptor.{row_major_descriptor};
 
 use crate::checks::extent;
 use crate::descriptor::BufferDescriptor;

@@ -12,7 +12,8 @@ use Rattle.pybuf_desc.specs.Valid.{IsPlaced}
 use Rattle.pybuf_desc.specs.Laws.{IsPosition, PositionsArePlaces, PlacedDescriptorsStand}
 use Rattle.pybuf_desc.specs.Positions.{number_of_item, offset_of, AreIndices, position_of}
 use Rattle.pybuf_memoryview.specs.Items.{entry_in}
-use Rattle.pybuf_memoryview.specs.Keys.{item_at_indices, IsStartOf}
+use Rattle.pybuf_memoryview.specs.Keys.{item_at_indices}
+use Rattle.pybuf_memoryview.specs.KeyPlaces.{IsStartOf}
 
 -- the entries that indices name
 pub record HasEntries (dims : List (ℕ × ℤ × ℤ)) (indices : List ℤ) (offset : ℤ) : Type 0 where

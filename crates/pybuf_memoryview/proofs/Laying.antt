@@ -13,7 +13,8 @@ use Rattle.pybuf_desc.specs.Layouts.{Layout, LiesInside, HasItemsOfItsShape}
 use Rattle.pybuf_desc.specs.Places.{Stands}
 use Rattle.pybuf_memoryview.specs.Items.{bytes_with}
 use Rattle.pybuf_memoryview.specs.Orders.{nbytes_of}
-use Rattle.pybuf_memoryview.specs.Laid.{laid, put_at}
+use Rattle.pybuf_memoryview.specs.Laid.{laid}
+use Rattle.pybuf_memoryview.specs.LaidBytes.{put_at}
 use Rattle.pybuf_memoryview.proofs.Gathered.{range_inside}
 
 pub length-bytes_with : (bytes : List ℕ) (place : ℕ) (piece : List ℕ) → place + length piece ≤ length bytes → length (bytes_with bytes place piece) ≡ length bytes

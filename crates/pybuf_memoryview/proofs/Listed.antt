@@ -14,7 +14,8 @@ use Rattle.pybuf_desc.specs.Items.{bytes_at, bytes_of_items, content_of_layout}
 use Rattle.pybuf_desc.specs.Places.{places, Stands}
 use Rattle.pybuf_desc.specs.Segments.{range_at, ranges_of, joined_count, joined_dims, outer_dims, bytes_in}
 use Rattle.pybuf_memoryview.specs.Items.{item_by}
-use Rattle.pybuf_memoryview.specs.Lists.{items_of_layout, read_by, items_in, items_of_run, items_of_ranges}
+use Rattle.pybuf_memoryview.specs.Lists.{items_of_layout}
+use Rattle.pybuf_memoryview.specs.ListReading.{read_by, items_in, items_of_run, items_of_ranges}
 use Rattle.pybuf_memoryview.specs.declared.lists.ItemReader.{ItemReader}
 use Rattle.pybuf_memoryview.specs.declared.lists.ItemReader.TheVariants as reader
 use Rattle.pybuf_command.specs.Fits.{is_byte_format}

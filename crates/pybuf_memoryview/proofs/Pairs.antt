@@ -10,7 +10,7 @@ use Rattle.std.proofs.lemmas.List.FromFn.{length-range_with_len}
 use Rattle.pybuf_slice.specs.Reads.{elements_at}
 use Rattle.pybuf_desc.specs.Segments.{bytes_of}
 use Rattle.pybuf_memoryview.specs.Items.{bytes_with}
-use Rattle.pybuf_memoryview.specs.Laid.{put_at}
+use Rattle.pybuf_memoryview.specs.LaidBytes.{put_at}
 use Rattle.pybuf_memoryview.proofs.Gathered.{range_inside, rest_inside, run_of_bytes, elements_both}
 use Rattle.pybuf_memoryview.proofs.Laying.{put_run, put_both, bytes_with_none, length-bytes_with}
 

@@ -16,7 +16,8 @@ use Rattle.pybuf_desc.specs.Items.{bytes_of_items, content_of_layout}
 use Rattle.pybuf_desc.specs.Places.{places}
 use Rattle.pybuf_memoryview.specs.Items.{bytes_with}
 use Rattle.pybuf_memoryview.specs.Orders.{nbytes_of}
-use Rattle.pybuf_memoryview.specs.Laid.{laid, put_at}
+use Rattle.pybuf_memoryview.specs.Laid.{laid}
+use Rattle.pybuf_memoryview.specs.LaidBytes.{put_at}
 use Rattle.pybuf_memoryview.proofs.Gathered.{run_of_bytes, elements_both}
 use Rattle.pybuf_memoryview.proofs.Laying.{put_run, laid_is_put}
 

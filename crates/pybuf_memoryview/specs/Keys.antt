@@ -1,5 +1,5 @@
 -- Which item of a view a key names. The items are numbered row-major, by the shape alone.
-use Rattle.std.specs.Prelude.{◌≡◌, ℕ, ◌+◌, ◌*◌, ◌<◌, ◌==◌, List, [], ◌∷◌, map, length, slice_index, ℤ, pos, Bool, false, not, nat_lt, Result, Ok, Err, if◌then◌else◌}
+use Rattle.std.specs.Prelude.{ℕ, ◌+◌, ◌*◌, ◌==◌, List, [], ◌∷◌, map, length, slice_index, ℤ, pos, Bool, false, not, nat_lt, Result, Ok, Err, if◌then◌else◌}
 use Rattle.std.specs.List.{list_all}
 use Rattle.std.specs.Result.{is_ok, result_unwrap_or}
 use Rattle.pybuf_value.specs.declared.faults.Fault.{Fault}
@@ -10,7 +10,7 @@ use Rattle.pybuf_value.specs.declared.values.Value.{Value}
 use Rattle.pybuf_value.specs.declared.values.Value.TheVariants as value
 use Rattle.pybuf_value.specs.Numbers.{number_in, is_word}
 use Rattle.pybuf_value.specs.Refusing.{◌>>=◌, unless}
-use Rattle.pybuf_desc.specs.Layouts.{Layout, product}
+use Rattle.pybuf_desc.specs.Layouts.{product}
 use Rattle.pybuf_memoryview.specs.Items.{index_in, entry_in}
 
 -- ---- a tuple of numbers, one for each dimension
@@ -74,10 +74,3 @@ item_of_key shape key = if length shape == 0 then only_item key else item_among 
 abbrev pub names_itself : List ℕ → Value → Bool
 names_itself shape (value.One scalar.Ellipsis) = length shape == 0
 names_itself shape _ = false
-
--- the item of a number is there, and it starts at the place
-pub record IsStartOf (layout : Layout) (number : Result ℕ Fault) (place : ℕ) : Type 0 where
-  pub item : ℕ
-  pub named : number ≡ Ok item
-  pub there : item < length layout.starts
-  pub starts : place ≡ slice_index layout.starts item

@@ -1,9 +1,12 @@
 pub mod Orders
 pub mod Items
 pub mod Keys
+pub mod KeyPlaces
 pub mod SingleBytes
 pub mod Reading
 pub mod Snaps
 pub mod Lists
+pub mod ListReading
 pub mod Laid
+pub mod LaidBytes
 pub mod Laws

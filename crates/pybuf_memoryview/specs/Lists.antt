@@ -1,16 +1,10 @@
 -- All items of a view.
-use Rattle.std.specs.Prelude.{ℕ, zero, suc, ◌/◌, List, [], ◌∷◌, map, length, take, drop}
-use Rattle.std.specs.List.{flat_map}
-use Rattle.std.specs.declared.ops.Range.{Range}
+use Rattle.std.specs.Prelude.{ℕ, List, [], ◌∷◌, map}
 use Rattle.pybuf_value.specs.declared.values.Item.{Item}
 use Rattle.pybuf_value.specs.declared.values.Item.TheVariants as item
-use Rattle.pybuf_struct.specs.Values.{unpacked_values}
 use Rattle.pybuf_desc.specs.Layouts.{Layout}
 use Rattle.pybuf_desc.specs.Items.{bytes_at}
-use Rattle.pybuf_desc.specs.Segments.{bytes_in}
-use Rattle.pybuf_memoryview.specs.Items.{byte_item, item_of_values, item_by}
-use Rattle.pybuf_memoryview.specs.declared.lists.ItemReader.{ItemReader}
-use Rattle.pybuf_memoryview.specs.declared.lists.ItemReader.TheVariants as reader
+use Rattle.pybuf_memoryview.specs.Items.{item_by}
 
 -- each item as it reads, in order
 abbrev pub items_of_layout : List ℕ → Layout → List Item
@@ -20,23 +14,3 @@ items_of_layout bytes layout = map (λ start. item_by layout.format (bytes_at by
 abbrev pub list_shape : List ℕ → List ℕ
 list_shape [] = 1 ∷ []
 list_shape (n ∷ shape) = n ∷ shape
-
--- ---- as the code reads them: by a format that was read once, and a row at a time
-
-abbrev pub read_by : ItemReader → List ℕ → Item
-read_by reader.Byte (byte ∷ []) = byte_item byte
-read_by reader.Byte _ = item.Many []
-read_by (reader.Fields format) bytes = item_of_values (unpacked_values format bytes)
-read_by reader.Nothing _ = item.Many []
-
--- so many items of this size that lie one after the other
-abbrev pub items_in : ItemReader → ℕ → List ℕ → ℕ → List Item
-items_in reader size run zero = []
-items_in reader size run (suc n) = read_by reader (take size run) ∷ items_in reader size (drop size run) n
-
--- as many as there are bytes for
-abbrev pub items_of_run : ItemReader → ℕ → List ℕ → List Item
-items_of_run reader size run = items_in reader size run (length run / size)
-
-abbrev pub items_of_ranges : ItemReader → ℕ → List ℕ → List (Range ℕ) → List Item
-items_of_ranges reader size bytes ranges = flat_map (λ range. items_of_run reader size (bytes_in bytes range)) ranges

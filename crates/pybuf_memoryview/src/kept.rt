@@ -99,7 +99,8 @@ impl KeptLayout {
     ghost use Rattle.pybuf_desc.specs.Places.{Stands, layout_at};
     ghost use Rattle.pybuf_desc.specs.Valid.{IsPlaced};
     ghost use Rattle.pybuf_memoryview.specs.Orders.{nbytes_of, has_zero_entry, is_f_contiguous_layout};
-    ghost use Rattle.pybuf_memoryview.specs.Keys.{item_at_indices, IsStartOf};
+    ghost use Rattle.pybuf_memoryview.specs.Keys.{item_at_indices};
+    ghost use Rattle.pybuf_memoryview.specs.KeyPlaces.{IsStartOf};
 
     /// The layout that a descriptor stands for where the first item starts at this place. Takes no
     /// memory.

@@ -8,6 +8,7 @@ ghost use Rattle.pybuf_desc.specs.Layouts.{LiesInside, HasItemsOfItsShape};
 ghost use Rattle.pybuf_desc.specs.Segments.{bytes_of};
 ghost use Rattle.pybuf_memoryview.specs.Items.{bytes_with};
 ghost use Rattle.pybuf_memoryview.specs.Laid as spec;
+ghost use Rattle.pybuf_memoryview.specs.LaidBytes as bytewise;
 ghost use Rattle.pybuf_memoryview.specs.Orders.{nbytes_of};
 
 use crate::kept::KeptLayout;
@@ -42,7 +43,7 @@ fn copy_range(bytes: &mut [u8], range: Range<usize>, content: &[u8], from: usize
 fn lay_ranges(bytes: &mut [u8], mut ranges: Segments<'_>, content: &[u8])
     requires inside { All (λ place. place < length bytes.old) (flat_map bytes_of ranges) }
     requires as_many { length (flat_map bytes_of ranges) ≡ length content.now }
-    ensures { bytes.new ≡ spec.put_at bytes.old (flat_map bytes_of ranges.entry) content.now }
+    ensures { bytes.new ≡ bytewise.put_at bytes.old (flat_map bytes_of ranges.entry) content.now }
 {
     let mut from = 0;
     while let Some(range) = ranges.next() {
@@ -66,7 +67,7 @@ fn lay_pairs(bytes: &mut [u8], mut pairs: ZipSegments<'_>, source: &[u8])
     requires inside { All (λ place. place < length bytes.old) (flat_map bytes_of (map (λ pair. pair.0) pairs)) }
     requires source_inside { All (λ place. place < length source.now) (flat_map bytes_of (map (λ pair. pair.1) pairs)) }
     requires alike { All (λ pair. pair.0.end - pair.0.start ≡ pair.1.end - pair.1.start) pairs }
-    ensures { bytes.new ≡ spec.put_at bytes.old (flat_map bytes_of (map (λ pair. pair.0) pairs.entry)) (elements_at source.now (flat_map bytes_of (map (λ pair. pair.1) pairs.entry))) }
+    ensures { bytes.new ≡ bytewise.put_at bytes.old (flat_map bytes_of (map (λ pair. pair.0) pairs.entry)) (elements_at source.now (flat_map bytes_of (map (λ pair. pair.1) pairs.entry))) }
 {
     while let Some((range, lender)) = pairs.next() {
         let _next = copy_range(bytes, range, source, lender.start);

@@ -5,6 +5,7 @@ ghost use Rattle.pybuf_desc.specs.Layouts.{LiesInside};
 ghost use Rattle.pybuf_desc.specs.Segments.{bytes_in};
 ghost use Rattle.pybuf_memoryview.specs.Items.{item_by};
 ghost use Rattle.pybuf_memoryview.specs.Lists as spec;
+ghost use Rattle.pybuf_memoryview.specs.ListReading as reading;
 
 use crate::items::{byte_item, item_of};
 use crate::kept::KeptLayout;
@@ -28,7 +29,7 @@ enum ItemReader {
 
 /// How items of a size are read by the text of their format.
 fn reader_of(alloc: Global, format: &Text, size: usize) -> Made<ItemReader>
-    ensures { IfOk result (λ reader. (bytes : _) → length bytes ≡ size → spec.read_by reader bytes ≡ item_by format.now bytes) }
+    ensures { IfOk result (λ reader. (bytes : _) → length bytes ≡ size → reading.read_by reader bytes ≡ item_by format.now bytes) }
 {
     if size == 1 && is_byte_format(format.as_slice()) {
         return Ok(ItemReader::Byte);
@@ -41,7 +42,7 @@ fn reader_of(alloc: Global, format: &Text, size: usize) -> Made<ItemReader>
 
 /// The item of these bytes.
 fn read_by(alloc: Global, reader: &ItemReader, bytes: &[u8]) -> Made<Item>
-    ensures { IfOk result (λ item. item ≡ spec.read_by reader.now bytes.now) }
+    ensures { IfOk result (λ item. item ≡ reading.read_by reader.now bytes.now) }
 {
     match reader {
         ItemReader::Byte => match bytes {
@@ -65,7 +66,7 @@ fn push_run(
     run: &[u8],
 ) -> Made<()>
     requires some_size { 0 < size }
-    ensures { OnOk result (items.new.items ≡ items.old.items ++ spec.items_of_run reader.now size run.now) }
+    ensures { OnOk result (items.new.items ≡ items.old.items ++ reading.items_of_run reader.now size run.now) }
 {
     let mut left = run.len() / size;
     let mut rest = run;
@@ -91,7 +92,7 @@ fn push_range(
     requires some_size { 0 < size }
     requires forward { range.start ≤ range.end }
     requires inside { range.end ≤ length bytes.now }
-    ensures { OnOk result (items.new.items ≡ items.old.items ++ spec.items_of_run reader.now size (bytes_in bytes.now range)) }
+    ensures { OnOk result (items.new.items ≡ items.old.items ++ reading.items_of_run reader.now size (bytes_in bytes.now range)) }
 {
     push_run(alloc, items, reader, size, &bytes[range])
 }
@@ -108,7 +109,7 @@ fn items_of_ranges(
     requires some_size { 0 < size }
     requires inside { All (λ range. range.end ≤ length bytes.now) ranges }
     requires forward { All (λ range. range.start ≤ range.end) ranges }
-    ensures { IfOk result (λ items. items ≡ spec.items_of_ranges reader.now size bytes.now ranges.entry) }
+    ensures { IfOk result (λ items. items ≡ reading.items_of_ranges reader.now size bytes.now ranges.entry) }
 {
     let mut items = Vec::with_capacity(alloc, count)?;
     while let Some(range) = ranges.next() {

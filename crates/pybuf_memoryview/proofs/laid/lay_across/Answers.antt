@@ -5,7 +5,7 @@ use Rattle.pybuf_slice.specs.Reads.{elements_at}
 use Rattle.pybuf_desc.specs.Layouts.{product}
 use Rattle.pybuf_desc.specs.Items.{content_of_layout}
 use Rattle.pybuf_desc.specs.Segments.{bytes_of}
-use Rattle.pybuf_memoryview.specs.Laid.{put_at}
+use Rattle.pybuf_memoryview.specs.LaidBytes.{put_at}
 use Rattle.pybuf_memoryview.specs.Orders.{nbytes_of}
 use Rattle.pybuf_memoryview.proofs.Gathered.{places_inside, content_gathered, content_is_whole}
 use Rattle.pybuf_memoryview.proofs.Laying.{laid_by_ranges}

@@ -1,7 +1,8 @@
 use Rattle.std.proofs.Common.{◌≡◌, rules, sym, subst}
 use Rattle.pybuf_desc.specs.Places.{Stands}
 use Rattle.pybuf_desc.specs.Valid.{IsValid}
-use Rattle.pybuf_desc.specs.Packed.{row_major_of, row_major_descriptor}
+use Rattle.pybuf_desc.specs.Packed.{row_major_of}
+use Rattle.pybuf_desc.specs.PackedDescriptor.{row_major_descriptor}
 use Rattle.pybuf_desc.proofs.PackedDims.{valid_row_major, stands_row_major}
 use Rattle.pybuf_desc.proofs.descriptor.BufferDescriptor.to_row_major.Goals as goal
 

@@ -1,7 +1,7 @@
 use Rattle.std.proofs.Common.{◌≡◌, sym, subst, length}
 use Rattle.std.specs.Prelude.{Ok}
 use Rattle.pybuf_desc.specs.Layouts.{Layout}
-use Rattle.pybuf_memoryview.specs.Keys.{IsStartOf}
+use Rattle.pybuf_memoryview.specs.KeyPlaces.{IsStartOf}
 use Rattle.pybuf_memoryview.proofs.Entries.{only_start}
 use Rattle.pybuf_memoryview.proofs.kept.KeptLayout.first_place.Goals as goal
 

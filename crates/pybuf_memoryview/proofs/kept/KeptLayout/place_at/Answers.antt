@@ -3,7 +3,8 @@ use Rattle.std.specs.Prelude.{ℤ, ◌+ℤ◌, ◌≤ℤ◌, ◌<ℤ◌, ◌^◌
 use Rattle.std.proofs.lemmas.Int.{to_z-of_z}
 use Rattle.pybuf_desc.specs.Descriptor.{shape_of}
 use Rattle.pybuf_desc.specs.Layouts.{Layout}
-use Rattle.pybuf_memoryview.specs.Keys.{item_at_indices, IsStartOf}
+use Rattle.pybuf_memoryview.specs.Keys.{item_at_indices}
+use Rattle.pybuf_memoryview.specs.KeyPlaces.{IsStartOf}
 use Rattle.pybuf_memoryview.proofs.Entries.{IsFound, found_at, none_named, start_at, one_each}
 use Rattle.pybuf_memoryview.proofs.kept.KeptLayout.place_at.Goals as goal
 use Rattle.pybuf_memoryview.proofs.kept.KeptLayout.place_at.Goals.{In_ok-offset}
