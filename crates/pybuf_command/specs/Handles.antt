@@ -6,6 +6,7 @@ use Rattle.pybuf_value.specs.declared.values.Scalar.TheVariants as scalar
 use Rattle.pybuf_value.specs.declared.values.PySlice.{PySlice}
 use Rattle.pybuf_value.specs.declared.values.Value.{Value}
 use Rattle.pybuf_value.specs.declared.values.Value.TheVariants as value
+use Rattle.pybuf_bytes.specs.declared.options.ByteInnerNewOptions.{ByteInnerNewOptions}
 use Rattle.pybuf_command.specs.declared.kinds.Subject.{Subject}
 use Rattle.pybuf_command.specs.declared.kinds.Subject.TheVariants as subject
 use Rattle.pybuf_command.specs.declared.commands.Verb.{Verb}
@@ -30,12 +31,25 @@ abbrev pub handles_in_option : Option Value → List ℕ
 handles_in_option (Some v) = handles_in v
 handles_in_option None = []
 
+-- the handles of what bytes are made of
+abbrev pub handles_of_options : ByteInnerNewOptions → List ℕ
+handles_of_options options = handles_in_option options.source ++ handles_in_option options.encoding ++ handles_in_option options.errors
+
 -- the handles of all values of a command, in order
 abbrev pub handles_of : Verb → List ℕ
 handles_of (verb.Range from to) = handles_in from ++ handles_in to
 handles_of (verb.Get key) = handles_in key
 handles_of (verb.Set key value) = handles_in key ++ handles_in value
 handles_of (verb.Cast format shape) = handles_in format ++ handles_in_option shape
+handles_of (verb.Del key) = handles_in key
+handles_of (verb.Append v) = handles_in v
+handles_of (verb.Extend v) = handles_in v
+handles_of (verb.Insert index v) = handles_in index ++ handles_in v
+handles_of (verb.Pop index) = handles_in_option index
+handles_of (verb.Remove v) = handles_in v
+handles_of (verb.IAdd v) = handles_in v
+handles_of (verb.IMul count) = handles_in count
+handles_of (verb.Init options) = handles_of_options options
 handles_of _ = []
 
 -- the handle that a value is
@@ -43,8 +57,16 @@ abbrev pub handle_of_value : Value → List ℕ
 handle_of_value (value.One s) = handles_in_scalar s
 handle_of_value _ = []
 
--- The handles whose bytes a command reads: a value that is written through a view. Of every other
--- handle only that it was given matters.
+abbrev pub handle_of_option : Option Value → List ℕ
+handle_of_option (Some v) = handle_of_value v
+handle_of_option None = []
+
+-- The handles whose bytes a command reads: a value that is written through a view or by a slice, and
+-- one that bytes are added or made of. Of every other handle only that it was given matters.
 abbrev pub handles_read : Subject → Verb → List ℕ
-handles_read (subject.View k) (verb.Set key value) = handle_of_value value
+handles_read (subject.View k) (verb.Set key v) = handle_of_value v
+handles_read subject.Own (verb.Set (value.Slice slice) v) = handle_of_value v
+handles_read subject.Own (verb.Extend v) = handle_of_value v
+handles_read subject.Own (verb.IAdd v) = handle_of_value v
+handles_read subject.Own (verb.Init options) = handle_of_option options.source
 handles_read _ _ = []

@@ -1,6 +1,7 @@
 //! Commands and replies of one exporter.
 use crate::kinds::Subject;
 use crate::loans::LoanList;
+use pybuf_bytes::ByteInnerNewOptions;
 use pybuf_value::{
     ByteList, CountList, Fault, Item, ItemList, Made, NumberList, Snap, Text, Twin, Value,
 };
@@ -71,6 +72,32 @@ pub enum Verb {
     Property { name: PropertyName },
     /// A new view of the same items, which may only be read, as `view.toreadonly()`.
     ToReadonly,
+    /// Takes out the item at an index or the items of a slice, as `del subject[key]`.
+    Del { key: Value },
+    /// Adds a byte at the end, as `bytearray.append(value)`.
+    Append { value: Value },
+    /// Adds bytes at the end, as `bytearray.extend(value)`.
+    Extend { value: Value },
+    /// Puts a byte before the item at an index, as `bytearray.insert(index, value)`.
+    Insert { index: Value, value: Value },
+    /// Takes out the item at an index, the last where none is given, as `bytearray.pop(index)`.
+    Pop { index: Option<Value> },
+    /// Takes out the first byte of this value, as `bytearray.remove(value)`.
+    Remove { value: Value },
+    /// Takes out all bytes, as `bytearray.clear()`.
+    Clear,
+    /// Turns the order of the bytes round, as `bytearray.reverse()`.
+    Reverse,
+    /// Adds bytes at the end, as `bytearray += value`.
+    IAdd { value: Value },
+    /// Repeats the bytes, as `bytearray *= count`.
+    IMul { count: Value },
+    /// Puts new bytes in place of all, as `bytearray.__init__(source, encoding, errors)`.
+    Init { options: ByteInnerNewOptions },
+    /// Hands out the bytes of a vector, which is empty then.
+    Take,
+    /// A new bytearray of the same bytes, as `bytearray.copy()`.
+    Copy,
 }
 
 /// A command for one exporter, with what the handles of its values name.
@@ -104,8 +131,8 @@ pub enum LocalReply {
     Truth(bool),
     /// Numbers, one for each dimension.
     Numbers(NumberList),
-    /// What a new exporter is to be made of: of a view, a vector of its content with a view of it in
-    /// this format and shape.
+    /// What a new exporter is to be made of: of a bytearray, another of its bytes; of a view, a vector
+    /// of its content with a view of it in this format and shape.
     Fresh(Snap),
     /// Refused: nothing was changed.
     Refused(Fault),
@@ -143,6 +170,47 @@ impl Twin for Verb {
             Verb::Len => Ok(Verb::Len),
             Verb::Property { name } => Ok(Verb::Property { name: *name }),
             Verb::ToReadonly => Ok(Verb::ToReadonly),
+            Verb::Del { key } => {
+                let key = key.copy(alloc)?;
+                Ok(Verb::Del { key })
+            }
+            Verb::Append { value } => {
+                let value = value.copy(alloc)?;
+                Ok(Verb::Append { value })
+            }
+            Verb::Extend { value } => {
+                let value = value.copy(alloc)?;
+                Ok(Verb::Extend { value })
+            }
+            Verb::Insert { index, value } => {
+                let index = index.copy(alloc)?;
+                let value = value.copy(alloc)?;
+                Ok(Verb::Insert { index, value })
+            }
+            Verb::Pop { index } => {
+                let index = index.copy(alloc)?;
+                Ok(Verb::Pop { index })
+            }
+            Verb::Remove { value } => {
+                let value = value.copy(alloc)?;
+                Ok(Verb::Remove { value })
+            }
+            Verb::Clear => Ok(Verb::Clear),
+            Verb::Reverse => Ok(Verb::Reverse),
+            Verb::IAdd { value } => {
+                let value = value.copy(alloc)?;
+                Ok(Verb::IAdd { value })
+            }
+            Verb::IMul { count } => {
+                let count = count.copy(alloc)?;
+                Ok(Verb::IMul { count })
+            }
+            Verb::Init { options } => {
+                let options = options.copy(alloc)?;
+                Ok(Verb::Init { options })
+            }
+            Verb::Take => Ok(Verb::Take),
+            Verb::Copy => Ok(Verb::Copy),
         }
     }
 }
@@ -150,8 +218,9 @@ impl Twin for Verb {
 impl Twin for LocalCommand {
     fn copy(&self, alloc: Global) -> Made<LocalCommand> {
         let subject = self.subject;
-        let verb = self.verb.copy(alloc)?;
+        // The verb comes last, so that no arm drops one, which would spell out all its variants.
         let loans = self.loans.copy(alloc)?;
+        let verb = self.verb.copy(alloc)?;
         Ok(LocalCommand {
             subject,
             verb,

@@ -8,6 +8,7 @@ ghost use Rattle.pybuf_command.specs.Loans.{loan_of};
 use crate::commands::Verb;
 use crate::kinds::Subject;
 use crate::loans::Loan;
+use pybuf_bytes::ByteInnerNewOptions;
 use pybuf_value::{Made, PySlice, Scalar, Value};
 use std::alloc::Global;
 
@@ -71,20 +72,64 @@ fn push_value(handles: &mut Vec<u64>, value: &Value) -> Made<()>
     }
 }
 
-/// The handles whose bytes a command reads: a value that is written through a view.
+/// Adds the handles of a value that may not be given.
+fn push_option(handles: &mut Vec<u64>, value: &Option<Value>) -> Made<()>
+    ensures { OnOk result (handles.new.items ≡ handles.old.items ++ spec.handles_in_option value.now) }
+{
+    match value {
+        Some(value) => push_value(handles, value),
+        None => Ok(()),
+    }
+}
+
+/// Adds the handles of what bytes are made of.
+fn push_options(handles: &mut Vec<u64>, options: &ByteInnerNewOptions) -> Made<()>
+    ensures { OnOk result (handles.new.items ≡ handles.old.items ++ spec.handles_of_options options.now) }
+{
+    push_option(handles, &options.source)?;
+    push_option(handles, &options.encoding)?;
+    push_option(handles, &options.errors)
+}
+
+/// Adds the handle that a value is, and none of its parts.
+fn push_whole(handles: &mut Vec<u64>, value: &Value) -> Made<()>
+    ensures { OnOk result (handles.new.items ≡ handles.old.items ++ spec.handle_of_value value.now) }
+{
+    match value {
+        Value::One(scalar) => push_scalar(handles, scalar),
+        _ => Ok(()),
+    }
+}
+
+/// Adds the handle that a value is, if it is given.
+fn push_whole_option(handles: &mut Vec<u64>, value: &Option<Value>) -> Made<()>
+    ensures { OnOk result (handles.new.items ≡ handles.old.items ++ spec.handle_of_option value.now) }
+{
+    match value {
+        Some(value) => push_whole(handles, value),
+        None => Ok(()),
+    }
+}
+
+/// The handles whose bytes a command reads: a value that is written through a view or by a slice, and
+/// one that bytes are added or made of.
 pub fn handles_read(alloc: Global, subject: Subject, verb: &Verb) -> Made<Vec<u64>>
     ensures { IfOk result (λ handles. handles.items ≡ spec.handles_read subject verb.now) }
 {
     let mut handles = Vec::new(alloc);
-    if let (
-        Subject::View(_),
-        Verb::Set {
-            key: _,
-            value: Value::One(scalar),
-        },
-    ) = (subject, verb)
-    {
-        push_scalar(&mut handles, scalar)?;
+    match (subject, verb) {
+        (Subject::View(_), Verb::Set { key: _, value }) => push_whole(&mut handles, value)?,
+        (
+            Subject::Own,
+            Verb::Set {
+                key: Value::Slice(_),
+                value,
+            },
+        ) => push_whole(&mut handles, value)?,
+        (Subject::Own, Verb::Extend { value }) => push_whole(&mut handles, value)?,
+        (Subject::Own, Verb::IAdd { value }) => push_whole(&mut handles, value)?,
+        (Subject::Own, Verb::Init { options }) => push_whole_option(&mut handles, &options.source)?,
+        _ => {}
     }
     Ok(handles)
 }
@@ -106,11 +151,30 @@ pub fn handles_of(alloc: Global, verb: &Verb) -> Made<Vec<u64>>
         }
         Verb::Cast { format, shape } => {
             push_value(&mut handles, format)?;
-            if let Some(shape) = shape {
-                push_value(&mut handles, shape)?;
-            }
+            push_option(&mut handles, shape)?;
         }
+        Verb::Del { key } => push_value(&mut handles, key)?,
+        Verb::Append { value } => push_value(&mut handles, value)?,
+        Verb::Extend { value } => push_value(&mut handles, value)?,
+        Verb::Insert { index, value } => {
+            push_value(&mut handles, index)?;
+            push_value(&mut handles, value)?;
+        }
+        Verb::Pop { index } => push_option(&mut handles, index)?,
+        Verb::Remove { value } => push_value(&mut handles, value)?,
+        Verb::IAdd { value } => push_value(&mut handles, value)?,
+        Verb::IMul { count } => push_value(&mut handles, count)?,
+        Verb::Init { options } => push_options(&mut handles, options)?,
         _ => {}
     }
+    Ok(handles)
+}
+
+/// The handles of what a new exporter's bytes are made of, in order.
+pub fn handles_of_options(alloc: Global, options: &ByteInnerNewOptions) -> Made<Vec<u64>>
+    ensures { IfOk result (λ handles. handles.items ≡ spec.handles_of_options options.now) }
+{
+    let mut handles = Vec::new(alloc);
+    push_options(&mut handles, options)?;
     Ok(handles)
 }

@@ -1,8 +1,9 @@
 //! What no clause says: that the calls succeed with ample memory.
 use super::*;
+use pybuf_bytes::ByteInnerNewOptions;
 use pybuf_value::{
-    ByteList, CountList, Fault, Item, ItemList, NumberList, Scalar, Snap, SnapKind, Text, Twin,
-    Value,
+    ByteList, CountList, Fault, Item, ItemList, Made, NumberList, Scalar, Snap, SnapKind, Text,
+    Twin, Value,
 };
 use std::alloc::Global;
 use std::test::Fail;
@@ -48,62 +49,108 @@ fn sum_of(verb: &Verb) -> (i128, i128) {
         Verb::Exit => (10, 0),
         Verb::ToContiguous => (11, 0),
         Verb::ToList => (12, 0),
+        Verb::Del { key } => (13, number_of(key)),
+        Verb::Append { value } => (14, number_of(value)),
+        Verb::Extend { value } => (15, number_of(value)),
+        Verb::Insert { index, value } => (number_of(index), number_of(value)),
+        Verb::Pop { index: Some(index) } => (16, number_of(index)),
+        Verb::Pop { index: None } => (17, 0),
+        Verb::Remove { value } => (18, number_of(value)),
+        Verb::Clear => (19, 0),
+        Verb::Reverse => (20, 0),
+        Verb::IAdd { value } => (21, number_of(value)),
+        Verb::IMul { count } => (22, number_of(count)),
+        Verb::Init {
+            options: ByteInnerNewOptions {
+                source: Some(source),
+                encoding: None,
+                errors: None,
+            },
+        } => (23, number_of(source)),
+        Verb::Init { options: _ } => (24, 0),
+        Verb::Take => (25, 0),
+        Verb::Copy => (26, 0),
     }
 }
 
+/// What tells the copy of a verb from another.
+fn sum_of_copy(alloc: Global, verb: &Verb) -> Made<(i128, i128)> {
+    let twin = verb.copy(alloc)?;
+    let sum = sum_of(&twin);
+    drop(twin);
+    Ok(sum)
+}
+
+/// Whether the copy of a verb has this sum. The verb is handed over, so that no test drops one at each
+/// place where it may stop.
+fn is_copied(alloc: Global, verb: Verb, sum: (i128, i128)) -> Made<bool> {
+    let answer = sum_of_copy(alloc, &verb);
+    drop(verb);
+    Ok(answer? == sum)
+}
+
 #[test]
-fn verbs_are_copied(rt: HostRuntime) -> Result<(), Fail> {
+fn verbs_without_values_are_copied(rt: HostRuntime) -> Result<(), Fail> {
+    assert!(rt; is_copied(rt.alloc(), Verb::View, (1, 0))?);
+    assert!(rt; is_copied(rt.alloc(), Verb::ToBytes, (4, 0))?);
+    assert!(rt; is_copied(rt.alloc(), Verb::Release, (5, 0))?);
+    assert!(rt; is_copied(rt.alloc(), Verb::Len, (6, 0))?);
+    assert!(rt; is_copied(rt.alloc(), Verb::ToReadonly, (8, 0))?);
+    assert!(rt; is_copied(rt.alloc(), Verb::Enter, (9, 0))?);
+    assert!(rt; is_copied(rt.alloc(), Verb::Exit, (10, 0))?);
+    assert!(rt; is_copied(rt.alloc(), Verb::ToContiguous, (11, 0))?);
+    assert!(rt; is_copied(rt.alloc(), Verb::ToList, (12, 0))?);
+    assert!(rt; is_copied(rt.alloc(), Verb::Clear, (19, 0))?);
+    assert!(rt; is_copied(rt.alloc(), Verb::Reverse, (20, 0))?);
+    assert!(rt; is_copied(rt.alloc(), Verb::Take, (25, 0))?);
+    assert!(rt; is_copied(rt.alloc(), Verb::Copy, (26, 0))?);
+    let name = PropertyName::Itemsize;
+    assert!(rt; is_copied(rt.alloc(), Verb::Property { name }, (7, 4))?);
+    Ok(())
+}
+
+#[test]
+fn verbs_of_views_are_copied(rt: HostRuntime) -> Result<(), Fail> {
     let format = Value::One(Scalar::Text(text(rt.alloc(), "4sH")?));
-    let other = Value::One(Scalar::Text(text(rt.alloc(), "H")?));
-    let verbs = [
-        (Verb::View, (1, 0)),
-        (Verb::Get { key: number(11) }, (2, 11)),
-        (
-            Verb::Set {
-                key: number(12),
-                value: number(13),
-            },
-            (12, 13),
-        ),
-        (
-            Verb::Cast {
-                format,
-                shape: Some(number(14)),
-            },
-            (3, 14),
-        ),
-        (
-            Verb::Cast {
-                format: other,
-                shape: None,
-            },
-            (3, 1),
-        ),
-        (Verb::ToBytes, (4, 0)),
-        (Verb::Release, (5, 0)),
-        (Verb::Len, (6, 0)),
-        (
-            Verb::Property {
-                name: PropertyName::Itemsize,
-            },
-            (7, 4),
-        ),
-        (Verb::ToReadonly, (8, 0)),
-        (
-            Verb::Range {
-                from: number(15),
-                to: number(16),
-            },
-            (15, 16),
-        ),
-        (Verb::Enter, (9, 0)),
-        (Verb::Exit, (10, 0)),
-        (Verb::ToContiguous, (11, 0)),
-        (Verb::ToList, (12, 0)),
-    ];
-    for (verb, sum) in &verbs {
-        assert_eq!(rt; sum_of(&verb.copy(rt.alloc())?), *sum);
-    }
+    let shape = Some(number(14));
+    assert!(rt; is_copied(rt.alloc(), Verb::Cast { format, shape }, (3, 14))?);
+    let format = Value::One(Scalar::Text(text(rt.alloc(), "H")?));
+    let shape = None;
+    assert!(rt; is_copied(rt.alloc(), Verb::Cast { format, shape }, (3, 1))?);
+    let key = number(11);
+    assert!(rt; is_copied(rt.alloc(), Verb::Get { key }, (2, 11))?);
+    let (key, value) = (number(12), number(13));
+    assert!(rt; is_copied(rt.alloc(), Verb::Set { key, value }, (12, 13))?);
+    let (from, to) = (number(15), number(16));
+    assert!(rt; is_copied(rt.alloc(), Verb::Range { from, to }, (15, 16))?);
+    Ok(())
+}
+
+#[test]
+fn edits_are_copied(rt: HostRuntime) -> Result<(), Fail> {
+    let key = number(1);
+    assert!(rt; is_copied(rt.alloc(), Verb::Del { key }, (13, 1))?);
+    let value = number(2);
+    assert!(rt; is_copied(rt.alloc(), Verb::Append { value }, (14, 2))?);
+    let value = number(3);
+    assert!(rt; is_copied(rt.alloc(), Verb::Extend { value }, (15, 3))?);
+    let (index, value) = (number(4), number(5));
+    assert!(rt; is_copied(rt.alloc(), Verb::Insert { index, value }, (4, 5))?);
+    let index = Some(number(6));
+    assert!(rt; is_copied(rt.alloc(), Verb::Pop { index }, (16, 6))?);
+    assert!(rt; is_copied(rt.alloc(), Verb::Pop { index: None }, (17, 0))?);
+    let value = number(7);
+    assert!(rt; is_copied(rt.alloc(), Verb::Remove { value }, (18, 7))?);
+    let value = number(8);
+    assert!(rt; is_copied(rt.alloc(), Verb::IAdd { value }, (21, 8))?);
+    let count = number(9);
+    assert!(rt; is_copied(rt.alloc(), Verb::IMul { count }, (22, 9))?);
+    let options = ByteInnerNewOptions {
+        source: Some(number(9)),
+        encoding: None,
+        errors: None,
+    };
+    assert!(rt; is_copied(rt.alloc(), Verb::Init { options }, (23, 9))?);
     Ok(())
 }
 
@@ -230,6 +277,15 @@ fn a_command_is_copied_with_its_handles(rt: HostRuntime) -> Result<(), Fail> {
     assert_eq!(rt; read.as_slice(), [7u64].as_slice());
     let read = handles_read(rt.alloc(), Subject::Own, &twin.verb)?;
     assert_eq!(rt; read.len(), 0);
+    let options = ByteInnerNewOptions {
+        source: Some(Value::One(Scalar::Handle(9))),
+        encoding: None,
+        errors: Some(Value::One(Scalar::Handle(4))),
+    };
+    let handles = handles_of_options(rt.alloc(), &options)?;
+    assert_eq!(rt; handles.as_slice(), [9u64, 4].as_slice());
+    let read = handles_read(rt.alloc(), Subject::Own, &Verb::Init { options })?;
+    assert_eq!(rt; read.as_slice(), [9u64].as_slice());
     assert!(rt; loan_of(twin.loans.as_slice(), 8).is_some());
     assert!(rt; loan_of(twin.loans.as_slice(), 9).is_none());
     Ok(())
