@@ -31,7 +31,8 @@ use Rattle.pybuf_memoryview.specs.Items.{has_dimensions}
 use Rattle.pybuf_memoryview.specs.Orders.{nbytes_of, has_zero_entry}
 use Rattle.pybuf_state.specs.Laws.{IsSoundLayout, WholeLayoutsAreSound, PartLayoutsAreSound, LiveLayoutsAreSound, ReadingKeeps, NewViewsKeep, ReleasingKeeps}
 use Rattle.pybuf_rows_views.specs.Range.{part_between}
-use Rattle.pybuf_rows_views.specs.Cast.{text_in, size_of_format, size_for, entries_of, flat_layout_of, shaped_layout_of, layout_in_shape}
+use Rattle.pybuf_value.specs.Texts.{text_in}
+use Rattle.pybuf_rows_views.specs.Cast.{size_of_format, size_for, entries_of, flat_layout_of, shaped_layout_of, layout_in_shape}
 use Rattle.pybuf_rows_views.specs.Laws.{ViewIsSafe, RangeIsSafe, SliceIsSafe, CastIsSafe, ReleaseIsSafe, EnterIsSafe, ContiguousIsCopied, ToReadonlyIsSafe}
 
 bind : {A : Type 0} (e : Exporter) (r : Result A Fault) (f : A → Result (Exporter × LocalReply) Fault) → ((a : A) → r ≡ Ok a → IsSafe e (f a)) → IsSafe e (r >>= f)

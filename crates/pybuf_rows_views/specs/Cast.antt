@@ -1,16 +1,14 @@
 -- `cast`: a new view of the same bytes, with items of another format, in one dimension or in those of
 -- a shape.
-use Rattle.std.specs.Prelude.{◌≡◌, ℕ, ◌*◌, ◌/◌, ◌%◌, ◌==◌, ◌&&◌, ◌||◌, not, List, [], ◌∷◌, length, nat_lt, ℤ, pos, negsuc, Option, Some, None, Result, Ok, Err, if◌then◌else◌}
+use Rattle.std.specs.Prelude.{ℕ, ◌*◌, ◌/◌, ◌%◌, ◌==◌, ◌&&◌, ◌||◌, not, List, [], ◌∷◌, length, nat_lt, ℤ, pos, negsuc, Option, Some, None, Result, Ok, Err, if◌then◌else◌}
 use Rattle.pybuf_value.specs.declared.faults.Fault.{Fault}
 use Rattle.pybuf_value.specs.declared.faults.Fault.TheVariants as fault
 use Rattle.pybuf_value.specs.declared.values.Scalar.{Scalar}
-use Rattle.pybuf_value.specs.declared.values.Scalar.TheVariants as scalar
 use Rattle.pybuf_value.specs.declared.values.Value.{Value}
 use Rattle.pybuf_value.specs.declared.values.Value.TheVariants as value
 use Rattle.pybuf_value.specs.Refusing.{◌>>=◌, unless}
-use Rattle.pybuf_value.specs.declared.halt.Halt.{Halt}
-use Rattle.pybuf_value.specs.declared.halt.Halt.TheVariants as halt
 use Rattle.pybuf_value.specs.Numbers.{number_in, fitted_number}
+use Rattle.pybuf_value.specs.Texts.{text_in}
 use Rattle.pybuf_struct.specs.Formats.{format_of}
 use Rattle.pybuf_desc.specs.Layouts.{Layout, product}
 use Rattle.pybuf_desc.specs.Contiguous.{is_contiguous_layout}
@@ -19,11 +17,6 @@ use Rattle.pybuf_desc.specs.ShapedCasts.{cast_to}
 use Rattle.pybuf_command.specs.declared.commands.LocalReply.{LocalReply}
 use Rattle.pybuf_memoryview.specs.Orders.{nbytes_of, has_zero_entry}
 use Rattle.pybuf_state.specs.Exporter.{Exporter, live_layout, with_view}
-
--- the bytes of a text
-abbrev pub text_in : Value → Result (List ℕ) Fault
-text_in (value.One (scalar.Text text)) = Ok text
-text_in _ = Err fault.Kind
 
 -- the size of the items of a format; `StructError` where the text is none
 abbrev pub size_of_format : List ℕ → Result ℕ Fault
@@ -57,12 +50,6 @@ entries_of size (part ∷ parts) = do
   entry ← entry_of size part
   entries ← entries_of (size * entry) parts
   Ok (entry ∷ entries)
-
--- entries that are given with their product are those of a definition, or its refusal
-abbrev pub GivesEntries : Result (List ℕ) Fault → Result (List ℕ × ℕ) Halt → Type 0
-GivesEntries wanted (Ok given) = wanted ≡ Ok given.0
-GivesEntries wanted (Err (halt.Refused f)) = wanted ≡ Err f
-GivesEntries wanted (Err halt.NoMemory) = Unit {0}
 
 -- the items in one dimension; where the view has another number of dimensions, each must have an entry
 abbrev pub flat_layout_of : Layout → List ℕ → Result Layout Fault

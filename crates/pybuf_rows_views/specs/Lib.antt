@@ -2,6 +2,7 @@ pub mod View
 pub mod Range
 pub mod Slice
 pub mod Cast
+pub mod CastEntries
 pub mod Release
 pub mod Enter
 pub mod Contiguous

@@ -1,6 +1,6 @@
 //! `cast`: a new view of the same bytes, with items of another format, in one dimension or in those of
 //! a shape.
-ghost use Rattle.std.specs.Prelude.{◌≡◌, ◌<◌, ◌≤◌, ◌*◌, ◌^◌, All, length, true, IfOk, MatchResult};
+ghost use Rattle.std.specs.Prelude.{◌≡◌, ◌<◌, ◌≤◌, ◌*◌, ◌^◌, All, length, true, IfOk};
 ghost use Rattle.std.specs.Prelude.{◌%◌, ◌==◌, ◌&&◌, not};
 ghost use Rattle.pybuf_value.specs.Halting.{Gives};
 ghost use Rattle.pybuf_value.specs.Numbers.{number_in};
@@ -10,23 +10,14 @@ ghost use Rattle.pybuf_memoryview.specs.Orders.{nbytes_of};
 ghost use Rattle.pybuf_state.specs.Exporter.{exports_of};
 ghost use Rattle.pybuf_state.specs.Answers.{exporter_of, IsWhole, Answers};
 ghost use Rattle.pybuf_rows_views.specs.Cast as spec;
+ghost use Rattle.pybuf_rows_views.specs.CastEntries as entries;
 
 use pybuf_command::LocalReply;
 use pybuf_memoryview::KeptLayout;
 use pybuf_state::Parts;
 use pybuf_struct::FormatSpec;
-use pybuf_value::{CountList, Fault, Halt, Outcome, Scalar, Text, Twin, Value, fit_count};
+use pybuf_value::{CountList, Fault, Halt, Outcome, Scalar, Text, Twin, Value, fit_count, text_in};
 use std::alloc::Global;
-
-/// The text of a value that is one.
-fn text_in(value: &Value) -> Result<&Text, Fault>
-    ensures { MatchResult result (λ text. spec.text_in value.now ≡ Ok text.now) (λ fault. spec.text_in value.now ≡ Err fault) }
-{
-    match value {
-        Value::One(Scalar::Text(text)) => Ok(text),
-        _ => Err(Fault::Kind),
-    }
-}
 
 /// The size of a format's items.
 fn size_of(alloc: Global, text: &Text) -> Result<usize, Halt>
@@ -91,7 +82,7 @@ fn entry_of(size: usize, part: &Scalar) -> Result<usize, Fault>
 fn entries_of(alloc: Global, size: usize, parts: &[Scalar]) -> Result<(CountList, usize), Halt>
     requires some { 0 < size }
     requires fits { size < 2 ^ 63 }
-    ensures exact { spec.GivesEntries (spec.entries_of size parts.now) result }
+    ensures exact { entries.GivesEntries (spec.entries_of size parts.now) result }
     ensures entries { IfOk result (λ r. All (λ n. 0 < n) r.0) }
     ensures count { IfOk result (λ r. length r.0 ≡ length parts.now) }
     ensures product { IfOk result (λ r. r.1 ≡ size * product r.0) }

@@ -1,17 +1,19 @@
 -- What each way of changing an exporter keeps of it.
-use Rattle.std.proofs.Common.{◌≡◌, ℕ, ◌+◌, ◌≤◌, ◌<◌, List, length, true, false, true≢false, sym, ◌∙◌, refl, subst, arith, inl, inr}
-use Rattle.std.specs.Prelude.{Some, codes, slice_get}
+use Rattle.std.proofs.Common.{◌≡◌, ℕ, suc, ◌+◌, ◌≤◌, ◌<◌, List, [], ◌∷◌, length, Bool, true, false, true≢false, sym, ◌∙◌, refl, subst, arith, inl, inr}
+use Rattle.std.specs.Prelude.{Some, codes, cond, slice_get, count_by, not}
 use Rattle.std.specs.List.{All, range_with_len}
-use Rattle.std.proofs.lemmas.List.Elements.{All-push, All-set, All-weaker}
+use Rattle.std.proofs.lemmas.List.Elements.{All-nil, All-cons, All-push, All-set, All-weaker}
+use Rattle.std.proofs.lemmas.List.Sums.{sum_by-cons}
 use Rattle.std.proofs.lemmas.List.FromFn.{length-range_with_len, get_or-range_with_len}
 use Rattle.pybuf_desc.specs.Layouts.{Layout}
 use Rattle.pybuf_command.specs.declared.kinds.ExporterKind.{ExporterKind}
 use Rattle.pybuf_struct.specs.Formats.{codes_in, layout_from, format_after_prefix}
 use Rattle.pybuf_command.specs.Sized.{is_sized}
-use Rattle.pybuf_state.specs.Exporter.{Exporter, View}
-use Rattle.pybuf_state.specs.Sound.{IsSoundView}
-use Rattle.pybuf_state.specs.Keeps.{IsSameOrReleased, ViewsStay}
-use Rattle.pybuf_state.specs.Laws.{IsSoundLayout, WholeLayoutsAreSound, PartLayoutsAreSound, LiveLayoutsAreSound, ReadingKeeps, NewViewsKeep, WritingKeeps, ReleasingKeeps}
+use Rattle.pybuf_state.specs.Exporter.{Exporter, View, is_exported, exports_of}
+use Rattle.pybuf_state.specs.Sound.{IsSoundView, IsSoundExporter}
+use Rattle.pybuf_state.specs.Keeps.{IsSameOrReleased, ViewsStay, LengthsStay}
+use Rattle.pybuf_state.specs.Resizing.{has_exports}
+use Rattle.pybuf_state.specs.Laws.{IsSoundLayout, WholeLayoutsAreSound, PartLayoutsAreSound, LiveLayoutsAreSound, ReadingKeeps, NewViewsKeep, WritingKeeps, ResizingKeeps, EmptyingKeeps, ReleasingKeeps}
 use Rattle.pybuf_state.proofs.Finding.{All-slice_get, view_at_given, live_view, slice_get-push, slice_get-set}
 
 -- ---- layouts
@@ -68,7 +70,7 @@ reading e sound = record {
   kind = refl;
   sound = sound;
   lengths = record { views = views_same e.views; bytes = λ live. refl };
-  readonly_bytes = λ readonly. refl;
+  readonly_bytes = λ readonly. inl refl;
 }
 
 new_view : (e : Exporter) (layout : Layout) → IsSoundLayout e layout → IsSoundView e.kind e.bytes (record { made_at = length e.bytes; layout = layout; released = false })
@@ -85,7 +87,7 @@ adding e layout sound made =
       kind = refl;
       sound = record { views = All-push (IsSoundView e.kind e.bytes) e.views v sound.views (new_view e layout made) };
       lengths = record { views = λ k w found. (w, slice_get-push e.views v w k found, same w); bytes = λ live. refl };
-      readonly_bytes = λ readonly. refl;
+      readonly_bytes = λ readonly. inl refl;
     }
 
 held_by_length : (k : ExporterKind) (old new : List ℕ) (v : View) → length new ≡ length old → IsSoundView k old v → IsSoundView k new v
@@ -108,6 +110,50 @@ writing e bytes sound writable same_length = record {
   readonly_bytes = λ readonly. absurd (true≢false (sym readonly ∙ writable));
 }
 
+-- where no view is unreleased, none is held
+released_keeps : (k : ExporterKind) (old new : List ℕ) (v : View) → v.released ≡ true → IsSoundView k old v → IsSoundView k new v
+released_keeps k old new v released view = record {
+  formed = view.formed;
+  readonly = view.readonly;
+  held = λ unreleased. absurd (true≢false (sym released ∙ unreleased));
+}
+
+none_counted : (released : Bool) (n : ℕ) → cond (not released) 1 0 + n ≡ 0 → (released ≡ true) × (n ≡ 0)
+none_counted true n none = (refl, omega (arith, none))
+none_counted false n none = absurd (omega (arith, none))
+
+free_views : (k : ExporterKind) (old new : List ℕ) (views : List View) → count_by is_exported views ≡ 0 → All (IsSoundView k old) views → All (IsSoundView k new) views
+free_views k old new [] none sound = All-nil (IsSoundView k new)
+free_views k old new (v ∷ views) none sound =
+    let first = none_counted v.released (count_by is_exported views) (sym (sum_by-cons (λ (w : View). cond (is_exported w) 1 0) v views) ∙ none) in
+    All-cons (IsSoundView k new) v views (released_keeps k old new v first.0 (sound 0 v (omega arith)))
+    (free_views k old new views first.1 (λ i d below. sound (suc i) d (omega (arith, below))))
+
+free : (e : Exporter) → has_exports e ≡ false → exports_of e ≡ 0
+free e none = grind (arith, none)
+
+free_sound : (e : Exporter) (bytes : List ℕ) → IsSoundExporter e → has_exports e ≡ false → IsSoundExporter (record e { bytes = bytes })
+free_sound e bytes sound none = record { views = free_views e.kind e.bytes bytes e.views (free e none) sound.views }
+
+free_lengths : (e : Exporter) (bytes : List ℕ) → has_exports e ≡ false → LengthsStay e (record e { bytes = bytes })
+free_lengths e bytes none = record { views = views_same e.views; bytes = λ live. absurd (omega (arith, free e none, live)) }
+
+pub resizing : ResizingKeeps
+resizing e bytes sound none writable = record {
+  kind = refl;
+  sound = free_sound e bytes sound none;
+  lengths = free_lengths e bytes none;
+  readonly_bytes = λ readonly. absurd (true≢false (sym readonly ∙ writable));
+}
+
+pub emptying : EmptyingKeeps
+emptying e sound none vector = record {
+  kind = refl;
+  sound = free_sound e [] sound none;
+  lengths = free_lengths e [] none;
+  readonly_bytes = λ readonly. inr (record { vector = vector; free = free e none; empty = refl });
+}
+
 released_sound : (k : ExporterKind) (bytes : List ℕ) (v : View) → IsSoundView k bytes v → IsSoundView k bytes (record v { released = true })
 released_sound k bytes v view = record {
   formed = view.formed;
@@ -125,5 +171,5 @@ releasing e k v sound found =
         views = All-set (IsSoundView e.kind e.bytes) e.views k w (released_sound e.kind e.bytes v (All-slice_get (IsSoundView e.kind e.bytes) e.views k v sound.views at)) sound.views;
       };
       lengths = record { views = λ j u there. slice_get-set IsSameOrReleased e.views k j v w u same (inr refl) at there; bytes = λ live. refl };
-      readonly_bytes = λ readonly. refl;
+      readonly_bytes = λ readonly. inl refl;
     }

@@ -5,6 +5,7 @@ use Rattle.std.specs.Option.{ok_or}
 use Rattle.pybuf_value.specs.declared.faults.Fault.{Fault}
 use Rattle.pybuf_value.specs.declared.faults.Fault.TheVariants as fault
 use Rattle.pybuf_value.specs.Refusing.{◌>>=◌, unless}
+use Rattle.pybuf_slice.specs.Edits.{replaced_range}
 use Rattle.pybuf_desc.specs.Layouts.{Layout, bytes_layout}
 use Rattle.pybuf_command.specs.declared.kinds.ExporterKind.{ExporterKind}
 use Rattle.pybuf_command.specs.Kinds.{holds_readonly}
@@ -74,3 +75,7 @@ abbrev pub released_in : Exporter → ℕ → Result Exporter Fault
 released_in e k = do
   v ← view_at e k
   Ok (released_at e k v)
+
+-- the exporter with other bytes in place of those from one place up to another, as many as there are
+abbrev pub resized : Exporter → ℕ → ℕ → List ℕ → Exporter
+resized e start end bytes = record e { bytes = replaced_range e.bytes start end bytes }

@@ -1,6 +1,8 @@
 -- Exporters that are made of another, with a copy of its bytes.
 use Rattle.std.specs.Prelude.{◌≡◌, ℕ, Bool, true, List, length, Option, Some, None, Ok, slice_get}
 use Rattle.pybuf_value.specs.declared.snaps.Snap.{Snap}
+use Rattle.pybuf_value.specs.declared.snaps.SnapKind.{SnapKind}
+use Rattle.pybuf_value.specs.declared.snaps.SnapKind.TheVariants as kind
 use Rattle.pybuf_desc.specs.Layouts.{Layout}
 use Rattle.pybuf_desc.specs.Items.{content_of_layout}
 use Rattle.pybuf_desc.specs.Contiguous.{is_contiguous_layout}
@@ -12,6 +14,7 @@ use Rattle.pybuf_command.specs.declared.kinds.Subject.TheVariants as subject
 use Rattle.pybuf_command.specs.Kinds.{holds_readonly}
 use Rattle.pybuf_memoryview.specs.Snaps.{snap_of_copy}
 use Rattle.pybuf_state.specs.Exporter.{Exporter, View, new_exporter, live_layout, with_view}
+use Rattle.pybuf_state.specs.Snaps.{snap_of_exporter}
 
 -- whether a view that was given may only be read
 abbrev pub is_readonly_view : Option View → Bool
@@ -30,8 +33,17 @@ abbrev pub vector_of : Bool → Snap → Exporter
 vector_of readonly snap =
     (with_view (new_exporter (exporter_kind.Vector readonly) snap.content) (row_major_layout snap.format snap.itemsize snap.shape readonly)).0
 
--- the snap is the copy of an unreleased view
+-- What is made of a copy: of a bytearray's another bytearray with no view, and of a view's that vector.
+abbrev pub made_by_kind : SnapKind → Bool → Snap → Exporter
+made_by_kind kind.ByteArray readonly snap = new_exporter exporter_kind.ByteArray snap.content
+made_by_kind _ readonly snap = vector_of readonly snap
+
+abbrev pub made_of : Bool → Snap → Exporter
+made_of readonly snap = made_by_kind snap.kind readonly snap
+
+-- the snap is the copy of a bytearray, or of an unreleased view
 abbrev pub IsCopyOf : Exporter → Subject → Snap → Type 0
+IsCopyOf e subject.Own snap = (e.kind ≡ exporter_kind.ByteArray) × (snap ≡ snap_of_exporter e)
 IsCopyOf e (subject.View k) snap = (layout : Layout) × (live_layout e k ≡ Ok layout) × (snap ≡ snap_of_copy e.bytes layout)
 IsCopyOf e _ snap = ⊥
 
@@ -47,8 +59,10 @@ pub record IsPackedCopy (bytes : List ℕ) (view : Layout) (copied : List ℕ) (
   pub strides : HasRowMajorStrides copy
   pub contiguous : is_contiguous_layout copy ≡ true
 
--- the first view of an exporter is such a copy of an unreleased view of another, and there is no other
+-- a bytearray has the bytes of another and no view; or the first view of an exporter is such a copy of an
+-- unreleased view of another, and there is no other
 abbrev pub HoldsCopy : Exporter → Subject → Exporter → Type 0
+HoldsCopy e subject.Own made = made ≡ new_exporter exporter_kind.ByteArray e.bytes
 HoldsCopy e (subject.View k) made =
     (layout copy : Layout) × (live_layout e k ≡ Ok layout) × (live_layout made 0 ≡ Ok copy) × (length made.views ≡ 1) × IsPackedCopy e.bytes layout made.bytes copy
 HoldsCopy e _ made = ⊥

@@ -1,9 +1,11 @@
 -- What a command keeps of an exporter.
-use Rattle.std.specs.Prelude.{◌≡◌, ◌⊎◌, ℕ, ◌<◌, List, length, Bool, true, false, Result, Some, slice_get}
+use Rattle.std.specs.Prelude.{◌≡◌, ◌⊎◌, ℕ, ◌<◌, List, [], length, Bool, true, false, Result, Some, slice_get}
 use Rattle.pybuf_value.specs.declared.faults.Fault.{Fault}
 use Rattle.pybuf_value.specs.Refusing.{IfDone}
 use Rattle.pybuf_command.specs.declared.commands.LocalReply.{LocalReply}
 use Rattle.pybuf_command.specs.declared.commands.LocalReply.TheVariants as reply
+use Rattle.pybuf_command.specs.declared.kinds.ExporterKind.{ExporterKind}
+use Rattle.pybuf_command.specs.declared.kinds.ExporterKind.TheVariants as kind
 use Rattle.pybuf_command.specs.declared.kinds.Subject.{Subject}
 use Rattle.pybuf_command.specs.Kinds.{holds_readonly}
 use Rattle.pybuf_state.specs.Exporter.{Exporter, View, exports_of}
@@ -23,9 +25,20 @@ pub record LengthsStay (old new : Exporter) : Type 0 where
   pub views : ViewsStay old.views new.views
   pub bytes : 0 < exports_of old → length new.bytes ≡ length old.bytes
 
--- the bytes of an exporter that is only read stay
+-- whether an exporter is a vector, whose bytes can be taken out as a whole
+abbrev pub is_vector : ExporterKind → Bool
+is_vector (kind.Vector readonly) = true
+is_vector _ = false
+
+-- the bytes of a vector without an unreleased view were taken out
+pub record IsEmptied (old new : Exporter) : Type 0 where
+  pub vector : is_vector old.kind ≡ true
+  pub free : exports_of old ≡ 0
+  pub empty : new.bytes ≡ []
+
+-- the bytes of an exporter that is only read stay, unless they are taken out of a vector as a whole
 abbrev pub ReadOnlyBytesStay : Exporter → Exporter → Type 0
-ReadOnlyBytesStay old new = holds_readonly old.kind ≡ true → new.bytes ≡ old.bytes
+ReadOnlyBytesStay old new = holds_readonly old.kind ≡ true → (new.bytes ≡ old.bytes) ⊎ IsEmptied old new
 
 -- what each command keeps of a sound exporter
 pub record Keeps (old new : Exporter) : Type 0 where

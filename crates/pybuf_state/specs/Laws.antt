@@ -1,13 +1,14 @@
 -- What is kept of an exporter by each way in which a command changes it.
-use Rattle.std.specs.Prelude.{◌≡◌, ℕ, ◌+◌, ◌≤◌, List, length, true, false, Ok}
+use Rattle.std.specs.Prelude.{◌≡◌, ℕ, ◌+◌, ◌≤◌, List, [], length, true, false, Ok}
 use Rattle.pybuf_value.specs.declared.snaps.Snap.{Snap}
 use Rattle.pybuf_desc.specs.Layouts.{Layout, LiesInside, bytes_layout_from}
 use Rattle.pybuf_command.specs.declared.kinds.Subject.{Subject}
 use Rattle.pybuf_command.specs.Kinds.{holds_readonly}
 use Rattle.pybuf_state.specs.Exporter.{Exporter, View, whole_layout, view_at, live_layout, with_view, released_at}
 use Rattle.pybuf_state.specs.Sound.{IsFormed, IsSoundExporter}
-use Rattle.pybuf_state.specs.Keeps.{Keeps}
-use Rattle.pybuf_state.specs.Fresh.{IsCopyOf, vector_of, is_readonly_subject, HoldsCopy}
+use Rattle.pybuf_state.specs.Keeps.{Keeps, is_vector}
+use Rattle.pybuf_state.specs.Resizing.{has_exports}
+use Rattle.pybuf_state.specs.Fresh.{IsCopyOf, made_of, is_readonly_subject, HoldsCopy}
 
 -- what is asked of the layout of a new view
 pub record IsSoundLayout (e : Exporter) (layout : Layout) : Type 0 where
@@ -41,10 +42,19 @@ WritingKeeps = (e : Exporter) (bytes : List ℕ) → IsSoundExporter e → holds
 abbrev pub ReleasingKeeps : Type 0
 ReleasingKeeps = (e : Exporter) (k : ℕ) (v : View) → IsSoundExporter e → view_at e k ≡ Ok v → Keeps e (released_at e k v)
 
--- ---- copies of views
+-- and where bytes that may be written get others in their place, of any number, while no view is unreleased
+abbrev pub ResizingKeeps : Type 0
+ResizingKeeps = (e : Exporter) (bytes : List ℕ) → IsSoundExporter e → has_exports e ≡ false → holds_readonly e.kind ≡ false → Keeps e (record e { bytes = bytes })
 
--- a vector that is made of the copy of a view is sound, and holds the bytes of that view in its shape
+-- and where the bytes of a vector are taken out then
+abbrev pub EmptyingKeeps : Type 0
+EmptyingKeeps = (e : Exporter) → IsSoundExporter e → has_exports e ≡ false → is_vector e.kind ≡ true → Keeps e (record e { bytes = [] })
+
+-- ---- copies
+
+-- What is made of a copy is sound, and holds the bytes that were copied: those of a bytearray, or those
+-- of a view in its shape.
 abbrev pub CopiesAreFaithful : Type 0
 CopiesAreFaithful =
     (e : Exporter) (s : Subject) (snap : Snap) → IsSoundExporter e → IsCopyOf e s snap
-    → (IsSoundExporter (vector_of (is_readonly_subject e s) snap)) × (HoldsCopy e s (vector_of (is_readonly_subject e s) snap))
+    → (IsSoundExporter (made_of (is_readonly_subject e s) snap)) × (HoldsCopy e s (made_of (is_readonly_subject e s) snap))

@@ -25,13 +25,6 @@ Bytes = Vec ℕ Global
 abbrev pub bytes_row : RattleType
 bytes_row = vec.the_row u8 global.the_row ghosts
 
-abbrev pub with_bytes : Parts → Bytes → Parts
-with_bytes p bytes = record p { bytes = bytes }
-
--- the parts end with the last bytes behind the loan, if there is one
-abbrev pub LendsAllParts : MutBor Parts → Result (MutBor Bytes) Fault → Fml
-LendsAllParts s r = LendsIfOk the_row bytes_row s r (with_bytes s.now) s.now
-
 -- ---- the bytes of a view
 
 -- The items of a view lie one after the other from one place up to another, and inside; so those are its

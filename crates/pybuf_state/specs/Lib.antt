@@ -7,4 +7,5 @@ pub mod Fresh
 pub mod Answers
 pub mod Laws
 pub mod Live
+pub mod Resizing
 pub mod Lending

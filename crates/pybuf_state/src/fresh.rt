@@ -3,7 +3,7 @@ ghost use Rattle.std.specs.Prelude.{◌≡◌, IfOk};
 ghost use Rattle.pybuf_command.specs.declared.kinds.Subject.TheVariants as subjects;
 ghost use Rattle.pybuf_state.specs.Exporter.{exports_of, new_exporter, with_view};
 ghost use Rattle.pybuf_state.specs.Answers.{exporter_of, IsWhole};
-ghost use Rattle.pybuf_state.specs.Fresh.{IsCopyOf, is_readonly_subject, vector_of};
+ghost use Rattle.pybuf_state.specs.Fresh.{IsCopyOf, is_readonly_subject, made_of};
 
 use crate::parts::Parts;
 use crate::stored::StoredView;
@@ -52,7 +52,7 @@ fn without_views(alloc: Global, kind: ExporterKind, content: ByteList) -> Parts
 fn vector_of_view(parts: &Parts, alloc: Global, view: usize, snap: Snap) -> Made<Parts>
     requires whole { IsWhole parts.now }
     requires copy { IsCopyOf (exporter_of parts.now) (subjects.View view) snap }
-    ensures value { IfOk result (λ made. exporter_of made ≡ vector_of (is_readonly_subject (exporter_of parts.now) (subjects.View view)) snap) }
+    ensures value { IfOk result (λ made. exporter_of made ≡ made_of (is_readonly_subject (exporter_of parts.now) (subjects.View view)) snap) }
     ensures counted { IfOk result (λ made. made.exports ≡ exports_of (exporter_of made)) }
 {
     match parts.live_layout(view) {
@@ -67,16 +67,16 @@ fn vector_of_view(parts: &Parts, alloc: Global, view: usize, snap: Snap) -> Made
     }
 }
 
-/// The vector that is made of the copy of a view: its content, and one view of all of it, with items
-/// of the same format in the same shape.
-pub fn vector_of_copy(parts: &Parts, alloc: Global, subject: Subject, snap: Snap) -> Made<Parts>
+/// The exporter that is made of a copy: of a bytearray's another bytearray, with no view, and of a
+/// view's a vector with one view of all of it, with items of the same format in the same shape.
+pub fn exporter_of_copy(parts: &Parts, alloc: Global, subject: Subject, snap: Snap) -> Made<Parts>
     requires whole { IsWhole parts.now }
     requires copy { IsCopyOf (exporter_of parts.now) subject snap }
-    ensures value { IfOk result (λ made. exporter_of made ≡ vector_of (is_readonly_subject (exporter_of parts.now) subject) snap) }
+    ensures value { IfOk result (λ made. exporter_of made ≡ made_of (is_readonly_subject (exporter_of parts.now) subject) snap) }
     ensures counted { IfOk result (λ made. made.exports ≡ exports_of (exporter_of made)) }
 {
     match subject {
         Subject::View(view) => vector_of_view(parts, alloc, view, snap),
-        _ => Ok(without_views(alloc, ExporterKind::Bytes, snap.content)),
+        _ => Ok(without_views(alloc, ExporterKind::ByteArray, snap.content)),
     }
 }

@@ -1,5 +1,5 @@
 //! Laws of the definitions that the contracts cite. Each stands on a function with an empty body.
-ghost use Rattle.pybuf_state.specs.Laws.{WholeLayoutsAreSound, PartLayoutsAreSound, LiveLayoutsAreSound, CopiesAreFaithful, ReadingKeeps, NewViewsKeep, WritingKeeps, ReleasingKeeps};
+ghost use Rattle.pybuf_state.specs.Laws.{WholeLayoutsAreSound, PartLayoutsAreSound, LiveLayoutsAreSound, CopiesAreFaithful, ReadingKeeps, NewViewsKeep, WritingKeeps, ResizingKeeps, EmptyingKeeps, ReleasingKeeps};
 
 /// A view of all bytes may be made of every exporter.
 pub fn whole_layouts_are_sound()
@@ -32,13 +32,24 @@ pub fn writing_keeps()
     ensures { WritingKeeps }
 {}
 
+/// An exporter that may be written is kept where any other bytes take the place of its bytes, while no
+/// view of it is unreleased.
+pub fn resizing_keeps()
+    ensures { ResizingKeeps }
+{}
+
+/// A vector is kept where its bytes are taken out, while no view of it is unreleased.
+pub fn emptying_keeps()
+    ensures { EmptyingKeeps }
+{}
+
 /// An exporter is kept where one of its views is released.
 pub fn releasing_keeps()
     ensures { ReleasingKeeps }
 {}
 
-/// A vector that is made of the copy of a view is sound, and its one view has the bytes of that view,
-/// in the same format and shape, without a gap.
+/// What is made of a copy is sound: a bytearray with the bytes of another, or a vector whose one view has
+/// the bytes of a view, in the same format and shape, without a gap.
 pub fn copies_are_faithful()
     ensures { CopiesAreFaithful }
 {

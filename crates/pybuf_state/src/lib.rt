@@ -13,11 +13,12 @@ mod parts;
 mod snaps;
 mod stored;
 
-pub use fresh::vector_of_copy;
+pub use fresh::exporter_of_copy;
 pub use known::{are_known, are_known_beside, is_lent};
 pub use laws::{
-    copies_are_faithful, live_layouts_are_sound, new_views_keep, part_layouts_are_sound,
-    reading_keeps, releasing_keeps, whole_layouts_are_sound, writing_keeps,
+    copies_are_faithful, emptying_keeps, live_layouts_are_sound, new_views_keep,
+    part_layouts_are_sound, reading_keeps, releasing_keeps, resizing_keeps,
+    whole_layouts_are_sound, writing_keeps,
 };
 pub use parts::Parts;
 pub use snaps::{lent_to, snap_of_subject};

@@ -1,10 +1,11 @@
 //! What is kept of an exporter.
-ghost use Rattle.std.specs.Prelude.{◌≡◌, ◌↔◌, Ok, Err, length, IfOk, IfErr, IsOk, OnErr, MatchResult};
+ghost use Rattle.std.specs.Prelude.{◌≡◌, ◌≤◌, [], Ok, Err, length, true, false, IfOk, OnOk, OnErr, MatchResult};
 
 use crate::stored::StoredView;
 use pybuf_command::{ExporterKind, LocalReply};
 use pybuf_memoryview::KeptLayout;
-use pybuf_value::{Fault, Halt};
+use pybuf_slice::SliceableSequenceMutOp;
+use pybuf_value::{Fault, Halt, Made};
 use std::alloc::Global;
 
 /// The parts of an exporter: the number of unreleased views is kept beside the views, so that
@@ -19,12 +20,10 @@ pub struct Parts {
 }
 
 impl Parts {
-    ghost use Rattle.pybuf_state.specs.Exporter.{view_at, live_layout, with_view, released_in, exports_of};
+    ghost use Rattle.pybuf_state.specs.Exporter.{view_at, live_layout, with_view, released_in, exports_of, resized};
     ghost use Rattle.pybuf_state.specs.Answers.{exporter_of, IsWhole, Answers};
     ghost use Rattle.pybuf_state.specs.Laws.{IsSoundLayout};
-    ghost use Rattle.std.specs.Borrow.{sem};
-    ghost use Rattle.pybuf_value.specs.declared.faults.Fault.{Fault};
-    ghost use Rattle.pybuf_state.specs.Lending.{LendsAllParts};
+    ghost use Rattle.pybuf_state.specs.Resizing.{has_exports, resizable};
 
     /// The view of a number that was given, released or not.
     ///
@@ -66,19 +65,50 @@ impl Parts {
         Ok(LocalReply::View(number))
     }
 
-    /// The bytes, lent to be changed in any way.
+    /// Whether the length may change.
     ///
     /// Refused with `BufferError` exactly where a view is unreleased.
-    pub fn resizable(&mut self) -> Result<&mut Vec<u8>, Fault>
-        ensures* writes_back { sem 𝓛 (LendsAllParts self.entry result) }
-        ensures value { IfOk result (λ bytes. bytes.now ≡ self.old.bytes) }
-        ensures refused { IfErr result (λ fault. fault ≡ Fault.Buffer) }
-        ensures exact { IsOk result ↔ (self.old.exports ≡ 0) }
+    pub fn resizable(&self) -> Result<(), Fault>
+        requires { IsWhole self.now }
+        ensures { MatchResult result (λ _. resizable (exporter_of self.now) ≡ Ok true) (λ f. resizable (exporter_of self.now) ≡ Err f) }
     {
         if self.exports > 0 {
             return Err(Fault::Buffer);
         }
-        Ok(&mut self.bytes)
+        Ok(())
+    }
+
+    /// Puts other bytes in place of those from one place up to another, as many as there are: the one
+    /// call by which the length of an exporter changes. The bytes behind move once, and none moves
+    /// where bytes are added at the end. Where memory runs out, all is as before.
+    pub fn replace_range(&mut self, start: usize, end: usize, bytes: &[u8]) -> Made<()>
+        requires free { has_exports (exporter_of self.old) ≡ false }
+        requires ordered { start ≤ end }
+        requires inside { end ≤ length self.old.bytes.items }
+        ensures ok { OnOk result (exporter_of self.new ≡ resized (exporter_of self.old) start end bytes.now) }
+        ensures err { OnErr result (exporter_of self.new ≡ exporter_of self.old) }
+        ensures exports { self.new.exports ≡ self.old.exports }
+    {
+        if start == self.bytes.len() {
+            self.bytes.extend_from_slice(bytes)?;
+            return Ok(());
+        }
+        if bytes.is_empty() {
+            self.remove_range(start, end);
+            return Ok(());
+        }
+        self.bytes.do_set_range(self.alloc, start..end, bytes)
+    }
+
+    /// `replace_range` by no bytes, which takes no memory: the bytes behind move once.
+    pub fn remove_range(&mut self, start: usize, end: usize)
+        requires free { has_exports (exporter_of self.old) ≡ false }
+        requires ordered { start ≤ end }
+        requires inside { end ≤ length self.old.bytes.items }
+        ensures same { exporter_of self.new ≡ resized (exporter_of self.old) start end [] }
+        ensures exports { self.new.exports ≡ self.old.exports }
+    {
+        self.bytes.do_delete_range(start..end);
     }
 
     /// Releases a view that was given. The second time changes nothing.

@@ -1,0 +1,14 @@
+-- Exporters with an unreleased view, whose length may not change.
+use Rattle.std.specs.Prelude.{Bool, Result, nat_lt}
+use Rattle.pybuf_value.specs.declared.faults.Fault.{Fault}
+use Rattle.pybuf_value.specs.declared.faults.Fault.TheVariants as fault
+use Rattle.pybuf_value.specs.Refusing.{unless}
+use Rattle.pybuf_state.specs.Exporter.{Exporter, exports_of}
+
+-- whether an exporter has an unreleased view, so that its length stays
+abbrev pub has_exports : Exporter → Bool
+has_exports e = nat_lt 0 (exports_of e)
+
+-- what asks to change the length is refused with `BufferError` exactly then
+abbrev pub resizable : Exporter → Result Bool Fault
+resizable e = unless (has_exports e) fault.Buffer
