@@ -32,7 +32,8 @@ use Rattle.pybuf_state.specs.Laws.{ReadingKeeps, LiveLayoutsAreSound}
 use Rattle.pybuf_rows_views.specs.Laws.{ViewIsSafe, SliceIsSafe, CastIsSafe, ReleaseIsSafe, ToReadonlyIsSafe, RangeIsSafe, EnterIsSafe, ContiguousIsCopied}
 use Rattle.pybuf_rows_reads.specs.Laws.{GetIsSafe, BytesIsSafe, LenIsSafe, PropertyIsSafe, ToListIsSafe}
 use Rattle.pybuf_rows_writes.specs.Laws.{SetIsSafe, AssignIsSafe}
-use Rattle.pybuf_exporter.specs.Step.{is_built, get_of_view, row, answered_if_built, answer_of, settled_answer, estep, set_through_view}
+use Rattle.pybuf_rows_edits.specs.Laws.{EditsAreSafe, DeleteOfViewIsSafe}
+use Rattle.pybuf_exporter.specs.Step.{get_of_view, row, answer_of, settled_answer, estep, set_in_own, set_through_view}
 use Rattle.pybuf_exporter.specs.Rows.{RowsAreSafe, RowIsSafe}
 use Rattle.pybuf_exporter.specs.Laws.{CommandsKeepSound, LengthsStayUnderCommands, ReadOnlyBytesStayUnderCommands, RefusedCommandsChangeNothing, LoansAlikeDoTheSame, ItemsAreRead, FreshRepliesAreCopies}
 
@@ -53,6 +54,8 @@ pub record RowLaws : Type 0 where
   pub tolist : ToListIsSafe
   pub set : SetIsSafe
   pub assign : AssignIsSafe
+  pub edits : EditsAreSafe
+  pub delete_of_view : DeleteOfViewIsSafe
 
 get_of_view_safe : RowLaws → (e : Exporter) (k : ℕ) (key : Value) → IsSafe e (get_of_view e k key)
 get_of_view_safe laws e k (value.Slice slice) = laws.slice e k slice
@@ -68,11 +71,18 @@ set_through_view_safe laws e k (value.Tuple parts) v lents = laws.set.1 e k (val
 set_through_view_safe laws e k (value.List parts) v lents = laws.set.1 e k (value.List parts) v lents
 set_through_view_safe laws e k (value.Slices slices) v lents = laws.set.1 e k (value.Slices slices) v lents
 
+set_in_own_safe : RowLaws → (e : Exporter) (key v : Value) (lents : List Lent) → IsSafe e (set_in_own e key v lents)
+set_in_own_safe laws e (value.Slice slice) v lents = laws.edits e (verb.Set (value.Slice slice) v) lents
+set_in_own_safe laws e (value.One s) v lents = laws.set.0 e (value.One s) v
+set_in_own_safe laws e (value.Tuple parts) v lents = laws.set.0 e (value.Tuple parts) v
+set_in_own_safe laws e (value.List parts) v lents = laws.set.0 e (value.List parts) v
+set_in_own_safe laws e (value.Slices slices) v lents = laws.set.0 e (value.Slices slices) v
+
 -- a line for each row
 pub rows_safe : RowLaws → RowsAreSafe
 rows_safe laws e subject.Own verb.View lents = laws.view.0 e
 rows_safe laws e subject.Own (verb.Get key) lents = laws.get.0 e key
-rows_safe laws e subject.Own (verb.Set key value) lents = laws.set.0 e key value
+rows_safe laws e subject.Own (verb.Set key value) lents = set_in_own_safe laws e key value lents
 rows_safe laws e subject.Own (verb.Cast format shape) lents = tt
 rows_safe laws e subject.Own verb.ToBytes lents = laws.bytes.0 e
 rows_safe laws e subject.Own verb.Release lents = tt
@@ -84,6 +94,19 @@ rows_safe laws e subject.Own verb.Enter lents = tt
 rows_safe laws e subject.Own verb.Exit lents = tt
 rows_safe laws e subject.Own verb.ToContiguous lents = tt
 rows_safe laws e subject.Own verb.ToList lents = tt
+rows_safe laws e subject.Own (verb.Del key) lents = laws.edits e (verb.Del key) lents
+rows_safe laws e subject.Own (verb.Append v) lents = laws.edits e (verb.Append v) lents
+rows_safe laws e subject.Own (verb.Extend v) lents = laws.edits e (verb.Extend v) lents
+rows_safe laws e subject.Own (verb.Insert index v) lents = laws.edits e (verb.Insert index v) lents
+rows_safe laws e subject.Own (verb.Pop index) lents = laws.edits e (verb.Pop index) lents
+rows_safe laws e subject.Own (verb.Remove v) lents = laws.edits e (verb.Remove v) lents
+rows_safe laws e subject.Own verb.Clear lents = laws.edits e verb.Clear lents
+rows_safe laws e subject.Own verb.Reverse lents = laws.edits e verb.Reverse lents
+rows_safe laws e subject.Own (verb.IAdd v) lents = laws.edits e (verb.IAdd v) lents
+rows_safe laws e subject.Own (verb.IMul count) lents = laws.edits e (verb.IMul count) lents
+rows_safe laws e subject.Own (verb.Init options) lents = laws.edits e (verb.Init options) lents
+rows_safe laws e subject.Own verb.Take lents = laws.edits e verb.Take lents
+rows_safe laws e subject.Own verb.Copy lents = laws.edits e verb.Copy lents
 rows_safe laws e (subject.View k) verb.View lents = laws.view.1 e k
 rows_safe laws e (subject.View k) (verb.Get key) lents = get_of_view_safe laws e k key
 rows_safe laws e (subject.View k) (verb.Set key value) lents = set_through_view_safe laws e k key value lents
@@ -98,6 +121,19 @@ rows_safe laws e (subject.View k) verb.Enter lents = laws.enter e k
 rows_safe laws e (subject.View k) verb.Exit lents = laws.release e k
 rows_safe laws e (subject.View k) verb.ToContiguous lents = laws.contiguous e k
 rows_safe laws e (subject.View k) verb.ToList lents = laws.tolist e k
+rows_safe laws e (subject.View k) (verb.Del key) lents = laws.delete_of_view e k
+rows_safe laws e (subject.View k) (verb.Append v) lents = tt
+rows_safe laws e (subject.View k) (verb.Extend v) lents = tt
+rows_safe laws e (subject.View k) (verb.Insert index v) lents = tt
+rows_safe laws e (subject.View k) (verb.Pop index) lents = tt
+rows_safe laws e (subject.View k) (verb.Remove v) lents = tt
+rows_safe laws e (subject.View k) verb.Clear lents = tt
+rows_safe laws e (subject.View k) verb.Reverse lents = tt
+rows_safe laws e (subject.View k) (verb.IAdd v) lents = tt
+rows_safe laws e (subject.View k) (verb.IMul count) lents = tt
+rows_safe laws e (subject.View k) (verb.Init options) lents = tt
+rows_safe laws e (subject.View k) verb.Take lents = tt
+rows_safe laws e (subject.View k) verb.Copy lents = tt
 rows_safe laws e (subject.Iter k) v lents = tt
 
 -- ---- every command
@@ -153,7 +189,33 @@ copied_step reading e s (Ok after) copied = record {
 copied_step reading e s (Err f) copied = tt
 
 row_step : ReadingKeeps → (e : Exporter) (s : Subject) (v : Verb) (r : Result (Exporter × LocalReply) Fault) → RowIsSafe e s v r → IfDone (IsStep e s) r
-row_step reading e subject.Own v r safe = safe_step e subject.Own r safe
+row_step reading e subject.Own verb.View r safe = safe_step e subject.Own r safe
+row_step reading e subject.Own (verb.Get key) r safe = safe_step e subject.Own r safe
+row_step reading e subject.Own (verb.Set key value) r safe = safe_step e subject.Own r safe
+row_step reading e subject.Own (verb.Cast format shape) r safe = safe_step e subject.Own r safe
+row_step reading e subject.Own verb.ToBytes r safe = safe_step e subject.Own r safe
+row_step reading e subject.Own verb.Release r safe = safe_step e subject.Own r safe
+row_step reading e subject.Own verb.Len r safe = safe_step e subject.Own r safe
+row_step reading e subject.Own (verb.Property name) r safe = safe_step e subject.Own r safe
+row_step reading e subject.Own verb.ToReadonly r safe = safe_step e subject.Own r safe
+row_step reading e subject.Own (verb.Range from to) r safe = safe_step e subject.Own r safe
+row_step reading e subject.Own verb.Enter r safe = safe_step e subject.Own r safe
+row_step reading e subject.Own verb.Exit r safe = safe_step e subject.Own r safe
+row_step reading e subject.Own verb.ToContiguous r safe = safe_step e subject.Own r safe
+row_step reading e subject.Own verb.ToList r safe = safe_step e subject.Own r safe
+row_step reading e subject.Own (verb.Del key) r safe = safe_step e subject.Own r safe
+row_step reading e subject.Own (verb.Append v) r safe = safe_step e subject.Own r safe
+row_step reading e subject.Own (verb.Extend v) r safe = safe_step e subject.Own r safe
+row_step reading e subject.Own (verb.Insert index v) r safe = safe_step e subject.Own r safe
+row_step reading e subject.Own (verb.Pop index) r safe = safe_step e subject.Own r safe
+row_step reading e subject.Own (verb.Remove v) r safe = safe_step e subject.Own r safe
+row_step reading e subject.Own verb.Clear r safe = safe_step e subject.Own r safe
+row_step reading e subject.Own verb.Reverse r safe = safe_step e subject.Own r safe
+row_step reading e subject.Own (verb.IAdd v) r safe = safe_step e subject.Own r safe
+row_step reading e subject.Own (verb.IMul count) r safe = safe_step e subject.Own r safe
+row_step reading e subject.Own (verb.Init options) r safe = safe_step e subject.Own r safe
+row_step reading e subject.Own verb.Take r safe = safe_step e subject.Own r safe
+row_step reading e subject.Own verb.Copy r safe = copied_step reading e subject.Own r safe
 row_step reading e (subject.Iter k) v r safe = safe_step e (subject.Iter k) r safe
 row_step reading e (subject.View k) verb.ToContiguous r safe = copied_step reading e (subject.View k) r safe
 row_step reading e (subject.View k) verb.View r safe = safe_step e (subject.View k) r safe
@@ -169,16 +231,28 @@ row_step reading e (subject.View k) verb.ToList r safe = safe_step e (subject.Vi
 row_step reading e (subject.View k) verb.Len r safe = safe_step e (subject.View k) r safe
 row_step reading e (subject.View k) (verb.Property name) r safe = safe_step e (subject.View k) r safe
 row_step reading e (subject.View k) verb.ToReadonly r safe = safe_step e (subject.View k) r safe
+row_step reading e (subject.View k) (verb.Del key) r safe = safe_step e (subject.View k) r safe
+row_step reading e (subject.View k) (verb.Append v) r safe = safe_step e (subject.View k) r safe
+row_step reading e (subject.View k) (verb.Extend v) r safe = safe_step e (subject.View k) r safe
+row_step reading e (subject.View k) (verb.Insert index v) r safe = safe_step e (subject.View k) r safe
+row_step reading e (subject.View k) (verb.Pop index) r safe = safe_step e (subject.View k) r safe
+row_step reading e (subject.View k) (verb.Remove v) r safe = safe_step e (subject.View k) r safe
+row_step reading e (subject.View k) verb.Clear r safe = safe_step e (subject.View k) r safe
+row_step reading e (subject.View k) verb.Reverse r safe = safe_step e (subject.View k) r safe
+row_step reading e (subject.View k) (verb.IAdd v) r safe = safe_step e (subject.View k) r safe
+row_step reading e (subject.View k) (verb.IMul count) r safe = safe_step e (subject.View k) r safe
+row_step reading e (subject.View k) (verb.Init options) r safe = safe_step e (subject.View k) r safe
+row_step reading e (subject.View k) verb.Take r safe = safe_step e (subject.View k) r safe
+row_step reading e (subject.View k) verb.Copy r safe = safe_step e (subject.View k) r safe
 
 chosen : (e : Exporter) (s : Subject) (b : Bool) (r : Result (Exporter × LocalReply) Fault) → IfDone (IsStep e s) r → IfDone (IsStep e s) (if b then r else Err fault.UnknownName)
 chosen e s true r step = step
 chosen e s false r step = tt
 
-answered_step : RowsAreSafe → ReadingKeeps → (e : Exporter) (s : Subject) (v : Verb) (loans : List (ℕ × Loan)) → IfDone (IsStep e s) (answer_of e s v loans)
+pub answered_step : RowsAreSafe → ReadingKeeps → (e : Exporter) (s : Subject) (v : Verb) (loans : List (ℕ × Loan)) → IfDone (IsStep e s) (answer_of e s v loans)
 answered_step rows reading e s v loans =
     let lents = lent_for_each e loans (handles_read s v) in
-    chosen e s (are_known e loans (handles_of v)) (answered_if_built e s v lents)
-    (chosen e s (is_built s v) (row e s v lents) (row_step reading e s v (row e s v lents) (rows e s v lents)))
+    chosen e s (are_known e loans (handles_of v)) (row e s v lents) (row_step reading e s v (row e s v lents) (rows e s v lents))
 
 settled_keeps : ReadingKeeps → (e : Exporter) (s : Subject) (r : Result (Exporter × LocalReply) Fault) → IfDone (IsStep e s) r → IsSoundExporter e → Keeps e (settled_answer e r).0
 settled_keeps reading e s (Ok after) step sound = step.keeps sound
@@ -215,7 +289,7 @@ fresh_are_copies rows reading e s v loans snap is = settled_fresh e s (answer_of
 
 pub alike_steps : LoansAlikeDoTheSame
 alike_steps e s v loans others alike =
-    ap₂ (λ (known : Bool) (lents : List Lent). settled_answer e (if known then answered_if_built e s v lents else Err fault.UnknownName)) alike.known alike.lent
+    ap₂ (λ (known : Bool) (lents : List Lent). settled_answer e (if known then row e s v lents else Err fault.UnknownName)) alike.known alike.lent
 
 -- ---- items
 

@@ -2,3 +2,4 @@ pub mod Every
 pub mod Described
 pub mod Beside
 pub mod Lent
+pub mod Refusing

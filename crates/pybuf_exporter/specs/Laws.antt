@@ -1,13 +1,16 @@
 -- Laws over every command on one exporter.
-use Rattle.std.specs.Prelude.{◌≡◌, ℕ, ◌<◌, List, length, slice_index, Ok}
+use Rattle.std.specs.Prelude.{◌≡◌, ◌⊎◌, ℕ, ◌<◌, Bool, true, List, length, slice_index, Result, Ok, Err}
 use Rattle.pybuf_value.specs.declared.faults.Fault.{Fault}
+use Rattle.pybuf_value.specs.declared.faults.Fault.TheVariants as fault
 use Rattle.pybuf_value.specs.declared.snaps.Snap.{Snap}
 use Rattle.pybuf_struct.specs.Formats.{Format, format_of}
 use Rattle.pybuf_struct.specs.Values.{item_of, values}
 use Rattle.pybuf_desc.specs.Layouts.{Layout}
 use Rattle.pybuf_desc.specs.Items.{bytes_at}
 use Rattle.pybuf_command.specs.declared.kinds.Subject.{Subject}
+use Rattle.pybuf_command.specs.declared.kinds.Subject.TheVariants as subject
 use Rattle.pybuf_command.specs.declared.commands.Verb.{Verb}
+use Rattle.pybuf_command.specs.declared.commands.LocalReply.{LocalReply}
 use Rattle.pybuf_command.specs.declared.commands.LocalReply.TheVariants as reply
 use Rattle.pybuf_command.specs.declared.loans.Loan.{Loan}
 use Rattle.pybuf_command.specs.Handles.{handles_of, handles_read}
@@ -17,6 +20,9 @@ use Rattle.pybuf_state.specs.Loans.{are_known, lent_for_each}
 use Rattle.pybuf_state.specs.Sound.{IsSoundExporter}
 use Rattle.pybuf_state.specs.Fresh.{IsCopyOf}
 use Rattle.pybuf_state.specs.Keeps.{LengthsStay, ReadOnlyBytesStay}
+use Rattle.pybuf_state.specs.Resizing.{has_exports}
+use Rattle.pybuf_rows_edits.specs.Edits.{is_edit}
+use Rattle.pybuf_rows_edits.specs.Asking.{asks}
 use Rattle.pybuf_exporter.specs.Step.{estep}
 
 -- each command leaves a sound exporter sound
@@ -36,8 +42,8 @@ ReadOnlyBytesStayUnderCommands = (e : Exporter) (s : Subject) (v : Verb) (loans 
 abbrev pub RefusedCommandsChangeNothing : Type 0
 RefusedCommandsChangeNothing = (e : Exporter) (s : Subject) (v : Verb) (loans : List (ℕ × Loan)) (f : Fault) → (estep e s v loans).1 ≡ reply.Refused f → (estep e s v loans).0 ≡ e
 
--- a command that replies something fresh changes nothing, and replies the copy of the view that it is
--- asked of
+-- a command that replies something fresh changes nothing, and replies the copy of the view or the
+-- bytearray that it is asked of
 abbrev pub FreshRepliesAreCopies : Type 0
 FreshRepliesAreCopies =
     (e : Exporter) (s : Subject) (v : Verb) (loans : List (ℕ × Loan)) (snap : Snap) → (estep e s v loans).1 ≡ reply.Fresh snap
@@ -59,3 +65,16 @@ ItemsAreRead =
     (e : Exporter) (k : ℕ) (layout : Layout) (i : ℕ) → IsSoundExporter e → live_layout e k ≡ Ok layout → i < length layout.starts
     → (format : Format) × (format_of layout.format ≡ Ok format) × (format.size ≡ layout.itemsize)
     × (item_by layout.format (bytes_at e.bytes layout.itemsize (slice_index layout.starts i)) ≡ item_of (values format (bytes_at e.bytes layout.itemsize (slice_index layout.starts i))))
+
+-- Where an edit asks for another length, once the checks before are passed, the reply is `BufferError` while
+-- a view is unreleased. It is so nowhere else, but where a check before gives it: where an exporter is added
+-- to itself.
+pub record IsRefusedWhileExported (e : Exporter) (asked : Result Bool Fault) (r : LocalReply) : Type 0 where
+  pub refused : asked ≡ Ok true → has_exports e ≡ true → r ≡ reply.Refused fault.Buffer
+  pub only : r ≡ reply.Refused fault.Buffer → ((asked ≡ Ok true) × (has_exports e ≡ true)) ⊎ (asked ≡ Err fault.Buffer)
+
+-- so it is of every edit whose handles are known
+abbrev pub ResizingIsRefusedWhileExported : Type 0
+ResizingIsRefusedWhileExported =
+    (e : Exporter) (v : Verb) (loans : List (ℕ × Loan)) → is_edit v ≡ true → are_known e loans (handles_of v) ≡ true
+    → IsRefusedWhileExported e (asks e v (lent_for_each e loans (handles_read subject.Own v))) (estep e subject.Own v loans).1

@@ -12,9 +12,10 @@ use Rattle.pybuf_state.specs.Loans.{Lent}
 use Rattle.pybuf_state.specs.Keeps.{IsSafe, IsCopied}
 use Rattle.pybuf_exporter.specs.Step.{row}
 
--- `contig` of a view replies a copy of it; every other row is safe
+-- `contig` of a view and `copy` of a bytearray reply a copy of it; every other row is safe
 abbrev pub RowIsSafe : Exporter → Subject → Verb → Result (Exporter × LocalReply) Fault → Type 0
 RowIsSafe e (subject.View k) verb.ToContiguous after = IfDone (IsCopied e (subject.View k)) after
+RowIsSafe e subject.Own verb.Copy after = IfDone (IsCopied e subject.Own) after
 RowIsSafe e s v after = IsSafe e after
 
 abbrev pub RowsAreSafe : Type 0

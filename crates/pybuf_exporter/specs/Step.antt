@@ -1,5 +1,5 @@
 -- One command on one exporter: which row it has, and what stands after it.
-use Rattle.std.specs.Prelude.{ℕ, Bool, true, not, List, None, Result, Ok, Err, if◌then◌else◌, Option, Some}
+use Rattle.std.specs.Prelude.{ℕ, List, None, Result, Ok, Err, if◌then◌else◌, Option, Some}
 use Rattle.pybuf_value.specs.declared.faults.Fault.{Fault}
 use Rattle.pybuf_value.specs.declared.faults.Fault.TheVariants as fault
 use Rattle.pybuf_value.specs.declared.values.Value.{Value}
@@ -13,7 +13,6 @@ use Rattle.pybuf_command.specs.declared.commands.LocalReply.{LocalReply}
 use Rattle.pybuf_command.specs.declared.commands.LocalReply.TheVariants as reply
 use Rattle.pybuf_command.specs.declared.loans.Loan.{Loan}
 use Rattle.pybuf_command.specs.Handles.{handles_of, handles_read}
-use Rattle.pybuf_memoryview.specs.Items.{is_slice}
 use Rattle.pybuf_state.specs.Exporter.{Exporter}
 use Rattle.pybuf_state.specs.Loans.{Lent, are_known, lent_for_each}
 use Rattle.pybuf_rows_views.specs.View.{view_of_own, view_of_view}
@@ -31,13 +30,8 @@ use Rattle.pybuf_rows_reads.specs.Property.{property_of_own, property_of_view}
 use Rattle.pybuf_rows_reads.specs.ToList.{list_of_view}
 use Rattle.pybuf_rows_writes.specs.Set.{set_of_own, set_of_view}
 use Rattle.pybuf_rows_writes.specs.Assign.{assign_of_view}
-
--- Which spellings of a command are built for a subject: a key that an exporter itself is written at is
--- no slice. Every other spelling is answered as an unknown name.
-abbrev pub is_built : Subject → Verb → Bool
-is_built (subject.View k) (verb.Set key value) = true
-is_built s (verb.Set key value) = not (is_slice key)
-is_built s _ = true
+use Rattle.pybuf_rows_edits.specs.Shrinking.{delete_of_view}
+use Rattle.pybuf_rows_edits.specs.Edits.{edit_of_own}
 
 -- of a view by a key: a new view of the items that a slice picks, or the item that any other key names
 abbrev pub get_of_view : Exporter → ℕ → Value → Result (Exporter × LocalReply) Fault
@@ -49,22 +43,27 @@ abbrev pub set_through_view : Exporter → ℕ → Value → Value → List Lent
 set_through_view e k (value.Slice slice) v lents = assign_of_view e k slice v lents
 set_through_view e k key v lents = set_of_view e k key v lents
 
+-- to an exporter by a key: bytes in place of those that a slice picks, or the byte at an index
+abbrev pub set_in_own : Exporter → Value → Value → List Lent → Result (Exporter × LocalReply) Fault
+set_in_own e (value.Slice slice) v lents = edit_of_own e (verb.Set (value.Slice slice) v) lents
+set_in_own e key v lents = set_of_own e key v
+
 -- The handle that a command copies items from: the value that a view is written by a slice. Its bytes
 -- are read where they lie.
 abbrev pub slice_source : Subject → Verb → Option ℕ
 slice_source (subject.View k) (verb.Set (value.Slice slice) (value.One (scalar.Handle h))) = Some h
 slice_source s v = None
 
--- the row of a verb on the exporter itself
+-- The row of a verb on the exporter itself. Every further verb is an edit, or none that an exporter has.
 abbrev pub row_of_own : Exporter → Verb → List Lent → Result (Exporter × LocalReply) Fault
 row_of_own e verb.View lents = view_of_own e
 row_of_own e (verb.Range from to) lents = range_of_own e from to
 row_of_own e (verb.Get key) lents = get_of_own e key
-row_of_own e (verb.Set key value) lents = set_of_own e key value
+row_of_own e (verb.Set key value) lents = set_in_own e key value lents
 row_of_own e verb.ToBytes lents = bytes_of_own e
 row_of_own e verb.Len lents = len_of_own e
 row_of_own e (verb.Property name) lents = property_of_own e name
-row_of_own e _ lents = Err fault.UnknownName
+row_of_own e v lents = edit_of_own e v lents
 
 -- the row of a verb on a view
 abbrev pub row_of_view : Exporter → ℕ → Verb → List Lent → Result (Exporter × LocalReply) Fault
@@ -81,6 +80,7 @@ row_of_view e k verb.ToList lents = list_of_view e k
 row_of_view e k verb.Len lents = len_of_view e k
 row_of_view e k (verb.Property name) lents = property_of_view e k name
 row_of_view e k verb.ToReadonly lents = toreadonly_of_view e k
+row_of_view e k (verb.Del key) lents = delete_of_view e k
 row_of_view e k _ lents = Err fault.UnknownName
 
 -- The row of the subject and the verb, with what is lent to it. A subject of a kind that has no such
@@ -90,13 +90,10 @@ row e subject.Own v lents = row_of_own e v lents
 row e (subject.View k) v lents = row_of_view e k v lents
 row e (subject.Iter k) v lents = Err fault.UnknownName
 
-abbrev pub answered_if_built : Exporter → Subject → Verb → List Lent → Result (Exporter × LocalReply) Fault
-answered_if_built e s v lents = if is_built s v then row e s v lents else Err fault.UnknownName
-
 -- An unknown handle is refused before all else, also in a value that the row would not look at.
 abbrev pub answer_of : Exporter → Subject → Verb → List (ℕ × Loan) → Result (Exporter × LocalReply) Fault
 answer_of e s v loans =
-    if are_known e loans (handles_of v) then answered_if_built e s v (lent_for_each e loans (handles_read s v))
+    if are_known e loans (handles_of v) then row e s v (lent_for_each e loans (handles_read s v))
     else Err fault.UnknownName
 
 -- a refusal leaves the exporter as it was

@@ -6,7 +6,7 @@ use pybuf_command::{ExporterKind, LoanList, LocalCommand, LocalReply, Subject, V
 use pybuf_desc::BufferDescriptor;
 use pybuf_memoryview::KeptLayout;
 use pybuf_rows_views::release;
-use pybuf_state::{Parts, copies_are_faithful, new_views_keep, snap_of_subject, vector_of_copy};
+use pybuf_state::{Parts, copies_are_faithful, exporter_of_copy, new_views_keep, snap_of_subject};
 use pybuf_value::{ByteList, Fault, Made, NoMemory, Snap, Twin, copy_all};
 use std::alloc::Global;
 use std::marker::Model;
@@ -55,7 +55,7 @@ impl ExporterState {
     ghost use Rattle.pybuf_command.specs.Fits.{LoansFit, fits_snap};
     ghost use Rattle.pybuf_state.specs.Snaps.{snap_of_subject};
     ghost use Rattle.pybuf_state.specs.Exporter.{released_in};
-    ghost use Rattle.pybuf_state.specs.Fresh.{IsCopyOf, is_readonly_subject, vector_of};
+    ghost use Rattle.pybuf_state.specs.Fresh.{IsCopyOf, is_readonly_subject, made_of};
 
     /// An exporter of these bytes, with no views. Takes no memory.
     pub fn new(alloc: Global, kind: ExporterKind, bytes: ByteList) -> ExporterState
@@ -95,16 +95,22 @@ impl ExporterState {
         pick::carry_out(&mut self.parts, subject, verb, loans)
     }
 
-    /// The vector that is made of the copy of one of the views: its content, and one view of all of
-    /// it, with items of the same format in the same shape. It can be read alone where the view can.
+    /// The exporter that is made of a copy: of this bytearray, another one of its bytes, with no view;
+    /// of one of its views, a vector of the view's content with one view of all of it, with items of
+    /// the same format in the same shape, which can be read alone where that view can.
     ///
     /// Such a copy is what a step replies as `LocalReply::Fresh`.
-    pub fn vector_of_copy(&self, alloc: Global, subject: Subject, copy: Snap) -> Made<ExporterState>
+    pub fn exporter_of_copy(
+        &self,
+        alloc: Global,
+        subject: Subject,
+        copy: Snap,
+    ) -> Made<ExporterState>
         requires { IsCopyOf self.now subject copy }
-        ensures { IfOk result (λ made. made ≡ vector_of (is_readonly_subject self.now subject) copy) }
+        ensures { IfOk result (λ made. made ≡ made_of (is_readonly_subject self.now subject) copy) }
     {
         copies_are_faithful();
-        let parts = vector_of_copy(&self.parts, alloc, subject, copy)?;
+        let parts = exporter_of_copy(&self.parts, alloc, subject, copy)?;
         Ok(ExporterState { parts })
     }
 

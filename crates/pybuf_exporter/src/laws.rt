@@ -1,5 +1,5 @@
 //! Laws over every command, from the laws of the rows.
-ghost use Rattle.pybuf_exporter.specs.Laws.{CommandsKeepSound, LengthsStayUnderCommands, ReadOnlyBytesStayUnderCommands, RefusedCommandsChangeNothing, FreshRepliesAreCopies, LoansAlikeDoTheSame, ItemsAreRead};
+ghost use Rattle.pybuf_exporter.specs.Laws.{CommandsKeepSound, LengthsStayUnderCommands, ReadOnlyBytesStayUnderCommands, RefusedCommandsChangeNothing, FreshRepliesAreCopies, LoansAlikeDoTheSame, ItemsAreRead, ResizingIsRefusedWhileExported};
 ghost use Rattle.pybuf_exporter.specs.Rows.{RowsAreSafe};
 
 /// Each row keeps a sound exporter, or replies a copy.
@@ -21,6 +21,8 @@ fn rows_are_safe()
     pybuf_rows_reads::tolist_is_safe();
     pybuf_rows_writes::set_is_safe();
     pybuf_rows_writes::assign_is_safe();
+    pybuf_rows_edits::edits_are_safe();
+    pybuf_rows_edits::delete_of_view_is_safe();
 }
 
 /// Every command leaves a sound exporter sound.
@@ -57,7 +59,7 @@ pub fn refused_commands_change_nothing()
 }
 
 /// A command that replies something fresh changes nothing of its exporter, and replies the copy of
-/// the view that it is asked of.
+/// the view or the bytearray that it is asked of.
 pub fn fresh_replies_are_copies()
     ensures { FreshRepliesAreCopies }
 {
@@ -78,4 +80,15 @@ pub fn items_are_read()
 {
     pybuf_state::live_layouts_are_sound();
     pybuf_struct::bytes_of_the_size_are_read();
+}
+
+/// An edit that asks for another length, once its earlier checks are passed, is refused with
+/// `BufferError` exactly while a view is unreleased. No other edit is, but that which adds a bytearray
+/// to itself.
+pub fn resizing_is_refused_while_exported()
+    ensures { ResizingIsRefusedWhileExported }
+{
+    rows_are_safe();
+    pybuf_state::reading_keeps();
+    pybuf_rows_edits::edits_ask_before_they_resize();
 }

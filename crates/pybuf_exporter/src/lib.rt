@@ -9,6 +9,7 @@ pub use exporter::ExporterState;
 pub use laws::{
     commands_keep_sound, fresh_replies_are_copies, items_are_read, lengths_stay,
     loans_alike_do_the_same, readonly_bytes_stay, refused_commands_change_nothing,
+    resizing_is_refused_while_exported,
 };
 pub use pick::slice_source;
 pub use pybuf_command::{

@@ -11,32 +11,12 @@ ghost use Rattle.pybuf_state.specs.Answers.{exporter_of, IsWhole, Answers};
 ghost use Rattle.pybuf_exporter.specs.Step as spec;
 
 use pybuf_command::{LoanList, LocalReply, Subject, Verb, handles_of};
-use pybuf_memoryview::is_slice;
+use pybuf_rows_edits::{delete_of_view, edit_of_own};
 use pybuf_rows_reads::{get, len, property, to_bytes, to_list};
 use pybuf_rows_views::{cast, contiguous, enter, range, release, slice, to_readonly, view};
 use pybuf_rows_writes::{assign, set};
 use pybuf_state::{Parts, are_known, are_known_beside, is_lent};
 use pybuf_value::{Fault, Halt, Made, NoMemory, Scalar, Value};
-
-/// Whether `set` with a key is built for a subject.
-fn is_set_built(subject: Subject, key: &Value) -> bool
-    ensures { (value : _) → result ≡ spec.is_built subject (verbs.Set key.now value) }
-{
-    match subject {
-        Subject::View(_) => true,
-        _ => !is_slice(key),
-    }
-}
-
-/// Whether a command's spelling is built for a subject.
-fn is_built(subject: Subject, verb: &Verb) -> bool
-    ensures { result ≡ spec.is_built subject verb.now }
-{
-    match verb {
-        Verb::Set { key, value: _ } => is_set_built(subject, key),
-        _ => true,
-    }
-}
 
 /// `get` of a view: a new view of the items that a slice picks, or the item that any other key names.
 fn get_of_view(parts: &mut Parts, view: usize, key: &Value) -> Result<LocalReply, Halt>
@@ -69,21 +49,26 @@ fn set_through_view(
     }
 }
 
-/// The row of a verb on the exporter itself.
-fn row_of_own(parts: &mut Parts, verb: &Verb) -> Result<LocalReply, Halt>
-    requires { IsWhole parts.old }
-    ensures answer { (lents : _) → Answers (spec.row_of_own (exporter_of parts.old) verb.now lents) (exporter_of parts.old) result (exporter_of parts.new) }
+/// The row of a verb on the exporter itself. Every further verb is an edit, or none that it has.
+fn row_of_own(parts: &mut Parts, verb: &Verb, loans: &LoanList) -> Result<LocalReply, Halt>
+    requires whole { IsWhole parts.old }
+    requires fit { LoansFit loans.now }
+    ensures answer { Answers (spec.row_of_own (exporter_of parts.old) verb.now (lent_for_each (exporter_of parts.old) loans.now (handles_read subjects.Own verb.now))) (exporter_of parts.old) result (exporter_of parts.new) }
     ensures counted { parts.new.exports ≡ exports_of (exporter_of parts.new) }
 {
     match verb {
         Verb::View => view::of_own(parts),
         Verb::Range { from, to } => range::of_own(parts, from, to),
         Verb::Get { key } => get::of_own(parts, key),
+        Verb::Set {
+            key: Value::Slice(_),
+            value: _,
+        } => edit_of_own(parts, verb, loans),
         Verb::Set { key, value } => set::of_own(parts, key, value),
         Verb::ToBytes => to_bytes::of_own(parts),
         Verb::Len => len::of_own(parts),
         Verb::Property { name } => property::of_own(parts, *name),
-        _ => Err(Halt::Refused(Fault::UnknownName)),
+        _ => edit_of_own(parts, verb, loans),
     }
 }
 
@@ -113,6 +98,7 @@ fn row_of_view(
         Verb::Len => len::of_view(parts, k),
         Verb::Property { name } => property::of_view(parts, k, *name),
         Verb::ToReadonly => to_readonly::of_view(parts, k),
+        Verb::Del { key: _ } => delete_of_view(parts, k),
         _ => Err(Halt::Refused(Fault::UnknownName)),
     }
 }
@@ -130,27 +116,10 @@ fn row(
     ensures counted { parts.new.exports ≡ exports_of (exporter_of parts.new) }
 {
     match subject {
-        Subject::Own => row_of_own(parts, verb),
+        Subject::Own => row_of_own(parts, verb, loans),
         Subject::View(k) => row_of_view(parts, k, verb, loans),
         Subject::Iter(_) => Err(Halt::Refused(Fault::UnknownName)),
     }
-}
-
-fn if_built(
-    parts: &mut Parts,
-    subject: Subject,
-    verb: &Verb,
-    loans: &LoanList,
-) -> Result<LocalReply, Halt>
-    requires whole { IsWhole parts.old }
-    requires fit { LoansFit loans.now }
-    ensures answer { Answers (spec.answered_if_built (exporter_of parts.old) subject verb.now (lent_for_each (exporter_of parts.old) loans.now (handles_read subject verb.now))) (exporter_of parts.old) result (exporter_of parts.new) }
-    ensures counted { parts.new.exports ≡ exports_of (exporter_of parts.new) }
-{
-    if !is_built(subject, verb) {
-        return Err(Halt::Refused(Fault::UnknownName));
-    }
-    row(parts, subject, verb, loans)
 }
 
 /// The handle that a command copies items from: the value that a view is written by a slice. None
@@ -182,7 +151,7 @@ fn row_beside(
     requires whole { IsWhole parts.old }
     requires lender_whole { IsWhole lender.now }
     requires source { spec.slice_source subject verb.now ≡ Some handle }
-    ensures answer { (loans : _) → Answers (spec.answered_if_built (exporter_of parts.old) subject verb.now (lent_for_each (exporter_of parts.old) ((handle, loan_of_snap (snap_of_subject (exporter_of lender.now) lent)) ∷ loans) (handles_read subject verb.now))) (exporter_of parts.old) result (exporter_of parts.new) }
+    ensures answer { (loans : _) → Answers (spec.row (exporter_of parts.old) subject verb.now (lent_for_each (exporter_of parts.old) ((handle, loan_of_snap (snap_of_subject (exporter_of lender.now) lent)) ∷ loans) (handles_read subject verb.now))) (exporter_of parts.old) result (exporter_of parts.new) }
     ensures counted { parts.new.exports ≡ exports_of (exporter_of parts.new) }
 {
     match (subject, verb) {
@@ -267,7 +236,7 @@ fn answered(
     if !are_known(parts, loans.as_slice(), handles.as_slice()) {
         return Err(Halt::Refused(Fault::UnknownName));
     }
-    if_built(parts, subject, verb, loans)
+    row(parts, subject, verb, loans)
 }
 
 /// Carries a command out on the parts of an exporter. A refusal is a reply.

@@ -3,7 +3,7 @@ ghost use Rattle.pybuf_command.specs.Fits.{LoansFit};
 
 use super::*;
 use pybuf_value::{
-    ByteList, Fault, Item, ItemList, PySlice, Scalar, ScalarList, Text, Twin, Value,
+    ByteList, Fault, Item, ItemList, Made, PySlice, Scalar, ScalarList, Text, Twin, Value,
 };
 use std::alloc::Global;
 use std::test::Fail;
@@ -23,32 +23,124 @@ fn number_of(reply: &LocalReply) -> i128 {
     }
 }
 
+/// The reply to a verb. The verb is handed over, so that no test drops one at each place where it may
+/// stop.
+fn reply_of(
+    exporter: &mut ExporterState,
+    subject: Subject,
+    verb: Verb,
+    loans: &LoanList,
+) -> Made<LocalReply>
+    requires { LoansFit loans.now }
+{
+    let answer = exporter.carry_out(subject, &verb, loans);
+    drop(verb);
+    answer
+}
+
+/// The same by its number.
+fn asked(exporter: &mut ExporterState, subject: Subject, verb: Verb, loans: &LoanList) -> Made<i128>
+    requires { LoansFit loans.now }
+{
+    let reply = reply_of(exporter, subject, verb, loans)?;
+    Ok(number_of(&reply))
+}
+
 fn abc(alloc: Global) -> Result<ByteList, Fail> {
     Ok(ByteList::from_vec(Vec::from_slice(alloc, b"abc")?))
+}
+
+/// The number of the reply to a command with no loans.
+fn stepped(
+    exporter: &mut ExporterState,
+    alloc: Global,
+    subject: Subject,
+    verb: Verb,
+) -> Made<i128> {
+    let command = LocalCommand {
+        subject,
+        verb,
+        loans: LoanList::new(alloc),
+    };
+    let answer = exporter.step(&command);
+    drop(command);
+    let reply = answer?;
+    Ok(number_of(&reply))
 }
 
 #[test]
 fn an_exporter_steps_and_is_copied(rt: HostRuntime) -> Result<(), Fail> {
     let bytes = abc(rt.alloc())?;
     let mut exporter = ExporterState::new(rt.alloc(), ExporterKind::ByteArray, bytes);
-    let view = exporter.step(&LocalCommand {
-        subject: Subject::Own,
-        verb: Verb::View,
-        loans: LoanList::new(rt.alloc()),
-    })?;
-    assert_eq!(rt; number_of(&view), 0);
-    let set = exporter.step(&LocalCommand {
-        subject: Subject::View(0),
-        verb: Verb::Set {
-            key: number(-1),
-            value: number(90),
-        },
-        loans: LoanList::new(rt.alloc()),
-    })?;
-    assert_eq!(rt; number_of(&set), -1);
+    assert_eq!(rt;
+        stepped(&mut exporter, rt.alloc(), Subject::Own, Verb::View)?,
+        0
+    );
+    let (key, value) = (number(-1), number(90));
+    let set = stepped(
+        &mut exporter,
+        rt.alloc(),
+        Subject::View(0),
+        Verb::Set { key, value },
+    )?;
+    assert_eq!(rt; set, -1);
     let twin = exporter.copy(rt.alloc())?;
     assert_eq!(rt; twin.bytes(), b"abZ".as_slice());
     assert_eq!(rt; twin.exports(), 1);
+    Ok(())
+}
+
+#[test]
+fn a_bytearray_is_edited(rt: HostRuntime) -> Result<(), Fail> {
+    let bytes = abc(rt.alloc())?;
+    let mut exporter = ExporterState::new(rt.alloc(), ExporterKind::ByteArray, bytes);
+    let loans = LoanList::new(rt.alloc());
+    let value = number(100);
+    assert_eq!(rt;
+        asked(&mut exporter, Subject::Own, Verb::Append { value }, &loans)?,
+        -1
+    );
+    let (index, value) = (number(0), number(33));
+    assert_eq!(rt;
+        asked(
+            &mut exporter,
+            Subject::Own,
+            Verb::Insert { index, value },
+            &loans
+        )?,
+        -1
+    );
+    assert_eq!(rt; exporter.bytes(), b"!abcd".as_slice());
+    let key = slice(Scalar::Int(0), Scalar::None, Scalar::Int(2));
+    assert_eq!(rt;
+        asked(&mut exporter, Subject::Own, Verb::Del { key }, &loans)?,
+        -1
+    );
+    assert_eq!(rt; exporter.bytes(), b"ac".as_slice());
+    let count = number(2);
+    assert_eq!(rt;
+        asked(&mut exporter, Subject::Own, Verb::IMul { count }, &loans)?,
+        -1
+    );
+    assert_eq!(rt;
+        asked(
+            &mut exporter,
+            Subject::Own,
+            Verb::Pop { index: None },
+            &loans
+        )?,
+        99
+    );
+    assert_eq!(rt;
+        asked(&mut exporter, Subject::Own, Verb::Reverse, &loans)?,
+        -1
+    );
+    assert_eq!(rt; exporter.bytes(), b"aca".as_slice());
+    assert_eq!(rt;
+        asked(&mut exporter, Subject::Own, Verb::Clear, &loans)?,
+        -1
+    );
+    assert_eq!(rt; exporter.bytes().len(), 0);
     Ok(())
 }
 
@@ -58,29 +150,23 @@ fn a_command_has_handles(rt: HostRuntime) -> Result<(), Fail> {
     let mut exporter = ExporterState::new(rt.alloc(), ExporterKind::ByteArray, bytes);
     let mut loans = LoanList::new(rt.alloc());
     loans.push((7, Loan::Own))?;
-    let set = Verb::Set {
-        key: number(0),
-        value: Value::One(Scalar::Handle(7)),
-    };
     let mut parts = ScalarList::new(rt.alloc());
     parts.push(Scalar::Handle(7))?;
     parts.push(Scalar::Handle(9))?;
-    let get = Verb::Get {
-        key: Value::List(parts),
-    };
     if !loans.fit(rt.alloc())? {
         return Err(Fail::from("loans that fit"));
     }
+    assert_eq!(rt; asked(&mut exporter, Subject::Own, Verb::View, &loans)?, 0);
+    assert_eq!(rt; copied(&mut exporter, 0, number(0), &loans)?, -3);
     assert_eq!(rt;
-        number_of(&exporter.carry_out(Subject::Own, &Verb::View, &loans)?),
-        0
-    );
-    assert_eq!(rt;
-        number_of(&exporter.carry_out(Subject::View(0), &set, &loans)?),
-        -3
-    );
-    assert_eq!(rt;
-        number_of(&exporter.carry_out(Subject::Own, &get, &loans)?),
+        asked(
+            &mut exporter,
+            Subject::Own,
+            Verb::Get {
+                key: Value::List(parts)
+            },
+            &loans
+        )?,
         -4
     );
     Ok(())
@@ -96,30 +182,25 @@ fn an_item_is_written_from_its_own_exporter(rt: HostRuntime) -> Result<(), Fail>
     let bytes = ByteList::from_vec(Vec::from_slice(rt.alloc(), b"abcdefgh")?);
     let mut exporter = ExporterState::new(rt.alloc(), ExporterKind::ByteArray, bytes);
     let mut loans = LoanList::new(rt.alloc());
-    loans.push((0, Loan::Own))?;
-    let cast = Verb::Cast {
-        format: text(rt.alloc(), "4s")?,
-        shape: None,
-    };
-    let set = Verb::Set {
-        key: number(1),
-        value: Value::One(Scalar::Handle(0)),
-    };
+    loans.push((7, Loan::Own))?;
+    let format = text(rt.alloc(), "4s")?;
     if !loans.fit(rt.alloc())? {
         return Err(Fail::from("loans that fit"));
     }
+    assert_eq!(rt; asked(&mut exporter, Subject::Own, Verb::View, &loans)?, 0);
     assert_eq!(rt;
-        number_of(&exporter.carry_out(Subject::Own, &Verb::View, &loans)?),
-        0
-    );
-    assert_eq!(rt;
-        number_of(&exporter.carry_out(Subject::View(0), &cast, &loans)?),
+        asked(
+            &mut exporter,
+            Subject::View(0),
+            Verb::Cast {
+                format,
+                shape: None
+            },
+            &loans
+        )?,
         1
     );
-    assert_eq!(rt;
-        number_of(&exporter.carry_out(Subject::View(1), &set, &loans)?),
-        -1
-    );
+    assert_eq!(rt; copied(&mut exporter, 1, number(1), &loans)?, -1);
     assert_eq!(rt; exporter.bytes(), b"abcdabcd".as_slice());
     let Some((descriptor, start)) = exporter.view_desc(1) else {
         return Err(Fail::from("a view"));
@@ -148,21 +229,16 @@ fn items_are_read_by_a_tuple_and_listed(rt: HostRuntime) -> Result<(), Fail> {
     let loans = LoanList::new(rt.alloc());
     let mut parts = ScalarList::new(rt.alloc());
     parts.push(Scalar::Int(-2))?;
-    let get = Verb::Get {
-        key: Value::Tuple(parts),
-    };
+    let key = Value::Tuple(parts);
     if !loans.fit(rt.alloc())? {
         return Err(Fail::from("loans that fit"));
     }
+    assert_eq!(rt; asked(&mut exporter, Subject::Own, Verb::View, &loans)?, 0);
     assert_eq!(rt;
-        number_of(&exporter.carry_out(Subject::Own, &Verb::View, &loans)?),
-        0
-    );
-    assert_eq!(rt;
-        number_of(&exporter.carry_out(Subject::View(0), &get, &loans)?),
+        asked(&mut exporter, Subject::View(0), Verb::Get { key }, &loans)?,
         98
     );
-    let list = exporter.carry_out(Subject::View(0), &Verb::ToList, &loans)?;
+    let list = reply_of(&mut exporter, Subject::View(0), Verb::ToList, &loans)?;
     let LocalReply::Items { shape, items } = list else {
         return Err(Fail::from("a list"));
     };
@@ -181,7 +257,7 @@ fn letters(alloc: Global) -> Result<ExporterState, Fail> {
     Ok(ExporterState::new(alloc, ExporterKind::ByteArray, bytes))
 }
 
-/// `set` of a view by a slice with what handle 7 names.
+/// `set` of a view at a key with what handle 7 names.
 fn copied(
     exporter: &mut ExporterState,
     view: usize,
@@ -190,27 +266,23 @@ fn copied(
 ) -> Result<i128, Fail>
     requires { LoansFit loans.now }
 {
-    let set = Verb::Set {
-        key,
-        value: Value::One(Scalar::Handle(7)),
-    };
-    let reply = exporter.carry_out(Subject::View(view), &set, loans)?;
-    Ok(number_of(&reply))
+    let value = Value::One(Scalar::Handle(7));
+    Ok(asked(
+        exporter,
+        Subject::View(view),
+        Verb::Set { key, value },
+        loans,
+    )?)
 }
 
 #[test]
 fn items_are_copied_by_value(rt: HostRuntime) -> Result<(), Fail> {
     let none = LoanList::new(rt.alloc());
-    let first = Verb::Get {
-        key: slice(Scalar::Int(0), Scalar::Int(4), Scalar::None),
-    };
+    let key = slice(Scalar::Int(0), Scalar::Int(4), Scalar::None);
     let mut exporter = letters(rt.alloc())?;
+    assert_eq!(rt; asked(&mut exporter, Subject::Own, Verb::View, &none)?, 0);
     assert_eq!(rt;
-        number_of(&exporter.carry_out(Subject::Own, &Verb::View, &none)?),
-        0
-    );
-    assert_eq!(rt;
-        number_of(&exporter.carry_out(Subject::View(0), &first, &none)?),
+        asked(&mut exporter, Subject::View(0), Verb::Get { key }, &none)?,
         1
     );
     let mut loans = LoanList::new(rt.alloc());
@@ -226,42 +298,46 @@ fn items_are_copied_by_value(rt: HostRuntime) -> Result<(), Fail> {
     Ok(())
 }
 
+/// `set` of view 0 by a slice with what handle 7 names, which is view 1 of another exporter.
+fn copied_beside(
+    exporter: &mut ExporterState,
+    key: Value,
+    loans: &LoanList,
+    lender: &ExporterState,
+) -> Result<i128, Fail> {
+    let value = Value::One(Scalar::Handle(7));
+    let set = Verb::Set { key, value };
+    if slice_source(Subject::View(0), &set) != Some(7) {
+        drop(set);
+        return Err(Fail::from("a handle that is copied from"));
+    }
+    let answer = exporter.carry_out_beside(
+        Subject::View(0),
+        &set,
+        loans,
+        7,
+        lender,
+        Subject::View(1),
+    );
+    drop(set);
+    let reply = answer?;
+    Ok(number_of(&reply))
+}
+
 #[test]
 fn items_are_copied_from_another_exporter(rt: HostRuntime) -> Result<(), Fail> {
     let none = LoanList::new(rt.alloc());
     let mut exporter = letters(rt.alloc())?;
-    assert_eq!(rt;
-        number_of(&exporter.carry_out(Subject::Own, &Verb::View, &none)?),
-        0
-    );
+    assert_eq!(rt; asked(&mut exporter, Subject::Own, Verb::View, &none)?, 0);
     let mut lender = letters(rt.alloc())?;
-    let odd = Verb::Get {
-        key: slice(Scalar::Int(-1), Scalar::None, Scalar::Int(-2)),
-    };
+    let key = slice(Scalar::Int(-1), Scalar::None, Scalar::Int(-2));
+    assert_eq!(rt; asked(&mut lender, Subject::Own, Verb::View, &none)?, 0);
     assert_eq!(rt;
-        number_of(&lender.carry_out(Subject::Own, &Verb::View, &none)?),
-        0
-    );
-    assert_eq!(rt;
-        number_of(&lender.carry_out(Subject::View(0), &odd, &none)?),
+        asked(&mut lender, Subject::View(0), Verb::Get { key }, &none)?,
         1
     );
-    let set = Verb::Set {
-        key: slice(Scalar::None, Scalar::None, Scalar::Int(2)),
-        value: Value::One(Scalar::Handle(7)),
-    };
-    if slice_source(Subject::View(0), &set) != Some(7) {
-        return Err(Fail::from("a handle that is copied from"));
-    }
-    let reply = exporter.carry_out_beside(
-        Subject::View(0),
-        &set,
-        &none,
-        7,
-        &lender,
-        Subject::View(1),
-    )?;
-    assert_eq!(rt; number_of(&reply), -1);
+    let key = slice(Scalar::None, Scalar::None, Scalar::Int(2));
+    assert_eq!(rt; copied_beside(&mut exporter, key, &none, &lender)?, -1);
     assert_eq!(rt; exporter.bytes(), b"fbddbf".as_slice());
     let mut loans = LoanList::new(rt.alloc());
     let Some(snap) = lender.snap(rt.alloc(), Subject::View(1))? else {
@@ -300,40 +376,49 @@ fn rows_of_a_range_are_copied(rt: HostRuntime) -> Result<(), Fail> {
     let bytes = ByteList::from_vec(Vec::from_slice(rt.alloc(), b"abcdefgh")?);
     let mut exporter = ExporterState::new(rt.alloc(), ExporterKind::ByteArray, bytes);
     let loans = LoanList::new(rt.alloc());
-    let range = Verb::Range {
-        from: number(1),
-        to: number(7),
-    };
-    let cast = Verb::Cast {
-        format: text(rt.alloc(), "B")?,
-        shape: Some(two_by_three(rt.alloc())?),
-    };
-    let back = Verb::Get { key: backward() };
+    let (from, to) = (number(1), number(7));
+    let format = text(rt.alloc(), "B")?;
+    let shape = Some(two_by_three(rt.alloc())?);
     if !loans.fit(rt.alloc())? {
         return Err(Fail::from("loans that fit"));
     }
     assert_eq!(rt;
-        number_of(&exporter.carry_out(Subject::Own, &range, &loans)?),
+        asked(
+            &mut exporter,
+            Subject::Own,
+            Verb::Range { from, to },
+            &loans
+        )?,
         0
     );
     assert_eq!(rt;
-        number_of(&exporter.carry_out(Subject::View(0), &cast, &loans)?),
+        asked(
+            &mut exporter,
+            Subject::View(0),
+            Verb::Cast { format, shape },
+            &loans
+        )?,
         1
     );
     assert_eq!(rt;
-        number_of(&exporter.carry_out(Subject::View(1), &back, &loans)?),
+        asked(
+            &mut exporter,
+            Subject::View(1),
+            Verb::Get { key: backward() },
+            &loans
+        )?,
         2
     );
-    let reply = exporter.carry_out(Subject::View(2), &Verb::ToContiguous, &loans)?;
+    let reply = reply_of(&mut exporter, Subject::View(2), Verb::ToContiguous, &loans)?;
     let LocalReply::Fresh(copy) = reply else {
         return Err(Fail::from("a copy"));
     };
     assert_eq!(rt; copy.content.as_slice(), b"efgbcd".as_slice());
     assert_eq!(rt; copy.shape.as_slice(), [2usize, 3].as_slice());
-    let entered = exporter.carry_out(Subject::View(2), &Verb::Enter, &loans)?;
+    let entered = reply_of(&mut exporter, Subject::View(2), Verb::Enter, &loans)?;
     assert!(rt; matches!(&entered, LocalReply::Itself));
     assert_eq!(rt;
-        number_of(&exporter.carry_out(Subject::View(2), &Verb::Exit, &loans)?),
+        asked(&mut exporter, Subject::View(2), Verb::Exit, &loans)?,
         -1
     );
     assert_eq!(rt; exporter.exports(), 2);

@@ -19,4 +19,6 @@ returns c =
       tolist = c.tolist_is_safe.ensures;
       set = c.set_is_safe.ensures;
       assign = c.assign_is_safe.ensures;
+      edits = c.edits_are_safe.ensures;
+      delete_of_view = c.delete_of_view_is_safe.ensures;
     })

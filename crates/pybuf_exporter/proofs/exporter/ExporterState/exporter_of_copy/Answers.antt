@@ -3,7 +3,7 @@ use Rattle.pybuf_state.specs.Exporter.{Exporter}
 use Rattle.pybuf_state.specs.Fresh.{IsCopyOf}
 use Rattle.pybuf_state.specs.Sound.{IsSoundExporter}
 use Rattle.pybuf_state.specs.Answers.{exporter_of}
-use Rattle.pybuf_exporter.proofs.exporter.ExporterState.vector_of_copy.Goals as goal
+use Rattle.pybuf_exporter.proofs.exporter.ExporterState.exporter_of_copy.Goals as goal
 
 pub invariant_of-result : goal.invariant_of-result
 invariant_of-result c =

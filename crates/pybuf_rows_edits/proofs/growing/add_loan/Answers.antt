@@ -1,0 +1,18 @@
+use Rattle.std.proofs.Common.{rules, ◌≡◌}
+use Rattle.std.specs.Prelude.{Option, Some}
+use Rattle.std.specs.Option.{option_copied}
+use Rattle.pybuf_command.specs.declared.loans.Loan.{Loan}
+use Rattle.pybuf_command.specs.declared.loans.Loan.TheVariants as loan
+use Rattle.pybuf_state.specs.Answers.{exporter_of}
+use Rattle.pybuf_rows_edits.specs.Growing.{added}
+use Rattle.pybuf_rows_edits.proofs.Lending.{by_loan}
+use Rattle.pybuf_rows_edits.proofs.growing.add_loan.Goals as goal
+
+abbrev some_loan : Loan → Option Loan
+some_loan l = Some l
+
+pub returns-in-Some-View-clause-answer : goal.returns-in-Some-View-clause-answer
+returns-in-Some-View-clause-answer c =
+    let e = exporter_of c.args.parts.now in
+    let is : option_copied c.args.loan ≡ some_loan (loan.View c.in-Some-View.view) = search rules in
+    λ h. by_loan (added e) e h (option_copied c.args.loan) (loan.View c.in-Some-View.view) c.add_view.result e is (c.add_view.ensures h)

@@ -1,0 +1,10 @@
+use Rattle.std.proofs.Common.{◌≡◌, true, refl, rules}
+use Rattle.pybuf_desc.specs.Contiguous.{is_contiguous_layout}
+use Rattle.pybuf_state.specs.Answers.{exporter_of}
+use Rattle.pybuf_rows_edits.proofs.Lending.{view_adds}
+use Rattle.pybuf_rows_edits.proofs.growing.add_view.Goals as goal
+
+pub returns : goal.returns
+returns c =
+    let in_a_row : is_contiguous_layout c.in_ok-layout.layout.now ≡ true = search rules in
+    λ h. (view_adds (exporter_of c.args.parts.now) h c.args.view c.in_ok-layout.layout.now c.in_ok-layout.ensures.exact in_a_row, refl)

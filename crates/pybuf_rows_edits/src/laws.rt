@@ -1,0 +1,24 @@
+//! Laws of the definitions that the contracts cite.
+ghost use Rattle.pybuf_rows_edits.specs.Laws.{EditsAreSafe, DeleteOfViewIsSafe, EditsAskBeforeTheyResize};
+
+/// Every edit keeps a sound exporter, and `copy` replies a copy of it.
+pub fn edits_are_safe()
+    ensures { EditsAreSafe }
+{
+    pybuf_state::reading_keeps();
+    pybuf_state::writing_keeps();
+    pybuf_state::resizing_keeps();
+    pybuf_state::emptying_keeps();
+    pybuf_slice::as_many_keep_the_length::<u8>();
+}
+
+/// `del` of a view keeps a sound exporter.
+pub fn delete_of_view_is_safe()
+    ensures { DeleteOfViewIsSafe }
+{}
+
+/// An edit that asks for another length is refused with `BufferError` exactly while a view is
+/// unreleased, once its earlier checks are passed; and no other edit is, but adding itself.
+pub fn edits_ask_before_they_resize()
+    ensures { EditsAskBeforeTheyResize }
+{}

@@ -1,0 +1,13 @@
+//! The edits of a bytearray.
+#![tactic(auto)]
+
+mod counts;
+mod growing;
+mod laws;
+mod named;
+mod pick;
+mod replacing;
+mod shrinking;
+
+pub use laws::{delete_of_view_is_safe, edits_are_safe, edits_ask_before_they_resize};
+pub use pick::{delete_of_view, edit_of_own};

@@ -1,0 +1,56 @@
+//! Which edit a command is.
+ghost use Rattle.std.specs.Prelude.{◌≡◌};
+ghost use Rattle.pybuf_command.specs.declared.kinds.Subject.TheVariants as subjects;
+ghost use Rattle.pybuf_command.specs.Handles.{handles_read};
+ghost use Rattle.pybuf_command.specs.Fits.{LoansFit};
+ghost use Rattle.pybuf_state.specs.Exporter.{exports_of};
+ghost use Rattle.pybuf_state.specs.Loans.{lent_for_each};
+ghost use Rattle.pybuf_state.specs.Answers.{exporter_of, IsWhole, Answers, Reads};
+ghost use Rattle.pybuf_rows_edits.specs.Edits as spec;
+ghost use Rattle.pybuf_rows_edits.specs.Shrinking as shrinking_spec;
+
+use crate::{growing, replacing, shrinking};
+use pybuf_command::{LoanList, LocalReply, Verb};
+use pybuf_state::Parts;
+use pybuf_value::{Fault, Halt, Value};
+
+/// The edit of a verb on the exporter itself.
+///
+/// Refused with `UnknownName` where the verb is no edit, and where the kind of the exporter hasn't it.
+pub fn edit_of_own(parts: &mut Parts, verb: &Verb, loans: &LoanList) -> Result<LocalReply, Halt>
+    requires whole { IsWhole parts.old }
+    requires fit { LoansFit loans.now }
+    ensures answer { Answers (spec.edit_of_own (exporter_of parts.old) verb.now (lent_for_each (exporter_of parts.old) loans.now (handles_read subjects.Own verb.now))) (exporter_of parts.old) result (exporter_of parts.new) }
+    ensures counted { parts.new.exports ≡ exports_of (exporter_of parts.new) }
+{
+    match verb {
+        Verb::Append { value } => growing::append(parts, value),
+        Verb::Extend { value } => growing::extend(parts, value, loans),
+        Verb::Insert { index, value } => growing::insert(parts, index, value),
+        Verb::Pop { index } => shrinking::pop(parts, index),
+        Verb::Remove { value } => shrinking::remove(parts, value),
+        Verb::Clear => shrinking::clear(parts),
+        Verb::Reverse => replacing::reverse(parts),
+        Verb::Del { key } => shrinking::delete(parts, key),
+        Verb::IAdd { value } => growing::iadd(parts, value, loans),
+        Verb::IMul { count } => growing::imul(parts, count),
+        Verb::Init { options } => replacing::init(parts, options, loans),
+        Verb::Take => shrinking::take(parts),
+        Verb::Copy => replacing::copy(parts),
+        Verb::Set {
+            key: Value::Slice(slice),
+            value,
+        } => replacing::assign(parts, slice, value, loans),
+        _ => Err(Halt::Refused(Fault::UnknownName)),
+    }
+}
+
+/// `del` of a view, which is always refused: with `UnknownName` where it was never given, with
+/// `ValueError` where it was released, and else with `TypeError`.
+pub fn delete_of_view(parts: &Parts, view: usize) -> Result<LocalReply, Halt>
+    requires { IsWhole parts.now }
+    ensures { Reads (shrinking_spec.delete_of_view (exporter_of parts.now) view) (exporter_of parts.now) result }
+{
+    parts.live_layout(view)?;
+    Err(Halt::Refused(Fault::Kind))
+}

@@ -1,0 +1,180 @@
+//! Edits that take bytes out.
+ghost use Rattle.std.specs.Prelude.{◌≡◌, ◌==◌, nat_lt, if◌then◌else◌, Some, None, length};
+ghost use Rattle.std.specs.List.{position_or_len};
+ghost use Rattle.pybuf_state.specs.Exporter.{exports_of};
+ghost use Rattle.pybuf_state.specs.Answers.{exporter_of, IsWhole, Answers};
+ghost use Rattle.pybuf_rows_edits.specs.Shrinking as spec;
+
+use crate::counts::count_in;
+use pybuf_command::{ExporterKind, LocalReply};
+use pybuf_memoryview::{byte_item, entry_in, index_in};
+use pybuf_slice::{SaturatedSlice, close_up};
+use pybuf_state::Parts;
+use pybuf_value::{ByteList, Fault, Halt, PySlice, Value, value_from_object};
+
+/// The number of an index, which is that of the last byte where none is given.
+fn count_or_last(index: &Option<Value>) -> Result<isize, Fault>
+    ensures { result ≡ spec.count_or_last index.now }
+{
+    match index {
+        None => Ok(-1),
+        Some(index) => count_in(index),
+    }
+}
+
+fn pop_byte(parts: &mut Parts, index: &Option<Value>) -> Result<LocalReply, Halt>
+    requires { IsWhole parts.old }
+    ensures answer { Answers (spec.popped (exporter_of parts.old) index.now) (exporter_of parts.old) result (exporter_of parts.new) }
+    ensures counted { parts.new.exports ≡ exports_of (exporter_of parts.new) }
+{
+    let number = count_or_last(index)?;
+    parts.resizable()?;
+    let place = entry_in(parts.bytes.len(), number)?;
+    let byte = parts.bytes[place];
+    parts.remove_range(place, place + 1);
+    Ok(LocalReply::Item(byte_item(byte)))
+}
+
+/// Takes the byte of a bytearray at an index out, the last one where no index is given. The reply is that
+/// byte.
+pub fn pop(parts: &mut Parts, index: &Option<Value>) -> Result<LocalReply, Halt>
+    requires { IsWhole parts.old }
+    ensures answer { Answers (spec.pop_of_own (exporter_of parts.old) index.now) (exporter_of parts.old) result (exporter_of parts.new) }
+    ensures counted { parts.new.exports ≡ exports_of (exporter_of parts.new) }
+{
+    match parts.kind {
+        ExporterKind::ByteArray => pop_byte(parts, index),
+        _ => Err(Halt::Refused(Fault::UnknownName)),
+    }
+}
+
+/// The place of the first byte of a value. None exactly where there is no such byte.
+fn place_of(bytes: &[u8], byte: u8) -> Option<usize>
+    ensures { result ≡ (if nat_lt (position_or_len (λ b. b == byte) bytes.now) (length bytes.now) then Some (position_or_len (λ b. b == byte) bytes.now) else None) }
+{
+    bytes.iter().position(|b| *b == byte)
+}
+
+fn remove_byte(parts: &mut Parts, value: &Value) -> Result<LocalReply, Halt>
+    requires { IsWhole parts.old }
+    ensures answer { Answers (spec.removed (exporter_of parts.old) value.now) (exporter_of parts.old) result (exporter_of parts.new) }
+    ensures counted { parts.new.exports ≡ exports_of (exporter_of parts.new) }
+{
+    let byte = value_from_object(value)?;
+    parts.resizable()?;
+    match place_of(parts.bytes.as_slice(), byte) {
+        None => Err(Halt::Refused(Fault::Value)),
+        Some(place) => {
+            parts.remove_range(place, place + 1);
+            Ok(LocalReply::Ok)
+        }
+    }
+}
+
+/// Takes the first byte of a value out of a bytearray.
+pub fn remove(parts: &mut Parts, value: &Value) -> Result<LocalReply, Halt>
+    requires { IsWhole parts.old }
+    ensures answer { Answers (spec.remove_of_own (exporter_of parts.old) value.now) (exporter_of parts.old) result (exporter_of parts.new) }
+    ensures counted { parts.new.exports ≡ exports_of (exporter_of parts.new) }
+{
+    match parts.kind {
+        ExporterKind::ByteArray => remove_byte(parts, value),
+        _ => Err(Halt::Refused(Fault::UnknownName)),
+    }
+}
+
+fn remove_all(parts: &mut Parts) -> Result<LocalReply, Halt>
+    requires { IsWhole parts.old }
+    ensures answer { Answers (spec.cleared (exporter_of parts.old)) (exporter_of parts.old) result (exporter_of parts.new) }
+    ensures counted { parts.new.exports ≡ exports_of (exporter_of parts.new) }
+{
+    parts.resizable()?;
+    let end = parts.bytes.len();
+    parts.remove_range(0, end);
+    Ok(LocalReply::Ok)
+}
+
+/// Takes all bytes out of a bytearray.
+pub fn clear(parts: &mut Parts) -> Result<LocalReply, Halt>
+    requires { IsWhole parts.old }
+    ensures answer { Answers (spec.clear_of_own (exporter_of parts.old)) (exporter_of parts.old) result (exporter_of parts.new) }
+    ensures counted { parts.new.exports ≡ exports_of (exporter_of parts.new) }
+{
+    match parts.kind {
+        ExporterKind::ByteArray => remove_all(parts),
+        _ => Err(Halt::Refused(Fault::UnknownName)),
+    }
+}
+
+fn delete_byte(parts: &mut Parts, key: &Value) -> Result<LocalReply, Halt>
+    requires { IsWhole parts.old }
+    ensures answer { Answers (spec.byte_deleted (exporter_of parts.old) key.now) (exporter_of parts.old) result (exporter_of parts.new) }
+    ensures counted { parts.new.exports ≡ exports_of (exporter_of parts.new) }
+{
+    let index = index_in(key)?;
+    parts.resizable()?;
+    let place = entry_in(parts.bytes.len(), index)?;
+    parts.remove_range(place, place + 1);
+    Ok(LocalReply::Ok)
+}
+
+/// The bytes that stay move to the front of the slice's span, and then what is left of it goes.
+fn delete_slice(parts: &mut Parts, slice: &PySlice) -> Result<LocalReply, Halt>
+    requires { IsWhole parts.old }
+    ensures answer { Answers (spec.slice_deleted (exporter_of parts.old) slice.now) (exporter_of parts.old) result (exporter_of parts.new) }
+    ensures counted { parts.new.exports ≡ exports_of (exporter_of parts.new) }
+{
+    let slice = SaturatedSlice::with_slice(slice)?;
+    parts.resizable()?;
+    let left = close_up(parts.bytes.as_mut_slice(), slice);
+    parts.remove_range(left.start, left.end);
+    Ok(LocalReply::Ok)
+}
+
+fn delete_at(parts: &mut Parts, key: &Value) -> Result<LocalReply, Halt>
+    requires { IsWhole parts.old }
+    ensures answer { Answers (spec.deleted (exporter_of parts.old) key.now) (exporter_of parts.old) result (exporter_of parts.new) }
+    ensures counted { parts.new.exports ≡ exports_of (exporter_of parts.new) }
+{
+    match key {
+        Value::Slice(slice) => delete_slice(parts, slice),
+        _ => delete_byte(parts, key),
+    }
+}
+
+/// Takes the byte of a bytearray at an index out, or those that a slice picks. Each byte that stays moves
+/// at most once.
+pub fn delete(parts: &mut Parts, key: &Value) -> Result<LocalReply, Halt>
+    requires { IsWhole parts.old }
+    ensures answer { Answers (spec.delete_of_own (exporter_of parts.old) key.now) (exporter_of parts.old) result (exporter_of parts.new) }
+    ensures counted { parts.new.exports ≡ exports_of (exporter_of parts.new) }
+{
+    match parts.kind {
+        ExporterKind::ByteArray => delete_at(parts, key),
+        _ => Err(Halt::Refused(Fault::UnknownName)),
+    }
+}
+
+fn take_all(parts: &mut Parts) -> Result<LocalReply, Halt>
+    requires { IsWhole parts.old }
+    ensures answer { Answers (spec.taken (exporter_of parts.old)) (exporter_of parts.old) result (exporter_of parts.new) }
+    ensures counted { parts.new.exports ≡ exports_of (exporter_of parts.new) }
+{
+    parts.resizable()?;
+    let bytes = Vec::from_slice(parts.alloc, parts.bytes.as_slice())?;
+    let end = parts.bytes.len();
+    parts.remove_range(0, end);
+    Ok(LocalReply::Bytes(ByteList::from_vec(bytes)))
+}
+
+/// Takes all bytes out of a vector, read-only or not. The reply is these bytes.
+pub fn take(parts: &mut Parts) -> Result<LocalReply, Halt>
+    requires { IsWhole parts.old }
+    ensures answer { Answers (spec.take_of_own (exporter_of parts.old)) (exporter_of parts.old) result (exporter_of parts.new) }
+    ensures counted { parts.new.exports ≡ exports_of (exporter_of parts.new) }
+{
+    match parts.kind {
+        ExporterKind::Vector { readonly: _ } => take_all(parts),
+        _ => Err(Halt::Refused(Fault::UnknownName)),
+    }
+}
