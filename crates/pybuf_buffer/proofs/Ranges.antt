@@ -1,5 +1,5 @@
 -- The ranges of the joined walk over the items of a view: how many there are, and where they lie.
-use Rattle.std.proofs.Common.{◌≡◌, ℕ, zero, suc, ◌+◌, ◌*◌, ◌-◌, ◌<◌, ◌≤◌, ℤ, pos, nat_abs, Bool, true, false, List, [], ◌∷◌, ◌++◌, length, map, take, drop, ap, ap₂, sym, ◌∙◌, refl, subst, arith}
+use Rattle.std.proofs.Common.{◌≡◌, ℕ, zero, suc, ◌+◌, ◌*◌, ◌-◌, ◌<◌, ◌≤◌, ℤ, pos, Bool, true, false, List, [], ◌∷◌, length, map, take, drop, ap, ap₂, sym, ◌∙◌, refl, subst, true≢false, arith}
 use Rattle.std.specs.Prelude.{All, Option, Some, None, slice_get, slice_index_or, ◌==◌, ◌&&◌, ◌+ℤ◌, ◌*ℤ◌, if◌then◌else◌}
 use Rattle.std.specs.Ordering.{int_eq}
 use Rattle.std.specs.Option.{option_map}
@@ -12,9 +12,11 @@ use Rattle.std.proofs.lemmas.List.Elements.{All-map, All-nil}
 use Rattle.pybuf_desc.specs.Layouts.{Layout, product}
 use Rattle.pybuf_desc.specs.Descriptor.{Descriptor, shape_of, strides_of}
 use Rattle.pybuf_desc.specs.Places.{places, Stands}
-use Rattle.pybuf_desc.specs.Valid.{IsValid, IsPlaced}
+use Rattle.pybuf_desc.specs.Valid.{IsPlaced}
 use Rattle.pybuf_desc.specs.Segments.{range_at, ranges_of, joined_count, joined_dims, outer_dims, is_row_contiguous, last_dim}
-use Rattle.pybuf_buffer.specs.Appending.{range_count, has_joined_rows, is_stride, outer_shape}
+use Rattle.std.proofs.Math.Nat.{mul-pos}
+use Rattle.pybuf_buffer.specs.Laws.{RangesAreCounted}
+use Rattle.pybuf_buffer.specs.Appending.{range_count, is_stride, outer_shape}
 
 -- ---- how many
 
@@ -81,3 +83,39 @@ if_in_order false size ps = All-map (λ (range : Range ℕ). range.start ≤ ran
 
 pub ranges_in_order : (d : Descriptor) (start : ℤ) (joined : ℕ) → All (λ (range : Range ℕ). range.start ≤ range.end) (ranges_of d start joined)
 ranges_in_order d start joined = if_in_order (product (shape_of d.dims) == 0) (product (shape_of (joined_dims joined d.dims)) * d.itemsize) (places (outer_dims joined d.dims) start)
+
+-- ---- that none is empty
+
+factor : (a b : ℕ) → 0 < a * b → 0 < b
+factor a zero some = absurd (omega (arith, some))
+factor a (suc b) some = omega arith
+
+some_rest : (n : ℕ) (dims : List (ℕ × ℤ × ℤ)) → 0 < product (shape_of dims) → 0 < product (shape_of (drop n dims))
+some_rest zero dims some = some
+some_rest (suc n) [] some = some
+some_rest (suc n) (dim ∷ dims) some = some_rest n dims (factor dim.0 (product (shape_of dims)) some)
+
+at_nonempty : (size : ℕ) (p : ℤ) → 0 < size → (range_at size p).start < (range_at size p).end
+at_nonempty size p some = omega (arith, some)
+
+not_empty : (count : ℕ) → (count == 0) ≡ false → 0 < count
+not_empty zero is = absurd (true≢false is)
+not_empty (suc count) is = omega arith
+
+if_nonempty : (empty : Bool) (size : ℕ) (ps : List ℤ) → (empty ≡ false → 0 < size) → All (λ (range : Range ℕ). range.start < range.end) (if empty then [] else map (range_at size) ps)
+if_nonempty true size ps some = All-nil (λ (range : Range ℕ). range.start < range.end)
+if_nonempty false size ps some =
+    All-map (λ (range : Range ℕ). range.start < range.end) (range_at size) ps (λ k d below. at_nonempty size (slice_index_or ps k d) (some refl))
+
+ranges_nonempty : (d : Descriptor) (start : ℤ) (joined : ℕ) → 0 < d.itemsize → All (λ (range : Range ℕ). range.start < range.end) (ranges_of d start joined)
+ranges_nonempty d start joined sized =
+    if_nonempty (product (shape_of d.dims) == 0) (product (shape_of (joined_dims joined d.dims)) * d.itemsize) (places (outer_dims joined d.dims) start)
+    (λ is. mul-pos (some_rest (length d.dims - joined) d.dims (not_empty (product (shape_of d.dims)) is)) sized)
+
+-- ---- both
+
+pub are_counted : RangesAreCounted
+are_counted d start view placed stands = record {
+  count = ranges_are_counted d start view placed stands;
+  nonempty = ranges_nonempty d (pos start) (joined_count d true) placed.valid.some_size;
+}

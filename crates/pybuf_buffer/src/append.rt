@@ -1,6 +1,6 @@
 //! The bytes of a view's items, appended to a vector range by range.
-ghost use Rattle.std.specs.Prelude.{◌≡◌, ◌≤◌, ◌<◌, ◌+◌, ◌-◌, ◌++◌, length, take, drop, vec_len, vec_capacity, All, OnOk, OnErr};
-ghost use Rattle.std.specs.List.{flat_map, sum};
+ghost use Rattle.std.specs.Prelude.{◌≡◌, ◌≤◌, ◌<◌, ◌+◌, ◌-◌, ◌++◌, length, vec_len, vec_capacity, All};
+ghost use Rattle.std.specs.List.{flat_map};
 ghost use Rattle.pybuf_desc.specs.Segments.{bytes_in};
 
 use crate::steps::Steps;

@@ -1,19 +1,18 @@
 //! A buffer that an exporter lent.
-ghost use Rattle.std.specs.Prelude.{◌≡◌, ◌<◌, ◌+◌, ◌++◌, true, false, length, Ok, IfOk, OnOk, OnErr, MatchOption};
+ghost use Rattle.std.specs.Prelude.{◌≡◌, ◌↔◌, ◌<◌, ◌+◌, ◌++◌, true, false, length, Ok, IsTrue, IfOk, OnOk, OnErr, MatchOption};
 ghost use Rattle.std.specs.Fn.{FnOnceReturnsAt};
 ghost use Rattle.pybuf_command.specs.declared.kinds.ExporterKind.TheVariants as kinds;
 ghost use Rattle.pybuf_command.specs.declared.commands.LocalReply.TheVariants as replies;
 ghost use Rattle.pybuf_desc.specs.Layouts.{bytes_layout};
 ghost use Rattle.pybuf_desc.specs.Contiguous.{is_contiguous_layout};
 ghost use Rattle.pybuf_desc.specs.Items.{content_of_layout};
-ghost use Rattle.pybuf_desc.specs.Places.{Stands};
-ghost use Rattle.pybuf_desc.specs.Valid.{IsValid, IsPlaced};
 ghost use Rattle.pybuf_buffer.specs.Making.{checked_format};
 ghost use Rattle.pybuf_state.specs.Exporter.{new_exporter, with_view, released_in};
 ghost use Rattle.pybuf_state.specs.Live.{is_live, layout_of, is_writable_run};
 
 use crate::append::append_ranges;
 use crate::steps::Steps;
+use crate::views::{add_same, described, is_in_first};
 use pybuf_command::{ExporterKind, Subject};
 use pybuf_desc::{
     BufferDescriptor, described_views_have_their_shape, descriptors_stand_for_one_view,
@@ -24,9 +23,10 @@ use pybuf_exporter::ExporterState;
 use pybuf_memoryview::contents_are_whole;
 use pybuf_state::{live_layouts_are_sound, whole_layouts_are_sound};
 use pybuf_struct::FormatSpec;
-use pybuf_value::{ByteList, Fault, Made, Outcome, Tried, Twin};
+use pybuf_value::{ByteList, Fault, Made, Outcome, Tried};
 use std::alloc::Global;
 use std::marker::{Brand, Model};
+use std::ops::Range;
 use std::sync::ledger::{Blank, Ledger};
 
 /// A buffer: the number of a view of an exporter, whose bytes it lends. Each call takes the exporter
@@ -42,19 +42,6 @@ impl Model for PyBuffer {
     ghost Value = { ℕ };
 
     ghost view = { λ b. b.view };
-}
-
-/// The descriptor of an unreleased view, and the place of its first item.
-fn described(state: &ExporterState, view: usize) -> (&BufferDescriptor, usize)
-    requires { is_live state.now view ≡ true }
-    ensures stands { Stands result.0.now result.1 (layout_of state.now view) }
-    ensures placed { IsPlaced result.0.now result.1 }
-    ensures valid { IsValid result.0.now result.1 (length state.now.bytes) }
-{
-    match state.view_desc(view) {
-        Some(described) => described,
-        None => unreachable!(),
-    }
 }
 
 /// Why the format of a descriptor makes no buffer of an exporter, if it doesn't.
@@ -100,6 +87,9 @@ fn append_by<L: Ledger>(
 impl PyBuffer {
     ghost use Rattle.pybuf_buffer.specs.Making.{IsBufferBy};
     ghost use Rattle.pybuf_buffer.specs.Appending.{range_count};
+    ghost use Rattle.pybuf_buffer.specs.Blocks.{LiesInFirst};
+    ghost use Rattle.std.specs.Borrow.{sem};
+    ghost use Rattle.pybuf_exporter.specs.Lending.{LendsBytes};
 
     /// A buffer by a descriptor and the place of its first item: one more view of the exporter.
     ///
@@ -168,6 +158,16 @@ impl PyBuffer {
         state.is_writable_run(self.view)
     }
 
+    /// Whether a range lies in the first dimension, of which there is one. Then
+    /// `PyMemoryView::from_buffer_range` makes a memoryview of its entries.
+    pub fn has_entries(&self, state: &ExporterState, range: &Range<usize>) -> bool
+        requires { is_live state.now self.now ≡ true }
+        ensures { IsTrue result ↔ LiesInFirst range.now (layout_of state.now self.now).shape }
+    {
+        let (descriptor, _) = described(state, self.view);
+        is_in_first(descriptor.dim_desc(), range)
+    }
+
     /// A read-only vector of these bytes, and the buffer of all of them.
     pub fn from_byte_vector(alloc: Global, bytes: Vec<u8>) -> Made<(ExporterState, PyBuffer)>
         ensures state { IfOk result (λ made. made.0 ≡ (with_view (new_exporter (kinds.Vector true) bytes.items) (bytes_layout (length bytes.items) true)).0) }
@@ -229,7 +229,7 @@ impl PyBuffer {
         requires callable { F.IsAlwaysCallable f }
         ensures { IfOk result (λ made. FnOnceReturnsAt F.FnOnce f (content_of_layout state.now.bytes (layout_of state.now self.now)) made) }
     {
-        if let Some(bytes) = state.contiguous_bytes(self.view) {
+        if let Some(bytes) = self.as_contiguous(state) {
             return Ok(f(bytes));
         }
         match state.snap(alloc, Subject::View(self.view))? {
@@ -244,6 +244,20 @@ impl PyBuffer {
         ensures { result.now ≡ state.now.bytes }
     {
         state.bytes()
+    }
+
+    /// All bytes of the exporter of a buffer that isn't read-only, lent to be written: their number and
+    /// all else of the exporter stay. The exporter that lends comes first, so this isn't called on the
+    /// buffer.
+    pub fn obj_bytes_mut<'a>(state: &'a mut ExporterState, buffer: &PyBuffer) -> &'a mut [u8]
+        requires live { is_live state.old buffer.now ≡ true }
+        requires writable { (layout_of state.old buffer.now).readonly ≡ false }
+        ensures* writes_back { sem 𝓛 (LendsBytes state.entry result) }
+        ensures value { result.now ≡ state.old.bytes }
+    {
+        live_layouts_are_sound();
+        let _exports = state.exports();
+        state.bytes_mut()
     }
 
     /// Releases the view. Releasing it again changes nothing. Takes no memory.
@@ -264,12 +278,7 @@ impl PyBuffer {
         ensures ok { IfOk result (λ made. with_view state.old (layout_of state.old self.now) ≡ (state.new, replies.View made)) }
         ensures err { OnErr result (state.new ≡ state.old) }
     {
-        live_layouts_are_sound();
-        descriptors_stand_for_one_view();
-        let _exports = state.exports();
-        let (descriptor, start) = described(state, self.view);
-        let twin = descriptor.copy(alloc)?;
-        let view = state.add_view(twin, start)?;
+        let view = add_same(alloc, state, self.view)?;
         Ok(PyBuffer { view })
     }
 }

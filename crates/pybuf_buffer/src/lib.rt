@@ -5,10 +5,19 @@
 
 mod append;
 mod buffer;
+mod laws;
+mod memory_view;
 mod steps;
+mod vec_buffer;
+mod views;
 
 pub use buffer::PyBuffer;
+pub use laws::{range_counts_are_bounded, ranges_are_counted};
+pub use memory_view::PyMemoryView;
 pub use steps::Steps;
+pub use vec_buffer::VecBuffer;
 
 #[cfg(test)]
 mod tests;
+#[cfg(test)]
+mod view_tests;

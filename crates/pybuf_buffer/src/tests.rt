@@ -1,10 +1,15 @@
 //! What no clause says: that the calls succeed with ample memory.
+ghost use Rattle.std.specs.Prelude.{◌≡◌, true};
+ghost use Rattle.pybuf_state.specs.Live.{is_live};
+
 use super::*;
-use pybuf_command::ExporterKind;
+use pybuf_command::{ExporterKind, Subject};
 use pybuf_desc::BufferDescriptor;
 use pybuf_exporter::ExporterState;
-use pybuf_value::{ByteList, DimList, Fault, Outcome, Text};
+use pybuf_value::{ByteList, DimList, Fault, Made, Outcome, Text};
 use std::alloc::Global;
+use std::marker::Brand;
+use std::sync::ledger::{Blank, Ledger};
 use std::test::Fail;
 
 fn exporter_of(alloc: Global, bytes: &[u8]) -> Result<ExporterState, Fail> {
@@ -119,5 +124,56 @@ fn a_released_exporter_is_resized(rt: HostRuntime) -> Result<(), Fail> {
         Err(_) => return Err(Fail::from("no view")),
     }
     assert_eq!(rt; state.bytes(), b"abcd".as_slice());
+    Ok(())
+}
+
+/// Appends the bytes of a buffer twice, counted by a caller's counter.
+fn append_twice<L: Ledger>(
+    buffer: &PyBuffer,
+    state: &ExporterState,
+    bytes: &mut Vec<u8>,
+    blank: Blank,
+) -> Made<()>
+    requires live { is_live state.now buffer.now ≡ true }
+    requires name { blank.name ≡ L.name }
+    requires parts { blank.parts ≡ L.parts }
+    requires one { blank.parts ≡ 1 }
+{
+    let mut steps = Steps::<L>::new(blank);
+    buffer.append_to(state, bytes, &mut steps)?;
+    buffer.append_to(state, bytes, &mut steps)
+}
+
+#[test]
+fn a_caller_counts_the_ranges(rt: HostRuntime) -> Result<(), Fail> {
+    let mut state = exporter_of(rt.alloc(), b"abcdef")?;
+    let descriptor = bytes_apart(rt.alloc(), 3, 2, true)?;
+    let buffer = done(PyBuffer::new(rt.alloc(), &mut state, descriptor, 0)?)?;
+    if !buffer.is_live(&state) {
+        return Err(Fail::from("a live buffer"));
+    }
+    let mut bytes = Vec::new(rt.alloc());
+    append_twice::<Brand>(&buffer, &state, &mut bytes, Blank::new(1))?;
+    assert_eq!(rt; bytes.as_slice(), b"aceace".as_slice());
+    Ok(())
+}
+
+#[test]
+fn all_bytes_are_lent_to_be_written(rt: HostRuntime) -> Result<(), Fail> {
+    let mut state = exporter_of(rt.alloc(), b"abc")?;
+    let view = PyMemoryView::from_object(rt.alloc(), &mut state, Subject::Own)?;
+    let buffer = PyBuffer::of(done(view)?.number());
+    if !buffer.is_live(&state) {
+        return Err(Fail::from("a live buffer"));
+    }
+    if !buffer.is_contiguous_mut(&state) {
+        return Err(Fail::from("a buffer to be written"));
+    }
+    let lent = PyBuffer::obj_bytes_mut(&mut state, &buffer);
+    if lent.len() != 3 {
+        return Err(Fail::from("three bytes"));
+    }
+    lent.copy_from_slice(b"XYZ");
+    assert_eq!(rt; state.bytes(), b"XYZ".as_slice());
     Ok(())
 }

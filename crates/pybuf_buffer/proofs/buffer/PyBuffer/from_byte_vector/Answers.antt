@@ -1,9 +1,4 @@
-use Rattle.std.proofs.Common.{◌≡◌, ℕ, true, length, sym, subst, ap, ◌∙◌, rules}
-use Rattle.pybuf_desc.specs.Layouts.{Layout, bytes_layout}
-use Rattle.pybuf_desc.specs.Places.{layout_at}
-use Rattle.pybuf_command.specs.declared.kinds.ExporterKind.TheVariants as kinds
-use Rattle.pybuf_state.specs.Exporter.{Exporter, new_exporter, with_view}
-use Rattle.pybuf_state.specs.Laws.{IsSoundLayout}
+use Rattle.std.proofs.Common.{rules}
 use Rattle.pybuf_buffer.proofs.Adding.{vector_sound, vector_made}
 use Rattle.pybuf_buffer.proofs.buffer.PyBuffer.from_byte_vector.Goals as goal
 

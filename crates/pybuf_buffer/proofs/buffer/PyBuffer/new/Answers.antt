@@ -1,4 +1,4 @@
-use Rattle.std.proofs.Common.{◌≡◌, rules, arith}
+use Rattle.std.proofs.Common.{rules}
 use Rattle.pybuf_buffer.proofs.Adding.{buffer_sound}
 use Rattle.pybuf_buffer.proofs.buffer.PyBuffer.new.Goals as goal
 

@@ -1,0 +1,14 @@
+-- Memoryviews: what is answered where one is asked of a subject.
+use Rattle.std.specs.Prelude.{◌≡◌, ℕ, [], Ok, Err}
+use Rattle.pybuf_value.specs.declared.faults.Outcome.{Outcome}
+use Rattle.pybuf_value.specs.declared.faults.Outcome.TheVariants as outcome
+use Rattle.pybuf_command.specs.declared.kinds.Subject.{Subject}
+use Rattle.pybuf_command.specs.declared.commands.Verb.TheVariants as verb
+use Rattle.pybuf_command.specs.declared.commands.LocalReply.TheVariants as reply
+use Rattle.pybuf_state.specs.Exporter.{Exporter}
+use Rattle.pybuf_exporter.specs.Step.{row}
+
+-- one more view, as the row of the verb `View` makes it of the subject, or that row's refusal
+abbrev pub IsViewOf : Exporter → Subject → Exporter → Outcome ℕ → Type 0
+IsViewOf old s new (outcome.Done k) = row old s verb.View [] ≡ Ok (new, reply.View k)
+IsViewOf old s new (outcome.Refused f) = (row old s verb.View [] ≡ Err f) × (new ≡ old)
