@@ -2,7 +2,10 @@
 //! commands and reply. Everything that a caller needs is named here.
 #![tactic(auto)]
 
-pub use pybuf_buffer::{PyBuffer, Steps};
+pub use pybuf_buffer::{
+    PyBuffer, PyMemoryView, Steps, VecBuffer, range_counts_are_bounded, ranges_are_counted,
+};
+pub use pybuf_bytes::{ByteInnerNewOptions, PyBytesInner};
 pub use pybuf_command::{
     ExporterKind, Loan, LoanList, LocalCommand, LocalReply, PropertyName, Subject, Verb,
 };
@@ -14,7 +17,7 @@ pub use pybuf_exporter::{
     writes_are_seen,
 };
 pub use pybuf_world::{
-    ByteInnerNewOptions, Command, Named, Reply, ReplyList, World,
-    copies_are_exporters_of_their_own, handles_stay, refusals_change_nothing,
-    releasing_twice_is_once, world_lengths_stay, world_readonly_bytes_stay,
+    Command, Named, Reply, ReplyList, World, copies_are_exporters_of_their_own, handles_stay,
+    new_exporters_stand_behind, refusals_change_nothing, releasing_twice_is_once,
+    unknown_sources_are_refused, world_lengths_stay, world_readonly_bytes_stay,
 };

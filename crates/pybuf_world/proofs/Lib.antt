@@ -1,6 +1,7 @@
 pub mod Lists
 pub mod Steps
 pub mod Handles
+pub mod Making
 pub mod Sound
 pub mod Runs
 pub mod Refusals

@@ -17,11 +17,17 @@ use Rattle.pybuf_world.specs.declared.named.Named.TheVariants as named
 use Rattle.pybuf_world.specs.declared.named.Target.{Target}
 use Rattle.pybuf_world.specs.declared.commands.Command.TheVariants as command
 use Rattle.pybuf_world.specs.declared.commands.Reply.TheVariants as reply
-use Rattle.pybuf_world.specs.World.{World, bytes_from, world_with_bytes, handles_of_options, are_given, loans_of, handles_after, world_after, step_with_loans, target_of, step_of_handle}
+use Rattle.pybuf_command.specs.Handles.{handles_of_options}
+use Rattle.pybuf_world.specs.World.{World, bytes_of_new, world_with_bytes, are_given, loans_of, has_view, handles_with_copy, reply_with_copy, handles_after, world_after, step_with_loans, target_of, step_of_handle}
 use Rattle.pybuf_world.specs.Laws.{RefusalsChangeNothing, HandlesStay}
 use Rattle.pybuf_world.proofs.Lists.{slice_get-append, set-slice_get}
 
 -- ---- refusals
+
+-- a copy is replied by handles
+copy_no_refusal : (viewed : Bool) (next : ℕ) (f : Fault) → reply_with_copy viewed next ≡ reply.Refused f → ⊥
+copy_no_refusal true next f is = cc
+copy_no_refusal false next f is = cc
 
 -- only a refusal of the exporter is replied as one, and then the exporter is as before
 after_refusal : (w : World) (t : Target) (e : Exporter) (r : LocalReply) (f : Fault) → (r ≡ local.Refused f → set w.exporters t.exporter e ≡ w.exporters)
@@ -29,7 +35,7 @@ after_refusal : (w : World) (t : Target) (e : Exporter) (r : LocalReply) (f : Fa
 after_refusal w t e (local.Refused g) f kept is =
     let same : g ≡ f = cc in ap (λ (xs : List Exporter). record w { exporters = xs }) (kept (ap local.Refused same))
 after_refusal w t e (local.View k) f kept is = absurd (cc)
-after_refusal w t e (local.Fresh snap) f kept is = absurd (cc)
+after_refusal w t e (local.Fresh snap) f kept is = absurd (copy_no_refusal (has_view snap.kind) (length w.handles) f is)
 after_refusal w t e local.Ok f kept is = absurd (cc)
 after_refusal w t e local.Itself f kept is = absurd (cc)
 after_refusal w t e local.Own f kept is = absurd (cc)
@@ -63,17 +69,21 @@ given_refusal w false k r f is = refl
 
 pub refusals_leave_all : RefusedCommandsChangeNothing → RefusalsChangeNothing
 refusals_leave_all stays w (command.New k options) f is =
-    given_refusal w (are_given w (handles_of_options options)) k (bytes_from k options.source options.encoding options.errors) f is
+    given_refusal w (are_given w (handles_of_options options)) k (bytes_of_new w options) f is
 refusals_leave_all stays w (command.Do handle v) f is = handle_refusal stays w handle v (slice_get w.handles handle) f is
 
 -- ---- handles
 
+copy_handles : (viewed : Bool) (n : ℕ) (handles : List Named) (h : ℕ) → h < length handles → slice_get (handles_with_copy viewed n handles) h ≡ slice_get handles h
+copy_handles true n handles h below =
+    let more : length (handles ++ named.Exporter n ∷ []) ≡ length handles + 1 = length-append handles (named.Exporter n ∷ []) in
+    slice_get-append (handles ++ named.Exporter n ∷ []) (named.View n 0 ∷ []) h (omega (arith, below, more))
+    ∙ slice_get-append handles (named.Exporter n ∷ []) h below
+copy_handles false n handles h below = slice_get-append handles (named.Exporter n ∷ []) h below
+
 after_handles : (w : World) (t : Target) (r : LocalReply) (h : ℕ) → h < length w.handles → slice_get (handles_after w t r) h ≡ slice_get w.handles h
 after_handles w t (local.View k) h below = slice_get-append w.handles (named.View t.exporter k ∷ []) h below
-after_handles w t (local.Fresh snap) h below =
-    let more : length (w.handles ++ named.Exporter (length w.exporters) ∷ []) ≡ length w.handles + 1 = length-append w.handles (named.Exporter (length w.exporters) ∷ []) in
-    slice_get-append (w.handles ++ named.Exporter (length w.exporters) ∷ []) (named.View (length w.exporters) 0 ∷ []) h (omega (arith, below, more))
-    ∙ slice_get-append w.handles (named.Exporter (length w.exporters) ∷ []) h below
+after_handles w t (local.Fresh snap) h below = copy_handles (has_view snap.kind) (length w.exporters) w.handles h below
 after_handles w t local.Ok h below = refl
 after_handles w t local.Itself h below = refl
 after_handles w t local.Own h below = refl
@@ -105,5 +115,5 @@ given_handles w false k r h below = refl
 
 pub handles_stay_so : HandlesStay
 handles_stay_so w (command.New k options) h below =
-    given_handles w (are_given w (handles_of_options options)) k (bytes_from k options.source options.encoding options.errors) h below
+    given_handles w (are_given w (handles_of_options options)) k (bytes_of_new w options) h below
 handles_stay_so w (command.Do handle v) h below = handle_handles w handle v (slice_get w.handles handle) h below

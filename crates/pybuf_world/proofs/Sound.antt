@@ -1,5 +1,5 @@
 -- Every world after a command is sound, and the handles that the tables keep for the exporters stay theirs.
-use Rattle.std.proofs.Common.{◌≡◌, ℕ, ◌+◌, ◌<◌, Bool, true, false, List, [], ◌∷◌, ◌++◌, length, take, set, ap, ap₂, sym, ◌∙◌, refl, subst, arith}
+use Rattle.std.proofs.Common.{◌≡◌, ℕ, ◌+◌, ◌<◌, Bool, true, false, List, [], ◌∷◌, ◌++◌, length, take, set, ap, sym, ◌∙◌, refl, subst, arith}
 use Rattle.std.specs.Prelude.{Option, Some, None, Result, Ok, Err, slice_get, if◌then◌else◌}
 use Rattle.std.proofs.lemmas.Option.{slice_get_within}
 use Rattle.std.proofs.lemmas.List.{length-append, length-set}
@@ -17,19 +17,21 @@ use Rattle.pybuf_state.specs.Keeps.{IsSafe}
 use Rattle.pybuf_state.specs.Sound.{IsSoundView, IsSoundExporter}
 use Rattle.pybuf_rows_views.specs.Laws.{ReleaseIsSafe}
 use Rattle.pybuf_exporter.specs.Step.{estep}
-use Rattle.pybuf_state.specs.Fresh.{is_readonly_subject, vector_of}
+use Rattle.pybuf_state.specs.Fresh.{is_readonly_subject, made_of}
 use Rattle.pybuf_state.specs.Laws.{CopiesAreFaithful}
 use Rattle.pybuf_exporter.specs.Laws.{CommandsKeepSound, FreshRepliesAreCopies}
 use Rattle.pybuf_world.specs.declared.named.Named.{Named}
 use Rattle.pybuf_world.specs.declared.named.Named.TheVariants as named
 use Rattle.pybuf_world.specs.declared.named.Target.{Target}
-use Rattle.pybuf_world.specs.declared.commands.ByteInnerNewOptions.{ByteInnerNewOptions}
+use Rattle.pybuf_bytes.specs.declared.options.ByteInnerNewOptions.{ByteInnerNewOptions}
 use Rattle.pybuf_world.specs.declared.commands.Command.{Command}
 use Rattle.pybuf_world.specs.declared.commands.Command.TheVariants as command
 use Rattle.pybuf_world.specs.declared.commands.Reply.{Reply}
 use Rattle.pybuf_world.specs.declared.commands.Reply.TheVariants as reply
-use Rattle.pybuf_world.specs.World.{World, empty_world, exporter_of, with_exporter, bytes_from, world_with_bytes, handles_of_options, are_given, step_of_new, loans_of, reply_after, world_after, step_with_loans, target_of, step_of_handle, wstep, world_after_all, world_with_released, released_in_exporter, released_by_name, released_by}
+use Rattle.pybuf_command.specs.Handles.{handles_of_options}
+use Rattle.pybuf_world.specs.World.{World, empty_world, exporter_of, with_exporter, bytes_of_new, world_with_bytes, are_given, step_of_new, loans_of, has_view, handles_with_copy, world_after, step_with_loans, target_of, step_of_handle, wstep, world_after_all, world_with_released, released_in_exporter, released_by_name, released_by}
 use Rattle.pybuf_world.specs.Sound.{IsSoundWorld, StaysSound}
+use Rattle.pybuf_world.specs.Beside.{local_step}
 use Rattle.pybuf_world.specs.Tables.{AreOwners, owners_after}
 use Rattle.pybuf_world.proofs.Handles.{NameExporters, AreNamed, AreFirst, stay_named, stay_first, named_with_new, first_with_new, there_with_new}
 use Rattle.pybuf_world.proofs.Lists.{All-slice_get}
@@ -73,15 +75,11 @@ with_exporter_owned w e owners sound owned =
           (first_with_new (length w.exporters) w.handles owners sound.handles_name_exporters sound.exporters_are_named owned.counted owned.first);
     }
 
-pub owned_after_new : (w : World) (e : Exporter) (exporters : List Exporter) (names handles : List Named) (owners others later : List ℕ) (number handle : ℕ)
-    → exporters ≡ w.exporters ++ e ∷ [] → handles ≡ names ++ named.Exporter number ∷ [] → names ≡ w.handles → number ≡ length w.exporters
-    → later ≡ others ++ handle ∷ [] → others ≡ owners → handle ≡ length w.handles → IsSoundWorld w → AreOwners w owners → AreOwners (record { exporters = exporters; handles = handles }) later
-owned_after_new w e exporters names handles owners others later number handle pushed pushed_handle same_names same_number pushed_owner same_owners same_handle sound owned =
-    subst (λ (xs : List Exporter). AreOwners (record { exporters = xs; handles = handles }) later) (sym pushed)
-    (subst (λ (hs : List Named). AreOwners (record { exporters = w.exporters ++ e ∷ []; handles = hs }) later)
-    (sym (pushed_handle ∙ ap₂ (λ (hs : List Named) (n : ℕ). hs ++ named.Exporter n ∷ []) same_names same_number))
-    (subst (AreOwners (with_exporter w e).0) (sym (pushed_owner ∙ ap₂ (λ (os : List ℕ) (h : ℕ). os ++ h ∷ []) same_owners same_handle))
-    (with_exporter_owned w e owners sound owned)))
+pub owned_after_new : (w after : World) (e : Exporter) (r : Reply) (owners later : List ℕ)
+    → with_exporter w e ≡ (after, r) → later ≡ owners ++ length w.handles ∷ [] → IsSoundWorld w → AreOwners w owners → AreOwners after later
+owned_after_new w after e r owners later is more sound owned =
+    subst (AreOwners after) (sym more)
+    (subst (λ (x : World × Reply). AreOwners x.0 (owners ++ length w.handles ∷ [])) is (with_exporter_owned w e owners sound owned))
 
 with_bytes_sound : (w : World) (k : ExporterKind) (r : Result (List ℕ) Fault) → IsSoundWorld w → IsSoundWorld (world_with_bytes w k r).0
 with_bytes_sound w k (Ok bytes) sound = with_exporter_sound w (new_exporter k bytes) sound (new_is_sound k bytes)
@@ -93,7 +91,7 @@ if_given_sound w false after sound sound_after = sound
 
 step_of_new_sound : (w : World) (k : ExporterKind) (options : ByteInnerNewOptions) → IsSoundWorld w → IsSoundWorld (step_of_new w k options).0
 step_of_new_sound w k options sound =
-    let bytes = bytes_from k options.source options.encoding options.errors in
+    let bytes = bytes_of_new w options in
     if_given_sound w (are_given w (handles_of_options options)) (world_with_bytes w k bytes) sound (with_bytes_sound w k bytes sound)
 
 -- ---- a command on what a handle names
@@ -145,9 +143,22 @@ with_viewed_owned w e n owners same sound sound_e owned =
     (with_handle_owned (with_exporter w e).0 (named.View (length w.exporters) 0) (owners ++ length w.handles ∷ []) (with_exporter_sound w e sound sound_e).exporters_are_named
     (with_exporter_owned w e owners sound owned))
 
+-- and one more exporter that is made of a copy, with a view or without one
+with_made_sound : (viewed : Bool) (w : World) (e : Exporter) (n : ℕ) → length w.exporters ≡ n → IsSoundWorld w → IsSoundExporter e
+    → IsSoundWorld (record { exporters = w.exporters ++ e ∷ []; handles = handles_with_copy viewed n w.handles })
+with_made_sound true w e n same sound sound_e = with_viewed_sound w e n same sound sound_e
+with_made_sound false w e n same sound sound_e =
+    subst (λ (m : ℕ). IsSoundWorld (record { exporters = w.exporters ++ e ∷ []; handles = w.handles ++ named.Exporter m ∷ [] })) same (with_exporter_sound w e sound sound_e)
+
+with_made_owned : (viewed : Bool) (w : World) (e : Exporter) (n : ℕ) (owners : List ℕ) → length w.exporters ≡ n → IsSoundWorld w → IsSoundExporter e → AreOwners w owners
+    → AreOwners (record { exporters = w.exporters ++ e ∷ []; handles = handles_with_copy viewed n w.handles }) (owners ++ length w.handles ∷ [])
+with_made_owned true w e n owners same sound sound_e owned = with_viewed_owned w e n owners same sound sound_e owned
+with_made_owned false w e n owners same sound sound_e owned =
+    subst (λ (m : ℕ). AreOwners (record { exporters = w.exporters ++ e ∷ []; handles = w.handles ++ named.Exporter m ∷ [] }) (owners ++ length w.handles ∷ [])) same (with_exporter_owned w e owners sound owned)
+
 -- what is made of something fresh is sound
 abbrev IsSoundFresh : Exporter → Target → LocalReply → Type 0
-IsSoundFresh e t (local.Fresh snap) = IsSoundExporter (vector_of (is_readonly_subject e t.subject) snap)
+IsSoundFresh e t (local.Fresh snap) = IsSoundExporter (made_of (is_readonly_subject e t.subject) snap)
 IsSoundFresh e t _ = Unit {0}
 
 after_sound : (w : World) (t : Target) (e : Exporter) (r : LocalReply) → IsSoundWorld w → t.exporter < length w.exporters → IsSoundExporter e → IsSoundFresh e t r → IsSoundWorld (world_after w t (e, r)).0
@@ -155,7 +166,7 @@ after_sound w t e (local.View k) sound there sound_e fresh =
     let below : t.exporter < length (set w.exporters t.exporter e) = subst (λ (n : ℕ). t.exporter < n) (sym (length-set w.exporters t.exporter e)) there in
     with_handle_sound (record w { exporters = set w.exporters t.exporter e }) (named.View t.exporter k) (with_set_sound w t.exporter e sound sound_e) below
 after_sound w t e (local.Fresh snap) sound there sound_e fresh =
-    with_viewed_sound (record w { exporters = set w.exporters t.exporter e }) (vector_of (is_readonly_subject e t.subject) snap) (length w.exporters) (length-set w.exporters t.exporter e)
+    with_made_sound (has_view snap.kind) (record w { exporters = set w.exporters t.exporter e }) (made_of (is_readonly_subject e t.subject) snap) (length w.exporters) (length-set w.exporters t.exporter e)
     (with_set_sound w t.exporter e sound sound_e) fresh
 after_sound w t e local.Ok sound there sound_e fresh = with_set_sound w t.exporter e sound sound_e
 after_sound w t e local.Itself sound there sound_e fresh = with_set_sound w t.exporter e sound sound_e
@@ -169,12 +180,12 @@ after_sound w t e (local.Numbers numbers) sound there sound_e fresh = with_set_s
 after_sound w t e (local.Refused f) sound there sound_e fresh = with_set_sound w t.exporter e sound sound_e
 
 after_owned : (w : World) (t : Target) (e : Exporter) (r : LocalReply) (owners : List ℕ) → IsSoundWorld w → IsSoundExporter e → IsSoundFresh e t r → AreOwners w owners
-    → AreOwners (world_after w t (e, r)).0 (owners_after owners (reply_after w t r))
+    → AreOwners (world_after w t (e, r)).0 (owners_after owners (length w.handles) r)
 after_owned w t e (local.View k) owners sound sound_e fresh owned =
     let names : AreNamed (length (set w.exporters t.exporter e)) w.handles = subst (λ (n : ℕ). AreNamed n w.handles) (sym (length-set w.exporters t.exporter e)) sound.exporters_are_named in
     with_handle_owned (record w { exporters = set w.exporters t.exporter e }) (named.View t.exporter k) owners names (with_set_owned w t.exporter e owners owned)
 after_owned w t e (local.Fresh snap) owners sound sound_e fresh owned =
-    with_viewed_owned (record w { exporters = set w.exporters t.exporter e }) (vector_of (is_readonly_subject e t.subject) snap) (length w.exporters) owners (length-set w.exporters t.exporter e)
+    with_made_owned (has_view snap.kind) (record w { exporters = set w.exporters t.exporter e }) (made_of (is_readonly_subject e t.subject) snap) (length w.exporters) owners (length-set w.exporters t.exporter e)
     (with_set_sound w t.exporter e sound sound_e) fresh (with_set_owned w t.exporter e owners owned)
 after_owned w t e local.Ok owners sound sound_e fresh owned = with_set_owned w t.exporter e owners owned
 after_owned w t e local.Itself owners sound sound_e fresh owned = with_set_owned w t.exporter e owners owned
@@ -196,7 +207,7 @@ pub record ExporterLaws : Type 0 where
 fresh_by_reply : ExporterLaws → (e : Exporter) (t : Target) (v : Verb) (loans : List (ℕ × Loan)) (r : LocalReply) → IsSoundExporter e → (estep e t.subject v loans).1 ≡ r → IsSoundFresh (estep e t.subject v loans).0 t r
 fresh_by_reply laws e t v loans (local.Fresh snap) sound is =
     let copied = laws.copies e t.subject v loans snap is in
-    subst (λ (x : Exporter). IsSoundExporter (vector_of (is_readonly_subject x t.subject) snap)) (sym copied.0) ((laws.faithful e t.subject snap sound copied.1).0)
+    subst (λ (x : Exporter). IsSoundExporter (made_of (is_readonly_subject x t.subject) snap)) (sym copied.0) ((laws.faithful e t.subject snap sound copied.1).0)
 fresh_by_reply laws e t v loans (local.View k) sound is = tt
 fresh_by_reply laws e t v loans local.Ok sound is = tt
 fresh_by_reply laws e t v loans local.Itself sound is = tt
@@ -219,7 +230,7 @@ loans_sound laws w t v loans (Some e) at sound =
 loans_sound laws w t v loans None at sound = sound
 
 loans_owned : ExporterLaws → (w : World) (t : Target) (v : Verb) (loans : List (ℕ × Loan)) (o : Option Exporter) (owners : List ℕ) → slice_get w.exporters t.exporter ≡ o → IsSoundWorld w → AreOwners w owners
-    → AreOwners (step_with_loans w t v loans o).0 (owners_after owners (step_with_loans w t v loans o).1)
+    → AreOwners (step_with_loans w t v loans o).0 (owners_after owners (length w.handles) (local_step w t v loans o).1)
 loans_owned laws w t v loans (Some e) owners at sound owned =
     let sound_e = All-slice_get IsSoundExporter w.exporters t.exporter e sound.exporters_are_sound at in
     after_owned w t (estep e t.subject v loans).0 (estep e t.subject v loans).1 owners sound (laws.keeps e t.subject v loans sound_e) (fresh_sound laws e t v loans sound_e) owned
@@ -249,10 +260,10 @@ pub sound_after_step : ExporterLaws → (w after : World) (c : Command) (r : Rep
 sound_after_step keeps w after c r is sound = subst IsSoundWorld (ap (λ (p : World × Reply). p.0) is) (wstep_sound keeps w c sound)
 
 pub owned_after_loans : ExporterLaws → (w after : World) (t : Target) (v : Verb) (loans : List (ℕ × Loan)) (r : Reply) (owners later : List ℕ)
-    → step_with_loans w t v loans (slice_get w.exporters t.exporter) ≡ (after, r) → later ≡ owners_after owners r → IsSoundWorld w → AreOwners w owners → AreOwners after later
+    → step_with_loans w t v loans (slice_get w.exporters t.exporter) ≡ (after, r) → later ≡ owners_after owners (length w.handles) (local_step w t v loans (slice_get w.exporters t.exporter)).1 → IsSoundWorld w → AreOwners w owners → AreOwners after later
 owned_after_loans laws w after t v loans r owners later is same sound owned =
     subst (AreOwners after) (sym same)
-    (subst (λ (x : World × Reply). AreOwners x.0 (owners_after owners x.1)) is
+    (subst (λ (x : World × Reply). AreOwners x.0 (owners_after owners (length w.handles) (local_step w t v loans (slice_get w.exporters t.exporter)).1)) is
     (loans_owned laws w t v loans (slice_get w.exporters t.exporter) owners refl sound owned))
 
 -- ---- releasing

@@ -21,7 +21,8 @@ use Rattle.pybuf_world.specs.declared.named.Target.{Target}
 use Rattle.pybuf_world.specs.declared.commands.Command.{Command}
 use Rattle.pybuf_world.specs.declared.commands.Command.TheVariants as command
 use Rattle.pybuf_world.specs.declared.commands.Reply.TheVariants as reply
-use Rattle.pybuf_world.specs.World.{World, bytes_from, world_with_bytes, handles_of_options, are_given, loans_of, world_after, step_with_loans, target_of, step_of_handle, wstep}
+use Rattle.pybuf_command.specs.Handles.{handles_of_options}
+use Rattle.pybuf_world.specs.World.{World, bytes_of_new, world_with_bytes, are_given, loans_of, world_after, step_with_loans, target_of, step_of_handle, wstep}
 use Rattle.pybuf_world.specs.Sound.{IsSoundWorld}
 use Rattle.pybuf_world.specs.Laws.{EachExporterStays, WorldLengthsStay, WorldReadOnlyBytesStay}
 use Rattle.pybuf_world.proofs.Lists.{slice_get-append, slice_get-set, slice_get-set_other, All-slice_get}
@@ -90,7 +91,7 @@ given_stays Stays kept w false k r i e at = (e, at, kept.same e)
 
 each_stays : (Stays : Exporter → Exporter → Type 0) → IsKeptBySteps Stays → (w : World) (c : Command) → IsSoundWorld w → EachExporterStays Stays w (wstep w c).0
 each_stays Stays kept w (command.New k options) sound i e at =
-    given_stays Stays kept w (are_given w (handles_of_options options)) k (bytes_from k options.source options.encoding options.errors) i e at
+    given_stays Stays kept w (are_given w (handles_of_options options)) k (bytes_of_new w options) i e at
 each_stays Stays kept w (command.Do handle v) sound i e at = handle_stays Stays kept w handle v (slice_get w.handles handle) sound i e at
 
 same_lengths : (e : Exporter) → LengthsStay e e
@@ -100,4 +101,4 @@ pub world_lengths_stay_so : LengthsStayUnderCommands → WorldLengthsStay
 world_lengths_stay_so stay w c sound = each_stays LengthsStay (record { same = same_lengths; step = stay }) w c sound
 
 pub world_bytes_stay_so : ReadOnlyBytesStayUnderCommands → WorldReadOnlyBytesStay
-world_bytes_stay_so stay w c sound = each_stays ReadOnlyBytesStay (record { same = λ e readonly. refl; step = stay }) w c sound
+world_bytes_stay_so stay w c sound = each_stays ReadOnlyBytesStay (record { same = λ e readonly. inl refl; step = stay }) w c sound

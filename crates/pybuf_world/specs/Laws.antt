@@ -1,14 +1,23 @@
 -- Laws of worlds.
-use Rattle.std.specs.Prelude.{◌≡◌, ℕ, ◌<◌, [], ◌∷◌, ◌++◌, length, slice_get, Some, Ok}
+use Rattle.std.specs.Prelude.{◌≡◌, ◌≢◌, ◌==◌, ℕ, ◌<◌, ◌≤◌, true, List, [], ◌∷◌, ◌++◌, length, slice_get, Some, Ok}
+use Rattle.std.specs.List.{list_any}
 use Rattle.pybuf_value.specs.declared.faults.Fault.{Fault}
+use Rattle.pybuf_value.specs.declared.faults.Fault.TheVariants as fault
+use Rattle.pybuf_bytes.specs.declared.options.ByteInnerNewOptions.{ByteInnerNewOptions}
+use Rattle.pybuf_command.specs.declared.kinds.ExporterKind.{ExporterKind}
 use Rattle.pybuf_command.specs.declared.kinds.Subject.{Subject}
-use Rattle.pybuf_state.specs.Exporter.{Exporter}
+use Rattle.pybuf_command.specs.declared.kinds.Subject.TheVariants as subject
+use Rattle.pybuf_command.specs.declared.commands.Verb.{Verb}
+use Rattle.pybuf_command.specs.Handles.{handles_of_options}
+use Rattle.pybuf_state.specs.Exporter.{Exporter, new_exporter}
 use Rattle.pybuf_state.specs.Fresh.{HoldsCopy}
 use Rattle.pybuf_state.specs.Keeps.{LengthsStay, ReadOnlyBytesStay}
 use Rattle.pybuf_world.specs.declared.named.Named.TheVariants as named
 use Rattle.pybuf_world.specs.declared.commands.Command.{Command}
+use Rattle.pybuf_world.specs.declared.commands.Command.TheVariants as command
+use Rattle.pybuf_world.specs.declared.commands.Reply.{Reply}
 use Rattle.pybuf_world.specs.declared.commands.Reply.TheVariants as reply
-use Rattle.pybuf_world.specs.World.{World, wstep, released_by}
+use Rattle.pybuf_world.specs.World.{World, bytes_of_new, wstep, released_by}
 use Rattle.pybuf_world.specs.Sound.{IsSoundWorld}
 
 -- a refused command leaves the whole world as it was, so no handle is used up
@@ -38,20 +47,51 @@ abbrev pub WorldReadOnlyBytesStay : Type 0
 WorldReadOnlyBytesStay = (w : World) (c : Command) → IsSoundWorld w → EachExporterStays ReadOnlyBytesStay w (wstep w c).0
 
 -- One more exporter stands behind the others, which stay as they are, so that a write to one isn't seen
--- by the other. Its one view has the bytes of a view of another exporter, in the same format and shape
--- and without a gap. The two handles name it and that view.
-pub record IsCopyMade (old new : World) (exporter view : ℕ) : Type 0 where
+-- by the other, and the handle names it. It holds the bytes of a subject of another: those of a bytearray,
+-- and has no view; or those of a view in its one view, in the same format and shape and without a gap.
+pub record IsCopyMade (old new : World) (s : Subject) (exporter : ℕ) : Type 0 where
   pub number : ℕ
-  pub subject : Subject
   pub copied : Exporter
   pub made : Exporter
   pub there : slice_get old.exporters number ≡ Some copied
   pub behind : new.exporters ≡ old.exporters ++ made ∷ []
   pub exporter_named : slice_get new.handles exporter ≡ Some (named.Exporter (length old.exporters))
+  pub holds : HoldsCopy copied s made
+
+-- the same of a view, and the second handle names the one view of the copy
+pub record IsViewedCopyMade (old new : World) (exporter view : ℕ) : Type 0 where
+  pub number : ℕ
+  pub made : IsCopyMade old new (subject.View number) exporter
   pub view_named : slice_get new.handles view ≡ Some (named.View (length old.exporters) 0)
-  pub holds : HoldsCopy copied subject made
 
 -- so it is wherever the reply is a pair of handles
 abbrev pub CopiesAreExportersOfTheirOwn : Type 0
 CopiesAreExportersOfTheirOwn =
-    (w : World) (c : Command) (exporter view : ℕ) → IsSoundWorld w → (wstep w c).1 ≡ reply.Pair exporter view → IsCopyMade w (wstep w c).0 exporter view
+    (w : World) (c : Command) (exporter view : ℕ) → IsSoundWorld w → (wstep w c).1 ≡ reply.Pair exporter view → IsViewedCopyMade w (wstep w c).0 exporter view
+
+-- and it is the copy of a bytearray where a command on a handle replies one handle and has made an exporter
+abbrev pub UnviewedCopiesAreExportersOfTheirOwn : Type 0
+UnviewedCopiesAreExportersOfTheirOwn =
+    (w : World) (handle : ℕ) (v : Verb) (exporter : ℕ) → IsSoundWorld w → (wstep w (command.Do handle v)).1 ≡ reply.Handle exporter
+    → length w.exporters < length (wstep w (command.Do handle v)).0.exporters → IsCopyMade w (wstep w (command.Do handle v)).0 subject.Own exporter
+
+-- One more exporter stands behind the others, which stay as they are. It is of the kind that was asked, has
+-- the bytes that the options were read as before it was there, and no view. Its handle is the next one.
+pub record IsNewMade (old : World) (k : ExporterKind) (options : ByteInnerNewOptions) (new : World) (r : Reply) : Type 0 where
+  pub bytes : List ℕ
+  pub read : bytes_of_new old options ≡ Ok bytes
+  pub behind : new.exporters ≡ old.exporters ++ new_exporter k bytes ∷ []
+  pub next : new.handles ≡ old.handles ++ named.Exporter (length old.exporters) ∷ []
+  pub replied : r ≡ reply.Handle (length old.handles)
+
+-- so it is wherever a new exporter isn't refused
+abbrev pub NewExportersStandBehind : Type 0
+NewExportersStandBehind =
+    (w : World) (k : ExporterKind) (options : ByteInnerNewOptions) → ((f : Fault) → (wstep w (command.New k options)).1 ≢ reply.Refused f)
+    → IsNewMade w k options (wstep w (command.New k options)).0 (wstep w (command.New k options)).1
+
+-- a handle among the options that was never given is refused before all else
+abbrev pub UnknownSourcesAreRefused : Type 0
+UnknownSourcesAreRefused =
+    (w : World) (k : ExporterKind) (options : ByteInnerNewOptions) (handle : ℕ) → list_any (λ (given : ℕ). given == handle) (handles_of_options options) ≡ true → length w.handles ≤ handle
+    → wstep w (command.New k options) ≡ (w, reply.Refused fault.UnknownName)

@@ -1,5 +1,6 @@
 pub mod World
 pub mod Needed
+pub mod Making
 pub mod Beside
 pub mod Sound
 pub mod Tables

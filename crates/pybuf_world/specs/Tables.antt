@@ -1,18 +1,17 @@
 -- The world that the tables keep, and what holds of them.
-use Rattle.std.specs.Prelude.{◌≡◌, ℕ, ◌+◌, ◌<◌, List, [], ◌∷◌, ◌++◌, length, slice_index, slice_get, Option, Some, None}
+use Rattle.std.specs.Prelude.{◌≡◌, ℕ, ◌<◌, Bool, List, [], ◌∷◌, ◌++◌, length, slice_index, slice_get, Option, Some, None}
 use Rattle.pybuf_value.specs.declared.faults.Fault.TheVariants as fault
 use Rattle.pybuf_value.specs.declared.snaps.Snap.{Snap}
 use Rattle.pybuf_command.specs.declared.kinds.Subject.{Subject}
 use Rattle.pybuf_state.specs.Exporter.{Exporter}
-use Rattle.pybuf_state.specs.Fresh.{IsCopyOf, is_readonly_subject, vector_of}
+use Rattle.pybuf_state.specs.Fresh.{IsCopyOf, is_readonly_subject, made_of}
 use Rattle.pybuf_world.specs.declared.commands.Reply.{Reply}
 use Rattle.pybuf_world.specs.declared.commands.Reply.TheVariants as reply
-use Rattle.pybuf_world.specs.declared.named.Named.TheVariants as named
 use Rattle.pybuf_world.specs.declared.tables.Tables.{Tables}
 use Rattle.pybuf_command.specs.declared.commands.LocalReply.{LocalReply}
 use Rattle.pybuf_command.specs.declared.commands.LocalReply.TheVariants as local
 use Rattle.pybuf_world.specs.declared.named.Target.{Target}
-use Rattle.pybuf_world.specs.World.{World, handle_of, handles_after, reply_after}
+use Rattle.pybuf_world.specs.World.{World, handle_of, has_view, handles_with_copy, reply_with_copy, handles_after, reply_after}
 use Rattle.pybuf_world.specs.Sound.{IsSoundWorld}
 
 abbrev pub world_of_tables : Tables → World
@@ -27,25 +26,26 @@ pub record IsKept (t : Tables) : Type 0 where
   pub sound : IsSoundWorld (world_of_tables t)
   pub owned : AreOwners (world_of_tables t) t.owners.items
 
--- the handles of the exporters after a reply: a new exporter has the first of its two
-abbrev pub owners_after : List ℕ → Reply → List ℕ
-owners_after owners (reply.Pair exporter view) = owners ++ exporter ∷ []
-owners_after owners _ = owners
+-- the handles of the exporters after a reply: a new exporter has the next one
+abbrev pub owners_after : List ℕ → ℕ → LocalReply → List ℕ
+owners_after owners next (local.Fresh snap) = owners ++ next ∷ []
+owners_after owners next _ = owners
 
 -- the exporter is there, and the snap is the copy of its subject
 abbrev pub IsCopyAt : Option Exporter → Subject → Snap → Type 0
 IsCopyAt (Some e) s snap = IsCopyOf e s snap
 IsCopyAt None s snap = ⊥
 
--- the world with the vector that is made of the copy, and the handles of it and of its view
-abbrev pub with_copy : World → Option Exporter → Subject → Snap → World × Reply
-with_copy w (Some e) s snap = (
-  record {
-    exporters = w.exporters ++ vector_of (is_readonly_subject e s) snap ∷ [];
-    handles = (w.handles ++ named.Exporter (length w.exporters) ∷ []) ++ named.View (length w.exporters) 0 ∷ [];
-  },
-  reply.Pair (length w.handles) (length w.handles + 1),
+-- the world with an exporter that is made of a copy, and its handle with that of its view, where it has one
+abbrev pub with_made : Bool → World → Exporter → World × Reply
+with_made viewed w made = (
+  record { exporters = w.exporters ++ made ∷ []; handles = handles_with_copy viewed (length w.exporters) w.handles },
+  reply_with_copy viewed (length w.handles),
 )
+
+-- the same of the copy of a subject of an exporter that is there
+abbrev pub with_copy : World → Option Exporter → Subject → Snap → World × Reply
+with_copy w (Some e) s snap = with_made (has_view snap.kind) w (made_of (is_readonly_subject e s) snap)
 with_copy w None s snap = (w, reply.Refused fault.UnknownName)
 
 -- the reply makes an exporter

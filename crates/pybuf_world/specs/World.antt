@@ -1,13 +1,13 @@
 -- Worlds: exporters, and the handles that name them and their views.
-use Rattle.std.specs.Prelude.{ℕ, ◌+◌, ◌==◌, Bool, false, List, [], ◌∷◌, ◌++◌, length, map, set, slice_get, nat_lt, Option, Some, None, Result, Ok, Err, if◌then◌else◌}
-use Rattle.std.specs.List.{list_all, position_or_len}
+use Rattle.std.specs.Prelude.{ℕ, ◌+◌, ◌==◌, Bool, true, false, List, [], ◌∷◌, ◌++◌, length, map, set, slice_get, nat_lt, Option, Some, None, Result, Ok, Err, if◌then◌else◌}
+use Rattle.std.specs.List.{list_all, flat_map, position_or_len}
 use Rattle.pybuf_value.specs.declared.faults.Fault.{Fault}
 use Rattle.pybuf_value.specs.declared.faults.Fault.TheVariants as fault
-use Rattle.pybuf_value.specs.declared.values.Scalar.TheVariants as scalar
-use Rattle.pybuf_value.specs.declared.values.Value.{Value}
-use Rattle.pybuf_value.specs.declared.values.Value.TheVariants as value
+use Rattle.pybuf_value.specs.declared.snaps.Snap.{Snap}
+use Rattle.pybuf_value.specs.declared.snaps.SnapKind.{SnapKind}
+use Rattle.pybuf_value.specs.declared.snaps.SnapKind.TheVariants as snap_kind
+use Rattle.pybuf_bytes.specs.Options.{bytes_of_options}
 use Rattle.pybuf_command.specs.declared.kinds.ExporterKind.{ExporterKind}
-use Rattle.pybuf_command.specs.declared.kinds.ExporterKind.TheVariants as kind
 use Rattle.pybuf_command.specs.declared.kinds.Subject.{Subject}
 use Rattle.pybuf_command.specs.declared.kinds.Subject.TheVariants as subject
 use Rattle.pybuf_command.specs.declared.commands.Verb.{Verb}
@@ -15,16 +15,16 @@ use Rattle.pybuf_command.specs.declared.commands.LocalReply.{LocalReply}
 use Rattle.pybuf_command.specs.declared.commands.LocalReply.TheVariants as local
 use Rattle.pybuf_command.specs.declared.loans.Loan.{Loan}
 use Rattle.pybuf_command.specs.declared.loans.Loan.TheVariants as loan
-use Rattle.pybuf_command.specs.Handles.{handles_of, handles_in_option}
+use Rattle.pybuf_command.specs.Handles.{handles_of, handles_of_options}
 use Rattle.pybuf_state.specs.Exporter.{Exporter, new_exporter, released_in}
-use Rattle.pybuf_state.specs.Fresh.{is_readonly_subject, vector_of}
+use Rattle.pybuf_state.specs.Fresh.{is_readonly_subject, made_of}
 use Rattle.pybuf_state.specs.Loans.{loan_of_snap}
 use Rattle.pybuf_state.specs.Snaps.{snap_of_subject}
 use Rattle.pybuf_exporter.specs.Step.{estep}
 use Rattle.pybuf_world.specs.declared.named.Named.{Named}
 use Rattle.pybuf_world.specs.declared.named.Named.TheVariants as named
 use Rattle.pybuf_world.specs.declared.named.Target.{Target}
-use Rattle.pybuf_world.specs.declared.commands.ByteInnerNewOptions.{ByteInnerNewOptions}
+use Rattle.pybuf_bytes.specs.declared.options.ByteInnerNewOptions.{ByteInnerNewOptions}
 use Rattle.pybuf_world.specs.declared.commands.Command.{Command}
 use Rattle.pybuf_world.specs.declared.commands.Command.TheVariants as command
 use Rattle.pybuf_world.specs.declared.commands.Reply.{Reply}
@@ -70,18 +70,33 @@ with_exporter w e = (
   reply.Handle (length w.handles),
 )
 
--- the bytes that a new exporter is made of; a spelling that is not built is an unknown name
-abbrev pub bytes_from : ExporterKind → Option Value → Option Value → Option Value → Result (List ℕ) Fault
-bytes_from kind.ByteArray (Some (value.One (scalar.Bytes bytes))) None None = Ok bytes
-bytes_from kind.Bytes (Some (value.One (scalar.Bytes bytes))) None None = Ok bytes
-bytes_from _ _ _ _ = Err fault.UnknownName
+-- what a handle names, as the world stands
+abbrev pub snap_in : Option Exporter → Subject → Option Snap
+snap_in (Some e) s = snap_of_subject e s
+snap_in None s = None
+
+abbrev pub snap_of_name : World → Option Named → Option Snap
+snap_of_name w (Some n) = snap_in (slice_get w.exporters (exporter_of n)) (subject_of n)
+snap_of_name w None = None
+
+abbrev pub snap_for : World → ℕ → Option Snap
+snap_for w handle = snap_of_name w (slice_get w.handles handle)
+
+abbrev pub paired : ℕ → Option Snap → List (ℕ × Snap)
+paired handle (Some snap) = (handle, snap) ∷ []
+paired handle None = []
+
+-- handles with what they name
+abbrev pub pairs_of : World → List ℕ → List (ℕ × Snap)
+pairs_of w handles = flat_map (λ handle. paired handle (snap_for w handle)) handles
+
+-- the bytes that a new exporter is made of: a handle among its options stands for what it names before
+abbrev pub bytes_of_new : World → ByteInnerNewOptions → Result (List ℕ) Fault
+bytes_of_new w options = bytes_of_options (pairs_of w (handles_of_options options)) options.source options.encoding options.errors
 
 abbrev pub world_with_bytes : World → ExporterKind → Result (List ℕ) Fault → World × Reply
 world_with_bytes w k (Ok bytes) = with_exporter w (new_exporter k bytes)
 world_with_bytes w k (Err f) = (w, reply.Refused f)
-
-abbrev pub handles_of_options : ByteInnerNewOptions → List ℕ
-handles_of_options options = handles_in_option options.source ++ handles_in_option options.encoding ++ handles_in_option options.errors
 
 -- whether all of these handles were given
 abbrev pub are_given : World → List ℕ → Bool
@@ -90,7 +105,7 @@ are_given w handles = list_all (λ handle. nat_lt handle (length w.handles)) han
 -- a new exporter; an unknown handle is refused before all else
 abbrev pub step_of_new : World → ExporterKind → ByteInnerNewOptions → World × Reply
 step_of_new w k options =
-    if are_given w (handles_of_options options) then world_with_bytes w k (bytes_from k options.source options.encoding options.errors)
+    if are_given w (handles_of_options options) then world_with_bytes w k (bytes_of_new w options)
     else (w, reply.Refused fault.UnknownName)
 
 -- ---- what is lent
@@ -124,17 +139,33 @@ loans_of w i v = map (λ handle. (handle, loan_for w i handle)) (handles_of v)
 
 -- the exporter as it is after a command, and one more that is made of a copy
 abbrev pub exporters_after : World → Target → Exporter → LocalReply → List Exporter
-exporters_after w t e (local.Fresh snap) = set w.exporters t.exporter e ++ vector_of (is_readonly_subject e t.subject) snap ∷ []
+exporters_after w t e (local.Fresh snap) = set w.exporters t.exporter e ++ made_of (is_readonly_subject e t.subject) snap ∷ []
 exporters_after w t e _ = set w.exporters t.exporter e
 
--- the handles after a reply: a new view is given the next, and a new exporter and its view the next two
+-- whether what is made of a copy has a view: that of a bytearray's has none
+abbrev pub has_view : SnapKind → Bool
+has_view snap_kind.ByteArray = false
+has_view _ = true
+
+-- the handles with that of what is made of a copy, an exporter of this number, and with that of its view
+-- where it has one
+abbrev pub handles_with_copy : Bool → ℕ → List Named → List Named
+handles_with_copy true number handles = (handles ++ named.Exporter number ∷ []) ++ named.View number 0 ∷ []
+handles_with_copy false number handles = handles ++ named.Exporter number ∷ []
+
+-- the reply by these handles, of which the next one is the first
+abbrev pub reply_with_copy : Bool → ℕ → Reply
+reply_with_copy true next = reply.Pair next (next + 1)
+reply_with_copy false next = reply.Handle next
+
+-- the handles after a reply: a new view is given the next, and so is a new exporter, and then its view
 abbrev pub handles_after : World → Target → LocalReply → List Named
 handles_after w t (local.View k) = w.handles ++ named.View t.exporter k ∷ []
-handles_after w t (local.Fresh snap) = (w.handles ++ named.Exporter (length w.exporters) ∷ []) ++ named.View (length w.exporters) 0 ∷ []
+handles_after w t (local.Fresh snap) = handles_with_copy (has_view snap.kind) (length w.exporters) w.handles
 handles_after w t _ = w.handles
 
--- what is replied: a new view by its handle, a new exporter and its view by theirs, and the subject and
--- its exporter by their own
+-- what is replied: a new view by its handle, a new exporter and its view, where it has one, by theirs,
+-- and the subject and its exporter by their own
 abbrev pub reply_after : World → Target → LocalReply → Reply
 reply_after w t local.Ok = reply.Ok
 reply_after w t (local.View k) = reply.Handle (length w.handles)
@@ -146,7 +177,7 @@ reply_after w t (local.Bytes bytes) = reply.Bytes bytes
 reply_after w t (local.Text text) = reply.Text text
 reply_after w t (local.Truth truth) = reply.Truth truth
 reply_after w t (local.Numbers numbers) = reply.Numbers numbers
-reply_after w t (local.Fresh snap) = reply.Pair (length w.handles) (length w.handles + 1)
+reply_after w t (local.Fresh snap) = reply_with_copy (has_view snap.kind) (length w.handles)
 reply_after w t (local.Refused f) = reply.Refused f
 
 -- the world after a command on an exporter, and the reply

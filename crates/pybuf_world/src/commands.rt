@@ -1,18 +1,8 @@
 //! Commands and replies of a world.
 
+use pybuf_bytes::ByteInnerNewOptions;
 use pybuf_command::{ExporterKind, Verb};
-use pybuf_value::{
-    ByteList, CountList, Fault, Item, ItemList, Items, Made, NumberList, Text, Twin, Value,
-};
-use std::alloc::Global;
-
-/// What bytes are made of, as the arguments of Python's `bytes(source, encoding, errors)`.
-#[derive(Debug, Drop)]
-pub struct ByteInnerNewOptions {
-    pub source: Option<Value>,
-    pub encoding: Option<Value>,
-    pub errors: Option<Value>,
-}
+use pybuf_value::{ByteList, CountList, Fault, Item, ItemList, Items, NumberList, Text};
 
 /// A command for a world.
 #[derive(Debug, Drop)]
@@ -56,16 +46,3 @@ pub enum Reply {
 
 /// Replies, in the order of their commands.
 pub type ReplyList = Items<Reply>;
-
-impl Twin for ByteInnerNewOptions {
-    fn copy(&self, alloc: Global) -> Made<ByteInnerNewOptions> {
-        let source = self.source.copy(alloc)?;
-        let encoding = self.encoding.copy(alloc)?;
-        let errors = self.errors.copy(alloc)?;
-        Ok(ByteInnerNewOptions {
-            source,
-            encoding,
-            errors,
-        })
-    }
-}

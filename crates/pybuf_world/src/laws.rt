@@ -1,6 +1,6 @@
 //! Laws over every command on a world, from the laws over every command on one exporter.
 ghost use Rattle.pybuf_rows_views.specs.Laws.{ReleasingTwiceIsOnce};
-ghost use Rattle.pybuf_world.specs.Laws.{RefusalsChangeNothing, HandlesStay, ReleasingByHandleTwiceIsOnce, WorldLengthsStay, WorldReadOnlyBytesStay, CopiesAreExportersOfTheirOwn};
+ghost use Rattle.pybuf_world.specs.Laws.{RefusalsChangeNothing, HandlesStay, ReleasingByHandleTwiceIsOnce, WorldLengthsStay, WorldReadOnlyBytesStay, CopiesAreExportersOfTheirOwn, UnviewedCopiesAreExportersOfTheirOwn, NewExportersStandBehind, UnknownSourcesAreRefused};
 
 /// A refused command leaves the whole world as it was, so no handle is used up.
 pub fn refusals_change_nothing()
@@ -41,9 +41,26 @@ pub fn world_readonly_bytes_stay()
 /// A command that replies two handles has made an exporter of its own, behind those that there were,
 /// which stay as they are; its one view has the bytes of the view that was copied, in the same format
 /// and shape, without a gap. So a write to one isn't seen by the other.
+///
+/// A command on a handle that replies one handle and has made an exporter has made a bytearray of its
+/// own: it has the bytes of the bytearray that was copied, and no view.
 pub fn copies_are_exporters_of_their_own()
-    ensures { CopiesAreExportersOfTheirOwn }
+    ensures viewed { CopiesAreExportersOfTheirOwn }
+    ensures unviewed { UnviewedCopiesAreExportersOfTheirOwn }
 {
     pybuf_exporter::fresh_replies_are_copies();
     pybuf_exporter::copies_are_faithful();
 }
+
+/// A command for a new exporter that isn't refused has made one of the kind that was asked, with the
+/// bytes that its options were read as before it was there, and with no view. It stands behind those
+/// that there were, which stay as they are, and its handle is the next one.
+pub fn new_exporters_stand_behind()
+    ensures { NewExportersStandBehind }
+{}
+
+/// A command for a new exporter with a handle among its options that was never given is refused with
+/// `UnknownName`, whatever its options are otherwise, and changes nothing.
+pub fn unknown_sources_are_refused()
+    ensures { UnknownSourcesAreRefused }
+{}

@@ -4,21 +4,30 @@ ghost use Rattle.std.specs.Prelude.{true, false};
 ghost use Rattle.pybuf_command.specs.Fits.{fits, LoansFit};
 ghost use Rattle.pybuf_state.specs.Loans.{loan_of_snap};
 ghost use Rattle.pybuf_state.specs.Snaps.{snap_of_subject};
-ghost use Rattle.pybuf_world.specs.World.{bytes_from, loan_of_own, loan_for};
+ghost use Rattle.pybuf_world.specs.World.{has_view, loan_of_own, loan_for};
+ghost use Rattle.pybuf_world.specs.Making.{handle_alone};
+ghost use Rattle.pybuf_value.specs.Halting.{outcome_of};
+ghost use Rattle.pybuf_value.specs.Snaps.{content_of_named};
+ghost use Rattle.pybuf_bytes.specs.Options.{bytes_of_options};
 ghost use Rattle.pybuf_world.specs.Beside.{IsLentBeside, reads_beside, loans_beside, other_loans, local_step};
 ghost use Rattle.pybuf_world.specs.Needed.{loan_if_read, is_read, needed_for};
 
-use crate::commands::{ByteInnerNewOptions, Command, Reply, ReplyList};
+use crate::commands::{Command, Reply, ReplyList};
 use crate::named::{Named, Target};
+use pybuf_bytes::ByteInnerNewOptions;
 use pybuf_command::{
-    ExporterKind, Loan, LoanList, LocalReply, Subject, Verb, handles_of, handles_read,
+    ExporterKind, Loan, LoanList, LocalReply, Subject, Verb, handles_of, handles_of_options,
+    handles_read,
 };
 use pybuf_exporter::{
     ExporterState, commands_keep_sound, copies_are_faithful, fresh_replies_are_copies,
     loans_alike_do_the_same, slice_source,
 };
 use pybuf_rows_views::release_is_safe;
-use pybuf_value::{ByteList, Fault, Made, NoMemory, Scalar, Snap, Twin, Value, push_reserved};
+use pybuf_value::{
+    ByteList, Fault, Made, NoMemory, Outcome, Scalar, Snap, SnapKind, SnapList, Tried, Value,
+    push_reserved,
+};
 use std::alloc::Global;
 use std::mem;
 
@@ -32,25 +41,40 @@ pub struct Tables {
     pub alloc: Global,
 }
 
-/// The bytes that a new exporter is made of. No option that is taken is or has a handle, so none is
-/// asked for: a handle that was never given is refused with the same fault as one that was.
-fn bytes_from(
-    alloc: Global,
-    kind: ExporterKind,
-    options: &ByteInnerNewOptions,
-) -> Made<Result<ByteList, Fault>>
-    ensures { IfOk result (λ r. r ≡ bytes_from kind options.now.source options.now.encoding options.now.errors) }
+/// The handle that options are, where they are no more than that.
+fn handle_alone(options: &ByteInnerNewOptions) -> Option<u64>
+    ensures { result ≡ handle_alone options.now }
 {
-    match (kind, &options.source, &options.encoding, &options.errors) {
-        (ExporterKind::ByteArray, Some(Value::One(Scalar::Bytes(bytes))), None, None) => {
-            let bytes = bytes.copy(alloc)?;
-            Ok(Ok(bytes))
-        }
-        (ExporterKind::Bytes, Some(Value::One(Scalar::Bytes(bytes))), None, None) => {
-            let bytes = bytes.copy(alloc)?;
-            Ok(Ok(bytes))
-        }
-        _ => Ok(Err(Fault::UnknownName)),
+    match (&options.source, &options.encoding, &options.errors) {
+        (Some(Value::One(Scalar::Handle(handle))), None, None) => Some(*handle),
+        _ => None,
+    }
+}
+
+/// The bytes of what a handle names, which are moved out of it.
+fn content_of(snap: Option<Snap>) -> Outcome<ByteList>
+    ensures { result ≡ outcome_of (content_of_named snap) }
+{
+    let Some(snap) = snap else {
+        return Outcome::Refused(Fault::UnknownName);
+    };
+    if let SnapKind::Iterator = snap.kind {
+        return Outcome::Refused(Fault::Kind);
+    }
+    if let (SnapKind::View, true) = (snap.kind, snap.released) {
+        return Outcome::Refused(Fault::Value);
+    }
+    Outcome::Done(snap.content)
+}
+
+/// The bytes of options of which no handle is read.
+fn bytes_without_handles(alloc: Global, options: &ByteInnerNewOptions) -> Tried<ByteList>
+    ensures { IfOk result (λ outcome. outcome ≡ outcome_of (bytes_of_options [] options.now.source options.now.encoding options.now.errors)) }
+{
+    let nothing = SnapList::new(alloc);
+    match options.get_bytes(alloc, &nothing)? {
+        Outcome::Done(inner) => Ok(Outcome::Done(ByteList::from_vec(inner.into_vec()))),
+        Outcome::Refused(fault) => Ok(Outcome::Refused(fault)),
     }
 }
 
@@ -105,6 +129,13 @@ fn loan_of_known(lender: &ExporterState, subject: Subject) -> Loan
     if is_there { Loan::Known } else { Loan::Missing }
 }
 
+/// Whether what is made of a copy has a view.
+fn has_view(kind: SnapKind) -> bool
+    ensures { result ≡ has_view kind }
+{
+    !matches!(kind, SnapKind::ByteArray)
+}
+
 /// Adds a name where room was reserved for it and for one more.
 fn push_before_last(handles: &mut Vec<Named>, named: Named)
     requires { vec_len handles.old + 1 < vec_capacity handles.old }
@@ -115,7 +146,7 @@ fn push_before_last(handles: &mut Vec<Named>, named: Named)
 }
 
 impl Tables {
-    ghost use Rattle.pybuf_world.specs.Tables.{world_of_tables, AreOwners, IsKept, owners_after, IsCopyAt, IfFresh, IsFresh, with_copy, answered};
+    ghost use Rattle.pybuf_world.specs.Tables.{world_of_tables, AreOwners, IsKept, owners_after, IsCopyAt, IfFresh, IsFresh, with_made, with_copy, answered};
     ghost use Rattle.pybuf_world.specs.World as spec;
     ghost use Rattle.pybuf_world.specs.Sound.{StopsAt};
 
@@ -146,12 +177,12 @@ impl Tables {
         self.exporters.len()
     }
 
-    /// A new exporter and its handle.
-    fn add(&mut self, exporter: ExporterState) -> Made<Reply>
-        requires { IsKept self.old }
-        ensures ok { IfOk result (λ r. spec.with_exporter (world_of_tables self.old) exporter ≡ (world_of_tables self.new, r)) }
+    /// A new exporter with no view, and its handle.
+    fn add_exporter(&mut self, exporter: ExporterState) -> Made<Reply>
+        ensures ok { IfOk result (λ r. with_made false (world_of_tables self.old) exporter ≡ (world_of_tables self.new, r)) }
         ensures err { OnErr result (world_of_tables self.new ≡ world_of_tables self.old) }
-        ensures owned { AreOwners (world_of_tables self.new) self.new.owners.items }
+        ensures owners { IfOk result (λ r. self.new.owners.items ≡ self.old.owners.items ++ length (world_of_tables self.old).handles ∷ []) }
+        ensures owners_kept { OnErr result (self.new.owners.items ≡ self.old.owners.items) }
     {
         let handle = self.next_handle();
         let number = self.next_exporter();
@@ -163,6 +194,80 @@ impl Tables {
         Ok(Reply::Handle(handle))
     }
 
+    /// A new exporter with one view, and the handles of both.
+    fn add_viewed(&mut self, exporter: ExporterState) -> Made<Reply>
+        ensures ok { IfOk result (λ r. with_made true (world_of_tables self.old) exporter ≡ (world_of_tables self.new, r)) }
+        ensures err { OnErr result (world_of_tables self.new ≡ world_of_tables self.old) }
+        ensures owners { IfOk result (λ r. self.new.owners.items ≡ self.old.owners.items ++ length (world_of_tables self.old).handles ∷ []) }
+        ensures owners_kept { OnErr result (self.new.owners.items ≡ self.old.owners.items) }
+    {
+        let own = self.next_handle();
+        let number = self.next_exporter();
+        self.handles.reserve(2)?;
+        self.owners.reserve(1)?;
+        self.exporters.push(exporter)?;
+        push_before_last(&mut self.handles, Named::Exporter(number));
+        let view = self.next_handle();
+        let named = Named::View {
+            exporter: number,
+            view: 0,
+        };
+        push_reserved(&mut self.handles, named);
+        push_reserved(&mut self.owners, own);
+        Ok(Reply::Pair {
+            exporter: own,
+            view,
+        })
+    }
+
+    /// A new exporter and its handle, where the handles of the exporters stay what they are.
+    fn add(&mut self, exporter: ExporterState) -> Made<Reply>
+        requires { IsKept self.old }
+        ensures ok { IfOk result (λ r. spec.with_exporter (world_of_tables self.old) exporter ≡ (world_of_tables self.new, r)) }
+        ensures err { OnErr result (world_of_tables self.new ≡ world_of_tables self.old) }
+        ensures owned { AreOwners (world_of_tables self.new) self.new.owners.items }
+    {
+        match self.add_exporter(exporter) {
+            Ok(reply) => Ok(reply),
+            Err(NoMemory) => Err(NoMemory),
+        }
+    }
+
+    /// Whether all of these handles were given.
+    fn are_given(&self, handles: &[u64]) -> bool
+        ensures { result ≡ spec.are_given (world_of_tables self.now) handles.now }
+    {
+        let count = self.next_handle();
+        handles.iter().all(|handle| *handle < count)
+    }
+
+    /// What a handle names, as it stands.
+    fn snap_for(&self, handle: u64) -> Made<Option<Snap>>
+        ensures { IfOk result (λ snap. snap ≡ spec.snap_for (world_of_tables self.now) handle) }
+    {
+        let Some(named) = self.handles.get(handle as usize).copied() else {
+            return Ok(None);
+        };
+        let Some(lender) = self.exporters.get(named.exporter()) else {
+            return Ok(None);
+        };
+        lender.snap(self.alloc, named.subject())
+    }
+
+    /// The bytes that a new exporter is made of. Those of a handle are copied once, and where no handle
+    /// is read none is looked at.
+    fn bytes_of(&self, options: &ByteInnerNewOptions) -> Tried<ByteList>
+        ensures { IfOk result (λ outcome. outcome ≡ outcome_of (spec.bytes_of_new (world_of_tables self.now) options.now)) }
+    {
+        match handle_alone(options) {
+            Some(handle) => {
+                let snap = self.snap_for(handle)?;
+                Ok(content_of(snap))
+            }
+            None => bytes_without_handles(self.alloc, options),
+        }
+    }
+
     /// A new exporter of bytes.
     fn make(&mut self, kind: ExporterKind, options: &ByteInnerNewOptions) -> Made<Reply>
         requires { IsKept self.old }
@@ -170,9 +275,13 @@ impl Tables {
         ensures err { OnErr result (world_of_tables self.new ≡ world_of_tables self.old) }
         ensures owned { AreOwners (world_of_tables self.new) self.new.owners.items }
     {
-        match bytes_from(self.alloc, kind, options)? {
-            Ok(bytes) => self.add(ExporterState::new(self.alloc, kind, bytes)),
-            Err(fault) => Ok(Reply::Refused(fault)),
+        let handles = handles_of_options(self.alloc, options)?;
+        if !self.are_given(handles.as_slice()) {
+            return Ok(Reply::Refused(Fault::UnknownName));
+        }
+        match self.bytes_of(options)? {
+            Outcome::Done(bytes) => self.add(ExporterState::new(self.alloc, kind, bytes)),
+            Outcome::Refused(fault) => Ok(Reply::Refused(fault)),
         }
     }
 
@@ -331,39 +440,29 @@ impl Tables {
         owner_in(self.owners.as_slice(), exporter)
     }
 
-    /// A vector that is made of the copy of a subject, and the handles of it and of its view.
+    /// An exporter that is made of the copy of a subject, and the handles of it and of its view, where
+    /// it has one.
     fn add_copy(&mut self, exporter: usize, subject: Subject, copy: Snap) -> Made<Reply>
         requires { IsCopyAt (slice_get (world_of_tables self.old).exporters exporter) subject copy }
         ensures ok { IfOk result (λ r. with_copy (world_of_tables self.old) (slice_get (world_of_tables self.old).exporters exporter) subject copy ≡ (world_of_tables self.new, r)) }
         ensures err { OnErr result (world_of_tables self.new ≡ world_of_tables self.old) }
-        ensures owners { IfOk result (λ r. self.new.owners.items ≡ owners_after self.old.owners.items r) }
+        ensures owners { IfOk result (λ r. self.new.owners.items ≡ self.old.owners.items ++ length (world_of_tables self.old).handles ∷ []) }
         ensures owners_kept { OnErr result (self.new.owners.items ≡ self.old.owners.items) }
     {
-        let own = self.next_handle();
-        let number = self.next_exporter();
+        let is_viewed = has_view(copy.kind);
         let Some(holder) = self.exporters.get(exporter) else {
             return Ok(Reply::Refused(Fault::UnknownName));
         };
-        let made = holder.vector_of_copy(self.alloc, subject, copy)?;
-        self.handles.reserve(2)?;
-        self.owners.reserve(1)?;
-        self.exporters.push(made)?;
-        push_before_last(&mut self.handles, Named::Exporter(number));
-        let view = self.next_handle();
-        let named = Named::View {
-            exporter: number,
-            view: 0,
-        };
-        push_reserved(&mut self.handles, named);
-        push_reserved(&mut self.owners, own);
-        Ok(Reply::Pair {
-            exporter: own,
-            view,
-        })
+        let made = holder.exporter_of_copy(self.alloc, subject, copy)?;
+        if is_viewed {
+            return self.add_viewed(made);
+        }
+        self.add_exporter(made)
     }
 
     /// What is replied to a target whose exporter has stepped: a new view is given a handle, and a new
-    /// exporter one for itself and one for its view. Only where an exporter is made may memory run out.
+    /// exporter one for itself and one for its view, where it has one. Only where an exporter is made may
+    /// memory run out.
     fn answer(&mut self, target: Target, owner: u64, reply: LocalReply) -> Made<Reply>
         requires room { vec_len self.old.handles < vec_capacity self.old.handles }
         requires owner { owner ≡ spec.handle_of (world_of_tables self.old) target.exporter }
@@ -371,7 +470,7 @@ impl Tables {
         ensures ok { IfOk result (λ r. answered (world_of_tables self.old) target reply ≡ (world_of_tables self.new, r)) }
         ensures err { OnErr result (world_of_tables self.new ≡ world_of_tables self.old) }
         ensures only_fresh { OnErr result (IsFresh reply) }
-        ensures owners { IfOk result (λ r. self.new.owners.items ≡ owners_after self.old.owners.items r) }
+        ensures owners { IfOk result (λ _. self.new.owners.items ≡ owners_after self.old.owners.items (length (world_of_tables self.old).handles) reply) }
         ensures owners_kept { OnErr result (self.new.owners.items ≡ self.old.owners.items) }
     {
         let exporter = target.exporter;
@@ -408,7 +507,7 @@ impl Tables {
         requires beside { IfSome beside (λ b. IsLentBeside (world_of_tables self.old) target verb.now b.0 b.1) }
         ensures ok { IfOk result (λ r. spec.step_with_loans (world_of_tables self.old) target verb.now (loans_beside (world_of_tables self.old) target.exporter beside loans.now) (slice_get (world_of_tables self.old).exporters target.exporter) ≡ (world_of_tables self.new, r)) }
         ensures err { OnErr result (world_of_tables self.new ≡ world_of_tables self.old) }
-        ensures owners { IfOk result (λ r. self.new.owners.items ≡ owners_after self.old.owners.items r) }
+        ensures owners { IfOk result (λ _. self.new.owners.items ≡ owners_after self.old.owners.items (length (world_of_tables self.old).handles) (local_step (world_of_tables self.old) target verb.now (loans_beside (world_of_tables self.old) target.exporter beside loans.now) (slice_get (world_of_tables self.old).exporters target.exporter)).1) }
         ensures owners_kept { OnErr result (self.new.owners.items ≡ self.old.owners.items) }
     {
         fresh_replies_are_copies();

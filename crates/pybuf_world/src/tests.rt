@@ -1,7 +1,8 @@
 //! What no clause says: that the calls succeed with ample memory.
 use super::*;
+use pybuf_bytes::ByteInnerNewOptions;
 use pybuf_command::{ExporterKind, PropertyName, Verb};
-use pybuf_value::{ByteList, Fault, Scalar, ScalarList, Text, Twin, Value};
+use pybuf_value::{ByteList, Fault, PySlice, Scalar, ScalarList, Value};
 use std::alloc::Global;
 use std::test::Fail;
 
@@ -9,11 +10,11 @@ fn abc(alloc: Global) -> Result<ByteList, Fail> {
     Ok(ByteList::from_vec(Vec::from_slice(alloc, b"abc")?))
 }
 
-fn new_of(source: Option<Value>) -> Command {
+fn new_of(kind: ExporterKind, source: Value) -> Command {
     Command::New {
-        kind: ExporterKind::ByteArray,
+        kind,
         options: ByteInnerNewOptions {
-            source,
+            source: Some(source),
             encoding: None,
             errors: None,
         },
@@ -21,7 +22,10 @@ fn new_of(source: Option<Value>) -> Command {
 }
 
 fn new_bytearray(alloc: Global) -> Result<Command, Fail> {
-    Ok(new_of(Some(Value::One(Scalar::Bytes(abc(alloc)?)))))
+    Ok(new_of(
+        ExporterKind::ByteArray,
+        Value::One(Scalar::Bytes(abc(alloc)?)),
+    ))
 }
 
 fn ask(subject: u64, verb: Verb) -> Command {
@@ -96,27 +100,8 @@ fn an_exporter_is_named_by_its_handle(rt: HostRuntime) -> Result<(), Fail> {
         number_of(&world.step(&ask(3, Verb::Property { name }))?),
         2
     );
-    assert_eq!(rt; number_of(&world.step(&new_of(Some(handle(9))))?), -4);
-    Ok(())
-}
-
-#[test]
-fn options_are_copied(rt: HostRuntime) -> Result<(), Fail> {
-    let mut encoding = Text::new(rt.alloc());
-    encoding.push('B')?;
-    let options = ByteInnerNewOptions {
-        source: Some(Value::One(Scalar::Bytes(abc(rt.alloc())?))),
-        encoding: Some(Value::One(Scalar::Text(encoding))),
-        errors: None,
-    };
-    let copied = options.copy(rt.alloc())?;
-    let is_same = match (copied.source, copied.encoding, copied.errors) {
-        (Some(Value::One(Scalar::Bytes(bytes))), Some(Value::One(Scalar::Text(text))), None) => {
-            bytes.as_slice() == b"abc".as_slice() && text.as_slice() == b"B".as_slice()
-        }
-        _ => false,
-    };
-    assert!(rt; is_same);
+    let unknown = new_of(ExporterKind::ByteArray, handle(9));
+    assert_eq!(rt; number_of(&world.step(&unknown)?), -4);
     Ok(())
 }
 
@@ -138,5 +123,42 @@ fn a_copy_has_an_exporter_and_a_view(rt: HostRuntime) -> Result<(), Fail> {
         return Err(Fail::from("an exporter"));
     };
     assert_eq!(rt; copy.bytes(), b"abc".as_slice());
+    Ok(())
+}
+
+/// The kind and the bytes of an exporter of a world.
+fn told(world: &World, exporter: usize) -> Option<(ExporterKind, &[u8])> {
+    let exporter = world.exporters().get(exporter)?;
+    Some((exporter.kind(), exporter.bytes()))
+}
+
+#[test]
+fn exporters_are_made_of_every_source(rt: HostRuntime) -> Result<(), Fail> {
+    let mut world = World::new(rt.alloc());
+    assert_eq!(rt; number_of(&world.step(&new_bytearray(rt.alloc())?)?), 0);
+    assert_eq!(rt; number_of(&world.step(&ask(0, Verb::View))?), 1);
+    let key = Value::Slice(PySlice {
+        start: Scalar::None,
+        stop: Scalar::None,
+        step: Scalar::Int(2),
+    });
+    assert_eq!(rt; number_of(&world.step(&ask(1, Verb::Get { key }))?), 2);
+    let writable = ExporterKind::Vector { readonly: false };
+    let apart = new_of(writable, handle(2));
+    assert_eq!(rt; number_of(&world.step(&apart)?), 3);
+    assert!(rt; told(&world, 1) == Some((writable, b"ac".as_slice())));
+    let mut parts = ScalarList::new(rt.alloc());
+    parts.push(Scalar::Int(97))?;
+    parts.push(Scalar::Bool(true))?;
+    let listed = new_of(ExporterKind::Bytes, Value::List(parts));
+    assert_eq!(rt; number_of(&world.step(&listed)?), 4);
+    assert!(rt; told(&world, 2) == Some((ExporterKind::Bytes, b"a\x01".as_slice())));
+    let readonly = ExporterKind::Vector { readonly: true };
+    let sized = new_of(readonly, Value::One(Scalar::Int(2)));
+    assert_eq!(rt; number_of(&world.step(&sized)?), 5);
+    assert!(rt; told(&world, 3) == Some((readonly, b"\x00\x00".as_slice())));
+    let whole = new_of(ExporterKind::ByteArray, handle(4));
+    assert_eq!(rt; number_of(&world.step(&whole)?), 6);
+    assert!(rt; told(&world, 4) == Some((ExporterKind::ByteArray, b"a\x01".as_slice())));
     Ok(())
 }
