@@ -1,7 +1,6 @@
 -- A command that was written is read back.
-use Rattle.std.proofs.Common.{◌≡◌, ℕ, ◌<◌, ◌^◌, List, [], ◌∷◌, ◌++◌, Bool, true, false, not, cond, ◌==◌, Some, None, refl, sym, ◌∙◌, ap, subst, arith, tests}
+use Rattle.std.proofs.Common.{◌≡◌, ℕ, ◌<◌, ◌^◌, List, [], ◌∷◌, ◌++◌, Bool, true, false, not, cond, ◌==◌, Option, Some, None, refl, sym, ◌∙◌, ap, subst, arith, tests}
 use Rattle.std.specs.List.{join_with_byte, onto_first, list_all, AllByRecursion}
-use Rattle.hex.specs.Hex.{IsBytes}
 use Rattle.pybuf_value.specs.declared.values.Scalar.{Scalar}
 use Rattle.pybuf_value.specs.declared.values.Scalar.TheVariants as scalar
 use Rattle.pybuf_value.specs.declared.values.PySlice.{PySlice}
@@ -13,17 +12,17 @@ use Rattle.pybuf_command.specs.declared.commands.PropertyName.{PropertyName}
 use Rattle.pybuf_command.specs.declared.commands.PropertyName.TheVariants as property
 use Rattle.pybuf_command.specs.declared.commands.Verb.{Verb}
 use Rattle.pybuf_command.specs.declared.commands.Verb.TheVariants as verb
-use Rattle.pybuf_world.specs.declared.commands.ByteInnerNewOptions.{ByteInnerNewOptions}
+use Rattle.pybuf_bytes.specs.declared.options.ByteInnerNewOptions.{ByteInnerNewOptions}
 use Rattle.pybuf_world.specs.declared.commands.Command.TheVariants as command
 use Rattle.pybuf_line.specs.declared.words.Word.TheVariants as word
 use Rattle.pybuf_line.specs.Parts.{parts_at}
 use Rattle.pybuf_line.specs.Words.{words, word_in, written_word, written_kind, written_name}
 use Rattle.pybuf_line.specs.Scalars.{handle_in, handle_text, is_text_byte, written_scalar}
 use Rattle.pybuf_line.specs.Spellings.{written_slice, written_parts, written_value}
-use Rattle.pybuf_line.specs.Commands.{verb_in, word_of, written_arguments, new_in, written_source, command_of_words, command_in, written_words}
-use Rattle.pybuf_line.specs.Laws.{IsMade, IsSpelled, IsSpelledSlice, IsSpelledValue, IsSpelledVerb, IsSpelledNew, CommandsReadBack}
+use Rattle.pybuf_line.specs.Commands.{options_in, verb_in, word_of, written_values, written_options, written_arguments, command_of_words, command_in, written_words}
+use Rattle.pybuf_line.specs.Laws.{IsSpelled, IsSpelledSlice, IsSpelledValue, AreSpelledValues, AreSpelledOptions, IsSpelledVerb, CommandsReadBack}
 use Rattle.pybuf_line.proofs.NameLaws.{kinds_read, properties_read}
-use Rattle.pybuf_line.proofs.SpellingLaws.{handle_read, hex_read}
+use Rattle.pybuf_line.proofs.SpellingLaws.{handle_read}
 use Rattle.pybuf_line.proofs.ValueLaws.{is_free, IsFree, part_free, each_text_byte, values_read}
 
 -- no blank in a text
@@ -126,6 +125,26 @@ name_unbroken property.Contiguous = refl
 name_unbroken property.CContiguous = refl
 name_unbroken property.FContiguous = refl
 
+-- options
+options_unbroken : (source encoding errors : Option Value) → AreSpelledValues source encoding errors → AllByRecursion IsUnbroken (written_values handle_text source encoding errors)
+options_unbroken None None None h = tt
+options_unbroken (Some source) None None h = (value_unbroken source h, tt)
+options_unbroken (Some source) (Some encoding) None h = (value_unbroken source h.0, (value_unbroken encoding h.1, tt))
+options_unbroken (Some source) (Some encoding) (Some errors) h = (value_unbroken source h.0, (value_unbroken encoding h.1, (value_unbroken errors h.2, tt)))
+options_unbroken None None (Some errors) h = absurd h
+options_unbroken None (Some encoding) errors h = absurd h
+options_unbroken (Some source) None (Some errors) h = absurd h
+
+options_read : (source encoding errors : Option Value) → AreSpelledValues source encoding errors
+    → options_in handle_in (written_values handle_text source encoding errors) ≡ Some (record { source = source; encoding = encoding; errors = errors })
+options_read None None None h = refl
+options_read (Some source) None None h = rw (values_read source h) refl
+options_read (Some source) (Some encoding) None h = rw (values_read source h.0, values_read encoding h.1) refl
+options_read (Some source) (Some encoding) (Some errors) h = rw (values_read source h.0, values_read encoding h.1, values_read errors h.2) refl
+options_read None None (Some errors) h = absurd h
+options_read None (Some encoding) errors h = absurd h
+options_read (Some source) None (Some errors) h = absurd h
+
 -- a command of a handle
 arguments_unbroken : (v : Verb) → IsSpelledVerb v → AllByRecursion IsUnbroken (written_arguments handle_text v)
 arguments_unbroken verb.View h = tt
@@ -143,6 +162,20 @@ arguments_unbroken verb.Enter h = tt
 arguments_unbroken verb.Exit h = tt
 arguments_unbroken verb.ToContiguous h = tt
 arguments_unbroken verb.ToList h = tt
+arguments_unbroken (verb.Del key) h = (value_unbroken key h, tt)
+arguments_unbroken (verb.Append item) h = (value_unbroken item h, tt)
+arguments_unbroken (verb.Extend item) h = (value_unbroken item h, tt)
+arguments_unbroken (verb.Remove item) h = (value_unbroken item h, tt)
+arguments_unbroken (verb.IAdd item) h = (value_unbroken item h, tt)
+arguments_unbroken (verb.IMul count) h = (value_unbroken count h, tt)
+arguments_unbroken (verb.Insert index item) h = (value_unbroken index h.0, (value_unbroken item h.1, tt))
+arguments_unbroken (verb.Pop None) h = tt
+arguments_unbroken (verb.Pop (Some index)) h = (value_unbroken index h, tt)
+arguments_unbroken verb.Clear h = tt
+arguments_unbroken verb.Reverse h = tt
+arguments_unbroken (verb.Init options) h = options_unbroken options.source options.encoding options.errors h
+arguments_unbroken verb.Take h = tt
+arguments_unbroken verb.Copy h = tt
 
 word_unbroken : (v : Verb) → IsUnbroken (written_word (word_of v))
 word_unbroken verb.View = refl
@@ -159,6 +192,19 @@ word_unbroken verb.Enter = refl
 word_unbroken verb.Exit = refl
 word_unbroken verb.ToContiguous = refl
 word_unbroken verb.ToList = refl
+word_unbroken (verb.Del key) = refl
+word_unbroken (verb.Append item) = refl
+word_unbroken (verb.Extend item) = refl
+word_unbroken (verb.Remove item) = refl
+word_unbroken (verb.IAdd item) = refl
+word_unbroken (verb.IMul count) = refl
+word_unbroken (verb.Insert index item) = refl
+word_unbroken (verb.Pop index) = refl
+word_unbroken verb.Clear = refl
+word_unbroken verb.Reverse = refl
+word_unbroken (verb.Init options) = refl
+word_unbroken verb.Take = refl
+word_unbroken verb.Copy = refl
 
 handle_unbroken : (n : ℕ) → n < 2 ^ 64 → IsUnbroken (handle_text n)
 handle_unbroken n h = free (handle_text n) (part_free (scalar.Handle n) h)
@@ -179,6 +225,20 @@ verb_read verb.Enter h = refl
 verb_read verb.Exit h = refl
 verb_read verb.ToContiguous h = refl
 verb_read verb.ToList h = refl
+verb_read (verb.Del key) h = rw (values_read key h) refl
+verb_read (verb.Append item) h = rw (values_read item h) refl
+verb_read (verb.Extend item) h = rw (values_read item h) refl
+verb_read (verb.Remove item) h = rw (values_read item h) refl
+verb_read (verb.IAdd item) h = rw (values_read item h) refl
+verb_read (verb.IMul count) h = rw (values_read count h) refl
+verb_read (verb.Insert index item) h = rw (values_read index h.0, values_read item h.1) refl
+verb_read (verb.Pop None) h = refl
+verb_read (verb.Pop (Some index)) h = rw (values_read index h) refl
+verb_read verb.Clear h = refl
+verb_read verb.Reverse h = refl
+verb_read (verb.Init options) h = rw (options_read options.source options.encoding options.errors h) refl
+verb_read verb.Take h = refl
+verb_read verb.Copy h = refl
 
 do_read : (n : ℕ) (v : Verb) → n < 2 ^ 64 → IsSpelledVerb v →
     command_of_words handle_in (written_words handle_text (command.Do n v)) ≡ Some (command.Do n v)
@@ -198,39 +258,40 @@ do_read n verb.Enter h k = rw (handle_read n h) refl
 do_read n verb.Exit h k = rw (handle_read n h) refl
 do_read n verb.ToContiguous h k = rw (handle_read n h) refl
 do_read n verb.ToList h k = rw (handle_read n h) refl
+do_read n (verb.Del key) h k = rw (handle_read n h, verb_read (verb.Del key) k) refl
+do_read n (verb.Append item) h k = rw (handle_read n h, verb_read (verb.Append item) k) refl
+do_read n (verb.Extend item) h k = rw (handle_read n h, verb_read (verb.Extend item) k) refl
+do_read n (verb.Remove item) h k = rw (handle_read n h, verb_read (verb.Remove item) k) refl
+do_read n (verb.IAdd item) h k = rw (handle_read n h, verb_read (verb.IAdd item) k) refl
+do_read n (verb.IMul count) h k = rw (handle_read n h, verb_read (verb.IMul count) k) refl
+do_read n (verb.Insert index item) h k = rw (handle_read n h, verb_read (verb.Insert index item) k) refl
+do_read n (verb.Pop None) h k = rw (handle_read n h) refl
+do_read n (verb.Pop (Some index)) h k = rw (handle_read n h, verb_read (verb.Pop (Some index)) k) refl
+do_read n verb.Clear h k = rw (handle_read n h) refl
+do_read n verb.Reverse h k = rw (handle_read n h) refl
+do_read n (verb.Init options) h k = rw (handle_read n h, verb_read (verb.Init options) k) refl
+do_read n verb.Take h k = rw (handle_read n h) refl
+do_read n verb.Copy h k = rw (handle_read n h) refl
 
 -- a new exporter
-abbrev made_of : List ℕ → ByteInnerNewOptions
-made_of bytes = record { source = Some (value.One (scalar.Bytes bytes)); encoding = None; errors = None }
-
-new_of_bytes : (k : ExporterKind) (bytes : List ℕ) → IsMade k → IsBytes bytes →
-    new_in (written_kind k ∷ written_source handle_text (made_of bytes).source ∷ []) ≡ Some (command.New k (made_of bytes))
-new_of_bytes k bytes made h = rw (kinds_read.read k made, hex_read bytes h) refl
-
-new_read : (k : ExporterKind) (options : ByteInnerNewOptions) → IsMade k → IsSpelledNew options →
+new_read : (k : ExporterKind) (options : ByteInnerNewOptions) → AreSpelledOptions options →
     command_of_words handle_in (written_words handle_text (command.New k options)) ≡ Some (command.New k options)
 unfolding word_in
-new_read k options made h =
-    let P : ByteInnerNewOptions → Type 0 = λ o. new_in (written_kind k ∷ written_source handle_text o.source ∷ []) ≡ Some (command.New k o) in
-    subst P (sym h.alone) (new_of_bytes k h.bytes made h.are_bytes)
+new_read k options h = rw (kinds_read.read k tt, options_read options.source options.encoding options.errors h) refl
 
 kind_unbroken : (k : ExporterKind) → IsUnbroken (written_kind k)
 kind_unbroken kind.Bytes = refl
 kind_unbroken kind.ByteArray = refl
-kind_unbroken (kind.Vector readonly) = refl
-
-source_unbroken : (options : ByteInnerNewOptions) → IsSpelledNew options → IsUnbroken (written_source handle_text options.source)
-source_unbroken options h =
-    let P : ByteInnerNewOptions → Type 0 = λ o. IsUnbroken (written_source handle_text o.source) in
-    subst P (sym h.alone) (scalar_unbroken (scalar.Bytes h.bytes) h.are_bytes)
+kind_unbroken (kind.Vector false) = refl
+kind_unbroken (kind.Vector true) = refl
 
 pub commands_read : CommandsReadBack
 unfolding command_in
 commands_read (command.New k options) h =
     ap (command_of_words handle_in)
-    (words_of (written_word word.New) (written_kind k ∷ written_source handle_text options.source ∷ [])
-    (refl, (kind_unbroken k, (source_unbroken options h.1, tt))))
-    ∙ new_read k options h.0 h.1
+    (words_of (written_word word.New) (written_kind k ∷ written_options handle_text options)
+    (refl, (kind_unbroken k, options_unbroken options.source options.encoding options.errors h)))
+    ∙ new_read k options h
 commands_read (command.Do n v) h =
     ap (command_of_words handle_in)
     (words_of (written_word (word_of v)) (handle_text n ∷ written_arguments handle_text v)

@@ -10,7 +10,7 @@ use Rattle.pybuf_command.specs.declared.commands.PropertyName.TheVariants as pro
 use Rattle.pybuf_line.specs.declared.words.Word.{Word}
 use Rattle.pybuf_line.specs.declared.words.Word.TheVariants as word
 use Rattle.pybuf_line.specs.Words.{named_in, written_word, every_word, word_in, written_kind, every_kind, kind_in, written_name, every_property, property_in}
-use Rattle.pybuf_line.specs.Laws.{IsAny, IsMade, WordsReadBack, KindsReadBack, PropertiesReadBack}
+use Rattle.pybuf_line.specs.Laws.{IsAny, WordsReadBack, KindsReadBack, PropertiesReadBack}
 
 -- what is found passes the test
 found_by : {A : Type 0} (p : A → Bool) (first : A) (others : Option A) (found : A) (passes : Bool) → p first ≡ passes →
@@ -43,6 +43,19 @@ word_read word.Enter h = refl
 word_read word.Exit h = refl
 word_read word.ToContiguous h = refl
 word_read word.ToList h = refl
+word_read word.Del h = refl
+word_read word.Append h = refl
+word_read word.Extend h = refl
+word_read word.Insert h = refl
+word_read word.Pop h = refl
+word_read word.Remove h = refl
+word_read word.Clear h = refl
+word_read word.Reverse h = refl
+word_read word.IAdd h = refl
+word_read word.IMul h = refl
+word_read word.Init h = refl
+word_read word.Take h = refl
+word_read word.Copy h = refl
 
 word_written : (text : List ℕ) (w : Word) → word_in text ≡ Some w → text ≡ written_word w
 unfolding word_in
@@ -51,10 +64,11 @@ word_written text w h = named_is written_word every_word text w h
 pub words_read : WordsReadBack
 words_read = record { read = word_read; written = word_written }
 
-kind_read : (k : ExporterKind) → IsMade k → kind_in (written_kind k) ≡ Some k
+kind_read : (k : ExporterKind) → IsAny k → kind_in (written_kind k) ≡ Some k
 kind_read kind.Bytes h = refl
 kind_read kind.ByteArray h = refl
-kind_read (kind.Vector readonly) h = absurd h
+kind_read (kind.Vector false) h = refl
+kind_read (kind.Vector true) h = refl
 
 pub kinds_read : KindsReadBack
 kinds_read = record { read = kind_read; written = named_is written_kind every_kind }

@@ -3,7 +3,7 @@ use Rattle.std.specs.Prelude.{ℕ, List, [], ◌∷◌, Option, Some, None}
 use Rattle.std.specs.List.{join_with_byte}
 use Rattle.pybuf_value.specs.Choosing.{◌>>=◌}
 use Rattle.pybuf_value.specs.declared.values.Value.{Value}
-use Rattle.pybuf_value.specs.declared.values.Value.TheVariants as value
+use Rattle.pybuf_bytes.specs.declared.options.ByteInnerNewOptions.{ByteInnerNewOptions}
 use Rattle.pybuf_command.specs.declared.commands.Verb.{Verb}
 use Rattle.pybuf_command.specs.declared.commands.Verb.TheVariants as verb
 use Rattle.pybuf_world.specs.declared.commands.Command.{Command}
@@ -11,8 +11,61 @@ use Rattle.pybuf_world.specs.declared.commands.Command.TheVariants as command
 use Rattle.pybuf_line.specs.declared.words.Word.{Word}
 use Rattle.pybuf_line.specs.declared.words.Word.TheVariants as word
 use Rattle.pybuf_line.specs.Words.{words, word_in, written_word, kind_in, written_kind, property_in, written_name}
-use Rattle.pybuf_line.specs.Scalars.{bytes_in}
 use Rattle.pybuf_line.specs.Spellings.{value_in, written_value}
+
+-- the options of `new` and `init`: up to three values, the source, its encoding and the handler of errors
+abbrev pub options_in : (List ℕ → Option ℕ) → List (List ℕ) → Option ByteInnerNewOptions
+options_in name_in [] = Some (record { source = None; encoding = None; errors = None })
+options_in name_in (source ∷ []) = do
+  s ← value_in name_in source
+  Some (record { source = Some s; encoding = None; errors = None })
+options_in name_in (source ∷ encoding ∷ []) = do
+  s ← value_in name_in source
+  e ← value_in name_in encoding
+  Some (record { source = Some s; encoding = Some e; errors = None })
+options_in name_in (source ∷ encoding ∷ errors ∷ []) = do
+  s ← value_in name_in source
+  e ← value_in name_in encoding
+  h ← value_in name_in errors
+  Some (record { source = Some s; encoding = Some e; errors = Some h })
+options_in name_in _ = None
+
+-- an edit by its word and its arguments
+abbrev pub edit_in : (List ℕ → Option ℕ) → Word → List (List ℕ) → Option Verb
+edit_in name_in word.Del (key ∷ []) = do
+  k ← value_in name_in key
+  Some (verb.Del k)
+edit_in name_in word.Append (item ∷ []) = do
+  v ← value_in name_in item
+  Some (verb.Append v)
+edit_in name_in word.Extend (item ∷ []) = do
+  v ← value_in name_in item
+  Some (verb.Extend v)
+edit_in name_in word.Insert (index ∷ item ∷ []) = do
+  i ← value_in name_in index
+  v ← value_in name_in item
+  Some (verb.Insert i v)
+edit_in name_in word.Pop [] = Some (verb.Pop None)
+edit_in name_in word.Pop (index ∷ []) = do
+  i ← value_in name_in index
+  Some (verb.Pop (Some i))
+edit_in name_in word.Remove (item ∷ []) = do
+  v ← value_in name_in item
+  Some (verb.Remove v)
+edit_in name_in word.Clear [] = Some verb.Clear
+edit_in name_in word.Reverse [] = Some verb.Reverse
+edit_in name_in word.IAdd (item ∷ []) = do
+  v ← value_in name_in item
+  Some (verb.IAdd v)
+edit_in name_in word.IMul (count ∷ []) = do
+  n ← value_in name_in count
+  Some (verb.IMul n)
+edit_in name_in word.Init arguments = do
+  options ← options_in name_in arguments
+  Some (verb.Init options)
+edit_in name_in word.Take [] = Some verb.Take
+edit_in name_in word.Copy [] = Some verb.Copy
+edit_in _ _ _ = None
 
 -- A line `WORD hN ARGS` by its word and its arguments: the place where a new verb goes.
 abbrev pub verb_in : (List ℕ → Option ℕ) → Word → List (List ℕ) → Option Verb
@@ -46,7 +99,7 @@ verb_in name_in word.Enter [] = Some verb.Enter
 verb_in name_in word.Exit [] = Some verb.Exit
 verb_in name_in word.ToContiguous [] = Some verb.ToContiguous
 verb_in name_in word.ToList [] = Some verb.ToList
-verb_in _ _ _ = None
+verb_in name_in w arguments = edit_in name_in w arguments
 
 -- the word that a verb is written with
 abbrev pub word_of : Verb → Word
@@ -64,6 +117,29 @@ word_of verb.Enter = word.Enter
 word_of verb.Exit = word.Exit
 word_of verb.ToContiguous = word.ToContiguous
 word_of verb.ToList = word.ToList
+word_of (verb.Del key) = word.Del
+word_of (verb.Append item) = word.Append
+word_of (verb.Extend item) = word.Extend
+word_of (verb.Insert index item) = word.Insert
+word_of (verb.Pop index) = word.Pop
+word_of (verb.Remove item) = word.Remove
+word_of verb.Clear = word.Clear
+word_of verb.Reverse = word.Reverse
+word_of (verb.IAdd item) = word.IAdd
+word_of (verb.IMul count) = word.IMul
+word_of (verb.Init options) = word.Init
+word_of verb.Take = word.Take
+word_of verb.Copy = word.Copy
+
+-- the values that options are written with, where each comes only after the one before
+abbrev pub written_values : (ℕ → List ℕ) → Option Value → Option Value → Option Value → List (List ℕ)
+written_values name (Some source) None _ = written_value name source ∷ []
+written_values name (Some source) (Some encoding) None = written_value name source ∷ written_value name encoding ∷ []
+written_values name (Some source) (Some encoding) (Some errors) = written_value name source ∷ written_value name encoding ∷ written_value name errors ∷ []
+written_values name None _ _ = []
+
+abbrev pub written_options : (ℕ → List ℕ) → ByteInnerNewOptions → List (List ℕ)
+written_options name options = written_values name options.source options.encoding options.errors
 
 -- the words after the subject that a verb is written with
 abbrev pub written_arguments : (ℕ → List ℕ) → Verb → List (List ℕ)
@@ -73,20 +149,24 @@ written_arguments name (verb.Cast format None) = written_value name format ∷ [
 written_arguments name (verb.Cast format (Some shape)) = written_value name format ∷ written_value name shape ∷ []
 written_arguments name (verb.Range from to) = written_value name from ∷ written_value name to ∷ []
 written_arguments name (verb.Property property) = written_name property ∷ []
+written_arguments name (verb.Del key) = written_value name key ∷ []
+written_arguments name (verb.Append item) = written_value name item ∷ []
+written_arguments name (verb.Extend item) = written_value name item ∷ []
+written_arguments name (verb.Insert index item) = written_value name index ∷ written_value name item ∷ []
+written_arguments name (verb.Pop (Some index)) = written_value name index ∷ []
+written_arguments name (verb.Remove item) = written_value name item ∷ []
+written_arguments name (verb.IAdd item) = written_value name item ∷ []
+written_arguments name (verb.IMul count) = written_value name count ∷ []
+written_arguments name (verb.Init options) = written_options name options
 written_arguments name _ = []
 
--- `new bytes xHEX` and `new bytearray xHEX`
-abbrev pub new_in : List (List ℕ) → Option Command
-new_in (kind ∷ source ∷ []) = do
+-- `new KIND` and the options
+abbrev pub new_in : (List ℕ → Option ℕ) → List (List ℕ) → Option Command
+new_in name_in [] = None
+new_in name_in (kind ∷ arguments) = do
   k ← kind_in kind
-  bytes ← bytes_in source
-  Some (command.New k (record { source = Some (value.One bytes); encoding = None; errors = None }))
-new_in _ = None
-
--- the bytes that `new` is written with
-abbrev pub written_source : (ℕ → List ℕ) → Option Value → List ℕ
-written_source name (Some source) = written_value name source
-written_source name None = []
+  options ← options_in name_in arguments
+  Some (command.New k options)
 
 abbrev pub do_in : (List ℕ → Option ℕ) → Word → List (List ℕ) → Option Command
 do_in name_in w [] = None
@@ -97,7 +177,7 @@ do_in name_in w (subject ∷ arguments) = do
 
 abbrev pub command_by : (List ℕ → Option ℕ) → Option Word → List (List ℕ) → Option Command
 command_by name_in None rest = None
-command_by name_in (Some word.New) rest = new_in rest
+command_by name_in (Some word.New) rest = new_in name_in rest
 command_by name_in (Some w) rest = do_in name_in w rest
 
 abbrev pub command_of_words : (List ℕ → Option ℕ) → List (List ℕ) → Option Command
@@ -110,7 +190,7 @@ command_in name_in line = command_of_words name_in (words line)
 
 -- the words that a command is written with
 abbrev pub written_words : (ℕ → List ℕ) → Command → List (List ℕ)
-written_words name (command.New kind options) = written_word word.New ∷ written_kind kind ∷ written_source name options.source ∷ []
+written_words name (command.New kind options) = written_word word.New ∷ written_kind kind ∷ written_options name options
 written_words name (command.Do handle v) = written_word (word_of v) ∷ name handle ∷ written_arguments name v
 
 -- how a command is written

@@ -6,7 +6,7 @@ use Rattle.pybuf_command.specs.declared.kinds.ExporterKind.{ExporterKind}
 use Rattle.pybuf_command.specs.declared.kinds.ExporterKind.TheVariants as kind
 use Rattle.pybuf_command.specs.declared.commands.Verb.{Verb}
 use Rattle.pybuf_command.specs.declared.commands.Verb.TheVariants as verb
-use Rattle.pybuf_world.specs.declared.commands.ByteInnerNewOptions.{ByteInnerNewOptions}
+use Rattle.pybuf_bytes.specs.declared.options.ByteInnerNewOptions.{ByteInnerNewOptions}
 use Rattle.pybuf_world.specs.declared.commands.Command.{Command}
 use Rattle.pybuf_world.specs.declared.commands.Command.TheVariants as command
 use Rattle.pybuf_world.specs.declared.commands.Reply.{Reply}
@@ -125,19 +125,25 @@ pub record IsRead {A : Type 0} (name : A → List ℕ) (named : List ℕ → Opt
 abbrev pub IsAny : {A : Type 0} → A → Type 0
 IsAny one = Unit {0}
 
--- the kinds of exporters that lines make
-abbrev pub IsMade : ExporterKind → Type 0
-IsMade (kind.Vector readonly) = ⊥
-IsMade _ = Unit {0}
-
 abbrev pub WordsReadBack : Type 0
 WordsReadBack = IsRead written_word word_in IsAny
 
 abbrev pub KindsReadBack : Type 0
-KindsReadBack = IsRead written_kind kind_in IsMade
+KindsReadBack = IsRead written_kind kind_in IsAny
 
 abbrev pub PropertiesReadBack : Type 0
 PropertiesReadBack = IsRead written_name property_in IsAny
+
+-- the options that lines spell: none, a source, a source with its encoding, or all three
+abbrev pub AreSpelledValues : Option Value → Option Value → Option Value → Type 0
+AreSpelledValues None None None = Unit {0}
+AreSpelledValues (Some source) None None = IsSpelledValue source
+AreSpelledValues (Some source) (Some encoding) None = IsSpelledValue source × IsSpelledValue encoding
+AreSpelledValues (Some source) (Some encoding) (Some errors) = IsSpelledValue source × IsSpelledValue encoding × IsSpelledValue errors
+AreSpelledValues _ _ _ = ⊥
+
+abbrev pub AreSpelledOptions : ByteInnerNewOptions → Type 0
+AreSpelledOptions options = AreSpelledValues options.source options.encoding options.errors
 
 -- the verbs that lines spell
 abbrev pub IsSpelledVerb : Verb → Type 0
@@ -146,17 +152,20 @@ IsSpelledVerb (verb.Set key item) = IsSpelledValue key × IsSpelledValue item
 IsSpelledVerb (verb.Cast format None) = IsSpelledValue format
 IsSpelledVerb (verb.Cast format (Some shape)) = IsSpelledValue format × IsSpelledValue shape
 IsSpelledVerb (verb.Range from to) = IsSpelledValue from × IsSpelledValue to
+IsSpelledVerb (verb.Del key) = IsSpelledValue key
+IsSpelledVerb (verb.Append item) = IsSpelledValue item
+IsSpelledVerb (verb.Extend item) = IsSpelledValue item
+IsSpelledVerb (verb.Insert index item) = IsSpelledValue index × IsSpelledValue item
+IsSpelledVerb (verb.Pop (Some index)) = IsSpelledValue index
+IsSpelledVerb (verb.Remove item) = IsSpelledValue item
+IsSpelledVerb (verb.IAdd item) = IsSpelledValue item
+IsSpelledVerb (verb.IMul count) = IsSpelledValue count
+IsSpelledVerb (verb.Init options) = AreSpelledOptions options
 IsSpelledVerb _ = Unit {0}
-
--- the options of `new` that lines spell: bytes, and nothing else
-pub record IsSpelledNew (options : ByteInnerNewOptions) : Type 0 where
-  pub bytes : List ℕ
-  pub are_bytes : IsBytes bytes
-  pub alone : options ≡ record { source = Some (value.One (scalar.Bytes bytes)); encoding = None; errors = None }
 
 -- the commands that lines spell
 abbrev pub IsSpelledCommand : Command → Type 0
-IsSpelledCommand (command.New kind options) = IsMade kind × IsSpelledNew options
+IsSpelledCommand (command.New kind options) = AreSpelledOptions options
 IsSpelledCommand (command.Do handle v) = (handle < 2 ^ 64) × IsSpelledVerb v
 
 -- A command that was written is read back.

@@ -1,6 +1,6 @@
 -- The words of a line, and those that name something: each kind of these is a table, of what is written for each, and of all
 -- of them.
-use Rattle.std.specs.Prelude.{ℕ, List, [], ◌∷◌, codes, Option}
+use Rattle.std.specs.Prelude.{ℕ, true, false, List, [], ◌∷◌, codes, Option}
 use Rattle.std.specs.Str.{bytes_eq}
 use Rattle.std.specs.List.{find}
 use Rattle.pybuf_command.specs.declared.kinds.ExporterKind.{ExporterKind}
@@ -36,23 +36,46 @@ written_word word.Enter = codes "enter"
 written_word word.Exit = codes "exit"
 written_word word.ToContiguous = codes "contig"
 written_word word.ToList = codes "tolist"
+written_word word.Del = codes "del"
+written_word word.Append = codes "append"
+written_word word.Extend = codes "extend"
+written_word word.Insert = codes "insert"
+written_word word.Pop = codes "pop"
+written_word word.Remove = codes "remove"
+written_word word.Clear = codes "clear"
+written_word word.Reverse = codes "reverse"
+written_word word.IAdd = codes "iadd"
+written_word word.IMul = codes "imul"
+written_word word.Init = codes "init"
+written_word word.Take = codes "take"
+written_word word.Copy = codes "copy"
+
+abbrev pub every_edit : List Word
+every_edit =
+    word.Del ∷ word.Append ∷ word.Extend ∷ word.Insert ∷ word.Pop ∷ word.Remove ∷ word.Clear ∷ word.Reverse ∷ word.IAdd
+    ∷ word.IMul ∷ word.Init ∷ word.Take ∷ word.Copy ∷ []
 
 abbrev pub every_word : List Word
 every_word =
     word.New ∷ word.View ∷ word.Get ∷ word.Set ∷ word.ToBytes ∷ word.Release ∷ word.Len ∷ word.Cast ∷ word.Property
-    ∷ word.ToReadonly ∷ word.Range ∷ word.Enter ∷ word.Exit ∷ word.ToContiguous ∷ word.ToList ∷ []
+    ∷ word.ToReadonly ∷ word.Range ∷ word.Enter ∷ word.Exit ∷ word.ToContiguous ∷ word.ToList ∷ every_edit
+
+-- the word of an edit that a text spells
+unfoldable pub edit_word_in : List ℕ → Option Word
+edit_word_in text = named_in written_word every_edit text
 
 unfoldable pub word_in : List ℕ → Option Word
 word_in text = named_in written_word every_word text
 
--- the kinds of exporters that lines make
+-- the kinds of exporters
 abbrev pub written_kind : ExporterKind → List ℕ
 written_kind kind.Bytes = codes "bytes"
 written_kind kind.ByteArray = codes "bytearray"
-written_kind (kind.Vector readonly) = []  -- no line makes one
+written_kind (kind.Vector false) = codes "vector"
+written_kind (kind.Vector true) = codes "rovector"
 
 abbrev pub every_kind : List ExporterKind
-every_kind = kind.Bytes ∷ kind.ByteArray ∷ []
+every_kind = kind.Bytes ∷ kind.ByteArray ∷ kind.Vector false ∷ kind.Vector true ∷ []
 
 abbrev pub kind_in : List ℕ → Option ExporterKind
 kind_in text = named_in written_kind every_kind text

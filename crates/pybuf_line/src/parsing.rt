@@ -1,17 +1,144 @@
 //! The commands that lines spell.
 ghost use Rattle.std.specs.Prelude.{◌≡◌, ◌+◌, ◌≤◌, ◌<◌, ◌^◌, map, vec_items, Ok, Err};
 ghost use Rattle.pybuf_line.specs.Scalars.{handle_in};
-ghost use Rattle.pybuf_line.specs.Commands.{verb_in, new_in, do_in, command_of_words, command_in};
+ghost use Rattle.pybuf_line.specs.Commands.{options_in, edit_in, verb_in, new_in, do_in, command_of_words, command_in};
 ghost use Rattle.pybuf_line.specs.Reading.{Reads};
 
-use crate::scalars::{bytes, handle};
+use crate::scalars::handle;
 use crate::spellings::value;
 use crate::splitting::words_of;
 use crate::unread::Unread;
 use crate::words::{Word, first_word, kind_named, property_named};
-use pybuf_value::Value;
 use pybuf_view::{ByteInnerNewOptions, Command, Verb};
 use std::alloc::Global;
+
+/// The options of `new` and `init`, by up to three words.
+fn options_of(alloc: Global, words: &[&[u8]]) -> Result<ByteInnerNewOptions, Unread>
+    ensures { Reads result (options_in handle_in (map (λ word. word.now) words.now)) }
+{
+    match words {
+        [] => Ok(ByteInnerNewOptions {
+            source: None,
+            encoding: None,
+            errors: None,
+        }),
+        [source] => {
+            let source = Some(value(alloc, source)?);
+            Ok(ByteInnerNewOptions {
+                source,
+                encoding: None,
+                errors: None,
+            })
+        }
+        [source, encoding] => {
+            let source = Some(value(alloc, source)?);
+            let encoding = Some(value(alloc, encoding)?);
+            Ok(ByteInnerNewOptions {
+                source,
+                encoding,
+                errors: None,
+            })
+        }
+        [source, encoding, errors] => {
+            let source = Some(value(alloc, source)?);
+            let encoding = Some(value(alloc, encoding)?);
+            let errors = Some(value(alloc, errors)?);
+            Ok(ByteInnerNewOptions {
+                source,
+                encoding,
+                errors,
+            })
+        }
+        _ => Err(Unread::NoCommand),
+    }
+}
+
+/// The edit of a word with its arguments.
+fn edit_of(alloc: Global, word: Word, arguments: &[&[u8]]) -> Result<Verb, Unread>
+    ensures { Reads result (edit_in handle_in word (map (λ argument. argument.now) arguments.now)) }
+{
+    match word {
+        Word::Del => match arguments {
+            [key] => {
+                let key = value(alloc, key)?;
+                Ok(Verb::Del { key })
+            }
+            _ => Err(Unread::NoCommand),
+        },
+        Word::Append => match arguments {
+            [item] => {
+                let value = value(alloc, item)?;
+                Ok(Verb::Append { value })
+            }
+            _ => Err(Unread::NoCommand),
+        },
+        Word::Extend => match arguments {
+            [item] => {
+                let value = value(alloc, item)?;
+                Ok(Verb::Extend { value })
+            }
+            _ => Err(Unread::NoCommand),
+        },
+        Word::Insert => match arguments {
+            [index, item] => {
+                let index = value(alloc, index)?;
+                let value = value(alloc, item)?;
+                Ok(Verb::Insert { index, value })
+            }
+            _ => Err(Unread::NoCommand),
+        },
+        Word::Pop => match arguments {
+            [] => Ok(Verb::Pop { index: None }),
+            [index] => {
+                let index = Some(value(alloc, index)?);
+                Ok(Verb::Pop { index })
+            }
+            _ => Err(Unread::NoCommand),
+        },
+        Word::Remove => match arguments {
+            [item] => {
+                let value = value(alloc, item)?;
+                Ok(Verb::Remove { value })
+            }
+            _ => Err(Unread::NoCommand),
+        },
+        Word::Clear => match arguments {
+            [] => Ok(Verb::Clear),
+            _ => Err(Unread::NoCommand),
+        },
+        Word::Reverse => match arguments {
+            [] => Ok(Verb::Reverse),
+            _ => Err(Unread::NoCommand),
+        },
+        Word::IAdd => match arguments {
+            [item] => {
+                let value = value(alloc, item)?;
+                Ok(Verb::IAdd { value })
+            }
+            _ => Err(Unread::NoCommand),
+        },
+        Word::IMul => match arguments {
+            [count] => {
+                let count = value(alloc, count)?;
+                Ok(Verb::IMul { count })
+            }
+            _ => Err(Unread::NoCommand),
+        },
+        Word::Init => {
+            let options = options_of(alloc, arguments)?;
+            Ok(Verb::Init { options })
+        }
+        Word::Take => match arguments {
+            [] => Ok(Verb::Take),
+            _ => Err(Unread::NoCommand),
+        },
+        Word::Copy => match arguments {
+            [] => Ok(Verb::Copy),
+            _ => Err(Unread::NoCommand),
+        },
+        _ => Err(Unread::NoCommand),
+    }
+}
 
 /// The verb of a word with its arguments.
 fn verb_of(alloc: Global, word: Word, arguments: &[&[u8]]) -> Result<Verb, Unread>
@@ -97,28 +224,23 @@ fn verb_of(alloc: Global, word: Word, arguments: &[&[u8]]) -> Result<Verb, Unrea
             [] => Ok(Verb::ToList),
             _ => Err(Unread::NoCommand),
         },
-        Word::New => Err(Unread::NoCommand),
+        _ => edit_of(alloc, word, arguments),
     }
 }
 
 /// `new`, by the words after it.
 fn new_of(alloc: Global, rest: &[&[u8]]) -> Result<Command, Unread>
-    ensures { Reads result (new_in (map (λ word. word.now) rest.now)) }
+    ensures { Reads result (new_in handle_in (map (λ word. word.now) rest.now)) }
 {
     match rest {
-        [kind, source] => {
+        [kind, arguments @ ..] => {
             let Some(kind) = kind_named(kind) else {
                 return Err(Unread::NoCommand);
             };
-            let source = bytes(alloc, source)?;
-            let options = ByteInnerNewOptions {
-                source: Some(Value::One(source)),
-                encoding: None,
-                errors: None,
-            };
+            let options = options_of(alloc, arguments)?;
             Ok(Command::New { kind, options })
         }
-        _ => Err(Unread::NoCommand),
+        [] => Err(Unread::NoCommand),
     }
 }
 

@@ -61,18 +61,41 @@ fn replies_are_printed_with_ample_memory(rt: HostRuntime) -> Result<(), Fail> {
     Ok(())
 }
 
+/// How many commands the lines spell. The commands are handed over, so that no test drops them.
+fn count_of(alloc: Global, lines: &[u8]) -> Result<usize, Misread> {
+    match commands_of(alloc, lines) {
+        Ok(commands) => {
+            let count = commands.len();
+            drop(commands);
+            Ok(count)
+        }
+        Err(misread) => Err(misread),
+    }
+}
+
+/// That a line spells a command, or why not.
+fn is_read(alloc: Global, line: &[u8]) -> Result<bool, Unread> {
+    match command(alloc, line) {
+        Ok(command) => {
+            drop(command);
+            Ok(true)
+        }
+        Err(unread) => Err(unread),
+    }
+}
+
 #[test]
 fn lines_are_read_with_ample_memory(rt: HostRuntime) {
     let lines = b"new bytearray x616263\nview h0\ncast h1 'B' [1,3]\nset h2 (0,1) (0:1:1)";
-    let count = commands_of(rt.alloc(), lines).map(|commands| commands.len());
-    assert_eq!(rt; count.ok(), Some(4));
-    let bad = commands_of(rt.alloc(), b"view h0\nview  h0\n").map(|commands| commands.len());
-    assert_eq!(rt; bad.err(), Some(Misread::BadLine(2)));
-    assert!(rt; command(rt.alloc(), b"release h7").is_ok());
+    assert_eq!(rt; count_of(rt.alloc(), lines), Ok(4));
+    let edits = b"new vector 'ab' 'ascii' 'strict'\ninsert h0 -1 7\npop h0\ninit h0 [1,2]";
+    assert_eq!(rt; count_of(rt.alloc(), edits), Ok(4));
     assert_eq!(rt;
-        command(rt.alloc(), b"release").err(),
-        Some(Unread::NoCommand)
+        count_of(rt.alloc(), b"view h0\nview  h0\n"),
+        Err(Misread::BadLine(2))
     );
+    assert_eq!(rt; is_read(rt.alloc(), b"release h7"), Ok(true));
+    assert_eq!(rt; is_read(rt.alloc(), b"release"), Err(Unread::NoCommand));
 }
 
 #[test]

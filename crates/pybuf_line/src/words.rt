@@ -1,7 +1,7 @@
 //! The first words of lines, and the names that stand on them.
 ghost use Rattle.std.specs.Prelude.{◌≡◌};
 ghost use Rattle.std.specs.Str.{bytes_eq};
-ghost use Rattle.pybuf_line.specs.Words.{word_in, kind_in, property_in};
+ghost use Rattle.pybuf_line.specs.Words.{word_in, edit_word_in, kind_in, property_in};
 
 use pybuf_view::{ExporterKind, PropertyName};
 
@@ -23,6 +23,19 @@ pub enum Word {
     Exit,
     ToContiguous,
     ToList,
+    Del,
+    Append,
+    Extend,
+    Insert,
+    Pop,
+    Remove,
+    Clear,
+    Reverse,
+    IAdd,
+    IMul,
+    Init,
+    Take,
+    Copy,
 }
 
 /// Whether a text is a word, byte by byte.
@@ -33,7 +46,7 @@ pub fn is_word(text: &[u8], word: &str) -> bool
 }
 
 /// The first word that a text spells.
-#[tactic(auto, unfolding(crate::specs::Words::word_in))]
+#[tactic(auto, unfolding(crate::specs::Words::word_in, crate::specs::Words::edit_word_in))]
 pub fn first_word(text: &[u8]) -> Option<Word>
     ensures { result ≡ word_in text.now }
 {
@@ -82,6 +95,53 @@ pub fn first_word(text: &[u8]) -> Option<Word>
     if is_word(text, "tolist") {
         return Some(Word::ToList);
     }
+    edit_word(text)
+}
+
+/// The same of the words of edits.
+#[tactic(auto, unfolding(crate::specs::Words::edit_word_in))]
+fn edit_word(text: &[u8]) -> Option<Word>
+    ensures { result ≡ edit_word_in text.now }
+{
+    if is_word(text, "del") {
+        return Some(Word::Del);
+    }
+    if is_word(text, "append") {
+        return Some(Word::Append);
+    }
+    if is_word(text, "extend") {
+        return Some(Word::Extend);
+    }
+    if is_word(text, "insert") {
+        return Some(Word::Insert);
+    }
+    if is_word(text, "pop") {
+        return Some(Word::Pop);
+    }
+    if is_word(text, "remove") {
+        return Some(Word::Remove);
+    }
+    if is_word(text, "clear") {
+        return Some(Word::Clear);
+    }
+    if is_word(text, "reverse") {
+        return Some(Word::Reverse);
+    }
+    if is_word(text, "iadd") {
+        return Some(Word::IAdd);
+    }
+    if is_word(text, "imul") {
+        return Some(Word::IMul);
+    }
+    if is_word(text, "init") {
+        return Some(Word::Init);
+    }
+    if is_word(text, "take") {
+        return Some(Word::Take);
+    }
+    if is_word(text, "copy") {
+        return Some(Word::Copy);
+    }
     None
 }
 
@@ -94,6 +154,12 @@ pub fn kind_named(text: &[u8]) -> Option<ExporterKind>
     }
     if is_word(text, "bytearray") {
         return Some(ExporterKind::ByteArray);
+    }
+    if is_word(text, "vector") {
+        return Some(ExporterKind::Vector { readonly: false });
+    }
+    if is_word(text, "rovector") {
+        return Some(ExporterKind::Vector { readonly: true });
     }
     None
 }

@@ -69,18 +69,14 @@ fn as_many_lines_as_an_input_can_hold(rt: HostRuntime) -> Result<(), Fail> {
     ends(&rt, rt.alloc(), &input, "", 7)
 }
 
-/// A bytearray of as many zeros as there are views of it; then one byte is written through the first
-/// view and read through the last, and the views are counted.
+/// A bytearray of a million zeros and so many views of it; then the last byte is written through the
+/// first view and read through the last.
 fn views(rt: &HostRuntime, count: usize) -> Result<String, Fail> {
-    let mut input = String::from_str(rt.alloc(), "new bytearray x")?;
-    for _ in 0..count {
-        input.push_str("00")?;
-    }
-    input.push('\n')?;
+    let mut input = String::from_str(rt.alloc(), "new bytearray 1000000\n")?;
     for _ in 0..count {
         input.push_str("view h0\n")?;
     }
-    let last = format!(in rt.alloc(); "set h1 -1 7\nget h{count} -1\nprop h0 exports\n")?;
+    let last = format!(in rt.alloc(); "set h1 999999 7\nget h{count} 999999\n")?;
     input.push_str(&last)?;
     Ok(input)
 }
@@ -92,13 +88,13 @@ fn views_written(rt: &HostRuntime, count: usize) -> Result<String, Fail> {
         let line = format!(in rt.alloc(); "h{}\n", at + 1)?;
         output.push_str(&line)?;
     }
-    let last = format!(in rt.alloc(); "ok\n7\n{count}\n")?;
-    output.push_str(&last)?;
+    output.push_str("ok\n7\n")?;
     Ok(output)
 }
 
+/// A view that kept a list of its places would need more memory than there is.
 #[test]
-fn many_views_of_many_bytes(rt: HostRuntime) -> Result<(), Fail> {
+fn many_views(rt: HostRuntime) -> Result<(), Fail> {
     let input = views(&rt, 10_000)?;
     let output = views_written(&rt, 10_000)?;
     ends(&rt, rt.alloc(), &input, &output, 0)

@@ -44,15 +44,18 @@ const NONE: [&str; 35] = [
 ];
 
 /// Lines that are none for another reason than a value.
-const OTHER: [&str; 16] = [
+const OTHER: [&str; 33] = [
     "get h18446744073709551616 0",
     "get h-1 0",
     "get h 0",
     "len h0 1",
     "len",
-    "new bytes",
-    "new bytes 3",
+    "new",
+    "new h0",
+    "new bytes 3 'a' 'b' 4",
+    "new bytes x6",
     "new Bytes x",
+    "new sequence x",
     "range h0 1",
     "range h0 1 2 3",
     "enter h0 0",
@@ -61,6 +64,20 @@ const OTHER: [&str; 16] = [
     "tolist h0 0",
     "cast h0",
     "cast h0 'B' [3] [3]",
+    "del h0",
+    "append h0",
+    "append h0 1 2",
+    "extend h0",
+    "insert h0 1",
+    "pop h0 1 2",
+    "remove h0",
+    "clear h0 0",
+    "reverse h0 0",
+    "iadd",
+    "imul h0",
+    "init h0 1 2 3 4",
+    "take h0 0",
+    "copy",
 ];
 
 fn each_ends(rt: &impl Abort, alloc: Global, lines: &[&str]) -> Result<(), Fail> {
