@@ -52,6 +52,29 @@ def replies(lines):
             elif word == "release":
                 subject.release()
                 yield "ok"
+            elif word == "append":
+                subject.append(value(words[2], objects))
+                yield "ok"
+            elif word == "pop":
+                yield repr(subject.pop(*[value(word, objects) for word in words[2:]]))
+            elif word == "extend":
+                subject.extend(value(words[2], objects))
+                yield "ok"
+            elif word == "del":
+                del subject[value(words[2], objects)]
+                yield "ok"
+            elif word == "insert":
+                subject.insert(value(words[2], objects), value(words[3], objects))
+                yield "ok"
+            elif word == "imul":
+                subject *= value(words[2], objects)
+                yield "ok"
+            elif word == "clear":
+                subject.clear()
+                yield "ok"
+            elif word == "copy":
+                objects.append(subject.copy())
+                yield f"h{len(objects) - 1}"
             elif word == "len":
                 yield repr(len(subject))
             elif word == "cast":

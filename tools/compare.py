@@ -7,6 +7,7 @@
 The replies are those of Python's own objects, but for the differences that `docs/DIFFERENCES.md`
 names, each of which `Ours` has in one place. Nothing of this is a part of the tests.
 """
+import operator
 import pathlib
 import random
 import re
@@ -15,9 +16,11 @@ import sys
 
 sys.dont_write_bytecode = True
 
-from python_objects import NATIVE_CODES, Items, Reply, SlicesAreBytes, row_major
+from python_objects import NATIVE_CODES, Items, Reply, SlicesAreBytes, row_major, value_of
 
 WORD = 2**63
+ABSENT = object()
+EDITS = "append extend iadd insert pop remove clear reverse imul init copy".split()
 
 
 class Ours(SlicesAreBytes):
@@ -27,7 +30,7 @@ class Ours(SlicesAreBytes):
         super().__init__()
         # the strides of each view
         self.strides = {}
-        # the handles of copies of views
+        # the handles of vectors, each of which is a bytearray, or bytes where it is read-only
         self.vectors = set()
 
     def reply(self, line):
@@ -38,23 +41,160 @@ class Ours(SlicesAreBytes):
         return super().reply(line)
 
     def is_unknown(self, words):
-        """A subject or a property of another kind, and a slice of a bytearray that is assigned."""
+        """A subject or a property of another kind."""
         if words[0] == "new":
             return False
         handle = int(words[1][1:])
         if handle >= len(self.objects):
             return True
         is_view, is_vector = handle in self.exporters, handle in self.vectors
+        is_byte_array = not is_view and not is_vector and isinstance(self.objects[handle], bytearray)
+        if words[0] in EDITS:
+            return not is_byte_array
         kinds = {
             "prop": is_view != (words[-1] == "exports"),
             "range": not is_view,
             "get": not is_vector,
-            "set": is_view or not is_vector and isinstance(self.objects[handle], bytearray) and not self.is_slice(words[-2]),
+            "set": is_view or is_byte_array,
+            "del": is_view or is_byte_array,
+            "take": is_vector,
         }
         return not kinds.get(words[0], is_view or words[0] in ("view", "bytes", "len"))
 
-    def is_slice(self, word):
-        return ":" in word and word[0] not in "'(["
+    def answer(self, words):
+        if words[0] != "new":
+            return super().answer(words)
+        content = self.content(*(value_of(word, self) for word in words[2:]))
+        made = self.named(content if words[1] in ("bytes", "rovector") else bytearray(content))
+        if words[1].endswith("vector"):
+            self.vectors.add(len(self.objects) - 1)
+        return made
+
+    def content(self, *options):
+        """The bytes that something new is made of."""
+        source, encoding, errors = (*options, *[ABSENT] * (3 - len(options)))
+        if not all(it is ABSENT or isinstance(it, str) for it in (encoding, errors)):
+            raise TypeError("no text")
+        if encoding is ABSENT:
+            return b"" if source is ABSENT else bytes(source) if isinstance(source, int) else self.read(source)
+        if not isinstance(source, str):
+            raise TypeError("no text")
+        if encoding not in ("utf-8", "utf8", "ascii") or errors not in (ABSENT, "strict"):
+            raise ValueError("another codec")
+        return source.encode(encoding)
+
+    def read(self, value):
+        """The bytes that a value is read as."""
+        if isinstance(value, (int, str)):
+            raise TypeError("no bytes")
+        return value.tobytes() if isinstance(value, (memoryview, Items)) else bytes(value)
+
+    def byte(self, value):
+        return bytes([value])
+
+    def count(self, value):
+        if not -WORD <= operator.index(value) < WORD:
+            raise OverflowError("past a word")
+        return operator.index(value)
+
+    def is_live(self, handle):
+        return any(at == handle and view not in self.released for view, at in self.exporters.items())
+
+    def resizable(self, handle):
+        """What asks for another length is refused here, after its values were looked at."""
+        if self.is_live(handle):
+            raise BufferError("a view is unreleased")
+
+    def do_append(self, handle, subject, value):
+        self.byte(value)
+        self.resizable(handle)
+        return super().do_append(handle, subject, value)
+
+    def do_extend(self, handle, subject, value):
+        if value is subject and not subject:
+            return Reply("ok")
+        content = self.read(value)
+        self.resizable(handle)
+        return super().do_extend(handle, subject, content)
+
+    def do_iadd(self, handle, subject, value):
+        if not isinstance(value, (bytes, bytearray, memoryview, Items)):
+            raise TypeError("no bytes")
+        content = self.read(value)
+        if isinstance(value, (memoryview, Items)) and not self.is_contiguous(self.place_of(value)):
+            raise TypeError("not contiguous")
+        if value is subject:
+            raise BufferError("itself")
+        self.resizable(handle)
+        return super().do_iadd(handle, subject, content)
+
+    def do_insert(self, handle, subject, index, value):
+        self.count(index)
+        self.byte(value)
+        self.resizable(handle)
+        return super().do_insert(handle, subject, index, value)
+
+    def do_pop(self, handle, subject, *index):
+        for it in index:
+            self.count(it)
+        self.resizable(handle)
+        return super().do_pop(handle, subject, *index)
+
+    def do_remove(self, handle, subject, value):
+        self.byte(value)
+        self.resizable(handle)
+        return super().do_remove(handle, subject, value)
+
+    def do_clear(self, handle, subject):
+        self.resizable(handle)
+        return super().do_clear(handle, subject)
+
+    def do_imul(self, handle, subject, count):
+        times = self.count(count)
+        if times == 1 or not subject:
+            return Reply("ok")
+        self.resizable(handle)
+        if len(subject) * times >= WORD:
+            raise OverflowError("too many bytes")
+        return super().do_imul(handle, subject, count)
+
+    def do_init(self, handle, subject, *options):
+        content = self.content(*options)
+        self.resizable(handle)
+        subject[:] = content
+        return Reply("ok")
+
+    def do_copy(self, handle, subject):
+        return self.named(bytearray(subject))
+
+    def do_take(self, handle, subject):
+        self.resizable(handle)
+        self.objects[handle] = type(subject)()
+        return bytes(subject)
+
+    def do_del(self, handle, subject, key):
+        if handle in self.exporters:
+            subject.nbytes
+            raise TypeError("nothing is taken out of a view")
+        if isinstance(key, slice):
+            b""[key]
+        if isinstance(key, slice) or -WORD <= operator.index(key) < WORD:
+            self.resizable(handle)
+        return super().do_del(handle, subject, key)
+
+    def set_slice(self, handle, subject, key, value):
+        """A slice of a bytearray: the same number of bytes is written also while a view is unreleased."""
+        places = range(*key.indices(len(subject)))
+        content = self.read(value)
+        if len(content) != len(places):
+            self.resizable(handle)
+            if places.step != 1:
+                raise ValueError("another number of bytes")
+            subject[key] = content
+            return Reply("ok")
+        for place, byte in zip(places, content):
+            subject[place] = byte
+        return Reply("ok")
 
     def view_made(self, made, of, strides):
         reply = self.named(made, self.exporter_of(of))
@@ -121,6 +261,8 @@ class Ours(SlicesAreBytes):
         return super().do_get(handle, subject, key)
 
     def do_set(self, handle, subject, key, value):
+        if handle not in self.exporters and isinstance(key, slice):
+            return self.set_slice(handle, subject, key, value)
         if handle not in self.exporters:
             return super().do_set(handle, subject, key, value)
         subject.nbytes
@@ -231,7 +373,7 @@ class Ours(SlicesAreBytes):
 NUMBERS = [sign * it + more for it in (0, 1, 2**7, 2**8, 2**15, 2**16, 2**31, 2**32, 2**63, 2**64, 2**126) for sign in (1, -1) for more in (-1, 0, 1)]
 FORMATS = ["4s", "2s", "2H", "BH", "<Bb2x", ">i", "!q", "4p", "2p", "xH", "3xB", "u", "@u", "2u", "<u", "HB", "BHB", "<hH", ">2Hi", "2?", "2c", "8x", "x?", "@cxH", "0HB", "B0H", "B0Q", "0s", "3", "@", "d", "<n", "y", "HB0I", "B2", "<<B", "2B2", "99999999999999999999B", "4611686018427387904H"]
 # how often each is drawn
-VERBS = [verb for verb, often in {"get": 10, "set": 10, "cast": 8, "prop": 4, "bytes": 3, "tolist": 3, "view": 2, "release": 2, "toreadonly": 2, "len": 1, "range": 1, "contig": 1, "enter": 1, "exit": 1}.items() for _ in range(often)]
+VERBS = [verb for verb, often in {"get": 10, "set": 10, "cast": 8, "prop": 4, "bytes": 3, "tolist": 3, "view": 2, "release": 2, "toreadonly": 2, "len": 1, "range": 1, "contig": 1, "enter": 1, "exit": 1, "del": 3, "take": 1, **dict.fromkeys(EDITS, 1)}.items() for _ in range(often)]
 PROPERTIES = "exports obj nbytes readonly itemsize ndim shape strides suboffsets format contiguous c_contiguous f_contiguous".split()
 
 
@@ -349,11 +491,53 @@ class Drawn:
             parts.append(self.scalar())
         return f"[{','.join(parts)}]" if self.draw.random() < 0.8 else f"({','.join(parts)})"
 
+    def source(self):
+        """What is read as bytes, mostly."""
+        size = self.one([0, 1, 2, 4, 8, 8, 12, 16, 16, 24])
+        parts = [str(self.draw.randrange(-1, 257) if self.draw.random() < 0.1 else self.draw.randrange(256)) for _ in range(self.draw.randrange(4))]
+        return self.one([lambda: f"x{self.draw.randbytes(size).hex()}", self.handle, lambda: f"[{','.join(parts)}]", lambda: f"({','.join(parts)})", self.value])()
+
+    def size(self):
+        """A size, of few bytes or of none that there could be."""
+        return str(self.one([0, 1, 2, 5, 16, -1, -(2**63), 2**63, 2**126]))
+
+    def options(self):
+        kind = self.draw.random()
+        if kind < 0.6:
+            return f" x{self.draw.randbytes(self.one([0, 1, 2, 4, 8, 8, 12, 16, 16, 24])).hex()}"
+        text = lambda: self.one(["'ab'", "'utf-8'", "'utf8'", "'ascii'", "'strict'", self.value()])
+        if kind < 0.7:
+            return f" {self.one([text(), text(), self.size()])} {text()}{self.one(['', ' ' + text()])}"
+        if kind < 0.8:
+            return f" {self.size()}"
+        if kind < 0.83:
+            return ""
+        source = self.source()
+        return f" {source}" if not re.fullmatch("-?[0-9]+", source) else f" {self.size()}"
+
+    def edit(self, verb, subject):
+        """The arguments of an edit."""
+        room = 0 if subject is None else len(subject) if not hasattr(subject, "shape") else 1
+        index = lambda: str(self.draw.randrange(-room - 1, room + 2)) if self.draw.random() < 0.9 else self.value()
+        byte = lambda: str(self.draw.randrange(256)) if self.draw.random() < 0.9 else self.value()
+        if verb in ("append", "remove"):
+            return f" {self.draw.choice([*subject]) if verb == 'remove' and isinstance(subject, bytearray) and subject and self.draw.random() < 0.7 else byte()}"
+        if verb in ("extend", "iadd"):
+            return f" {self.source()}" if room < 200 else " x"
+        if verb == "insert":
+            return f" {index()} {byte()}"
+        if verb == "pop":
+            return self.one(["", f" {index()}"])
+        if verb == "imul":
+            # one byte so many times would be fit, and there is no memory for them
+            most = str(2**63 - 1) if room > 1 else "2"
+            return f" {self.one(['1', '2', '3', '0', '-1', 'True', 'None', str(2**63), most]) if room < 100 else 0}"
+        return self.options() if verb == "init" else ""
+
     def line(self):
         kind = self.draw.random()
-        if kind < 0.02 or not self.world.objects:
-            size = self.one([0, 1, 2, 4, 8, 8, 12, 16, 16, 24])
-            return f"new {self.one(['bytes', 'bytearray', 'bytearray'])} x{self.draw.randbytes(size).hex()}"
+        if kind < 0.06 or not self.world.objects:
+            return f"new {self.one(['bytes', 'bytearray', 'bytearray', 'bytearray', 'vector', 'rovector'])}{self.options()}"
         verb = self.one(VERBS)
         if verb in ("release", "exit") and self.draw.random() < 0.7 or kind < 0.05:
             verb = "view"
@@ -368,6 +552,10 @@ class Drawn:
                 return f"set {handle} {self.assigned(subject)}"
             key = self.place(subject) if self.draw.random() < 0.9 else self.value()
             return f"set {handle} {key} {self.content(subject) if self.draw.random() < 0.8 else self.value()}"
+        if verb == "del":
+            return f"del {handle} {self.one([lambda: self.place(subject), self.slice, self.value])()}"
+        if verb in EDITS:
+            return f"{verb} {handle}{self.edit(verb, subject)}"
         if verb == "cast":
             text = self.format()
             if self.draw.random() < 0.4:

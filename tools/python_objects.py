@@ -24,6 +24,10 @@ CONTIGUOUS.argtypes = [ctypes.py_object, ctypes.c_int, ctypes.c_char]
 TO_READ = 0x100
 
 
+# What Python refuses with.
+FAULTS = (IndexError, LookupError, ValueError, TypeError, BufferError, OverflowError, NotImplementedError, AttributeError, MemoryError)
+
+
 class NoCommand(Exception):
     """The line is no command."""
 
@@ -189,14 +193,14 @@ class World:
             return "! StructError"
         except NoName:
             return "! NameError"
-        except (IndexError, ValueError, TypeError, BufferError, OverflowError, NotImplementedError, AttributeError) as fault:
-            return f"! {type(fault).__name__}"
+        except FAULTS as fault:
+            # by the class that others stand under: a `UnicodeEncodeError` is a `ValueError`
+            return f"! {next(kind for kind in FAULTS if isinstance(fault, kind)).__name__}"
 
     def answer(self, words):
         if words[0] == "new":
-            (kind, source) = words[1:]
-            make = {"bytes": bytes, "bytearray": bytearray}[kind]
-            return self.named(make(value_of(source, self)))
+            make = {"bytes": bytes, "bytearray": bytearray}[words[1]]
+            return self.named(make(*(readable(value_of(word, self)) for word in words[2:])))
         handle = handle_of(words[1])
         subject = self.object(handle)
         arguments = words[2:]
@@ -269,6 +273,60 @@ class World:
         subject[key] = value
         return Reply("ok")
 
+    def do_del(self, handle, subject, key):
+        del subject[key]
+        return Reply("ok")
+
+    def do_append(self, handle, subject, value):
+        subject.append(value)
+        return Reply("ok")
+
+    def do_extend(self, handle, subject, value):
+        subject.extend(readable(value))
+        return Reply("ok")
+
+    def do_insert(self, handle, subject, index, value):
+        subject.insert(index, value)
+        return Reply("ok")
+
+    def do_pop(self, handle, subject, *index):
+        return subject.pop(*index)
+
+    def do_remove(self, handle, subject, value):
+        subject.remove(value)
+        return Reply("ok")
+
+    def do_clear(self, handle, subject):
+        subject.clear()
+        return Reply("ok")
+
+    def do_reverse(self, handle, subject):
+        subject.reverse()
+        return Reply("ok")
+
+    def do_iadd(self, handle, subject, value):
+        self.in_place(handle, subject, operator.iadd, readable(value))
+        return Reply("ok")
+
+    def do_imul(self, handle, subject, count):
+        self.in_place(handle, subject, operator.imul, count)
+        return Reply("ok")
+
+    def in_place(self, handle, subject, change, value):
+        """An operator that changes a bytearray, and would make another object of `bytes`."""
+        if not isinstance(subject, bytearray):
+            raise AttributeError(change)
+        assert change(subject, value) is subject
+
+    def do_init(self, handle, subject, *options):
+        if not isinstance(subject, bytearray):
+            raise AttributeError("__init__")
+        subject.__init__(*(readable(option) for option in options))
+        return Reply("ok")
+
+    def do_copy(self, handle, subject):
+        return self.named(subject.copy())
+
     def do_len(self, handle, subject):
         return len(subject)
 
@@ -326,6 +384,11 @@ class SlicesAreBytes(World):
     def do_get(self, handle, subject, key):
         found = super().do_get(handle, subject, key)
         return bytes(found) if isinstance(found, bytearray) else found
+
+
+def readable(value):
+    """An argument that is read as bytes: items of other formats by the bytes that they are."""
+    return value.tobytes() if isinstance(value, Items) else value
 
 
 class Reply(str):

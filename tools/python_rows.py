@@ -1806,6 +1806,509 @@ def assigned(draw, step, others):
     return Case(f"slices of {'other bytes' if others else 'the same bytes'} assigned to one of step {step}", "\n".join(lines)), replies
 
 
+# New exporters, and the edits of a bytearray.
+PYTHON += [
+    Case(
+        "new bytes and bytearrays of a size, of parts and of others' bytes",
+        """
+new bytes
+new bytearray
+new bytes 3
+new bytearray 2
+new bytes True
+new bytearray False
+new bytes [1,2,255]
+new bytearray (97,True,0)
+new bytes []
+new bytearray x6162
+new bytes h9
+new bytearray h8
+view h11
+new bytearray h12
+get h12 None:None:-1
+new bytes h14
+view h10
+cast h16 'B' [2,1]
+new bytes h17
+new bytearray h10
+bytes h0
+bytes h1
+bytes h2
+bytes h3
+bytes h4
+bytes h5
+bytes h6
+bytes h7
+bytes h8
+bytes h9
+bytes h10
+bytes h11
+bytes h13
+bytes h15
+bytes h18
+bytes h19
+prop h11 exports
+prop h10 exports
+""",
+    ),
+    Case(
+        "new bytes of texts by their encoding",
+        """
+new bytes 'ab' 'utf-8'
+new bytearray 'ab' 'utf8'
+new bytes 'ab' 'ascii'
+new bytes 'ab' 'ascii' 'strict'
+bytes h0
+bytes h1
+bytes h2
+bytes h3
+""",
+    ),
+    Case(
+        "what no bytes are made of",
+        """
+new bytes -1
+new bytes 9223372036854775808
+new bytearray -170141183460469231731687303715884105728
+new bytes [256]
+new bytes [-1,'a']
+new bytes ['a',256]
+new bytes [97,None]
+new bytes (x61)
+new bytes 'ab'
+new bytes None
+new bytearray ...
+new bytes 0:1:1
+new bytes 'ab' 5
+new bytes 'ab' None
+new bytes 5 'utf-8'
+new bytes x6162 'utf-8'
+new bytes [1] 'ascii'
+new bytes 'ab' 'utf-8' 5
+new bytes 'ab' 'utf-8' None
+new bytes 3 'utf-8' 'strict'
+new bytearray x61
+view h0
+release h1
+new bytes h1
+new bytearray h1
+new bytes [h0]
+new bytes h0 'utf-8'
+new bytearray x62
+bytes h2
+""",
+    ),
+    Case(
+        "a new exporter is of the source as it was, and shares nothing with it",
+        """
+new bytearray x616263
+new bytearray h0
+set h0 0 90
+bytes h1
+view h0
+new bytes h2
+set h2 1 90
+bytes h3
+append h1 100
+bytes h1
+bytes h0
+""",
+    ),
+    Case(
+        "bytes are added at the end",
+        """
+new bytearray x6162
+append h0 99
+append h0 True
+append h0 256
+append h0 -1
+append h0 None
+append h0 'a'
+append h0 x61
+append h0 [1]
+extend h0 x6465
+extend h0 [102,False]
+extend h0 (103)
+extend h0 h0
+extend h0 [1,256]
+extend h0 [1,None]
+extend h0 5
+extend h0 None
+new bytes x7879
+extend h0 h1
+iadd h0 h1
+iadd h0 x7a
+iadd h0 5
+iadd h0 'a'
+iadd h0 None
+iadd h0 [1]
+bytes h0
+len h0
+""",
+    ),
+    Case(
+        "bytes of views are added, as they were",
+        """
+new bytearray x61626364
+view h0
+get h1 None:None:-1
+new bytearray x78
+extend h3 h1
+iadd h3 h1
+iadd h3 h2
+bytes h3
+cast h1 'H'
+iadd h3 h4
+bytes h3
+cast h1 'B' [2,2]
+extend h3 h5
+iadd h3 h5
+set h3 0:0:1 h2
+bytes h3
+bytes h0
+""",
+    ),
+    Case(
+        "a byte is put before the nearest place to an index",
+        """
+new bytearray x6162
+insert h0 0 48
+insert h0 -1 49
+insert h0 2 50
+insert h0 100 51
+insert h0 -100 52
+insert h0 9223372036854775807 53
+insert h0 -9223372036854775808 54
+insert h0 9223372036854775808 55
+insert h0 0 256
+insert h0 'a' 1
+insert h0 None 1
+insert h0 0 None
+insert h0 True False
+bytes h0
+""",
+    ),
+    Case(
+        "bytes are taken out one by one",
+        """
+new bytearray x616263616263
+pop h0
+pop h0 0
+pop h0 -2
+pop h0 3
+pop h0 -4
+pop h0 True
+pop h0 9223372036854775807
+pop h0 'a'
+pop h0 None
+pop h0 9223372036854775808
+bytes h0
+remove h0 98
+remove h0 120
+remove h0 256
+remove h0 None
+remove h0 97
+bytes h0
+pop h0
+pop h0 0
+remove h0 0
+new bytearray x61626162
+remove h1 98
+remove h1 98
+remove h1 98
+bytes h1
+""",
+    ),
+    Case(
+        "all bytes are taken out, turned round and repeated",
+        """
+new bytearray x616263
+reverse h0
+bytes h0
+imul h0 2
+bytes h0
+imul h0 1
+imul h0 True
+imul h0 0
+bytes h0
+imul h0 5
+bytes h0
+new bytearray x6162
+imul h1 3
+imul h1 -1
+bytes h1
+new bytearray x6162
+clear h2
+bytes h2
+clear h2
+reverse h2
+imul h2 9223372036854775807
+new bytearray x6162
+imul h3 9223372036854775808
+imul h3 'a'
+imul h3 None
+bytes h3
+reverse h3
+bytes h3
+""",
+    ),
+    Case(
+        "bytes are taken out by an index and by slices",
+        """
+new bytearray x00010203040506070809
+del h0 0
+del h0 -1
+del h0 8
+del h0 -9
+del h0 9223372036854775808
+del h0 'a'
+del h0 None
+del h0 (0)
+bytes h0
+del h0 1:3:1
+bytes h0
+del h0 None:None:2
+bytes h0
+del h0 5:1:1
+del h0 0:1:0
+del h0 x61:1:1
+bytes h0
+del h0 None:None:-1
+bytes h0
+new bytearray x00010203040506070809
+del h1 None:None:-3
+bytes h1
+del h1 4:None:-2
+bytes h1
+del h1 -1:-100:-9223372036854775808
+bytes h1
+""",
+    ),
+    Case(
+        "bytes take the place of those of a slice",
+        """
+new bytearray x616263646566
+set h0 1:3:None x58595a
+bytes h0
+set h0 None:None:None x
+bytes h0
+set h0 5:9:1 [1,2]
+bytes h0
+set h0 1:1:1 x6162
+bytes h0
+set h0 None:None:2 x5758
+bytes h0
+set h0 None:None:2 x57
+set h0 None:None:-1 x30313233
+bytes h0
+set h0 3:1:1 x39
+bytes h0
+set h0 4:0:-2 (65,66)
+bytes h0
+set h0 0:1:0 x
+set h0 x61:1:1 x
+set h0 0:1:1 'a'
+set h0 0:1:1 [256]
+set h0 0:1:1 [None]
+set h0 0:2:1 h0
+bytes h0
+new bytes x7a7a
+set h0 -1:None:1 h1
+bytes h0
+view h1
+set h0 0:0:1 h2
+bytes h0
+""",
+    ),
+    Case(
+        "a slice that gets as many bytes as it picks, while a view is unreleased",
+        """
+new bytearray x616263646566
+view h0
+get h1 None:None:-1
+set h0 0:3:1 x585959
+bytes h1
+set h0 None:None:-2 x313233
+bytes h0
+bytes h2
+set h0 0:3:1 x58
+set h0 0:3:1 x
+set h0 0:3:1 x5859595a
+bytes h0
+set h0 0:3:1 h2
+set h0 0:6:1 h2
+bytes h0
+set h0 2:2:1 x
+set h0 4:2:1 x
+reverse h0
+bytes h0
+release h1
+release h2
+set h0 0:3:1 x58
+bytes h0
+""",
+    ),
+    Case(
+        "no edit that asks for another length is done while a view is unreleased",
+        """
+new bytearray x616263
+view h0
+append h0 100
+extend h0 x64
+extend h0 h0
+extend h0 [1]
+insert h0 0 100
+pop h0
+pop h0 0
+remove h0 97
+clear h0
+del h0 0
+del h0 0:1:1
+del h0 None:None:2
+iadd h0 x64
+imul h0 2
+imul h0 0
+imul h0 1
+init h0 x64
+init h0 5
+reverse h0
+bytes h0
+view h1
+release h1
+append h0 100
+bytes h0
+release h2
+append h0 100
+extend h0 h0
+insert h0 0 1
+pop h0
+remove h0 98
+del h0 0
+del h0 None:None:2
+iadd h0 x6465
+imul h0 2
+bytes h0
+init h0 x64
+bytes h0
+clear h0
+bytes h0
+""",
+    ),
+    Case(
+        "an edit is refused for its values before the views are looked at",
+        """
+new bytearray x616263
+view h0
+append h0 256
+append h0 None
+extend h0 [256]
+extend h0 5
+insert h0 'a' 1
+insert h0 0 256
+insert h0 9223372036854775808 1
+pop h0 'a'
+remove h0 256
+iadd h0 5
+imul h0 'a'
+imul h0 9223372036854775808
+del h0 'a'
+del h0 0:1:0
+set h0 0:1:0 x
+set h0 0:2:1 [256]
+set h0 0:2:1 None
+bytes h0
+""",
+    ),
+    Case(
+        "a bytearray is made anew of every source",
+        """
+new bytearray x616263
+init h0 2
+bytes h0
+init h0
+bytes h0
+init h0 'ab' 'ascii'
+bytes h0
+init h0 [1,2,3]
+bytes h0
+new bytes x787a
+init h0 h1
+bytes h0
+view h1
+get h2 None:None:-1
+init h0 h3
+bytes h0
+""",
+    ),
+    Case(
+        "a copy of a bytearray is one of its own",
+        """
+new bytearray x616263
+view h0
+copy h0
+append h2 100
+bytes h2
+bytes h0
+view h2
+copy h2
+set h3 0 90
+bytes h2
+bytes h4
+prop h4 exports
+prop h2 exports
+new bytearray x
+copy h5
+bytes h6
+""",
+    ),
+    Case(
+        "nothing is taken out of a view",
+        """
+new bytearray x616263
+view h0
+del h1 0
+del h1 'a'
+del h1 0:1:1
+del h1 None
+bytes h1
+release h1
+del h1 0
+""",
+    ),
+]
+
+
+def drawn_edits(draw):
+    """Edits of a bytearray by drawn values, live and not."""
+    lines = ["new bytearray x000102030405", "new bytes x6162"]
+    part = lambda: draw.one_of(["None", str(draw.below(19) - 9)])
+    sliced = lambda: f"{part()}:{part()}:{draw.one_of(['None', '1', '2', '-1', '-2', '3', '-3'])}"
+    source = lambda: draw.one_of(["x", "x61", "x6263", "x646566", "h1", "[1,2]", "(3)"])
+    for turn in range(90):
+        lines.append(
+            draw.one_of(
+                [
+                    f"append h0 {draw.below(258) - 1}",
+                    f"extend h0 {source()}",
+                    f"iadd h0 {draw.one_of(['x', 'x61', 'x6263', 'h1'])}",
+                    f"insert h0 {draw.below(19) - 9} {draw.below(256)}",
+                    f"pop h0 {draw.below(4)}",
+                    f"del h0 {sliced()}",
+                    # nothing is assigned to a slice with a step: that is a difference
+                    f"set h0 {part()}:{part()}:1 {source()}",
+                    f"set h0 {sliced()} {draw.one_of(['x61', 'x6263', 'x646566', 'h1'])}",
+                    f"imul h0 {1 + draw.below(2)}",
+                    "reverse h0",
+                ]
+            )
+        )
+        lines.append("bytes h0")
+        if turn % 9 == 8:
+            lines.append("del h0 6:None:None")
+    return "\n".join(lines)
+
+
+PYTHON += [Case(f"edits of a bytearray, drawn ({seed})", drawn_edits(Draw(seed))) for seed in (12, 13, 14, 15)]
 PYTHON += [Case(f"slices of slices of a view, drawn ({seed})", drawn_slices(Draw(seed))) for seed in (1, 2, 3, 4)]
 PYTHON += [Case(f"items read and written, drawn ({seed})", drawn_writes(Draw(seed))) for seed in (5, 6, 7)]
 PYTHON += [Case(f"items of several dimensions, drawn ({seed})", drawn_shapes(Draw(seed))) for seed in (8, 9, 10, 11)]
@@ -2271,15 +2774,184 @@ prop h0 exports                     0
 """,
     ),
     Case(
-        "a slice of a bytearray is not assigned yet",
+        "an edit that changes nothing asks for another length, where Python looks at the numbers of bytes",
+        """
+new bytearray x                     h0
+view h0                             h1
+clear h0                            ! BufferError   !
+extend h0 x                         ! BufferError   !
+extend h0 []                        ! BufferError   !
+iadd h0 x                           ! BufferError   !
+init h0                             ! BufferError   !
+init h0 x                           ! BufferError   !
+del h0 None:None:1                  ! BufferError   !
+del h0 0:0:1                        ! BufferError   !
+extend h0 h0                        ok
+imul h0 5                           ok
+set h0 0:0:1 x                      ok
+bytes h0                            b''
+release h1                          ok
+clear h0                            ok
+extend h0 x                         ok
+del h0 None:None:1                  ok
+bytes h0                            b''
+""",
+    ),
+    Case(
+        "that a view is unreleased comes before what is not there",
         """
 new bytearray x616263               h0
-set h0 0:1:1 x41                    ! UnknownName   !
-set h0 0:1:0 x41                    ! UnknownName   !
-set h0 None:None:None 5             ! UnknownName   !
 view h0                             h1
-set h1 0:1:1 x41                    ok
-bytes h0                            b'Abc'
+pop h0 5                            ! BufferError   !
+pop h0 -4                           ! BufferError   !
+remove h0 120                       ! BufferError   !
+del h0 9                            ! BufferError   !
+del h0 -4                           ! BufferError   !
+set h0 None:None:2 x61              ! BufferError   !
+imul h0 9223372036854775807         ! BufferError   !
+release h1                          ok
+pop h0 5                            ! IndexError
+remove h0 120                       ! ValueError
+del h0 9                            ! IndexError
+set h0 None:None:2 x61              ! ValueError
+bytes h0                            b'abc'
+""",
+    ),
+    Case(
+        "an extended slice that picks nothing takes nothing",
+        """
+new bytearray x                     h0
+view h0                             h1
+set h0 0:0:2 x                      ok              !
+set h0 0:0:2 x61                    ! BufferError   !
+release h1                          ok
+set h0 0:0:2 x                      ok
+set h0 0:0:2 x61                    ! ValueError
+bytes h0                            b''
+""",
+    ),
+    Case(
+        "an extended slice that picks some is not assigned nothing",
+        """
+new bytearray x6162636465           h0
+set h0 None:None:2 x                ! ValueError    !
+set h0 None:None:-1 []              ! ValueError    !
+bytes h0                            b'abcde'        !
+set h0 1:3:1 x                      ok
+""",
+    ),
+    Case(
+        "the options are looked at before the views, and a refusal keeps the bytes",
+        """
+new bytearray x616263               h0
+view h0                             h1
+init h0 'a'                         ! TypeError     !
+init h0 [256]                       ! ValueError    !
+init h0 -1                          ! ValueError    !
+init h0 h0                          ! BufferError
+bytes h0                            b'abc'
+release h1                          ok
+init h0 [1,256]                     ! ValueError
+bytes h0                            b'abc'          !
+init h0 'a'                         ! TypeError
+init h0 None                        ! TypeError
+init h0 5 'utf-8'                   ! TypeError
+init h0 -1                          ! ValueError
+init h0 9223372036854775808         ! OverflowError
+bytes h0                            b'abc'          !
+init h0 h0                          ok
+bytes h0                            b'abc'          !
+""",
+    ),
+    Case(
+        "a bytearray is never added to itself",
+        """
+new bytearray x                     h0
+iadd h0 h0                          ! BufferError   !
+append h0 97                        ok
+iadd h0 h0                          ! BufferError
+extend h0 h0                        ok
+bytes h0                            b'aa'
+""",
+    ),
+    Case(
+        "more than isize::MAX bytes are refused by their number",
+        """
+new bytearray x6162                 h0
+imul h0 9223372036854775807         ! OverflowError   !
+imul h0 4611686018427387904         ! OverflowError   !
+imul h0 1                           ok
+bytes h0                            b'ab'
+""",
+    ),
+    Case(
+        "codecs are utf-8, utf8 and ascii, and strict the one handler of errors",
+        """
+new bytes 'ab' 'ascii' 'strict'     h0
+new bytes 'ab' 'latin-1'            ! ValueError    !
+new bytes 'ab' 'UTF-8'              ! ValueError    !
+new bytes 'ab' 'klingon'            ! ValueError    !
+new bytes 'ab' 'utf-8' 'nonsense'   ! ValueError    !
+new bytearray 'ab' 'utf-8' 'replace'   ! ValueError   !
+""",
+    ),
+    Case(
+        "bytes are added of views whose items do not lie together, and a released one is a wrong value",
+        """
+new bytes x616263                   h0
+view h0                             h1
+get h1 None:None:-1                 h2
+new bytearray x78                   h3
+extend h3 h2                        ok              !
+iadd h3 h2                          ! TypeError
+bytes h3                            b'xcba'         !
+release h2                          ok
+extend h3 h2                        ! ValueError    !
+iadd h3 h2                          ! ValueError    !
+set h3 0:1:1 h2                     ! ValueError
+init h3 h2                          ! ValueError
+""",
+    ),
+    Case(
+        "edits are of bytearrays alone",
+        """
+new bytes x616263                   h0
+view h0                             h1
+append h0 1                         ! UnknownName   !
+extend h0 x                         ! UnknownName   !
+insert h0 0 1                       ! UnknownName   !
+pop h0                              ! UnknownName   !
+remove h0 97                        ! UnknownName   !
+clear h0                            ! UnknownName   !
+reverse h0                          ! UnknownName   !
+iadd h0 x                           ! UnknownName   !
+imul h0 1                           ! UnknownName   !
+init h0                             ! UnknownName   !
+copy h0                             ! UnknownName   !
+del h0 0                            ! UnknownName   !
+del h0 'a'                          ! UnknownName   !
+set h0 0:1:1 x61                    ! UnknownName   !
+append h1 1                         ! UnknownName   !
+pop h1                              ! UnknownName   !
+reverse h1                          ! UnknownName   !
+copy h1                             ! UnknownName   !
+append h9 1                         ! UnknownName   !
+init h9                             ! UnknownName   !
+del h9 0                            ! UnknownName   !
+del h1 h9                           ! UnknownName   !
+new bytearray x61                   h2
+append h2 h9                        ! UnknownName   !
+extend h2 h9                        ! UnknownName   !
+extend h2 [256,h9]                  ! UnknownName   !
+insert h2 'a' h9                    ! UnknownName   !
+init h2 h9                          ! UnknownName   !
+init h2 'a' h9                      ! UnknownName   !
+pop h2 h9                           ! UnknownName   !
+new bytes h9                        ! UnknownName   !
+new bytes [256,h9]                  ! UnknownName   !
+new bytearray 'a' 5 h9              ! UnknownName   !
+append h2 h0                        ! TypeError
+bytes h2                            b'a'
 """,
     ),
     Case(
