@@ -25,7 +25,7 @@ use Rattle.pybuf_state.specs.Answers.{Answers}
 use Rattle.pybuf_state.specs.Exporter.{Exporter}
 use Rattle.pybuf_state.specs.Loans.{loan_of_snap, are_known, lent_as, lent_for_each, subject_in, snap_in}
 use Rattle.pybuf_rows_writes.specs.Assign.{assign_target, source_of, lent_source, assigned, assign_beside, assign_of_view}
-use Rattle.pybuf_exporter.specs.Step.{slice_source, row, answer_of}
+use Rattle.pybuf_exporter.specs.Step.{source_in_place, row, answer_of}
 
 first_source : (e : Exporter) (h : ℕ) (o : Option Snap) → lent_source (lent_as h (subject_in (Some (loan_of_snap o))) (snap_in e (Some (loan_of_snap o))) ++ []) ≡ source_of o
 first_source e h None = refl
@@ -42,20 +42,20 @@ by_handle e k g h slice o loans same =
     ap (λ (source : Result Snap Fault). assign_target e k slice (value.One (scalar.Handle g)) >>= λ (target : Layout). (source >>= assigned e target))
     (sym (ap (λ (x : ℕ). lent_source (lent_for_each e ((x, loan_of_snap o) ∷ loans) (g ∷ []))) same ∙ lent_first e g o loans))
 
-same_handle : (s : Subject) (g h : ℕ) (slice : PySlice) (k : ℕ) → slice_source (subject.View k) (verb.Set (value.Slice slice) (value.One (scalar.Handle g))) ≡ Some h → h ≡ g
+same_handle : (s : Subject) (g h : ℕ) (slice : PySlice) (k : ℕ) → source_in_place (subject.View k) (verb.Set (value.Slice slice) (value.One (scalar.Handle g))) ≡ Some h → h ≡ g
 same_handle s g h slice k is = cc
 
-by_value : (e : Exporter) (k h : ℕ) (slice : PySlice) (x : Value) (o : Option Snap) (loans : List (ℕ × Loan)) → slice_source (subject.View k) (verb.Set (value.Slice slice) x) ≡ Some h
+by_value : (e : Exporter) (k h : ℕ) (slice : PySlice) (x : Value) (o : Option Snap) (loans : List (ℕ × Loan)) → source_in_place (subject.View k) (verb.Set (value.Slice slice) x) ≡ Some h
     → assign_beside e k slice x o ≡ row e (subject.View k) (verb.Set (value.Slice slice) x) (lent_for_each e ((h, loan_of_snap o) ∷ loans) (handles_read (subject.View k) (verb.Set (value.Slice slice) x)))
 by_value e k h slice (value.One (scalar.Handle g)) o loans is = by_handle e k g h slice o loans (same_handle (subject.View k) g h slice k is)
 by_value e k h slice x o loans is = absurd (cc)
 
 pub row_answers : (e : Exporter) (s : Subject) (v : Verb) (k h : ℕ) (slice : PySlice) (x : Value) (o : Option Snap) (loans : List (ℕ × Loan)) (r : Result LocalReply Halt) (new : Exporter)
-    → s ≡ subject.View k → v ≡ verb.Set (value.Slice slice) x → slice_source s v ≡ Some h → Answers (assign_beside e k slice x o) e r new
+    → s ≡ subject.View k → v ≡ verb.Set (value.Slice slice) x → source_in_place s v ≡ Some h → Answers (assign_beside e k slice x o) e r new
     → Answers (row e s v (lent_for_each e ((h, loan_of_snap o) ∷ loans) (handles_read s v))) e r new
 row_answers e s v k h slice x o loans r new is_view is_set source answers =
-    let told : slice_source (subject.View k) (verb.Set (value.Slice slice) x) ≡ Some h =
-    subst (λ (y : Verb). slice_source (subject.View k) y ≡ Some h) is_set (subst (λ (y : Subject). slice_source y v ≡ Some h) is_view source) in
+    let told : source_in_place (subject.View k) (verb.Set (value.Slice slice) x) ≡ Some h =
+    subst (λ (y : Verb). source_in_place (subject.View k) y ≡ Some h) is_set (subst (λ (y : Subject). source_in_place y v ≡ Some h) is_view source) in
     subst (λ (y : Subject). Answers (row e y v (lent_for_each e ((h, loan_of_snap o) ∷ loans) (handles_read y v))) e r new) (sym is_view)
     (subst (λ (y : Verb). Answers (row e (subject.View k) y (lent_for_each e ((h, loan_of_snap o) ∷ loans) (handles_read (subject.View k) y))) e r new) (sym is_set)
     (subst (λ (answer : Result (Exporter × LocalReply) Fault). Answers answer e r new) (by_value e k h slice x o loans told) answers))

@@ -48,11 +48,11 @@ abbrev pub set_in_own : Exporter → Value → Value → List Lent → Result (E
 set_in_own e (value.Slice slice) v lents = edit_of_own e (verb.Set (value.Slice slice) v) lents
 set_in_own e key v lents = set_of_own e key v
 
--- The handle that a command copies items from: the value that a view is written by a slice. Its bytes
--- are read where they lie.
-abbrev pub slice_source : Subject → Verb → Option ℕ
-slice_source (subject.View k) (verb.Set (value.Slice slice) (value.One (scalar.Handle h))) = Some h
-slice_source s v = None
+-- The handle whose bytes a command reads where they lie, also those of another exporter: the value that a
+-- view is written by a slice.
+abbrev pub source_in_place : Subject → Verb → Option ℕ
+source_in_place (subject.View k) (verb.Set (value.Slice slice) (value.One (scalar.Handle h))) = Some h
+source_in_place s v = None
 
 -- The row of a verb on the exporter itself. Every further verb is an edit, or none that an exporter has.
 abbrev pub row_of_own : Exporter → Verb → List Lent → Result (Exporter × LocalReply) Fault

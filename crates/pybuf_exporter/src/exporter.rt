@@ -50,7 +50,7 @@ impl ExporterState {
     ghost use Rattle.pybuf_desc.specs.Places.{Stands};
     ghost use Rattle.pybuf_desc.specs.Valid.{IsValid};
     ghost use Rattle.pybuf_state.specs.Exporter.{new_exporter};
-    ghost use Rattle.pybuf_exporter.specs.Step.{estep, slice_source};
+    ghost use Rattle.pybuf_exporter.specs.Step.{estep, source_in_place};
     ghost use Rattle.pybuf_state.specs.Loans.{loan_of_snap};
     ghost use Rattle.pybuf_command.specs.Fits.{LoansFit, fits_snap};
     ghost use Rattle.pybuf_state.specs.Snaps.{snap_of_subject};
@@ -114,9 +114,8 @@ impl ExporterState {
         Ok(ExporterState { parts })
     }
 
-    /// The same of a command that copies items from a handle over those of a slice of a view, where
-    /// another exporter or a view of it is lent for this handle as it is: its bytes are copied from
-    /// where they lie. For this handle no loan is looked at.
+    /// The same of a command that reads the bytes of a handle where they lie, where another exporter or
+    /// a view of it is lent for this handle as it is. For this handle no loan is looked at.
     pub fn carry_out_beside(
         &mut self,
         subject: Subject,
@@ -126,7 +125,7 @@ impl ExporterState {
         lender: &ExporterState,
         lent: Subject,
     ) -> Made<LocalReply>
-        requires { slice_source subject verb.now ≡ Some handle }
+        requires { source_in_place subject verb.now ≡ Some handle }
         ensures ok { IfOk result (λ r. estep self.old subject verb.now ((handle, loan_of_snap (snap_of_subject lender.now lent)) ∷ loans.now) ≡ (self.new, r)) }
         ensures err { OnErr result (self.new ≡ self.old) }
         ensures was_sound { IsSoundExporter self.old }

@@ -11,7 +11,7 @@ pub use laws::{
     loans_alike_do_the_same, readonly_bytes_stay, refused_commands_change_nothing,
     resizing_is_refused_while_exported,
 };
-pub use pick::slice_source;
+pub use pick::source_in_place;
 pub use pybuf_command::{
     ExporterKind, Loan, LoanList, LocalCommand, LocalReply, PropertyName, Subject, Verb,
     handles_of, handles_read,

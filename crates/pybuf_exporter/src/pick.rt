@@ -122,10 +122,10 @@ fn row(
     }
 }
 
-/// The handle that a command copies items from: the value that a view is written by a slice. None
-/// exactly where a command is no such one.
-pub fn slice_source(subject: Subject, verb: &Verb) -> Option<u64>
-    ensures { result ≡ spec.slice_source subject verb.now }
+/// The handle whose bytes a command reads where they lie, also those of another exporter: the value
+/// that a view is written by a slice. None exactly where a command is no such one.
+pub fn source_in_place(subject: Subject, verb: &Verb) -> Option<u64>
+    ensures { result ≡ spec.source_in_place subject verb.now }
 {
     match (subject, verb) {
         (
@@ -139,7 +139,7 @@ pub fn slice_source(subject: Subject, verb: &Verb) -> Option<u64>
     }
 }
 
-/// The row of a command that copies items from a handle, which another exporter lends.
+/// The row of a command that reads the bytes of a handle where they lie, which another exporter lends.
 fn row_beside(
     parts: &mut Parts,
     subject: Subject,
@@ -150,7 +150,7 @@ fn row_beside(
 ) -> Result<LocalReply, Halt>
     requires whole { IsWhole parts.old }
     requires lender_whole { IsWhole lender.now }
-    requires source { spec.slice_source subject verb.now ≡ Some handle }
+    requires source { spec.source_in_place subject verb.now ≡ Some handle }
     ensures answer { (loans : _) → Answers (spec.row (exporter_of parts.old) subject verb.now (lent_for_each (exporter_of parts.old) ((handle, loan_of_snap (snap_of_subject (exporter_of lender.now) lent)) ∷ loans) (handles_read subject verb.now))) (exporter_of parts.old) result (exporter_of parts.new) }
     ensures counted { parts.new.exports ≡ exports_of (exporter_of parts.new) }
 {
@@ -177,7 +177,7 @@ fn answered_beside(
 ) -> Result<LocalReply, Halt>
     requires whole { IsWhole parts.old }
     requires lender_whole { IsWhole lender.now }
-    requires source { spec.slice_source subject verb.now ≡ Some handle }
+    requires source { spec.source_in_place subject verb.now ≡ Some handle }
     ensures answer { Answers (spec.answer_of (exporter_of parts.old) subject verb.now ((handle, loan_of_snap (snap_of_subject (exporter_of lender.now) lent)) ∷ loans.now)) (exporter_of parts.old) result (exporter_of parts.new) }
     ensures counted { parts.new.exports ≡ exports_of (exporter_of parts.new) }
 {
@@ -195,8 +195,8 @@ fn answered_beside(
     row_beside(parts, subject, verb, handle, lender, lent)
 }
 
-/// Carries out a command that copies items from a handle, which another exporter lends as it is. A
-/// refusal is a reply.
+/// Carries out a command that reads the bytes of a handle where they lie, which another exporter lends
+/// as it is. A refusal is a reply.
 pub fn carry_out_beside(
     parts: &mut Parts,
     subject: Subject,
@@ -208,7 +208,7 @@ pub fn carry_out_beside(
 ) -> Made<LocalReply>
     requires whole { IsWhole parts.old }
     requires lender_whole { IsWhole lender.now }
-    requires source { spec.slice_source subject verb.now ≡ Some handle }
+    requires source { spec.source_in_place subject verb.now ≡ Some handle }
     ensures ok { IfOk result (λ r. spec.estep (exporter_of parts.old) subject verb.now ((handle, loan_of_snap (snap_of_subject (exporter_of lender.now) lent)) ∷ loans.now) ≡ (exporter_of parts.new, r)) }
     ensures err { OnErr result (exporter_of parts.new ≡ exporter_of parts.old) }
     ensures whole { IsWhole parts.new }

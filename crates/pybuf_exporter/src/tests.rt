@@ -307,7 +307,7 @@ fn copied_beside(
 ) -> Result<i128, Fail> {
     let value = Value::One(Scalar::Handle(7));
     let set = Verb::Set { key, value };
-    if slice_source(Subject::View(0), &set) != Some(7) {
+    if source_in_place(Subject::View(0), &set) != Some(7) {
         drop(set);
         return Err(Fail::from("a handle that is copied from"));
     }

@@ -19,7 +19,7 @@ use Rattle.pybuf_command.specs.Loans.{loan_of}
 use Rattle.pybuf_state.specs.Exporter.{Exporter}
 use Rattle.pybuf_state.specs.Loans.{loan_of_snap, is_named, is_known, are_known, lent_as, lent_for_each, subject_in, snap_in}
 use Rattle.pybuf_state.specs.Snaps.{snap_of_subject}
-use Rattle.pybuf_exporter.specs.Step.{estep, slice_source}
+use Rattle.pybuf_exporter.specs.Step.{estep, source_in_place}
 use Rattle.pybuf_exporter.specs.Laws.{AreAlike, LoansAlikeDoTheSame}
 use Rattle.pybuf_world.specs.declared.named.Named.{Named}
 use Rattle.pybuf_world.specs.declared.named.Target.{Target}
@@ -42,7 +42,7 @@ pub record IsSource (s : Subject) (v : Verb) (h : ℕ) : Type 0 where
   pub read : handles_read s v ≡ h ∷ []
   pub among : list_any (λ (x : ℕ). x == h) (handles_of v) ≡ true
 
-is_source : (s : Subject) (v : Verb) (h : ℕ) → slice_source s v ≡ Some h → IsSource s v h
+is_source : (s : Subject) (v : Verb) (h : ℕ) → source_in_place s v ≡ Some h → IsSource s v h
 is_source (subject.View k) (verb.Set (value.Slice slice) (value.One (scalar.Handle g))) h is =
     let same : g ≡ h = cc in record {
       read = ap (λ (x : ℕ). x ∷ []) same;

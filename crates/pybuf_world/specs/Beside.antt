@@ -1,4 +1,5 @@
--- A command that copies items from another exporter, which is lent as it is, beside the one that steps.
+-- A command that reads the bytes of another exporter where they lie, which is lent as it is, beside the one
+-- that steps.
 use Rattle.std.specs.Prelude.{◌≡◌, ◌≢◌, ℕ, ◌<◌, List, [], ◌∷◌, length, map, set, slice_get, Option, Some, None}
 use Rattle.pybuf_value.specs.declared.faults.Fault.TheVariants as fault
 use Rattle.pybuf_command.specs.declared.kinds.Subject.{Subject}
@@ -8,15 +9,15 @@ use Rattle.pybuf_command.specs.declared.commands.LocalReply.TheVariants as local
 use Rattle.pybuf_command.specs.declared.loans.Loan.{Loan}
 use Rattle.pybuf_command.specs.Handles.{handles_of, handles_read}
 use Rattle.pybuf_state.specs.Exporter.{Exporter}
-use Rattle.pybuf_exporter.specs.Step.{estep, slice_source}
+use Rattle.pybuf_exporter.specs.Step.{estep, source_in_place}
 use Rattle.pybuf_world.specs.declared.named.Named.{Named}
 use Rattle.pybuf_world.specs.declared.named.Target.{Target}
 use Rattle.pybuf_world.specs.World.{World, exporter_of, loan_for}
 use Rattle.pybuf_world.specs.Needed.{needed_for}
 
--- the handle from which a command copies names an exporter that is there, and another than the target's
+-- the handle whose bytes a command reads in place names an exporter that is there, and another than the target's
 pub record IsLentBeside (w : World) (t : Target) (v : Verb) (handle : ℕ) (name : Named) : Type 0 where
-  pub source : slice_source t.subject v ≡ Some handle
+  pub source : source_in_place t.subject v ≡ Some handle
   pub named : slice_get w.handles handle ≡ Some name
   pub other : exporter_of name ≢ t.exporter
   pub there : exporter_of name < length w.exporters

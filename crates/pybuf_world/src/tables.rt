@@ -21,7 +21,7 @@ use pybuf_command::{
 };
 use pybuf_exporter::{
     ExporterState, commands_keep_sound, copies_are_faithful, fresh_replies_are_copies,
-    loans_alike_do_the_same, slice_source,
+    loans_alike_do_the_same, source_in_place,
 };
 use pybuf_rows_views::release_is_safe;
 use pybuf_value::{
@@ -356,12 +356,12 @@ impl Tables {
         self.loans_for(target.exporter, handles.as_slice(), reads.as_slice())
     }
 
-    /// The handle from which a command copies items, and what it names, where that is of another
-    /// exporter: so its bytes can be copied from where they lie.
+    /// The handle whose bytes a command reads where they lie, and what it names, where that is of
+    /// another exporter.
     fn lent_beside(&self, target: Target, verb: &Verb) -> Option<(u64, Named)>
         ensures { IfSome result (λ beside. IsLentBeside (world_of_tables self.now) target verb.now beside.0 beside.1) }
     {
-        let handle = slice_source(target.subject, verb)?;
+        let handle = source_in_place(target.subject, verb)?;
         let named = self.handles.get(handle as usize).copied()?;
         if named.exporter() == target.exporter {
             return None;
@@ -372,7 +372,7 @@ impl Tables {
         Some((handle, named))
     }
 
-    /// A command that copies items from another exporter, which stands beside: the stepping exporter
+    /// A command that reads the bytes of another exporter, which stands beside: the stepping exporter
     /// is taken out of the table for the step. Takes no memory.
     fn step_beside(
         &mut self,
