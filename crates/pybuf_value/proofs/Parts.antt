@@ -1,10 +1,8 @@
 -- Bytes that stand before those of the remaining parts of a list.
-use Rattle.std.proofs.Common.{◌≡◌, refl, sym, ap, ◌∙◌, ℕ, List, [], ◌∷◌, ◌++◌, Result, Ok, Err}
+use Rattle.std.proofs.Common.{◌≡◌, refl, sym, ap, ℕ, List, [], ◌∷◌, ◌++◌, Result, Ok, Err}
 use Rattle.std.proofs.lemmas.List.{append_assoc}
 use Rattle.pybuf_value.specs.declared.faults.Fault.{Fault}
-use Rattle.pybuf_value.specs.declared.values.Scalar.{Scalar}
 use Rattle.pybuf_value.specs.Refusing.{◌>>=◌}
-use Rattle.pybuf_value.specs.Snaps.{byte_in_scalar, bytes_in_parts}
 
 abbrev pub bytes_before : List ℕ → Result (List ℕ) Fault → Result (List ℕ) Fault
 bytes_before bytes (Ok rest) = Ok (bytes ++ rest)

@@ -2,7 +2,12 @@ pub mod Names
 pub mod Refusing
 pub mod Choosing
 pub mod Numbers
+pub mod Equality
+pub mod Order
 pub mod Texts
 pub mod Snaps
 pub mod Quotes
+pub mod Unquoted
+pub mod Spelling
 pub mod Halting
+pub mod Laws

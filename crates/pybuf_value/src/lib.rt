@@ -2,26 +2,38 @@
 #![tactic(auto)]
 
 mod contents;
+mod equality;
 mod faults;
 mod halt;
+mod laws;
 mod list;
 mod numbers;
+mod order;
 mod quotes;
 mod snaps;
+mod spelling;
 mod text;
 mod values;
 
 pub use contents::{bytes_alone, bytes_from_object, bytes_like, text_in, try_as_bytes};
+pub use equality::{identical_or_equal, item_eq, scalar_eq};
 pub use faults::{Fault, Outcome, Tried};
 pub use halt::{Halt, tried};
+pub use laws::{
+    equal_items_count_alike, equal_scalars_count_alike, item_equality_is_equivalence,
+    operators_agree, order_of_bytes_is_total, quoted_texts_read_back,
+    scalar_equality_is_equivalence, values_are_spelled_in_ascii,
+};
 pub use list::{
     ByteList, ByteLists, CountList, DimList, ItemList, Items, NumberList, ScalarList, SliceList,
     ValueList, push_reserved,
 };
 pub use numbers::{ByteOr, fit_count, fit_index, index_of, saturate, value_from_object};
+pub use order::{compare_bytes, is_order, scalar_cmp};
 pub use pybuf_copy::{Exact, Made, NoMemory, Twin, copy_all};
-pub use quotes::{push_escaped, push_quoted, quote};
+pub use quotes::{escaped, push_escaped, push_quoted, quote};
 pub use snaps::{Lender, Snap, SnapKind, SnapList};
+pub use spelling::{named_repr_text, push_scalar, repr_text};
 pub use text::Text;
 pub use values::{CompareOp, Item, PySlice, Scalar, Value};
 
@@ -29,3 +41,5 @@ pub use values::{CompareOp, Item, PySlice, Scalar, Value};
 mod content_tests;
 #[cfg(test)]
 mod tests;
+#[cfg(test)]
+mod text_tests;

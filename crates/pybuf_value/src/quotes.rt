@@ -1,10 +1,13 @@
 //! Bytes between quotes, as Python's `repr` writes them.
-ghost use Rattle.std.specs.Prelude.{◌≡◌, ◌<◌, ◌==◌, ◌++◌, OnOk, slice_index};
+ghost use Rattle.std.specs.Prelude.{◌≡◌, ◌<◌, ◌==◌, ◌++◌, ◌+◌, ◌*◌, ◌≤◌, OnOk, OnErr, length, take, slice_index};
 ghost use Rattle.std.specs.List.{list_any};
 ghost use Rattle.hex.specs.Hex.{lower_digits};
 ghost use Rattle.pybuf_value.specs.Quotes.{quote_of, escaped_byte, quoted_text};
 
-use pybuf_copy::Made;
+use crate::list::ByteList;
+use pybuf_copy::{Made, NoMemory};
+use std::alloc::Global;
+use std::mem;
 
 /// Whether the bytes hold a byte.
 fn holds(bytes: &[u8], byte: u8) -> bool
@@ -37,8 +40,10 @@ fn hex_digit(value: u8) -> u8
 /// Adds a byte as it stands between such quotes: with a backslash before the quote and before a
 /// backslash, `\t`, `\n` and `\r` for these three, and `\x` with two digits for any other byte that
 /// isn't printed of ASCII.
+/// Where memory runs out, nothing is added.
 pub fn push_escaped(out: &mut Vec<u8>, quote: u8, byte: u8) -> Made<()>
-    ensures { OnOk result (out.new.items ≡ out.old.items ++ escaped_byte quote byte) }
+    ensures ok { OnOk result (out.new.items ≡ out.old.items ++ escaped_byte quote byte) }
+    ensures err { OnErr result (out.new.items ≡ out.old.items) }
 {
     if byte == quote {
         out.extend_from_slice(&[b'\\', byte])?;
@@ -70,9 +75,10 @@ pub fn push_escaped(out: &mut Vec<u8>, quote: u8, byte: u8) -> Made<()>
     Ok(())
 }
 
-/// Adds the bytes between quotes, as Python's `repr` writes them, without the `b`.
-pub fn push_quoted(out: &mut Vec<u8>, bytes: &[u8]) -> Made<()>
-    ensures { OnOk result (out.new.items ≡ out.old.items ++ quoted_text bytes.now) }
+/// Adds the bytes between quotes. Where memory runs out, a part of them may have been added.
+fn write_quoted(out: &mut Vec<u8>, bytes: &[u8]) -> Made<()>
+    ensures ok { OnOk result (out.new.items ≡ out.old.items ++ quoted_text bytes.now) }
+    ensures err { OnErr result (take (length out.old.items) out.new.items ≡ out.old.items) }
 {
     let quote = quote(bytes);
     out.push(quote)?;
@@ -80,4 +86,85 @@ pub fn push_quoted(out: &mut Vec<u8>, bytes: &[u8]) -> Made<()>
         push_escaped(out, quote, *byte)?;
     }
     Ok(out.push(quote)?)
+}
+
+/// Adds the bytes between quotes, as Python's `repr` writes them, without the `b`. Where memory runs
+/// out, nothing is added.
+pub fn push_quoted(out: &mut Vec<u8>, bytes: &[u8]) -> Made<()>
+    ensures ok { OnOk result (out.new.items ≡ out.old.items ++ quoted_text bytes.now) }
+    ensures err { OnErr result (out.new.items ≡ out.old.items) }
+{
+    let length = out.len();
+    let written = write_quoted(out, bytes);
+    if written.is_err() {
+        out.truncate(length);
+    }
+    written
+}
+
+/// The number of bytes that a byte takes between quotes.
+fn escaped_length(quote: u8, byte: u8) -> u128
+    ensures value { result ≡ length (escaped_byte quote byte) }
+    ensures small { result ≤ 4 }
+{
+    if quote == byte {
+        return 2;
+    }
+    if byte == b'\\' {
+        return 2;
+    }
+    if byte == b'\t' {
+        return 2;
+    }
+    if byte == b'\n' {
+        return 2;
+    }
+    if byte == b'\r' {
+        return 2;
+    }
+    if byte >= 32 {
+        if byte <= 126 {
+            return 1;
+        }
+    }
+    4
+}
+
+/// The number of bytes that the bytes take between quotes, with the quotes.
+pub(crate) fn quoted_length(bytes: &[u8]) -> u128
+    ensures value { result ≡ length (quoted_text bytes.now) }
+    ensures small { result ≤ 4 * length bytes.now + 2 }
+{
+    let quote = quote(bytes);
+    let mut total = 2;
+    for byte in bytes {
+        total += escaped_length(quote, *byte);
+    }
+    total
+}
+
+/// Adds the bytes between quotes, as Python's `repr` writes them, without the `b`: the quote, each
+/// byte as it stands between such quotes, and the quote (Python's library reference, "Bytes
+/// Objects"). The room is taken once. Where memory runs out, `out` is as before.
+pub fn escaped(alloc: Global, bytes: &[u8], out: &mut ByteList) -> Made<()>
+    ensures ok { OnOk result (out.new ≡ out.old ++ quoted_text bytes.now) }
+    ensures err { OnErr result (out.new ≡ out.old) }
+{
+    let length = quoted_length(bytes);
+    if length > isize::MAX as u128 {
+        return Err(NoMemory);
+    }
+    let mut text = mem::replace(out, ByteList::new(alloc)).into_vec();
+    let written = with_room(&mut text, length as usize, bytes);
+    *out = ByteList::from_vec(text);
+    written
+}
+
+/// Takes the room, and adds the bytes between quotes.
+fn with_room(out: &mut Vec<u8>, room: usize, bytes: &[u8]) -> Made<()>
+    ensures ok { OnOk result (out.new.items ≡ out.old.items ++ quoted_text bytes.now) }
+    ensures err { OnErr result (out.new.items ≡ out.old.items) }
+{
+    out.reserve(room)?;
+    push_quoted(out, bytes)
 }

@@ -1,6 +1,7 @@
 //! Text, which contracts see as the list of its UTF-8 bytes.
 ghost use Rattle.std.specs.Prelude.{◌≡◌, ◌==◌, ◌<◌, ◌^◌, ◌++◌, List, [], ℕ, length, OnOk, OnErr, encode_utf8};
 ghost use Rattle.std.specs.String.{string_bytes};
+ghost use Rattle.std.specs.Str.{IsUtf8};
 
 use pybuf_copy::{Exact, Made, Twin};
 use std::alloc::Global;
@@ -50,6 +51,13 @@ impl Text {
         self.text.as_bytes()
     }
 
+    /// The text, lent as a `str`.
+    pub fn as_str(&self) -> &str
+        ensures { result.now ≡ self.now }
+    {
+        self.text.as_str()
+    }
+
     /// Adds a character at the end. Where memory runs out, the text is as before.
     pub fn push(&mut self, c: char) -> Made<()>
         ensures ok { OnOk result (self.new ≡ self.old ++ encode_utf8 c) }
@@ -64,6 +72,16 @@ impl Text {
         ensures { result ≡ string_bytes text }
     {
         Text { text }
+    }
+
+    /// The text of these bytes of UTF-8. Takes no memory, and reads none of the bytes.
+    pub fn from_utf8(bytes: Vec<u8>) -> Text
+        requires { IsUtf8 bytes.items }
+        ensures { result ≡ bytes.items }
+    {
+        Text {
+            text: unsafe { String::from_utf8_unchecked(bytes) },
+        }
     }
 
     /// The same text. Takes no memory.
