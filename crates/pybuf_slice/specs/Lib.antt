@@ -7,3 +7,5 @@ pub mod Laws
 pub mod Reads
 pub mod Edits
 pub mod EditLaws
+pub mod Compared
+pub mod Lanes

@@ -1,13 +1,16 @@
 //! Numbers and slices as keys of a sequence.
-ghost use Rattle.std.specs.Prelude.{◌≡◌, ◌<◌, ◌^◌, ℕ, ℤ, Option, Result};
+ghost use Rattle.std.specs.Prelude.{◌≡◌, ◌<◌, ◌^◌, ℕ, ℤ, Option, Result, IfOk};
 ghost use Rattle.pybuf_value.specs.declared.faults.Fault.{Fault};
 ghost use Rattle.pybuf_slice.specs.Parts.{SliceParts, saturated_parts_of};
 ghost use Rattle.pybuf_slice.specs.Places.{saturated_place, item_place, bound_in, bounds_in};
 ghost use Rattle.pybuf_value.specs.declared.values.PySlice.{PySlice};
+ghost use Rattle.pybuf_slice.specs.Compared.{compared_slices, slice_text};
 ghost use Rattle.pybuf_slice.specs.Indices.{indices_of, sequence_index_of};
 
+use crate::compared::{compare_slices, text_of};
 use crate::saturated::{SaturatedSlice, part_of, placed_start, placed_stop, step_of};
-use pybuf_value::{Fault, PySlice, Value, fit_index, index_of};
+use pybuf_value::{CompareOp, Fault, Made, PySlice, Text, Value, fit_index, index_of};
+use std::alloc::Global;
 
 /// A number as a place in a sequence. A negative one counts from the end.
 pub trait SequenceIndexOp {
@@ -170,6 +173,20 @@ pub trait SliceIndices {
     /// `SaturatedSlice::with_slice`.
     fn indices(&self, length: i128) -> Result<(i128, i128, i128), Fault>
         ensures { result ≡ indices_of length (slice self.now) };
+
+    /// What a comparison operator answers of two slices, which Python compares as the tuples of start,
+    /// stop and step (language reference, "Value comparisons"). `==` and `!=` go by all parts. In an
+    /// order the first parts that are unequal decide: two numbers, where a truth value counts as 0 or
+    /// 1, two bytes values and two texts have an order. Of equal slices `<=` and `>=` hold.
+    ///
+    /// Refused with `TypeError` exactly where an order is asked and the parts that decide it have none.
+    fn compare(&self, op: CompareOp, other: &PySlice) -> Result<bool, Fault>
+        ensures { result ≡ compared_slices op (slice self.now) other.now };
+
+    /// The slice as Python's `repr` writes it: `slice(START, STOP, STEP)`, each part as a reply spells
+    /// it, bytes and texts byte by byte.
+    fn repr(&self, alloc: Global) -> Made<Text>
+        ensures { IfOk result (λ text. text ≡ slice_text (slice self.now)) };
 }
 
 impl SliceIndices for PySlice {
@@ -191,5 +208,13 @@ impl SliceIndices for PySlice {
             placed_stop(length, stop, step),
             step,
         ))
+    }
+
+    fn compare(&self, op: CompareOp, other: &PySlice) -> Result<bool, Fault> {
+        compare_slices(self, other, op)
+    }
+
+    fn repr(&self, alloc: Global) -> Made<Text> {
+        text_of(alloc, self)
     }
 }

@@ -1,6 +1,7 @@
 //! Python's slice rule: the indices of a slice, and reading a sequence by them.
 #![tactic(auto)]
 
+mod compared;
 mod edit_ops;
 mod edits;
 mod iter;
@@ -11,6 +12,7 @@ mod saturated;
 mod sequence;
 pub mod slices;
 
+pub use compared::hash_of_lanes;
 pub use edit_ops::{SequenceExt, SequenceMutExt, SliceableSequenceMutOp};
 pub use edits::close_up;
 pub use iter::SaturatedSliceIter;
@@ -22,5 +24,7 @@ pub use laws::{
 pub use saturated::SaturatedSlice;
 pub use sequence::SliceableSequenceOp;
 
+#[cfg(test)]
+mod compared_tests;
 #[cfg(test)]
 mod tests;

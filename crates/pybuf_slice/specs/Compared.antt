@@ -1,0 +1,37 @@
+-- How slices compare, and what they are as texts: Python compares them as the tuples of their parts.
+use Rattle.std.specs.Prelude.{ℕ, Bool, not, ◌&&◌, List, ◌++◌, codes, Result, Ok, if◌then◌else◌}
+use Rattle.std.specs.declared.cmp.Ordering.{Ordering}
+use Rattle.std.specs.declared.cmp.Ordering.TheVariants.{Equal}
+use Rattle.pybuf_value.specs.declared.faults.Fault.{Fault}
+use Rattle.pybuf_value.specs.Refusing.{◌>>=◌}
+use Rattle.pybuf_value.specs.declared.values.PySlice.{PySlice}
+use Rattle.pybuf_value.specs.declared.values.CompareOp.{CompareOp}
+use Rattle.pybuf_value.specs.declared.values.CompareOp.TheVariants as op
+use Rattle.pybuf_value.specs.Equality.{same_scalar}
+use Rattle.pybuf_value.specs.Order.{order_of_scalars, answers}
+use Rattle.pybuf_value.specs.Spelling.{scalar_text, handle_text}
+
+-- equal by parts
+abbrev pub same_slice : PySlice → PySlice → Bool
+same_slice left right = same_scalar left.start right.start && same_scalar left.stop right.stop && same_scalar left.step right.step
+
+-- the first parts that are unequal decide the order, and where none are, the slices are equal
+abbrev pub order_of_slices : PySlice → PySlice → Result Ordering Fault
+order_of_slices left right =
+    if not (same_scalar left.start right.start) then order_of_scalars left.start right.start
+    else if not (same_scalar left.stop right.stop) then order_of_scalars left.stop right.stop
+    else if not (same_scalar left.step right.step) then order_of_scalars left.step right.step
+    else Ok Equal
+
+-- what an operator answers of two slices
+abbrev pub compared_slices : CompareOp → PySlice → PySlice → Result Bool Fault
+compared_slices op.Eq left right = Ok (same_slice left right)
+compared_slices op.Ne left right = Ok (not (same_slice left right))
+compared_slices operator left right = do
+  order ← order_of_slices left right
+  Ok (answers operator order)
+
+-- the text of a slice
+abbrev pub slice_text : PySlice → List ℕ
+slice_text s =
+    codes "slice(" ++ scalar_text handle_text s.start ++ codes ", " ++ scalar_text handle_text s.stop ++ codes ", " ++ scalar_text handle_text s.step ++ codes ")"
