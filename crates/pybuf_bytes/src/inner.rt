@@ -1,8 +1,14 @@
 //! A string of bytes.
-ghost use Rattle.std.specs.Prelude.{◌≡◌, ◌==◌, ◌<◌, ◌^◌, List, ℕ, length};
+ghost use Rattle.std.specs.Prelude.{◌≡◌, ◌==◌, ◌<◌, ◌^◌, ◌++◌, List, [], ℕ, length, codes, IfOk};
+ghost use Rattle.pybuf_value.specs.Halting.{outcome_of};
+ghost use Rattle.pybuf_value.specs.Order.{order_of, answers};
+ghost use Rattle.pybuf_value.specs.Quotes.{repr_of, fitted_text};
 
-use pybuf_value::{Exact, Made, Twin};
+use pybuf_value::{
+    CompareOp, Exact, Made, Text, Tried, Twin, compare_bytes, named_repr_text, repr_text,
+};
 use std::alloc::Global;
+use std::hash::Hasher;
 use std::marker::Model;
 
 /// A string of bytes, as the value of Python's `bytes` and `bytearray`. A clause sees the list of its
@@ -54,6 +60,41 @@ impl PyBytesInner {
         ensures { result ≡ (length self.now == 0) }
     {
         self.bytes.is_empty()
+    }
+
+    /// What a comparison operator answers of these bytes and others: the first bytes that differ
+    /// decide, and of two strings that don't differ so far the shorter one is less (Python's language
+    /// reference, "Value comparisons").
+    pub fn cmp(&self, other: &[u8], op: CompareOp) -> bool
+        ensures { result ≡ answers op (order_of self.now other.now) }
+    {
+        compare_bytes(self.bytes.as_slice(), other, op)
+    }
+
+    /// Feeds the bytes to a hasher, in one call of its `write`, and nothing else.
+    pub fn hash<H: Hasher>(&self, hasher: &mut H)
+        ensures { hasher.new ≡ H.write hasher.old self.now }
+    {
+        hasher.write(self.bytes.as_slice());
+    }
+
+    /// The bytes as Python's `repr` writes them: `b'..'` (library reference, "Bytes Objects").
+    ///
+    /// Refused with `OverflowError` exactly where that is more than `isize::MAX` bytes.
+    pub fn repr_bytes(&self, alloc: Global) -> Tried<Text>
+        ensures { IfOk result (λ outcome. outcome ≡ outcome_of (fitted_text (repr_of (codes "b") self.now []))) }
+    {
+        repr_text(alloc, b"b", self.bytes.as_slice(), b"")
+    }
+
+    /// The bytes as the argument of a call of a class, as Python's `repr` of a bytearray writes them:
+    /// `NAME(b'..')` (library reference, "Bytearray Objects").
+    ///
+    /// Refused with `OverflowError` exactly where that is more than `isize::MAX` bytes.
+    pub fn repr_with_name(&self, alloc: Global, class_name: &Text) -> Tried<Text>
+        ensures { IfOk result (λ outcome. outcome ≡ outcome_of (fitted_text (repr_of (class_name.now ++ codes "(b") self.now (codes ")")))) }
+    {
+        named_repr_text(alloc, class_name.as_str(), self.bytes.as_slice())
     }
 }
 

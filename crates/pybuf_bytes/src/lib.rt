@@ -9,3 +9,5 @@ pub use options::ByteInnerNewOptions;
 
 #[cfg(test)]
 mod tests;
+#[cfg(test)]
+mod text_tests;
