@@ -50,6 +50,7 @@ handles_of (verb.Remove v) = handles_in v
 handles_of (verb.IAdd v) = handles_in v
 handles_of (verb.IMul count) = handles_in count
 handles_of (verb.Init options) = handles_of_options options
+handles_of (verb.Compare op other) = handles_in other
 handles_of _ = []
 
 -- the handle that a value is
@@ -61,12 +62,15 @@ abbrev pub handle_of_option : Option Value → List ℕ
 handle_of_option (Some v) = handle_of_value v
 handle_of_option None = []
 
--- The handles whose bytes a command reads: a value that is written through a view or by a slice, and
--- one that bytes are added or made of. Of every other handle only that it was given matters.
+-- The handles whose bytes a command reads: a value that is written through a view or by a slice, one
+-- that bytes are added or made of, and one that a subject is compared with. Of every other handle only
+-- that it was given matters.
 abbrev pub handles_read : Subject → Verb → List ℕ
 handles_read (subject.View k) (verb.Set key v) = handle_of_value v
+handles_read (subject.View k) (verb.Compare op v) = handle_of_value v
 handles_read subject.Own (verb.Set (value.Slice slice) v) = handle_of_value v
 handles_read subject.Own (verb.Extend v) = handle_of_value v
 handles_read subject.Own (verb.IAdd v) = handle_of_value v
 handles_read subject.Own (verb.Init options) = handle_of_option options.source
+handles_read subject.Own (verb.Compare op v) = handle_of_value v
 handles_read _ _ = []

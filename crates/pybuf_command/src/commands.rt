@@ -3,7 +3,8 @@ use crate::kinds::Subject;
 use crate::loans::LoanList;
 use pybuf_bytes::ByteInnerNewOptions;
 use pybuf_value::{
-    ByteList, CountList, Fault, Item, ItemList, Made, NumberList, Snap, Text, Twin, Value,
+    ByteList, CompareOp, CountList, Fault, Item, ItemList, Made, NumberList, Snap, Text, Twin,
+    Value,
 };
 use std::alloc::Global;
 
@@ -98,6 +99,12 @@ pub enum Verb {
     Take,
     /// A new bytearray of the same bytes, as `bytearray.copy()`.
     Copy,
+    /// Compares the subject with another value, as `subject == other` and the other operators.
+    Compare { op: CompareOp, other: Value },
+    /// The bytes that are fed to a hasher, as in `hash(subject)`.
+    Hash,
+    /// The subject's text, as `repr(subject)`.
+    Repr,
 }
 
 /// A command for one exporter, with what the handles of its values name.
@@ -127,8 +134,12 @@ pub enum LocalReply {
     Bytes(ByteList),
     /// A text.
     Text(Text),
+    /// The text that a subject is shown as.
+    Shown(Text),
     /// A truth value that is no item.
     Truth(bool),
+    /// Python's `NotImplemented`: the subject can't be compared with such a value.
+    NotImplementedReply,
     /// Numbers, one for each dimension.
     Numbers(NumberList),
     /// What a new exporter is to be made of: of a bytearray, another of its bytes; of a view, a vector
@@ -211,6 +222,13 @@ impl Twin for Verb {
             }
             Verb::Take => Ok(Verb::Take),
             Verb::Copy => Ok(Verb::Copy),
+            Verb::Compare { op, other } => {
+                let op = *op;
+                let other = other.copy(alloc)?;
+                Ok(Verb::Compare { op, other })
+            }
+            Verb::Hash => Ok(Verb::Hash),
+            Verb::Repr => Ok(Verb::Repr),
         }
     }
 }
@@ -253,7 +271,12 @@ impl Twin for LocalReply {
                 let text = text.copy(alloc)?;
                 Ok(LocalReply::Text(text))
             }
+            LocalReply::Shown(text) => {
+                let text = text.copy(alloc)?;
+                Ok(LocalReply::Shown(text))
+            }
             LocalReply::Truth(truth) => Ok(LocalReply::Truth(*truth)),
+            LocalReply::NotImplementedReply => Ok(LocalReply::NotImplementedReply),
             LocalReply::Numbers(numbers) => {
                 let numbers = numbers.copy(alloc)?;
                 Ok(LocalReply::Numbers(numbers))

@@ -111,14 +111,15 @@ fn push_whole_option(handles: &mut Vec<u64>, value: &Option<Value>) -> Made<()>
     }
 }
 
-/// The handles whose bytes a command reads: a value that is written through a view or by a slice, and
-/// one that bytes are added or made of.
+/// The handles whose bytes a command reads: a value that is written through a view or by a slice, one
+/// that bytes are added or made of, and one that a subject is compared with.
 pub fn handles_read(alloc: Global, subject: Subject, verb: &Verb) -> Made<Vec<u64>>
     ensures { IfOk result (λ handles. handles.items ≡ spec.handles_read subject verb.now) }
 {
     let mut handles = Vec::new(alloc);
     match (subject, verb) {
         (Subject::View(_), Verb::Set { key: _, value }) => push_whole(&mut handles, value)?,
+        (Subject::View(_), Verb::Compare { op: _, other }) => push_whole(&mut handles, other)?,
         (
             Subject::Own,
             Verb::Set {
@@ -129,6 +130,7 @@ pub fn handles_read(alloc: Global, subject: Subject, verb: &Verb) -> Made<Vec<u6
         (Subject::Own, Verb::Extend { value }) => push_whole(&mut handles, value)?,
         (Subject::Own, Verb::IAdd { value }) => push_whole(&mut handles, value)?,
         (Subject::Own, Verb::Init { options }) => push_whole_option(&mut handles, &options.source)?,
+        (Subject::Own, Verb::Compare { op: _, other }) => push_whole(&mut handles, other)?,
         _ => {}
     }
     Ok(handles)
@@ -165,6 +167,7 @@ pub fn handles_of(alloc: Global, verb: &Verb) -> Made<Vec<u64>>
         Verb::IAdd { value } => push_value(&mut handles, value)?,
         Verb::IMul { count } => push_value(&mut handles, count)?,
         Verb::Init { options } => push_options(&mut handles, options)?,
+        Verb::Compare { op: _, other } => push_value(&mut handles, other)?,
         _ => {}
     }
     Ok(handles)

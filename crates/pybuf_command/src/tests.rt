@@ -2,8 +2,8 @@
 use super::*;
 use pybuf_bytes::ByteInnerNewOptions;
 use pybuf_value::{
-    ByteList, CountList, Fault, Item, ItemList, Made, NumberList, Scalar, Snap, SnapKind, Text,
-    Twin, Value,
+    ByteList, CompareOp, CountList, Fault, Item, ItemList, Made, NumberList, Scalar, Snap,
+    SnapKind, Text, Twin, Value,
 };
 use std::alloc::Global;
 use std::test::Fail;
@@ -70,6 +70,9 @@ fn sum_of(verb: &Verb) -> (i128, i128) {
         Verb::Init { options: _ } => (24, 0),
         Verb::Take => (25, 0),
         Verb::Copy => (26, 0),
+        Verb::Compare { op, other } => (27 + *op as i128, number_of(other)),
+        Verb::Hash => (33, 0),
+        Verb::Repr => (34, 0),
     }
 }
 
@@ -104,6 +107,8 @@ fn verbs_without_values_are_copied(rt: HostRuntime) -> Result<(), Fail> {
     assert!(rt; is_copied(rt.alloc(), Verb::Reverse, (20, 0))?);
     assert!(rt; is_copied(rt.alloc(), Verb::Take, (25, 0))?);
     assert!(rt; is_copied(rt.alloc(), Verb::Copy, (26, 0))?);
+    assert!(rt; is_copied(rt.alloc(), Verb::Hash, (33, 0))?);
+    assert!(rt; is_copied(rt.alloc(), Verb::Repr, (34, 0))?);
     let name = PropertyName::Itemsize;
     assert!(rt; is_copied(rt.alloc(), Verb::Property { name }, (7, 4))?);
     Ok(())
@@ -123,6 +128,8 @@ fn verbs_of_views_are_copied(rt: HostRuntime) -> Result<(), Fail> {
     assert!(rt; is_copied(rt.alloc(), Verb::Set { key, value }, (12, 13))?);
     let (from, to) = (number(15), number(16));
     assert!(rt; is_copied(rt.alloc(), Verb::Range { from, to }, (15, 16))?);
+    let (op, other) = (CompareOp::Le, number(17));
+    assert!(rt; is_copied(rt.alloc(), Verb::Compare { op, other }, (30, 17))?);
     Ok(())
 }
 
@@ -170,6 +177,8 @@ fn sum_of_reply(reply: &LocalReply) -> (i128, i128) {
         LocalReply::Itself => (11, 0),
         LocalReply::Fresh(snap) => (12, snap.content.len() as i128),
         LocalReply::Items { shape, items } => (shape.len() as i128, 100 + items.len() as i128),
+        LocalReply::Shown(text) => (13, text.len() as i128),
+        LocalReply::NotImplementedReply => (14, 0),
     }
 }
 
@@ -206,10 +215,13 @@ fn list(alloc: Global) -> Result<LocalReply, Fail> {
 #[test]
 fn lists_and_what_is_fresh_are_copied(rt: HostRuntime) -> Result<(), Fail> {
     let fresh = LocalReply::Fresh(snap(rt.alloc(), SnapKind::View, 'B')?);
+    let shown = LocalReply::Shown(text(rt.alloc(), "b''")?);
     let replies = [
         (LocalReply::Itself, (11, 0)),
         (list(rt.alloc())?, (1, 101)),
         (fresh, (12, 3)),
+        (shown, (13, 3)),
+        (LocalReply::NotImplementedReply, (14, 0)),
     ];
     for (reply, sum) in &replies {
         assert_eq!(rt; sum_of_reply(&reply.copy(rt.alloc())?), *sum);
