@@ -1,11 +1,13 @@
 -- All items of a view, by a format that was read once, and a row at a time.
-use Rattle.std.specs.Prelude.{ℕ, zero, suc, ◌/◌, List, [], ◌∷◌, length, take, drop}
+use Rattle.std.specs.Prelude.{◌≡◌, ℕ, zero, suc, ◌/◌, List, [], ◌∷◌, length, take, drop, true, Ok, ⊤}
 use Rattle.std.specs.List.{flat_map}
 use Rattle.std.specs.declared.ops.Range.{Range}
 use Rattle.pybuf_value.specs.declared.values.Item.{Item}
 use Rattle.pybuf_value.specs.declared.values.Item.TheVariants as item
+use Rattle.pybuf_struct.specs.Formats.{format_of}
 use Rattle.pybuf_struct.specs.Values.{unpacked_values}
 use Rattle.pybuf_desc.specs.Segments.{bytes_in}
+use Rattle.pybuf_command.specs.Fits.{is_byte_format}
 use Rattle.pybuf_memoryview.specs.Items.{byte_item, item_of_values}
 use Rattle.pybuf_memoryview.specs.declared.lists.ItemReader.{ItemReader}
 use Rattle.pybuf_memoryview.specs.declared.lists.ItemReader.TheVariants as reader
@@ -15,6 +17,12 @@ read_by reader.Byte (byte ∷ []) = byte_item byte
 read_by reader.Byte _ = item.Many []
 read_by (reader.Fields format) bytes = item_of_values (unpacked_values format bytes)
 read_by reader.Nothing _ = item.Many []
+
+-- the text of a format spells what a reader goes by
+abbrev pub IsSpelledBy : List ℕ → ItemReader → Type 0
+IsSpelledBy text reader.Byte = is_byte_format text ≡ true
+IsSpelledBy text (reader.Fields format) = format_of text ≡ Ok format
+IsSpelledBy text reader.Nothing = ⊤
 
 -- so many items of this size that lie one after the other
 abbrev pub items_in : ItemReader → ℕ → List ℕ → ℕ → List Item

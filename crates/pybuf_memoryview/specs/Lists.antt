@@ -1,7 +1,6 @@
 -- All items of a view.
 use Rattle.std.specs.Prelude.{ℕ, List, [], ◌∷◌, map}
 use Rattle.pybuf_value.specs.declared.values.Item.{Item}
-use Rattle.pybuf_value.specs.declared.values.Item.TheVariants as item
 use Rattle.pybuf_desc.specs.Layouts.{Layout}
 use Rattle.pybuf_desc.specs.Items.{bytes_at}
 use Rattle.pybuf_memoryview.specs.Items.{item_by}

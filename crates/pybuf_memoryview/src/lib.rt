@@ -23,4 +23,4 @@ pub use laws::{
     numbers_look_at_no_loan,
 };
 pub use lent::{reads_bytes, snap_of_copy, snap_of_layout};
-pub use lists::{items_of, list_shape};
+pub use lists::{ItemReader, items_of, list_shape, read_by, reader_of};

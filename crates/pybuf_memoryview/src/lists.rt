@@ -18,7 +18,7 @@ use std::ops::Range;
 
 /// How items are read whose format was read once.
 #[derive(Debug, Drop)]
-enum ItemReader {
+pub enum ItemReader {
     /// As the one byte that an item of the format `B` has.
     Byte,
     /// As the values of the fields.
@@ -28,8 +28,9 @@ enum ItemReader {
 }
 
 /// How items of a size are read by the text of their format.
-fn reader_of(alloc: Global, format: &Text, size: usize) -> Made<ItemReader>
-    ensures { IfOk result (λ reader. (bytes : _) → length bytes ≡ size → reading.read_by reader bytes ≡ item_by format.now bytes) }
+pub fn reader_of(alloc: Global, format: &Text, size: usize) -> Made<ItemReader>
+    ensures reads { IfOk result (λ reader. (bytes : _) → length bytes ≡ size → reading.read_by reader bytes ≡ item_by format.now bytes) }
+    ensures spelled { IfOk result (λ reader. reading.IsSpelledBy format.now reader) }
 {
     if size == 1 && is_byte_format(format.as_slice()) {
         return Ok(ItemReader::Byte);
@@ -40,8 +41,8 @@ fn reader_of(alloc: Global, format: &Text, size: usize) -> Made<ItemReader>
     }
 }
 
-/// The item of these bytes.
-fn read_by(alloc: Global, reader: &ItemReader, bytes: &[u8]) -> Made<Item>
+/// The item of these bytes. Bytes of another number than the format's size read as no values.
+pub fn read_by(alloc: Global, reader: &ItemReader, bytes: &[u8]) -> Made<Item>
     ensures { IfOk result (λ item. item ≡ reading.read_by reader.now bytes.now) }
 {
     match reader {

@@ -25,7 +25,7 @@ returns c =
     let size : c.itemsize-size.result ≡ d.itemsize = c.itemsize-size.ensures in
     let reads : ReadsAs c.in_ok-reader.reader c.args.layout.now.format d.itemsize =
     subst (λ (text : List ℕ). ReadsAs c.in_ok-reader.reader text d.itemsize) c.format_text.ensures
-    (subst (ReadsAs c.in_ok-reader.reader c.format_text.result.now) size c.in_ok-reader.ensures) in
+    (subst (ReadsAs c.in_ok-reader.reader c.format_text.result.now) size c.in_ok-reader.ensures.reads) in
     let within = c.ranges_stay_inside.ensures d start true c.args.layout.now (length c.args.bytes.now) c.placed-start.ensures.placed c.placed-start.ensures.stands c.requires in
     let content = c.ranges_have_the_content.ensures d start true c.args.layout.now c.args.bytes.now c.placed-start.ensures.placed c.placed-start.ensures.stands in
     subst (λ (xs : List Item). IfOk c.items_of_ranges.result (λ items. items ≡ xs))

@@ -3,6 +3,6 @@ use Rattle.pybuf_command.specs.Fits.{is_byte_format}
 use Rattle.pybuf_memoryview.proofs.Listed.{byte_reads}
 use Rattle.pybuf_memoryview.proofs.lists.reader_of.Goals as goal
 
-pub returns-then-is_byte_format : goal.returns-then-is_byte_format
-returns-then-is_byte_format c = λ bytes long.
+pub returns-then-is_byte_format-clause-reads : goal.returns-then-is_byte_format-clause-reads
+returns-then-is_byte_format-clause-reads c = λ bytes long.
     byte_reads c.args.format.now bytes (ap is_byte_format (sym c.as_slice.ensures) ∙ sym c.is_byte_format.ensures ∙ c.if-is_byte_format.true) (long ∙ c.if-size-eq1.true)
