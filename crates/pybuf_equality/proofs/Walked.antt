@@ -1,0 +1,256 @@
+-- Two views that are walked side by side.
+use Rattle.std.proofs.Common.{◌≡◌, ℕ, zero, suc, ◌+◌, ◌*◌, ◌-◌, ◌≤◌, ℤ, pos, nat_abs, Bool, true, false, List, [], ◌∷◌, length, map, take, drop, ap, ap₂, sym, ◌∙◌, refl, subst, arith}
+use Rattle.std.specs.Prelude.{All, bytes_eq, ◌==◌, ◌&&◌, if◌then◌else◌}
+use Rattle.std.specs.List.{flat_map}
+use Rattle.std.specs.declared.ops.Range.{Range}
+use Rattle.std.proofs.lemmas.Bool.{eqb-true}
+use Rattle.std.proofs.lemmas.List.Elements.{All-head, All-tail, All-nil, All-cons}
+use Rattle.std.proofs.lemmas.List.{drop-map, length-map, length-take-le, length-drop, take_all, drop_all}
+use Rattle.pybuf_value.specs.declared.values.Item.{Item}
+use Rattle.pybuf_desc.specs.Descriptor.{Descriptor, shape_of}
+use Rattle.pybuf_desc.specs.Segments.{range_at, ranges_of, is_row_contiguous, last_dim, joined_count, joined_dims, outer_dims, bytes_in}
+use Rattle.pybuf_desc.specs.Pairs.{are_rows_alike, joined_count_of_both}
+use Rattle.pybuf_desc.specs.Layouts.{Layout, LiesInside, HasItemsOfItsShape, product}
+use Rattle.pybuf_desc.specs.Items.{bytes_at, content_of_layout}
+use Rattle.pybuf_desc.specs.Places.{places, Stands}
+use Rattle.pybuf_desc.specs.Valid.{IsPlaced}
+use Rattle.pybuf_desc.specs.Laws.{RangesStayInside, RangesHaveTheContent}
+use Rattle.pybuf_memoryview.specs.ListReading.{read_by}
+use Rattle.pybuf_memoryview.specs.Lists.{items_of_layout}
+use Rattle.pybuf_memoryview.specs.declared.lists.ItemReader.{ItemReader}
+use Rattle.pybuf_equality.specs.Equality.{same_items}
+use Rattle.pybuf_equality.specs.Reading.{ReadsAs}
+use Rattle.pybuf_equality.specs.Walks.{IsPart, ArePaired, same_bytes_in, same_ranges, same_items_in, same_items_of}
+use Rattle.pybuf_equality.proofs.Bools.{bytes_both}
+use Rattle.pybuf_equality.proofs.Cut.{length-bytes_at}
+use Rattle.pybuf_equality.proofs.Apart.{items_from}
+
+abbrev pub firsts : List (Range ℕ × Range ℕ) → List (Range ℕ)
+firsts pairs = map (λ pair. pair.0) pairs
+
+abbrev pub seconds : List (Range ℕ × Range ℕ) → List (Range ℕ)
+seconds pairs = map (λ pair. pair.1) pairs
+
+-- ---- the rows of both are joined, or of none
+
+one_joined : (a b c : Bool) → ◌≡◌ {A = ℕ} (if a && (b && c) then 1 else 0) (if (a && (b && c)) && b then 1 else 0)
+one_joined true true true = refl
+one_joined true true false = refl
+one_joined true false c = refl
+one_joined false b c = refl
+
+other_joined : (a b c : Bool) → ◌≡◌ {A = ℕ} (if a && (b && c) then 1 else 0) (if (a && (b && c)) && c then 1 else 0)
+other_joined true true true = refl
+other_joined true true false = refl
+other_joined true false c = refl
+other_joined false b c = refl
+
+pub joined_of_one : (d o : Descriptor) → joined_count_of_both d o true ≡ joined_count d (are_rows_alike d o)
+joined_of_one d o = one_joined (d.itemsize == o.itemsize) (is_row_contiguous d.itemsize (last_dim d.dims)) (is_row_contiguous o.itemsize (last_dim o.dims))
+
+pub joined_of_other : (d o : Descriptor) → joined_count_of_both d o true ≡ joined_count o (are_rows_alike d o)
+joined_of_other d o = other_joined (d.itemsize == o.itemsize) (is_row_contiguous d.itemsize (last_dim d.dims)) (is_row_contiguous o.itemsize (last_dim o.dims))
+
+-- ---- ranges that lie inside
+
+forward_at : (w : ℕ) (ps : List ℤ) → All (λ (range : Range ℕ). range.start ≤ range.end) (map (range_at w) ps)
+forward_at w [] = All-nil (λ (range : Range ℕ). range.start ≤ range.end)
+forward_at w (p ∷ ps) = All-cons (λ (range : Range ℕ). range.start ≤ range.end) (range_at w p) (map (range_at w) ps) (let low : nat_abs p ≤ nat_abs p + w = omega arith in low) (forward_at w ps)
+
+forward_where : (b : Bool) (w : ℕ) (ps : List ℤ) → All (λ (range : Range ℕ). range.start ≤ range.end) (if b then [] else map (range_at w) ps)
+forward_where true w ps = All-nil (λ (range : Range ℕ). range.start ≤ range.end)
+forward_where false w ps = forward_at w ps
+
+forward_ranges : (d : Descriptor) (start : ℤ) (joined : ℕ) → All (λ (range : Range ℕ). range.start ≤ range.end) (ranges_of d start joined)
+forward_ranges d start joined = forward_where (product (shape_of d.dims) == 0) (product (shape_of (joined_dims joined d.dims)) * d.itemsize) (places (outer_dims joined d.dims) start)
+
+are_parts : (room : ℕ) (ranges : List (Range ℕ)) → All (λ (range : Range ℕ). range.start ≤ range.end) ranges → All (λ (range : Range ℕ). range.end ≤ room) ranges → All (IsPart room) ranges
+are_parts room ranges forward inside = λ k d below. record { forward = forward k d below; inside = inside k d below }
+
+pair_up : (room other_room : ℕ) (pairs : List (Range ℕ × Range ℕ)) → All (IsPart room) (firsts pairs) → All (IsPart other_room) (seconds pairs) → ArePaired room other_room pairs
+pair_up room other_room [] one other = All-nil (λ (pair : Range ℕ × Range ℕ). IsPart room pair.0 × IsPart other_room pair.1)
+pair_up room other_room (pair ∷ pairs) one other =
+    All-cons (λ (p : Range ℕ × Range ℕ). IsPart room p.0 × IsPart other_room p.1) pair pairs
+    (All-head (IsPart room) pair.0 (firsts pairs) one, All-head (IsPart other_room) pair.1 (seconds pairs) other)
+    (pair_up room other_room pairs (All-tail (IsPart room) pair.0 (firsts pairs) one) (All-tail (IsPart other_room) pair.1 (seconds pairs) other))
+
+pub are_paired : (d o : Descriptor) (start other_start : ℤ) (joined other_joined room other_room : ℕ) (pairs : List (Range ℕ × Range ℕ))
+    → firsts pairs ≡ ranges_of d start joined → seconds pairs ≡ ranges_of o other_start other_joined
+    → All (λ (range : Range ℕ). range.end ≤ room) (ranges_of d start joined) → All (λ (range : Range ℕ). range.end ≤ other_room) (ranges_of o other_start other_joined)
+    → ArePaired room other_room pairs
+are_paired d o start other_start joined other_joined room other_room pairs is other_is inside other_inside =
+    pair_up room other_room pairs
+    (subst (All (IsPart room)) (sym is) (are_parts room (ranges_of d start joined) (forward_ranges d start joined) inside))
+    (subst (All (IsPart other_room)) (sym other_is) (are_parts other_room (ranges_of o other_start other_joined) (forward_ranges o other_start other_joined) other_inside))
+
+-- ---- ranges that are as long
+
+abbrev width : Range ℕ → ℕ
+width range = range.end - range.start
+
+widths : (w : ℕ) (ps : List ℤ) → All (λ range. width range ≡ w) (map (range_at w) ps)
+widths w [] = All-nil (λ range. width range ≡ w)
+widths w (p ∷ ps) = All-cons (λ range. width range ≡ w) (range_at w p) (map (range_at w) ps) (let same : (nat_abs p + w) - nat_abs p ≡ w = omega arith in same) (widths w ps)
+
+chosen_widths : (w : ℕ) (b : Bool) (ps : List ℤ) → All (λ range. width range ≡ w) (if b then [] else map (range_at w) ps)
+chosen_widths w true ps = All-nil (λ range. width range ≡ w)
+chosen_widths w false ps = widths w ps
+
+abbrev row_width : ℕ → ℕ → List ℕ → ℕ
+row_width itemsize joined shape = product (drop (length shape - joined) shape) * itemsize
+
+width_of_shape : (itemsize joined : ℕ) (dims : List (ℕ × ℤ × ℤ)) → product (shape_of (joined_dims joined dims)) * itemsize ≡ row_width itemsize joined (shape_of dims)
+width_of_shape itemsize joined dims =
+    ap (λ (shape : List ℕ). product shape * itemsize)
+    (sym (drop-map (λ (dim : ℕ × ℤ × ℤ). dim.0) (length dims - joined) dims) ∙ ap (λ (n : ℕ). drop (n - joined) (shape_of dims)) (sym (length-map dims (λ (dim : ℕ × ℤ × ℤ). dim.0))))
+
+range_widths : (d : Descriptor) (start : ℤ) (joined : ℕ) → All (λ range. width range ≡ row_width d.itemsize joined (shape_of d.dims)) (ranges_of d start joined)
+range_widths d start joined =
+    subst (λ (w : ℕ). All (λ range. width range ≡ w) (ranges_of d start joined)) (width_of_shape d.itemsize joined d.dims)
+    (chosen_widths (product (shape_of (joined_dims joined d.dims)) * d.itemsize) (product (shape_of d.dims) == 0) (places (outer_dims joined d.dims) start))
+
+pub ranges_alike : (d o : Descriptor) (start other_start : ℤ) (joined : ℕ) (pairs : List (Range ℕ × Range ℕ)) → shape_of d.dims ≡ shape_of o.dims → d.itemsize ≡ o.itemsize
+    → firsts pairs ≡ ranges_of d start joined → seconds pairs ≡ ranges_of o other_start joined
+    → (w : ℕ) × All (λ range. width range ≡ w) (firsts pairs) × All (λ range. width range ≡ w) (seconds pairs)
+ranges_alike d o start other_start joined pairs same_shape same_size is other_is =
+    let w : ℕ = row_width d.itemsize joined (shape_of d.dims) in
+    let same : row_width o.itemsize joined (shape_of o.dims) ≡ w = ap₂ (λ (size : ℕ) (shape : List ℕ). row_width size joined shape) (sym same_size) (sym same_shape) in (
+      w,
+      subst (All (λ range. width range ≡ w)) (sym is) (range_widths d start joined),
+      subst (All (λ range. width range ≡ w)) (sym other_is) (subst (λ (k : ℕ). All (λ range. width range ≡ k) (ranges_of o other_start joined)) same (range_widths o other_start joined)),
+    )
+
+-- ---- bytes, range by range
+
+length_in : (bytes : List ℕ) (range : Range ℕ) → IsPart (length bytes) range → length (bytes_in bytes range) ≡ width range
+length_in bytes range part =
+    length-take-le (range.end - range.start) (drop range.start bytes)
+    (let fits : range.end - range.start ≤ length (drop range.start bytes) = omega (arith, part.forward, part.inside, length-drop range.start bytes) in fits)
+
+pub ranges_compared : (bytes other : List ℕ) (w : ℕ) (pairs : List (Range ℕ × Range ℕ)) → ArePaired (length bytes) (length other) pairs → All (λ range. width range ≡ w) (firsts pairs) → All (λ range. width range ≡ w) (seconds pairs)
+    → same_ranges bytes other pairs ≡ bytes_eq (flat_map (λ range. bytes_in bytes range) (firsts pairs)) (flat_map (λ range. bytes_in other range) (seconds pairs))
+ranges_compared bytes other w [] are one two = refl
+ranges_compared bytes other w (pair ∷ pairs) are one two =
+    let here = All-head (λ (p : Range ℕ × Range ℕ). IsPart (length bytes) p.0 × IsPart (length other) p.1) pair pairs are in
+    let long = length_in bytes pair.0 here.0 ∙ All-head (λ range. width range ≡ w) pair.0 (firsts pairs) one in
+    let other_long = length_in other pair.1 here.1 ∙ All-head (λ range. width range ≡ w) pair.1 (seconds pairs) two in
+    ap (λ (t : Bool). same_bytes_in bytes other pair && t)
+    (ranges_compared bytes other w pairs (All-tail (λ (p : Range ℕ × Range ℕ). IsPart (length bytes) p.0 × IsPart (length other) p.1) pair pairs are)
+    (All-tail (λ range. width range ≡ w) pair.0 (firsts pairs) one) (All-tail (λ range. width range ≡ w) pair.1 (seconds pairs) two))
+    ∙ sym (bytes_both (bytes_in bytes pair.0) (flat_map (λ range. bytes_in bytes range) (firsts pairs)) (bytes_in other pair.1) (flat_map (λ range. bytes_in other range) (seconds pairs)) (long ∙ sym other_long))
+
+-- ---- items, one by one
+
+items_compared : (r s : ItemReader) (bytes other : List ℕ) (pairs : List (Range ℕ × Range ℕ))
+    → same_items_of r s bytes other pairs ≡ same_items (map (λ range. read_by r (bytes_in bytes range)) (firsts pairs)) (map (λ range. read_by s (bytes_in other range)) (seconds pairs))
+items_compared r s bytes other [] = refl
+items_compared r s bytes other (pair ∷ pairs) = ap (λ (t : Bool). same_items_in r s bytes other pair && t) (items_compared r s bytes other pairs)
+
+untrue : (b : Bool) → (b ≡ true → ⊥) → b ≡ false
+untrue true denied = absurd (denied refl)
+untrue false denied = refl
+
+chosen_ranges : (n : ℕ) (ranges : List (Range ℕ)) → length ranges ≡ n → (if n == 0 then [] else ranges) ≡ ranges
+chosen_ranges zero [] long = refl
+chosen_ranges zero (range ∷ ranges) long = absurd (omega (arith, long))
+chosen_ranges (suc n) ranges long =
+    ap (λ (t : Bool). if t then [] else ranges) (untrue (suc n == 0) (λ e. let same : suc n ≡ 0 = eqb-true (suc n) 0 e in absurd (omega (arith, same))))
+
+at_places : (size : ℕ) (starts : List ℕ) → map (range_at size) (map (λ x. pos x) starts) ≡ map (λ s. range_at size (pos s)) starts
+at_places size [] = refl
+at_places size (s ∷ starts) = ap (λ (ranges : List (Range ℕ)). range_at size (pos s) ∷ ranges) (at_places size starts)
+
+-- without joined rows there is a range for each item
+single_ranges : (d : Descriptor) (start : ℕ) (layout : Layout) → Stands d start layout → HasItemsOfItsShape layout → ranges_of d (pos start) 0 ≡ map (λ s. range_at d.itemsize (pos s)) layout.starts
+single_ranges d start layout stands counted =
+    let n : ℕ = length d.dims - 0 in
+    let all : length d.dims ≤ n = omega arith in
+    let size : product (shape_of (drop n d.dims)) * d.itemsize ≡ d.itemsize =
+    ap (λ (dims : List (ℕ × ℤ × ℤ)). product (shape_of dims) * d.itemsize) (drop_all n d.dims all) ∙ (let one : 1 * d.itemsize ≡ d.itemsize = omega arith in one) in
+    let found : map (range_at (product (shape_of (drop n d.dims)) * d.itemsize)) (places (take n d.dims) (pos start)) ≡ map (λ s. range_at d.itemsize (pos s)) layout.starts =
+    ap₂ (λ (k : ℕ) (ps : List ℤ). map (range_at k) ps) size (ap (λ (dims : List (ℕ × ℤ × ℤ)). places dims (pos start)) (take_all n d.dims all) ∙ stands.starts) ∙ at_places d.itemsize layout.starts in
+    let long : length (map (λ s. range_at d.itemsize (pos s)) layout.starts) ≡ product (shape_of d.dims) =
+    length-map layout.starts (λ s. range_at d.itemsize (pos s)) ∙ counted ∙ ap product (sym stands.shape) in
+    ap (λ (ranges : List (Range ℕ)). if product (shape_of d.dims) == 0 then [] else ranges) found
+    ∙ chosen_ranges (product (shape_of d.dims)) (map (λ s. range_at d.itemsize (pos s)) layout.starts) long
+
+ranges_read : (r : ItemReader) (text : List ℕ) (size : ℕ) (bytes starts : List ℕ) → ReadsAs r text size → All (λ start. start + size ≤ length bytes) starts
+    → map (λ range. read_by r (bytes_in bytes range)) (map (λ s. range_at size (pos s)) starts) ≡ items_from text bytes size starts
+ranges_read r text size bytes [] reads inside = refl
+ranges_read r text size bytes (s ∷ starts) reads inside =
+    let long = length-bytes_at bytes size s (All-head (λ x. x + size ≤ length bytes) s starts inside) in
+    let whole : (s + size) - s ≡ size = omega arith in
+    ap₂ (λ (item : Item) (items : List Item). item ∷ items)
+    (ap (λ (n : ℕ). read_by r (take n (drop s bytes))) whole ∙ reads (bytes_at bytes size s) long)
+    (ranges_read r text size bytes starts reads (All-tail (λ x. x + size ≤ length bytes) s starts inside))
+
+layout_read : (d : Descriptor) (start : ℕ) (layout : Layout) (r : ItemReader) (bytes : List ℕ) (ranges : List (Range ℕ)) → Stands d start layout → HasItemsOfItsShape layout → ReadsAs r layout.format layout.itemsize → LiesInside (length bytes) layout
+    → ranges ≡ ranges_of d (pos start) 0 → map (λ range. read_by r (bytes_in bytes range)) ranges ≡ items_of_layout bytes layout
+layout_read d start layout r bytes ranges stands counted reads inside is =
+    ap (map (λ range. read_by r (bytes_in bytes range)))
+    (is ∙ single_ranges d start layout stands counted ∙ ap (λ (size : ℕ). map (λ s. range_at size (pos s)) layout.starts) stands.itemsize)
+    ∙ ranges_read r layout.format layout.itemsize bytes layout.starts reads inside
+
+pub items_walked : (d o : Descriptor) (start other_start : ℕ) (layout other_layout : Layout) (r s : ItemReader) (bytes other : List ℕ) (pairs : List (Range ℕ × Range ℕ))
+    → Stands d start layout → Stands o other_start other_layout → HasItemsOfItsShape layout → HasItemsOfItsShape other_layout
+    → ReadsAs r layout.format layout.itemsize → ReadsAs s other_layout.format other_layout.itemsize → LiesInside (length bytes) layout → LiesInside (length other) other_layout
+    → firsts pairs ≡ ranges_of d (pos start) 0 → seconds pairs ≡ ranges_of o (pos other_start) 0
+    → same_items_of r s bytes other pairs ≡ same_items (items_of_layout bytes layout) (items_of_layout other other_layout)
+items_walked d o start other_start layout other_layout r s bytes other pairs stands other_stands counted other_counted reads other_reads inside other_inside is other_is =
+    items_compared r s bytes other pairs
+    ∙ ap₂ same_items (layout_read d start layout r bytes (firsts pairs) stands counted reads inside is) (layout_read o other_start other_layout s other (seconds pairs) other_stands other_counted other_reads other_inside other_is)
+
+-- ---- steps of the loops
+
+pub first_pair : (P : Range ℕ × Range ℕ → Type 0) (pair : Range ℕ × Range ℕ) (pairs rest : List (Range ℕ × Range ℕ)) → pairs ≡ pair ∷ rest → All P pairs → P pair
+first_pair P pair pairs rest same all = All-head P pair rest (subst (All P) same all)
+
+pub other_pairs : (P : Range ℕ × Range ℕ → Type 0) (pair : Range ℕ × Range ℕ) (pairs rest : List (Range ℕ × Range ℕ)) → pairs ≡ pair ∷ rest → All P pairs → All P rest
+other_pairs P pair pairs rest same all = All-tail P pair rest (subst (All P) same all)
+
+-- ---- rows
+
+inside_joined : RangesStayInside → (d : Descriptor) (start : ℕ) (layout : Layout) (room joined : ℕ) (join : Bool) → IsPlaced d start → Stands d start layout → LiesInside room layout → joined ≡ joined_count d join
+    → All (λ (range : Range ℕ). range.end ≤ room) (ranges_of d (pos start) joined)
+inside_joined law d start layout room joined join placed stands inside same =
+    subst (λ (k : ℕ). All (λ (range : Range ℕ). range.end ≤ room) (ranges_of d (pos start) k)) (sym same) (law d start join layout room placed stands inside)
+
+gathered : RangesHaveTheContent → (d : Descriptor) (start : ℕ) (layout : Layout) (bytes : List ℕ) (joined : ℕ) (join : Bool) (ranges : List (Range ℕ)) → IsPlaced d start → Stands d start layout
+    → ranges ≡ ranges_of d (pos start) joined → joined ≡ joined_count d join → flat_map (λ range. bytes_in bytes range) ranges ≡ content_of_layout bytes layout
+gathered law d start layout bytes joined join ranges placed stands is same =
+    ap (flat_map (λ (range : Range ℕ). bytes_in bytes range)) (is ∙ ap (ranges_of d (pos start)) same) ∙ law d start join layout bytes placed stands
+
+-- two views with a descriptor and a start each, of one shape and with items of one size
+pub record AreWalked (d o : Descriptor) (start other_start : ℕ) (layout other_layout : Layout) (bytes other : List ℕ) : Type 0 where
+  pub placed : IsPlaced d start
+  pub other_placed : IsPlaced o other_start
+  pub stands : Stands d start layout
+  pub other_stands : Stands o other_start other_layout
+  pub inside : LiesInside (length bytes) layout
+  pub other_inside : LiesInside (length other) other_layout
+
+pub rows_paired : RangesStayInside → (d o : Descriptor) (start other_start : ℕ) (layout other_layout : Layout) (bytes other : List ℕ) (pairs : List (Range ℕ × Range ℕ)) → AreWalked d o start other_start layout other_layout bytes other
+    → firsts pairs ≡ ranges_of d (pos start) (joined_count_of_both d o true) → seconds pairs ≡ ranges_of o (pos other_start) (joined_count_of_both d o true) → ArePaired (length bytes) (length other) pairs
+rows_paired stays d o start other_start layout other_layout bytes other pairs are is other_is =
+    let joined : ℕ = joined_count_of_both d o true in
+    are_paired d o (pos start) (pos other_start) joined joined (length bytes) (length other) pairs is other_is
+    (inside_joined stays d start layout (length bytes) joined (are_rows_alike d o) are.placed are.stands are.inside (joined_of_one d o))
+    (inside_joined stays o other_start other_layout (length other) joined (are_rows_alike d o) are.other_placed are.other_stands are.other_inside (joined_of_other d o))
+
+pub items_paired : RangesStayInside → (d o : Descriptor) (start other_start : ℕ) (layout other_layout : Layout) (bytes other : List ℕ) (pairs : List (Range ℕ × Range ℕ)) → AreWalked d o start other_start layout other_layout bytes other
+    → firsts pairs ≡ ranges_of d (pos start) 0 → seconds pairs ≡ ranges_of o (pos other_start) 0 → ArePaired (length bytes) (length other) pairs
+items_paired stays d o start other_start layout other_layout bytes other pairs are is other_is =
+    are_paired d o (pos start) (pos other_start) 0 0 (length bytes) (length other) pairs is other_is
+    (stays d start false layout (length bytes) are.placed are.stands are.inside)
+    (stays o other_start false other_layout (length other) are.other_placed are.other_stands are.other_inside)
+
+pub rows_compared : RangesStayInside → RangesHaveTheContent → (d o : Descriptor) (start other_start : ℕ) (layout other_layout : Layout) (bytes other : List ℕ) (pairs : List (Range ℕ × Range ℕ)) → AreWalked d o start other_start layout other_layout bytes other
+    → layout.shape ≡ other_layout.shape → layout.itemsize ≡ other_layout.itemsize
+    → firsts pairs ≡ ranges_of d (pos start) (joined_count_of_both d o true) → seconds pairs ≡ ranges_of o (pos other_start) (joined_count_of_both d o true)
+    → same_ranges bytes other pairs ≡ bytes_eq (content_of_layout bytes layout) (content_of_layout other other_layout)
+rows_compared stays whole d o start other_start layout other_layout bytes other pairs are shape size is other_is =
+    let joined : ℕ = joined_count_of_both d o true in
+    let alike = ranges_alike d o (pos start) (pos other_start) joined pairs (are.stands.shape ∙ shape ∙ sym are.other_stands.shape) (are.stands.itemsize ∙ size ∙ sym are.other_stands.itemsize) is other_is in
+    ranges_compared bytes other alike.0 pairs (rows_paired stays d o start other_start layout other_layout bytes other pairs are is other_is) alike.1 alike.2
+    ∙ ap₂ bytes_eq (gathered whole d start layout bytes joined (are_rows_alike d o) (firsts pairs) are.placed are.stands is (joined_of_one d o))
+    (gathered whole o other_start other_layout other joined (are_rows_alike d o) (seconds pairs) are.other_placed are.other_stands other_is (joined_of_other d o))

@@ -1,0 +1,7 @@
+use Rattle.std.proofs.Common.{◌≡◌, drop}
+use Rattle.pybuf_desc.specs.Descriptor.{shape_of}
+use Rattle.pybuf_equality.specs.Equality.{shapes_agree}
+use Rattle.pybuf_equality.proofs.shapes.dims_agree.Given as goal
+
+abbrev pub invariant-loop-k : goal.invariant-loop-k
+invariant-loop-k l = shapes_agree (shape_of (drop l.k l.dims)) (shape_of (drop l.k l.others)) ≡ shapes_agree (shape_of l.dims) (shape_of l.others)

@@ -1,0 +1,6 @@
+pub mod Equality
+pub mod Exact
+pub mod Reading
+pub mod Walks
+pub mod Packed
+pub mod Laws

@@ -1,0 +1,31 @@
+-- Two views of one shape, walked side by side.
+use Rattle.std.specs.Prelude.{ℕ, ◌≤◌, Bool, List, bytes_eq}
+use Rattle.std.specs.List.{All, list_all}
+use Rattle.std.specs.declared.ops.Range.{Range}
+use Rattle.pybuf_value.specs.Equality.{same_item}
+use Rattle.pybuf_desc.specs.Segments.{bytes_in}
+use Rattle.pybuf_memoryview.specs.ListReading.{read_by}
+use Rattle.pybuf_memoryview.specs.declared.lists.ItemReader.{ItemReader}
+
+-- a range of so many bytes
+pub record IsPart (room : ℕ) (range : Range ℕ) : Type 0 where
+  pub forward : range.start ≤ range.end
+  pub inside : range.end ≤ room
+
+-- ranges of the bytes of the one side beside ranges of those of the other
+abbrev pub ArePaired : ℕ → ℕ → List (Range ℕ × Range ℕ) → Type 0
+ArePaired room other_room pairs = All (λ pair. IsPart room pair.0 × IsPart other_room pair.1) pairs
+
+-- the bytes of both ranges are the same
+abbrev pub same_bytes_in : List ℕ → List ℕ → Range ℕ × Range ℕ → Bool
+same_bytes_in bytes other pair = bytes_eq (bytes_in bytes pair.0) (bytes_in other pair.1)
+
+abbrev pub same_ranges : List ℕ → List ℕ → List (Range ℕ × Range ℕ) → Bool
+same_ranges bytes other pairs = list_all (same_bytes_in bytes other) pairs
+
+-- the bytes of both ranges read as equal items
+abbrev pub same_items_in : ItemReader → ItemReader → List ℕ → List ℕ → Range ℕ × Range ℕ → Bool
+same_items_in reader other_reader bytes other pair = same_item (read_by reader (bytes_in bytes pair.0)) (read_by other_reader (bytes_in other pair.1))
+
+abbrev pub same_items_of : ItemReader → ItemReader → List ℕ → List ℕ → List (Range ℕ × Range ℕ) → Bool
+same_items_of reader other_reader bytes other pairs = list_all (same_items_in reader other_reader bytes other) pairs

@@ -1,0 +1,138 @@
+//! The items of two views of one shape, compared one by one.
+ghost use Rattle.std.specs.Prelude.{◌≡◌, length, true, IfOk};
+ghost use Rattle.pybuf_desc.specs.Layouts.{LiesInside, HasItemsOfItsShape};
+ghost use Rattle.pybuf_memoryview.specs.ListReading.{read_by, IsSpelledBy};
+ghost use Rattle.pybuf_memoryview.specs.Lists.{items_of_layout};
+ghost use Rattle.pybuf_desc.specs.Segments.{bytes_in};
+ghost use Rattle.pybuf_value.specs.Equality.{same_item};
+ghost use Rattle.pybuf_equality.specs.Equality.{same_items};
+ghost use Rattle.pybuf_equality.specs.Reading.{ReadsAs};
+ghost use Rattle.pybuf_equality.specs.Walks.{IsPart, ArePaired, same_items_of};
+
+use crate::exact::is_exact_reader;
+use crate::raw::equal_bytes;
+use pybuf_desc::ZipSegments;
+use pybuf_memoryview::{ItemReader, KeptLayout, read_by, reader_of};
+use pybuf_value::{Made, item_eq};
+use std::alloc::Global;
+use std::ops::Range;
+
+/// Whether the items at two ranges are equal.
+fn equal_at(
+    alloc: Global,
+    reader: &ItemReader,
+    bytes: &[u8],
+    range: Range<usize>,
+    other_reader: &ItemReader,
+    other: &[u8],
+    other_range: Range<usize>,
+) -> Made<bool>
+    requires part { IsPart (length bytes.now) range }
+    requires other_part { IsPart (length other.now) other_range }
+    ensures { IfOk result (λ answer. answer ≡ same_item (read_by reader.now (bytes_in bytes.now range)) (read_by other_reader.now (bytes_in other.now other_range))) }
+{
+    let item = read_by(alloc, reader, &bytes[range])?;
+    let other_item = read_by(alloc, other_reader, &other[other_range])?;
+    Ok(item_eq(&item, &other_item))
+}
+
+/// Whether the items at the ranges of each pair are equal. The first difference ends it.
+fn equal_pairs(
+    alloc: Global,
+    reader: &ItemReader,
+    bytes: &[u8],
+    other_reader: &ItemReader,
+    other: &[u8],
+    mut pairs: ZipSegments<'_>,
+) -> Made<bool>
+    requires { ArePaired (length bytes.now) (length other.now) pairs }
+    ensures { IfOk result (λ answer. answer ≡ same_items_of reader.now other_reader.now bytes.now other.now pairs.entry) }
+{
+    while let Some((range, other_range)) = pairs.next() {
+        if !equal_at(
+            alloc,
+            reader,
+            bytes,
+            range,
+            other_reader,
+            other,
+            other_range,
+        )? {
+            return Ok(false);
+        }
+    }
+    Ok(true)
+}
+
+/// The items of two views of one shape, each side by a reader of its own.
+fn equal_by_readers(
+    alloc: Global,
+    reader: &ItemReader,
+    bytes: &[u8],
+    layout: &KeptLayout,
+    other_reader: &ItemReader,
+    other: &[u8],
+    other_layout: &KeptLayout,
+) -> Made<bool>
+    requires inside { LiesInside (length bytes.now) layout.now }
+    requires other_inside { LiesInside (length other.now) other_layout.now }
+    requires same_shape { layout.now.shape ≡ other_layout.now.shape }
+    requires reads { ReadsAs reader.now layout.now.format layout.now.itemsize }
+    requires other_reads { ReadsAs other_reader.now other_layout.now.format other_layout.now.itemsize }
+    ensures { IfOk result (λ answer. answer ≡ same_items (items_of_layout bytes.now layout.now) (items_of_layout other.now other_layout.now)) }
+{
+    pybuf_desc::ranges_stay_inside();
+    let (descriptor, start) = layout.placed();
+    let (other_descriptor, other_start) = other_layout.placed();
+    let pairs = descriptor.zip_segments(start, other_descriptor, other_start, false);
+    equal_pairs(alloc, reader, bytes, other_reader, other, pairs)
+}
+
+/// Whether the items of two views have one size, and their formats one text.
+fn has_same_format(layout: &KeptLayout, other: &KeptLayout) -> bool
+    ensures size { result ≡ true → layout.now.itemsize ≡ other.now.itemsize }
+    ensures text { result ≡ true → layout.now.format ≡ other.now.format }
+{
+    if layout.itemsize() != other.itemsize() {
+        return false;
+    }
+    layout.format_text().as_slice() == other.format_text().as_slice()
+}
+
+/// Whether the items of two views of one shape are equal, each read by its own format.
+///
+/// Where the formats have one text, by which bytes can be told apart, the bytes are compared as they
+/// lie. Else the format of each side is read once, and the items one by one.
+pub(crate) fn equal_items(
+    alloc: Global,
+    bytes: &[u8],
+    layout: &KeptLayout,
+    other: &[u8],
+    other_layout: &KeptLayout,
+) -> Made<bool>
+    requires inside { LiesInside (length bytes.now) layout.now }
+    requires other_inside { LiesInside (length other.now) other_layout.now }
+    requires same_shape { layout.now.shape ≡ other_layout.now.shape }
+    requires counted { HasItemsOfItsShape layout.now }
+    requires other_counted { HasItemsOfItsShape other_layout.now }
+    ensures { IfOk result (λ answer. answer ≡ same_items (items_of_layout bytes.now layout.now) (items_of_layout other.now other_layout.now)) }
+{
+    pybuf_value::item_equality_is_equivalence();
+    pybuf_struct::writes_what_was_read();
+    let reader = reader_of(alloc, layout.format_text(), layout.itemsize())?;
+    if has_same_format(layout, other_layout) {
+        if is_exact_reader(&reader, layout.itemsize()) {
+            return Ok(equal_bytes(bytes, layout, other, other_layout));
+        }
+    }
+    let other_reader = reader_of(alloc, other_layout.format_text(), other_layout.itemsize())?;
+    equal_by_readers(
+        alloc,
+        &reader,
+        bytes,
+        layout,
+        &other_reader,
+        other,
+        other_layout,
+    )
+}

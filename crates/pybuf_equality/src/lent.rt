@@ -1,0 +1,71 @@
+//! A view and bytes that are no view.
+ghost use Rattle.std.specs.Prelude.{◌≡◌, ◌*◌, ◌<◌, ◌≤◌, ◌^◌, ℕ, All, length, false, IfOk};
+ghost use Rattle.pybuf_desc.specs.Layouts.{LiesInside, product};
+ghost use Rattle.pybuf_memoryview.specs.Snaps.{snap_of_layout};
+ghost use Rattle.pybuf_equality.specs.Equality.{same_view, snap_of_bytes};
+ghost use Rattle.pybuf_equality.specs.Laws.{HasAllItems};
+ghost use Rattle.pybuf_equality.specs.Packed.{IsPacked};
+
+use crate::equality::equal_views;
+use crate::shapes::entries_agree;
+use pybuf_memoryview::KeptLayout;
+use pybuf_value::{Made, Snap, Text, Twin};
+use std::alloc::Global;
+
+/// The layout of items that lie one after the other in bytes that they fill.
+fn packed_layout(
+    alloc: Global,
+    content: &[u8],
+    format: &Text,
+    itemsize: usize,
+    shape: &[usize],
+) -> Made<KeptLayout>
+    requires some_size { 0 < itemsize }
+    requires few_dimensions { length shape.now ≤ 64 }
+    requires entries { All (λ n. 0 < n) shape.now }
+    requires filled { length content.now ≡ itemsize * product shape.now }
+    ensures { IfOk result (λ layout. IsPacked content.now format.now itemsize shape.now layout) }
+{
+    pybuf_desc::shaped_casts_share_their_bytes();
+    pybuf_desc::shaped_casts_stay_inside();
+    let format = format.copy(alloc)?;
+    let whole = KeptLayout::whole(alloc, content.len(), true)?;
+    whole.cast_shape(alloc, format, itemsize, shape)
+}
+
+/// Whether a view is equal to what is lent with the bytes of all its items, one after the other.
+/// Those are compared where they are; memory is taken for the dimensions alone.
+pub fn equal_to_content(alloc: Global, bytes: &[u8], layout: &KeptLayout, snap: &Snap) -> Made<bool>
+    requires inside { LiesInside (length bytes.now) layout.now }
+    requires whole { HasAllItems snap.now }
+    ensures { IfOk result (λ answer. answer ≡ same_view (snap_of_layout bytes.now layout.now false) snap.now) }
+{
+    let (descriptor, _) = layout.placed();
+    if descriptor.ndim() != snap.shape.len() {
+        return Ok(false);
+    }
+    if !entries_agree(descriptor.dim_desc(), snap.shape.as_slice()) {
+        return Ok(false);
+    }
+    if layout.has_zero() {
+        return Ok(true);
+    }
+    let content = snap.content.as_slice();
+    let other = packed_layout(
+        alloc,
+        content,
+        &snap.format,
+        snap.itemsize,
+        snap.shape.as_slice(),
+    )?;
+    equal_views(alloc, bytes, layout, content, &other)
+}
+
+/// Whether a view is equal to bytes, which count as one dimension of items of the format `B`.
+pub fn equal_to_bytes(alloc: Global, bytes: &[u8], layout: &KeptLayout, other: &[u8]) -> Made<bool>
+    requires { LiesInside (length bytes.now) layout.now }
+    ensures { IfOk result (λ answer. answer ≡ same_view (snap_of_layout bytes.now layout.now false) (snap_of_bytes other.now)) }
+{
+    let whole = KeptLayout::whole(alloc, other.len(), true)?;
+    equal_views(alloc, bytes, layout, other, &whole)
+}
