@@ -1,5 +1,7 @@
 -- What a command keeps of an exporter.
-use Rattle.std.specs.Prelude.{◌≡◌, ◌⊎◌, ℕ, ◌<◌, List, [], length, Bool, true, false, Result, Some, slice_get}
+use Rattle.std.specs.Prelude.{◌≡◌, ◌⊎◌, ℕ, ◌<◌, ◌==◌, not, List, [], length, Bool, true, false, Result, Some, slice_get}
+use Rattle.std.specs.List.{list_any}
+use Rattle.std.specs.Str.{byte}
 use Rattle.pybuf_value.specs.declared.faults.Fault.{Fault}
 use Rattle.pybuf_value.specs.Refusing.{IfDone}
 use Rattle.pybuf_command.specs.declared.commands.LocalReply.{LocalReply}
@@ -47,13 +49,19 @@ pub record Keeps (old new : Exporter) : Type 0 where
   pub lengths : LengthsStay old new
   pub readonly_bytes : ReadOnlyBytesStay old new
 
--- a reply that is no refusal, and by which no exporter is made
+-- a text without a line feed
+abbrev pub is_one_line : List ℕ → Bool
+is_one_line text = not (list_any (λ b. b == byte "\n") text)
+
+-- a reply that is no refusal, by which no exporter is made, and which shows nothing but one line
 abbrev pub is_answer : LocalReply → Bool
 is_answer (reply.Refused f) = false
 is_answer (reply.Fresh snap) = false
+is_answer (reply.Shown text) = is_one_line text
 is_answer _ = true
 
--- a row that isn't refused keeps all this, and replies neither a refusal nor something fresh
+-- a row that isn't refused keeps all this, replies neither a refusal nor something fresh, and shows one
+-- line at most
 pub record IsCarriedOut (old : Exporter) (after : Exporter × LocalReply) : Type 0 where
   pub keeps : IsSoundExporter old → Keeps old after.0
   pub answers : is_answer after.1 ≡ true
