@@ -1,0 +1,4 @@
+pub mod Comparing
+pub mod Hashing
+pub mod Lines
+pub mod Safe

@@ -1,0 +1,4 @@
+pub mod Compare
+pub mod Hash
+pub mod Repr
+pub mod Laws
