@@ -200,3 +200,6 @@ all_ask e verb.ToList lents = none_of_kind e.kind e
 all_ask e verb.Len lents = none_of_kind e.kind e
 all_ask e (verb.Property name) lents = none_of_kind e.kind e
 all_ask e verb.ToReadonly lents = none_of_kind e.kind e
+all_ask e (verb.Compare op other) lents = none_of_kind e.kind e
+all_ask e verb.Hash lents = none_of_kind e.kind e
+all_ask e verb.Repr lents = none_of_kind e.kind e

@@ -203,3 +203,6 @@ all_safe ways e verb.ToList lents = tt
 all_safe ways e verb.Len lents = tt
 all_safe ways e (verb.Property name) lents = tt
 all_safe ways e verb.ToReadonly lents = tt
+all_safe ways e (verb.Compare op other) lents = tt
+all_safe ways e verb.Hash lents = tt
+all_safe ways e verb.Repr lents = tt
