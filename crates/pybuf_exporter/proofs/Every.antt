@@ -27,15 +27,16 @@ use Rattle.pybuf_state.specs.Loans.{Lent, are_known, lent_for_each}
 use Rattle.pybuf_state.specs.Sound.{IsSoundExporter}
 use Rattle.pybuf_value.specs.declared.snaps.Snap.{Snap}
 use Rattle.pybuf_state.specs.Fresh.{IsCopyOf}
-use Rattle.pybuf_state.specs.Keeps.{Keeps, is_answer, IsSafe, RepliesCopy, IsCopied}
+use Rattle.pybuf_state.specs.Keeps.{Keeps, is_one_line, is_answer, IsSafe, RepliesCopy, IsCopied}
 use Rattle.pybuf_state.specs.Laws.{ReadingKeeps, LiveLayoutsAreSound}
 use Rattle.pybuf_rows_views.specs.Laws.{ViewIsSafe, SliceIsSafe, CastIsSafe, ReleaseIsSafe, ToReadonlyIsSafe, RangeIsSafe, EnterIsSafe, ContiguousIsCopied}
 use Rattle.pybuf_rows_reads.specs.Laws.{GetIsSafe, BytesIsSafe, LenIsSafe, PropertyIsSafe, ToListIsSafe}
 use Rattle.pybuf_rows_writes.specs.Laws.{SetIsSafe, AssignIsSafe}
 use Rattle.pybuf_rows_edits.specs.Laws.{EditsAreSafe, DeleteOfViewIsSafe}
+use Rattle.pybuf_rows_compare.specs.Laws.{CompareIsSafe, HashIsSafe, ReprIsSafe}
 use Rattle.pybuf_exporter.specs.Step.{get_of_view, row, answer_of, settled_answer, estep, set_in_own, set_through_view}
 use Rattle.pybuf_exporter.specs.Rows.{RowsAreSafe, RowIsSafe}
-use Rattle.pybuf_exporter.specs.Laws.{CommandsKeepSound, LengthsStayUnderCommands, ReadOnlyBytesStayUnderCommands, RefusedCommandsChangeNothing, LoansAlikeDoTheSame, ItemsAreRead, FreshRepliesAreCopies}
+use Rattle.pybuf_exporter.specs.Laws.{CommandsKeepSound, LengthsStayUnderCommands, ReadOnlyBytesStayUnderCommands, RefusedCommandsChangeNothing, LoansAlikeDoTheSame, ItemsAreRead, FreshRepliesAreCopies, ShownTextsAreOneLine}
 
 -- the laws of the rows
 pub record RowLaws : Type 0 where
@@ -56,6 +57,9 @@ pub record RowLaws : Type 0 where
   pub assign : AssignIsSafe
   pub edits : EditsAreSafe
   pub delete_of_view : DeleteOfViewIsSafe
+  pub compare : CompareIsSafe
+  pub hash : HashIsSafe
+  pub repr : ReprIsSafe
 
 get_of_view_safe : RowLaws → (e : Exporter) (k : ℕ) (key : Value) → IsSafe e (get_of_view e k key)
 get_of_view_safe laws e k (value.Slice slice) = laws.slice e k slice
@@ -107,6 +111,9 @@ rows_safe laws e subject.Own (verb.IMul count) lents = laws.edits e (verb.IMul c
 rows_safe laws e subject.Own (verb.Init options) lents = laws.edits e (verb.Init options) lents
 rows_safe laws e subject.Own verb.Take lents = laws.edits e verb.Take lents
 rows_safe laws e subject.Own verb.Copy lents = laws.edits e verb.Copy lents
+rows_safe laws e subject.Own (verb.Compare op other) lents = laws.compare.0 e op other lents
+rows_safe laws e subject.Own verb.Hash lents = laws.hash.0 e
+rows_safe laws e subject.Own verb.Repr lents = laws.repr.0 e
 rows_safe laws e (subject.View k) verb.View lents = laws.view.1 e k
 rows_safe laws e (subject.View k) (verb.Get key) lents = get_of_view_safe laws e k key
 rows_safe laws e (subject.View k) (verb.Set key value) lents = set_through_view_safe laws e k key value lents
@@ -134,14 +141,19 @@ rows_safe laws e (subject.View k) (verb.IMul count) lents = tt
 rows_safe laws e (subject.View k) (verb.Init options) lents = tt
 rows_safe laws e (subject.View k) verb.Take lents = tt
 rows_safe laws e (subject.View k) verb.Copy lents = tt
+rows_safe laws e (subject.View k) (verb.Compare op other) lents = laws.compare.1 e k op other lents
+rows_safe laws e (subject.View k) verb.Hash lents = laws.hash.1 e k
+rows_safe laws e (subject.View k) verb.Repr lents = laws.repr.1 e k
 rows_safe laws e (subject.Iter k) v lents = tt
 
 -- ---- every command
 
--- a reply is no refusal, and something fresh is a copy, by which the exporter is as before
+-- a reply is no refusal, something fresh is a copy, by which the exporter is as before, and what is shown is
+-- one line
 abbrev pub IsReplyTo : Exporter → Subject → Exporter → LocalReply → Type 0
 IsReplyTo e s new (reply.Refused f) = ⊥
 IsReplyTo e s new (reply.Fresh snap) = (new ≡ e) × IsCopyOf e s snap
+IsReplyTo e s new (reply.Shown text) = is_one_line text ≡ true
 IsReplyTo e s new _ = Unit {0}
 
 -- what every row owes where it isn't refused
@@ -160,7 +172,9 @@ ordinary e s new (reply.Item x) is = tt
 ordinary e s new (reply.Items shape items) is = tt
 ordinary e s new (reply.Bytes bytes) is = tt
 ordinary e s new (reply.Text text) is = tt
+ordinary e s new (reply.Shown text) is = is
 ordinary e s new (reply.Truth truth) is = tt
+ordinary e s new reply.NotImplementedReply is = tt
 ordinary e s new (reply.Numbers numbers) is = tt
 
 copied_reply : (e : Exporter) (s : Subject) (new : Exporter) (r : LocalReply) → new ≡ e → RepliesCopy e s r → IsReplyTo e s new r
@@ -174,7 +188,9 @@ copied_reply e s new (reply.Item x) same copied = tt
 copied_reply e s new (reply.Items shape items) same copied = tt
 copied_reply e s new (reply.Bytes bytes) same copied = tt
 copied_reply e s new (reply.Text text) same copied = tt
+copied_reply e s new (reply.Shown text) same copied = absurd copied
 copied_reply e s new (reply.Truth truth) same copied = tt
+copied_reply e s new reply.NotImplementedReply same copied = tt
 copied_reply e s new (reply.Numbers numbers) same copied = tt
 
 safe_step : (e : Exporter) (s : Subject) (r : Result (Exporter × LocalReply) Fault) → IsSafe e r → IfDone (IsStep e s) r
@@ -216,6 +232,9 @@ row_step reading e subject.Own (verb.IMul count) r safe = safe_step e subject.Ow
 row_step reading e subject.Own (verb.Init options) r safe = safe_step e subject.Own r safe
 row_step reading e subject.Own verb.Take r safe = safe_step e subject.Own r safe
 row_step reading e subject.Own verb.Copy r safe = copied_step reading e subject.Own r safe
+row_step reading e subject.Own (verb.Compare op other) r safe = safe_step e subject.Own r safe
+row_step reading e subject.Own verb.Hash r safe = safe_step e subject.Own r safe
+row_step reading e subject.Own verb.Repr r safe = safe_step e subject.Own r safe
 row_step reading e (subject.Iter k) v r safe = safe_step e (subject.Iter k) r safe
 row_step reading e (subject.View k) verb.ToContiguous r safe = copied_step reading e (subject.View k) r safe
 row_step reading e (subject.View k) verb.View r safe = safe_step e (subject.View k) r safe
@@ -244,6 +263,9 @@ row_step reading e (subject.View k) (verb.IMul count) r safe = safe_step e (subj
 row_step reading e (subject.View k) (verb.Init options) r safe = safe_step e (subject.View k) r safe
 row_step reading e (subject.View k) verb.Take r safe = safe_step e (subject.View k) r safe
 row_step reading e (subject.View k) verb.Copy r safe = safe_step e (subject.View k) r safe
+row_step reading e (subject.View k) (verb.Compare op other) r safe = safe_step e (subject.View k) r safe
+row_step reading e (subject.View k) verb.Hash r safe = safe_step e (subject.View k) r safe
+row_step reading e (subject.View k) verb.Repr r safe = safe_step e (subject.View k) r safe
 
 chosen : (e : Exporter) (s : Subject) (b : Bool) (r : Result (Exporter × LocalReply) Fault) → IfDone (IsStep e s) r → IfDone (IsStep e s) (if b then r else Err fault.UnknownName)
 chosen e s true r step = step
@@ -286,6 +308,14 @@ settled_fresh e s (Err g) snap step is = absurd (cc)
 
 pub fresh_are_copies : RowsAreSafe → ReadingKeeps → FreshRepliesAreCopies
 fresh_are_copies rows reading e s v loans snap is = settled_fresh e s (answer_of e s v loans) snap (answered_step rows reading e s v loans) is
+
+-- where the reply shows a text, it is one line
+settled_shown : (e : Exporter) (s : Subject) (r : Result (Exporter × LocalReply) Fault) (text : List ℕ) → IfDone (IsStep e s) r → (settled_answer e r).1 ≡ reply.Shown text → is_one_line text ≡ true
+settled_shown e s (Ok after) text step is = subst (IsReplyTo e s after.0) is step.replies
+settled_shown e s (Err g) text step is = absurd (cc)
+
+pub shown_are_one_line : RowsAreSafe → ReadingKeeps → ShownTextsAreOneLine
+shown_are_one_line rows reading e s v loans text is = settled_shown e s (answer_of e s v loans) text (answered_step rows reading e s v loans) is
 
 pub alike_steps : LoansAlikeDoTheSame
 alike_steps e s v loans others alike =

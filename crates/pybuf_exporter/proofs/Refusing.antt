@@ -55,6 +55,9 @@ row_is_edit e verb.ToList lents is = absurd (true≢false (sym is))
 row_is_edit e verb.Len lents is = absurd (true≢false (sym is))
 row_is_edit e (verb.Property name) lents is = absurd (true≢false (sym is))
 row_is_edit e verb.ToReadonly lents is = absurd (true≢false (sym is))
+row_is_edit e (verb.Compare op other) lents is = absurd (true≢false (sym is))
+row_is_edit e verb.Hash lents is = absurd (true≢false (sym is))
+row_is_edit e verb.Repr lents is = absurd (true≢false (sym is))
 
 -- what replies a refusal is refused so
 refused_by : (e : Exporter) (r : Result (Exporter × LocalReply) Fault) (f : Fault) → IfDone (IsStep e subject.Own) r → (settled_answer e r).1 ≡ reply.Refused f → r ≡ Err f

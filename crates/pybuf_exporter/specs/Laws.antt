@@ -19,7 +19,7 @@ use Rattle.pybuf_state.specs.Exporter.{Exporter, live_layout}
 use Rattle.pybuf_state.specs.Loans.{are_known, lent_for_each}
 use Rattle.pybuf_state.specs.Sound.{IsSoundExporter}
 use Rattle.pybuf_state.specs.Fresh.{IsCopyOf}
-use Rattle.pybuf_state.specs.Keeps.{LengthsStay, ReadOnlyBytesStay}
+use Rattle.pybuf_state.specs.Keeps.{LengthsStay, ReadOnlyBytesStay, is_one_line}
 use Rattle.pybuf_state.specs.Resizing.{has_exports}
 use Rattle.pybuf_rows_edits.specs.Edits.{is_edit}
 use Rattle.pybuf_rows_edits.specs.Asking.{asks}
@@ -48,6 +48,11 @@ abbrev pub FreshRepliesAreCopies : Type 0
 FreshRepliesAreCopies =
     (e : Exporter) (s : Subject) (v : Verb) (loans : List (ℕ × Loan)) (snap : Snap) → (estep e s v loans).1 ≡ reply.Fresh snap
     → ((estep e s v loans).0 ≡ e) × (IsCopyOf e s snap)
+
+-- a text that a command shows of its subject holds no line feed
+abbrev pub ShownTextsAreOneLine : Type 0
+ShownTextsAreOneLine =
+    (e : Exporter) (s : Subject) (v : Verb) (loans : List (ℕ × Loan)) (text : List ℕ) → (estep e s v loans).1 ≡ reply.Shown text → is_one_line text ≡ true
 
 -- Two lists of loans know the same handles of a command, and lend the same for those whose bytes it
 -- reads.

@@ -28,6 +28,9 @@ use Rattle.pybuf_rows_reads.specs.ToBytes.{bytes_of_own, bytes_of_view}
 use Rattle.pybuf_rows_reads.specs.Len.{len_of_own, len_of_view}
 use Rattle.pybuf_rows_reads.specs.Property.{property_of_own, property_of_view}
 use Rattle.pybuf_rows_reads.specs.ToList.{list_of_view}
+use Rattle.pybuf_rows_compare.specs.Compare.{compare_of_own, compare_of_view}
+use Rattle.pybuf_rows_compare.specs.Hash.{hash_of_own, hash_of_view}
+use Rattle.pybuf_rows_compare.specs.Repr.{repr_of_own, repr_of_view}
 use Rattle.pybuf_rows_writes.specs.Set.{set_of_own, set_of_view}
 use Rattle.pybuf_rows_writes.specs.Assign.{assign_of_view}
 use Rattle.pybuf_rows_edits.specs.Shrinking.{delete_of_view}
@@ -49,9 +52,11 @@ set_in_own e (value.Slice slice) v lents = edit_of_own e (verb.Set (value.Slice 
 set_in_own e key v lents = set_of_own e key v
 
 -- The handle whose bytes a command reads where they lie, also those of another exporter: the value that a
--- view is written by a slice.
+-- view is written by a slice, and one that a subject is compared with.
 abbrev pub source_in_place : Subject → Verb → Option ℕ
 source_in_place (subject.View k) (verb.Set (value.Slice slice) (value.One (scalar.Handle h))) = Some h
+source_in_place (subject.View k) (verb.Compare op (value.One (scalar.Handle h))) = Some h
+source_in_place subject.Own (verb.Compare op (value.One (scalar.Handle h))) = Some h
 source_in_place s v = None
 
 -- The row of a verb on the exporter itself. Every further verb is an edit, or none that an exporter has.
@@ -63,6 +68,9 @@ row_of_own e (verb.Set key value) lents = set_in_own e key value lents
 row_of_own e verb.ToBytes lents = bytes_of_own e
 row_of_own e verb.Len lents = len_of_own e
 row_of_own e (verb.Property name) lents = property_of_own e name
+row_of_own e (verb.Compare op other) lents = compare_of_own e op other lents
+row_of_own e verb.Hash lents = hash_of_own e
+row_of_own e verb.Repr lents = repr_of_own e
 row_of_own e v lents = edit_of_own e v lents
 
 -- the row of a verb on a view
@@ -81,6 +89,9 @@ row_of_view e k verb.Len lents = len_of_view e k
 row_of_view e k (verb.Property name) lents = property_of_view e k name
 row_of_view e k verb.ToReadonly lents = toreadonly_of_view e k
 row_of_view e k (verb.Del key) lents = delete_of_view e k
+row_of_view e k (verb.Compare op other) lents = compare_of_view e k op other lents
+row_of_view e k verb.Hash lents = hash_of_view e k
+row_of_view e k verb.Repr lents = repr_of_view e k
 row_of_view e k _ lents = Err fault.UnknownName
 
 -- The row of the subject and the verb, with what is lent to it. A subject of a kind that has no such

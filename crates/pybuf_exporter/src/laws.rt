@@ -1,5 +1,5 @@
 //! Laws over every command, from the laws of the rows.
-ghost use Rattle.pybuf_exporter.specs.Laws.{CommandsKeepSound, LengthsStayUnderCommands, ReadOnlyBytesStayUnderCommands, RefusedCommandsChangeNothing, FreshRepliesAreCopies, LoansAlikeDoTheSame, ItemsAreRead, ResizingIsRefusedWhileExported};
+ghost use Rattle.pybuf_exporter.specs.Laws.{CommandsKeepSound, LengthsStayUnderCommands, ReadOnlyBytesStayUnderCommands, RefusedCommandsChangeNothing, FreshRepliesAreCopies, LoansAlikeDoTheSame, ItemsAreRead, ResizingIsRefusedWhileExported, ShownTextsAreOneLine};
 ghost use Rattle.pybuf_exporter.specs.Rows.{RowsAreSafe};
 
 /// Each row keeps a sound exporter, or replies a copy.
@@ -23,6 +23,9 @@ fn rows_are_safe()
     pybuf_rows_writes::assign_is_safe();
     pybuf_rows_edits::edits_are_safe();
     pybuf_rows_edits::delete_of_view_is_safe();
+    pybuf_rows_compare::compare_is_safe();
+    pybuf_rows_compare::hash_is_safe();
+    pybuf_rows_compare::repr_is_safe();
 }
 
 /// Every command leaves a sound exporter sound.
@@ -62,6 +65,14 @@ pub fn refused_commands_change_nothing()
 /// the view or the bytearray that it is asked of.
 pub fn fresh_replies_are_copies()
     ensures { FreshRepliesAreCopies }
+{
+    rows_are_safe();
+    pybuf_state::reading_keeps();
+}
+
+/// A text that a command shows of its subject holds no line feed, whatever its bytes are.
+pub fn shown_texts_are_one_line()
+    ensures { ShownTextsAreOneLine }
 {
     rows_are_safe();
     pybuf_state::reading_keeps();

@@ -9,7 +9,7 @@ pub use exporter::ExporterState;
 pub use laws::{
     commands_keep_sound, fresh_replies_are_copies, items_are_read, lengths_stay,
     loans_alike_do_the_same, readonly_bytes_stay, refused_commands_change_nothing,
-    resizing_is_refused_while_exported,
+    resizing_is_refused_while_exported, shown_texts_are_one_line,
 };
 pub use pick::source_in_place;
 pub use pybuf_command::{
@@ -20,6 +20,7 @@ pub use pybuf_desc::{
     casts_share_their_bytes, contiguity_is_of_strides, shaped_casts_share_their_bytes,
     slicing_back_twice_is_nothing,
 };
+pub use pybuf_rows_compare::equal_views_hash_alike;
 pub use pybuf_rows_reads::lists_hold_the_items;
 pub use pybuf_rows_writes::{assignments_are_by_value, writes_are_seen};
 pub use pybuf_state::copies_are_faithful;

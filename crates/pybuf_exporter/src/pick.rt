@@ -11,6 +11,7 @@ ghost use Rattle.pybuf_state.specs.Answers.{exporter_of, IsWhole, Answers};
 ghost use Rattle.pybuf_exporter.specs.Step as spec;
 
 use pybuf_command::{LoanList, LocalReply, Subject, Verb, handles_of};
+use pybuf_rows_compare::{compare, hash, repr};
 use pybuf_rows_edits::{delete_of_view, edit_of_own};
 use pybuf_rows_reads::{get, len, property, to_bytes, to_list};
 use pybuf_rows_views::{cast, contiguous, enter, range, release, slice, to_readonly, view};
@@ -68,6 +69,9 @@ fn row_of_own(parts: &mut Parts, verb: &Verb, loans: &LoanList) -> Result<LocalR
         Verb::ToBytes => to_bytes::of_own(parts),
         Verb::Len => len::of_own(parts),
         Verb::Property { name } => property::of_own(parts, *name),
+        Verb::Compare { op, other } => compare::of_own(parts, *op, other, loans),
+        Verb::Hash => hash::of_own(parts),
+        Verb::Repr => repr::of_own(parts),
         _ => edit_of_own(parts, verb, loans),
     }
 }
@@ -99,6 +103,9 @@ fn row_of_view(
         Verb::Property { name } => property::of_view(parts, k, *name),
         Verb::ToReadonly => to_readonly::of_view(parts, k),
         Verb::Del { key: _ } => delete_of_view(parts, k),
+        Verb::Compare { op, other } => compare::of_view(parts, k, *op, other, loans),
+        Verb::Hash => hash::of_view(parts, k),
+        Verb::Repr => repr::of_view(parts, k),
         _ => Err(Halt::Refused(Fault::UnknownName)),
     }
 }
@@ -123,7 +130,8 @@ fn row(
 }
 
 /// The handle whose bytes a command reads where they lie, also those of another exporter: the value
-/// that a view is written by a slice. None exactly where a command is no such one.
+/// that a view is written by a slice, and one that a subject is compared with. None exactly where a
+/// command is no such one.
 pub fn source_in_place(subject: Subject, verb: &Verb) -> Option<u64>
     ensures { result ≡ spec.source_in_place subject verb.now }
 {
@@ -133,6 +141,20 @@ pub fn source_in_place(subject: Subject, verb: &Verb) -> Option<u64>
             Verb::Set {
                 key: Value::Slice(_),
                 value: Value::One(Scalar::Handle(handle)),
+            },
+        ) => Some(*handle),
+        (
+            Subject::View(_),
+            Verb::Compare {
+                op: _,
+                other: Value::One(Scalar::Handle(handle)),
+            },
+        ) => Some(*handle),
+        (
+            Subject::Own,
+            Verb::Compare {
+                op: _,
+                other: Value::One(Scalar::Handle(handle)),
             },
         ) => Some(*handle),
         _ => None,
@@ -162,6 +184,12 @@ fn row_beside(
                 value,
             },
         ) => assign::of_view_beside(parts, view, slice, value, lender, lent),
+        (Subject::View(view), Verb::Compare { op, other: _ }) => {
+            compare::of_view_beside(parts, view, *op, handle, lender, lent)
+        }
+        (Subject::Own, Verb::Compare { op, other: _ }) => {
+            compare::of_own_beside(parts, *op, handle, lender, lent)
+        }
         _ => Err(Halt::Refused(Fault::UnknownName)),
     }
 }

@@ -3,7 +3,8 @@ ghost use Rattle.pybuf_command.specs.Fits.{LoansFit};
 
 use super::*;
 use pybuf_value::{
-    ByteList, Fault, Item, ItemList, Made, PySlice, Scalar, ScalarList, Text, Twin, Value,
+    ByteList, CompareOp, Fault, Item, ItemList, Made, PySlice, Scalar, ScalarList, Text, Twin,
+    Value,
 };
 use std::alloc::Global;
 use std::test::Fail;
@@ -17,6 +18,8 @@ fn number_of(reply: &LocalReply) -> i128 {
         LocalReply::Ok => -1,
         LocalReply::View(view) => *view as i128,
         LocalReply::Item(Item::One(Scalar::Int(n))) => *n,
+        LocalReply::Truth(false) => -5,
+        LocalReply::Truth(true) => -6,
         LocalReply::Refused(Fault::Kind) => -3,
         LocalReply::Refused(Fault::UnknownName) => -4,
         _ => -2,
@@ -350,6 +353,97 @@ fn items_are_copied_from_another_exporter(rt: HostRuntime) -> Result<(), Fail> {
     let last = slice(Scalar::Int(3), Scalar::None, Scalar::None);
     assert_eq!(rt; copied(&mut exporter, 0, last, &loans)?, -1);
     assert_eq!(rt; exporter.bytes(), b"fbdfdb".as_slice());
+    Ok(())
+}
+
+/// `compare` of a subject with what handle 7 names, which another exporter lends.
+fn compared_beside(
+    exporter: &mut ExporterState,
+    subject: Subject,
+    op: CompareOp,
+    lender: &ExporterState,
+    lent: Subject,
+    loans: &LoanList,
+) -> Result<i128, Fail> {
+    let other = Value::One(Scalar::Handle(7));
+    let compare = Verb::Compare { op, other };
+    if source_in_place(subject, &compare) != Some(7) {
+        drop(compare);
+        return Err(Fail::from("a handle that is compared with"));
+    }
+    let answer = exporter.carry_out_beside(subject, &compare, loans, 7, lender, lent);
+    drop(compare);
+    let reply = answer?;
+    Ok(number_of(&reply))
+}
+
+/// As `==` and `<` of `bytearray(b'abcdef')`, of a `memoryview` of it and of `memoryview(..)[::2]` of
+/// another one in Python 3.
+#[test]
+fn subjects_are_compared_with_another_exporter(rt: HostRuntime) -> Result<(), Fail> {
+    let none = LoanList::new(rt.alloc());
+    let mut exporter = letters(rt.alloc())?;
+    assert_eq!(rt; asked(&mut exporter, Subject::Own, Verb::View, &none)?, 0);
+    let mut lender = letters(rt.alloc())?;
+    let key = slice(Scalar::None, Scalar::None, Scalar::Int(2));
+    assert_eq!(rt; asked(&mut lender, Subject::Own, Verb::View, &none)?, 0);
+    assert_eq!(rt;
+        asked(&mut lender, Subject::View(0), Verb::Get { key }, &none)?,
+        1
+    );
+    let (own, view) = (Subject::Own, Subject::View(0));
+    let (equal, less) = (CompareOp::Eq, CompareOp::Lt);
+    assert_eq!(rt;
+        compared_beside(&mut exporter, view, equal, &lender, view, &none)?,
+        -6
+    );
+    let apart = Subject::View(1);
+    assert_eq!(rt;
+        compared_beside(&mut exporter, view, equal, &lender, apart, &none)?,
+        -5
+    );
+    assert_eq!(rt;
+        compared_beside(&mut exporter, own, equal, &lender, view, &none)?,
+        -6
+    );
+    assert_eq!(rt;
+        compared_beside(&mut exporter, own, less, &lender, own, &none)?,
+        -5
+    );
+    Ok(())
+}
+
+/// As `memoryview(b'abc')` of Python 3: it equals `b'abc'`, and `hash` of both is one.
+#[test]
+fn a_view_is_compared_hashed_and_shown(rt: HostRuntime) -> Result<(), Fail> {
+    let bytes = abc(rt.alloc())?;
+    let mut exporter = ExporterState::new(rt.alloc(), ExporterKind::Bytes, bytes);
+    let mut loans = LoanList::new(rt.alloc());
+    loans.push((7, Loan::Own))?;
+    let (op, other) = (CompareOp::Ne, Value::One(Scalar::Handle(7)));
+    if !loans.fit(rt.alloc())? {
+        return Err(Fail::from("loans that fit"));
+    }
+    assert_eq!(rt; asked(&mut exporter, Subject::Own, Verb::View, &loans)?, 0);
+    assert_eq!(rt;
+        asked(
+            &mut exporter,
+            Subject::View(0),
+            Verb::Compare { op, other },
+            &loans
+        )?,
+        -5
+    );
+    let hashed = reply_of(&mut exporter, Subject::View(0), Verb::Hash, &loans)?;
+    let LocalReply::Bytes(bytes) = hashed else {
+        return Err(Fail::from("bytes"));
+    };
+    assert_eq!(rt; bytes.as_slice(), b"abc".as_slice());
+    let shown = reply_of(&mut exporter, Subject::Own, Verb::Repr, &loans)?;
+    let LocalReply::Shown(text) = shown else {
+        return Err(Fail::from("a text"));
+    };
+    assert_eq!(rt; text.as_slice(), b"b'abc'".as_slice());
     Ok(())
 }
 

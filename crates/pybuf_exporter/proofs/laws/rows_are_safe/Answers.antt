@@ -21,4 +21,7 @@ returns c =
       assign = c.assign_is_safe.ensures;
       edits = c.edits_are_safe.ensures;
       delete_of_view = c.delete_of_view_is_safe.ensures;
+      compare = c.compare_is_safe.ensures;
+      hash = c.hash_is_safe.ensures;
+      repr = c.repr_is_safe.ensures;
     })
