@@ -1,5 +1,5 @@
--- A command that copies items from another exporter does with that exporter beside it what it does with
--- all loans.
+-- A command that reads the bytes of another exporter where they lie does with that exporter beside it what it
+-- does with all loans.
 use Rattle.std.proofs.Common.{◌≡◌, ℕ, suc, ◌<◌, List, [], ◌∷◌, ◌++◌, length, Bool, true, false, true≢false, get_or, ap, ap₂, sym, ◌∙◌, refl, arith}
 use Rattle.std.specs.Prelude.{◌==◌, ◌&&◌, ◌||◌, IfSome, IfOk, OnErr, set, slice_get, Option, Some, None, Result, Ok, Err, if◌then◌else◌}
 use Rattle.std.specs.List.{list_all, list_any}
@@ -7,6 +7,7 @@ use Rattle.std.proofs.lemmas.Bool.{eqb-true, eq-eqb}
 use Rattle.std.proofs.lemmas.List.Folds.{list_any_at}
 use Rattle.std.proofs.lemmas.Option.{slice_get-get_or}
 use Rattle.pybuf_value.specs.declared.values.Value.TheVariants as value
+use Rattle.pybuf_value.specs.declared.values.CompareOp.{CompareOp}
 use Rattle.pybuf_value.specs.declared.values.Scalar.TheVariants as scalar
 use Rattle.pybuf_command.specs.declared.kinds.Subject.{Subject}
 use Rattle.pybuf_command.specs.declared.kinds.Subject.TheVariants as subject
@@ -28,7 +29,7 @@ use Rattle.pybuf_world.specs.Beside.{IsLentBeside, loans_needed_beside, local_st
 use Rattle.pybuf_world.proofs.Lists.{set-slice_get, slice_get-set_other, set-set}
 use Rattle.pybuf_world.proofs.Needed.{whole_loans, read_loans, known_alike, needed_do_the_same, another_lends}
 
--- ---- the handle that is copied from
+-- ---- the handle that is read in place
 
 or_true : (b : Bool) → (b || true) ≡ true
 or_true true = refl
@@ -42,12 +43,21 @@ pub record IsSource (s : Subject) (v : Verb) (h : ℕ) : Type 0 where
   pub read : handles_read s v ≡ h ∷ []
   pub among : list_any (λ (x : ℕ). x == h) (handles_of v) ≡ true
 
+-- a handle that a subject is compared with is the one that the command has
+compared_source : (s : Subject) (op : CompareOp) (g h : ℕ) → handles_read s (verb.Compare op (value.One (scalar.Handle g))) ≡ g ∷ [] → g ≡ h → IsSource s (verb.Compare op (value.One (scalar.Handle g))) h
+compared_source s op g h read same = record {
+  read = read ∙ ap (λ (x : ℕ). x ∷ []) same;
+  among = ap (λ (x : ℕ). list_any (λ (y : ℕ). y == h) (x ∷ [])) same ∙ any_last h [];
+}
+
 is_source : (s : Subject) (v : Verb) (h : ℕ) → source_in_place s v ≡ Some h → IsSource s v h
 is_source (subject.View k) (verb.Set (value.Slice slice) (value.One (scalar.Handle g))) h is =
     let same : g ≡ h = cc in record {
       read = ap (λ (x : ℕ). x ∷ []) same;
       among = ap (λ (x : ℕ). list_any (λ (y : ℕ). y == h) (handles_in_slice slice ++ x ∷ [])) same ∙ any_last h (handles_in_slice slice);
     }
+is_source (subject.View k) (verb.Compare op (value.One (scalar.Handle g))) h is = compared_source (subject.View k) op g h refl (let same : g ≡ h = cc in same)
+is_source subject.Own (verb.Compare op (value.One (scalar.Handle g))) h is = compared_source subject.Own op g h refl (let same : g ≡ h = cc in same)
 is_source s v h is = absurd (cc)
 
 -- ---- they know the same

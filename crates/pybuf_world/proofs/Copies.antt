@@ -109,7 +109,9 @@ made_by_reply copies faithful w t v loans e (local.Item i) x y found sound is pa
 made_by_reply copies faithful w t v loans e (local.Items shape items) x y found sound is paired = absurd (cc)
 made_by_reply copies faithful w t v loans e (local.Bytes bytes) x y found sound is paired = absurd (cc)
 made_by_reply copies faithful w t v loans e (local.Text text) x y found sound is paired = absurd (cc)
+made_by_reply copies faithful w t v loans e (local.Shown text) x y found sound is paired = absurd (cc)
 made_by_reply copies faithful w t v loans e (local.Truth truth) x y found sound is paired = absurd (cc)
+made_by_reply copies faithful w t v loans e local.NotImplementedReply x y found sound is paired = absurd (cc)
 made_by_reply copies faithful w t v loans e (local.Numbers numbers) x y found sound is paired = absurd (cc)
 made_by_reply copies faithful w t v loans e (local.Refused f) x y found sound is paired = absurd (cc)
 
@@ -159,7 +161,9 @@ one_by_reply copies faithful w t v loans e (local.Item i) x found sound is repli
 one_by_reply copies faithful w t v loans e (local.Items shape items) x found sound is replied more = absurd (none_more w.exporters t.exporter (estep e t.subject v loans).0 more)
 one_by_reply copies faithful w t v loans e (local.Bytes bytes) x found sound is replied more = absurd (none_more w.exporters t.exporter (estep e t.subject v loans).0 more)
 one_by_reply copies faithful w t v loans e (local.Text text) x found sound is replied more = absurd (none_more w.exporters t.exporter (estep e t.subject v loans).0 more)
+one_by_reply copies faithful w t v loans e (local.Shown text) x found sound is replied more = absurd (none_more w.exporters t.exporter (estep e t.subject v loans).0 more)
 one_by_reply copies faithful w t v loans e (local.Truth truth) x found sound is replied more = absurd (none_more w.exporters t.exporter (estep e t.subject v loans).0 more)
+one_by_reply copies faithful w t v loans e local.NotImplementedReply x found sound is replied more = absurd (none_more w.exporters t.exporter (estep e t.subject v loans).0 more)
 one_by_reply copies faithful w t v loans e (local.Numbers numbers) x found sound is replied more = absurd (none_more w.exporters t.exporter (estep e t.subject v loans).0 more)
 one_by_reply copies faithful w t v loans e (local.Refused f) x found sound is replied more = absurd (none_more w.exporters t.exporter (estep e t.subject v loans).0 more)
 

@@ -10,3 +10,4 @@ pub mod Needed
 pub mod Beside
 pub mod Releases
 pub mod Copies
+pub mod Shown

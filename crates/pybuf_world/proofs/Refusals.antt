@@ -43,7 +43,9 @@ after_refusal w t e (local.Item x) f kept is = absurd (cc)
 after_refusal w t e (local.Items shape items) f kept is = absurd (cc)
 after_refusal w t e (local.Bytes bytes) f kept is = absurd (cc)
 after_refusal w t e (local.Text text) f kept is = absurd (cc)
+after_refusal w t e (local.Shown text) f kept is = absurd (cc)
 after_refusal w t e (local.Truth truth) f kept is = absurd (cc)
+after_refusal w t e local.NotImplementedReply f kept is = absurd (cc)
 after_refusal w t e (local.Numbers numbers) f kept is = absurd (cc)
 
 loans_refusal : RefusedCommandsChangeNothing → (w : World) (t : Target) (v : Verb) (loans : List (ℕ × Loan)) (o : Option Exporter) (f : Fault) → slice_get w.exporters t.exporter ≡ o
@@ -91,7 +93,9 @@ after_handles w t (local.Item x) h below = refl
 after_handles w t (local.Items shape items) h below = refl
 after_handles w t (local.Bytes bytes) h below = refl
 after_handles w t (local.Text text) h below = refl
+after_handles w t (local.Shown text) h below = refl
 after_handles w t (local.Truth truth) h below = refl
+after_handles w t local.NotImplementedReply h below = refl
 after_handles w t (local.Numbers numbers) h below = refl
 after_handles w t (local.Refused g) h below = refl
 

@@ -175,7 +175,9 @@ after_sound w t e (local.Item x) sound there sound_e fresh = with_set_sound w t.
 after_sound w t e (local.Items shape items) sound there sound_e fresh = with_set_sound w t.exporter e sound sound_e
 after_sound w t e (local.Bytes bytes) sound there sound_e fresh = with_set_sound w t.exporter e sound sound_e
 after_sound w t e (local.Text text) sound there sound_e fresh = with_set_sound w t.exporter e sound sound_e
+after_sound w t e (local.Shown text) sound there sound_e fresh = with_set_sound w t.exporter e sound sound_e
 after_sound w t e (local.Truth truth) sound there sound_e fresh = with_set_sound w t.exporter e sound sound_e
+after_sound w t e local.NotImplementedReply sound there sound_e fresh = with_set_sound w t.exporter e sound sound_e
 after_sound w t e (local.Numbers numbers) sound there sound_e fresh = with_set_sound w t.exporter e sound sound_e
 after_sound w t e (local.Refused f) sound there sound_e fresh = with_set_sound w t.exporter e sound sound_e
 
@@ -194,7 +196,9 @@ after_owned w t e (local.Item x) owners sound sound_e fresh owned = with_set_own
 after_owned w t e (local.Items shape items) owners sound sound_e fresh owned = with_set_owned w t.exporter e owners owned
 after_owned w t e (local.Bytes bytes) owners sound sound_e fresh owned = with_set_owned w t.exporter e owners owned
 after_owned w t e (local.Text text) owners sound sound_e fresh owned = with_set_owned w t.exporter e owners owned
+after_owned w t e (local.Shown text) owners sound sound_e fresh owned = with_set_owned w t.exporter e owners owned
 after_owned w t e (local.Truth truth) owners sound sound_e fresh owned = with_set_owned w t.exporter e owners owned
+after_owned w t e local.NotImplementedReply owners sound sound_e fresh owned = with_set_owned w t.exporter e owners owned
 after_owned w t e (local.Numbers numbers) owners sound sound_e fresh owned = with_set_owned w t.exporter e owners owned
 after_owned w t e (local.Refused f) owners sound sound_e fresh owned = with_set_owned w t.exporter e owners owned
 
@@ -216,7 +220,9 @@ fresh_by_reply laws e t v loans (local.Item x) sound is = tt
 fresh_by_reply laws e t v loans (local.Items shape items) sound is = tt
 fresh_by_reply laws e t v loans (local.Bytes bytes) sound is = tt
 fresh_by_reply laws e t v loans (local.Text text) sound is = tt
+fresh_by_reply laws e t v loans (local.Shown text) sound is = tt
 fresh_by_reply laws e t v loans (local.Truth truth) sound is = tt
+fresh_by_reply laws e t v loans local.NotImplementedReply sound is = tt
 fresh_by_reply laws e t v loans (local.Numbers numbers) sound is = tt
 fresh_by_reply laws e t v loans (local.Refused f) sound is = tt
 

@@ -63,7 +63,9 @@ set_or_more Stays kept w t old new (local.Item x) found stays i e at = one_set S
 set_or_more Stays kept w t old new (local.Items shape items) found stays i e at = one_set Stays kept w t.exporter old new found stays i e (eqb_tells t.exporter i) at
 set_or_more Stays kept w t old new (local.Bytes bytes) found stays i e at = one_set Stays kept w t.exporter old new found stays i e (eqb_tells t.exporter i) at
 set_or_more Stays kept w t old new (local.Text text) found stays i e at = one_set Stays kept w t.exporter old new found stays i e (eqb_tells t.exporter i) at
+set_or_more Stays kept w t old new (local.Shown text) found stays i e at = one_set Stays kept w t.exporter old new found stays i e (eqb_tells t.exporter i) at
 set_or_more Stays kept w t old new (local.Truth truth) found stays i e at = one_set Stays kept w t.exporter old new found stays i e (eqb_tells t.exporter i) at
+set_or_more Stays kept w t old new local.NotImplementedReply found stays i e at = one_set Stays kept w t.exporter old new found stays i e (eqb_tells t.exporter i) at
 set_or_more Stays kept w t old new (local.Numbers numbers) found stays i e at = one_set Stays kept w t.exporter old new found stays i e (eqb_tells t.exporter i) at
 set_or_more Stays kept w t old new (local.Refused f) found stays i e at = one_set Stays kept w t.exporter old new found stays i e (eqb_tells t.exporter i) at
 

@@ -41,7 +41,9 @@ reply_answered w t old new (local.Item x) found = refl
 reply_answered w t old new (local.Items shape items) found = refl
 reply_answered w t old new (local.Bytes bytes) found = refl
 reply_answered w t old new (local.Text text) found = refl
+reply_answered w t old new (local.Shown text) found = refl
 reply_answered w t old new (local.Truth truth) found = refl
+reply_answered w t old new local.NotImplementedReply found = refl
 reply_answered w t old new (local.Numbers numbers) found = refl
 reply_answered w t old new (local.Refused f) found = refl
 
@@ -79,7 +81,9 @@ left_alone copies w t v loans o after (local.Item x) found is fresh = absurd fre
 left_alone copies w t v loans o after (local.Items shape items) found is fresh = absurd fresh
 left_alone copies w t v loans o after (local.Bytes bytes) found is fresh = absurd fresh
 left_alone copies w t v loans o after (local.Text text) found is fresh = absurd fresh
+left_alone copies w t v loans o after (local.Shown text) found is fresh = absurd fresh
 left_alone copies w t v loans o after (local.Truth truth) found is fresh = absurd fresh
+left_alone copies w t v loans o after local.NotImplementedReply found is fresh = absurd fresh
 left_alone copies w t v loans o after (local.Numbers numbers) found is fresh = absurd fresh
 left_alone copies w t v loans o after (local.Refused f) found is fresh = absurd fresh
 
@@ -96,7 +100,9 @@ copy_asked copies w t v loans o after (local.Item x) found is = tt
 copy_asked copies w t v loans o after (local.Items shape items) found is = tt
 copy_asked copies w t v loans o after (local.Bytes bytes) found is = tt
 copy_asked copies w t v loans o after (local.Text text) found is = tt
+copy_asked copies w t v loans o after (local.Shown text) found is = tt
 copy_asked copies w t v loans o after (local.Truth truth) found is = tt
+copy_asked copies w t v loans o after local.NotImplementedReply found is = tt
 copy_asked copies w t v loans o after (local.Numbers numbers) found is = tt
 copy_asked copies w t v loans o after (local.Refused f) found is = tt
 

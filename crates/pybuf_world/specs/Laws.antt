@@ -11,7 +11,7 @@ use Rattle.pybuf_command.specs.declared.commands.Verb.{Verb}
 use Rattle.pybuf_command.specs.Handles.{handles_of_options}
 use Rattle.pybuf_state.specs.Exporter.{Exporter, new_exporter}
 use Rattle.pybuf_state.specs.Fresh.{HoldsCopy}
-use Rattle.pybuf_state.specs.Keeps.{LengthsStay, ReadOnlyBytesStay}
+use Rattle.pybuf_state.specs.Keeps.{LengthsStay, ReadOnlyBytesStay, is_one_line}
 use Rattle.pybuf_world.specs.declared.named.Named.TheVariants as named
 use Rattle.pybuf_world.specs.declared.commands.Command.{Command}
 use Rattle.pybuf_world.specs.declared.commands.Command.TheVariants as command
@@ -45,6 +45,10 @@ WorldLengthsStay = (w : World) (c : Command) → IsSoundWorld w → EachExporter
 -- no command changes the bytes of an exporter that is only read
 abbrev pub WorldReadOnlyBytesStay : Type 0
 WorldReadOnlyBytesStay = (w : World) (c : Command) → IsSoundWorld w → EachExporterStays ReadOnlyBytesStay w (wstep w c).0
+
+-- a text that a command shows of its subject holds no line feed
+abbrev pub WorldShownTextsAreOneLine : Type 0
+WorldShownTextsAreOneLine = (w : World) (c : Command) (text : List ℕ) → (wstep w c).1 ≡ reply.Shown text → is_one_line text ≡ true
 
 -- One more exporter stands behind the others, which stay as they are, so that a write to one isn't seen
 -- by the other, and the handle names it. It holds the bytes of a subject of another: those of a bytearray,

@@ -36,8 +36,12 @@ pub enum Reply {
     Bytes(ByteList),
     /// A text.
     Text(Text),
+    /// The text that a subject is shown as, which is one line.
+    Shown(Text),
     /// A truth value that is no item.
     Truth(bool),
+    /// Python's `NotImplemented`: the subject can't be compared with such a value.
+    NotImplementedReply,
     /// Numbers, one for each dimension.
     Numbers(NumberList),
     /// Refused: nothing was changed, and no handle was used up.

@@ -1,6 +1,6 @@
 //! Laws over every command on a world, from the laws over every command on one exporter.
 ghost use Rattle.pybuf_rows_views.specs.Laws.{ReleasingTwiceIsOnce};
-ghost use Rattle.pybuf_world.specs.Laws.{RefusalsChangeNothing, HandlesStay, ReleasingByHandleTwiceIsOnce, WorldLengthsStay, WorldReadOnlyBytesStay, CopiesAreExportersOfTheirOwn, UnviewedCopiesAreExportersOfTheirOwn, NewExportersStandBehind, UnknownSourcesAreRefused};
+ghost use Rattle.pybuf_world.specs.Laws.{RefusalsChangeNothing, HandlesStay, ReleasingByHandleTwiceIsOnce, WorldLengthsStay, WorldReadOnlyBytesStay, WorldShownTextsAreOneLine, CopiesAreExportersOfTheirOwn, UnviewedCopiesAreExportersOfTheirOwn, NewExportersStandBehind, UnknownSourcesAreRefused};
 
 /// A refused command leaves the whole world as it was, so no handle is used up.
 pub fn refusals_change_nothing()
@@ -36,6 +36,13 @@ pub fn world_readonly_bytes_stay()
     ensures { WorldReadOnlyBytesStay }
 {
     pybuf_exporter::readonly_bytes_stay();
+}
+
+/// A text that a command shows of its subject holds no line feed, whatever the bytes are.
+pub fn world_shown_texts_are_one_line()
+    ensures { WorldShownTextsAreOneLine }
+{
+    pybuf_exporter::shown_texts_are_one_line();
 }
 
 /// A command that replies two handles has made an exporter of its own, behind those that there were,

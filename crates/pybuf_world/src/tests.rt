@@ -2,7 +2,7 @@
 use super::*;
 use pybuf_bytes::ByteInnerNewOptions;
 use pybuf_command::{ExporterKind, PropertyName, Verb};
-use pybuf_value::{ByteList, Fault, PySlice, Scalar, ScalarList, Value};
+use pybuf_value::{ByteList, CompareOp, Fault, PySlice, Scalar, ScalarList, Value};
 use std::alloc::Global;
 use std::test::Fail;
 
@@ -48,6 +48,8 @@ fn number_of(reply: &Reply) -> i128 {
         Reply::Ok => -1,
         Reply::Handle(handle) => *handle as i128,
         Reply::Pair { exporter, view } => exporter.wrapping_mul(100).wrapping_add(*view) as i128,
+        Reply::Truth(false) => -5,
+        Reply::Truth(true) => -6,
         Reply::Refused(Fault::Kind) => -3,
         Reply::Refused(Fault::UnknownName) => -4,
         _ => -2,
@@ -85,6 +87,51 @@ fn a_world_lends(rt: HostRuntime) -> Result<(), Fail> {
     parts.push(Scalar::Handle(3))?;
     let key = Value::List(parts);
     assert_eq!(rt; number_of(&world.step(&ask(0, Verb::Get { key }))?), -4);
+    Ok(())
+}
+
+fn compare(op: CompareOp, other: Value) -> Verb {
+    Verb::Compare { op, other }
+}
+
+/// As two `bytearray(b'abc')` of Python 3 and a `memoryview` of the second.
+#[test]
+fn exporters_are_compared(rt: HostRuntime) -> Result<(), Fail> {
+    let mut world = World::new(rt.alloc());
+    assert_eq!(rt; number_of(&world.step(&new_bytearray(rt.alloc())?)?), 0);
+    assert_eq!(rt; number_of(&world.step(&new_bytearray(rt.alloc())?)?), 1);
+    assert_eq!(rt; number_of(&world.step(&ask(1, Verb::View))?), 2);
+    let (equal, greater) = (CompareOp::Eq, CompareOp::Gt);
+    assert_eq!(rt;
+        number_of(&world.step(&ask(0, compare(equal, handle(1))))?),
+        -6
+    );
+    assert_eq!(rt;
+        number_of(&world.step(&ask(0, compare(greater, handle(1))))?),
+        -5
+    );
+    assert_eq!(rt;
+        number_of(&world.step(&ask(2, compare(equal, handle(0))))?),
+        -6
+    );
+    assert_eq!(rt;
+        number_of(&world.step(&ask(2, compare(equal, handle(1))))?),
+        -6
+    );
+    let value = Value::One(Scalar::Int(90));
+    assert_eq!(rt; number_of(&world.step(&ask(2, set(value)))?), -1);
+    assert_eq!(rt;
+        number_of(&world.step(&ask(2, compare(equal, handle(0))))?),
+        -5
+    );
+    assert_eq!(rt;
+        number_of(&world.step(&ask(0, compare(greater, handle(2))))?),
+        -6
+    );
+    assert_eq!(rt;
+        number_of(&world.step(&ask(0, compare(equal, handle(9))))?),
+        -4
+    );
     Ok(())
 }
 
