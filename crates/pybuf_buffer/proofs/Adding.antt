@@ -21,9 +21,6 @@ use Rattle.pybuf_buffer.specs.Making.{checked_format}
 vector_layout : DescriptorsStandForOneView → (d : Descriptor) (bytes : List ℕ) (n : ℕ) → n ≡ length bytes → Stands d 0 (bytes_layout n true) → bytes_layout (length bytes) true ≡ layout_at d 0
 vector_layout one d bytes n long stands = ap (λ (k : ℕ). bytes_layout k true) (sym long) ∙ one d 0 (bytes_layout n true) stands
 
-pub lent_layout : DescriptorsStandForOneView → (d : Descriptor) (bytes : List ℕ) (n : ℕ) (readonly : Bool) → n ≡ length bytes → Stands d 0 (bytes_layout n readonly) → bytes_layout (length bytes) readonly ≡ layout_at d 0
-lent_layout one d bytes n readonly long stands = ap (λ (k : ℕ). bytes_layout k readonly) (sym long) ∙ one d 0 (bytes_layout n readonly) stands
-
 pub vector_sound : DescriptorsStandForOneView → WholeLayoutsAreSound → (e : Exporter) (d : Descriptor) (bytes : List ℕ) (n : ℕ) → n ≡ length bytes → e ≡ new_exporter (kinds.Vector true) bytes → Stands d 0 (bytes_layout n true) → IsSoundLayout e (layout_at d 0)
 vector_sound one whole e d bytes n long is stands =
     subst (λ (x : Exporter). IsSoundLayout x (layout_at d 0)) (sym is)
@@ -34,17 +31,6 @@ pub vector_made : DescriptorsStandForOneView → (e new : Exporter) (d : Descrip
 vector_made one e new d bytes n k long is stands made =
     sym (ap (λ (pair : Exporter × _). pair.0) made) ∙ ap (λ (x : Exporter). (with_view x (layout_at d 0)).0) is
     ∙ ap (λ (l : Layout). (with_view (new_exporter (kinds.Vector true) bytes) l).0) (sym (vector_layout one d bytes n long stands))
-
--- all bytes of an exporter that may be written, to be read alone or not
-pub lent_sound : DescriptorsStandForOneView → WholeLayoutsAreSound → (e : Exporter) (d : Descriptor) (n : ℕ) (readonly : Bool) → n ≡ length e.bytes → holds_readonly e.kind ≡ false → Stands d 0 (bytes_layout n readonly) → IsSoundLayout e (layout_at d 0)
-lent_sound one whole e d n readonly long written stands =
-    let sound = whole e in
-    let all : IsSoundLayout e (bytes_layout (length e.bytes) readonly) = record {
-      formed = record { sized = sound.formed.sized; counted = sound.formed.counted };
-      inside = sound.inside;
-      readonly = λ is. absurd (true≢false (sym is ∙ written));
-    } in
-    subst (IsSoundLayout e) (lent_layout one d e.bytes n readonly long stands) all
 
 -- ---- of a checked format
 

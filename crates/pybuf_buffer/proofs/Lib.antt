@@ -2,4 +2,4 @@ pub mod Live
 pub mod Ranges
 pub mod Adding
 pub mod Appended
-pub mod Blocks
+pub mod Walking

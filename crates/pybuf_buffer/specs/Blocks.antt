@@ -1,20 +1,8 @@
--- The view of some of the blocks of a view, which are cut along its first dimension.
-use Rattle.std.specs.Prelude.{ℕ, ◌-◌, ◌≤◌, List, [], ◌∷◌, pos, Some}
-use Rattle.std.specs.List.{range_with_len}
+-- Ranges of the first dimension of a view, whose blocks are a view of their own.
+use Rattle.std.specs.Prelude.{ℕ, ◌≤◌, List, [], ◌∷◌}
 use Rattle.std.specs.declared.ops.Range.{Range}
-use Rattle.pybuf_slice.specs.Parts.{SliceParts, clamped_parts}
-use Rattle.pybuf_desc.specs.Layouts.{Layout}
-use Rattle.pybuf_desc.specs.Slices.{slice_at}
 
 -- the range lies in the first dimension, of which there is one
 abbrev pub LiesInFirst : Range ℕ → List ℕ → Type 0
 LiesInFirst range [] = ⊥
 LiesInFirst range (n ∷ shape) = (range.start ≤ range.end) × (range.end ≤ n)
-
--- the blocks of a range, in order
-abbrev pub blocks_of : Layout → Range ℕ → Layout
-blocks_of view range = slice_at view (range_with_len range.start (range.end - range.start)) (pos 1)
-
--- the slice with these bounds and step 1, each at the nearest `isize`
-abbrev pub range_parts : Range ℕ → SliceParts
-range_parts range = clamped_parts (record { start = Some (pos range.start); stop = Some (pos range.end); step = pos 1 })

@@ -11,6 +11,7 @@ ghost use Rattle.pybuf_state.specs.Exporter.{new_exporter, with_view, released_i
 ghost use Rattle.pybuf_state.specs.Live.{is_live, layout_of, is_writable_run};
 
 use crate::append::append_ranges;
+use crate::lending::{all_bytes, has_writable_run, writable_run};
 use crate::steps::Steps;
 use crate::views::{add_same, described, is_in_first};
 use pybuf_command::{ExporterKind, Subject};
@@ -90,6 +91,7 @@ impl PyBuffer {
     ghost use Rattle.pybuf_buffer.specs.Blocks.{LiesInFirst};
     ghost use Rattle.std.specs.Borrow.{sem};
     ghost use Rattle.pybuf_exporter.specs.Lending.{LendsBytes};
+    ghost use Rattle.pybuf_buffer.specs.Lending.{LendsRunIf};
 
     /// A buffer by a descriptor and the place of its first item: one more view of the exporter.
     ///
@@ -147,6 +149,25 @@ impl PyBuffer {
         ensures { MatchOption result (is_contiguous_layout (layout_of state.now self.now) ≡ false) (λ bytes. (is_contiguous_layout (layout_of state.now self.now) ≡ true) × (bytes.now ≡ content_of_layout state.now.bytes (layout_of state.now self.now))) }
     {
         state.contiguous_bytes(self.view)
+    }
+
+    /// The bytes of the buffer, lent to be written without a copy. None exactly where it is read-only or
+    /// its items don't lie one after the other: Python's C API has it under "Buffer Protocol",
+    /// "Contiguity requests". What is written there takes the place of the bytes of the buffer, and of no
+    /// others. Takes no memory.
+    ///
+    /// A caller whose own proof speaks of the bytes afterwards asks `is_contiguous_mut`, and calls
+    /// `ExporterState::contiguous_bytes_mut`.
+    pub fn as_contiguous_mut<'a>(&self, state: &'a mut ExporterState) -> Option<&'a mut [u8]>
+        requires { is_live state.old self.now ≡ true }
+        ensures* writes_back { sem 𝓛 (LendsRunIf state.entry self.now result) }
+        ensures value { MatchOption result (is_writable_run (layout_of state.old self.now) ≡ false) (λ bytes. (is_writable_run (layout_of state.old self.now) ≡ true) × (bytes.now ≡ content_of_layout state.old.bytes (layout_of state.old self.now))) }
+    {
+        let view = self.number();
+        if has_writable_run(state, view) {
+            return Some(writable_run(state, view));
+        }
+        None
     }
 
     /// Whether the items lie one after the other and may be written. Then
@@ -247,17 +268,16 @@ impl PyBuffer {
     }
 
     /// All bytes of the exporter of a buffer that isn't read-only, lent to be written: their number and
-    /// all else of the exporter stay. The exporter that lends comes first, so this isn't called on the
-    /// buffer.
-    pub fn obj_bytes_mut<'a>(state: &'a mut ExporterState, buffer: &PyBuffer) -> &'a mut [u8]
-        requires live { is_live state.old buffer.now ≡ true }
-        requires writable { (layout_of state.old buffer.now).readonly ≡ false }
+    /// all else of the exporter stay. Takes no memory.
+    ///
+    /// A caller whose own proof speaks of the bytes afterwards calls `ExporterState::bytes_mut`.
+    pub fn obj_bytes_mut<'a>(&self, state: &'a mut ExporterState) -> &'a mut [u8]
+        requires live { is_live state.old self.now ≡ true }
+        requires writable { (layout_of state.old self.now).readonly ≡ false }
         ensures* writes_back { sem 𝓛 (LendsBytes state.entry result) }
         ensures value { result.now ≡ state.old.bytes }
     {
-        live_layouts_are_sound();
-        let _exports = state.exports();
-        state.bytes_mut()
+        all_bytes(state, self.number())
     }
 
     /// Releases the view. Releasing it again changes nothing. Takes no memory.

@@ -6,18 +6,14 @@
 mod append;
 mod buffer;
 mod laws;
-mod memory_view;
+mod lending;
 mod steps;
-mod vec_buffer;
 mod views;
 
 pub use buffer::PyBuffer;
 pub use laws::{range_counts_are_bounded, ranges_are_counted};
-pub use memory_view::PyMemoryView;
 pub use steps::Steps;
-pub use vec_buffer::VecBuffer;
+pub use views::live_descriptor;
 
 #[cfg(test)]
 mod tests;
-#[cfg(test)]
-mod view_tests;

@@ -3,7 +3,7 @@ ghost use Rattle.std.specs.Prelude.{◌≡◌, true};
 ghost use Rattle.pybuf_state.specs.Live.{is_live};
 
 use super::*;
-use pybuf_command::{ExporterKind, Subject};
+use pybuf_command::ExporterKind;
 use pybuf_desc::BufferDescriptor;
 use pybuf_exporter::ExporterState;
 use pybuf_value::{ByteList, DimList, Fault, Made, Outcome, Text};
@@ -114,6 +114,40 @@ fn a_write_goes_to_the_lent_places(rt: HostRuntime) -> Result<(), Fail> {
 }
 
 #[test]
+fn a_buffer_lends_its_bytes_to_be_written(rt: HostRuntime) -> Result<(), Fail> {
+    let mut state = exporter_of(rt.alloc(), b"abcdef")?;
+    let descriptor = bytes_apart(rt.alloc(), 3, 1, false)?;
+    let buffer = done(PyBuffer::new(rt.alloc(), &mut state, descriptor, 2)?)?;
+    if !buffer.is_live(&state) {
+        return Err(Fail::from("a live buffer"));
+    }
+    let Some(lent) = buffer.as_contiguous_mut(&mut state) else {
+        return Err(Fail::from("bytes that lie together"));
+    };
+    if lent.len() != 3 {
+        return Err(Fail::from("three bytes"));
+    }
+    lent.copy_from_slice(b"XYZ");
+    assert_eq!(rt; state.bytes(), b"abXYZf".as_slice());
+    Ok(())
+}
+
+#[test]
+fn a_reversed_buffer_is_not_lent_to_be_written(rt: HostRuntime) -> Result<(), Fail> {
+    let mut state = exporter_of(rt.alloc(), b"abc")?;
+    let descriptor = bytes_apart(rt.alloc(), 3, -1, false)?;
+    let buffer = done(PyBuffer::new(rt.alloc(), &mut state, descriptor, 2)?)?;
+    if !buffer.is_live(&state) {
+        return Err(Fail::from("a live buffer"));
+    }
+    if let Some(_) = buffer.as_contiguous_mut(&mut state) {
+        return Err(Fail::from("no bytes that lie together"));
+    }
+    assert_eq!(rt; state.bytes(), b"abc".as_slice());
+    Ok(())
+}
+
+#[test]
 fn a_released_exporter_is_resized(rt: HostRuntime) -> Result<(), Fail> {
     let mut state = exporter_of(rt.alloc(), b"abc")?;
     if state.kind().is_readonly() {
@@ -161,15 +195,15 @@ fn a_caller_counts_the_ranges(rt: HostRuntime) -> Result<(), Fail> {
 #[test]
 fn all_bytes_are_lent_to_be_written(rt: HostRuntime) -> Result<(), Fail> {
     let mut state = exporter_of(rt.alloc(), b"abc")?;
-    let view = PyMemoryView::from_object(rt.alloc(), &mut state, Subject::Own)?;
-    let buffer = PyBuffer::of(done(view)?.number());
+    let descriptor = BufferDescriptor::simple(rt.alloc(), 3, false)?;
+    let buffer = done(PyBuffer::new(rt.alloc(), &mut state, descriptor, 0)?)?;
     if !buffer.is_live(&state) {
         return Err(Fail::from("a live buffer"));
     }
     if !buffer.is_contiguous_mut(&state) {
         return Err(Fail::from("a buffer to be written"));
     }
-    let lent = PyBuffer::obj_bytes_mut(&mut state, &buffer);
+    let lent = buffer.obj_bytes_mut(&mut state);
     if lent.len() != 3 {
         return Err(Fail::from("three bytes"));
     }

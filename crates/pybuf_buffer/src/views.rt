@@ -1,22 +1,18 @@
-//! New views of an exporter: of the items of a view, or of a range of its blocks.
-ghost use Rattle.std.specs.Prelude.{◌≡◌, ◌↔◌, true, false, length, IsTrue, IfOk, OnErr};
+//! New views of an exporter, of the items of a view, and what describes a view.
+ghost use Rattle.std.specs.Prelude.{◌≡◌, ◌↔◌, true, length, IsTrue, IfOk, OnErr};
 ghost use Rattle.pybuf_command.specs.declared.commands.LocalReply.TheVariants as replies;
-ghost use Rattle.pybuf_command.specs.Kinds.{holds_readonly};
 ghost use Rattle.pybuf_desc.specs.Descriptor.{shape_of};
-ghost use Rattle.pybuf_desc.specs.Layouts.{bytes_layout};
 ghost use Rattle.pybuf_desc.specs.Places.{Stands};
 ghost use Rattle.pybuf_desc.specs.Valid.{IsValid, IsPlaced};
 ghost use Rattle.pybuf_state.specs.Exporter.{with_view};
+ghost use Rattle.pybuf_state.specs.Laws.{IsSoundLayout};
 ghost use Rattle.pybuf_state.specs.Live.{is_live, layout_of};
-ghost use Rattle.pybuf_buffer.specs.Blocks.{blocks_of, range_parts, LiesInFirst};
+ghost use Rattle.pybuf_buffer.specs.Blocks.{LiesInFirst};
 
-use pybuf_desc::{
-    BufferDescriptor, descriptors_stand_for_one_view, slices_have_their_shape, slices_stay_inside,
-};
+use pybuf_desc::{BufferDescriptor, descriptors_stand_for_one_view};
 use pybuf_exporter::ExporterState;
-use pybuf_slice::{SaturatedSlice, clamping_changes_no_index};
-use pybuf_state::{live_layouts_are_sound, whole_layouts_are_sound};
-use pybuf_value::{Made, PySlice, Scalar, Twin};
+use pybuf_state::live_layouts_are_sound;
+use pybuf_value::{Made, Twin};
 use std::alloc::Global;
 use std::ops::Range;
 
@@ -33,18 +29,18 @@ pub(crate) fn described(state: &ExporterState, view: usize) -> (&BufferDescripto
     }
 }
 
-/// One more view of all bytes of an exporter that may be written, as items of one byte. The answer is
-/// its number.
-pub(crate) fn add_all(alloc: Global, state: &mut ExporterState, readonly: bool) -> Made<usize>
-    requires { holds_readonly state.old.kind ≡ false }
-    ensures ok { IfOk result (λ made. with_view state.old (bytes_layout (length state.old.bytes) readonly) ≡ (state.new, replies.View made)) }
-    ensures err { OnErr result (state.new ≡ state.old) }
+/// The descriptor of an unreleased view, and the place of its first item. They stand for the view, and
+/// its items lie inside the bytes of the exporter.
+pub fn live_descriptor(state: &ExporterState, view: usize) -> (&BufferDescriptor, usize)
+    requires { is_live state.now view ≡ true }
+    ensures stands { Stands result.0.now result.1 (layout_of state.now view) }
+    ensures placed { IsPlaced result.0.now result.1 }
+    ensures valid { IsValid result.0.now result.1 (length state.now.bytes) }
+    ensures sound { IsSoundLayout state.now (layout_of state.now view) }
 {
-    whole_layouts_are_sound();
-    descriptors_stand_for_one_view();
-    let len = state.bytes().len();
-    let descriptor = BufferDescriptor::simple(alloc, len, readonly)?;
-    state.add_view(descriptor, 0)
+    live_layouts_are_sound();
+    let _exports = state.exports();
+    described(state, view)
 }
 
 /// One more view of the items of a view. The answer is its number.
@@ -61,21 +57,6 @@ pub(crate) fn add_same(alloc: Global, state: &mut ExporterState, view: usize) ->
     state.add_view(twin, start)
 }
 
-/// The slice of a range, with step 1.
-fn slice_of_range(range: Range<usize>) -> SaturatedSlice
-    ensures { result ≡ range_parts range }
-{
-    let slice = PySlice {
-        start: Scalar::Int(range.start as i128),
-        stop: Scalar::Int(range.end as i128),
-        step: Scalar::None,
-    };
-    match SaturatedSlice::with_slice(&slice) {
-        Ok(slice) => slice,
-        Err(_) => unreachable!(),
-    }
-}
-
 /// Whether a range lies in the first of these dimensions.
 pub(crate) fn is_in_first(dims: &[(usize, isize, isize)], range: &Range<usize>) -> bool
     ensures { IsTrue result ↔ LiesInFirst range.now (shape_of dims.now) }
@@ -84,29 +65,4 @@ pub(crate) fn is_in_first(dims: &[(usize, isize, isize)], range: &Range<usize>) 
         [] => false,
         [first, ..] => range.start <= range.end && range.end <= first.0,
     }
-}
-
-/// One more view of the blocks of a view that a range of its first dimension has. The answer is its
-/// number.
-pub(crate) fn add_blocks(
-    alloc: Global,
-    state: &mut ExporterState,
-    view: usize,
-    range: Range<usize>,
-) -> Made<usize>
-    requires live { is_live state.old view ≡ true }
-    requires range { LiesInFirst range (layout_of state.old view).shape }
-    ensures ok { IfOk result (λ made. with_view state.old (blocks_of (layout_of state.old view) range) ≡ (state.new, replies.View made)) }
-    ensures err { OnErr result (state.new ≡ state.old) }
-{
-    live_layouts_are_sound();
-    descriptors_stand_for_one_view();
-    slices_stay_inside();
-    slices_have_their_shape();
-    clamping_changes_no_index();
-    let _exports = state.exports();
-    let (descriptor, start) = described(state, view);
-    let slice = slice_of_range(range);
-    let (sliced, first) = descriptor.sliced(alloc, start, &slice)?;
-    state.add_view(sliced, first)
 }

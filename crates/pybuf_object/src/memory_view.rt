@@ -5,10 +5,11 @@ ghost use Rattle.pybuf_memoryview.specs.Snaps.{snap_of_copy};
 ghost use Rattle.pybuf_state.specs.Exporter.{with_view, released_in};
 ghost use Rattle.pybuf_state.specs.Fresh.{vector_of};
 ghost use Rattle.pybuf_state.specs.Live.{is_live, layout_of};
-ghost use Rattle.pybuf_buffer.specs.Blocks.{blocks_of, LiesInFirst};
+ghost use Rattle.pybuf_buffer.specs.Blocks.{LiesInFirst};
+ghost use Rattle.pybuf_object.specs.Blocks.{blocks_of};
 
-use crate::buffer::PyBuffer;
-use crate::views::{add_blocks, add_same};
+use crate::views::add_blocks;
+use pybuf_buffer::PyBuffer;
 use pybuf_command::{LoanList, LocalReply, Subject, Verb};
 use pybuf_exporter::ExporterState;
 use pybuf_value::{Made, Outcome, Snap, Tried};
@@ -16,7 +17,14 @@ use std::alloc::Global;
 use std::marker::Model;
 use std::ops::Range;
 
-/// A memoryview: the number of a view of an exporter. Each call takes the exporter that gave it.
+/// A memoryview, as Python's `memoryview` (Library reference, "Memory Views"): the number of a view of an
+/// exporter. Each call takes the exporter that gave it.
+///
+/// A method that takes loans is one command on the view, and answers its reply. What is refused is replied as
+/// `LocalReply::Refused`, and changes nothing. Before all that a method names, a view that was never given and a
+/// handle among the values that the loans don't name are refused with `UnknownName`, and then a released view
+/// with `ValueError`, but by `exit`. Where memory runs out, nothing is changed. The loans have to fit, as
+/// `LoanList::fit` tells.
 #[derive(Debug, Drop)]
 pub struct PyMemoryView {
     view: usize,
@@ -45,7 +53,7 @@ fn copy_of(alloc: Global, state: &ExporterState, view: usize) -> Made<Snap>
 }
 
 impl PyMemoryView {
-    ghost use Rattle.pybuf_buffer.specs.Viewing.{IsViewOf};
+    ghost use Rattle.pybuf_object.specs.Viewing.{IsViewOf};
 
     /// The memoryview of the view of this number. It changes no count, and takes no memory.
     pub fn of(view: usize) -> PyMemoryView
@@ -94,8 +102,8 @@ impl PyMemoryView {
         ensures ok { IfOk result (λ made. with_view state.old (layout_of state.old buffer.now) ≡ (state.new, replies.View made)) }
         ensures err { OnErr result (state.new ≡ state.old) }
     {
-        let view = add_same(alloc, state, buffer.number())?;
-        Ok(PyMemoryView { view })
+        let kept = buffer.retain(alloc, state)?;
+        Ok(PyMemoryView::of(kept.number()))
     }
 
     /// A memoryview of the entries of a buffer's first dimension from one up to another: one more view,
@@ -122,8 +130,8 @@ impl PyMemoryView {
         ensures ok { IfOk result (λ made. with_view state.old (layout_of state.old self.now) ≡ (state.new, replies.View made)) }
         ensures err { OnErr result (state.new ≡ state.old) }
     {
-        let view = add_same(alloc, state, self.view)?;
-        Ok(PyMemoryView { view })
+        let kept = PyBuffer::of(self.view).retain(alloc, state)?;
+        Ok(PyMemoryView::of(kept.number()))
     }
 
     /// A new vector of the bytes of the items, in order, and the buffer of all of it, with items of the

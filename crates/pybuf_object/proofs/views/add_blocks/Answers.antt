@@ -6,32 +6,31 @@ use Rattle.pybuf_desc.specs.Slices.{slice_of}
 use Rattle.pybuf_state.specs.Exporter.{with_view}
 use Rattle.pybuf_state.specs.Laws.{IsSoundLayout}
 use Rattle.pybuf_state.specs.Live.{layout_of}
-use Rattle.pybuf_buffer.proofs.Live.{is_live_layout}
-use Rattle.pybuf_buffer.proofs.Blocks.{blocks_are, some_dimension, slice_sound}
-use Rattle.pybuf_buffer.proofs.views.add_blocks.Goals as goal
+use Rattle.pybuf_object.proofs.Blocks.{blocks_are, some_dimension, slice_sound}
+use Rattle.pybuf_object.proofs.views.add_blocks.Goals as goal
 
 pub sliced-requires-clause-some_dimension : goal.sliced-requires-clause-some_dimension
 sliced-requires-clause-some_dimension c =
-    some_dimension c.described-start.result.0.now c.args.range (layout_of c.args.state.now c.args.view).shape c.described-start.ensures.stands.shape c.requires.range
+    some_dimension c.live_descriptor-start.result.0.now c.args.range (layout_of c.args.state.now c.args.view).shape c.live_descriptor-start.ensures.stands.shape c.requires.range
 
 pub add_view-requires-clause-placed : goal.add_view-requires-clause-placed
 add_view-requires-clause-placed c =
-    let placed = c.described-start.ensures.placed in
+    let placed = c.live_descriptor-start.ensures.placed in
     record { room = placed.room; room_fits = placed.room_fits; valid = c.in_ok-sliced.ensures.valid placed.room placed.valid }
 
 pub add_view-requires-clause-sound : goal.add_view-requires-clause-sound
 add_view-requires-clause-sound c =
     let e = c.args.state.now in
     let view = layout_of e c.args.view in
-    let one = ap (slice_of view) (sym c.slice_of_range-slice.ensures) ∙ c.descriptors_stand_for_one_view.ensures c.in_ok-sliced.sliced c.in_ok-sliced.first (slice_of view c.slice_of_range-slice.result) (c.in_ok-sliced.ensures.stands view c.described-start.ensures.stands) in
+    let one = ap (slice_of view) (sym c.slice_of_range-slice.ensures) ∙ c.descriptors_stand_for_one_view.ensures c.in_ok-sliced.sliced c.in_ok-sliced.first (slice_of view c.slice_of_range-slice.result) (c.in_ok-sliced.ensures.stands view c.live_descriptor-start.ensures.stands) in
     subst (IsSoundLayout e) one
-    (slice_sound c.slices_stay_inside.ensures c.slices_have_their_shape.ensures e view c.args.range c.requires.range (c.live_layouts_are_sound.ensures e c.args.view view c.exports-exports.ensures.sound (is_live_layout e c.args.view c.requires.live)))
+    (slice_sound c.slices_stay_inside.ensures c.slices_have_their_shape.ensures e view c.args.range c.requires.range c.live_descriptor-start.ensures.sound)
 
 pub returns-clause-ok : goal.returns-clause-ok
 returns-clause-ok c =
     let e = c.args.state.now in
     let view = layout_of e c.args.view in
-    let d = c.described-start in
+    let d = c.live_descriptor-start in
     let same = sym (blocks_are c.clamping_changes_no_index.ensures d.result.0.now d.result.1 view c.args.range d.ensures.placed d.ensures.stands c.requires.range)
     ∙ ap (slice_of view) (sym c.slice_of_range-slice.ensures)
     ∙ c.descriptors_stand_for_one_view.ensures c.in_ok-sliced.sliced c.in_ok-sliced.first (slice_of view c.slice_of_range-slice.result) (c.in_ok-sliced.ensures.stands view d.ensures.stands) in

@@ -1,5 +1,6 @@
 //! What no clause says of memoryviews and lent vectors: that the calls succeed with ample memory.
 use super::*;
+use pybuf_buffer::PyBuffer;
 use pybuf_command::{ExporterKind, Subject};
 use pybuf_desc::BufferDescriptor;
 use pybuf_exporter::ExporterState;

@@ -18,7 +18,8 @@ use Rattle.pybuf_desc.specs.Laws.{SlicesStayInside, SlicesHaveTheirShape}
 use Rattle.pybuf_state.specs.Exporter.{Exporter}
 use Rattle.pybuf_state.specs.Sound.{IsFormed}
 use Rattle.pybuf_state.specs.Laws.{IsSoundLayout}
-use Rattle.pybuf_buffer.specs.Blocks.{blocks_of, range_parts, LiesInFirst}
+use Rattle.pybuf_buffer.specs.Blocks.{LiesInFirst}
+use Rattle.pybuf_object.specs.Blocks.{blocks_of, range_parts}
 
 -- ---- the indices
 

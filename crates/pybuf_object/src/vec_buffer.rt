@@ -8,8 +8,8 @@ ghost use Rattle.pybuf_desc.specs.Layouts.{bytes_layout};
 ghost use Rattle.pybuf_state.specs.Exporter.{new_exporter, with_view, exports_of};
 ghost use Rattle.pybuf_state.specs.Resizing.{has_exports};
 
-use crate::buffer::PyBuffer;
 use crate::views::add_all;
+use pybuf_buffer::PyBuffer;
 use pybuf_command::ExporterKind;
 use pybuf_desc::BufferDescriptor;
 use pybuf_exporter::ExporterState;
@@ -38,7 +38,7 @@ impl Model for VecBuffer {
 
 impl VecBuffer {
     ghost use Rattle.pybuf_buffer.specs.Making.{IsBufferBy};
-    ghost use Rattle.pybuf_buffer.specs.Lending.{LendsState, emptied};
+    ghost use Rattle.pybuf_object.specs.Lending.{LendsStateOfVector, emptied};
 
     /// A vector of these bytes, which may be written, and no buffer of it. Takes no memory.
     pub fn from(alloc: Global, bytes: Vec<u8>) -> VecBuffer
@@ -58,7 +58,7 @@ impl VecBuffer {
 
     /// Its exporter, lent to be changed.
     pub fn state_mut(&mut self) -> &mut ExporterState
-        ensures* writes_back { sem 𝓛 (LendsState self.entry result) }
+        ensures* writes_back { sem 𝓛 (LendsStateOfVector self.entry result) }
         ensures value { result.now ≡ self.old }
     {
         &mut self.exporter

@@ -1,0 +1,467 @@
+//! Python's `bytearray`, as a value of its own.
+ghost use Rattle.std.specs.Prelude.{◌≡◌, ◌↔◌, length, IfOk, IfSome, IfErr, IsOk, IsSome, OnErr};
+ghost use Rattle.std.specs.Borrow.{sem};
+ghost use Rattle.pybuf_command.specs.Fits.{LoansFit};
+ghost use Rattle.pybuf_command.specs.declared.kinds.ExporterKind.TheVariants as kinds;
+ghost use Rattle.pybuf_command.specs.declared.kinds.Subject.TheVariants as subjects;
+ghost use Rattle.pybuf_command.specs.declared.commands.PropertyName.TheVariants as names;
+ghost use Rattle.pybuf_command.specs.declared.commands.Verb.TheVariants as verbs;
+ghost use Rattle.pybuf_exporter.specs.Step.{estep};
+ghost use Rattle.pybuf_value.specs.declared.faults.Fault.{Fault};
+ghost use Rattle.pybuf_state.specs.Exporter.{new_exporter, exports_of};
+
+use crate::guard::BufferResizeGuard;
+use crate::stepping::step_of;
+use pybuf_bytes::ByteInnerNewOptions;
+use pybuf_command::{ExporterKind, LoanList, LocalReply, PropertyName, Subject, Verb};
+use pybuf_exporter::ExporterState;
+use pybuf_value::{ByteList, CompareOp, Fault, Made, Value};
+use std::alloc::Global;
+use std::marker::Model;
+
+/// Python's `bytearray`: a sequence of bytes that are written, and whose number changes while no view of it
+/// is unreleased (Library reference, "Bytearray Objects"). It owns its exporter, which is what a clause sees,
+/// and keeps the views that are made of it.
+///
+/// A method that takes loans is one command on the exporter, and answers its reply. What is refused is
+/// replied as `LocalReply::Refused`, and changes nothing; before all that a method names, a handle among the
+/// values that the loans don't name is refused with `UnknownName`. Where memory runs out, nothing is changed.
+/// The loans have to fit, as `LoanList::fit` tells.
+#[derive(Debug, Drop)]
+pub struct PyByteArray {
+    exporter: ExporterState,
+}
+
+impl Model for PyByteArray {
+    ghost use Rattle.pybuf_state.specs.Exporter.{Exporter};
+
+    ghost Value = { Exporter };
+
+    ghost view = { λ b. b.exporter };
+}
+
+impl PyByteArray {
+    ghost use Rattle.pybuf_object.specs.Lending.{LendsStateOfByteArray, LendsBytesOfByteArray, LendsAllIfOk, LendsAllIfSome};
+
+    /// The `bytearray` of these bytes, and no view of it. Takes no memory.
+    pub fn new_ref(alloc: Global, bytes: Vec<u8>) -> PyByteArray
+        ensures { result ≡ new_exporter kinds.ByteArray bytes.items }
+    {
+        let bytes = ByteList::from_vec(bytes);
+        PyByteArray {
+            exporter: ExporterState::new(alloc, ExporterKind::ByteArray, bytes),
+        }
+    }
+
+    /// Its exporter.
+    pub fn state(&self) -> &ExporterState
+        ensures { result.now ≡ self.now }
+    {
+        &self.exporter
+    }
+
+    /// Its exporter, lent to be changed: views of it are made and released so. Another exporter can be put
+    /// in through it, of any kind; so the calls that lend its bytes to be changed have the condition that it
+    /// is a bytearray.
+    pub fn state_mut(&mut self) -> &mut ExporterState
+        ensures* writes_back { sem 𝓛 (LendsStateOfByteArray self.entry result) }
+        ensures value { result.now ≡ self.old }
+    {
+        &mut self.exporter
+    }
+
+    /// The bytes, lent without a copy.
+    pub fn borrow_buf(&self) -> &[u8]
+        ensures { result.now ≡ self.now.bytes }
+    {
+        self.exporter.bytes()
+    }
+
+    /// The bytes, lent to be written: their number and all else of the bytearray stay. All views of it see
+    /// the writes.
+    pub fn borrow_buf_mut(&mut self) -> &mut [u8]
+        requires { self.old.kind ≡ kinds.ByteArray }
+        ensures* writes_back { sem 𝓛 (LendsBytesOfByteArray self.entry result) }
+        ensures value { result.now ≡ self.old.bytes }
+    {
+        self.exporter.bytes_mut()
+    }
+
+    /// The bytes, lent to be changed in any way, in number too; views and iterators stay. Takes no memory.
+    ///
+    /// Refused with `BufferError` exactly where a view is unreleased: so Python refuses to resize a
+    /// bytearray (C API, "Buffer Protocol").
+    pub fn try_resizable(&mut self) -> Result<&mut Vec<u8>, Fault>
+        requires { self.old.kind ≡ kinds.ByteArray }
+        ensures* writes_back { sem 𝓛 (LendsAllIfOk self.entry result) }
+        ensures value { IfOk result (λ bytes. bytes.now.items ≡ self.old.bytes) }
+        ensures refused { IfErr result (λ fault. fault ≡ Fault.Buffer) }
+        ensures exact { IsOk result ↔ (exports_of self.old ≡ 0) }
+    {
+        self.exporter.resizable()
+    }
+
+    /// The same, where only matters whether it is refused: None exactly where a view is unreleased.
+    pub fn try_resizable_opt(&mut self) -> Option<&mut Vec<u8>>
+        requires { self.old.kind ≡ kinds.ByteArray }
+        ensures* writes_back { sem 𝓛 (LendsAllIfSome self.entry result) }
+        ensures value { IfSome result (λ bytes. bytes.now.items ≡ self.old.bytes) }
+        ensures exact { IsSome result ↔ (exports_of self.old ≡ 0) }
+    {
+        match self.exporter.resizable() {
+            Ok(bytes) => Some(bytes),
+            Err(_) => None,
+        }
+    }
+
+    /// A memoryview of all bytes, as Python's `memoryview(object)` (Library reference, "Memory Views"):
+    /// the reply is the number of one more view, with items of one byte in one dimension, which may be
+    /// written, and while it is unreleased the length stays.
+    pub fn as_buffer(&mut self, loans: LoanList) -> Made<LocalReply>
+        requires { LoansFit loans }
+        ensures ok { IfOk result (λ r. estep self.old subjects.Own verbs.View loans ≡ (self.new, r)) }
+        ensures err { OnErr result (self.new ≡ self.old) }
+    {
+        step_of(&mut self.exporter, Subject::Own, Verb::View, loans)
+    }
+
+    /// A view of the bytes from the place `from` up to `to`, as `memoryview(object)[from:to]` where
+    /// both places are there (Library reference, "Memory Views"): the reply is its number.
+    ///
+    /// Refused with `TypeError` where `from`, and then `to`, is no number, and with `IndexError` where
+    /// `from` is below 0 or past `to`, or `to` is past the length.
+    pub fn range(&mut self, from: Value, to: Value, loans: LoanList) -> Made<LocalReply>
+        requires { LoansFit loans }
+        ensures ok { IfOk result (λ r. estep self.old subjects.Own (verbs.Range from to) loans ≡ (self.new, r)) }
+        ensures err { OnErr result (self.new ≡ self.old) }
+    {
+        step_of(
+            &mut self.exporter,
+            Subject::Own,
+            Verb::Range { from, to },
+            loans,
+        )
+    }
+
+    /// The byte at an index, as a number, or the bytes that a slice picks, as Python's `bytearray[key]`
+    /// (Library reference, "Common Sequence Operations"). A negative index counts from the end.
+    ///
+    /// Refused with `TypeError` where the key is neither a number nor a slice, and where a part of the
+    /// slice is neither a number nor `None`; with `ValueError` for a step of 0; with `IndexError` for
+    /// an index out of range.
+    pub fn getitem(&mut self, key: Value, loans: LoanList) -> Made<LocalReply>
+        requires { LoansFit loans }
+        ensures ok { IfOk result (λ r. estep self.old subjects.Own (verbs.Get key) loans ≡ (self.new, r)) }
+        ensures err { OnErr result (self.new ≡ self.old) }
+    {
+        step_of(&mut self.exporter, Subject::Own, Verb::Get { key }, loans)
+    }
+
+    /// Writes the byte at an index, or puts bytes in place of those that a slice picks, as Python's
+    /// `bytearray[key] = value` (Library reference, "Mutable Sequence Types").
+    ///
+    /// The key is refused as `getitem` refuses it. At an index, the value is refused with `TypeError`
+    /// where it is no number, and with `ValueError` outside `0..256`, before an index out of range. For
+    /// a slice, the value is refused as `bytes_from_object` refuses it; then with `BufferError` where a
+    /// view is unreleased and the length would change; then with `ValueError` where the step isn't 1
+    /// and the bytes are another number than the slice picks.
+    pub fn setitem(&mut self, key: Value, value: Value, loans: LoanList) -> Made<LocalReply>
+        requires { LoansFit loans }
+        ensures ok { IfOk result (λ r. estep self.old subjects.Own (verbs.Set key value) loans ≡ (self.new, r)) }
+        ensures err { OnErr result (self.new ≡ self.old) }
+    {
+        step_of(
+            &mut self.exporter,
+            Subject::Own,
+            Verb::Set { key, value },
+            loans,
+        )
+    }
+
+    /// Takes out the byte at an index, or those that a slice picks, as Python's `del bytearray[key]`
+    /// (Library reference, "Mutable Sequence Types").
+    ///
+    /// The key is refused as `getitem` refuses it, but that `BufferError`, where a view is unreleased,
+    /// comes before `IndexError`.
+    pub fn delitem(&mut self, key: Value, loans: LoanList) -> Made<LocalReply>
+        requires { LoansFit loans }
+        ensures ok { IfOk result (λ r. estep self.old subjects.Own (verbs.Del key) loans ≡ (self.new, r)) }
+        ensures err { OnErr result (self.new ≡ self.old) }
+    {
+        step_of(&mut self.exporter, Subject::Own, Verb::Del { key }, loans)
+    }
+
+    /// A copy of the bytes, as Python's `bytes(object)` (Library reference, "Bytes Objects").
+    pub fn tobytes(&mut self, loans: LoanList) -> Made<LocalReply>
+        requires { LoansFit loans }
+        ensures ok { IfOk result (λ r. estep self.old subjects.Own verbs.ToBytes loans ≡ (self.new, r)) }
+        ensures err { OnErr result (self.new ≡ self.old) }
+    {
+        step_of(&mut self.exporter, Subject::Own, Verb::ToBytes, loans)
+    }
+
+    /// The number of bytes, as Python's `len(bytearray)` (Library reference, "Common Sequence
+    /// Operations").
+    pub fn len(&mut self, loans: LoanList) -> Made<LocalReply>
+        requires { LoansFit loans }
+        ensures ok { IfOk result (λ r. estep self.old subjects.Own verbs.Len loans ≡ (self.new, r)) }
+        ensures err { OnErr result (self.new ≡ self.old) }
+    {
+        step_of(&mut self.exporter, Subject::Own, Verb::Len, loans)
+    }
+
+    /// How many views of it are unreleased. Python keeps this number and doesn't show it: while it
+    /// isn't 0, nothing is resized (C API, "Buffer Protocol").
+    pub fn exports(&mut self, loans: LoanList) -> Made<LocalReply>
+        requires { LoansFit loans }
+        ensures ok { IfOk result (λ r. estep self.old subjects.Own (verbs.Property names.Exports) loans ≡ (self.new, r)) }
+        ensures err { OnErr result (self.new ≡ self.old) }
+    {
+        step_of(
+            &mut self.exporter,
+            Subject::Own,
+            Verb::Property {
+                name: PropertyName::Exports,
+            },
+            loans,
+        )
+    }
+
+    /// Adds a byte at the end, as Python's `bytearray.append(value)` (Library reference, "Mutable
+    /// Sequence Types").
+    ///
+    /// Refused with `TypeError` where the value is no number, with `ValueError` outside `0..256`, and
+    /// then with `BufferError` where a view is unreleased.
+    pub fn append(&mut self, value: Value, loans: LoanList) -> Made<LocalReply>
+        requires { LoansFit loans }
+        ensures ok { IfOk result (λ r. estep self.old subjects.Own (verbs.Append value) loans ≡ (self.new, r)) }
+        ensures err { OnErr result (self.new ≡ self.old) }
+    {
+        step_of(
+            &mut self.exporter,
+            Subject::Own,
+            Verb::Append { value },
+            loans,
+        )
+    }
+
+    /// Adds bytes at the end, as Python's `bytearray.extend(value)` (Library reference, "Mutable
+    /// Sequence Types"). One that is extended by itself is doubled.
+    ///
+    /// Refused as `bytes_from_object` refuses the value, and then with `BufferError` where a view is
+    /// unreleased. By itself, an empty one stays; else it is refused with `BufferError` where a view is
+    /// unreleased, and with `OverflowError` where twice the length passes `isize::MAX`.
+    pub fn extend(&mut self, value: Value, loans: LoanList) -> Made<LocalReply>
+        requires { LoansFit loans }
+        ensures ok { IfOk result (λ r. estep self.old subjects.Own (verbs.Extend value) loans ≡ (self.new, r)) }
+        ensures err { OnErr result (self.new ≡ self.old) }
+    {
+        step_of(
+            &mut self.exporter,
+            Subject::Own,
+            Verb::Extend { value },
+            loans,
+        )
+    }
+
+    /// Puts a byte before the place that is nearest to an index, as Python's `bytearray.insert(index,
+    /// value)` (Library reference, "Mutable Sequence Types").
+    ///
+    /// Refused with `TypeError` where the index is no number, and with `OverflowError` where it doesn't
+    /// fit `isize`; then as `append` refuses the value.
+    pub fn insert(&mut self, index: Value, value: Value, loans: LoanList) -> Made<LocalReply>
+        requires { LoansFit loans }
+        ensures ok { IfOk result (λ r. estep self.old subjects.Own (verbs.Insert index value) loans ≡ (self.new, r)) }
+        ensures err { OnErr result (self.new ≡ self.old) }
+    {
+        step_of(
+            &mut self.exporter,
+            Subject::Own,
+            Verb::Insert { index, value },
+            loans,
+        )
+    }
+
+    /// Takes out the byte at an index, the last where none is given, and replies it, as Python's
+    /// `bytearray.pop(index)` (Library reference, "Mutable Sequence Types").
+    ///
+    /// Refused with `TypeError` where the index is no number, with `OverflowError` where it doesn't fit
+    /// `isize`, with `BufferError` where a view is unreleased, and then with `IndexError` out of range.
+    pub fn pop(&mut self, index: Option<Value>, loans: LoanList) -> Made<LocalReply>
+        requires { LoansFit loans }
+        ensures ok { IfOk result (λ r. estep self.old subjects.Own (verbs.Pop index) loans ≡ (self.new, r)) }
+        ensures err { OnErr result (self.new ≡ self.old) }
+    {
+        step_of(&mut self.exporter, Subject::Own, Verb::Pop { index }, loans)
+    }
+
+    /// Takes out the first byte of this value, as Python's `bytearray.remove(value)` (Library
+    /// reference, "Mutable Sequence Types").
+    ///
+    /// Refused as `append` refuses the value, and then with `ValueError` where no byte has it.
+    pub fn remove(&mut self, value: Value, loans: LoanList) -> Made<LocalReply>
+        requires { LoansFit loans }
+        ensures ok { IfOk result (λ r. estep self.old subjects.Own (verbs.Remove value) loans ≡ (self.new, r)) }
+        ensures err { OnErr result (self.new ≡ self.old) }
+    {
+        step_of(
+            &mut self.exporter,
+            Subject::Own,
+            Verb::Remove { value },
+            loans,
+        )
+    }
+
+    /// Takes out all bytes, as Python's `bytearray.clear()` (Library reference, "Mutable Sequence
+    /// Types").
+    ///
+    /// Refused with `BufferError` where a view is unreleased.
+    pub fn clear(&mut self, loans: LoanList) -> Made<LocalReply>
+        requires { LoansFit loans }
+        ensures ok { IfOk result (λ r. estep self.old subjects.Own verbs.Clear loans ≡ (self.new, r)) }
+        ensures err { OnErr result (self.new ≡ self.old) }
+    {
+        step_of(&mut self.exporter, Subject::Own, Verb::Clear, loans)
+    }
+
+    /// Turns the order of the bytes round, as Python's `bytearray.reverse()` (Library reference,
+    /// "Mutable Sequence Types"). The length stays, so views don't matter.
+    pub fn reverse(&mut self, loans: LoanList) -> Made<LocalReply>
+        requires { LoansFit loans }
+        ensures ok { IfOk result (λ r. estep self.old subjects.Own verbs.Reverse loans ≡ (self.new, r)) }
+        ensures err { OnErr result (self.new ≡ self.old) }
+    {
+        step_of(&mut self.exporter, Subject::Own, Verb::Reverse, loans)
+    }
+
+    /// Adds bytes at the end, as Python's `bytearray += value` (Library reference, "Mutable Sequence
+    /// Types").
+    ///
+    /// Refused with `ValueError` for a released view, and with `TypeError` for a view whose items don't
+    /// lie one after the other and for what is neither bytes nor a handle of them; with `BufferError`
+    /// by itself, and where a view is unreleased.
+    pub fn iadd(&mut self, value: Value, loans: LoanList) -> Made<LocalReply>
+        requires { LoansFit loans }
+        ensures ok { IfOk result (λ r. estep self.old subjects.Own (verbs.IAdd value) loans ≡ (self.new, r)) }
+        ensures err { OnErr result (self.new ≡ self.old) }
+    {
+        step_of(
+            &mut self.exporter,
+            Subject::Own,
+            Verb::IAdd { value },
+            loans,
+        )
+    }
+
+    /// Repeats the bytes so many times, none for a negative number, as Python's `bytearray *= count`
+    /// (Library reference, "Mutable Sequence Types").
+    ///
+    /// Refused with `TypeError` where the count is no number, and with `OverflowError` where it doesn't
+    /// fit `isize`. By another number than 1, where there is a byte: with `BufferError` where a view is
+    /// unreleased, and with `OverflowError` where the length passes `isize::MAX`.
+    pub fn imul(&mut self, count: Value, loans: LoanList) -> Made<LocalReply>
+        requires { LoansFit loans }
+        ensures ok { IfOk result (λ r. estep self.old subjects.Own (verbs.IMul count) loans ≡ (self.new, r)) }
+        ensures err { OnErr result (self.new ≡ self.old) }
+    {
+        step_of(
+            &mut self.exporter,
+            Subject::Own,
+            Verb::IMul { count },
+            loans,
+        )
+    }
+
+    /// Compares the bytes with another value by an operator, as Python's `bytearray == other`, `bytearray <
+    /// other` and so on (Language reference, "Value comparisons"): byte by byte with bytes, an exporter, or
+    /// an unreleased view whose items lie one after the other. Beside any other value the reply is
+    /// `NotImplementedReply`, as Python's `NotImplemented`.
+    pub fn cmp(&mut self, op: CompareOp, other: Value, loans: LoanList) -> Made<LocalReply>
+        requires { LoansFit loans }
+        ensures ok { IfOk result (λ r. estep self.old subjects.Own (verbs.Compare op other) loans ≡ (self.new, r)) }
+        ensures err { OnErr result (self.new ≡ self.old) }
+    {
+        step_of(
+            &mut self.exporter,
+            Subject::Own,
+            Verb::Compare { op, other },
+            loans,
+        )
+    }
+
+    /// Refused with `TypeError` always: a bytearray may change, so it has no hash, as in Python (Library
+    /// reference, "Mutable Sequence Types").
+    pub fn hash(&mut self, loans: LoanList) -> Made<LocalReply>
+        requires { LoansFit loans }
+        ensures ok { IfOk result (λ r. estep self.old subjects.Own verbs.Hash loans ≡ (self.new, r)) }
+        ensures err { OnErr result (self.new ≡ self.old) }
+    {
+        step_of(&mut self.exporter, Subject::Own, Verb::Hash, loans)
+    }
+
+    /// The text that the bytes are shown as, as Python's `repr(bytearray)`: `bytearray(b'..')` (Library
+    /// reference, "Bytearray Objects").
+    ///
+    /// Refused with `OverflowError` where the text has more than `isize::MAX` bytes.
+    pub fn repr_str(&mut self, loans: LoanList) -> Made<LocalReply>
+        requires { LoansFit loans }
+        ensures ok { IfOk result (λ r. estep self.old subjects.Own verbs.Repr loans ≡ (self.new, r)) }
+        ensures err { OnErr result (self.new ≡ self.old) }
+    {
+        step_of(&mut self.exporter, Subject::Own, Verb::Repr, loans)
+    }
+
+    /// Puts the bytes of a source in place of all, as Python's `bytearray.__init__(source, encoding,
+    /// errors)` (Library reference, "Bytearray Objects").
+    ///
+    /// Refused as `ByteInnerNewOptions::get_bytearray_inner` refuses the options, and then with
+    /// `BufferError` where a view is unreleased.
+    pub fn init(&mut self, options: ByteInnerNewOptions, loans: LoanList) -> Made<LocalReply>
+        requires { LoansFit loans }
+        ensures ok { IfOk result (λ r. estep self.old subjects.Own (verbs.Init options) loans ≡ (self.new, r)) }
+        ensures err { OnErr result (self.new ≡ self.old) }
+    {
+        step_of(
+            &mut self.exporter,
+            Subject::Own,
+            Verb::Init { options },
+            loans,
+        )
+    }
+
+    /// The copy of the bytes, of which another bytearray is to be made, as Python's `bytearray.copy()`
+    /// (Library reference, "Mutable Sequence Types"). `ExporterState::exporter_of_copy` makes it of the
+    /// reply.
+    pub fn copy(&mut self, loans: LoanList) -> Made<LocalReply>
+        requires { LoansFit loans }
+        ensures ok { IfOk result (λ r. estep self.old subjects.Own verbs.Copy loans ≡ (self.new, r)) }
+        ensures err { OnErr result (self.new ≡ self.old) }
+    {
+        step_of(&mut self.exporter, Subject::Own, Verb::Copy, loans)
+    }
+}
+
+impl BufferResizeGuard for PyByteArray {
+    ghost exporter = { λ b. b };
+
+    ghost use Rattle.pybuf_object.specs.Lending.{LendsAllIfOk, LendsAllIfSome};
+
+    fn try_resizable_opt(&mut self) -> Option<&mut Vec<u8>>
+        requires { self.old.kind ≡ kinds.ByteArray }
+        ensures* writes_back { sem 𝓛 (LendsAllIfSome self.entry result) }
+        ensures value { IfSome result (λ bytes. bytes.now.items ≡ self.old.bytes) }
+        ensures exact { IsSome result ↔ (exports_of self.old ≡ 0) }
+    {
+        PyByteArray::try_resizable_opt(self)
+    }
+
+    fn try_resizable(&mut self) -> Result<&mut Vec<u8>, Fault>
+        requires { self.old.kind ≡ kinds.ByteArray }
+        ensures* writes_back { sem 𝓛 (LendsAllIfOk self.entry result) }
+        ensures value { IfOk result (λ bytes. bytes.now.items ≡ self.old.bytes) }
+        ensures refused { IfErr result (λ fault. fault ≡ Fault.Buffer) }
+        ensures exact { IsOk result ↔ (exports_of self.old ≡ 0) }
+    {
+        PyByteArray::try_resizable(self)
+    }
+}

@@ -1,0 +1,200 @@
+//! Python's `bytes`, as a value of its own.
+ghost use Rattle.std.specs.Prelude.{◌≡◌, ◌==◌, length, IfOk, OnErr};
+ghost use Rattle.std.specs.Borrow.{sem};
+ghost use Rattle.pybuf_command.specs.Fits.{LoansFit};
+ghost use Rattle.pybuf_command.specs.declared.kinds.ExporterKind.TheVariants as kinds;
+ghost use Rattle.pybuf_command.specs.declared.kinds.Subject.TheVariants as subjects;
+ghost use Rattle.pybuf_command.specs.declared.commands.PropertyName.TheVariants as names;
+ghost use Rattle.pybuf_command.specs.declared.commands.Verb.TheVariants as verbs;
+ghost use Rattle.pybuf_exporter.specs.Step.{estep};
+ghost use Rattle.pybuf_state.specs.Exporter.{new_exporter};
+
+use crate::stepping::step_of;
+use pybuf_command::{ExporterKind, LoanList, LocalReply, PropertyName, Subject, Verb};
+use pybuf_exporter::ExporterState;
+use pybuf_value::{ByteList, CompareOp, Made, Value};
+use std::alloc::Global;
+use std::marker::Model;
+
+/// Python's `bytes`: a sequence of bytes that never change (Library reference, "Bytes Objects"). It owns
+/// its exporter, which is what a clause sees, and keeps the views that are made of it.
+///
+/// A method that takes loans is one command on the exporter, and answers its reply. What is refused is
+/// replied as `LocalReply::Refused`, and changes nothing; before all that a method names, a handle among the
+/// values that the loans don't name is refused with `UnknownName`. Where memory runs out, nothing is changed.
+/// The loans have to fit, as `LoanList::fit` tells.
+#[derive(Debug, Drop)]
+pub struct PyBytes {
+    exporter: ExporterState,
+}
+
+impl Model for PyBytes {
+    ghost use Rattle.pybuf_state.specs.Exporter.{Exporter};
+
+    ghost Value = { Exporter };
+
+    ghost view = { λ b. b.exporter };
+}
+
+impl PyBytes {
+    ghost use Rattle.pybuf_object.specs.Lending.{LendsStateOfBytes};
+
+    /// The `bytes` of these bytes, and no view of it. Takes no memory.
+    pub fn new_ref(alloc: Global, bytes: Vec<u8>) -> PyBytes
+        ensures { result ≡ new_exporter kinds.Bytes bytes.items }
+    {
+        let bytes = ByteList::from_vec(bytes);
+        PyBytes {
+            exporter: ExporterState::new(alloc, ExporterKind::Bytes, bytes),
+        }
+    }
+
+    /// Its exporter.
+    pub fn state(&self) -> &ExporterState
+        ensures { result.now ≡ self.now }
+    {
+        &self.exporter
+    }
+
+    /// Its exporter, lent to be changed: views of it are made and released so. Another exporter can be put
+    /// in through it, of any kind.
+    pub fn state_mut(&mut self) -> &mut ExporterState
+        ensures* writes_back { sem 𝓛 (LendsStateOfBytes self.entry result) }
+        ensures value { result.now ≡ self.old }
+    {
+        &mut self.exporter
+    }
+
+    /// The number of bytes, as Python's `len(bytes)` (Library reference, "Common Sequence Operations").
+    /// Takes no memory.
+    pub fn len(&self) -> usize
+        ensures { result ≡ length self.now.bytes }
+    {
+        self.exporter.bytes().len()
+    }
+
+    /// Whether there is no byte: so where Python's `bool(bytes)` is false (Library reference, "Truth Value
+    /// Testing"). Takes no memory.
+    pub fn is_empty(&self) -> bool
+        ensures { result ≡ (length self.now.bytes == 0) }
+    {
+        self.exporter.bytes().is_empty()
+    }
+
+    /// The bytes, lent without a copy.
+    pub fn as_bytes(&self) -> &[u8]
+        ensures { result.now ≡ self.now.bytes }
+    {
+        self.exporter.bytes()
+    }
+
+    /// A memoryview of all bytes, as Python's `memoryview(object)` (Library reference, "Memory Views"):
+    /// the reply is the number of one more view, with items of one byte in one dimension, which may
+    /// only be read.
+    pub fn as_buffer(&mut self, loans: LoanList) -> Made<LocalReply>
+        requires { LoansFit loans }
+        ensures ok { IfOk result (λ r. estep self.old subjects.Own verbs.View loans ≡ (self.new, r)) }
+        ensures err { OnErr result (self.new ≡ self.old) }
+    {
+        step_of(&mut self.exporter, Subject::Own, Verb::View, loans)
+    }
+
+    /// A view of the bytes from the place `from` up to `to`, as `memoryview(object)[from:to]` where
+    /// both places are there (Library reference, "Memory Views"): the reply is its number.
+    ///
+    /// Refused with `TypeError` where `from`, and then `to`, is no number, and with `IndexError` where
+    /// `from` is below 0 or past `to`, or `to` is past the length.
+    pub fn range(&mut self, from: Value, to: Value, loans: LoanList) -> Made<LocalReply>
+        requires { LoansFit loans }
+        ensures ok { IfOk result (λ r. estep self.old subjects.Own (verbs.Range from to) loans ≡ (self.new, r)) }
+        ensures err { OnErr result (self.new ≡ self.old) }
+    {
+        step_of(
+            &mut self.exporter,
+            Subject::Own,
+            Verb::Range { from, to },
+            loans,
+        )
+    }
+
+    /// The byte at an index, as a number, or the bytes that a slice picks, as Python's `bytes[key]`
+    /// (Library reference, "Common Sequence Operations"). A negative index counts from the end.
+    ///
+    /// Refused with `TypeError` where the key is neither a number nor a slice, and where a part of the
+    /// slice is neither a number nor `None`; with `ValueError` for a step of 0; with `IndexError` for
+    /// an index out of range.
+    pub fn getitem(&mut self, key: Value, loans: LoanList) -> Made<LocalReply>
+        requires { LoansFit loans }
+        ensures ok { IfOk result (λ r. estep self.old subjects.Own (verbs.Get key) loans ≡ (self.new, r)) }
+        ensures err { OnErr result (self.new ≡ self.old) }
+    {
+        step_of(&mut self.exporter, Subject::Own, Verb::Get { key }, loans)
+    }
+
+    /// A copy of the bytes, as Python's `bytes(object)` (Library reference, "Bytes Objects").
+    pub fn tobytes(&mut self, loans: LoanList) -> Made<LocalReply>
+        requires { LoansFit loans }
+        ensures ok { IfOk result (λ r. estep self.old subjects.Own verbs.ToBytes loans ≡ (self.new, r)) }
+        ensures err { OnErr result (self.new ≡ self.old) }
+    {
+        step_of(&mut self.exporter, Subject::Own, Verb::ToBytes, loans)
+    }
+
+    /// Compares the bytes with another value by an operator, as Python's `bytes == other`, `bytes < other`
+    /// and so on (Language reference, "Value comparisons"): byte by byte with bytes, an exporter, or an
+    /// unreleased view whose items lie one after the other. Beside any other value the reply is
+    /// `NotImplementedReply`, as Python's `NotImplemented`.
+    ///
+    /// Refused with `TypeError` for an order with a view.
+    pub fn cmp(&mut self, op: CompareOp, other: Value, loans: LoanList) -> Made<LocalReply>
+        requires { LoansFit loans }
+        ensures ok { IfOk result (λ r. estep self.old subjects.Own (verbs.Compare op other) loans ≡ (self.new, r)) }
+        ensures err { OnErr result (self.new ≡ self.old) }
+    {
+        step_of(
+            &mut self.exporter,
+            Subject::Own,
+            Verb::Compare { op, other },
+            loans,
+        )
+    }
+
+    /// The bytes that are fed to a hasher, as in Python's `hash(bytes)` (Library reference, "Built-in
+    /// Functions"): they are all bytes.
+    pub fn hash(&mut self, loans: LoanList) -> Made<LocalReply>
+        requires { LoansFit loans }
+        ensures ok { IfOk result (λ r. estep self.old subjects.Own verbs.Hash loans ≡ (self.new, r)) }
+        ensures err { OnErr result (self.new ≡ self.old) }
+    {
+        step_of(&mut self.exporter, Subject::Own, Verb::Hash, loans)
+    }
+
+    /// The text that the bytes are shown as, as Python's `repr(bytes)`: `b'..'` (Library reference, "Bytes
+    /// Objects").
+    ///
+    /// Refused with `OverflowError` where the text has more than `isize::MAX` bytes.
+    pub fn repr_str(&mut self, loans: LoanList) -> Made<LocalReply>
+        requires { LoansFit loans }
+        ensures ok { IfOk result (λ r. estep self.old subjects.Own verbs.Repr loans ≡ (self.new, r)) }
+        ensures err { OnErr result (self.new ≡ self.old) }
+    {
+        step_of(&mut self.exporter, Subject::Own, Verb::Repr, loans)
+    }
+
+    /// How many views of it are unreleased. Python keeps this number and doesn't show it: while it
+    /// isn't 0, nothing is resized (C API, "Buffer Protocol").
+    pub fn exports(&mut self, loans: LoanList) -> Made<LocalReply>
+        requires { LoansFit loans }
+        ensures ok { IfOk result (λ r. estep self.old subjects.Own (verbs.Property names.Exports) loans ≡ (self.new, r)) }
+        ensures err { OnErr result (self.new ≡ self.old) }
+    {
+        step_of(
+            &mut self.exporter,
+            Subject::Own,
+            Verb::Property {
+                name: PropertyName::Exports,
+            },
+            loans,
+        )
+    }
+}

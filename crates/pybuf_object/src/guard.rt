@@ -1,0 +1,27 @@
+//! What may be resized while nothing of it is lent.
+ghost use Rattle.std.specs.Prelude.{◌≡◌, ◌↔◌, IfOk, IfSome, IfErr, IsOk, IsSome};
+ghost use Rattle.pybuf_value.specs.declared.faults.Fault.{Fault};
+ghost use Rattle.pybuf_command.specs.declared.kinds.ExporterKind.TheVariants as kinds;
+ghost use Rattle.pybuf_state.specs.Exporter.{Exporter, exports_of};
+
+use pybuf_value::Fault;
+
+/// Bytes that may be resized while no view of them is unreleased.
+pub trait BufferResizeGuard {
+    /// Its exporter.
+    ghost exporter: { Self → Exporter };
+
+    /// The bytes, lent to be changed in any way, in number too; views and iterators stay. None exactly where
+    /// a view is unreleased. Takes no memory.
+    fn try_resizable_opt(&mut self) -> Option<&mut Vec<u8>>
+        requires { (exporter self.old).kind ≡ kinds.ByteArray }
+        ensures value { IfSome result (λ bytes. bytes.now.items ≡ (exporter self.old).bytes) }
+        ensures exact { IsSome result ↔ (exports_of (exporter self.old) ≡ 0) };
+
+    /// The same. Refused with `BufferError` exactly where a view is unreleased.
+    fn try_resizable(&mut self) -> Result<&mut Vec<u8>, Fault>
+        requires { (exporter self.old).kind ≡ kinds.ByteArray }
+        ensures value { IfOk result (λ bytes. bytes.now.items ≡ (exporter self.old).bytes) }
+        ensures refused { IfErr result (λ fault. fault ≡ Fault.Buffer) }
+        ensures exact { IsOk result ↔ (exports_of (exporter self.old) ≡ 0) };
+}
