@@ -1,0 +1,5 @@
+pub mod Arguments
+pub mod Texts
+pub mod Writable
+pub mod Laws
+pub mod Holding

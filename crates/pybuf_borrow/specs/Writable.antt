@@ -1,0 +1,45 @@
+-- Subjects whose bytes are lent to be written where they lie.
+use Rattle.std.specs.Prelude.{ℕ, Bool, false, not, ◌&&◌, List, [], slice_index, Result, Err}
+use Rattle.pybuf_value.specs.declared.faults.Fault.{Fault}
+use Rattle.pybuf_value.specs.declared.faults.Fault.TheVariants as fault
+use Rattle.pybuf_value.specs.Refusing.{◌>>=◌, unless}
+use Rattle.pybuf_desc.specs.Items.{content_of_layout}
+use Rattle.pybuf_command.specs.declared.kinds.Subject.{Subject}
+use Rattle.pybuf_command.specs.declared.kinds.Subject.TheVariants as subject
+use Rattle.pybuf_command.specs.Kinds.{holds_readonly}
+use Rattle.pybuf_state.specs.Exporter.{Exporter, live_layout}
+use Rattle.pybuf_state.specs.Live.{is_live, layout_of, is_writable_run}
+use Rattle.pybuf_exporter.specs.Lending.{overwritten_exporter, written_from}
+
+-- An exporter lends all its bytes, unless they are only read, and a view those of its items, unless it was
+-- never given or was released, or its items may only be read or don't lie one after the other. No iterator is
+-- given yet.
+abbrev pub asked_to_write : Exporter → Subject → Result Bool Fault
+asked_to_write e subject.Own = unless (holds_readonly e.kind) fault.Kind
+asked_to_write e (subject.View k) = do
+  layout ← live_layout e k
+  unless (not (is_writable_run layout)) fault.Kind
+asked_to_write e (subject.Iter k) = Err fault.UnknownName
+
+-- whether it isn't refused
+abbrev pub is_writable : Exporter → Subject → Bool
+is_writable e subject.Own = not (holds_readonly e.kind)
+is_writable e (subject.View k) = is_live e k && is_writable_run (layout_of e k)
+is_writable e (subject.Iter k) = false
+
+-- the bytes that are lent
+abbrev pub lent_bytes : Exporter → Subject → List ℕ
+lent_bytes e subject.Own = e.bytes
+lent_bytes e (subject.View k) = content_of_layout e.bytes (layout_of e k)
+lent_bytes e (subject.Iter k) = []
+
+-- The exporter's bytes once others were written over those that were lent: those of a view begin at its
+-- first item.
+abbrev pub bytes_after : Exporter → Subject → List ℕ → List ℕ
+bytes_after e subject.Own bytes = (overwritten_exporter e bytes).bytes
+bytes_after e (subject.View k) bytes = (written_from e (slice_index (layout_of e k).starts 0) bytes).bytes
+bytes_after e (subject.Iter k) bytes = e.bytes
+
+-- nothing else of the exporter changes
+abbrev pub written_through : Exporter → Subject → List ℕ → Exporter
+written_through e s bytes = record e { bytes = bytes_after e s bytes }

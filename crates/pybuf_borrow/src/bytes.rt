@@ -1,0 +1,112 @@
+//! An argument that is borrowed as bytes.
+ghost use Rattle.std.specs.Prelude.{◌≡◌, ◌==◌, ℕ, List, Ok, Err, length, IfOk, IfErr};
+ghost use Rattle.std.specs.Fn.{FnOnceReturnsAt};
+ghost use Rattle.pybuf_borrow.specs.Arguments.{like_in, argument_of};
+
+use pybuf_value::{Fault, Lender, Value, bytes_like};
+use std::marker::Model;
+
+/// An argument that is borrowed as bytes, where Python's documents ask for a bytes-like object (Glossary,
+/// "bytes-like object"): a bytes value, or a handle of an exporter or of a view whose items lie one after the
+/// other. Its bytes are lent by the value or by the lender, and aren't copied.
+#[derive(Debug, Drop)]
+pub struct ArgBytesLike<'a> {
+    object: &'a Value,
+    bytes: &'a [u8],
+}
+
+impl<'a> Model for ArgBytesLike<'a> {
+    ghost use Rattle.pybuf_borrow.specs.Arguments.{BytesArgument};
+
+    ghost Value = { BytesArgument };
+
+    ghost view = { λ a. record { object = a.object.now; bytes = a.bytes.now } };
+}
+
+/// The bytes of a value that has them.
+fn like_in<'a, L: Lender>(value: &'a Value, lender: &'a L) -> Result<&'a [u8], Fault>
+    ensures ok { IfOk result (λ bytes. like_in (L.pairs lender.now) value.now ≡ Ok bytes.now) }
+    ensures err { IfErr result (λ fault. like_in (L.pairs lender.now) value.now ≡ Err fault) }
+{
+    match value {
+        Value::One(scalar) => bytes_like(scalar, lender),
+        _ => Err(Fault::Kind),
+    }
+}
+
+impl<'a> ArgBytesLike<'a> {
+    /// The bytes of a value, borrowed.
+    ///
+    /// Refused with `UnknownName` where the lender hasn't the handle, with `ValueError` where it names a
+    /// released view, and with `TypeError` where it names a view whose items don't lie one after the other or
+    /// an iterator, and for every other value.
+    pub fn try_from_value<L: Lender>(
+        value: &'a Value,
+        lender: &'a L,
+    ) -> Result<ArgBytesLike<'a>, Fault>
+        ensures ok { IfOk result (λ argument. argument_of (L.pairs lender.now) value.now ≡ Ok argument) }
+        ensures err { IfErr result (λ fault. argument_of (L.pairs lender.now) value.now ≡ Err fault) }
+    {
+        match like_in(value, lender) {
+            Ok(bytes) => Ok(ArgBytesLike {
+                object: value,
+                bytes,
+            }),
+            Err(fault) => Err(fault),
+        }
+    }
+
+    /// The bytes, lent.
+    pub fn borrow_buf(&self) -> &[u8]
+        ensures { result.now ≡ self.now.bytes }
+    {
+        self.bytes
+    }
+
+    /// What a function makes of the bytes.
+    pub fn with_ref<R, F: FnOnce(&[u8]) -> R>(&self, f: F) -> R
+        requires { F.IsAlwaysCallable f }
+        ensures { FnOnceReturnsAt F.FnOnce f self.now.bytes result }
+    {
+        f(self.bytes)
+    }
+
+    /// The number of bytes.
+    pub fn len(&self) -> usize
+        ensures { result ≡ length self.now.bytes }
+    {
+        self.bytes.len()
+    }
+
+    /// Whether there is no byte.
+    pub fn is_empty(&self) -> bool
+        ensures { result ≡ (length self.now.bytes == 0) }
+    {
+        self.bytes.is_empty()
+    }
+
+    /// The value whose bytes they are.
+    pub fn as_object(&self) -> &Value
+        ensures { result.now ≡ self.now.object }
+    {
+        self.object
+    }
+}
+
+/// What a function makes of the bytes of a value, which are borrowed for the call.
+///
+/// Refused as `ArgBytesLike::try_from_value` refuses the value; the function isn't called then.
+pub fn try_bytes_like<L: Lender, R, F: FnOnce(&[u8]) -> R>(
+    value: &Value,
+    lender: &L,
+    f: F,
+) -> Result<R, Fault>
+    requires { F.IsAlwaysCallable f }
+    ensures ok { IfOk result (λ made. (bytes : List ℕ) × (like_in (L.pairs lender.now) value.now ≡ Ok bytes) × FnOnceReturnsAt F.FnOnce f bytes made) }
+    ensures err { IfErr result (λ fault. like_in (L.pairs lender.now) value.now ≡ Err fault) }
+{
+    match like_in(value, lender) {
+        Ok(bytes) => Ok(f(bytes)),
+        Err(fault) => Err(fault),
+    }
+}

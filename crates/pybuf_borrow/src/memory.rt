@@ -1,0 +1,141 @@
+//! The bytes of a subject of an exporter, borrowed to be written.
+ghost use Rattle.std.specs.Prelude.{◌≡◌, ◌==◌, ℕ, List, true, Ok, Err, length, MatchResult, IfOk, IfErr};
+ghost use Rattle.std.specs.Fn.{FnOnceReturnsAtMut};
+ghost use Rattle.pybuf_borrow.specs.Writable.{asked_to_write, is_writable, lent_bytes, written_through};
+
+use pybuf_command::Subject;
+use pybuf_exporter::ExporterState;
+use pybuf_value::Fault;
+
+/// The bytes of an exporter, or of one of its views, borrowed to be written where they lie: what Python's
+/// documents call a writable bytes-like object (Glossary, "bytes-like object"; C API, "Parsing arguments",
+/// `w*`). It holds the exporter until it ends. What is written through it takes the place of the bytes that it
+/// lends, and nothing else of the exporter changes.
+#[derive(Drop)]
+pub struct ArgMemoryBuffer<'a> {
+    state: &'a mut ExporterState,
+    subject: Subject,
+    ghost writable: { is_writable state.now subject ≡ true },
+}
+
+/// Whether the bytes of a subject may be written where they lie.
+fn asked_to_write(state: &ExporterState, subject: Subject) -> Result<(), Fault>
+    ensures ok { IfOk result (λ _. is_writable state.now subject ≡ true) }
+    ensures exact { MatchResult result (λ _. asked_to_write state.now subject ≡ Ok true) (λ fault. asked_to_write state.now subject ≡ Err fault) }
+{
+    match subject {
+        Subject::Own => {
+            if state.kind().is_readonly() {
+                return Err(Fault::Kind);
+            }
+            Ok(())
+        }
+        Subject::View(view) => {
+            if view >= state.view_count() {
+                return Err(Fault::UnknownName);
+            }
+            if !state.is_live(view) {
+                return Err(Fault::Value);
+            }
+            if !state.is_writable_run(view) {
+                return Err(Fault::Kind);
+            }
+            Ok(())
+        }
+        Subject::Iter(_) => Err(Fault::UnknownName),
+    }
+}
+
+impl<'a> ArgMemoryBuffer<'a> {
+    ghost use Rattle.std.specs.Borrow.{sem};
+    ghost use Rattle.pybuf_borrow.specs.Holding.{StaysIfRefused, LendsWritable, after_writes};
+
+    fn of_subject(state: &'a mut ExporterState, subject: Subject) -> ArgMemoryBuffer<'a>
+        requires { is_writable state.old subject ≡ true }
+        ensures same_reference { result.state.ghost_name ≡ state.entry.ghost_name }
+        ensures state { result.state.now ≡ state.old }
+        ensures subject { result.subject ≡ subject }
+    {
+        ArgMemoryBuffer { state, subject }
+    }
+
+    /// The bytes of a subject, borrowed to be written: all bytes of an exporter, or those of a view whose
+    /// items lie one after the other.
+    ///
+    /// Refused with `UnknownName` exactly where the subject was never given, then with `ValueError` exactly
+    /// for a released view, and then with `TypeError` exactly where the items don't lie one after the other,
+    /// or may only be read. The exporter stays then.
+    pub fn try_from_subject(
+        state: &'a mut ExporterState,
+        subject: Subject,
+    ) -> Result<ArgMemoryBuffer<'a>, Fault>
+        ensures* refused { sem 𝓛 (StaysIfRefused state.entry result) }
+        ensures same_reference { IfOk result (λ borrow. borrow.state.ghost_name ≡ state.entry.ghost_name) }
+        ensures state { IfOk result (λ borrow. borrow.state.now ≡ state.old) }
+        ensures subject { IfOk result (λ borrow. borrow.subject ≡ subject) }
+        ensures exact { MatchResult result (λ _. asked_to_write state.old subject ≡ Ok true) (λ fault. asked_to_write state.old subject ≡ Err fault) }
+    {
+        asked_to_write(state, subject)?;
+        Ok(ArgMemoryBuffer::of_subject(state, subject))
+    }
+
+    /// The bytes, lent to be written. What is written there takes the place of the bytes of the subject, and
+    /// of no others.
+    pub fn borrow_buf_mut(&mut self) -> &mut [u8]
+        ensures* writes_back { sem 𝓛 (LendsWritable self.entry result) }
+        ensures value { result.now ≡ lent_bytes self.old.state.now self.old.subject }
+    {
+        match self.subject {
+            Subject::Own => self.state.bytes_mut(),
+            Subject::View(view) => self.state.contiguous_bytes_mut(view),
+            Subject::Iter(_) => unreachable!(),
+        }
+    }
+
+    /// What a function makes of the bytes, which it may write.
+    pub fn with_ref<R, F: FnOnce(&mut [u8]) -> R>(&mut self, f: F) -> R
+        requires { F.IsAlwaysCallable f }
+        ensures { (last : List ℕ) × FnOnceReturnsAtMut F.FnOnce f (lent_bytes self.old.state.now self.old.subject) result last × (self.new ≡ after_writes self.old last) }
+    {
+        f(self.borrow_buf_mut())
+    }
+
+    /// The number of bytes that are lent.
+    pub fn len(&self) -> usize
+        ensures { result ≡ length (lent_bytes self.now.state.now self.now.subject) }
+    {
+        match self.subject {
+            Subject::Own => self.state.bytes().len(),
+            Subject::View(view) => match self.state.contiguous_bytes(view) {
+                Some(bytes) => bytes.len(),
+                None => unreachable!(),
+            },
+            Subject::Iter(_) => unreachable!(),
+        }
+    }
+
+    /// Whether no byte is lent.
+    pub fn is_empty(&self) -> bool
+        ensures { result ≡ (length (lent_bytes self.now.state.now self.now.subject) == 0) }
+    {
+        self.len() == 0
+    }
+}
+
+/// What a function makes of the bytes of a subject, which are borrowed for the call and may be written.
+///
+/// Refused as `ArgMemoryBuffer::try_from_subject` refuses the subject; the function isn't called then, and
+/// the exporter stays.
+pub fn try_rw_bytes_like<R, F: FnOnce(&mut [u8]) -> R>(
+    state: &mut ExporterState,
+    subject: Subject,
+    f: F,
+) -> Result<R, Fault>
+    requires { F.IsAlwaysCallable f }
+    ensures ok { IfOk result (λ made. (last : List ℕ) × FnOnceReturnsAtMut F.FnOnce f (lent_bytes state.old subject) made last × (state.new ≡ written_through state.old subject last)) }
+    ensures exact { MatchResult result (λ _. asked_to_write state.old subject ≡ Ok true) (λ fault. asked_to_write state.old subject ≡ Err fault) }
+    ensures err { IfErr result (λ _. state.new ≡ state.old) }
+{
+    let mut borrow = ArgMemoryBuffer::try_from_subject(state, subject)?;
+    Ok(borrow.with_ref(f))
+}

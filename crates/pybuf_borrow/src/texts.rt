@@ -1,0 +1,141 @@
+//! Arguments that are a text, or are borrowed as bytes.
+ghost use Rattle.std.specs.Prelude.{◌≡◌, ◌==◌, length, IfOk};
+ghost use Rattle.std.specs.Fn.{FnOnceReturnsAt};
+ghost use Rattle.pybuf_value.specs.Halting.{outcome_of};
+ghost use Rattle.pybuf_borrow.specs.Texts.{is_ascii_text};
+
+use crate::bytes::ArgBytesLike;
+use pybuf_value::{Fault, Lender, Made, Outcome, Scalar, Text, Tried, Twin, Value};
+use std::alloc::Global;
+
+/// An argument that is a text, or is borrowed as bytes.
+#[derive(Debug, Drop)]
+pub enum ArgStrOrBytesLike<'a> {
+    /// What is borrowed as bytes.
+    Buf(ArgBytesLike<'a>),
+    /// A text.
+    Str(Text),
+}
+
+impl<'a> ArgStrOrBytesLike<'a> {
+    ghost use Rattle.pybuf_borrow.specs.Texts.{text_or_bytes, object_of, bytes_of};
+
+    /// A copy of a text, or the bytes of any other value, borrowed.
+    ///
+    /// Refused as `ArgBytesLike::try_from_value` refuses what is no text.
+    pub fn try_from_value<L: Lender>(
+        alloc: Global,
+        value: &'a Value,
+        lender: &'a L,
+    ) -> Tried<ArgStrOrBytesLike<'a>>
+        ensures { IfOk result (λ outcome. outcome ≡ outcome_of (text_or_bytes (L.pairs lender.now) value.now)) }
+    {
+        if let Value::One(Scalar::Text(text)) = value {
+            let text = text.copy(alloc)?;
+            return Ok(Outcome::Done(ArgStrOrBytesLike::Str(text)));
+        }
+        match ArgBytesLike::try_from_value(value, lender) {
+            Ok(argument) => Ok(Outcome::Done(ArgStrOrBytesLike::Buf(argument))),
+            Err(fault) => Ok(Outcome::Refused(fault)),
+        }
+    }
+
+    /// A copy of the value that the argument is of.
+    pub fn as_object(&self, alloc: Global) -> Made<Value>
+        ensures { IfOk result (λ value. value ≡ object_of self.now) }
+    {
+        match self {
+            ArgStrOrBytesLike::Buf(argument) => argument.as_object().copy(alloc),
+            ArgStrOrBytesLike::Str(text) => {
+                let text = text.copy(alloc)?;
+                Ok(Value::One(Scalar::Text(text)))
+            }
+        }
+    }
+
+    /// The bytes, lent: those of a text are its UTF-8.
+    pub fn borrow_bytes(&self) -> &[u8]
+        ensures { result.now ≡ bytes_of self.now }
+    {
+        match self {
+            ArgStrOrBytesLike::Buf(argument) => argument.borrow_buf(),
+            ArgStrOrBytesLike::Str(text) => text.as_slice(),
+        }
+    }
+}
+
+/// An argument that is a text of ASCII, or is borrowed as bytes.
+#[derive(Debug, Drop)]
+pub enum ArgAsciiBuffer<'a> {
+    /// A text of ASCII.
+    Text(Text),
+    /// What is borrowed as bytes.
+    Buffer(ArgBytesLike<'a>),
+}
+
+/// Whether each character of a text is one of ASCII.
+fn is_ascii_text(text: &[u8]) -> bool
+    ensures { result ≡ is_ascii_text text.now }
+{
+    text.iter().all(|byte| *byte < 128)
+}
+
+impl<'a> ArgAsciiBuffer<'a> {
+    ghost use Rattle.pybuf_borrow.specs.Texts.{ascii_or_bytes, ascii_bytes_of};
+
+    /// A copy of a text, or the bytes of any other value, borrowed.
+    ///
+    /// Refused with `ValueError` for a text with a character past ASCII, and as
+    /// `ArgBytesLike::try_from_value` refuses what is no text.
+    pub fn try_from_value<L: Lender>(
+        alloc: Global,
+        value: &'a Value,
+        lender: &'a L,
+    ) -> Tried<ArgAsciiBuffer<'a>>
+        ensures { IfOk result (λ outcome. outcome ≡ outcome_of (ascii_or_bytes (L.pairs lender.now) value.now)) }
+    {
+        if let Value::One(Scalar::Text(text)) = value {
+            if !is_ascii_text(text.as_slice()) {
+                return Ok(Outcome::Refused(Fault::Value));
+            }
+            let text = text.copy(alloc)?;
+            return Ok(Outcome::Done(ArgAsciiBuffer::Text(text)));
+        }
+        match ArgBytesLike::try_from_value(value, lender) {
+            Ok(argument) => Ok(Outcome::Done(ArgAsciiBuffer::Buffer(argument))),
+            Err(fault) => Ok(Outcome::Refused(fault)),
+        }
+    }
+
+    /// The bytes, lent.
+    fn borrow_bytes(&self) -> &[u8]
+        ensures { result.now ≡ ascii_bytes_of self.now }
+    {
+        match self {
+            ArgAsciiBuffer::Text(text) => text.as_slice(),
+            ArgAsciiBuffer::Buffer(argument) => argument.borrow_buf(),
+        }
+    }
+
+    /// The number of bytes.
+    pub fn len(&self) -> usize
+        ensures { result ≡ length (ascii_bytes_of self.now) }
+    {
+        self.borrow_bytes().len()
+    }
+
+    /// Whether there is no byte.
+    pub fn is_empty(&self) -> bool
+        ensures { result ≡ (length (ascii_bytes_of self.now) == 0) }
+    {
+        self.borrow_bytes().is_empty()
+    }
+
+    /// What a function makes of the bytes.
+    pub fn with_ref<R, F: FnOnce(&[u8]) -> R>(&self, f: F) -> R
+        requires { F.IsAlwaysCallable f }
+        ensures { FnOnceReturnsAt F.FnOnce f (ascii_bytes_of self.now) result }
+    {
+        f(self.borrow_bytes())
+    }
+}
