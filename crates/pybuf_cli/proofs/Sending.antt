@@ -4,7 +4,7 @@ use Rattle.std.proofs.lemmas.List.{append_assoc, append-nil, length-append, take
 use Rattle.std.proofs.lemmas.Grind.{flat_map-append}
 use Rattle.pybuf_world.specs.declared.commands.Reply.{Reply}
 use Rattle.pybuf_cli.specs.Devices.{Put, PutPrefix, Sends}
-use Rattle.pybuf_line.specs.Scalars.{handle_text}
+use Rattle.pybuf_value.specs.Spelling.{handle_text}
 use Rattle.pybuf_line.specs.Replies.{reply_line, reply_lines}
 
 pub put_nothing : (old : Option (List ℕ)) → Put old [] old

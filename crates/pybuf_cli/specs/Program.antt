@@ -8,7 +8,8 @@ use Rattle.pybuf_cli.specs.declared.forms.Form.{Form}
 use Rattle.pybuf_cli.specs.declared.forms.Form.TheVariants as form
 use Rattle.pybuf_cli.specs.declared.status.Status.{Status}
 use Rattle.pybuf_cli.specs.declared.status.Status.TheVariants as status
-use Rattle.pybuf_line.specs.Scalars.{handle_in, handle_text}
+use Rattle.pybuf_value.specs.Spelling.{handle_text}
+use Rattle.pybuf_line.specs.Scalars.{handle_in}
 use Rattle.pybuf_line.specs.Lines.{commands_in}
 use Rattle.pybuf_line.specs.Replies.{reply_lines, bad_line_text}
 use Rattle.pybuf_cli.specs.Devices.{Put, PutPrefix, Rose}

@@ -1,7 +1,7 @@
 //! The replies of a run, written line by line.
 ghost use Rattle.std.specs.Prelude.{◌≡◌, ◌≤◌, ◌^◌, OnOk, OnErr, IfErr};
 ghost use Rattle.pybuf_cli.specs.Devices.{Put, PutPrefix, Rose, Sends};
-ghost use Rattle.pybuf_line.specs.Scalars.{handle_text};
+ghost use Rattle.pybuf_value.specs.Spelling.{handle_text};
 ghost use Rattle.pybuf_line.specs.Replies.{reply_lines};
 ghost use Rattle.pybuf_cli.specs.declared.devices.PutFault.{PutFault};
 

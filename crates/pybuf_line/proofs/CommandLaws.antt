@@ -1,11 +1,13 @@
 -- A command that was written is read back.
-use Rattle.std.proofs.Common.{◌≡◌, ℕ, ◌<◌, ◌^◌, List, [], ◌∷◌, ◌++◌, Bool, true, false, not, cond, ◌==◌, Option, Some, None, refl, sym, ◌∙◌, ap, subst, arith, tests}
+use Rattle.std.proofs.Common.{◌≡◌, ℕ, ◌<◌, ◌^◌, List, [], ◌∷◌, ◌++◌, Bool, true, false, not, cond, ◌==◌, Option, Some, None, refl, ◌∙◌, ap, arith, tests}
 use Rattle.std.specs.List.{join_with_byte, onto_first, list_all, AllByRecursion}
 use Rattle.pybuf_value.specs.declared.values.Scalar.{Scalar}
 use Rattle.pybuf_value.specs.declared.values.Scalar.TheVariants as scalar
 use Rattle.pybuf_value.specs.declared.values.PySlice.{PySlice}
 use Rattle.pybuf_value.specs.declared.values.Value.{Value}
 use Rattle.pybuf_value.specs.declared.values.Value.TheVariants as value
+use Rattle.pybuf_value.specs.declared.values.CompareOp.{CompareOp}
+use Rattle.pybuf_value.specs.declared.values.CompareOp.TheVariants as op
 use Rattle.pybuf_command.specs.declared.kinds.ExporterKind.{ExporterKind}
 use Rattle.pybuf_command.specs.declared.kinds.ExporterKind.TheVariants as kind
 use Rattle.pybuf_command.specs.declared.commands.PropertyName.{PropertyName}
@@ -16,12 +18,13 @@ use Rattle.pybuf_bytes.specs.declared.options.ByteInnerNewOptions.{ByteInnerNewO
 use Rattle.pybuf_world.specs.declared.commands.Command.TheVariants as command
 use Rattle.pybuf_line.specs.declared.words.Word.TheVariants as word
 use Rattle.pybuf_line.specs.Parts.{parts_at}
-use Rattle.pybuf_line.specs.Words.{words, word_in, written_word, written_kind, written_name}
-use Rattle.pybuf_line.specs.Scalars.{handle_in, handle_text, is_text_byte, written_scalar}
+use Rattle.pybuf_line.specs.Words.{words, word_in, written_word, written_kind, written_operator, written_name}
+use Rattle.pybuf_value.specs.Spelling.{handle_text}
+use Rattle.pybuf_line.specs.Scalars.{handle_in, is_text_byte, written_scalar}
 use Rattle.pybuf_line.specs.Spellings.{written_slice, written_parts, written_value}
 use Rattle.pybuf_line.specs.Commands.{options_in, verb_in, word_of, written_values, written_options, written_arguments, command_of_words, command_in, written_words}
 use Rattle.pybuf_line.specs.Laws.{IsSpelled, IsSpelledSlice, IsSpelledValue, AreSpelledValues, AreSpelledOptions, IsSpelledVerb, CommandsReadBack}
-use Rattle.pybuf_line.proofs.NameLaws.{kinds_read, properties_read}
+use Rattle.pybuf_line.proofs.NameLaws.{kinds_read, operators_read, properties_read}
 use Rattle.pybuf_line.proofs.SpellingLaws.{handle_read}
 use Rattle.pybuf_line.proofs.ValueLaws.{is_free, IsFree, part_free, each_text_byte, values_read}
 
@@ -125,6 +128,14 @@ name_unbroken property.Contiguous = refl
 name_unbroken property.CContiguous = refl
 name_unbroken property.FContiguous = refl
 
+operator_unbroken : (o : CompareOp) → IsUnbroken (written_operator o)
+operator_unbroken op.Eq = refl
+operator_unbroken op.Ne = refl
+operator_unbroken op.Lt = refl
+operator_unbroken op.Le = refl
+operator_unbroken op.Gt = refl
+operator_unbroken op.Ge = refl
+
 -- options
 options_unbroken : (source encoding errors : Option Value) → AreSpelledValues source encoding errors → AllByRecursion IsUnbroken (written_values handle_text source encoding errors)
 options_unbroken None None None h = tt
@@ -162,6 +173,9 @@ arguments_unbroken verb.Enter h = tt
 arguments_unbroken verb.Exit h = tt
 arguments_unbroken verb.ToContiguous h = tt
 arguments_unbroken verb.ToList h = tt
+arguments_unbroken (verb.Compare operator other) h = (operator_unbroken operator, (value_unbroken other h, tt))
+arguments_unbroken verb.Hash h = tt
+arguments_unbroken verb.Repr h = tt
 arguments_unbroken (verb.Del key) h = (value_unbroken key h, tt)
 arguments_unbroken (verb.Append item) h = (value_unbroken item h, tt)
 arguments_unbroken (verb.Extend item) h = (value_unbroken item h, tt)
@@ -192,6 +206,9 @@ word_unbroken verb.Enter = refl
 word_unbroken verb.Exit = refl
 word_unbroken verb.ToContiguous = refl
 word_unbroken verb.ToList = refl
+word_unbroken (verb.Compare operator other) = refl
+word_unbroken verb.Hash = refl
+word_unbroken verb.Repr = refl
 word_unbroken (verb.Del key) = refl
 word_unbroken (verb.Append item) = refl
 word_unbroken (verb.Extend item) = refl
@@ -225,6 +242,9 @@ verb_read verb.Enter h = refl
 verb_read verb.Exit h = refl
 verb_read verb.ToContiguous h = refl
 verb_read verb.ToList h = refl
+verb_read (verb.Compare operator other) h = rw (operators_read.read operator tt, values_read other h) refl
+verb_read verb.Hash h = refl
+verb_read verb.Repr h = refl
 verb_read (verb.Del key) h = rw (values_read key h) refl
 verb_read (verb.Append item) h = rw (values_read item h) refl
 verb_read (verb.Extend item) h = rw (values_read item h) refl
@@ -258,6 +278,9 @@ do_read n verb.Enter h k = rw (handle_read n h) refl
 do_read n verb.Exit h k = rw (handle_read n h) refl
 do_read n verb.ToContiguous h k = rw (handle_read n h) refl
 do_read n verb.ToList h k = rw (handle_read n h) refl
+do_read n (verb.Compare operator other) h k = rw (handle_read n h, verb_read (verb.Compare operator other) k) refl
+do_read n verb.Hash h k = rw (handle_read n h) refl
+do_read n verb.Repr h k = rw (handle_read n h) refl
 do_read n (verb.Del key) h k = rw (handle_read n h, verb_read (verb.Del key) k) refl
 do_read n (verb.Append item) h k = rw (handle_read n h, verb_read (verb.Append item) k) refl
 do_read n (verb.Extend item) h k = rw (handle_read n h, verb_read (verb.Extend item) k) refl

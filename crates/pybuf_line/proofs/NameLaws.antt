@@ -3,14 +3,16 @@ use Rattle.std.proofs.Common.{◌≡◌, ℕ, List, [], ◌∷◌, Bool, true, f
 use Rattle.std.specs.List.{find}
 use Rattle.std.specs.Str.{bytes_eq}
 use Rattle.std.proofs.lemmas.Slice.Eq.{bytes_eq-Decides}
+use Rattle.pybuf_value.specs.declared.values.CompareOp.{CompareOp}
+use Rattle.pybuf_value.specs.declared.values.CompareOp.TheVariants as op
 use Rattle.pybuf_command.specs.declared.kinds.ExporterKind.{ExporterKind}
 use Rattle.pybuf_command.specs.declared.kinds.ExporterKind.TheVariants as kind
 use Rattle.pybuf_command.specs.declared.commands.PropertyName.{PropertyName}
 use Rattle.pybuf_command.specs.declared.commands.PropertyName.TheVariants as property
 use Rattle.pybuf_line.specs.declared.words.Word.{Word}
 use Rattle.pybuf_line.specs.declared.words.Word.TheVariants as word
-use Rattle.pybuf_line.specs.Words.{named_in, written_word, every_word, word_in, written_kind, every_kind, kind_in, written_name, every_property, property_in}
-use Rattle.pybuf_line.specs.Laws.{IsAny, WordsReadBack, KindsReadBack, PropertiesReadBack}
+use Rattle.pybuf_line.specs.Words.{named_in, written_word, every_word, word_in, written_kind, every_kind, kind_in, written_operator, every_operator, operator_in, written_name, every_property, property_in}
+use Rattle.pybuf_line.specs.Laws.{IsAny, WordsReadBack, KindsReadBack, OperatorsReadBack, PropertiesReadBack}
 
 -- what is found passes the test
 found_by : {A : Type 0} (p : A → Bool) (first : A) (others : Option A) (found : A) (passes : Bool) → p first ≡ passes →
@@ -43,6 +45,9 @@ word_read word.Enter h = refl
 word_read word.Exit h = refl
 word_read word.ToContiguous h = refl
 word_read word.ToList h = refl
+word_read word.Compare h = refl
+word_read word.Hash h = refl
+word_read word.Repr h = refl
 word_read word.Del h = refl
 word_read word.Append h = refl
 word_read word.Extend h = refl
@@ -72,6 +77,17 @@ kind_read (kind.Vector true) h = refl
 
 pub kinds_read : KindsReadBack
 kinds_read = record { read = kind_read; written = named_is written_kind every_kind }
+
+operator_read : (o : CompareOp) → IsAny o → operator_in (written_operator o) ≡ Some o
+operator_read op.Eq h = refl
+operator_read op.Ne h = refl
+operator_read op.Lt h = refl
+operator_read op.Le h = refl
+operator_read op.Gt h = refl
+operator_read op.Ge h = refl
+
+pub operators_read : OperatorsReadBack
+operators_read = record { read = operator_read; written = named_is written_operator every_operator }
 
 property_read : (p : PropertyName) → IsAny p → property_in (written_name p) ≡ Some p
 unfolding property_in

@@ -13,7 +13,8 @@ use Rattle.hex.proofs.HexLemmas.{decode_of-encode_lower}
 use Rattle.pybuf_value.specs.declared.values.Scalar.{Scalar}
 use Rattle.pybuf_value.specs.declared.values.Scalar.TheVariants as scalar
 use Rattle.pybuf_line.specs.Parts.{parts_from}
-use Rattle.pybuf_line.specs.Scalars.{constant_in, is_number, number_below, whole_in, bytes_in, positive_in, before_end, plain_in, scalar_in, written_scalar, handle_in, handle_text}
+use Rattle.pybuf_value.specs.Spelling.{handle_text}
+use Rattle.pybuf_line.specs.Scalars.{constant_in, is_number, number_below, whole_in, bytes_in, positive_in, before_end, plain_in, scalar_in, written_scalar, handle_in}
 use Rattle.pybuf_line.specs.Laws.{PartsJoin, IsOnePart, PartsAreSingle, EnclosedIsBetween, BetweenIsEnclosed, IsSpelled, IsSlicePart, ScalarsReadBack}
 use Rattle.pybuf_line.proofs.Commas.{some_part, quote_cuts, other_cuts}
 

@@ -16,7 +16,8 @@ use Rattle.pybuf_value.specs.declared.values.Scalar.TheVariants as scalar
 use Rattle.pybuf_value.specs.declared.values.PySlice.{PySlice}
 use Rattle.pybuf_value.specs.declared.values.Value.TheVariants as value
 use Rattle.pybuf_line.specs.Parts.{parts_at, parts_from, parts_outside_quotes, each}
-use Rattle.pybuf_line.specs.Scalars.{constant_in, is_number, number_below, whole_in, positive_in, negative_in, handle_in, bytes_in, bytes_decoded, is_text_byte, text_in, plain_in, scalar_in, written_scalar, handle_text}
+use Rattle.pybuf_value.specs.Spelling.{handle_text}
+use Rattle.pybuf_line.specs.Scalars.{constant_in, is_number, number_below, whole_in, positive_in, negative_in, handle_in, bytes_in, bytes_decoded, is_text_byte, text_in, plain_in, scalar_in, written_scalar}
 use Rattle.pybuf_line.specs.Spellings.{slice_of, slice_in, scalars_in, slices_in, tuple_in, list_in, tuple_of_slices_in, value_in, written_slice, written_parts, written_value}
 use Rattle.pybuf_line.specs.Laws.{IsSpelled, IsSlicePart, IsSpelledSlice, ValuesReadBack}
 use Rattle.pybuf_line.proofs.Colons.{some_part as colon_part}

@@ -10,7 +10,7 @@ use Rattle.pybuf_world.specs.declared.commands.Command.{Command}
 use Rattle.pybuf_world.specs.declared.commands.Command.TheVariants as command
 use Rattle.pybuf_line.specs.declared.words.Word.{Word}
 use Rattle.pybuf_line.specs.declared.words.Word.TheVariants as word
-use Rattle.pybuf_line.specs.Words.{words, word_in, written_word, kind_in, written_kind, property_in, written_name}
+use Rattle.pybuf_line.specs.Words.{words, word_in, written_word, kind_in, written_kind, operator_in, written_operator, property_in, written_name}
 use Rattle.pybuf_line.specs.Spellings.{value_in, written_value}
 
 -- the options of `new` and `init`: up to three values, the source, its encoding and the handler of errors
@@ -99,6 +99,12 @@ verb_in name_in word.Enter [] = Some verb.Enter
 verb_in name_in word.Exit [] = Some verb.Exit
 verb_in name_in word.ToContiguous [] = Some verb.ToContiguous
 verb_in name_in word.ToList [] = Some verb.ToList
+verb_in name_in word.Compare (operator ∷ other ∷ []) = do
+  o ← operator_in operator
+  v ← value_in name_in other
+  Some (verb.Compare o v)
+verb_in name_in word.Hash [] = Some verb.Hash
+verb_in name_in word.Repr [] = Some verb.Repr
 verb_in name_in w arguments = edit_in name_in w arguments
 
 -- the word that a verb is written with
@@ -117,6 +123,9 @@ word_of verb.Enter = word.Enter
 word_of verb.Exit = word.Exit
 word_of verb.ToContiguous = word.ToContiguous
 word_of verb.ToList = word.ToList
+word_of (verb.Compare operator other) = word.Compare
+word_of verb.Hash = word.Hash
+word_of verb.Repr = word.Repr
 word_of (verb.Del key) = word.Del
 word_of (verb.Append item) = word.Append
 word_of (verb.Extend item) = word.Extend
@@ -149,6 +158,7 @@ written_arguments name (verb.Cast format None) = written_value name format ∷ [
 written_arguments name (verb.Cast format (Some shape)) = written_value name format ∷ written_value name shape ∷ []
 written_arguments name (verb.Range from to) = written_value name from ∷ written_value name to ∷ []
 written_arguments name (verb.Property property) = written_name property ∷ []
+written_arguments name (verb.Compare operator other) = written_operator operator ∷ written_value name other ∷ []
 written_arguments name (verb.Del key) = written_value name key ∷ []
 written_arguments name (verb.Append item) = written_value name item ∷ []
 written_arguments name (verb.Extend item) = written_value name item ∷ []

@@ -2,14 +2,14 @@
 use Rattle.std.specs.Prelude.{◌≡◌, ◌⊎◌, ℕ, ◌+◌, ◌^◌, ◌<◌, ℤ, pos, negsuc, IsTrue, List, [], ◌∷◌, ◌++◌, length, map, ◌==◌, false, Option, Some, None, Ok, Err}
 use Rattle.std.specs.Str.{byte}
 use Rattle.std.specs.List.{flat_map, join_with_byte, list_any, AllByRecursion}
-use Rattle.pybuf_command.specs.declared.kinds.ExporterKind.{ExporterKind}
-use Rattle.pybuf_command.specs.declared.kinds.ExporterKind.TheVariants as kind
 use Rattle.pybuf_command.specs.declared.commands.Verb.{Verb}
 use Rattle.pybuf_command.specs.declared.commands.Verb.TheVariants as verb
 use Rattle.pybuf_bytes.specs.declared.options.ByteInnerNewOptions.{ByteInnerNewOptions}
 use Rattle.pybuf_world.specs.declared.commands.Command.{Command}
 use Rattle.pybuf_world.specs.declared.commands.Command.TheVariants as command
 use Rattle.pybuf_world.specs.declared.commands.Reply.{Reply}
+use Rattle.pybuf_world.specs.declared.commands.Reply.TheVariants as reply
+use Rattle.pybuf_world.specs.World.{World, replies_of}
 use Rattle.pybuf_value.specs.declared.values.Scalar.{Scalar}
 use Rattle.pybuf_value.specs.declared.values.Scalar.TheVariants as scalar
 use Rattle.pybuf_value.specs.declared.values.PySlice.{PySlice}
@@ -17,8 +17,9 @@ use Rattle.pybuf_value.specs.declared.values.Value.{Value}
 use Rattle.pybuf_value.specs.declared.values.Value.TheVariants as value
 use Rattle.hex.specs.Hex.{IsBytes}
 use Rattle.pybuf_line.specs.Parts.{parts_outside_quotes}
-use Rattle.pybuf_line.specs.Words.{words, written_word, word_in, written_kind, kind_in, written_name, property_in}
-use Rattle.pybuf_line.specs.Scalars.{enclosed_text, is_text, scalar_in, handle_in, handle_text, written_scalar}
+use Rattle.pybuf_line.specs.Words.{words, written_word, word_in, written_kind, kind_in, written_operator, operator_in, written_name, property_in}
+use Rattle.pybuf_value.specs.Spelling.{handle_text}
+use Rattle.pybuf_line.specs.Scalars.{enclosed_text, is_text, scalar_in, handle_in, written_scalar}
 use Rattle.pybuf_line.specs.Spellings.{value_in, written_value}
 use Rattle.pybuf_line.specs.Commands.{command_in, written_command}
 use Rattle.pybuf_line.specs.Lines.{lines, commands_in}
@@ -54,13 +55,23 @@ BadLineIsFirst = (name_in : List ℕ → Option ℕ) (input : List ℕ) (n : ℕ
     (before : List Command) × (rest : List (Option Command))
     × (map (command_in name_in) (lines input) ≡ map Some before ++ None ∷ rest) × (n ≡ length before + 1)
 
--- the text of a reply holds no line feed, so there is one line for each reply
+-- what a reply shows as it is, where it does, is one line
+abbrev pub ShowsOneLine : Reply → Type 0
+ShowsOneLine (reply.Shown text) = IsOneLine text
+ShowsOneLine r = Unit {0}
+
+-- the text of a reply holds no line feed
 abbrev pub RepliesAreSingle : (ℕ → List ℕ) → Type 0
-RepliesAreSingle name = (r : Reply) → IsOneLine (reply_text name r)
+RepliesAreSingle name = (r : Reply) → ShowsOneLine r → IsOneLine (reply_text name r)
 
 -- whatever the names of handles are, if each is one line
 abbrev pub NamesStaySingle : Type 0
 NamesStaySingle = (name : ℕ → List ℕ) → ((n : ℕ) → IsOneLine (name n)) → RepliesAreSingle name
+
+-- so does the text of each reply of a run, of whatever commands in whatever world, so there is one line for each
+abbrev pub RunsStaySingle : Type 0
+RunsStaySingle = (name : ℕ → List ℕ) → ((n : ℕ) → IsOneLine (name n)) → (w : World) (commands : List Command) →
+    AllByRecursion (λ r. IsOneLine (reply_text name r)) (replies_of w commands)
 
 -- The parts between commas, with a comma between each two, are the text.
 abbrev pub PartsJoin : Type 0
@@ -131,6 +142,9 @@ WordsReadBack = IsRead written_word word_in IsAny
 abbrev pub KindsReadBack : Type 0
 KindsReadBack = IsRead written_kind kind_in IsAny
 
+abbrev pub OperatorsReadBack : Type 0
+OperatorsReadBack = IsRead written_operator operator_in IsAny
+
 abbrev pub PropertiesReadBack : Type 0
 PropertiesReadBack = IsRead written_name property_in IsAny
 
@@ -152,6 +166,7 @@ IsSpelledVerb (verb.Set key item) = IsSpelledValue key × IsSpelledValue item
 IsSpelledVerb (verb.Cast format None) = IsSpelledValue format
 IsSpelledVerb (verb.Cast format (Some shape)) = IsSpelledValue format × IsSpelledValue shape
 IsSpelledVerb (verb.Range from to) = IsSpelledValue from × IsSpelledValue to
+IsSpelledVerb (verb.Compare operator other) = IsSpelledValue other
 IsSpelledVerb (verb.Del key) = IsSpelledValue key
 IsSpelledVerb (verb.Append item) = IsSpelledValue item
 IsSpelledVerb (verb.Extend item) = IsSpelledValue item

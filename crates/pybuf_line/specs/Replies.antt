@@ -1,32 +1,15 @@
 -- The text of a reply, by how a handle is written.
-use Rattle.std.specs.Prelude.{ℕ, zero, suc, ◌/◌, length, take, drop, List, [], ◌∷◌, ◌++◌, Bool, true, false, codes, decimal}
+use Rattle.std.specs.Prelude.{ℕ, zero, suc, ◌/◌, length, take, drop, List, [], ◌∷◌, ◌++◌, codes, decimal}
 use Rattle.std.specs.Fmt.{signed_decimal}
 use Rattle.std.specs.Str.{byte}
 use Rattle.std.specs.List.{flat_map}
 use Rattle.pybuf_value.specs.Names.{python_name_of}
 use Rattle.pybuf_value.specs.Quotes.{quoted_text}
-use Rattle.pybuf_value.specs.declared.values.Scalar.{Scalar}
-use Rattle.pybuf_value.specs.declared.values.Scalar.TheVariants as scalar
+use Rattle.pybuf_value.specs.Spelling.{bytes_text, truth_text, scalar_text}
 use Rattle.pybuf_value.specs.declared.values.Item.{Item}
 use Rattle.pybuf_value.specs.declared.values.Item.TheVariants as item
 use Rattle.pybuf_world.specs.declared.commands.Reply.{Reply}
 use Rattle.pybuf_world.specs.declared.commands.Reply.TheVariants as reply
-
-abbrev pub bytes_text : List ℕ → List ℕ
-bytes_text bytes = codes "b" ++ quoted_text bytes
-
-abbrev pub truth_text : Bool → List ℕ
-truth_text true = codes "True"
-truth_text false = codes "False"
-
-abbrev pub scalar_text : (ℕ → List ℕ) → Scalar → List ℕ
-scalar_text name scalar.None = codes "None"
-scalar_text name (scalar.Bool truth) = truth_text truth
-scalar_text name (scalar.Int number) = signed_decimal number
-scalar_text name (scalar.Text text) = quoted_text text
-scalar_text name (scalar.Bytes bytes) = bytes_text bytes
-scalar_text name scalar.Ellipsis = codes "Ellipsis"
-scalar_text name (scalar.Handle handle) = name handle
 
 -- a part of a tuple after the first, by the text of a part
 abbrev pub next_part_text : {A : Type 0} → (A → List ℕ) → A → List ℕ
@@ -71,7 +54,9 @@ reply_text name (reply.Items shape items) = nested_text (item_text name) shape i
 reply_text name (reply.Item shown) = item_text name shown
 reply_text name (reply.Bytes bytes) = bytes_text bytes
 reply_text name (reply.Text text) = quoted_text text
+reply_text name (reply.Shown text) = text
 reply_text name (reply.Truth truth) = truth_text truth
+reply_text name reply.NotImplementedReply = codes "NotImplemented"
 reply_text name (reply.Numbers numbers) = tuple_text signed_decimal numbers
 reply_text name (reply.Refused fault) = codes "! " ++ python_name_of fault
 

@@ -1,5 +1,5 @@
 -- How values without parts are read from a line and written on one.
-use Rattle.std.specs.Prelude.{ℕ, ◌+◌, ◌-◌, ◌^◌, Bool, true, false, List, [], ◌∷◌, ◌++◌, length, take, drop, pos, neg_ℤ, ◌==◌, ◌&&◌, not, nat_lt, nat_le, codes, decimal, Option, Some, None, Result, Ok, Err, if◌then◌else◌}
+use Rattle.std.specs.Prelude.{ℕ, ◌+◌, ◌-◌, ◌^◌, Bool, true, false, List, [], ◌∷◌, ◌++◌, length, take, drop, pos, neg_ℤ, ◌==◌, ◌&&◌, not, nat_lt, nat_le, codes, Option, Some, None, Result, Ok, Err, if◌then◌else◌}
 use Rattle.std.specs.List.{list_all}
 use Rattle.std.specs.Char.{is_ascii_digit}
 use Rattle.std.specs.Str.{byte, bytes_eq}
@@ -36,10 +36,6 @@ number_below bound text = if is_number text then below bound (digits_value 10 te
 abbrev pub handle_in : List ℕ → Option ℕ
 handle_in [] = None
 handle_in (first ∷ digits) = if first == byte "h" then number_below (2 ^ 64) digits else None
-
--- how a handle is written
-abbrev pub handle_text : ℕ → List ℕ
-handle_text handle = byte "h" ∷ decimal handle
 
 -- a handle among values, by how one is read
 abbrev pub handle_value_in : (List ℕ → Option ℕ) → List ℕ → Option Scalar

@@ -3,6 +3,8 @@
 use Rattle.std.specs.Prelude.{ℕ, true, false, List, [], ◌∷◌, codes, Option}
 use Rattle.std.specs.Str.{bytes_eq}
 use Rattle.std.specs.List.{find}
+use Rattle.pybuf_value.specs.declared.values.CompareOp.{CompareOp}
+use Rattle.pybuf_value.specs.declared.values.CompareOp.TheVariants as op
 use Rattle.pybuf_command.specs.declared.kinds.ExporterKind.{ExporterKind}
 use Rattle.pybuf_command.specs.declared.kinds.ExporterKind.TheVariants as kind
 use Rattle.pybuf_command.specs.declared.commands.PropertyName.{PropertyName}
@@ -36,6 +38,9 @@ written_word word.Enter = codes "enter"
 written_word word.Exit = codes "exit"
 written_word word.ToContiguous = codes "contig"
 written_word word.ToList = codes "tolist"
+written_word word.Compare = codes "compare"
+written_word word.Hash = codes "hash"
+written_word word.Repr = codes "repr"
 written_word word.Del = codes "del"
 written_word word.Append = codes "append"
 written_word word.Extend = codes "extend"
@@ -58,7 +63,8 @@ every_edit =
 abbrev pub every_word : List Word
 every_word =
     word.New ∷ word.View ∷ word.Get ∷ word.Set ∷ word.ToBytes ∷ word.Release ∷ word.Len ∷ word.Cast ∷ word.Property
-    ∷ word.ToReadonly ∷ word.Range ∷ word.Enter ∷ word.Exit ∷ word.ToContiguous ∷ word.ToList ∷ every_edit
+    ∷ word.ToReadonly ∷ word.Range ∷ word.Enter ∷ word.Exit ∷ word.ToContiguous ∷ word.ToList
+    ∷ word.Compare ∷ word.Hash ∷ word.Repr ∷ every_edit
 
 -- the word of an edit that a text spells
 unfoldable pub edit_word_in : List ℕ → Option Word
@@ -79,6 +85,21 @@ every_kind = kind.Bytes ∷ kind.ByteArray ∷ kind.Vector false ∷ kind.Vector
 
 abbrev pub kind_in : List ℕ → Option ExporterKind
 kind_in text = named_in written_kind every_kind text
+
+-- the operators of comparisons
+abbrev pub written_operator : CompareOp → List ℕ
+written_operator op.Eq = codes "=="
+written_operator op.Ne = codes "!="
+written_operator op.Lt = codes "<"
+written_operator op.Le = codes "<="
+written_operator op.Gt = codes ">"
+written_operator op.Ge = codes ">="
+
+abbrev pub every_operator : List CompareOp
+every_operator = op.Eq ∷ op.Ne ∷ op.Lt ∷ op.Le ∷ op.Gt ∷ op.Ge ∷ []
+
+abbrev pub operator_in : List ℕ → Option CompareOp
+operator_in text = named_in written_operator every_operator text
 
 -- the names of properties
 abbrev pub written_name : PropertyName → List ℕ

@@ -1,7 +1,9 @@
 //! Laws of the definitions that the contracts cite. Each stands on a function with an empty body.
-ghost use Rattle.pybuf_line.specs.Scalars.{handle_text};
+ghost use Rattle.pybuf_value.specs.Spelling.{handle_text};
 ghost use Rattle.pybuf_line.specs.Nesting.{NestingIsTheShape, ItemsStandInOrder};
-ghost use Rattle.pybuf_line.specs.Laws.{LinesJoin, LinesAreSingle, WordsJoin, CommandsAreOfLines, BadLineIsFirst, RepliesAreSingle, NamesStaySingle, PartsJoin, PartsAreSingle, EnclosedIsBetween, BetweenIsEnclosed, ScalarsReadBack, ValuesReadBack, WordsReadBack, KindsReadBack, PropertiesReadBack, CommandsReadBack};
+ghost use Rattle.pybuf_line.specs.Laws.{LinesJoin, LinesAreSingle, WordsJoin, CommandsAreOfLines, BadLineIsFirst, RepliesAreSingle, NamesStaySingle, RunsStaySingle, PartsJoin, PartsAreSingle, EnclosedIsBetween, BetweenIsEnclosed, ScalarsReadBack, ValuesReadBack, WordsReadBack, KindsReadBack, OperatorsReadBack, PropertiesReadBack, CommandsReadBack};
+
+use pybuf_world::world_shown_texts_are_one_line;
 
 /// The lines of an input, each with its line feed, are the input, which may lack the last one. No
 /// line holds a line feed.
@@ -22,12 +24,15 @@ pub fn commands_are_of_lines()
     ensures first { BadLineIsFirst }
 {}
 
-/// The text of a reply is one line, with handles as they are written and with every other names that
-/// are one line each.
+/// The text of a reply is one line, where what it shows as it is, if it does, is one: with handles as
+/// they are written and with every other names that are one line each. Each reply of a run is one line.
 pub fn replies_are_single_lines()
     ensures handles { RepliesAreSingle handle_text }
     ensures names { NamesStaySingle }
-{}
+    ensures runs { RunsStaySingle }
+{
+    world_shown_texts_are_one_line();
+}
 
 /// The text of items is nested by their shape: its blocks are those of the first dimension, each
 /// nested by the dimensions that are left, and put end to end they are the items.
@@ -71,6 +76,11 @@ pub fn words_read_back()
 /// The same of the kinds of exporters that lines make.
 pub fn kinds_read_back()
     ensures { KindsReadBack }
+{}
+
+/// The same of the operators of comparisons.
+pub fn operators_read_back()
+    ensures { OperatorsReadBack }
 {}
 
 /// The same of the names of properties.

@@ -8,7 +8,7 @@ use crate::scalars::handle;
 use crate::spellings::value;
 use crate::splitting::words_of;
 use crate::unread::Unread;
-use crate::words::{Word, first_word, kind_named, property_named};
+use crate::words::{Word, first_word, kind_named, operator_named, property_named};
 use pybuf_view::{ByteInnerNewOptions, Command, Verb};
 use std::alloc::Global;
 
@@ -222,6 +222,24 @@ fn verb_of(alloc: Global, word: Word, arguments: &[&[u8]]) -> Result<Verb, Unrea
         },
         Word::ToList => match arguments {
             [] => Ok(Verb::ToList),
+            _ => Err(Unread::NoCommand),
+        },
+        Word::Compare => match arguments {
+            [operator, other] => match operator_named(operator) {
+                Some(op) => {
+                    let other = value(alloc, other)?;
+                    Ok(Verb::Compare { op, other })
+                }
+                None => Err(Unread::NoCommand),
+            },
+            _ => Err(Unread::NoCommand),
+        },
+        Word::Hash => match arguments {
+            [] => Ok(Verb::Hash),
+            _ => Err(Unread::NoCommand),
+        },
+        Word::Repr => match arguments {
+            [] => Ok(Verb::Repr),
             _ => Err(Unread::NoCommand),
         },
         _ => edit_of(alloc, word, arguments),

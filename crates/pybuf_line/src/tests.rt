@@ -61,6 +61,21 @@ fn replies_are_printed_with_ample_memory(rt: HostRuntime) -> Result<(), Fail> {
     Ok(())
 }
 
+#[test]
+fn shown_texts_are_printed_with_ample_memory(rt: HostRuntime) -> Result<(), Fail> {
+    let shown = String::from_str(rt.alloc(), "<memory 0>")?;
+    let replies = [
+        Reply::Shown(Text::from_string(shown)),
+        Reply::NotImplementedReply,
+    ];
+    let mut out = Vec::new(rt.alloc());
+    for reply in &replies {
+        push_reply_line(&mut out, reply)?;
+    }
+    assert_eq!(rt; out.as_slice(), b"<memory 0>\nNotImplemented\n".as_slice());
+    Ok(())
+}
+
 /// How many commands the lines spell. The commands are handed over, so that no test drops them.
 fn count_of(alloc: Global, lines: &[u8]) -> Result<usize, Misread> {
     match commands_of(alloc, lines) {
@@ -94,7 +109,13 @@ fn lines_are_read_with_ample_memory(rt: HostRuntime) {
         count_of(rt.alloc(), b"view h0\nview  h0\n"),
         Err(Misread::BadLine(2))
     );
+    let comparisons = b"compare h0 == x61\ncompare h1 >= h0\nhash h0\nrepr h1";
+    assert_eq!(rt; count_of(rt.alloc(), comparisons), Ok(4));
     assert_eq!(rt; is_read(rt.alloc(), b"release h7"), Ok(true));
+    assert_eq!(rt;
+        is_read(rt.alloc(), b"compare h7 = 1"),
+        Err(Unread::NoCommand)
+    );
     assert_eq!(rt; is_read(rt.alloc(), b"release"), Err(Unread::NoCommand));
 }
 

@@ -3,11 +3,11 @@ ghost use Rattle.std.specs.Prelude.{◌≡◌, ◌++◌, List, ℕ, OnOk, decima
 ghost use Rattle.std.specs.Fmt.{signed_decimal};
 ghost use Rattle.std.specs.List.{flat_map};
 ghost use Rattle.pybuf_value.specs.Quotes.{quoted_text};
-ghost use Rattle.pybuf_line.specs.Scalars.{handle_text};
-ghost use Rattle.pybuf_line.specs.Replies.{bytes_text, truth_text, scalar_text, next_part_text, tuple_text, item_text, list_text, nested_text, reply_text, reply_line, bad_line_text};
+ghost use Rattle.pybuf_value.specs.Spelling.{bytes_text, truth_text, handle_text, scalar_text};
+ghost use Rattle.pybuf_line.specs.Replies.{next_part_text, tuple_text, item_text, list_text, nested_text, reply_text, reply_line, bad_line_text};
 
 use itoa::Buffer;
-use pybuf_value::{Item, Made, Scalar, push_quoted};
+use pybuf_value::{Item, Made, Scalar, push_quoted, push_scalar};
 use pybuf_view::Reply;
 
 /// Adds a decimal number.
@@ -78,16 +78,7 @@ impl Part for Scalar {
     ghost text = { scalar_text handle_text };
 
     fn push_part(&self, out: &mut Vec<u8>) -> Made<()> {
-        match self {
-            Scalar::None => out.extend_from_slice(b"None")?,
-            Scalar::Bool(truth) => push_truth(out, *truth)?,
-            Scalar::Int(number) => push_signed_decimal(out, *number)?,
-            Scalar::Text(text) => push_quoted(out, text.as_slice())?,
-            Scalar::Bytes(bytes) => push_bytes(out, bytes.as_slice())?,
-            Scalar::Ellipsis => out.extend_from_slice(b"Ellipsis")?,
-            Scalar::Handle(handle) => push_handle(out, *handle)?,
-        }
-        Ok(())
+        push_scalar(out, self)
     }
 }
 
@@ -190,7 +181,9 @@ pub fn push_reply(out: &mut Vec<u8>, reply: &Reply) -> Made<()>
         Reply::Items { shape, items } => push_nested(out, shape.as_slice(), items.as_slice())?,
         Reply::Bytes(bytes) => push_bytes(out, bytes.as_slice())?,
         Reply::Text(text) => push_quoted(out, text.as_slice())?,
+        Reply::Shown(text) => out.extend_from_slice(text.as_slice())?,
         Reply::Truth(truth) => push_truth(out, *truth)?,
+        Reply::NotImplementedReply => out.extend_from_slice(b"NotImplemented")?,
         Reply::Numbers(numbers) => push_tuple(out, numbers.as_slice())?,
         Reply::Refused(fault) => {
             out.extend_from_slice(b"! ")?;

@@ -1,8 +1,9 @@
 //! The first words of lines, and the names that stand on them.
 ghost use Rattle.std.specs.Prelude.{◌≡◌};
 ghost use Rattle.std.specs.Str.{bytes_eq};
-ghost use Rattle.pybuf_line.specs.Words.{word_in, edit_word_in, kind_in, property_in};
+ghost use Rattle.pybuf_line.specs.Words.{word_in, edit_word_in, kind_in, operator_in, property_in};
 
+use pybuf_value::CompareOp;
 use pybuf_view::{ExporterKind, PropertyName};
 
 /// The first word of a line.
@@ -23,6 +24,9 @@ pub enum Word {
     Exit,
     ToContiguous,
     ToList,
+    Compare,
+    Hash,
+    Repr,
     Del,
     Append,
     Extend,
@@ -95,6 +99,15 @@ pub fn first_word(text: &[u8]) -> Option<Word>
     if is_word(text, "tolist") {
         return Some(Word::ToList);
     }
+    if is_word(text, "compare") {
+        return Some(Word::Compare);
+    }
+    if is_word(text, "hash") {
+        return Some(Word::Hash);
+    }
+    if is_word(text, "repr") {
+        return Some(Word::Repr);
+    }
     edit_word(text)
 }
 
@@ -160,6 +173,31 @@ pub fn kind_named(text: &[u8]) -> Option<ExporterKind>
     }
     if is_word(text, "rovector") {
         return Some(ExporterKind::Vector { readonly: true });
+    }
+    None
+}
+
+/// The operator of a comparison that a text spells.
+pub fn operator_named(text: &[u8]) -> Option<CompareOp>
+    ensures { result ≡ operator_in text.now }
+{
+    if is_word(text, "==") {
+        return Some(CompareOp::Eq);
+    }
+    if is_word(text, "!=") {
+        return Some(CompareOp::Ne);
+    }
+    if is_word(text, "<") {
+        return Some(CompareOp::Lt);
+    }
+    if is_word(text, "<=") {
+        return Some(CompareOp::Le);
+    }
+    if is_word(text, ">") {
+        return Some(CompareOp::Gt);
+    }
+    if is_word(text, ">=") {
+        return Some(CompareOp::Ge);
     }
     None
 }

@@ -44,7 +44,7 @@ const NONE: [&str; 35] = [
 ];
 
 /// Lines that are none for another reason than a value.
-const OTHER: [&str; 33] = [
+const OTHER: [&str; 44] = [
     "get h18446744073709551616 0",
     "get h-1 0",
     "get h 0",
@@ -64,6 +64,17 @@ const OTHER: [&str; 33] = [
     "tolist h0 0",
     "cast h0",
     "cast h0 'B' [3] [3]",
+    "compare h0",
+    "compare h0 1",
+    "compare h0 = 1",
+    "compare h0 === 1",
+    "compare h0 <> 1",
+    "compare h0 =< 1",
+    "compare h0 == 1 2",
+    "compare h0 1 ==",
+    "hash",
+    "hash h0 0",
+    "repr h0 0",
     "del h0",
     "append h0",
     "append h0 1 2",

@@ -1,6 +1,6 @@
 use Rattle.std.proofs.Common.{◌≤◌, take}
 use Rattle.pybuf_cli.specs.Devices.{Sends}
-use Rattle.pybuf_line.specs.Scalars.{handle_text}
+use Rattle.pybuf_value.specs.Spelling.{handle_text}
 use Rattle.pybuf_line.specs.Replies.{reply_lines}
 use Rattle.pybuf_cli.proofs.writing.write_replies.Given as goal
 
