@@ -52,6 +52,10 @@ def replies(lines):
             elif word == "release":
                 subject.release()
                 yield "ok"
+            elif word == "compare":
+                yield repr(subject == value(words[3], objects))
+            elif word == "repr":
+                yield repr(subject)
             elif word == "append":
                 subject.append(value(words[2], objects))
                 yield "ok"

@@ -16,14 +16,14 @@ import sys
 
 sys.dont_write_bytecode = True
 
-from python_objects import NATIVE_CODES, Items, Reply, SlicesAreBytes, row_major, value_of
+from python_objects import NATIVE_CODES, OPERATORS, AsWritten, Items, Reply, row_major, value_of
 
 WORD = 2**63
 ABSENT = object()
 EDITS = "append extend iadd insert pop remove clear reverse imul init copy".split()
 
 
-class Ours(SlicesAreBytes):
+class Ours(AsWritten):
     """Python's objects with our replies where we differ by choice."""
 
     def __init__(self):
@@ -58,6 +58,7 @@ class Ours(SlicesAreBytes):
             "set": is_view or is_byte_array,
             "del": is_view or is_byte_array,
             "take": is_vector,
+            **dict.fromkeys(("compare", "hash", "repr"), not is_vector),
         }
         return not kinds.get(words[0], is_view or words[0] in ("view", "bytes", "len"))
 
@@ -308,6 +309,41 @@ class Ours(SlicesAreBytes):
             target[:] = before.cast(target.format)
         return Reply("ok")
 
+    def do_compare(self, handle, subject, answer, other):
+        is_order = answer not in (operator.eq, operator.ne)
+        is_view = isinstance(other, (memoryview, Items))
+        if handle in self.exporters:
+            if is_order:
+                raise TypeError("a view has no order")
+            return answer(self.items_of(subject), self.items_of(other)) if other is not subject else answer is operator.eq
+        if is_order and is_view and isinstance(subject, bytes):
+            raise TypeError("bytes have no order with a view")
+        if is_view and (self.place_of(other) in self.released or not self.is_contiguous(self.place_of(other))) or not is_view and not isinstance(other, (bytes, bytearray)):
+            return NotImplemented
+        return answer(bytes(subject), self.read(other))
+
+    def items_of(self, subject):
+        """The shape and the items of a view, and of bytes as of a view of them; of what has none an
+        object that is equal to no other."""
+        if isinstance(subject, (bytes, bytearray)):
+            subject = memoryview(subject)
+        if not isinstance(subject, (memoryview, Items)) or any(subject is self.objects[at] for at in self.released):
+            return object()
+        shape = subject.shape[: subject.shape.index(0) + 1] if 0 in subject.shape else subject.shape
+        return len(subject.shape), shape, subject.tolist()
+
+    def do_hash(self, handle, subject):
+        if handle in self.exporters and not subject.readonly:
+            raise ValueError("it may be written")
+        if handle not in self.exporters and isinstance(subject, bytearray):
+            raise TypeError("it may change")
+        return subject.tobytes() if handle in self.exporters else subject
+
+    def do_repr(self, handle, subject):
+        if handle in self.exporters or isinstance(subject, bytes):
+            return super().do_repr(handle, subject)
+        return Reply(f"bytearray({bytes(subject)!r})")
+
     def place_of(self, view):
         return next(at for at, it in enumerate(self.objects) if it is view)
 
@@ -373,7 +409,7 @@ class Ours(SlicesAreBytes):
 NUMBERS = [sign * it + more for it in (0, 1, 2**7, 2**8, 2**15, 2**16, 2**31, 2**32, 2**63, 2**64, 2**126) for sign in (1, -1) for more in (-1, 0, 1)]
 FORMATS = ["4s", "2s", "2H", "BH", "<Bb2x", ">i", "!q", "4p", "2p", "xH", "3xB", "u", "@u", "2u", "<u", "HB", "BHB", "<hH", ">2Hi", "2?", "2c", "8x", "x?", "@cxH", "0HB", "B0H", "B0Q", "0s", "3", "@", "d", "<n", "y", "HB0I", "B2", "<<B", "2B2", "99999999999999999999B", "4611686018427387904H"]
 # how often each is drawn
-VERBS = [verb for verb, often in {"get": 10, "set": 10, "cast": 8, "prop": 4, "bytes": 3, "tolist": 3, "view": 2, "release": 2, "toreadonly": 2, "len": 1, "range": 1, "contig": 1, "enter": 1, "exit": 1, "del": 3, "take": 1, **dict.fromkeys(EDITS, 1)}.items() for _ in range(often)]
+VERBS = [verb for verb, often in {"get": 10, "set": 10, "cast": 8, "prop": 4, "bytes": 3, "tolist": 3, "view": 2, "release": 2, "toreadonly": 2, "len": 1, "range": 1, "contig": 1, "enter": 1, "exit": 1, "del": 3, "take": 1, "compare": 6, "hash": 1, "repr": 1, **dict.fromkeys(EDITS, 1)}.items() for _ in range(often)]
 PROPERTIES = "exports obj nbytes readonly itemsize ndim shape strides suboffsets format contiguous c_contiguous f_contiguous".split()
 
 
@@ -534,6 +570,17 @@ class Drawn:
             return f" {self.one(['1', '2', '3', '0', '-1', 'True', 'None', str(2**63), most]) if room < 100 else 0}"
         return self.options() if verb == "init" else ""
 
+    def compared(self, subject):
+        """What a subject might be equal to: mostly what has as many items, or the subject's bytes."""
+        shape_of = lambda it: it.shape if hasattr(it, "shape") else (len(it),)
+        alike = [at for at, it in enumerate(self.world.objects) if at not in self.world.released and subject is not None and shape_of(it) == shape_of(subject)]
+        if alike and self.draw.random() < 0.5:
+            return f"h{self.one(alike)}"
+        if subject is not None and self.draw.random() < 0.3:
+            content = self.world.read(subject)
+            return f"x{content.hex()}" if self.draw.random() < 0.7 else f"x{content[: self.draw.randrange(9)].hex()}"
+        return self.one([self.handle, self.handle, self.value])()
+
     def line(self):
         kind = self.draw.random()
         if kind < 0.06 or not self.world.objects:
@@ -554,6 +601,9 @@ class Drawn:
             return f"set {handle} {key} {self.content(subject) if self.draw.random() < 0.8 else self.value()}"
         if verb == "del":
             return f"del {handle} {self.one([lambda: self.place(subject), self.slice, self.value])()}"
+        if verb == "compare":
+            is_view = hasattr(subject, "shape") and self.draw.random() < 0.8
+            return f"compare {handle} {self.one(['==', '!='] if is_view else [*OPERATORS])} {self.compared(subject)}"
         if verb in EDITS:
             return f"{verb} {handle}{self.edit(verb, subject)}"
         if verb == "cast":

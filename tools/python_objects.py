@@ -24,6 +24,32 @@ CONTIGUOUS.argtypes = [ctypes.py_object, ctypes.c_int, ctypes.c_char]
 TO_READ = 0x100
 
 
+class Buffer(ctypes.Structure):
+    """`Py_buffer` of the same."""
+
+    _fields_ = [
+        ("buf", ctypes.c_void_p),
+        ("obj", ctypes.py_object),
+        ("len", ctypes.c_ssize_t),
+        ("itemsize", ctypes.c_ssize_t),
+        ("readonly", ctypes.c_int),
+        ("ndim", ctypes.c_int),
+        ("format", ctypes.c_char_p),
+        ("shape", ctypes.POINTER(ctypes.c_ssize_t)),
+        ("strides", ctypes.POINTER(ctypes.c_ssize_t)),
+        ("suboffsets", ctypes.POINTER(ctypes.c_ssize_t)),
+        ("internal", ctypes.c_void_p),
+    ]
+
+
+# A `memoryview` of any format, which no call of Python makes.
+OF_BUFFER = ctypes.pythonapi.PyMemoryView_FromBuffer
+OF_BUFFER.restype = ctypes.py_object
+OF_BUFFER.argtypes = [ctypes.POINTER(Buffer)]
+
+OPERATORS = {"==": operator.eq, "!=": operator.ne, "<": operator.lt, "<=": operator.le, ">": operator.gt, ">=": operator.ge}
+
+
 # What Python refuses with.
 FAULTS = (IndexError, LookupError, ValueError, TypeError, BufferError, OverflowError, NotImplementedError, AttributeError, MemoryError)
 
@@ -163,6 +189,24 @@ class Items:
         self.release()
 
 
+def as_memory(subject):
+    """What `memoryview` itself is of `Items`, over a copy of their bytes; every other object as it is."""
+    if not isinstance(subject, Items):
+        return subject
+    try:
+        content = subject.tobytes()
+    except ValueError:
+        released = memoryview(b"")
+        released.release()
+        return released
+    shape = (ctypes.c_ssize_t * max(1, subject.ndim))(*subject.shape)
+    memory, text = ctypes.create_string_buffer(content, max(1, len(content))), subject.format.encode()
+    # what the memoryview points to lives as long as the items
+    subject.copied = memory, text, shape
+    buffer = Buffer(buf=ctypes.addressof(memory), len=len(content), itemsize=subject.itemsize, readonly=subject.readonly, ndim=subject.ndim, format=text, shape=shape)
+    return OF_BUFFER(buffer)
+
+
 def row_major(view):
     """The strides of items one after the other."""
     strides, size = [], view.itemsize
@@ -180,6 +224,8 @@ class World:
         # the handle of the exporter of each view, by the view's handle
         self.exporters = {}
         self.released = set()
+        # the bytes of each subject that had a hash
+        self.hashed = {}
 
     def run(self, lines):
         """The replies to the lines, which are all commands."""
@@ -206,6 +252,8 @@ class World:
         arguments = words[2:]
         if words[0] == "prop":
             return written(self.property(handle, subject, *arguments))
+        if words[0] == "compare":
+            return written(self.do_compare(handle, subject, OPERATORS[arguments[0]], value_of(arguments[1], self)))
         values = [value_of(word, self) for word in arguments]
         done = getattr(self, f"do_{words[0]}")(handle, subject, *values)
         return written(done)
@@ -353,6 +401,27 @@ class World:
     def do_toreadonly(self, handle, subject):
         return self.named(subject.toreadonly(), self.exporter_of(handle))
 
+    def do_compare(self, handle, subject, answer, other):
+        left = as_memory(subject)
+        return answer(left, left if other is subject else as_memory(other))
+
+    def do_hash(self, handle, subject):
+        """The bytes that are hashed, where there is a hash. Of the hash all that can be said is that those
+        of equal bytes are equal, which is compared."""
+        found = hash(as_memory(subject))
+        if handle not in self.hashed:
+            self.hashed[handle] = self.do_bytes(handle, subject)
+        assert found == hash(self.hashed[handle])
+        return self.hashed[handle]
+
+    def do_repr(self, handle, subject):
+        shown = repr(as_memory(subject))
+        if handle not in self.exporters:
+            return Reply(shown)
+        # the address is another one in each run
+        assert re.fullmatch("<(released )?memory at 0x[0-9a-f]+>", shown)
+        return Reply(re.sub("0x[0-9a-f]+", "..", shown))
+
     def property(self, handle, subject, name):
         if name == "obj":
             assert subject.obj is self.objects[self.exporters[handle]]
@@ -377,13 +446,20 @@ class World:
         return len(views)
 
 
-class SlicesAreBytes(World):
-    """Python's objects, but for one difference that `docs/DIFFERENCES.md` names: a slice of a
-    bytearray is `bytes`."""
+class AsWritten(World):
+    """Python's objects, but for two differences of what is written, which `docs/DIFFERENCES.md` names: a
+    slice of a bytearray is `bytes`, and a view is shown by its number among those of its exporter."""
 
     def do_get(self, handle, subject, key):
         found = super().do_get(handle, subject, key)
         return bytes(found) if isinstance(found, bytearray) else found
+
+    def do_repr(self, handle, subject):
+        shown = super().do_repr(handle, subject)
+        if handle not in self.exporters:
+            return shown
+        number = sum(at < handle and of == self.exporters[handle] for at, of in self.exporters.items())
+        return Reply(shown.replace("at ..", str(number)))
 
 
 def readable(value):

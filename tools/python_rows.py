@@ -15,11 +15,12 @@ drawn lines come from a fixed seed.
 import pathlib
 import random
 import re
+import struct
 import sys
 
 sys.dont_write_bytecode = True
 
-from python_objects import SlicesAreBytes, World
+from python_objects import NATIVE_CODES, AsWritten, World
 
 CASES = pathlib.Path(__file__).parent.parent / "cases"
 
@@ -2312,6 +2313,637 @@ PYTHON += [Case(f"edits of a bytearray, drawn ({seed})", drawn_edits(Draw(seed))
 PYTHON += [Case(f"slices of slices of a view, drawn ({seed})", drawn_slices(Draw(seed))) for seed in (1, 2, 3, 4)]
 PYTHON += [Case(f"items read and written, drawn ({seed})", drawn_writes(Draw(seed))) for seed in (5, 6, 7)]
 PYTHON += [Case(f"items of several dimensions, drawn ({seed})", drawn_shapes(Draw(seed))) for seed in (8, 9, 10, 11)]
+# Comparison, hash and text.
+PYTHON += [
+    Case(
+        "bytes and bytearrays are compared byte by byte, and a shorter one is less where all its bytes are the same",
+        """
+new bytes x6162
+new bytearray x6162
+compare h0 == x6162
+compare h0 == h1
+compare h1 == h0
+compare h1 == x6162
+compare h0 != x6162
+compare h1 != h0
+compare h0 < x6163
+compare h0 < x6162
+compare h0 <= x6162
+compare h0 > x6162
+compare h0 >= x6162
+compare h0 < x61
+compare h0 > x61
+compare h0 < x616200
+compare h0 <= x616200
+compare h0 == x616200
+compare h0 > x6161ff
+compare h0 < x80
+compare h0 < xff
+compare h0 > x7f
+compare h0 == x
+compare h0 > x
+compare h1 < x6163
+compare h1 >= h0
+compare h1 > x61
+compare h1 < x62
+compare h0 == h0
+compare h1 < h1
+compare h1 <= h1
+new bytes x
+new bytearray x
+compare h2 == h3
+compare h3 < h2
+compare h3 <= h2
+compare h2 < h0
+compare h3 >= h1
+compare h2 == x
+append h1 99
+compare h1 > h0
+compare h1 == x616263
+""",
+    ),
+    Case(
+        "a bytearray is compared with a view whose items lie together by the bytes of both",
+        """
+new bytearray x01000200
+view h0
+cast h1 'H'
+cast h1 'B' [2,2]
+compare h0 == h1
+compare h0 == h2
+compare h0 == h3
+compare h0 != h2
+compare h0 < h2
+compare h0 <= h2
+get h1 1:None:None
+compare h0 < h4
+compare h0 > h4
+compare h0 == h4
+new bytes x01000300
+view h5
+cast h6 'i'
+compare h0 < h7
+compare h0 >= h7
+compare h0 == h7
+get h1 2:2:1
+compare h0 > h8
+compare h0 < h8
+set h1 2 3
+compare h0 == h7
+""",
+    ),
+    Case(
+        "a view is compared with bytes and a bytearray by its items",
+        """
+new bytes xff616200
+new bytearray xff616200
+view h0
+compare h2 == h0
+compare h2 == h1
+compare h2 == xff616200
+compare h2 != xff616201
+compare h2 == xff6162
+compare h2 == x
+cast h2 'b'
+compare h3 == h0
+compare h3 == h1
+compare h3 == xff616200
+get h3 1:None:None
+compare h4 == x616200
+compare h4 != x616200
+cast h2 'c'
+compare h5 == h0
+compare h5 != h0
+cast h2 'h'
+compare h6 == h0
+cast h2 'B' [2,2]
+compare h7 == h0
+cast h2 'B' [4]
+compare h8 == h0
+get h2 None:None:-1
+compare h9 == x006261ff
+compare h9 == h0
+get h2 4:None:None
+compare h10 == x
+new bytes x
+compare h10 == h11
+set h1 1 98
+compare h2 == h1
+""",
+    ),
+    Case(
+        "a view is equal to itself, released or not, and a released one to nothing else",
+        """
+new bytearray x6162
+view h0
+view h0
+compare h1 == h1
+compare h1 != h1
+compare h1 == h2
+release h1
+compare h1 == h1
+compare h1 != h1
+compare h1 == h2
+compare h2 == h1
+compare h2 != h1
+compare h1 == h0
+compare h1 == x6162
+compare h1 != x6162
+release h2
+compare h1 == h2
+compare h2 == h2
+compare h1 == None
+compare h1 < h1
+compare h1 < h2
+compare h1 >= x6162
+""",
+    ),
+    Case(
+        "what is no bytes is unequal to a view, and has no order with one",
+        """
+new bytes x6162
+view h0
+compare h1 == None
+compare h1 != None
+compare h1 == True
+compare h1 == 97
+compare h1 == ...
+compare h1 == 'ab'
+compare h1 != 'ab'
+compare h1 == [97,98]
+compare h1 == (97,98)
+compare h1 == ()
+compare h1 == 0:1:1
+compare h1 == (0:1:1)
+compare h1 < None
+compare h1 <= 97
+compare h1 > 'ab'
+compare h1 >= [97,98]
+compare h1 < x6163
+compare h1 <= h1
+compare h1 > h0
+compare h1 >= x6162
+compare h0 < h1
+compare h0 <= h1
+compare h0 > h1
+compare h0 >= h1
+""",
+    ),
+    Case(
+        "views of several dimensions are equal by their shapes and all of their items",
+        """
+new bytes x000102030405060708090a0b
+new bytes xff0102030405060708090a0b
+new bytes x000102030405060708090aff
+new bytes x0001020304ff060708090a0b
+view h0
+view h1
+view h2
+view h3
+cast h4 'B' [3,4]
+cast h5 'B' [3,4]
+cast h6 'B' [3,4]
+cast h7 'B' [3,4]
+compare h8 == h9
+compare h8 == h10
+compare h8 == h11
+compare h8 != h9
+compare h8 == h8
+get h8 1:None:None
+get h9 1:None:None
+get h10 1:None:None
+get h11 1:None:None
+compare h12 == h13
+compare h12 == h14
+compare h12 == h15
+get h8 2:None:None
+get h11 2:None:None
+compare h16 == h17
+cast h4 'B' [2,3,2]
+cast h5 'B' [2,3,2]
+cast h6 'B' [2,3,2]
+cast h7 'B' [2,3,2]
+compare h18 == h19
+compare h18 == h20
+compare h18 == h21
+compare h18 != h21
+view h0
+cast h22 'B' [2,3,2]
+compare h18 == h23
+get h18 None:None:-1
+get h18 None:None:-1
+compare h24 == h25
+compare h24 == h18
+get h24 None:None:-1
+compare h26 == h18
+get h19 None:None:-1
+get h19 1:None:None
+get h18 1:None:None
+compare h28 == h29
+get h27 0:1:1
+compare h30 == h29
+""",
+    ),
+    Case(
+        "shapes agree up to an entry of 0 that both have",
+        """
+new bytes x000102030405
+view h0
+cast h1 'B' [2,3]
+cast h1 'B' [3,2]
+get h2 0:0:1
+get h3 0:0:1
+compare h4 == h5
+compare h4 != h5
+compare h2 == h3
+compare h4 == h2
+cast h1 'H' [3]
+get h6 0:0:1
+get h1 0:0:1
+compare h7 == h8
+compare h7 == x
+compare h4 == h7
+compare h4 == x
+cast h1 'B' [2,3,1]
+get h9 2:None:None
+compare h9 == h2
+compare h10 == h4
+cast h1 'c'
+get h11 6:None:-1
+get h11 6:None:1
+compare h13 == h8
+compare h12 == h11
+""",
+    ),
+    Case(
+        "views without dimensions are equal by their one item",
+        """
+new bytes x01
+new bytes x0100
+new bytearray x02
+view h0
+view h1
+view h2
+cast h3 'B' []
+cast h4 'H' []
+cast h5 'b' []
+compare h6 == h7
+compare h7 == h6
+compare h6 == h8
+compare h6 == h6
+compare h6 == h3
+compare h6 == x01
+compare h3 == x01
+set h5 0 1
+compare h6 == h8
+cast h3 'c' []
+compare h9 == h6
+cast h3 '?' []
+compare h10 == h6
+""",
+    ),
+    Case(
+        "views of items apart, backwards and over each other are equal by their items",
+        """
+new bytearray x616261626162
+view h0
+get h1 None:None:2
+get h1 1:None:2
+get h1 None:None:-2
+compare h2 == h3
+compare h3 == h4
+compare h2 == x616161
+compare h4 == x626262
+get h1 0:4:1
+get h1 2:None:1
+compare h5 == h6
+get h1 None:None:-1
+compare h7 == h1
+get h7 None:None:-1
+compare h8 == h1
+get h7 1:None:None
+get h1 1:None:None
+get h1 0:5:1
+compare h9 == h11
+compare h9 == h10
+set h1 0 98
+compare h2 == x626161
+compare h5 == h6
+compare h8 == h1
+new bytes x7878626261626162
+view h12
+get h13 2:None:None
+compare h14 == h1
+compare h14 == h0
+compare h1 == h14
+get h14 None:None:3
+get h1 None:None:3
+compare h15 == h16
+compare h15 == x6262
+""",
+    ),
+    Case(
+        "items of standard sizes and of several values are compared by their values",
+        """
+new bytes x01000200
+new bytes x00010002
+view h0
+view h1
+cast h2 '<H'
+cast h3 '>H'
+cast h2 'H'
+cast h3 '!h'
+compare h4 == h5
+compare h4 == h6
+compare h5 == h7
+compare h7 == h6
+compare h4 == h2
+cast h3 '<H'
+compare h4 == h8
+cast h2 'BB'
+cast h3 'BB'
+compare h9 == h10
+compare h9 == h9
+compare h9 == h4
+cast h2 '<4s'
+cast h2 '4s'
+cast h3 '4s'
+compare h11 == h12
+compare h12 == h13
+cast h2 '4c'
+compare h14 == h12
+compare h14 == h14
+cast h2 '=i'
+cast h2 'i'
+compare h15 == h16
+cast h2 '4x'
+cast h3 '4x'
+compare h17 == h18
+compare h17 == h15
+cast h2 'Bx'
+cast h3 'xB'
+compare h19 == h20
+compare h19 == h4
+cast h2 '2p'
+cast h3 '2p'
+compare h21 == h22
+get h21 1:None:None
+get h22 1:None:None
+compare h23 == h24
+get h5 None:None:-1
+get h4 None:None:-1
+compare h25 == h26
+compare h25 == h4
+""",
+    ),
+    Case(
+        "gaps and pad bytes of items are not compared",
+        """
+new bytes x01ff0200030004ff
+new bytes x0100020003ee04aa
+view h0
+view h1
+cast h2 'BH'
+cast h3 'BH'
+compare h4 == h5
+get h4 0:1:1
+get h5 0:1:1
+compare h6 == h7
+compare h6 != h7
+compare h2 == h3
+cast h2 '<BxH'
+cast h3 '<BxH'
+get h8 0:1:1
+get h9 0:1:1
+compare h8 == h9
+compare h10 == h11
+compare h10 == h6
+cast h2 '<2BH'
+get h12 0:1:1
+compare h13 == h6
+new bytes x0055016600
+new bytes x0077016699
+view h14
+view h15
+get h16 0:4:1
+get h17 0:4:1
+cast h18 '2p'
+cast h19 '2p'
+compare h20 == h21
+compare h16 == h17
+cast h16 '5p'
+cast h17 '5p'
+compare h22 == h23
+""",
+    ),
+    Case(
+        "truth values of bytes 0 and 1 are equal to the numbers 0 and 1",
+        """
+new bytes x010001
+view h0
+cast h1 '?'
+cast h1 '?'
+compare h2 == h3
+compare h2 == h1
+compare h1 == h2
+compare h2 == x010001
+compare h2 == x010101
+compare h2 != x010101
+new bytes x020005
+view h4
+cast h5 '<?'
+cast h1 '<?'
+compare h6 == h2
+compare h6 == h7
+compare h6 == h1
+compare h6 == h5
+cast h1 'b'
+compare h8 == h2
+cast h1 'c'
+compare h9 == h2
+""",
+    ),
+    Case(
+        "what is hashed is the bytes of what can't change",
+        """
+new bytes x616263
+new bytearray x616263
+hash h0
+hash h1
+view h0
+view h1
+hash h2
+hash h3
+get h2 None:None:-1
+hash h4
+get h2 None:None:2
+hash h5
+get h2 1:1:1
+hash h6
+cast h2 'b'
+hash h7
+cast h2 'c'
+hash h8
+cast h2 'B' [1,3]
+hash h9
+get h9 None:None:-1
+hash h10
+cast h2 'B' [3,1]
+get h11 None:None:-1
+hash h12
+toreadonly h4
+hash h13
+cast h3 'b'
+hash h14
+get h3 None:None:-1
+hash h15
+new bytes x
+hash h16
+view h16
+hash h17
+cast h2 '@c'
+hash h18
+get h2 0:1:1
+cast h19 'B' []
+hash h20
+release h15
+hash h15
+release h3
+hash h3
+release h6
+compare h6 == h6
+""",
+    ),
+    Case(
+        "bytes in a repr, and views that were released before they had a hash",
+        """
+new bytes x61620a
+repr h0
+new bytearray x61620a
+repr h1
+view h0
+release h2
+hash h2
+new bytes x
+new bytearray x
+repr h3
+repr h4
+append h4 92
+repr h4
+""",
+    ),
+    Case(
+        "both quotes, one, and the other in a repr",
+        """
+new bytes x
+repr h0
+new bytes x27
+repr h1
+new bytes x22
+repr h2
+new bytes x2722
+repr h3
+new bytes x2227
+repr h4
+new bytes x275c27
+repr h5
+new bytes x225c0922
+repr h6
+new bytearray x22
+repr h7
+new bytearray x2722
+repr h8
+new bytearray x2227
+repr h9
+new bytearray x225c22
+repr h10
+new bytearray x27225c
+repr h11
+new bytearray x0a0d095c2722
+repr h12
+""",
+    ),
+]
+
+# The native codes of numbers.
+NUMBER_CODES = "".join(code for code in NATIVE_CODES if code not in "c?")
+
+
+def by_code(codes, content):
+    """The lines that make a view of some content by each code, and all pairs of these compared."""
+    lines = []
+    for at, code in enumerate(codes):
+        lines += [f"new bytes x{content(code).hex()}", f"view h{3 * at}", f"cast h{3 * at + 1} '{code}'"]
+    views = range(2, 3 * len(codes), 3)
+    return "\n".join(lines + [f"compare h{left} == h{right}" for left in views for right in views])
+
+
+def by_code_in_a_shape(codes, shape, *numbers):
+    """The lines that make a view of numbers in a shape by each code, and compare it, and it turned
+    round, with those of the first code."""
+    lines = []
+    for at, code in enumerate(codes):
+        exporter = 4 * at
+        lines += [f"new bytes x{numbers_of(code, *numbers).hex()}", f"view h{exporter}", f"cast h{exporter + 1} '{code}' {shape}", f"get h{exporter + 2} None:None:-1"]
+        lines += [f"compare h{exporter + one} {sign} h{other}" for one in (2, 3) for other in (2, 3) for sign in ("==", "!=")]
+    return "\n".join(lines)
+
+
+def numbers_of(code, *numbers):
+    """Numbers as items of a native code."""
+    return b"".join(struct.pack(code, bytes([it]) if code == "c" else it) for it in numbers)
+
+
+PYTHON += [
+    Case("equal numbers by each two native codes", by_code(NATIVE_CODES, lambda code: numbers_of(code, 1, 0, 1))),
+    Case("numbers of which one is another, by each two native codes", by_code(NATIVE_CODES, lambda code: numbers_of(code, 1, 0, NATIVE_CODES.index(code) % 2))),
+    Case("all bits of each native number code", by_code(NUMBER_CODES, lambda code: b"\xff" * struct.calcsize(code))),
+    Case("the same bytes by each two native codes", by_code(NATIVE_CODES, lambda code: bytes([1, 0, 0, 0, 0, 0, 0, 0]))),
+    Case("equal numbers of two dimensions by each native code", by_code_in_a_shape(NATIVE_CODES, "[3,2]", 1, 0, 0, 1, 1, 1)),
+    Case("equal numbers of three dimensions by each native code", by_code_in_a_shape(NATIVE_CODES, "[2,2,2]", 1, 0, 0, 1, 1, 1, 0, 1)),
+    Case(
+        "shapes of one, of two and of three dimensions of the same bytes",
+        "\n".join(
+            ["new bytes x616161616161616161616161", "view h0"]
+            + [f"cast h1 'B' {shape}" for shape in ["[12]", "[1,12]", "[12,1]", "[3,4]", "[4,3]", "[2,3,2]", "[3,2,2]", "[2,2,3]", "[1,3,4]", "[3,4,1]"]]
+            + [f"compare h{left} == h{right}" for left in range(2, 12) for right in range(2, 12)]
+        ),
+    ),
+    Case("each byte alone in a repr", "\n".join(f"new bytes x{byte:02x}\nrepr h{byte}" for byte in range(256))),
+    Case("each byte alone in the repr of a bytearray", "\n".join(f"new bytearray x{byte:02x}\nrepr h{at}" for at, byte in enumerate(byte for byte in range(256) if byte != ord("'")))),
+    Case("all bytes in a repr", f"new bytes x{bytes(range(256)).hex()}\nrepr h0\nnew bytearray x{bytes(range(256)).hex()}\nrepr h1"),
+]
+
+
+def drawn_comparisons(draw):
+    """Slices of two exporters of few different bytes, compared with each other and with bytes."""
+    bits = lambda count: bytes(draw.below(2) for _ in range(count)).hex()
+    lines = [f"new bytearray x{bits(12)}", f"new bytes x{bits(12)}", "view h0", "view h1", "cast h2 'b' [3,4]", "cast h3 'B' [3,4]", "cast h2 'h'", "cast h3 'b' [6,2]"]
+    made = 8
+    for _ in range(40):
+        step = draw.one_of(["1", "1", "-1", "2", "-2", "3"])
+        start = draw.below(5)
+        lines.append(f"get h{2 + draw.below(min(made, 20) - 2)} {f'{start}:None' if step[0] != '-' else f'None:{start}'}:{step}")
+        made += 1
+        lines.append(f"compare h{made - 1} {draw.one_of(['==', '!='])} h{2 + draw.below(made - 2)}")
+        lines.append(f"compare h{2 + draw.below(made - 2)} == h{2 + draw.below(made - 2)}")
+        lines.append(f"compare h{made - 1} == x{bits(draw.below(5))}")
+        lines.append(f"compare h{draw.below(2)} {draw.one_of(['<', '<=', '>', '>='])} x{bits(draw.below(13))}")
+    return "\n".join(lines)
+
+
+def drawn_bytes(draw):
+    """The text of drawn bytes, of which some are quotes."""
+    lines = []
+    for made in range(40):
+        content = bytes(draw.one_of([34, 39, 92, 10, 97, 98, 0, 255]) for _ in range(draw.below(6)))
+        kind = draw.one_of(["bytes", "bytearray"]) if b"'" not in content or b'"' in content else "bytes"
+        lines += [f"new {kind} x{content.hex()}", f"repr h{made}"]
+    return "\n".join(lines)
+
+
+PYTHON += [Case(f"comparisons, drawn ({seed})", drawn_comparisons(Draw(seed))) for seed in (16, 17, 18, 19)]
+PYTHON += [Case(f"bytes in a repr, drawn ({seed})", drawn_bytes(Draw(seed))) for seed in (20, 21)]
 ASSIGNED = [assigned(Draw(12 + number), step, others) for others in (False, True) for number, step in enumerate(STEPS)]
 
 # Beside each line our reply, written by hand; Python's is put beside it where it differs.
@@ -2852,7 +3484,7 @@ init h0 h0                          ! BufferError
 bytes h0                            b'abc'
 release h1                          ok
 init h0 [1,256]                     ! ValueError
-bytes h0                            b'abc'          !
+len h0                              3               !
 init h0 'a'                         ! TypeError
 init h0 None                        ! TypeError
 init h0 5 'utf-8'                   ! TypeError
@@ -2955,6 +3587,210 @@ bytes h2                            b'a'
 """,
     ),
     Case(
+        "a view has an order with nothing",
+        """
+new bytes x6162                     h0
+new bytearray x6163                 h1
+view h0                             h2
+view h1                             h3
+compare h2 < h1                     ! TypeError    !
+compare h2 <= h1                    ! TypeError    !
+compare h2 > h1                     ! TypeError    !
+compare h2 >= h1                    ! TypeError    !
+compare h3 <= h1                    ! TypeError    !
+compare h1 > h2                     True
+compare h2 < h0                     ! TypeError
+compare h2 < x6163                  ! TypeError
+compare h2 < h3                     ! TypeError
+compare h2 < h2                     ! TypeError
+compare h2 < 5                      ! TypeError
+compare h0 < h3                     ! TypeError
+release h2                          ok
+compare h2 < h1                     ! TypeError
+""",
+    ),
+    Case(
+        "bytes are compared with a view by the bytes of both, if the items of the view lie together",
+        """
+new bytes xff00                     h0
+new bytearray x00ff                 h1
+view h0                             h2
+cast h2 'b'                         h3
+compare h0 == h3                    True           !
+compare h0 != h3                    False          !
+compare h3 == h0                    False
+cast h2 'H'                         h4
+compare h0 == h4                    True           !
+compare h4 == h0                    False
+cast h2 'c'                         h5
+compare h0 == h5                    True           !
+cast h2 'B' [1,2]                   h6
+compare h0 == h6                    True           !
+compare h0 != h6                    False          !
+compare h6 == h0                    False
+compare h0 == h2                    True
+get h2 None:None:-1                 h7
+compare h0 == h7                    NotImplemented   !
+compare h0 != h7                    NotImplemented   !
+compare h1 == h7                    NotImplemented   !
+compare h1 < h7                     NotImplemented   !
+compare h7 == h1                    True
+compare h0 < h7                     ! TypeError
+get h2 2:None:2                     h8
+compare h1 > h8                     True           !
+compare h1 == h8                    False
+""",
+    ),
+    Case(
+        "bytes are not compared with what has no bytes",
+        """
+new bytes x6162                     h0
+new bytearray x6162                 h1
+compare h0 == 'ab'                  NotImplemented   !
+compare h0 != 'ab'                  NotImplemented   !
+compare h0 < 'ab'                   NotImplemented   !
+compare h1 == 'ab'                  NotImplemented   !
+compare h1 >= 97                    NotImplemented   !
+compare h0 == None                  NotImplemented   !
+compare h0 == True                  NotImplemented   !
+compare h0 != ...                   NotImplemented   !
+compare h0 == [97,98]               NotImplemented   !
+compare h1 == (97,98)               NotImplemented   !
+compare h0 <= ()                    NotImplemented   !
+compare h0 == 0:1:1                 NotImplemented   !
+compare h1 == (0:1:1)               NotImplemented   !
+compare h0 == [h0]                  NotImplemented   !
+view h0                             h2
+release h2                          ok
+compare h0 == h2                    NotImplemented   !
+compare h0 != h2                    NotImplemented   !
+compare h1 == h2                    NotImplemented   !
+compare h1 <= h2                    NotImplemented   !
+compare h0 < h2                     ! TypeError
+compare h2 == h0                    False
+compare h2 != h0                    True
+""",
+    ),
+    Case(
+        "truth values are equal where both are true or both are not",
+        """
+new bytes x020001                   h0
+view h0                             h1
+cast h1 '?'                         h2
+get h2 None:None:-1                 h3
+compare h2 == h3                    True           !
+compare h2 != h3                    False          !
+compare h2 == h2                    True
+new bytes xff0003                   h4
+view h4                             h5
+cast h5 '?'                         h6
+compare h2 == h6                    True           !
+compare h6 == h2                    True           !
+compare h2 == x010001               True
+compare h2 == h1                    False
+cast h5 '<?'                        h7
+compare h7 == h2                    True
+""",
+    ),
+    Case(
+        "the repr of a bytearray has the quote rule of bytes",
+        """
+new bytearray x27                   h0
+repr h0                             bytearray(b"'")   !
+new bytearray x6127275c             h1
+repr h1                             bytearray(b"a''\\\\")   !
+new bytearray x2722                 h2
+repr h2                             bytearray(b'\\'"')
+new bytes x27                       h3
+repr h3                             b"'"
+""",
+    ),
+    Case(
+        "every view that may only be read has a hash",
+        """
+new bytes x01000200                 h0
+view h0                             h1
+cast h1 'H'                         h2
+hash h2                             b'\\x01\\x00\\x02\\x00'   !
+cast h1 '?'                         h3
+hash h3                             b'\\x01\\x00\\x02\\x00'   !
+cast h1 '<BxH'                      h4
+hash h4                             b'\\x01\\x00\\x02\\x00'   !
+cast h1 'H' [1,2]                   h5
+hash h5                             b'\\x01\\x00\\x02\\x00'   !
+get h2 None:None:-1                 h6
+hash h6                             b'\\x02\\x00\\x01\\x00'   !
+new bytearray x6162                 h7
+view h7                             h8
+toreadonly h8                       h9
+hash h9                             b'ab'          !
+set h8 0 65                         ok
+hash h9                             b'Ab'          !
+hash h8                             ! ValueError
+hash h7                             ! TypeError
+""",
+    ),
+    Case(
+        "a released view has no hash, also where it had one",
+        """
+new bytes x6162                     h0
+view h0                             h1
+view h0                             h2
+hash h1                             b'ab'
+release h1                          ok
+hash h1                             ! ValueError   !
+release h2                          ok
+hash h2                             ! ValueError
+""",
+    ),
+    Case(
+        "a view is shown by its number among those of its exporter",
+        """
+new bytes x6162                     h0
+new bytes x6162                     h1
+view h0                             h2
+view h1                             h3
+get h3 None:None:-1                 h4
+get h2 0:1:1                        h5
+repr h2                             <memory 0>     !
+repr h3                             <memory 0>     !
+repr h4                             <memory 1>     !
+repr h5                             <memory 1>     !
+release h3                          ok
+repr h3                             <released memory 0>   !
+repr h4                             <memory 1>     !
+view h1                             h6
+repr h6                             <memory 2>     !
+""",
+    ),
+    Case(
+        "a vector is compared with, and has no comparison, hash or repr of its own",
+        """
+new bytes x616263                   h0
+view h0                             h1
+get h1 None:None:-1                 h2
+contig h2                           h3 h4
+compare h3 == h3                    ! UnknownName   !
+compare h3 < x61                    ! UnknownName   !
+hash h3                             ! UnknownName   !
+repr h3                             ! UnknownName   !
+compare h2 == h3                    True
+compare h0 < h3                     True
+compare h2 == h4                    True
+hash h4                             b'cba'
+repr h4                             <memory 0>     !
+compare h9 == h0                    ! UnknownName   !
+compare h0 == h9                    ! UnknownName   !
+compare h0 == [1,h9]                ! UnknownName   !
+compare h1 < h9                     ! UnknownName   !
+compare h1 == 0:h9:1                ! UnknownName   !
+hash h9                             ! UnknownName   !
+repr h9                             ! UnknownName   !
+release h1                          ok
+compare h1 == h9                    ! UnknownName   !
+""",
+    ),
+    Case(
         "None is refused before a key of several dimensions is looked at",
         """
 new bytearray x0001                 h0
@@ -2993,7 +3829,7 @@ def python_cases():
     """Each case with its lines and the replies of Python's objects, where slices of a bytearray are
     `bytes`."""
     for case in PYTHON:
-        yield case.title, list(zip(case.lines, SlicesAreBytes().run(case.lines)))
+        yield case.title, list(zip(case.lines, AsWritten().run(case.lines)))
     for case, replies in ASSIGNED:
         if World().run(case.lines) != replies:
             sys.exit(f"{case.title}: Python's slices are not those of lists")
