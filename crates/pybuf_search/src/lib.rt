@@ -1,0 +1,2 @@
+//! Searching bytes for bytes, and cutting them at what is found.
+#![tactic(auto)]
