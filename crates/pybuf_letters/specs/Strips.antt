@@ -16,5 +16,5 @@ stripped test bytes = stripped_right test (stripped_left test bytes)
 
 -- which bytes go: those that are named, or else the blanks
 abbrev pub goes : Option (List ℕ) → ℕ → Bool
-goes (Some chars) b = list_any (λ c. c == b) chars
-goes None b = is_blank b
+goes (Some chars) = λ b. list_any (λ c. c == b) chars
+goes None = is_blank

@@ -1,5 +1,5 @@
 //! Bytes cut at their blanks.
-ghost use Rattle.std.specs.Prelude.{◌≡◌, ◌≤◌, ◌-◌, length, map, reverse, not, IfOk};
+ghost use Rattle.std.specs.Prelude.{◌≡◌, ◌≤◌, ◌-◌, ◌++◌, length, map, reverse, not, IfOk};
 ghost use Rattle.std.specs.List.{position_or_len, suffix_len};
 ghost use Rattle.pybuf_letters.specs.Blanks as spec;
 ghost use Rattle.pybuf_letters.specs.Classes.{is_blank};
@@ -7,7 +7,7 @@ ghost use Rattle.pybuf_letters.specs.Classes.{is_blank};
 use crate::parts::push_part;
 use crate::strips::{blanks, strip_left, strip_right};
 use bstr::ByteSlice;
-use pybuf_value::{ByteLists, Made};
+use pybuf_value::{ByteList, ByteLists, Made};
 use std::alloc::Global;
 
 /// Where the first blank stands, or the number of bytes.
@@ -32,6 +32,17 @@ fn run_start(bytes: &[u8]) -> usize
     }
 }
 
+/// The parts, and then what is left, if it isn't nothing.
+fn with_rest(alloc: Global, mut parts: Vec<ByteList>, rest: &[u8]) -> Made<ByteLists>
+    ensures { IfOk result (λ made. made ≡ parts.items ++ spec.part_if_any rest.now) }
+{
+    if rest.is_empty() {
+        return Ok(ByteLists::from_vec(parts));
+    }
+    push_part(alloc, &mut parts, rest)?;
+    Ok(ByteLists::from_vec(parts))
+}
+
 /// So many runs, and then the rest.
 fn cut_from_left(alloc: Global, bytes: &[u8], cuts: usize) -> Made<ByteLists>
     ensures { IfOk result (λ parts. parts ≡ spec.runs_up_to cuts bytes.now) }
@@ -46,10 +57,7 @@ fn cut_from_left(alloc: Global, bytes: &[u8], cuts: usize) -> Made<ByteLists>
         push_part(alloc, &mut parts, &rest[..end])?;
         rest = strip_left(&rest[end..], None);
     }
-    if !rest.is_empty() {
-        push_part(alloc, &mut parts, rest)?;
-    }
-    Ok(ByteLists::from_vec(parts))
+    with_rest(alloc, parts, rest)
 }
 
 /// So many runs from the end, the last first, and then the rest.
@@ -66,10 +74,7 @@ fn cut_from_right(alloc: Global, bytes: &[u8], cuts: usize) -> Made<ByteLists>
         push_part(alloc, &mut parts, &rest[start..])?;
         rest = strip_right(&rest[..start], None);
     }
-    if !rest.is_empty() {
-        push_part(alloc, &mut parts, rest)?;
-    }
-    Ok(ByteLists::from_vec(parts))
+    with_rest(alloc, parts, rest)
 }
 
 /// The parts between runs of blanks, as of Python's `bytes.split()` without a separator (Library

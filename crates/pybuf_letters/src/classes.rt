@@ -15,14 +15,20 @@ pub fn is_py_ascii_whitespace(b: u8) -> bool
 pub fn is_alnum(bytes: &[u8]) -> bool
     ensures { result ≡ spec.all_of is_ascii_alphanumeric bytes.now }
 {
-    !bytes.is_empty() && bytes.iter().all(|b| b.is_ascii_alphanumeric())
+    if bytes.is_empty() {
+        return false;
+    }
+    bytes.iter().all(|b| b.is_ascii_alphanumeric())
 }
 
 /// Whether there are bytes and each is a letter of ASCII, as of Python's `bytes.isalpha`.
 pub fn is_alpha(bytes: &[u8]) -> bool
     ensures { result ≡ spec.all_of is_ascii_alphabetic bytes.now }
 {
-    !bytes.is_empty() && bytes.iter().all(|b| b.is_ascii_alphabetic())
+    if bytes.is_empty() {
+        return false;
+    }
+    bytes.iter().all(|b| b.is_ascii_alphabetic())
 }
 
 /// Whether each byte is below 128, as of Python's `bytes.isascii`: so also where there is none.
@@ -36,14 +42,20 @@ pub fn is_ascii(bytes: &[u8]) -> bool
 pub fn is_digit(bytes: &[u8]) -> bool
     ensures { result ≡ spec.all_of is_ascii_digit bytes.now }
 {
-    !bytes.is_empty() && bytes.iter().all(|b| b.is_ascii_digit())
+    if bytes.is_empty() {
+        return false;
+    }
+    bytes.iter().all(|b| b.is_ascii_digit())
 }
 
 /// Whether there are bytes and each is a blank, as of Python's `bytes.isspace`.
 pub fn is_space(bytes: &[u8]) -> bool
     ensures { result ≡ spec.all_of spec.is_blank bytes.now }
 {
-    !bytes.is_empty() && bytes.iter().all(|b| is_py_ascii_whitespace(*b))
+    if bytes.is_empty() {
+        return false;
+    }
+    bytes.iter().all(|b| is_py_ascii_whitespace(*b))
 }
 
 /// Whether some byte is in lower case and none in upper case, as of Python's `bytes.islower`.

@@ -15,6 +15,10 @@ pub use classes::{
     is_alnum, is_alpha, is_ascii, is_digit, is_lower, is_py_ascii_whitespace, is_space, is_title,
     is_upper,
 };
+pub use laws::{
+    cases_alone_are_changed, cases_settle, cuts_lose_blanks_alone, lines_are_the_bytes,
+    runs_come_back, titles_stay,
+};
 pub use lines::split_lines;
 pub use strips::{strip, strip_left, strip_right};
 

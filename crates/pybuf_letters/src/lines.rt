@@ -7,6 +7,19 @@ use bstr::ByteSlice;
 use pybuf_value::{ByteLists, Made};
 use std::alloc::Global;
 
+/// How many bytes the end of a line takes that the bytes begin with.
+fn end_length(bytes: &[u8]) -> usize
+    requires { 0 < length bytes.now }
+    ensures value { result ≡ spec.end_length bytes.now }
+    ensures some { 0 < result }
+    ensures inside { result ≤ length bytes.now }
+{
+    match bytes {
+        [b'\r', b'\n', ..] => 2,
+        _ => 1,
+    }
+}
+
 /// Where the first line of the bytes ends, without its end and with it.
 fn first_line(bytes: &[u8]) -> (usize, usize)
     requires { 0 < length bytes.now }
@@ -18,11 +31,21 @@ fn first_line(bytes: &[u8]) -> (usize, usize)
 {
     match bytes.find_byteset(b"\n\r") {
         None => (bytes.len(), bytes.len()),
-        Some(end) => {
-            let feeds = bytes[end] == b'\r' && end + 1 < bytes.len() && bytes[end + 1] == b'\n';
-            (end, if feeds { end + 2 } else { end + 1 })
-        }
+        Some(end) => (end, end + end_length(&bytes[end..])),
     }
+}
+
+/// The first line of the bytes, with its end or without, and what follows it.
+fn take_line(bytes: &[u8], keep_ends: bool) -> (&[u8], &[u8])
+    requires { 0 < length bytes.now }
+    ensures lines { spec.split_lines keep_ends bytes.now ≡ result.0.now ∷ spec.split_lines keep_ends result.1.now }
+    ensures shorter { length result.1.now < length bytes.now }
+{
+    let (bare, whole) = first_line(bytes);
+    if keep_ends {
+        return (&bytes[..whole], &bytes[whole..]);
+    }
+    (&bytes[..bare], &bytes[whole..])
 }
 
 /// The lines, as of Python's `bytes.splitlines` (Library reference, "Bytes and Bytearray Operations"):
@@ -34,13 +57,9 @@ pub fn split_lines(alloc: Global, bytes: &[u8], keep_ends: bool) -> Made<ByteLis
     let mut lines = Vec::new(alloc);
     let mut rest = bytes;
     while !rest.is_empty() {
-        let (bare, whole) = first_line(rest);
-        push_part(
-            alloc,
-            &mut lines,
-            &rest[..if keep_ends { whole } else { bare }],
-        )?;
-        rest = &rest[whole..];
+        let (line, more) = take_line(rest, keep_ends);
+        push_part(alloc, &mut lines, line)?;
+        rest = more;
     }
     Ok(ByteLists::from_vec(lines))
 }

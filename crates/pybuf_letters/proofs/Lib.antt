@@ -1,0 +1,5 @@
+mod Places
+mod ByteClasses
+mod Runs
+mod LastRuns
+mod LineEnds
