@@ -3,3 +3,6 @@ mod ByteClasses
 mod Runs
 mod LastRuns
 mod LineEnds
+mod CaseLaws
+mod RunLaws
+mod LineLaws

@@ -57,7 +57,7 @@ run_is_some bytes at some = ⊎_elim
         absurd (false≢true (sym (first_stays bytes at some) ∙ blank)))
     (cases_lt 0 (position_or_len is_blank bytes))
 
-kept : (run : List ℕ) (more : List (List ℕ)) → 0 < length run → filter (λ run. not (length run == 0)) (run ∷ more) ≡ run ∷ filter (λ run. not (length run == 0)) more
+pub kept : (run : List ℕ) (more : List (List ℕ)) → 0 < length run → filter (λ run. not (length run == 0)) (run ∷ more) ≡ run ∷ filter (λ run. not (length run == 0)) more
 kept run more some =
     let test : not (length run == 0) ≡ true = grind (arith, nat_tests) in
     ap (λ (t : Bool). cond t (run ∷ filter (λ run. not (length run == 0)) more) (filter (λ run. not (length run == 0)) more)) test
