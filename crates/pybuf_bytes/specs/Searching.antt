@@ -17,6 +17,7 @@ use Rattle.pybuf_search.specs.Places.{holds_needle, number_of_matches}
 use Rattle.bstr.specs.Text.{repeated}
 use Rattle.pybuf_search.specs.Joins.{fitted, times}
 use Rattle.pybuf_search.specs.Parts.{split_parts, rsplit_parts, partition_of, rpartition_of}
+use Rattle.pybuf_letters.specs.Blanks.{blank_parts, blank_rparts}
 use Rattle.pybuf_search.specs.Ends.{begins_with, ends_with}
 use Rattle.pybuf_bytes.specs.declared.needles.Needle.{Needle}
 use Rattle.pybuf_bytes.specs.Arguments.{adjusted, in_range, between_bounds, needle_bytes, separator_in, single_or_any_of}
@@ -78,6 +79,18 @@ abbrev pub endswith_of : List (ℕ × Snap) → Value → Option ℤ → Option 
 endswith_of pairs affix start end bytes = test_in ends_with pairs affix (between_bounds start end bytes)
 
 -- ---- cuts
+
+-- the parts at the matches of a separator, or without one at the blanks; an empty separator is refused
+abbrev pub split_of : Option (List ℕ) → ℤ → List ℕ → Result (List (List ℕ)) Fault
+split_of None most bytes = Ok (blank_parts most bytes)
+split_of (Some separator) most bytes =
+    if length separator == 0 then Err fault.Value else Ok (split_parts most separator bytes)
+
+-- the same with cuts from the right
+abbrev pub rsplit_of : Option (List ℕ) → ℤ → List ℕ → Result (List (List ℕ)) Fault
+rsplit_of None most bytes = Ok (blank_rparts most bytes)
+rsplit_of (Some separator) most bytes =
+    if length separator == 0 then Err fault.Value else Ok (rsplit_parts most separator bytes)
 
 -- the three parts of a partition; an empty separator is refused
 abbrev pub partition_by : List ℕ → List ℕ → Result (List ℕ × Bool × List ℕ) Fault

@@ -125,7 +125,12 @@ pub fn startswith<L: Lender>(
     match args.prepare(bytes) {
         None => Ok(Outcome::Done(false)),
         Some((affix, part)) => {
-            single_or_tuple_any(alloc, affix, &|prefix: &[u8]| begins_with(part, prefix), lender)
+            single_or_tuple_any(
+                alloc,
+                affix,
+                &|prefix: &[u8]| begins_with(part, prefix),
+                lender,
+            )
         }
     }
 }
@@ -146,7 +151,12 @@ pub fn endswith<L: Lender>(
     match args.prepare(bytes) {
         None => Ok(Outcome::Done(false)),
         Some((affix, part)) => {
-            single_or_tuple_any(alloc, affix, &|suffix: &[u8]| ends_with(part, suffix), lender)
+            single_or_tuple_any(
+                alloc,
+                affix,
+                &|suffix: &[u8]| ends_with(part, suffix),
+                lender,
+            )
         }
     }
 }

@@ -19,6 +19,7 @@ pub use needles::Needle;
 pub use options::ByteInnerNewOptions;
 pub use searching::{
     concat_with, contains_needle, count_between, find_between, partition_at, rpartition_at,
+    rsplit_at, split_at,
 };
 
 #[cfg(test)]

@@ -5,8 +5,7 @@ ghost use Rattle.pybuf_bytes.specs.Arguments as spec;
 
 use crate::inner::PyBytesInner;
 use pybuf_value::{
-    ByteOr, Fault, Halt, Lender, Outcome, Tried, Value, bytes_from_object,
-    index_of, tried,
+    ByteOr, Fault, Halt, Lender, Outcome, Tried, Value, bytes_from_object, index_of, tried,
 };
 use std::alloc::Global;
 

@@ -7,11 +7,12 @@ ghost use Rattle.pybuf_search.specs.Joins.{fitted, items_of};
 ghost use Rattle.pybuf_search.specs.Ends.{without_prefix, without_suffix};
 ghost use Rattle.pybuf_bytes.specs.Searching as spec;
 
-use crate::arguments::ByteInnerFindOptions;
+use crate::arguments::{ByteInnerFindOptions, ByteInnerSplitOptions};
 use crate::inner::PyBytesInner;
 use crate::needles::Needle;
 use crate::searching::{
     concat_with, contains_needle, count_between, find_between, partition_at, rpartition_at,
+    rsplit_at, split_at,
 };
 use pybuf_value::{ByteLists, Fault, Lender, Made, Outcome, Tried, Value};
 use std::alloc::Global;
@@ -109,6 +110,27 @@ impl PyBytesInner {
         ensures { (search : List ℕ → List ℕ → Option ℕ) → spec.IsSearch (F.post find) search → IfOk result (λ outcome. outcome ≡ outcome_of (spec.find_of search options.sub options.start options.end self.now)) }
     {
         find_between(alloc, self.as_bytes(), options, find)
+    }
+
+    /// The parts between the matches of a separator from the left, or without a separator between runs
+    /// of blanks, in order; the greatest number of cuts is no bound where it is negative (Library
+    /// reference, "Bytes and Bytearray Operations", `bytes.split`).
+    ///
+    /// Refused with `ValueError` exactly for an empty separator.
+    pub fn split(&self, alloc: Global, options: ByteInnerSplitOptions) -> Tried<ByteLists>
+        ensures { IfOk result (λ outcome. outcome ≡ outcome_of (spec.split_of options.sep options.maxsplit self.now)) }
+    {
+        split_at(alloc, self.as_bytes(), options)
+    }
+
+    /// The same with cuts from the right; the parts are in order (Library reference, "Bytes and
+    /// Bytearray Operations", `bytes.rsplit`).
+    ///
+    /// Refused with `ValueError` exactly for an empty separator.
+    pub fn rsplit(&self, alloc: Global, options: ByteInnerSplitOptions) -> Tried<ByteLists>
+        ensures { IfOk result (λ outcome. outcome ≡ outcome_of (spec.rsplit_of options.sep options.maxsplit self.now)) }
+    {
+        rsplit_at(alloc, self.as_bytes(), options)
     }
 
     /// What stands before the first match of a separator, whether there is one, and what stands

@@ -7,10 +7,11 @@ ghost use Rattle.pybuf_bytes.specs.Searching as spec;
 ghost use Rattle.pybuf_bytes.specs.Searching.{IsSearch};
 
 use crate::affixes::bytes_lent;
-use crate::arguments::{ByteInnerFindOptions, StringRange};
+use crate::arguments::{ByteInnerFindOptions, ByteInnerSplitOptions, StringRange};
 use crate::needles::Needle;
+use pybuf_letters::{rsplit_at_blanks, split_at_blanks};
 use pybuf_search::{added, holds_needle, number_of_matches, partition, rpartition};
-use pybuf_value::{ByteOr, Fault, Lender, Made, Outcome, Tried, Value};
+use pybuf_value::{ByteLists, ByteOr, Fault, Lender, Made, Outcome, Tried, Value};
 use std::alloc::Global;
 
 /// Whether the needle stands anywhere in the bytes, as Python's `in` asks (Library reference, "Common
@@ -151,5 +152,48 @@ pub fn concat_with<L: Lender>(
     match bytes_lent(scalar, lender) {
         Ok(operand) => added(alloc, bytes, operand),
         Err(fault) => Ok(Outcome::Refused(fault)),
+    }
+}
+
+/// The parts between the matches of a separator from the left, or without a separator between runs of
+/// blanks, in order; the greatest number of cuts is no bound where it is negative (Library reference,
+/// "Bytes and Bytearray Operations", `bytes.split`).
+///
+/// Refused with `ValueError` exactly for an empty separator.
+pub fn split_at(alloc: Global, bytes: &[u8], options: ByteInnerSplitOptions) -> Tried<ByteLists>
+    ensures { IfOk result (λ outcome. outcome ≡ outcome_of (spec.split_of options.sep options.maxsplit bytes.now)) }
+{
+    match options.get_value() {
+        Err(fault) => Ok(Outcome::Refused(fault)),
+        Ok((separator, most)) => {
+            let parts = match separator {
+                None => split_at_blanks(alloc, bytes, most)?,
+                Some(separator) => {
+                    pybuf_search::split(alloc, bytes, separator.as_bytes(), most)?
+                }
+            };
+            Ok(Outcome::Done(parts))
+        }
+    }
+}
+
+/// The same with cuts from the right; the parts are in order (Library reference, "Bytes and Bytearray
+/// Operations", `bytes.rsplit`).
+///
+/// Refused with `ValueError` exactly for an empty separator.
+pub fn rsplit_at(alloc: Global, bytes: &[u8], options: ByteInnerSplitOptions) -> Tried<ByteLists>
+    ensures { IfOk result (λ outcome. outcome ≡ outcome_of (spec.rsplit_of options.sep options.maxsplit bytes.now)) }
+{
+    match options.get_value() {
+        Err(fault) => Ok(Outcome::Refused(fault)),
+        Ok((separator, most)) => {
+            let parts = match separator {
+                None => rsplit_at_blanks(alloc, bytes, most)?,
+                Some(separator) => {
+                    pybuf_search::rsplit(alloc, bytes, separator.as_bytes(), most)?
+                }
+            };
+            Ok(Outcome::Done(parts))
+        }
     }
 }
