@@ -13,14 +13,16 @@ pub use inner::PyBytesInner;
 pub use needles::Needle;
 pub use options::ByteInnerNewOptions;
 pub use pybuf_arguments::{
-    AnyStrWrapper, SplitArgs, StartsEndsWithArgs, StringRange, adjust_indices, bytes_lent, endswith,
-    single_or_tuple_any, startswith,
+    AnyStrWrapper, SplitArgs, StartsEndsWithArgs, StringRange, adjust_indices, bytes_lent,
+    endswith, single_or_tuple_any, startswith,
 };
 pub use searching::{
     concat_with, contains_needle, count_between, find_between, partition_at, rpartition_at,
     rsplit_at, split_at,
 };
 
+#[cfg(test)]
+mod search_tests;
 #[cfg(test)]
 mod tests;
 #[cfg(test)]
