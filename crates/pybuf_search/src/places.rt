@@ -3,7 +3,7 @@ ghost use Rattle.std.specs.Prelude.{◌≡◌};
 ghost use Rattle.pybuf_search.specs.Places as spec;
 
 use bstr::ByteSlice;
-use memchr::memmem;
+use memchr::{memchr_iter, memmem};
 
 /// The first place at which the needle stands, from 0 to the length: an empty needle stands at 0.
 /// `None` exactly where it stands nowhere (Library reference, "Bytes and Bytearray Operations",
@@ -34,9 +34,13 @@ pub fn holds_needle(bytes: &[u8], needle: &[u8]) -> bool
 /// The number of matches from the left, of which no two overlap; an empty needle stands once before
 /// each byte and once at the end (Library reference, "Bytes and Bytearray Operations",
 /// `bytes.count`).
+#[tactic(auto, using(crate::proofs::OneByte::counted_by_byte))]
 pub fn number_of_matches(bytes: &[u8], needle: &[u8]) -> usize
     ensures { result ≡ spec.number_of_matches bytes.now needle.now }
 {
+    if needle.len() == 1 {
+        return memchr_iter(needle[0], bytes).count();
+    }
     let mut number = 0;
     let mut places = memmem::find_iter(bytes, needle);
     'places: while let Some(_place) = places.next() {
