@@ -87,7 +87,12 @@ fn strings_are_cut(rt: HostRuntime) -> Result<(), Fail> {
 
 /// Whether the string begins with a value.
 fn begins(alloc: Global, string: &Bytes, affix: &Value) -> Tried<bool> {
-    string.py_startsendswith(alloc, affix, &begins_with, &SnapList::new(alloc))
+    string.py_startsendswith(
+        alloc,
+        affix,
+        &|bytes: &[u8], prefix: &[u8]| begins_with(bytes, prefix),
+        &SnapList::new(alloc),
+    )
 }
 
 #[test]
