@@ -73,6 +73,10 @@ fn sum_of(verb: &Verb) -> (i128, i128) {
         Verb::Compare { op, other } => (27 + *op as i128, number_of(other)),
         Verb::Hash => (33, 0),
         Verb::Repr => (34, 0),
+        Verb::Iter => (35, 0),
+        Verb::Next => (36, 0),
+        Verb::LengthHint => (37, 0),
+        Verb::SetState { state } => (38, number_of(state)),
     }
 }
 
@@ -111,6 +115,16 @@ fn verbs_without_values_are_copied(rt: HostRuntime) -> Result<(), Fail> {
     assert!(rt; is_copied(rt.alloc(), Verb::Repr, (34, 0))?);
     let name = PropertyName::Itemsize;
     assert!(rt; is_copied(rt.alloc(), Verb::Property { name }, (7, 4))?);
+    Ok(())
+}
+
+#[test]
+fn verbs_of_iterators_are_copied(rt: HostRuntime) -> Result<(), Fail> {
+    assert!(rt; is_copied(rt.alloc(), Verb::Iter, (35, 0))?);
+    assert!(rt; is_copied(rt.alloc(), Verb::Next, (36, 0))?);
+    assert!(rt; is_copied(rt.alloc(), Verb::LengthHint, (37, 0))?);
+    let state = number(4);
+    assert!(rt; is_copied(rt.alloc(), Verb::SetState { state }, (38, 4))?);
     Ok(())
 }
 
@@ -179,6 +193,8 @@ fn sum_of_reply(reply: &LocalReply) -> (i128, i128) {
         LocalReply::Items { shape, items } => (shape.len() as i128, 100 + items.len() as i128),
         LocalReply::Shown(text) => (13, text.len() as i128),
         LocalReply::NotImplementedReply => (14, 0),
+        LocalReply::Iter(iterator) => (15, *iterator as i128),
+        LocalReply::Stop => (16, 0),
     }
 }
 
@@ -222,6 +238,8 @@ fn lists_and_what_is_fresh_are_copied(rt: HostRuntime) -> Result<(), Fail> {
         (fresh, (12, 3)),
         (shown, (13, 3)),
         (LocalReply::NotImplementedReply, (14, 0)),
+        (LocalReply::Iter(5), (15, 5)),
+        (LocalReply::Stop, (16, 0)),
     ];
     for (reply, sum) in &replies {
         assert_eq!(rt; sum_of_reply(&reply.copy(rt.alloc())?), *sum);

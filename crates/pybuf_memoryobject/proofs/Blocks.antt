@@ -19,7 +19,7 @@ use Rattle.pybuf_state.specs.Exporter.{Exporter}
 use Rattle.pybuf_state.specs.Sound.{IsFormed}
 use Rattle.pybuf_state.specs.Laws.{IsSoundLayout}
 use Rattle.pybuf_buffer.specs.Blocks.{LiesInFirst}
-use Rattle.pybuf_object.specs.Blocks.{blocks_of, range_parts}
+use Rattle.pybuf_memoryobject.specs.Blocks.{blocks_of, range_parts}
 
 -- ---- the indices
 

@@ -3,8 +3,8 @@ use Rattle.std.specs.Prelude.{IfOk}
 use Rattle.pybuf_command.specs.declared.commands.LocalReply.TheVariants as reply
 use Rattle.pybuf_desc.specs.Layouts.{Layout}
 use Rattle.pybuf_state.specs.Exporter.{with_view}
-use Rattle.pybuf_object.proofs.Lent.{lent_layout, lent_sound}
-use Rattle.pybuf_object.proofs.views.add_all.Goals as goal
+use Rattle.pybuf_memoryobject.proofs.Lent.{lent_layout, lent_sound}
+use Rattle.pybuf_memoryobject.proofs.views.add_all.Goals as goal
 
 pub add_view-requires-clause-sound : goal.add_view-requires-clause-sound
 add_view-requires-clause-sound c =

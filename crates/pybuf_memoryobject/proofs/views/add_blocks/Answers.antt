@@ -6,8 +6,8 @@ use Rattle.pybuf_desc.specs.Slices.{slice_of}
 use Rattle.pybuf_state.specs.Exporter.{with_view}
 use Rattle.pybuf_state.specs.Laws.{IsSoundLayout}
 use Rattle.pybuf_state.specs.Live.{layout_of}
-use Rattle.pybuf_object.proofs.Blocks.{blocks_are, some_dimension, slice_sound}
-use Rattle.pybuf_object.proofs.views.add_blocks.Goals as goal
+use Rattle.pybuf_memoryobject.proofs.Blocks.{blocks_are, some_dimension, slice_sound}
+use Rattle.pybuf_memoryobject.proofs.views.add_blocks.Goals as goal
 
 pub sliced-requires-clause-some_dimension : goal.sliced-requires-clause-some_dimension
 sliced-requires-clause-some_dimension c =

@@ -6,7 +6,7 @@ ghost use Rattle.pybuf_state.specs.Exporter.{with_view, released_in};
 ghost use Rattle.pybuf_state.specs.Fresh.{vector_of};
 ghost use Rattle.pybuf_state.specs.Live.{is_live, layout_of};
 ghost use Rattle.pybuf_buffer.specs.Blocks.{LiesInFirst};
-ghost use Rattle.pybuf_object.specs.Blocks.{blocks_of};
+ghost use Rattle.pybuf_memoryobject.specs.Blocks.{blocks_of};
 
 use crate::views::add_blocks;
 use pybuf_buffer::PyBuffer;
@@ -53,7 +53,7 @@ fn copy_of(alloc: Global, state: &ExporterState, view: usize) -> Made<Snap>
 }
 
 impl PyMemoryView {
-    ghost use Rattle.pybuf_object.specs.Viewing.{IsViewOf};
+    ghost use Rattle.pybuf_memoryobject.specs.Viewing.{IsViewOf};
 
     /// The memoryview of the view of this number. It changes no count, and takes no memory.
     pub fn of(view: usize) -> PyMemoryView

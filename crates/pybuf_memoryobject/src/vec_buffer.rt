@@ -38,7 +38,7 @@ impl Model for VecBuffer {
 
 impl VecBuffer {
     ghost use Rattle.pybuf_buffer.specs.Making.{IsBufferBy};
-    ghost use Rattle.pybuf_object.specs.Lending.{LendsStateOfVector, emptied};
+    ghost use Rattle.pybuf_memoryobject.specs.Lending.{LendsStateOfVector, emptied};
 
     /// A vector of these bytes, which may be written, and no buffer of it. Takes no memory.
     pub fn from(alloc: Global, bytes: Vec<u8>) -> VecBuffer

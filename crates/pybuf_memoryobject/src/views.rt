@@ -6,7 +6,7 @@ ghost use Rattle.pybuf_desc.specs.Layouts.{bytes_layout};
 ghost use Rattle.pybuf_state.specs.Exporter.{with_view};
 ghost use Rattle.pybuf_state.specs.Live.{is_live, layout_of};
 ghost use Rattle.pybuf_buffer.specs.Blocks.{LiesInFirst};
-ghost use Rattle.pybuf_object.specs.Blocks.{blocks_of, range_parts};
+ghost use Rattle.pybuf_memoryobject.specs.Blocks.{blocks_of, range_parts};
 
 use pybuf_buffer::live_descriptor;
 use pybuf_desc::{
