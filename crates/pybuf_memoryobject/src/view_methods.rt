@@ -242,6 +242,19 @@ impl PyMemoryView {
         step_of(state, Subject::View(self.number()), Verb::Len, loans)
     }
 
+    /// A new iterator over the items from the first on, as Python's `iter(view)` (Library reference, "Memory
+    /// Views"): the reply is its number. One over several dimensions, or none, is made too, and refuses to go
+    /// on.
+    ///
+    /// Refused with `ValueError` where the view was released.
+    pub fn iter(&self, state: &mut ExporterState, loans: LoanList) -> Made<LocalReply>
+        requires { LoansFit loans }
+        ensures ok { IfOk result (λ r. estep state.old (subjects.View self.now) verbs.Iter loans ≡ (state.new, r)) }
+        ensures err { OnErr result (state.new ≡ state.old) }
+    {
+        step_of(state, Subject::View(self.number()), Verb::Iter, loans)
+    }
+
     /// The exporter of the view, as Python's `view.obj` (Library reference, "Memory Views").
     pub fn obj(&self, state: &mut ExporterState, loans: LoanList) -> Made<LocalReply>
         requires { LoansFit loans }

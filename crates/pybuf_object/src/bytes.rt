@@ -181,6 +181,16 @@ impl PyBytes {
         step_of(&mut self.exporter, Subject::Own, Verb::Repr, loans)
     }
 
+    /// A new iterator over the bytes from the first on, as Python's `iter(bytes)` (Library reference,
+    /// "Built-in Functions", `iter`): the reply is its number.
+    pub fn iter(&mut self, loans: LoanList) -> Made<LocalReply>
+        requires { LoansFit loans }
+        ensures ok { IfOk result (λ r. estep self.old subjects.Own verbs.Iter loans ≡ (self.new, r)) }
+        ensures err { OnErr result (self.new ≡ self.old) }
+    {
+        step_of(&mut self.exporter, Subject::Own, Verb::Iter, loans)
+    }
+
     /// How many views of it are unreleased. Python keeps this number and doesn't show it: while it
     /// isn't 0, nothing is resized (C API, "Buffer Protocol").
     pub fn exports(&mut self, loans: LoanList) -> Made<LocalReply>
