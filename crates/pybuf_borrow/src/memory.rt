@@ -43,10 +43,10 @@ fn asked_to_write(state: &ExporterState, subject: Subject) -> Result<(), Fault>
             Ok(())
         }
         Subject::Iter(iterator) => {
-            if iterator >= state.iter_count() {
-                return Err(Fault::UnknownName);
+            if iterator < state.iter_count() {
+                return Err(Fault::Kind);
             }
-            Err(Fault::Kind)
+            Err(Fault::UnknownName)
         }
     }
 }
