@@ -33,9 +33,9 @@ class Ours(AsWritten):
         self.strides = {}
         # the handles of vectors, each of which is a bytearray, or bytes where it is read-only
         self.vectors = set()
-        # the handle of what each iterator goes over, by the iterator's handle, and those that stopped
+        # the handle of what each iterator goes over, by the iterator's handle, and those that are exhausted
         self.iterators = {}
-        self.stopped = set()
+        self.exhausted = set()
 
     def reply(self, line):
         words = line.split(" ")
@@ -362,18 +362,18 @@ class Ours(AsWritten):
 
     def do_next(self, handle, subject):
         of = self.iterators[handle]
-        if of in self.exporters and handle not in self.stopped:
+        if of in self.exporters and handle not in self.exhausted:
             # where the view was released there is none, also behind the last item
             shape = self.objects[of].shape
             if len(shape) != 1 and 0 not in shape[:1]:
                 raise NotImplementedError("not one dimension")
         found = super().do_next(handle, subject)
         if isinstance(found, Reply):
-            self.stopped.add(handle)
+            self.exhausted.add(handle)
         return found
 
     def do_setstate(self, handle, subject, place):
-        if handle in self.stopped:
+        if handle in self.exhausted:
             return Reply("ok")
         return super().do_setstate(handle, subject, max(-WORD, min(WORD - 1, operator.index(place))))
 

@@ -2984,7 +2984,7 @@ bytes h2
 """,
     ),
     Case(
-        "what is added before an iterator stops is given, and after that nothing",
+        "what is added before an iterator is exhausted is given, and after that nothing",
         """
 new bytearray x0102
 iter h0
@@ -3477,7 +3477,7 @@ next h3
 """,
     ),
     Case(
-        "an iterator that has stopped before its view is released",
+        "an iterator that is exhausted before its view is released",
         """
 new bytes x61
 view h0
@@ -3615,7 +3615,7 @@ def drawn_iterators(draw):
             )
         )
         if turn % 15 == 14:
-            # in place of those that have stopped
+            # in place of those that are exhausted
             last += 1
             lines += ["iter h0", f"setstate h{last} {draw.below(3)}", "bytes h0"]
     return "\n".join(lines)
@@ -4630,7 +4630,7 @@ next h3                             99             !
 """,
     ),
     Case(
-        "an iterator that has stopped looks at no place",
+        "an exhausted iterator looks at no place",
         """
 new bytearray x                     h0
 iter h0                             h1
@@ -4677,7 +4677,7 @@ next h9                             stop           !
 """,
     ),
     Case(
-        "a released view refuses its iterator until that has stopped",
+        "a released view refuses its iterator until that is exhausted",
         """
 new bytes x6162                     h0
 view h0                             h1
