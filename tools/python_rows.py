@@ -3557,6 +3557,14 @@ set h6 (h3) 1
 set h6 0:1:1 h4
 set h6 0:1:1 [h4]
 set h6 h5:1:1 x61
+iter h6
+iadd h0 h7
+append h0 h7
+get h0 h7
+pop h0 h7
+set h6 0 h7
+set h6 0:1:1 h7
+set h6 h7 0
 bytes h0
 next h3
 next h4
@@ -4479,22 +4487,38 @@ iter h1                             h4
 iter h2                             h5
 extend h0 h3                        ! TypeError    !
 bytes h0                            b'abc'         !
+set h0 0:1:1 h3                     ! TypeError    !
 set h0 0:1:1 h4                     ! TypeError    !
 set h0 0:3:2 h5                     ! TypeError    !
+extend h0 h4                        ! TypeError    !
+extend h0 h5                        ! TypeError    !
+bytes h0                            b'abc'         !
+init h0 h3                          ! TypeError    !
 init h0 h4                          ! TypeError    !
+init h0 h5                          ! TypeError    !
+iadd h0 h3                          ! TypeError
 iadd h0 h4                          ! TypeError
+iadd h0 h5                          ! TypeError
 bytes h0                            b'abc'         !
 next h3                             97             !
 next h4                             100            !
 next h5                             100            !
 new bytearray x0000                 h6
 view h6                             h7
-cast h7 'c'                         h8
-set h8 0 h4                         ! TypeError
-cast h7 '2s'                        h9
-set h9 0 h4                         ! TypeError    !
-cast h7 '?'                         h10
-set h10 0 h4                        ! TypeError    !
+iter h7                             h8
+iadd h6 h8                          ! TypeError
+extend h6 h8                        ! TypeError    !
+set h6 0:1:1 h8                     ! TypeError    !
+set h6 0:2:2 h8                     ! TypeError    !
+init h6 h8                          ! TypeError    !
+set h7 0:1:1 h8                     ! TypeError
+cast h7 'c'                         h9
+set h9 0 h8                         ! TypeError
+cast h7 '2s'                        h10
+set h10 0 h8                        ! TypeError    !
+cast h7 '?'                         h11
+set h11 0 h8                        ! TypeError    !
+next h8                             0              !
 bytes h6                            b'\\x00\\x00'   !
 new bytes h3                        ! TypeError    !
 """,
