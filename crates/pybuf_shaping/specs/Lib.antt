@@ -1,0 +1,6 @@
+pub mod Blanks
+pub mod Digits
+pub mod Padding
+pub mod Tabs
+pub mod Tables
+pub mod Laws
