@@ -75,6 +75,6 @@ abbrev pub bytes_of_hex : List ℕ → Result (List ℕ) Fault
 bytes_of_hex [] = Ok []
 bytes_of_hex (c ∷ []) = if is_blank c then Ok [] else Err fault.Value
 bytes_of_hex (c ∷ d ∷ text) = if is_blank c then bytes_of_hex (d ∷ text) else (do
-    byte ← byte_of_digits (hex_digit_value c) (hex_digit_value d)
-    bytes ← bytes_of_hex text
-    Ok (byte ∷ bytes))
+  byte ← byte_of_digits (hex_digit_value c) (hex_digit_value d)
+  bytes ← bytes_of_hex text
+  Ok (byte ∷ bytes))

@@ -1,6 +1,7 @@
 -- What holds of the digits, of tables and of widths.
-use Rattle.std.specs.Prelude.{◌≡◌, ◌==◌, ◌<◌, ◌≤◌, ℕ, not, ℤ, pos, List, ◌∷◌, [], ◌++◌, length, map, Ok, ◌⊎◌, IfOk, false}
-use Rattle.std.specs.List.{All, flat_map, filter}
+use Rattle.std.specs.Prelude.{◌≡◌, ◌==◌, ◌<◌, ◌≤◌, ℕ, Bool, not, ℤ, pos, List, ◌∷◌, [], ◌++◌, length, map, Ok, ◌⊎◌, IfOk, false}
+use Rattle.std.specs.List.{All, flat_map, filter, list_any}
+use Rattle.std.specs.Str.{byte}
 use Rattle.hex.specs.Hex.{encode_lower, is_hex_digit}
 use Rattle.pybuf_shaping.specs.Digits.{bytes_of_hex, separated, groups_from_left, groups_from_right}
 use Rattle.pybuf_shaping.specs.Tables.{all_bytes, translated, counterpart, table_of}
@@ -45,7 +46,8 @@ without b text = filter (λ other. not (other == b)) text
 
 -- Without its separators, a text in groups is the digits of the bytes one after another.
 abbrev pub SeparatorsLeftOut : ℕ → List (List ℕ) → Type 0
-SeparatorsLeftOut separator groups = is_hex_digit separator ≡ false → without separator (separated separator groups) ≡ encode_lower (flat_map (λ group. group) groups)
+SeparatorsLeftOut separator groups = AreBytes (flat_map (λ group. group) groups) → is_hex_digit separator ≡ false →
+    without separator (separated separator groups) ≡ encode_lower (flat_map (λ group. group) groups)
 
 -- ---- tables
 
@@ -71,7 +73,10 @@ pub record AreWideOrSame (width : ℤ) (fill : ℕ) (bytes : List ℕ) : Type 0 
 
 -- ---- tabs
 
+abbrev pub holds_tab : List ℕ → Bool
+holds_tab bytes = list_any (λ b. b == byte "\t") bytes
+
 -- no tab is left, and without one nothing changes
 pub record TabsAreSpaces (size : ℕ) (bytes : List ℕ) : Type 0 where
-  pub none : without 9 (expanded_from size 0 bytes) ≡ expanded_from size 0 bytes
-  pub same : without 9 bytes ≡ bytes → expanded_from size 0 bytes ≡ bytes
+  pub none : holds_tab (expanded_from size 0 bytes) ≡ false
+  pub same : holds_tab bytes ≡ false → expanded_from size 0 bytes ≡ bytes

@@ -68,12 +68,12 @@ fn separated_text(
     requires whole { length bytes.now ≤ first + count * size }
     ensures { Gives (fitted_text (spec.separated separator (take first bytes.now ∷ spec.groups_of size count (drop first bytes.now)))) result }
 {
-    let total = 2 * bytes.len() + count;
-    if total > isize::MAX as usize {
+    let total = 2 * bytes.len() as u128 + count as u128;
+    if total > isize::MAX as u128 {
         return Err(Halt::Refused(Fault::Overflow));
     }
     let (group, others) = bytes.split_at(first);
-    let mut text = Vec::with_capacity(alloc, total)?;
+    let mut text = Vec::with_capacity(alloc, total as usize)?;
     push_digits(&mut text, group)?;
     push_groups(&mut text, separator, size, count, others)?;
     Ok(Text::from_utf8(text))
@@ -96,12 +96,7 @@ fn separator_in(separator: &[u8]) -> Result<u8, Fault>
 }
 
 /// The digits in groups of a size, by the side that groups are counted from.
-fn text_by_groups(
-    alloc: Global,
-    separator: &[u8],
-    size: isize,
-    bytes: &[u8],
-) -> Result<Text, Halt>
+fn text_by_groups(alloc: Global, separator: &[u8], size: isize, bytes: &[u8]) -> Result<Text, Halt>
     requires some_bytes { 0 < length bytes.now }
     requires some_size { size ≢ pos 0 }
     ensures { Gives (spec.text_by_groups separator.now size bytes.now) result }
@@ -110,19 +105,21 @@ fn text_by_groups(
     let width = size.unsigned_abs();
     let count = (bytes.len() - 1) / width;
     if size > 0 {
-        separated_text(alloc, byte, bytes.len() - count * width, width, count, bytes)
+        separated_text(
+            alloc,
+            byte,
+            bytes.len() - count * width,
+            width,
+            count,
+            bytes,
+        )
     } else {
         separated_text(alloc, byte, width.min(bytes.len()), width, count, bytes)
     }
 }
 
 /// The digits of bytes, where a separator may be given.
-fn text_of(
-    alloc: Global,
-    separator: Option<&[u8]>,
-    size: isize,
-    bytes: &[u8],
-) -> Result<Text, Halt>
+fn text_of(alloc: Global, separator: Option<&[u8]>, size: isize, bytes: &[u8]) -> Result<Text, Halt>
     ensures { Gives (spec.hex_text (option_copied separator.entry) size bytes.now) result }
 {
     if bytes.is_empty() {
@@ -145,12 +142,7 @@ fn text_of(
 /// Refused, where there are bytes, a separator and a size other than 0, with `ValueError` exactly for a
 /// separator that isn't one byte below 128, and then with `OverflowError` exactly where the text is more
 /// than `isize::MAX` bytes.
-pub fn hex_text(
-    alloc: Global,
-    bytes: &[u8],
-    separator: Option<&[u8]>,
-    size: isize,
-) -> Tried<Text>
+pub fn hex_text(alloc: Global, bytes: &[u8], separator: Option<&[u8]>, size: isize) -> Tried<Text>
     ensures { IfOk result (λ outcome. outcome ≡ outcome_of (spec.hex_text (option_copied separator.entry) size bytes.now)) }
 {
     tried(text_of(alloc, separator, size, bytes))

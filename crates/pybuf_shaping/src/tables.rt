@@ -11,7 +11,7 @@ pub fn identity_table(alloc: Global) -> Made<ByteList>
     ensures { IfOk result (λ table. table ≡ spec.all_bytes) }
 {
     let mut table = Vec::with_capacity(alloc, 256)?;
-    for byte in 0..256 {
+    for byte in 0..256usize {
         table.push(byte as u8)?;
     }
     Ok(ByteList::from_vec(table))
@@ -78,12 +78,7 @@ fn mapped(alloc: Global, bytes: &[u8], table: &[u8]) -> Made<ByteList>
 }
 
 /// The bytes without those to be dropped, each other mapped by its entry of the table.
-fn mapped_without(
-    alloc: Global,
-    bytes: &[u8],
-    table: &[u8],
-    dropped: &[u8],
-) -> Made<ByteList>
+fn mapped_without(alloc: Global, bytes: &[u8], table: &[u8], dropped: &[u8]) -> Made<ByteList>
     requires { length table.now ≡ 256 }
     ensures { IfOk result (λ list. list ≡ spec.translated table.now dropped.now bytes.now) }
 {

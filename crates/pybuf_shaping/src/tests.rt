@@ -90,6 +90,7 @@ fn tabs_become_spaces(rt: HostRuntime) -> Result<(), Fail> {
 #[test]
 fn bytes_are_mapped(rt: HostRuntime) -> Result<(), Fail> {
     let answer = make_table(rt.alloc(), b"aba", b"xyz")?;
+    assert!(rt; bytes(&answer).is_ok());
     if let Outcome::Done(table) = answer {
         let mapped = translate(rt.alloc(), b"cabbage", table.as_slice(), b"")?;
         assert!(rt; mapped.as_slice() == b"cxyyxge".as_slice());

@@ -1,0 +1,4 @@
+pub mod GroupLemmas
+pub mod ReadLemmas
+pub mod TableLemmas
+pub mod TabLemmas

@@ -1,0 +1,10 @@
+use Rattle.std.proofs.Common.{◌≡◌, arith, sym, ◌∙◌}
+use Rattle.std.proofs.lemmas.Grind.{common_steps}
+use Rattle.pybuf_shaping.proofs.TableLemmas.{range_more, all_bytes-is}
+use Rattle.pybuf_shaping.proofs.tables.identity_table.Goals as goal
+
+pub loop-byte-preserved : goal.loop-byte-preserved
+loop-byte-preserved c = grind (arith, common_steps, range_more c.loop-byte.byte)
+
+pub returns : goal.returns
+returns c = grind (arith, common_steps, all_bytes-is)
