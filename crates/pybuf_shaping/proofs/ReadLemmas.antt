@@ -1,9 +1,9 @@
 -- Digits that are read, a pair at a time.
-use Rattle.std.proofs.Common.{◌≡◌, refl, sym, ap, ◌∙◌, ℕ, ◌<◌, ◌+◌, ◌*◌, ◌/◌, ◌%◌, List, [], ◌∷◌, ◌++◌, Result, Ok, Err, Option, Some, None, Bool, true, false, not, cond, length, get_or, take, drop, eq-eqb, slice_index, inl, inr, ◌==◌, arith}
+use Rattle.std.proofs.Common.{◌≡◌, refl, sym, ap, ◌∙◌, ℕ, ◌<◌, ◌+◌, ◌*◌, ◌/◌, ◌%◌, List, [], ◌∷◌, ◌++◌, Result, Ok, Err, Some, Bool, true, false, not, cond, length, get_or, take, drop, eq-eqb, slice_index, inl, inr, ◌==◌, arith}
 use Rattle.std.specs.Prelude.{is_some}
 use Rattle.std.proofs.lemmas.Bool.{cases_eq, false≢true}
 use Rattle.std.proofs.lemmas.Bool.Decides.{nat_tests}
-use Rattle.std.specs.List.{All, flat_map, filter, list_all}
+use Rattle.std.specs.List.{All, flat_map}
 use Rattle.std.proofs.lemmas.List.{append_assoc, drop_more, take_at, drop_at}
 use Rattle.std.proofs.lemmas.List.Sums.{AllPass-from_list_all}
 use Rattle.std.proofs.lemmas.List.Elements.{All-head, All-tail, All-same, All-take, All-drop, filter-append}
@@ -13,7 +13,7 @@ use Rattle.pybuf_value.specs.declared.faults.Fault.{Fault}
 use Rattle.pybuf_value.specs.declared.faults.Fault.TheVariants as fault
 use Rattle.pybuf_value.specs.Refusing.{◌>>=◌}
 use Rattle.pybuf_shaping.specs.Blanks.{is_blank}
-use Rattle.pybuf_shaping.specs.Digits.{byte_of_digits, bytes_of_hex, behind, separated}
+use Rattle.pybuf_shaping.specs.Digits.{byte_of_digits, bytes_of_hex, behind}
 use Rattle.pybuf_shaping.specs.Laws.{DigitsReadBack, SeparatorsLeftOut, without}
 
 -- bytes that stand before those of what is left of a text

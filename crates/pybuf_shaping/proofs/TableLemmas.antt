@@ -1,11 +1,11 @@
 -- Tables of all bytes, and bytes mapped by them.
-use Rattle.std.proofs.Common.{◌≡◌, ℕ, ◌+◌, ◌<◌, ◌≤◌, ◌==◌, Bool, true, false, not, cond, Ok, Err, zero, suc, List, [], ◌∷◌, ◌++◌, length, map, slice_index, get_or, set, take, drop, refl, ap, sym, ◌∙◌, arith}
+use Rattle.std.proofs.Common.{◌≡◌, ℕ, ◌+◌, ◌<◌, ◌==◌, Bool, true, false, not, cond, Ok, Err, List, [], ◌∷◌, ◌++◌, length, map, slice_index, get_or, drop, refl, ap, sym, ◌∙◌, arith}
 use Rattle.std.specs.List.{All, range_with_len, filter}
 use Rattle.std.specs.Prelude.{IfOk}
 use Rattle.std.proofs.lemmas.List.{map-id, drop_all}
 use Rattle.std.proofs.lemmas.List.FromFn.{fill_by_all, get_or-range_with_len, get_or-map-range_with_len, length-range_with_len, map-range_with_len_more}
 use Rattle.std.proofs.lemmas.List.Elements.{All-head, All-tail}
-use Rattle.pybuf_shaping.specs.Tables.{all_bytes, counterpart, is_among, translated, table_of}
+use Rattle.pybuf_shaping.specs.Tables.{all_bytes, counterpart, is_among, translated}
 use Rattle.pybuf_value.specs.declared.faults.Fault.TheVariants as fault
 use Rattle.pybuf_shaping.specs.Laws.{ByIdentity, EachOnce}
 

@@ -1,5 +1,5 @@
 -- Bytes mapped by a table of 256 bytes.
-use Rattle.std.specs.Prelude.{ℕ, Bool, ◌==◌, not, List, [], ◌∷◌, length, map, slice_index, Result, Ok, Err, if◌then◌else◌}
+use Rattle.std.specs.Prelude.{ℕ, Bool, ◌==◌, not, List, ◌∷◌, length, map, slice_index, Result, Ok, Err, if◌then◌else◌}
 use Rattle.std.specs.List.{list_any, filter, range_with_len}
 use Rattle.pybuf_value.specs.declared.faults.Fault.{Fault}
 use Rattle.pybuf_value.specs.declared.faults.Fault.TheVariants as fault

@@ -87,19 +87,26 @@ fn tabs_become_spaces(rt: HostRuntime) -> Result<(), Fail> {
     Ok(())
 }
 
+/// The bytes by a table, none where that hasn't 256 bytes.
+fn mapped(alloc: Global, bytes: &[u8], table: &[u8], dropped: &[u8]) -> Result<ByteList, Fail> {
+    if table.len() != 256 {
+        return Ok(ByteList::new(alloc));
+    }
+    let list = translate(alloc, bytes, table, dropped)?;
+    Ok(list)
+}
+
 #[test]
 fn bytes_are_mapped(rt: HostRuntime) -> Result<(), Fail> {
     let answer = make_table(rt.alloc(), b"aba", b"xyz")?;
-    assert!(rt; bytes(&answer).is_ok());
-    if let Outcome::Done(table) = answer {
-        let mapped = translate(rt.alloc(), b"cabbage", table.as_slice(), b"")?;
-        assert!(rt; mapped.as_slice() == b"cxyyxge".as_slice());
-        let mapped = translate(rt.alloc(), b"cabbage", table.as_slice(), b"ge")?;
-        assert!(rt; mapped.as_slice() == b"cxyyx".as_slice());
-    }
+    let table = bytes(&answer).unwrap_or(b"");
+    let list = mapped(rt.alloc(), b"cabbage", table, b"")?;
+    assert!(rt; list.as_slice() == b"cxyyxge".as_slice());
+    let list = mapped(rt.alloc(), b"cabbage", table, b"ge")?;
+    assert!(rt; list.as_slice() == b"cxyyx".as_slice());
     let identity = identity_table(rt.alloc())?;
-    let mapped = translate(rt.alloc(), b"\x00\xff", identity.as_slice(), b"")?;
-    assert!(rt; mapped.as_slice() == b"\x00\xff".as_slice());
+    let list = mapped(rt.alloc(), b"\x00\xff", identity.as_slice(), b"")?;
+    assert!(rt; list.as_slice() == b"\x00\xff".as_slice());
     let answer = make_table(rt.alloc(), b"ab", b"x")?;
     assert!(rt; bytes(&answer) == Err(Fault::Value));
     Ok(())

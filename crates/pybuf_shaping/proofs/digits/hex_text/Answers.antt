@@ -1,4 +1,4 @@
-use Rattle.std.proofs.Common.{subst, to_z-of_z, w64}
+use Rattle.std.proofs.Common.{subst, to_z-of_z}
 use Rattle.std.specs.Option.{option_copied}
 use Rattle.pybuf_value.specs.Halting.{Gives}
 use Rattle.pybuf_shaping.specs.Digits.{hex_text}

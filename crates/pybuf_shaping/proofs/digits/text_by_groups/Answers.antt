@@ -1,4 +1,4 @@
-use Rattle.std.proofs.Common.{◌≡◌, subst, ap, sym, ◌∙◌, to_z-of_z, w64, nat_abs, pos, false}
+use Rattle.std.proofs.Common.{◌≡◌, subst, ap, sym, ◌∙◌, to_z-of_z, nat_abs, pos, false}
 use Rattle.std.specs.Int.Signed.{lt_z}
 use Rattle.pybuf_value.specs.Halting.{Gives}
 use Rattle.pybuf_shaping.proofs.GroupLemmas.{from_left_text}

@@ -1,5 +1,4 @@
 use Rattle.std.proofs.Common.{◌≡◌, ◌<◌, ◌+◌, ◌++◌, ◌∷◌, [], length, drop, arith, ap, sym, ◌∙◌}
-use Rattle.std.proofs.lemmas.Grind.{common_steps}
 use Rattle.pybuf_shaping.specs.Digits.{bytes_of_hex}
 use Rattle.pybuf_shaping.proofs.ReadLemmas.{bytes_before, blank_step, pair_step}
 use Rattle.pybuf_shaping.proofs.reading.read_pairs.Goals as goal

@@ -1,4 +1,4 @@
-use Rattle.std.proofs.Common.{◌≡◌, arith, sym, ◌∙◌}
+use Rattle.std.proofs.Common.{arith}
 use Rattle.std.proofs.lemmas.Grind.{common_steps}
 use Rattle.pybuf_shaping.proofs.TableLemmas.{range_more, all_bytes-is}
 use Rattle.pybuf_shaping.proofs.tables.identity_table.Goals as goal

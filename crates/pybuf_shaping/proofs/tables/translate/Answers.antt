@@ -1,4 +1,4 @@
-use Rattle.std.proofs.Common.{◌≡◌, ap, sym, ◌∙◌, subst, map, slice_index, length, [], ◌==◌}
+use Rattle.std.proofs.Common.{◌≡◌, ap, sym, ◌∙◌, subst, map, slice_index, length, []}
 use Rattle.std.specs.Prelude.{IfOk}
 use Rattle.std.proofs.lemmas.Bool.{eqb-true}
 use Rattle.std.proofs.lemmas.List.{nil_from_length}
