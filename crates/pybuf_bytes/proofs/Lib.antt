@@ -1,1 +1,3 @@
 pub mod Ascii
+pub mod RepeatLemmas
+pub mod AffixLemmas

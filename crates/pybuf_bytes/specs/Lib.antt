@@ -1,1 +1,3 @@
 pub mod Options
+pub mod Arguments
+pub mod Searching

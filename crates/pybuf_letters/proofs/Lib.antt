@@ -1,0 +1,8 @@
+mod Places
+mod ByteClasses
+mod Runs
+mod LastRuns
+mod LineEnds
+mod CaseLaws
+mod RunLaws
+mod LineLaws

@@ -1,0 +1,26 @@
+//! Classes and cases of bytes, and bytes cut at their ends, at their blanks and into lines.
+#![tactic(auto)]
+
+mod blanks;
+mod cases;
+mod classes;
+mod laws;
+mod lines;
+mod parts;
+mod strips;
+
+pub use blanks::{blank_parts_from_last, rsplit_at_blanks, split_at_blanks};
+pub use cases::{capitalize, lower, swapcase, title, upper};
+pub use classes::{
+    is_alnum, is_alpha, is_ascii, is_digit, is_lower, is_py_ascii_whitespace, is_space, is_title,
+    is_upper,
+};
+pub use laws::{
+    cases_alone_are_changed, cases_settle, cuts_lose_blanks_alone, lines_are_the_bytes,
+    runs_come_back, titles_stay,
+};
+pub use lines::split_lines;
+pub use strips::{strip, strip_left, strip_right};
+
+#[cfg(test)]
+mod tests;

@@ -1,0 +1,55 @@
+//! Bytes without those at their ends that a set holds.
+ghost use Rattle.std.specs.Prelude.{◌≡◌, ℕ};
+ghost use Rattle.std.specs.Option.{option_copied};
+ghost use Rattle.bstr.specs.Bytes.{is_in};
+ghost use Rattle.pybuf_letters.specs.Classes.{is_blank};
+ghost use Rattle.pybuf_letters.specs.Strips as spec;
+
+use bstr::ByteSlice;
+
+/// The six blanks.
+pub(crate) fn blanks() -> &'static [u8]
+    ensures { (b : ℕ) → is_in result.now b ≡ is_blank b }
+{
+    b" \t\n\x0b\x0c\r"
+}
+
+/// The bytes that go: those that are named, or else the blanks.
+fn set_of(chars: Option<&[u8]>) -> &[u8]
+    ensures { (b : ℕ) → is_in result.now b ≡ spec.goes (option_copied chars.entry) b }
+{
+    match chars {
+        Some(chars) => chars,
+        None => blanks(),
+    }
+}
+
+/// The bytes from the first on that isn't among `chars`, or isn't a blank where no `chars` are given,
+/// lent, as of Python's `bytes.lstrip` (Library reference, "Bytes and Bytearray Operations").
+pub fn strip_left<'a>(bytes: &'a [u8], chars: Option<&[u8]>) -> &'a [u8]
+    ensures { result.now ≡ spec.stripped_left (spec.goes (option_copied chars.entry)) bytes.now }
+{
+    match bytes.find_not_byteset(set_of(chars)) {
+        None => &bytes[bytes.len()..],
+        Some(start) => &bytes[start..],
+    }
+}
+
+/// The bytes up to the last that isn't among `chars`, or isn't a blank where no `chars` are given,
+/// lent, as of Python's `bytes.rstrip`.
+pub fn strip_right<'a>(bytes: &'a [u8], chars: Option<&[u8]>) -> &'a [u8]
+    ensures { result.now ≡ spec.stripped_right (spec.goes (option_copied chars.entry)) bytes.now }
+{
+    match bytes.rfind_not_byteset(set_of(chars)) {
+        None => &bytes[..0],
+        Some(last) => &bytes[..last + 1],
+    }
+}
+
+/// The bytes without those at both ends that are among `chars`, or are blanks where no `chars` are
+/// given, lent, as of Python's `bytes.strip`.
+pub fn strip<'a>(bytes: &'a [u8], chars: Option<&[u8]>) -> &'a [u8]
+    ensures { result.now ≡ spec.stripped (spec.goes (option_copied chars.entry)) bytes.now }
+{
+    strip_right(strip_left(bytes, chars), chars)
+}

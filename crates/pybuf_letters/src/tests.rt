@@ -1,0 +1,2 @@
+//! Bytes, with ample memory.
+use super::*;

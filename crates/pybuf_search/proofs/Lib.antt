@@ -1,0 +1,4 @@
+pub mod MatchLaws
+pub mod CutLemmas
+pub mod JoinLaws
+pub mod RepeatLemmas
