@@ -2,3 +2,4 @@ pub mod GroupLemmas
 pub mod ReadLemmas
 pub mod TableLemmas
 pub mod TabLemmas
+pub mod ReplaceLemmas

@@ -5,6 +5,7 @@ use Rattle.std.specs.Str.{byte}
 use Rattle.hex.specs.Hex.{encode_lower, is_hex_digit}
 use Rattle.pybuf_shaping.specs.Digits.{bytes_of_hex, separated, groups_from_left, groups_from_right}
 use Rattle.pybuf_shaping.specs.Tables.{all_bytes, translated, counterpart, table_of}
+use Rattle.pybuf_shaping.specs.Replacing.{replaced}
 use Rattle.pybuf_shaping.specs.Padding.{centered, justified_left, justified_right, zero_filled}
 use Rattle.pybuf_shaping.specs.Tabs.{expanded_from}
 
@@ -80,3 +81,9 @@ holds_tab bytes = list_any (λ b. b == byte "\t") bytes
 pub record TabsAreSpaces (size : ℕ) (bytes : List ℕ) : Type 0 where
   pub none : holds_tab (expanded_from size 0 bytes) ≡ false
   pub same : holds_tab bytes ≡ false → expanded_from size 0 bytes ≡ bytes
+
+-- ---- replacing
+
+-- a needle in place of its own matches changes nothing
+abbrev pub BySame : ℤ → List ℕ → List ℕ → Type 0
+BySame most old bytes = replaced most old old bytes ≡ bytes

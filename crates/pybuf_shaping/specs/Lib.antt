@@ -3,4 +3,5 @@ pub mod Digits
 pub mod Padding
 pub mod Tabs
 pub mod Tables
+pub mod Replacing
 pub mod Laws

@@ -1,6 +1,8 @@
-//! Laws of the definitions that the contracts cite. Each stands on a function with an empty body.
+//! Laws of the definitions that the contracts cite. Each stands on a function that does nothing.
 ghost use Rattle.std.specs.Prelude.{◌<◌, ℕ, ℤ, List, length};
-ghost use Rattle.pybuf_shaping.specs.Laws.{DigitsReadBack, GroupsAreCounted, SeparatorsLeftOut, ByIdentity, EachOnce, AreWideOrSame, TabsAreSpaces};
+ghost use Rattle.pybuf_shaping.specs.Laws.{DigitsReadBack, GroupsAreCounted, SeparatorsLeftOut, ByIdentity, EachOnce, AreWideOrSame, TabsAreSpaces, BySame};
+
+use pybuf_search::split_joins_back;
 
 /// Reading the digits of bytes gives the bytes.
 pub fn hex_reads_back()
@@ -37,3 +39,10 @@ pub fn wide_or_the_same()
 pub fn tabs_are_spaces()
     ensures { (size : ℕ) (bytes : List ℕ) → TabsAreSpaces size bytes }
 {}
+
+/// A needle in place of its own matches changes nothing. (What was split joins back.)
+pub fn replacing_by_the_same()
+    ensures { (most : ℤ) (old bytes : List ℕ) → BySame most old bytes }
+{
+    split_joins_back();
+}

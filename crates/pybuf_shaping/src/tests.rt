@@ -111,3 +111,29 @@ fn bytes_are_mapped(rt: HostRuntime) -> Result<(), Fail> {
     assert!(rt; bytes(&answer) == Err(Fault::Value));
     Ok(())
 }
+
+/// Bytes, a needle, others, a number, and what Python's `replace` gives of them.
+const REPLACED: [(&[u8], &[u8], &[u8], isize, &[u8]); 9] = [
+    (b"Python", b"", b".", -1, b".P.y.t.h.o.n."),
+    (b"Python", b"", b".", 2, b".P.ython"),
+    (b"", b"", b"ab", -1, b"ab"),
+    (b"", b"", b"ab", 0, b""),
+    (b"aaaa", b"aa", b"xyz", -1, b"xyzxyz"),
+    (b"banana", b"an", b"", 1, b"bana"),
+    (b"banana", b"an", b"AN", 1, b"bANana"),
+    (b"banana", b"an", b"longer", 0, b"banana"),
+    (b"banana", b"q", b"longer", -1, b"banana"),
+];
+
+#[test]
+fn matches_are_replaced(rt: HostRuntime) -> Result<(), Fail> {
+    for (given, old, new, most, wanted) in &REPLACED {
+        let answer = replace(rt.alloc(), given, old, new, *most)?;
+        assert!(rt; bytes(&answer) == Ok(*wanted));
+    }
+    let list = replace_in_place(rt.alloc(), b"banana", b"an", b"xy", Some(1))?;
+    assert!(rt; list.as_slice() == b"bxyana".as_slice());
+    let list = replace_in_place(rt.alloc(), b"banana", b"an", b"xy", None)?;
+    assert!(rt; list.as_slice() == b"bxyxya".as_slice());
+    Ok(())
+}
