@@ -1,3 +1,2 @@
 pub mod Ascii
 pub mod RepeatLemmas
-pub mod AffixLemmas

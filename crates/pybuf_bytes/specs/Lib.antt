@@ -1,3 +1,3 @@
 pub mod Options
-pub mod Arguments
+pub mod Needles
 pub mod Searching

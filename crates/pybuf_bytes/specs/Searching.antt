@@ -18,9 +18,9 @@ use Rattle.bstr.specs.Text.{repeated}
 use Rattle.pybuf_search.specs.Joins.{fitted, times}
 use Rattle.pybuf_search.specs.Parts.{split_parts, rsplit_parts, partition_of, rpartition_of}
 use Rattle.pybuf_letters.specs.Blanks.{blank_parts, blank_rparts}
-use Rattle.pybuf_search.specs.Ends.{begins_with, ends_with}
 use Rattle.pybuf_bytes.specs.declared.needles.Needle.{Needle}
-use Rattle.pybuf_bytes.specs.Arguments.{adjusted, in_range, between_bounds, needle_bytes, separator_in, single_or_any_of}
+use Rattle.pybuf_arguments.specs.Bounds.{adjusted, in_range}
+use Rattle.pybuf_bytes.specs.Needles.{needle_bytes}
 
 -- ---- searches
 
@@ -65,18 +65,6 @@ search_of sub start end len = do
 abbrev pub search_answered : Outcome (Vec ℕ × Range ℕ) → Outcome (List ℕ × Range ℕ)
 search_answered (outcome.Done search) = outcome.Done (search.0.items, search.1)
 search_answered (outcome.Refused f) = outcome.Refused f
-
--- ---- what bytes begin and end with
-
-abbrev pub test_in : (List ℕ → List ℕ → Bool) → List (ℕ × Snap) → Value → Option (List ℕ) → Result Bool Fault
-test_in test pairs affix None = Ok false
-test_in test pairs affix (Some part) = single_or_any_of (test part) pairs affix
-
-abbrev pub startswith_of : List (ℕ × Snap) → Value → Option ℤ → Option ℤ → List ℕ → Result Bool Fault
-startswith_of pairs affix start end bytes = test_in begins_with pairs affix (between_bounds start end bytes)
-
-abbrev pub endswith_of : List (ℕ × Snap) → Value → Option ℤ → Option ℤ → List ℕ → Result Bool Fault
-endswith_of pairs affix start end bytes = test_in ends_with pairs affix (between_bounds start end bytes)
 
 -- ---- cuts
 

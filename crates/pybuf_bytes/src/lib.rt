@@ -1,7 +1,6 @@
 //! Strings of bytes, and what they are made of.
 #![tactic(auto)]
 
-mod affixes;
 mod arguments;
 mod inner;
 mod needles;
@@ -9,19 +8,21 @@ mod options;
 mod search_methods;
 mod searching;
 
-pub use affixes::{bytes_lent, endswith, single_or_tuple_any, startswith};
-pub use arguments::{
-    AnyStrWrapper, ByteInnerFindOptions, ByteInnerSplitOptions, SplitArgs, StartsEndsWithArgs,
-    StringRange, adjust_indices,
-};
+pub use arguments::{ByteInnerFindOptions, ByteInnerSplitOptions};
 pub use inner::PyBytesInner;
 pub use needles::Needle;
 pub use options::ByteInnerNewOptions;
+pub use pybuf_arguments::{
+    AnyStrWrapper, SplitArgs, StartsEndsWithArgs, StringRange, adjust_indices, bytes_lent,
+    endswith, single_or_tuple_any, startswith,
+};
 pub use searching::{
     concat_with, contains_needle, count_between, find_between, partition_at, rpartition_at,
     rsplit_at, split_at,
 };
 
+#[cfg(test)]
+mod search_tests;
 #[cfg(test)]
 mod tests;
 #[cfg(test)]

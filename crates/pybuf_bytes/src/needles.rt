@@ -1,7 +1,7 @@
 //! What is searched for.
 ghost use Rattle.std.specs.Prelude.{◌≡◌, IfOk};
 ghost use Rattle.pybuf_value.specs.Halting.{Gives, outcome_of};
-ghost use Rattle.pybuf_bytes.specs.Arguments as spec;
+ghost use Rattle.pybuf_bytes.specs.Needles as spec;
 
 use crate::inner::PyBytesInner;
 use pybuf_value::{

@@ -6,9 +6,9 @@ ghost use Rattle.pybuf_search.specs.Joins.{items_of};
 ghost use Rattle.pybuf_bytes.specs.Searching as spec;
 ghost use Rattle.pybuf_bytes.specs.Searching.{IsSearch};
 
-use crate::affixes::bytes_lent;
-use crate::arguments::{ByteInnerFindOptions, ByteInnerSplitOptions, StringRange};
+use crate::arguments::{ByteInnerFindOptions, ByteInnerSplitOptions};
 use crate::needles::Needle;
+use pybuf_arguments::{StringRange, bytes_lent};
 use pybuf_letters::{rsplit_at_blanks, split_at_blanks};
 use pybuf_search::{added, holds_needle, number_of_matches, partition, rpartition};
 use pybuf_value::{ByteLists, ByteOr, Fault, Lender, Made, Outcome, Tried, Value};

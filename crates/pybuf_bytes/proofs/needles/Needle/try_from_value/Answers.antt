@@ -1,4 +1,4 @@
-use Rattle.pybuf_bytes.specs.Arguments.{needle_in}
+use Rattle.pybuf_bytes.specs.Needles.{needle_in}
 use Rattle.pybuf_bytes.proofs.needles.Needle.try_from_value.Goals as goal
 
 pub returns : goal.returns

@@ -1,18 +1,59 @@
 //! What bytes begin and end with: one value that is read as bytes, or any of a tuple.
-ghost use Rattle.std.specs.Prelude.{◌≡◌, ℕ, Bool, List, Ok, Err, IfOk, MatchResult};
+ghost use Rattle.std.specs.Prelude.{◌≡◌, ℕ, Bool, List, Option, Some, None, Ok, Err, IfOk, MatchOption, MatchResult};
 ghost use Rattle.pybuf_value.specs.declared.values.Value.TheVariants as values;
 ghost use Rattle.pybuf_value.specs.Halting.{Gives, outcome_of};
 ghost use Rattle.pybuf_value.specs.Snaps.{bytes_in, content_read};
-ghost use Rattle.pybuf_bytes.specs.Arguments as spec;
-ghost use Rattle.pybuf_bytes.specs.Arguments.{IsTested};
-ghost use Rattle.pybuf_bytes.specs.Searching.{startswith_of, endswith_of};
+ghost use Rattle.pybuf_arguments.specs.Bounds.{range_if_any, between_bounds};
+ghost use Rattle.pybuf_arguments.specs.Affixes as spec;
+ghost use Rattle.pybuf_arguments.specs.Affixes.{IsTested};
 
-use crate::arguments::StartsEndsWithArgs;
+use crate::bounds::{StringRange, adjust_indices};
 use pybuf_search::{begins_with, ends_with};
 use pybuf_value::{
     Fault, Halt, Lender, Outcome, Scalar, Snap, SnapKind, Tried, Value, bytes_from_object, tried,
 };
 use std::alloc::Global;
+use std::ops::Range;
+
+/// What bytes are to begin or to end with, and the bounds between which they are looked at. An affix
+/// is a value that is read as bytes, or a tuple of such values.
+#[derive(Debug, Drop)]
+pub struct StartsEndsWithArgs {
+    pub affix: Value,
+    pub start: Option<i128>,
+    pub end: Option<i128>,
+}
+
+impl StartsEndsWithArgs {
+    /// The affix, and the range of the bounds in bytes of a length; no range exactly where neither
+    /// bound is there.
+    pub fn get_value(&self, len: usize) -> (&Value, Option<Range<usize>>)
+        ensures affix { result.0.now ≡ self.now.affix }
+        ensures range { result.1 ≡ range_if_any self.now.start self.now.end len }
+    {
+        match (self.start, self.end) {
+            (None, None) => (&self.affix, None),
+            (start, end) => (&self.affix, Some(adjust_indices(start, end, len))),
+        }
+    }
+
+    /// The affix, and the bytes between the bounds. `None` exactly where a bound is there and the
+    /// range's start passes its end.
+    pub fn prepare<'a>(&'a self, bytes: &'a [u8]) -> Option<(&'a Value, &'a [u8])>
+        ensures { MatchOption result (between_bounds self.now.start self.now.end bytes.now ≡ None) (λ pair. (pair.0.now ≡ self.now.affix) × (between_bounds self.now.start self.now.end bytes.now ≡ Some pair.1.now)) }
+    {
+        let (affix, range) = self.get_value(bytes.len());
+        match range {
+            None => Some((affix, bytes)),
+            Some(range) => {
+                if !range.is_normal() {
+                    return None;
+                }
+                Some((affix, &bytes[range]))
+            }
+        }
+    }
+}
 
 /// The bytes of what a handle names; the items of a view may lie apart.
 fn bytes_of_snap(snap: &Snap) -> Result<&[u8], Fault>
@@ -120,7 +161,7 @@ pub fn startswith<L: Lender>(
     args: &StartsEndsWithArgs,
     lender: &L,
 ) -> Tried<bool>
-    ensures { IfOk result (λ outcome. outcome ≡ outcome_of (startswith_of (L.pairs lender.now) args.now.affix args.now.start args.now.end bytes.now)) }
+    ensures { IfOk result (λ outcome. outcome ≡ outcome_of (spec.startswith_of (L.pairs lender.now) args.now.affix args.now.start args.now.end bytes.now)) }
 {
     match args.prepare(bytes) {
         None => Ok(Outcome::Done(false)),
@@ -146,7 +187,7 @@ pub fn endswith<L: Lender>(
     args: &StartsEndsWithArgs,
     lender: &L,
 ) -> Tried<bool>
-    ensures { IfOk result (λ outcome. outcome ≡ outcome_of (endswith_of (L.pairs lender.now) args.now.affix args.now.start args.now.end bytes.now)) }
+    ensures { IfOk result (λ outcome. outcome ≡ outcome_of (spec.endswith_of (L.pairs lender.now) args.now.affix args.now.start args.now.end bytes.now)) }
 {
     match args.prepare(bytes) {
         None => Ok(Outcome::Done(false)),
