@@ -98,7 +98,10 @@ fits-from_title after (b ∷ rest) h =
     both (fits_title after b) (fits_title_from (is_ascii_alphabetic b) rest) (fits-from_stays after b first) (fits-from_title (is_ascii_alphabetic b) rest later)
 
 pub title-stays : (bytes : List ℕ) → IsTrue (is_title bytes) ↔ (IsTrue (list_any is_ascii_alphabetic bytes) × (title bytes ≡ bytes))
-title-stays bytes =
-    (λ h. (first_of (list_any is_ascii_alphabetic bytes) (fits_title_from false bytes) h,
-        title_from-fits false bytes (second_of (list_any is_ascii_alphabetic bytes) (fits_title_from false bytes) h)),
-    λ h. both (list_any is_ascii_alphabetic bytes) (fits_title_from false bytes) h.0 (fits-from_title false bytes h.1))
+title-stays bytes = (
+  λ h. (
+    first_of (list_any is_ascii_alphabetic bytes) (fits_title_from false bytes) h,
+    title_from-fits false bytes (second_of (list_any is_ascii_alphabetic bytes) (fits_title_from false bytes) h),
+  ),
+  λ h. both (list_any is_ascii_alphabetic bytes) (fits_title_from false bytes) h.0 (fits-from_title false bytes h.1),
+)

@@ -36,11 +36,12 @@ pub right_starts : (cuts : ℕ) (bytes rest : List ℕ) (parts : List (List ℕ)
     → (parts ++ map reverse (runs_up_to (cuts - 0) (reverse rest)) ≡ map reverse (runs_up_to cuts (reverse bytes))) × AtRun (reverse rest)
 right_starts cuts bytes rest parts none is =
     let all : cuts - 0 ≡ cuts = omega arith in
-    let turned_rest : reverse rest ≡ next_run (reverse bytes) = ap reverse is ∙ reverse-stripped_right is_blank bytes in
-    (ap (λ (ps : List (List ℕ)). ps ++ map reverse (runs_up_to (cuts - 0) (reverse rest))) none
-    ∙ ap (λ (rs : List (List ℕ)). map reverse rs)
-        (ap (λ n. runs_up_to n (reverse rest)) all ∙ (ap (λ (r : List ℕ). runs_up_to cuts r) turned_rest ∙ runs_up_to-next_run cuts (reverse bytes))),
-    subst (λ (r : List ℕ). AtRun r) (sym turned_rest) (at-next_run (reverse bytes)))
+    let turned_rest : reverse rest ≡ next_run (reverse bytes) = ap reverse is ∙ reverse-stripped_right is_blank bytes in (
+      ap (λ (ps : List (List ℕ)). ps ++ map reverse (runs_up_to (cuts - 0) (reverse rest))) none
+          ∙ ap (λ (rs : List (List ℕ)). map reverse rs)
+          (ap (λ n. runs_up_to n (reverse rest)) all ∙ (ap (λ (r : List ℕ). runs_up_to cuts r) turned_rest ∙ runs_up_to-next_run cuts (reverse bytes))),
+      subst (λ (r : List ℕ). AtRun r) (sym turned_rest) (at-next_run (reverse bytes)),
+    )
 
 pub right_goes_on : (cuts i : ℕ) (rest next : List ℕ) (parts more whole : List (List ℕ)) → i < cuts → 0 < length rest
     → (parts ++ map reverse (runs_up_to (cuts - i) (reverse rest)) ≡ whole) × AtRun (reverse rest)
@@ -52,20 +53,21 @@ right_goes_on cuts i rest next parts more whole below some so_far pushed is =
     let inside : suffix_len (λ b. not (is_blank b)) rest ≤ length rest = suffix_len-le-length (λ b. not (is_blank b)) rest in
     let one_more : cuts - i ≡ suc (cuts - (i + 1)) = omega arith in
     let step : runs_up_to (cuts - i) (reverse rest) ≡ take (position_or_len is_blank (reverse rest)) (reverse rest) ∷ runs_up_to (cuts - (i + 1)) (next_blank (reverse rest)) =
-        ap (λ k. runs_up_to k (reverse rest)) one_more ∙ runs_up_to-more (cuts - (i + 1)) (reverse rest) so_far.1 (omega arith) in
+    ap (λ k. runs_up_to k (reverse rest)) one_more ∙ runs_up_to-more (cuts - (i + 1)) (reverse rest) so_far.1 (omega arith) in
     let run : reverse (take (position_or_len is_blank (reverse rest)) (reverse rest)) ≡ drop (length rest - suffix_len (λ b. not (is_blank b)) rest) rest =
-        ap reverse (sym (reverse-drop (suffix_len (λ b. not (is_blank b)) rest) rest inside)) ∙ reverse-reverse (drop (length rest - suffix_len (λ b. not (is_blank b)) rest) rest) in
+    ap reverse (sym (reverse-drop (suffix_len (λ b. not (is_blank b)) rest) rest inside)) ∙ reverse-reverse (drop (length rest - suffix_len (λ b. not (is_blank b)) rest) rest) in
     let turned_next : reverse next ≡ next_run (next_blank (reverse rest)) =
-        ap reverse is ∙ (reverse-stripped_right is_blank (take (length rest - suffix_len (λ b. not (is_blank b)) rest) rest)
-        ∙ ap next_run (reverse-take (suffix_len (λ b. not (is_blank b)) rest) rest inside)) in
+    ap reverse is ∙ (reverse-stripped_right is_blank (take (length rest - suffix_len (λ b. not (is_blank b)) rest) rest)
+    ∙ ap next_run (reverse-take (suffix_len (λ b. not (is_blank b)) rest) rest inside)) in
     let same : runs_up_to (cuts - (i + 1)) (reverse next) ≡ runs_up_to (cuts - (i + 1)) (next_blank (reverse rest)) =
-        ap (λ (r : List ℕ). runs_up_to (cuts - (i + 1)) r) turned_next ∙ runs_up_to-next_run (cuts - (i + 1)) (next_blank (reverse rest)) in
-    (ap (λ (ps : List (List ℕ)). ps ++ map reverse (runs_up_to (cuts - (i + 1)) (reverse next))) pushed
-    ∙ (append_assoc parts (drop (length rest - suffix_len (λ b. not (is_blank b)) rest) rest ∷ []) (map reverse (runs_up_to (cuts - (i + 1)) (reverse next)))
-    ∙ (ap (λ (rs : List (List ℕ)). parts ++ (drop (length rest - suffix_len (λ b. not (is_blank b)) rest) rest ∷ map reverse rs)) same
-    ∙ (ap (λ (r : List ℕ). parts ++ (r ∷ map reverse (runs_up_to (cuts - (i + 1)) (next_blank (reverse rest))))) (sym run)
-    ∙ (ap (λ (rs : List (List ℕ)). parts ++ map reverse rs) (sym step) ∙ so_far.0)))),
-    subst (λ (r : List ℕ). AtRun r) (sym turned_next) (at-next_run (next_blank (reverse rest))))
+    ap (λ (r : List ℕ). runs_up_to (cuts - (i + 1)) r) turned_next ∙ runs_up_to-next_run (cuts - (i + 1)) (next_blank (reverse rest)) in (
+      ap (λ (ps : List (List ℕ)). ps ++ map reverse (runs_up_to (cuts - (i + 1)) (reverse next))) pushed
+          ∙ (append_assoc parts (drop (length rest - suffix_len (λ b. not (is_blank b)) rest) rest ∷ []) (map reverse (runs_up_to (cuts - (i + 1)) (reverse next)))
+          ∙ (ap (λ (rs : List (List ℕ)). parts ++ (drop (length rest - suffix_len (λ b. not (is_blank b)) rest) rest ∷ map reverse rs)) same
+          ∙ (ap (λ (r : List ℕ). parts ++ (r ∷ map reverse (runs_up_to (cuts - (i + 1)) (next_blank (reverse rest))))) (sym run)
+          ∙ (ap (λ (rs : List (List ℕ)). parts ++ map reverse rs) (sym step) ∙ so_far.0)))),
+      subst (λ (r : List ℕ). AtRun r) (sym turned_next) (at-next_run (next_blank (reverse rest))),
+    )
 
 -- nothing is left
 pub right_is_done : (n : ℕ) (rest : List ℕ) (parts whole : List (List ℕ)) → length rest ≡ 0 → parts ++ map reverse (runs_up_to n (reverse rest)) ≡ whole → parts ≡ whole
@@ -82,6 +84,7 @@ turned_part rest = by_turned (reverse rest) (reverse-reverse rest)
       where
         some : 0 < length (reverse (b ∷ more))
         some = omega (arith, length-reverse (b ∷ more))
+
         shown : (bytes : List ℕ) → 0 < length bytes → bytes ∷ [] ≡ part_if_any bytes
         shown [] none = absurd (omega arith)
         shown (c ∷ bytes) h = refl

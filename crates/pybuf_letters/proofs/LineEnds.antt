@@ -74,12 +74,13 @@ line-both : (b : ℕ) (rest : List ℕ) → (b == 13 && begins_with_feed rest) �
 line-both b [] h = absurd (false≢true (both_second (b == 13) false h))
 line-both b (c ∷ more) h = record {
   line =
-    lines-cons b (c ∷ more) false (goes_on (b == 10) (b == 13) (c == 10) h no_feed)
-    ∙ ap (onto_first b) (lines-cons c more true (feed_ends (c == 10) (c == 13) (begins_with_feed more) (both_second (b == 13) (c == 10) h)))
+      lines-cons b (c ∷ more) false (goes_on (b == 10) (b == 13) (c == 10) h no_feed)
+      ∙ ap (onto_first b) (lines-cons c more true (feed_ends (c == 10) (c == 13) (begins_with_feed more) (both_second (b == 13) (c == 10) h)));
 }
   where
     no_feed : (b == 10) ≡ false
     no_feed = let thirteen : (b == 13) ≡ true = both_first (b == 13) (c == 10) h in grind (arith, nat_tests)
+
     feed_ends : (x y f : Bool) → x ≡ true → (x || y && not f) ≡ true
     feed_ends true y f g = refl
     feed_ends false y f g = absurd (cc)
@@ -98,7 +99,7 @@ line-break b rest g = by_both (b == 13 && begins_with_feed rest) refl
 -- a byte of the line itself
 line-other : (b : ℕ) (rest : List ℕ) (n : ℕ) → is_line_break b ≡ false → IsLine rest n → IsLine (b ∷ rest) (suc n)
 line-other b rest n h later = record {
-  line = lines-cons b rest false (other (b == 10) (b == 13) (begins_with_feed rest) h) ∙ ap (onto_first b) later.line
+  line = lines-cons b rest false (other (b == 10) (b == 13) (begins_with_feed rest) h) ∙ ap (onto_first b) later.line;
 }
 
 -- the last byte of the last line, which has no end
@@ -123,9 +124,9 @@ line-first (b ∷ (c ∷ more)) some = by_break (line-first (c ∷ more) (omega 
 bare_of_first : (bytes : List ℕ) (n : ℕ) → bare bytes ≤ n → bare (take n bytes) ≡ bare bytes
 bare_of_first bytes n inside =
     position_or_len_is is_line_break (take n bytes) (bare bytes) 0
-        (omega (arith, length-take n bytes, prefix_len-le-length (λ b. not (is_line_break b)) bytes))
-        (λ k below. get_or-take n bytes k 0 (omega arith) ⊳ fails_before_first is_line_break bytes k 0 below)
-        (λ below. get_or-take n bytes (bare bytes) 0 (omega (arith, length-take n bytes)) ⊳ passes_at_first is_line_break bytes 0 (omega (arith, length-take n bytes)))
+    (omega (arith, length-take n bytes, prefix_len-le-length (λ b. not (is_line_break b)) bytes))
+    (λ k below. get_or-take n bytes k 0 (omega arith) ⊳ fails_before_first is_line_break bytes k 0 below)
+    (λ below. get_or-take n bytes (bare bytes) 0 (omega (arith, length-take n bytes)) ⊳ passes_at_first is_line_break bytes 0 (omega (arith, length-take n bytes)))
   where
     infixr 5 ◌⊳◌
     ◌⊳◌ : {x y : ℕ} {t : Bool} → x ≡ y → is_line_break y ≡ t → is_line_break x ≡ t
@@ -151,5 +152,5 @@ line-from_some bytes e k found is =
     let high : e < length bytes = found.0.high in
     let here : bare bytes ≡ e = prefix_len-from_some (is_in (10 ∷ 13 ∷ [])) (λ b. not (is_line_break b)) bytes e (inside breaks) found in
     let both : size bytes ≡ e + k =
-        ap (λ n. n + end_length (drop n bytes)) here ∙ ap (λ n. e + n) (sym (is ∙ ap end_length (take_rest bytes e))) in
+    ap (λ n. n + end_length (drop n bytes)) here ∙ ap (λ n. e + n) (sym (is ∙ ap end_length (take_rest bytes e))) in
     (subst (λ n. IsLine bytes n) both (line-first bytes (omega arith)), line-bare bytes (e + k) (omega arith) ∙ ap (λ n. take n bytes) here)

@@ -32,15 +32,11 @@ runs-of_joined (run ∷ []) all =
     ap (filter (λ run. not (length run == 0))) (slice_split_none is_blank run (bare-all run is.bare)) ∙ kept run [] is.some
 runs-of_joined (run ∷ (next ∷ more)) all =
     let is : IsRun run = All-head IsRun run (next ∷ more) all in
-    let rest : List ℕ = join_with_byte 32 (next ∷ more) in
     ap (filter (λ run. not (length run == 0))) (slice_split_at is_blank run 32 (join_with_byte 32 (next ∷ more)) (bare-all run is.bare) refl)
     ∙ (kept run (slice_split is_blank (join_with_byte 32 (next ∷ more))) is.some
     ∙ ap (λ (rs : List (List ℕ)). run ∷ rs) (runs-of_joined (next ∷ more) (All-tail IsRun run (next ∷ more) all)))
 
 -- ---- what is kept of the bytes
-
-solid : List ℕ → List ℕ
-solid bytes = filter (λ b. not (is_blank b)) bytes
 
 solid-next_run : (bytes : List ℕ) → filter (λ b. not (is_blank b)) (next_run bytes) ≡ filter (λ b. not (is_blank b)) bytes
 solid-next_run [] = refl
@@ -48,6 +44,7 @@ solid-next_run (b ∷ rest) = by_first (solid-next_run rest) (is_blank b) refl
   where
     one_more : 1 + prefix_len is_blank rest ≡ suc (prefix_len is_blank rest)
     one_more = omega arith
+
     by_first : filter (λ b. not (is_blank b)) (next_run rest) ≡ filter (λ b. not (is_blank b)) rest
         → (first : Bool) → is_blank b ≡ first
         → filter (λ b. not (is_blank b)) (drop (cond first (1 + prefix_len is_blank rest) 0) (b ∷ rest)) ≡ filter (λ b. not (is_blank b)) (b ∷ rest)
@@ -67,7 +64,7 @@ length-part_if_any (b ∷ rest) = omega arith
 pub loses_blanks_alone : (n : ℕ) (bytes : List ℕ) → LosesBlanksAlone n bytes
 loses_blanks_alone zero bytes = record {
   kept = ap (filter (λ b. not (is_blank b))) (concat-part_if_any (next_run bytes)) ∙ solid-next_run bytes;
-  count = length-part_if_any (next_run bytes)
+  count = length-part_if_any (next_run bytes);
 }
 loses_blanks_alone (suc n) bytes = by_next (loses_blanks_alone n) (next_run bytes) refl
   where
@@ -77,12 +74,12 @@ loses_blanks_alone (suc n) bytes = by_next (loses_blanks_alone n) (next_run byte
         record {
           kept = ap (λ (rs : List (List ℕ)). filter (λ b. not (is_blank b)) (concat rs)) nothing
               ∙ (ap (filter (λ b. not (is_blank b))) (sym none) ∙ solid-next_run bytes);
-          count = omega (arith, ap length nothing)
+          count = omega (arith, ap length nothing);
         }
     by_next later (b ∷ rest) is =
         let some : 0 < length (next_run bytes) = rw is (omega arith) in
         let cut : runs_up_to (suc n) bytes ≡ take (position_or_len is_blank (next_run bytes)) (next_run bytes) ∷ runs_up_to n (next_blank (next_run bytes)) =
-            sym (runs_up_to-next_run (suc n) bytes) ∙ runs_up_to-more n (next_run bytes) (at-next_run bytes) some in
+        sym (runs_up_to-next_run (suc n) bytes) ∙ runs_up_to-more n (next_run bytes) (at-next_run bytes) some in
         record {
           kept =
               ap (λ (rs : List (List ℕ)). filter (λ b. not (is_blank b)) (concat rs)) cut
@@ -90,5 +87,5 @@ loses_blanks_alone (suc n) bytes = by_next (loses_blanks_alone n) (next_run byte
               ∙ (ap (λ (bs : List ℕ). filter (λ b. not (is_blank b)) (take (position_or_len is_blank (next_run bytes)) (next_run bytes)) ++ bs) (later (next_blank (next_run bytes))).kept
               ∙ (sym (filter-append (λ b. not (is_blank b)) (take (position_or_len is_blank (next_run bytes)) (next_run bytes)) (next_blank (next_run bytes)))
               ∙ (ap (filter (λ b. not (is_blank b))) (take-append-drop (position_or_len is_blank (next_run bytes)) (next_run bytes)) ∙ solid-next_run bytes))));
-          count = omega (arith, ap length cut, (later (next_blank (next_run bytes))).count)
+          count = omega (arith, ap length cut, (later (next_blank (next_run bytes))).count);
         }

@@ -27,6 +27,7 @@ runs-next_run (b ∷ rest) = by_first (runs-next_run rest) (is_blank b) refl
   where
     one_more : 1 + prefix_len is_blank rest ≡ suc (prefix_len is_blank rest)
     one_more = omega arith
+
     by_first : runs (next_run rest) ≡ runs rest → (first : Bool) → is_blank b ≡ first → runs (drop (cond first (1 + prefix_len is_blank rest) 0) (b ∷ rest)) ≡ runs (b ∷ rest)
     by_first later true h = ap (λ n. runs (drop n (b ∷ rest))) one_more ∙ (later ∙ sym (runs-blank b rest h))
     by_first later false h = refl
@@ -52,9 +53,9 @@ run_is_some : (bytes : List ℕ) → AtRun bytes → 0 < length bytes → 0 < po
 run_is_some bytes at some = ⊎_elim
     (λ here. here)
     (λ none.
-        let zero_is : position_or_len is_blank bytes ≡ 0 = omega arith in
-        let blank : is_blank (get_or bytes 0 0) ≡ true = rw zero_is at (passes_at_first is_blank bytes 0 (omega arith)) in
-        absurd (false≢true (sym (first_stays bytes at some) ∙ blank)))
+    let zero_is : position_or_len is_blank bytes ≡ 0 = omega arith in
+    let blank : is_blank (get_or bytes 0 0) ≡ true = rw zero_is at (passes_at_first is_blank bytes 0 (omega arith)) in
+    absurd (false≢true (sym (first_stays bytes at some) ∙ blank)))
     (cases_lt 0 (position_or_len is_blank bytes))
 
 pub kept : (run : List ℕ) (more : List (List ℕ)) → 0 < length run → filter (λ run. not (length run == 0)) (run ∷ more) ≡ run ∷ filter (λ run. not (length run == 0)) more
@@ -72,6 +73,7 @@ runs-at_run bytes at some = ⊎_elim ends goes_on (cases_lt (position_or_len is_
         let after : next_blank bytes ≡ get_or bytes (position_or_len is_blank bytes) 0 ∷ after_first is_blank bytes = drop_more bytes (position_or_len is_blank bytes) 0 below in
         let rest : runs (next_blank bytes) ≡ runs (after_first is_blank bytes) = ap runs after ∙ runs-blank (get_or bytes (position_or_len is_blank bytes) 0) (after_first is_blank bytes) (passes_at_first is_blank bytes 0 below) in
         ap (filter (λ run. not (length run == 0))) cut ∙ (kept (before_first is_blank bytes) (slice_split is_blank (after_first is_blank bytes)) size ∙ ap (λ more. before_first is_blank bytes ∷ more) (sym rest))
+
     goes_on : length bytes ≤ position_or_len is_blank bytes → runs bytes ≡ take (position_or_len is_blank bytes) bytes ∷ runs (next_blank bytes)
     goes_on past =
         let whole : slice_split is_blank bytes ≡ bytes ∷ [] = slice_split_none is_blank bytes (λ k d below. fails_before_first is_blank bytes k d (omega arith)) in
@@ -118,7 +120,7 @@ runs_up_to-enough (suc n) bytes enough = by_next (runs_up_to-enough n) (next_run
         let some : 0 < length (next_run bytes) = rw is (omega arith) in
         let at : AtRun (next_run bytes) = at-next_run bytes in
         let shorter : length (next_blank (next_run bytes)) ≤ n =
-            omega (arith, length-drop (position_or_len is_blank (next_run bytes)) (next_run bytes), length-drop (prefix_len is_blank bytes) bytes, run_is_some (next_run bytes) at some) in
+        omega (arith, length-drop (position_or_len is_blank (next_run bytes)) (next_run bytes), length-drop (prefix_len is_blank bytes) bytes, run_is_some (next_run bytes) at some) in
         sym (runs_up_to-next_run (suc n) bytes)
         ∙ (runs_up_to-more n (next_run bytes) at some
         ∙ (ap (λ (more : List (List ℕ)). take (position_or_len is_blank (next_run bytes)) (next_run bytes) ∷ more) (later (next_blank (next_run bytes)) shorter)
@@ -128,23 +130,25 @@ runs_up_to-enough (suc n) bytes enough = by_next (runs_up_to-enough n) (next_run
 
 pub left_starts : (cuts : ℕ) (bytes rest : List ℕ) (parts : List (List ℕ)) → parts ≡ [] → rest ≡ next_run bytes → (parts ++ runs_up_to (cuts - 0) rest ≡ runs_up_to cuts bytes) × AtRun rest
 left_starts cuts bytes rest parts none is =
-    let all : cuts - 0 ≡ cuts = omega arith in
-    (ap (λ (ps : List (List ℕ)). ps ++ runs_up_to (cuts - 0) rest) none ∙ (ap (λ n. runs_up_to n rest) all ∙ (ap (λ (r : List ℕ). runs_up_to cuts r) is ∙ runs_up_to-next_run cuts bytes)),
-    subst (λ (r : List ℕ). AtRun r) (sym is) (at-next_run bytes))
+    let all : cuts - 0 ≡ cuts = omega arith in (
+      ap (λ (ps : List (List ℕ)). ps ++ runs_up_to (cuts - 0) rest) none ∙ (ap (λ n. runs_up_to n rest) all ∙ (ap (λ (r : List ℕ). runs_up_to cuts r) is ∙ runs_up_to-next_run cuts bytes)),
+      subst (λ (r : List ℕ). AtRun r) (sym is) (at-next_run bytes),
+    )
 
 pub left_goes_on : (cuts i : ℕ) (rest next : List ℕ) (parts more whole : List (List ℕ)) → i < cuts → 0 < length rest → (parts ++ runs_up_to (cuts - i) rest ≡ whole) × AtRun rest
     → more ≡ parts ++ take (position_or_len is_blank rest) rest ∷ [] → next ≡ next_run (next_blank rest) → (more ++ runs_up_to (cuts - (i + 1)) next ≡ whole) × AtRun next
 left_goes_on cuts i rest next parts more whole below some so_far pushed is =
     let one_more : cuts - i ≡ suc (cuts - (i + 1)) = omega arith in
     let step : runs_up_to (cuts - i) rest ≡ take (position_or_len is_blank rest) rest ∷ runs_up_to (cuts - (i + 1)) (next_blank rest) =
-        ap (λ k. runs_up_to k rest) one_more ∙ runs_up_to-more (cuts - (i + 1)) rest so_far.1 some in
+    ap (λ k. runs_up_to k rest) one_more ∙ runs_up_to-more (cuts - (i + 1)) rest so_far.1 some in
     let same : runs_up_to (cuts - (i + 1)) next ≡ runs_up_to (cuts - (i + 1)) (next_blank rest) =
-        ap (λ (r : List ℕ). runs_up_to (cuts - (i + 1)) r) is ∙ runs_up_to-next_run (cuts - (i + 1)) (next_blank rest) in
-    (ap (λ (ps : List (List ℕ)). ps ++ runs_up_to (cuts - (i + 1)) next) pushed
-    ∙ (append_assoc parts (take (position_or_len is_blank rest) rest ∷ []) (runs_up_to (cuts - (i + 1)) next)
-    ∙ (ap (λ (ps : List (List ℕ)). parts ++ (take (position_or_len is_blank rest) rest ∷ ps)) same
-    ∙ (ap (λ (ps : List (List ℕ)). parts ++ ps) (sym step) ∙ so_far.0))),
-    subst (λ (r : List ℕ). AtRun r) (sym is) (at-next_run (next_blank rest)))
+    ap (λ (r : List ℕ). runs_up_to (cuts - (i + 1)) r) is ∙ runs_up_to-next_run (cuts - (i + 1)) (next_blank rest) in (
+      ap (λ (ps : List (List ℕ)). ps ++ runs_up_to (cuts - (i + 1)) next) pushed
+          ∙ (append_assoc parts (take (position_or_len is_blank rest) rest ∷ []) (runs_up_to (cuts - (i + 1)) next)
+          ∙ (ap (λ (ps : List (List ℕ)). parts ++ (take (position_or_len is_blank rest) rest ∷ ps)) same
+          ∙ (ap (λ (ps : List (List ℕ)). parts ++ ps) (sym step) ∙ so_far.0))),
+      subst (λ (r : List ℕ). AtRun r) (sym is) (at-next_run (next_blank rest)),
+    )
 
 -- nothing is left
 pub left_is_done : (n : ℕ) (rest : List ℕ) (parts whole : List (List ℕ)) → length rest ≡ 0 → parts ++ runs_up_to n rest ≡ whole → parts ≡ whole

@@ -11,7 +11,7 @@ pub returns-then-max-lt0 : goal.returns-then-max-lt0
 returns-then-max-lt0 c =
     let negative : c.args.max <ℤ pos 0 = omega (arith, ints) in
     IfOk-weaker c.cut_from_right.result
-        (λ (made : List (List ℕ)). made ≡ map reverse (runs_up_to (length c.args.bytes.now) (reverse c.args.bytes.now)))
-        (λ (made : List (List ℕ)). made ≡ blank_parts_from_last c.args.max c.args.bytes.now)
-        (λ made is. is ∙ without_bound_reversed c.args.max c.args.bytes.now negative)
-        c.cut_from_right.ensures
+    (λ (made : List (List ℕ)). made ≡ map reverse (runs_up_to (length c.args.bytes.now) (reverse c.args.bytes.now)))
+    (λ (made : List (List ℕ)). made ≡ blank_parts_from_last c.args.max c.args.bytes.now)
+    (λ made is. is ∙ without_bound_reversed c.args.max c.args.bytes.now negative)
+    c.cut_from_right.ensures

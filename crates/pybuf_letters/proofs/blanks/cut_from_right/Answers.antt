@@ -19,14 +19,14 @@ pub loop-preserved : goal.loop-preserved
 loop-preserved c =
     let rest = c.loop.rest.now in
     right_goes_on c.args.cuts c.loop.counter rest _ _ _ _ c.loop-test.true (grind (arith, nat_tests)) c.loop.invariant
-        (c.in_ok-push_part.ensures ∙ ap (λ (part : List ℕ). c.loop.parts.items ++ part ∷ [])
-            (take_rest rest c.run_start-start.result ∙ ap (λ (n : ℕ). drop n rest) c.run_start-start.ensures.value))
-        (c.strip_right-rest-in-loop.ensures ∙ ap (λ (n : ℕ). stripped_right is_blank (take n rest)) c.run_start-start.ensures.value)
+    (c.in_ok-push_part.ensures ∙ ap (λ (part : List ℕ). c.loop.parts.items ++ part ∷ [])
+    (take_rest rest c.run_start-start.result ∙ ap (λ (n : ℕ). drop n rest) c.run_start-start.ensures.value))
+    (c.strip_right-rest-in-loop.ensures ∙ ap (λ (n : ℕ). stripped_right is_blank (take n rest)) c.run_start-start.ensures.value)
 
 pub returns : goal.returns
 returns c =
     IfOk-weaker c.with_rest.result
-        (λ (made : List (List ℕ)). made ≡ c.loop.parts.items ++ part_if_any c.loop.rest.now)
-        (λ (made : List (List ℕ)). made ≡ map reverse (runs_up_to c.args.cuts (reverse c.args.bytes.now)))
-        (λ made is. is ∙ right_ends c.args.cuts c.loop.counter c.loop.rest.now c.loop.parts.items _ c.loop-test.false c.loop.invariant)
-        c.with_rest.ensures
+    (λ (made : List (List ℕ)). made ≡ c.loop.parts.items ++ part_if_any c.loop.rest.now)
+    (λ (made : List (List ℕ)). made ≡ map reverse (runs_up_to c.args.cuts (reverse c.args.bytes.now)))
+    (λ made is. is ∙ right_ends c.args.cuts c.loop.counter c.loop.rest.now c.loop.parts.items _ c.loop-test.false c.loop.invariant)
+    c.with_rest.ensures

@@ -10,7 +10,7 @@ pub returns-then-max-lt0 : goal.returns-then-max-lt0
 returns-then-max-lt0 c =
     let negative : c.args.max <ℤ pos 0 = omega (arith, ints) in
     IfOk-weaker c.cut_from_left.result
-        (λ (made : List (List ℕ)). made ≡ runs_up_to (length c.args.bytes.now) c.args.bytes.now)
-        (λ (made : List (List ℕ)). made ≡ blank_parts c.args.max c.args.bytes.now)
-        (λ made is. is ∙ without_bound c.args.max c.args.bytes.now negative)
-        c.cut_from_left.ensures
+    (λ (made : List (List ℕ)). made ≡ runs_up_to (length c.args.bytes.now) c.args.bytes.now)
+    (λ (made : List (List ℕ)). made ≡ blank_parts c.args.max c.args.bytes.now)
+    (λ made is. is ∙ without_bound c.args.max c.args.bytes.now negative)
+    c.cut_from_left.ensures

@@ -7,5 +7,5 @@ returns c = record {
   upper = lower-of_upper;
   swapcase = lower-of_swapcase;
   capitalize = lower-of_capitalize;
-  title = lower-of_title
+  title = lower-of_title;
 }
