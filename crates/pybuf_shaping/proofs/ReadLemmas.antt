@@ -12,7 +12,7 @@ use Rattle.hex.proofs.HexLemmas.{IsDigits-lower_digits}
 use Rattle.pybuf_value.specs.declared.faults.Fault.{Fault}
 use Rattle.pybuf_value.specs.declared.faults.Fault.TheVariants as fault
 use Rattle.pybuf_value.specs.Refusing.{◌>>=◌}
-use Rattle.pybuf_shaping.specs.Blanks.{is_blank}
+use Rattle.pybuf_letters.specs.Classes.{is_blank}
 use Rattle.pybuf_shaping.specs.Digits.{byte_of_digits, bytes_of_hex, behind}
 use Rattle.pybuf_shaping.specs.Laws.{DigitsReadBack, SeparatorsLeftOut, without}
 

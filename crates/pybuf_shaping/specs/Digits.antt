@@ -6,7 +6,7 @@ use Rattle.pybuf_value.specs.declared.faults.Fault.{Fault}
 use Rattle.pybuf_value.specs.declared.faults.Fault.TheVariants as fault
 use Rattle.pybuf_value.specs.Refusing.{◌>>=◌}
 use Rattle.pybuf_value.specs.Quotes.{fitted_text}
-use Rattle.pybuf_shaping.specs.Blanks.{is_blank}
+use Rattle.pybuf_letters.specs.Classes.{is_blank}
 
 -- ---- groups
 

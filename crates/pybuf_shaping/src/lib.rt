@@ -2,6 +2,7 @@
 //! a table.
 #![tactic(auto)]
 
+mod arguments;
 mod digits;
 mod laws;
 mod padding;
@@ -10,10 +11,14 @@ mod replacing;
 mod tables;
 mod tabs;
 
+pub use arguments::{
+    ByteInnerPaddingOptions, ByteInnerTranslateOptions, ExpandTabsArgs, center_with,
+    justify_left_with, justify_right_with, translate_with,
+};
 pub use digits::hex_text;
 pub use laws::{
-    groups_are_counted, hex_reads_back, identity_table_changes_nothing, replacing_by_the_same, separators_left_out,
-    tables_map_each_byte_once, tabs_are_spaces, wide_or_the_same,
+    groups_are_counted, hex_reads_back, identity_table_changes_nothing, replacing_by_the_same,
+    separators_left_out, tables_map_each_byte_once, tabs_are_spaces, wide_or_the_same,
 };
 pub use padding::{center, justify_left, justify_right, pad, zero_fill};
 pub use reading::bytes_of_hex;

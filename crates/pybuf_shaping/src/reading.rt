@@ -2,19 +2,12 @@
 ghost use Rattle.std.specs.Prelude.{◌≡◌, IfOk};
 ghost use Rattle.hex.specs.Hex.{hex_digit_value};
 ghost use Rattle.pybuf_value.specs.Halting.{Gives, outcome_of};
-ghost use Rattle.pybuf_shaping.specs.Blanks as blanks;
 ghost use Rattle.pybuf_shaping.specs.Digits as spec;
 
 use hex::FromHex;
+use pybuf_letters::is_py_ascii_whitespace;
 use pybuf_value::{ByteList, Fault, Halt, Tried, tried};
 use std::alloc::Global;
-
-/// Whether a byte is a blank of ASCII.
-fn is_blank(byte: u8) -> bool
-    ensures { result ≡ blanks.is_blank byte }
-{
-    byte == b' ' || (9 <= byte && byte <= 13)
-}
 
 /// The byte of two digits.
 fn byte_of_digits(high: u8, low: u8) -> Result<u8, Fault>
@@ -34,7 +27,7 @@ fn read_pairs(alloc: Global, text: &[u8]) -> Result<ByteList, Halt>
     let mut at = 0;
     while at < text.len() {
         let high = text[at];
-        if is_blank(high) {
+        if is_py_ascii_whitespace(high) {
             at += 1;
             continue;
         }

@@ -8,7 +8,8 @@ use std::alloc::Global;
 
 /// The table that maps each byte to itself: the bytes from 0 to 255.
 pub fn identity_table(alloc: Global) -> Made<ByteList>
-    ensures { IfOk result (λ table. table ≡ spec.all_bytes) }
+    ensures value { IfOk result (λ table. table ≡ spec.all_bytes) }
+    ensures full { IfOk result (λ table. length table ≡ 256) }
 {
     let mut table = Vec::with_capacity(alloc, 256)?;
     for byte in 0..256usize {

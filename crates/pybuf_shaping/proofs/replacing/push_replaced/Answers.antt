@@ -33,10 +33,10 @@ loop-place-preserved c =
     grind (arith, common_steps) in
     record {
       whole = ap (λ l. l ++ rest) written
-        ∙ (append_assoc (c.loop-place.list.items ++ part c.loop-place.last place c.args.bytes.now) c.args.new.now rest
-        ∙ (append_assoc c.loop-place.list.items (part c.loop-place.last place c.args.bytes.now) (c.args.new.now ++ rest)
-        ∙ (ap (λ l. c.loop-place.list.items ++ l) (sym text)
-        ∙ c.loop-place.invariant.whole)));
+          ∙ (append_assoc (c.loop-place.list.items ++ part c.loop-place.last place c.args.bytes.now) c.args.new.now rest
+          ∙ (append_assoc c.loop-place.list.items (part c.loop-place.last place c.args.bytes.now) (c.args.new.now ++ rest)
+          ∙ (ap (λ l. c.loop-place.list.items ++ l) (sym text)
+          ∙ c.loop-place.invariant.whole)));
       fits = next.2;
       inside = next.1;
     }
