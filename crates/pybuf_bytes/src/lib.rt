@@ -1,15 +1,33 @@
 //! Strings of bytes, and what they are made of.
 #![tactic(auto)]
 
+mod arguments;
 mod inner;
 mod letters;
+mod needles;
 mod options;
+mod search_methods;
+mod searching;
 
+pub use arguments::{ByteInnerFindOptions, ByteInnerSplitOptions};
 pub use inner::PyBytesInner;
 pub use letters::SplitLinesArgs;
+pub use needles::Needle;
 pub use options::ByteInnerNewOptions;
+pub use pybuf_arguments::{
+    AnyStrWrapper, SplitArgs, StartsEndsWithArgs, StringRange, adjust_indices, bytes_lent,
+    endswith, single_or_tuple_any, startswith,
+};
 pub use pybuf_letters::is_py_ascii_whitespace;
+pub use searching::{
+    concat_with, contains_needle, count_between, find_between, partition_at, rpartition_at,
+    rsplit_at, split_at,
+};
 
+#[cfg(test)]
+mod letter_tests;
+#[cfg(test)]
+mod search_tests;
 #[cfg(test)]
 mod tests;
 #[cfg(test)]

@@ -1,0 +1,173 @@
+//! What strings of any kind have in common.
+ghost use Rattle.std.specs.Prelude.{◌≡◌, ◌==◌, ◌≤◌, ◌++◌, ℕ, Bool, List, [], length, IfOk, OnOk, OnErr, Option, slice_range};
+ghost use Rattle.std.specs.Option.{option_copied};
+ghost use Rattle.bstr.specs.Owned.{joined};
+ghost use Rattle.pybuf_value.specs.Halting.{outcome_of};
+ghost use Rattle.pybuf_search.specs.Joins.{fitted, items_of};
+ghost use Rattle.pybuf_search.specs.Ends.{without_prefix, without_suffix};
+ghost use Rattle.pybuf_letters.specs.Blanks.{blank_parts, blank_parts_from_last};
+ghost use Rattle.pybuf_letters.specs.Lines.{split_lines};
+ghost use Rattle.pybuf_letters.specs.Strips.{stripped, goes};
+ghost use Rattle.pybuf_arguments.specs.Affixes.{single_or_any_of};
+ghost use Rattle.pybuf_bytes.specs.Searching.{split_of, partition_by, parts_answered};
+ghost use Rattle.pybuf_anystr.specs.Texts.{IsTextOf, AreCharactersOf};
+ghost use Rattle.pybuf_anystr.specs.Places.{first_place_in, number_of_matches_in, IsTestOfTwo};
+
+use crate::bytes::Bytes;
+use pybuf_bytes::{ByteInnerSplitOptions, PyBytesInner, SplitLinesArgs};
+use pybuf_value::{ByteLists, Lender, Made, Text, Tried, Value};
+use std::alloc::Global;
+use std::ops::Range;
+
+/// A string that grows.
+pub trait AnyStrContainer: Sized {
+    // The bytes.
+    ghost bytes: { Self → List ℕ };
+
+    /// No bytes. Takes no memory.
+    fn new(alloc: Global) -> Self
+        ensures { bytes result ≡ [] };
+
+    /// No bytes, and room for so many.
+    fn with_capacity(alloc: Global, capacity: usize) -> Made<Self>
+        ensures { IfOk result (λ made. bytes made ≡ []) };
+
+    /// Adds bytes at the end. Where memory runs out, the string is as before.
+    fn push_str(&mut self, s: &[u8]) -> Made<()>
+        ensures ok { OnOk result (bytes self.new ≡ bytes self.old ++ s.now) }
+        ensures err { OnErr result (bytes self.new ≡ bytes self.old) };
+}
+
+/// A string whose elements are bytes. Each call whose name begins with `py_` is Python's method of
+/// bytes of the rest of that name (Library reference, "Bytes and Bytearray Operations").
+pub trait AnyStr {
+    // The bytes.
+    ghost bytes: { Self → List ℕ };
+
+    /// How many bytes an element takes: one.
+    fn element_bytes_len(c: u8) -> usize
+        ensures { result ≡ 1 };
+
+    /// The same bytes, as a string that grows.
+    fn to_container(&self, alloc: Global) -> Made<Bytes>
+        ensures { IfOk result (λ made. made ≡ bytes self.now) };
+
+    /// The bytes, lent.
+    fn as_bytes(&self) -> &[u8]
+        ensures { result.now ≡ bytes self.now };
+
+    /// The elements, which are the bytes, lent.
+    fn elements(&self) -> &[u8]
+        ensures { result.now ≡ bytes self.now };
+
+    /// The number of bytes.
+    fn bytes_len(&self) -> usize
+        ensures { result ≡ length (bytes self.now) };
+
+    /// Whether there is no byte.
+    fn is_empty(&self) -> bool
+        ensures { result ≡ (length (bytes self.now) == 0) };
+
+    /// The bytes as a text.
+    ///
+    /// Refused with `ValueError` exactly where they aren't UTF-8.
+    fn as_utf8_str(&self, alloc: Global) -> Tried<Text>
+        ensures { IfOk result (λ outcome. IsTextOf (bytes self.now) outcome) };
+
+    /// The characters of the bytes as a text, in order.
+    ///
+    /// Refused with `ValueError` exactly where they aren't UTF-8.
+    fn chars(&self, alloc: Global) -> Tried<Vec<char>>
+        ensures { IfOk result (λ outcome. AreCharactersOf (bytes self.now) outcome) };
+
+    /// The bytes at a range, lent.
+    fn get_bytes(&self, range: Range<usize>) -> &[u8]
+        requires ordered { range.start ≤ range.end }
+        requires inside { range.end ≤ length (bytes self.now) }
+        ensures { result.now ≡ slice_range (bytes self.now) range.start range.end };
+
+    /// The elements at a range, which are its bytes, lent.
+    fn get_chars(&self, range: Range<usize>) -> &[u8]
+        requires ordered { range.start ≤ range.end }
+        requires inside { range.end ≤ length (bytes self.now) }
+        ensures { result.now ≡ slice_range (bytes self.now) range.start range.end };
+
+    /// The bytes, and others behind them.
+    ///
+    /// Refused with `OverflowError` exactly where both are more than `isize::MAX` bytes.
+    fn py_add(&self, alloc: Global, other: &[u8]) -> Tried<Vec<u8>>
+        ensures { IfOk result (λ outcome. items_of outcome ≡ outcome_of (fitted (bytes self.now ++ other.now))) };
+
+    /// The parts, with these bytes between each two.
+    ///
+    /// Refused with `OverflowError` exactly where that is more than `isize::MAX` bytes.
+    fn py_join(&self, alloc: Global, parts: &ByteLists) -> Tried<Vec<u8>>
+        ensures { IfOk result (λ outcome. items_of outcome ≡ outcome_of (fitted (joined (bytes self.now) parts.now))) };
+
+    /// The parts between the matches of a separator from the left, or without a separator between
+    /// runs of blanks, in order; the greatest number of cuts is no bound where it is negative.
+    ///
+    /// Refused with `ValueError` exactly for an empty separator.
+    fn py_split(&self, alloc: Global, options: ByteInnerSplitOptions) -> Tried<ByteLists>
+        ensures { IfOk result (λ outcome. outcome ≡ outcome_of (split_of options.sep options.maxsplit (bytes self.now))) };
+
+    /// The parts between runs of blanks from the left, in order; a negative number is no bound.
+    fn py_split_whitespace(&self, alloc: Global, maxsplit: isize) -> Made<ByteLists>
+        ensures { IfOk result (λ parts. parts ≡ blank_parts maxsplit (bytes self.now)) };
+
+    /// The parts between runs of blanks from the right, from the last to the first; a negative number
+    /// is no bound.
+    fn py_rsplit_whitespace(&self, alloc: Global, maxsplit: isize) -> Made<ByteLists>
+        ensures { IfOk result (λ parts. parts ≡ blank_parts_from_last maxsplit (bytes self.now)) };
+
+    /// Whether `func` is true of these bytes and those of the affix, or of one of a tuple of them,
+    /// which are tested in order, up to the first of which it is.
+    ///
+    /// Refused as `single_or_tuple_any` refuses.
+    fn py_startsendswith<L: Lender, F: Fn(&[u8], &[u8]) -> bool>(
+        &self,
+        alloc: Global,
+        affix: &Value,
+        func: &F,
+        lender: &L,
+    ) -> Tried<bool>
+        requires { F.IsAlwaysCallable func.now }
+        ensures { (test : List ℕ → List ℕ → Bool) → IsTestOfTwo (F.post func.now) test → IfOk result (λ outcome. outcome ≡ outcome_of (single_or_any_of (test (bytes self.now)) (L.pairs lender.now) affix.now)) };
+
+    /// The bytes without those at both ends that are among `chars`, or are blanks where no `chars`
+    /// are given, lent.
+    fn py_strip(&self, chars: Option<&PyBytesInner>) -> &[u8]
+        ensures { result.now ≡ stripped (goes (option_copied chars.entry)) (bytes self.now) };
+
+    /// The bytes without a prefix, where they begin with it, lent; it is removed once.
+    fn py_removeprefix(&self, prefix: &PyBytesInner) -> &[u8]
+        ensures { result.now ≡ without_prefix (bytes self.now) prefix.now };
+
+    /// The bytes without a suffix, where they end with it, lent; it is removed once.
+    fn py_removesuffix(&self, suffix: &PyBytesInner) -> &[u8]
+        ensures { result.now ≡ without_suffix (bytes self.now) suffix.now };
+
+    /// The first place of the needle in a range, counted from the front of the bytes; `None` too where
+    /// the range's start passes its end.
+    fn py_find(&self, needle: &[u8], range: Range<usize>) -> Option<usize>
+        requires { range.end ≤ length (bytes self.now) }
+        ensures { result ≡ first_place_in (bytes self.now) needle.now range };
+
+    /// The number of matches of the needle in a range, of which no two overlap; 0 where the range's
+    /// start passes its end.
+    fn py_count(&self, needle: &[u8], range: Range<usize>) -> usize
+        requires { range.end ≤ length (bytes self.now) }
+        ensures { result ≡ number_of_matches_in (bytes self.now) needle.now range };
+
+    /// What stands before the first match of a separator, whether there is one, and what stands
+    /// behind it; without a match all the bytes are the front.
+    ///
+    /// Refused with `ValueError` exactly for an empty separator.
+    fn py_partition(&self, alloc: Global, sub: &PyBytesInner) -> Tried<(Vec<u8>, bool, Vec<u8>)>
+        ensures { IfOk result (λ outcome. parts_answered outcome ≡ outcome_of (partition_by sub.now (bytes self.now))) };
+
+    /// The lines, which end with `\n`, `\r` or `\r\n`; the last may end without. The ends are kept or
+    /// not. There is no empty line after the last end.
+    fn py_bytes_splitlines(&self, alloc: Global, options: SplitLinesArgs) -> Made<ByteLists>
+        ensures { IfOk result (λ lines. lines ≡ split_lines options.keepends (bytes self.now)) };
+}

@@ -1,0 +1,9 @@
+use Rattle.std.proofs.Common.{rules}
+use Rattle.pybuf_search.specs.Ends.{ends_with}
+use Rattle.pybuf_arguments.proofs.AffixLemmas.{affix_decides}
+use Rattle.pybuf_arguments.proofs.affixes.endswith.Goals as goal
+
+pub returns-in-Some : goal.returns-in-Some
+returns-in-Some g c =
+    affix_decides ends_with _ _ _ c.in-Some.part.now _ _ c.in-Some.ensures.0 c.in-Some.ensures.1
+    (c.single_or_tuple_any.ensures (ends_with c.in-Some.part.now) (λ bytes answer says. search rules))

@@ -1,0 +1,9 @@
+-- A separator and a greatest number of cuts.
+use Rattle.std.specs.Prelude.{ℕ, ℤ, ◌==◌, List, length, Option, None, Some, Result, Ok, Err, if◌then◌else◌}
+use Rattle.pybuf_value.specs.declared.faults.Fault.{Fault}
+use Rattle.pybuf_value.specs.declared.faults.Fault.TheVariants as fault
+
+-- an empty separator is refused
+abbrev pub separator_in : {T : Type 0} → (T → List ℕ) → Option T → ℤ → Result (Option T × ℤ) Fault
+separator_in bytes None most = Ok (None, most)
+separator_in bytes (Some separator) most = if length (bytes separator) == 0 then Err fault.Value else Ok (Some separator, most)

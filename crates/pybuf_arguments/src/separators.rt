@@ -1,0 +1,42 @@
+//! What bytes can be read from, and a separator with a greatest number of cuts.
+ghost use Rattle.std.specs.Prelude.{◌≡◌, ℕ, List};
+ghost use Rattle.pybuf_arguments.specs.Separators as spec;
+
+use pybuf_value::Fault;
+
+/// What bytes can be read from.
+pub trait AnyStrWrapper {
+    // The bytes.
+    ghost bytes: { Self → List ℕ };
+
+    /// The bytes, lent.
+    fn as_ref(&self) -> &[u8]
+        ensures { result.now ≡ bytes self.now };
+}
+
+/// A separator, where there is one, and the greatest number of cuts; a negative number is no bound.
+#[derive(Debug, Drop)]
+pub struct SplitArgs<T> {
+    pub sep: Option<T>,
+    pub maxsplit: isize,
+}
+
+impl<T: AnyStrWrapper + Drop> SplitArgs<T> {
+    /// The separator and the greatest number of cuts.
+    ///
+    /// Refused with `ValueError` exactly for an empty separator.
+    pub fn get_value(self) -> Result<(Option<T>, isize), Fault>
+        ensures { result ≡ spec.separator_in T.bytes self.sep self.maxsplit }
+    {
+        let SplitArgs { sep, maxsplit } = self;
+        match sep {
+            None => Ok((None, maxsplit)),
+            Some(separator) => {
+                if separator.as_ref().is_empty() {
+                    return Err(Fault::Value);
+                }
+                Ok((Some(separator), maxsplit))
+            }
+        }
+    }
+}

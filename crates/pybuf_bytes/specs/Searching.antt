@@ -1,0 +1,119 @@
+-- Searches and cuts by arguments.
+use Rattle.std.specs.Prelude.{◌≡◌, ℕ, ℤ, ◌+◌, ◌++◌, ◌==◌, Bool, true, false, List, [], ◌∷◌, length, Option, None, Some, Result, Ok, Err, if◌then◌else◌, slice_range}
+use Rattle.std.specs.Option.{option_map}
+use Rattle.std.specs.Borrow.{Bor}
+use Rattle.std.specs.Global.{Vec}
+use Rattle.std.specs.declared.ops.Range.{Range}
+use Rattle.pybuf_value.specs.declared.faults.Fault.{Fault}
+use Rattle.pybuf_value.specs.declared.faults.Fault.TheVariants as fault
+use Rattle.pybuf_value.specs.declared.faults.Outcome.{Outcome}
+use Rattle.pybuf_value.specs.declared.faults.Outcome.TheVariants as outcome
+use Rattle.pybuf_value.specs.declared.snaps.Snap.{Snap}
+use Rattle.pybuf_value.specs.declared.values.Value.{Value}
+use Rattle.pybuf_value.specs.declared.values.Value.TheVariants as value
+use Rattle.pybuf_value.specs.Refusing.{◌>>=◌}
+use Rattle.pybuf_value.specs.Snaps.{bytes_in}
+use Rattle.pybuf_search.specs.Places.{holds_needle, number_of_matches}
+use Rattle.bstr.specs.Text.{repeated}
+use Rattle.pybuf_search.specs.Joins.{fitted, times}
+use Rattle.pybuf_search.specs.Parts.{split_parts, rsplit_parts, partition_of, rpartition_of}
+use Rattle.pybuf_letters.specs.Blanks.{blank_parts, blank_rparts}
+use Rattle.pybuf_bytes.specs.declared.needles.Needle.{Needle}
+use Rattle.pybuf_arguments.specs.Bounds.{adjusted, in_range}
+use Rattle.pybuf_bytes.specs.Needles.{needle_bytes}
+
+-- ---- searches
+
+-- whether the needle stands anywhere
+abbrev pub contains_of : Needle → List ℕ → Result Bool Fault
+contains_of sub bytes = do
+  needle ← needle_bytes sub
+  Ok (holds_needle bytes needle)
+
+-- the number of matches in a range; none where its start passes its end
+abbrev pub number_in : List ℕ → Option (List ℕ) → ℕ
+number_in needle None = 0
+number_in needle (Some part) = number_of_matches part needle
+
+abbrev pub count_of : Needle → Option ℤ → Option ℤ → List ℕ → Result ℕ Fault
+count_of sub start end bytes = do
+  needle ← needle_bytes sub
+  Ok (number_in needle (in_range bytes (adjusted start end (length bytes))))
+
+-- the place that a search finds in a range, from the front of the bytes
+abbrev pub place_in : (List ℕ → List ℕ → Option ℕ) → List ℕ → ℕ → Option (List ℕ) → Option ℕ
+place_in search needle start None = None
+place_in search needle start (Some part) = option_map (λ place. start + place) (search part needle)
+
+abbrev pub find_of : (List ℕ → List ℕ → Option ℕ) → Needle → Option ℤ → Option ℤ → List ℕ → Result (Option ℕ) Fault
+find_of search sub start end bytes = do
+  needle ← needle_bytes sub
+  Ok (place_in search needle (adjusted start end (length bytes)).start (in_range bytes (adjusted start end (length bytes))))
+
+-- a search that a closure makes in bytes that it is lent, for a needle that it is lent
+abbrev pub IsSearch : (Bor (List ℕ) → Bor (List ℕ) → Option ℕ → Type 0) → (List ℕ → List ℕ → Option ℕ) → Type 0
+IsSearch post search =
+    (part needle : Bor (List ℕ)) (answer : Option ℕ) → post part needle answer → answer ≡ search part.now needle.now
+
+-- the needle and the range of a search
+abbrev pub search_of : Needle → Option ℤ → Option ℤ → ℕ → Result (List ℕ × Range ℕ) Fault
+search_of sub start end len = do
+  needle ← needle_bytes sub
+  Ok (needle, adjusted start end len)
+
+-- what was answered, with the bytes of the vector as a list
+abbrev pub search_answered : Outcome (Vec ℕ × Range ℕ) → Outcome (List ℕ × Range ℕ)
+search_answered (outcome.Done search) = outcome.Done (search.0.items, search.1)
+search_answered (outcome.Refused f) = outcome.Refused f
+
+-- ---- cuts
+
+-- the parts at the matches of a separator, or without one at the blanks; an empty separator is refused
+abbrev pub split_of : Option (List ℕ) → ℤ → List ℕ → Result (List (List ℕ)) Fault
+split_of None most bytes = Ok (blank_parts most bytes)
+split_of (Some separator) most bytes =
+    if length separator == 0 then Err fault.Value else Ok (split_parts most separator bytes)
+
+-- the same with cuts from the right
+abbrev pub rsplit_of : Option (List ℕ) → ℤ → List ℕ → Result (List (List ℕ)) Fault
+rsplit_of None most bytes = Ok (blank_rparts most bytes)
+rsplit_of (Some separator) most bytes =
+    if length separator == 0 then Err fault.Value else Ok (rsplit_parts most separator bytes)
+
+-- the three parts of a partition; an empty separator is refused
+abbrev pub partition_by : List ℕ → List ℕ → Result (List ℕ × Bool × List ℕ) Fault
+partition_by separator bytes = if length separator == 0 then Err fault.Value else Ok (partition_of separator bytes)
+
+abbrev pub rpartition_by : List ℕ → List ℕ → Result (List ℕ × Bool × List ℕ) Fault
+rpartition_by separator bytes = if length separator == 0 then Err fault.Value else Ok (rpartition_of separator bytes)
+
+-- what was answered, with the bytes of the vectors as lists
+abbrev pub parts_answered : Outcome (Vec ℕ × Bool × Vec ℕ) → Outcome (List ℕ × Bool × List ℕ)
+parts_answered (outcome.Done parts) = outcome.Done (parts.0.items, parts.1, parts.2.items)
+parts_answered (outcome.Refused f) = outcome.Refused f
+
+-- ---- bytes put together
+
+-- the bytes of a bytes value, or of what a handle names
+abbrev pub operand_in : List (ℕ × Snap) → Value → Result (List ℕ) Fault
+operand_in pairs (value.One scalar) = bytes_in pairs (value.One scalar)
+operand_in pairs _ = Err fault.Kind
+
+abbrev pub concat_of : List (ℕ × Snap) → Value → List ℕ → Result (List ℕ) Fault
+concat_of pairs other bytes = do
+  operand ← operand_in pairs other
+  fitted (bytes ++ operand)
+
+-- the bytes so many times
+abbrev pub repeated_of : ℤ → List ℕ → Result (List ℕ) Fault
+repeated_of n bytes = fitted (repeated (times n) bytes)
+
+-- whether a change is made
+abbrev pub whether : Result (List ℕ) Fault → Result (Unit {0}) Fault
+whether (Ok bytes) = Ok tt
+whether (Err f) = Err f
+
+-- the bytes after a change, or those from before where it is refused
+abbrev pub or_before : List ℕ → Result (List ℕ) Fault → List ℕ
+or_before before (Ok bytes) = bytes
+or_before before (Err f) = before

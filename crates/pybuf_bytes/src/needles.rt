@@ -1,0 +1,62 @@
+//! What is searched for.
+ghost use Rattle.std.specs.Prelude.{◌≡◌, IfOk};
+ghost use Rattle.pybuf_value.specs.Halting.{Gives, outcome_of};
+ghost use Rattle.pybuf_bytes.specs.Needles as spec;
+
+use crate::inner::PyBytesInner;
+use pybuf_value::{
+    ByteOr, Fault, Halt, Lender, Outcome, Tried, Value, bytes_from_object, index_of, tried,
+};
+use std::alloc::Global;
+
+/// What is searched for: bytes, or a number that stands for one byte.
+#[derive(Debug, Drop)]
+pub enum Needle {
+    Bytes(PyBytesInner),
+    Number(i128),
+}
+
+/// The needle that a value is.
+fn needle_in<L: Lender>(alloc: Global, value: &Value, lender: &L) -> Result<Needle, Halt>
+    ensures { Gives (spec.needle_in (L.pairs lender.now) value.now) result }
+{
+    match index_of(value) {
+        Ok(number) => {
+            let _byte = number.byte_or()?;
+            Ok(Needle::Number(number))
+        }
+        Err(_) => match bytes_from_object(alloc, value, lender)? {
+            Outcome::Done(bytes) => Ok(Needle::Bytes(PyBytesInner::from(bytes.into_vec()))),
+            Outcome::Refused(fault) => Err(Halt::Refused(fault)),
+        },
+    }
+}
+
+impl Needle {
+    /// The needle that a value is: a whole number, or a truth value as 0 or 1, stands for one byte,
+    /// and any other value for the bytes that it is read as.
+    ///
+    /// Refused with `ValueError` for a number outside `0..256`, and else as `bytes_from_object`
+    /// refuses.
+    pub fn try_from_value<L: Lender>(alloc: Global, value: &Value, lender: &L) -> Tried<Needle>
+        ensures { IfOk result (λ outcome. outcome ≡ outcome_of (spec.needle_in (L.pairs lender.now) value.now)) }
+    {
+        tried(needle_in(alloc, value, lender))
+    }
+}
+
+/// The bytes of a needle.
+///
+/// Refused with `ValueError` exactly for a number outside `0..256`.
+pub(crate) fn needle_bytes(alloc: Global, needle: Needle) -> Result<PyBytesInner, Halt>
+    ensures { Gives (spec.needle_bytes needle) result }
+{
+    match needle {
+        Needle::Bytes(bytes) => Ok(bytes),
+        Needle::Number(number) => {
+            let byte = number.byte_or()?;
+            let one = Vec::from_slice(alloc, &[byte])?;
+            Ok(PyBytesInner::from(one))
+        }
+    }
+}

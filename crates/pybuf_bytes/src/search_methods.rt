@@ -1,0 +1,185 @@
+//! The searches, cuts and sums of strings of bytes.
+ghost use Rattle.std.specs.Prelude.{◌≡◌, ◌≤◌, ◌++◌, ℕ, List, Option, Some, length, IfOk, OnOk, OnErr};
+ghost use Rattle.std.specs.Borrow.{Bor};
+ghost use Rattle.bstr.specs.Owned.{joined};
+ghost use Rattle.pybuf_value.specs.Halting.{outcome_of};
+ghost use Rattle.pybuf_search.specs.Joins.{fitted, items_of};
+ghost use Rattle.pybuf_search.specs.Ends.{without_prefix, without_suffix};
+ghost use Rattle.pybuf_bytes.specs.Searching as spec;
+
+use crate::arguments::{ByteInnerFindOptions, ByteInnerSplitOptions};
+use crate::inner::PyBytesInner;
+use crate::needles::Needle;
+use crate::searching::{
+    concat_with, contains_needle, count_between, find_between, partition_at, rpartition_at,
+    rsplit_at, split_at,
+};
+use pybuf_value::{ByteLists, Fault, Lender, Made, Outcome, Tried, Value};
+use std::alloc::Global;
+
+impl PyBytesInner {
+    /// The bytes, and others behind them (Library reference, "Common Sequence Operations", `s + t`).
+    ///
+    /// Refused with `OverflowError` exactly where both are more than `isize::MAX` bytes.
+    pub fn add(&self, alloc: Global, other: &[u8]) -> Tried<Vec<u8>>
+        ensures { IfOk result (λ outcome. items_of outcome ≡ outcome_of (fitted (self.now ++ other.now))) }
+    {
+        pybuf_search::added(alloc, self.as_bytes(), other)
+    }
+
+    /// The bytes, and behind them those of a bytes value, or of the exporter or the view that a handle
+    /// names, contiguous or not (Library reference, "Common Sequence Operations", `s + t`).
+    ///
+    /// Refused with `UnknownName` where the lender hasn't the handle, with `ValueError` where it names
+    /// a released view, with `TypeError` for every other value, and then with `OverflowError` exactly
+    /// where both are more than `isize::MAX` bytes.
+    pub fn concat<L: Lender>(&self, alloc: Global, other: &Value, lender: &L) -> Tried<Vec<u8>>
+        ensures { IfOk result (λ outcome. items_of outcome ≡ outcome_of (spec.concat_of (L.pairs lender.now) other.now self.now)) }
+    {
+        concat_with(alloc, self.as_bytes(), other, lender)
+    }
+
+    /// The bytes `n` times, one after another, and none where `n` is negative (Library reference,
+    /// "Common Sequence Operations", `s * n`).
+    ///
+    /// Refused with `OverflowError` exactly where that is more than `isize::MAX` bytes.
+    pub fn mul(&self, alloc: Global, n: isize) -> Tried<Vec<u8>>
+        ensures { IfOk result (λ outcome. items_of outcome ≡ outcome_of (spec.repeated_of n self.now)) }
+    {
+        pybuf_search::repeated(alloc, self.as_bytes(), n)
+    }
+
+    /// Puts the bytes `n` times in their own place, and none where `n` is negative (Library reference,
+    /// "Mutable Sequence Types", `s *= n`).
+    ///
+    /// Refused with `OverflowError` exactly where that is more than `isize::MAX` bytes. After a
+    /// refusal, or where memory runs out, the bytes are as before.
+    pub fn imul(&mut self, alloc: Global, n: isize) -> Tried<()>
+        ensures answer { IfOk result (λ outcome. outcome ≡ outcome_of (spec.whether (spec.repeated_of n self.old))) }
+        ensures bytes { OnOk result (self.new ≡ spec.or_before self.old (spec.repeated_of n self.old)) }
+        ensures memory { OnErr result (self.new ≡ self.old) }
+    {
+        // That there are at most `isize::MAX` of them is what the prover asks for where they stay.
+        let _length = self.len();
+        if n == 1 {
+            return Ok(Outcome::Done(()));
+        }
+        match pybuf_search::repeated(alloc, self.as_bytes(), n)? {
+            Outcome::Refused(fault) => Ok(Outcome::Refused(fault)),
+            Outcome::Done(bytes) => {
+                *self = PyBytesInner::from(bytes);
+                Ok(Outcome::Done(()))
+            }
+        }
+    }
+
+    /// Whether the needle stands anywhere, as Python's `in` asks (Library reference, "Common Sequence
+    /// Operations"). Takes no memory.
+    ///
+    /// Refused with `ValueError` exactly for a number outside `0..256`.
+    pub fn contains(&self, needle: &Needle) -> Result<bool, Fault>
+        ensures { result ≡ spec.contains_of needle.now self.now }
+    {
+        contains_needle(self.as_bytes(), needle)
+    }
+
+    /// The number of matches of the needle between the bounds, of which no two overlap (Library
+    /// reference, "Bytes and Bytearray Operations", `bytes.count`); none where the start passes the
+    /// end.
+    ///
+    /// Refused with `ValueError` exactly for a number outside `0..256`.
+    pub fn count(&self, alloc: Global, options: ByteInnerFindOptions) -> Tried<usize>
+        ensures { IfOk result (λ outcome. outcome ≡ outcome_of (spec.count_of options.sub options.start options.end self.now)) }
+    {
+        count_between(alloc, self.as_bytes(), options)
+    }
+
+    /// The place in the bytes that a search finds between the bounds; none where the start passes the
+    /// end (Library reference, "Bytes and Bytearray Operations", `bytes.find`). The search is handed
+    /// the bytes between the bounds and those of the needle.
+    ///
+    /// Refused with `ValueError` exactly for a number outside `0..256`.
+    pub fn find<F: Fn(&[u8], &[u8]) -> Option<usize>>(
+        &self,
+        alloc: Global,
+        options: ByteInnerFindOptions,
+        find: F,
+    ) -> Tried<Option<usize>>
+        requires callable { F.IsAlwaysCallable find }
+        requires inside { (part : Bor (List ℕ)) (needle : Bor (List ℕ)) (place : ℕ) → F.post find part needle (Some place) → place ≤ length part.now }
+        ensures { (search : List ℕ → List ℕ → Option ℕ) → spec.IsSearch (F.post find) search → IfOk result (λ outcome. outcome ≡ outcome_of (spec.find_of search options.sub options.start options.end self.now)) }
+    {
+        find_between(alloc, self.as_bytes(), options, find)
+    }
+
+    /// The parts between the matches of a separator from the left, or without a separator between runs
+    /// of blanks, in order; the greatest number of cuts is no bound where it is negative (Library
+    /// reference, "Bytes and Bytearray Operations", `bytes.split`).
+    ///
+    /// Refused with `ValueError` exactly for an empty separator.
+    pub fn split(&self, alloc: Global, options: ByteInnerSplitOptions) -> Tried<ByteLists>
+        ensures { IfOk result (λ outcome. outcome ≡ outcome_of (spec.split_of options.sep options.maxsplit self.now)) }
+    {
+        split_at(alloc, self.as_bytes(), options)
+    }
+
+    /// The same with cuts from the right; the parts are in order (Library reference, "Bytes and
+    /// Bytearray Operations", `bytes.rsplit`).
+    ///
+    /// Refused with `ValueError` exactly for an empty separator.
+    pub fn rsplit(&self, alloc: Global, options: ByteInnerSplitOptions) -> Tried<ByteLists>
+        ensures { IfOk result (λ outcome. outcome ≡ outcome_of (spec.rsplit_of options.sep options.maxsplit self.now)) }
+    {
+        rsplit_at(alloc, self.as_bytes(), options)
+    }
+
+    /// What stands before the first match of a separator, whether there is one, and what stands
+    /// behind it; without a match all the bytes are the front (Library reference, "Bytes and Bytearray
+    /// Operations", `bytes.partition`).
+    ///
+    /// Refused with `ValueError` exactly for an empty separator.
+    pub fn partition(&self, alloc: Global, sub: &PyBytesInner) -> Tried<(Vec<u8>, bool, Vec<u8>)>
+        ensures { IfOk result (λ outcome. spec.parts_answered outcome ≡ outcome_of (spec.partition_by sub.now self.now)) }
+    {
+        partition_at(alloc, self.as_bytes(), sub.as_bytes())
+    }
+
+    /// What stands behind the last match of a separator, whether there is one, and what stands before
+    /// it; without a match all the bytes are the back (Library reference, "Bytes and Bytearray
+    /// Operations", `bytes.rpartition`).
+    ///
+    /// Refused with `ValueError` exactly for an empty separator.
+    pub fn rpartition(&self, alloc: Global, sub: &PyBytesInner) -> Tried<(Vec<u8>, bool, Vec<u8>)>
+        ensures { IfOk result (λ outcome. spec.parts_answered outcome ≡ outcome_of (spec.rpartition_by sub.now self.now)) }
+    {
+        rpartition_at(alloc, self.as_bytes(), sub.as_bytes())
+    }
+
+    /// The parts, with these bytes between each two (Library reference, "Bytes and Bytearray
+    /// Operations", `bytes.join`).
+    ///
+    /// Refused with `OverflowError` exactly where that is more than `isize::MAX` bytes.
+    pub fn join(&self, alloc: Global, parts: &ByteLists) -> Tried<Vec<u8>>
+        ensures { IfOk result (λ outcome. items_of outcome ≡ outcome_of (fitted (joined self.now parts.now))) }
+    {
+        pybuf_search::joined(alloc, self.as_bytes(), parts.as_slice())
+    }
+
+    /// The bytes without a prefix, where they begin with it; it is removed once (Library reference,
+    /// "Bytes and Bytearray Operations", `bytes.removeprefix`).
+    pub fn removeprefix(&self, alloc: Global, prefix: &PyBytesInner) -> Made<Vec<u8>>
+        ensures { IfOk result (λ bytes. bytes.items ≡ without_prefix self.now prefix.now) }
+    {
+        let rest = pybuf_search::without_prefix(self.as_bytes(), prefix.as_bytes());
+        Ok(Vec::from_slice(alloc, rest)?)
+    }
+
+    /// The bytes without a suffix, where they end with it; it is removed once (Library reference,
+    /// "Bytes and Bytearray Operations", `bytes.removesuffix`).
+    pub fn removesuffix(&self, alloc: Global, suffix: &PyBytesInner) -> Made<Vec<u8>>
+        ensures { IfOk result (λ bytes. bytes.items ≡ without_suffix self.now suffix.now) }
+    {
+        let rest = pybuf_search::without_suffix(self.as_bytes(), suffix.as_bytes());
+        Ok(Vec::from_slice(alloc, rest)?)
+    }
+}

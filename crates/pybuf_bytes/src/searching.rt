@@ -1,0 +1,199 @@
+//! Searches and cuts of bytes by arguments.
+ghost use Rattle.std.specs.Prelude.{◌≡◌, ◌≤◌, ℕ, List, Option, Some, IfOk, length};
+ghost use Rattle.std.specs.Borrow.{Bor};
+ghost use Rattle.pybuf_value.specs.Halting.{outcome_of};
+ghost use Rattle.pybuf_search.specs.Joins.{items_of};
+ghost use Rattle.pybuf_bytes.specs.Searching as spec;
+ghost use Rattle.pybuf_bytes.specs.Searching.{IsSearch};
+
+use crate::arguments::{ByteInnerFindOptions, ByteInnerSplitOptions};
+use crate::needles::Needle;
+use pybuf_arguments::{StringRange, bytes_lent};
+use pybuf_letters::{rsplit_at_blanks, split_at_blanks};
+use pybuf_search::{added, holds_needle, number_of_matches, partition, rpartition};
+use pybuf_value::{ByteLists, ByteOr, Fault, Lender, Made, Outcome, Tried, Value};
+use std::alloc::Global;
+
+/// Whether the needle stands anywhere in the bytes, as Python's `in` asks (Library reference, "Common
+/// Sequence Operations").
+///
+/// Refused with `ValueError` exactly for a number outside `0..256`.
+pub fn contains_needle(bytes: &[u8], needle: &Needle) -> Result<bool, Fault>
+    ensures { result ≡ spec.contains_of needle.now bytes.now }
+{
+    match needle {
+        Needle::Bytes(sub) => Ok(holds_needle(bytes, sub.as_bytes())),
+        Needle::Number(number) => {
+            let byte = number.byte_or()?;
+            Ok(holds_needle(bytes, &[byte]))
+        }
+    }
+}
+
+/// The number of matches of the needle between the bounds, of which no two overlap (Library
+/// reference, "Bytes and Bytearray Operations", `bytes.count`); none where the start passes the end.
+///
+/// Refused with `ValueError` exactly for a number outside `0..256`.
+pub fn count_between(alloc: Global, bytes: &[u8], options: ByteInnerFindOptions) -> Tried<usize>
+    ensures { IfOk result (λ outcome. outcome ≡ outcome_of (spec.count_of options.sub options.start options.end bytes.now)) }
+{
+    match options.get_value(alloc, bytes.len())? {
+        Outcome::Refused(fault) => Ok(Outcome::Refused(fault)),
+        Outcome::Done((needle, range)) => {
+            if !range.is_normal() {
+                return Ok(Outcome::Done(0));
+            }
+            Ok(Outcome::Done(number_of_matches(&bytes[range], needle.as_slice())))
+        }
+    }
+}
+
+/// The place in the bytes that a search finds between the bounds; none where the start passes the
+/// end (Library reference, "Bytes and Bytearray Operations", `bytes.find`). The search is handed the
+/// bytes between the bounds and those of the needle.
+///
+/// Refused with `ValueError` exactly for a number outside `0..256`.
+pub fn find_between<F: Fn(&[u8], &[u8]) -> Option<usize>>(
+    alloc: Global,
+    bytes: &[u8],
+    options: ByteInnerFindOptions,
+    find: F,
+) -> Tried<Option<usize>>
+    requires callable { F.IsAlwaysCallable find }
+    requires inside { (part : Bor (List ℕ)) (needle : Bor (List ℕ)) (place : ℕ) → F.post find part needle (Some place) → place ≤ length part.now }
+    ensures { (search : List ℕ → List ℕ → Option ℕ) → IsSearch (F.post find) search → IfOk result (λ outcome. outcome ≡ outcome_of (spec.find_of search options.sub options.start options.end bytes.now)) }
+{
+    match options.get_value(alloc, bytes.len())? {
+        Outcome::Refused(fault) => Ok(Outcome::Refused(fault)),
+        Outcome::Done((needle, range)) => {
+            if !range.is_normal() {
+                return Ok(Outcome::Done(None));
+            }
+            let start = range.start;
+            match find(&bytes[range], needle.as_slice()) {
+                None => Ok(Outcome::Done(None)),
+                Some(place) => Ok(Outcome::Done(Some(start + place))),
+            }
+        }
+    }
+}
+
+/// The three parts of a partition, as bytes of their own.
+fn copied_parts(
+    alloc: Global,
+    first: &[u8],
+    found: bool,
+    second: &[u8],
+) -> Made<(Vec<u8>, bool, Vec<u8>)>
+    ensures { IfOk result (λ parts. (parts.0.items ≡ first.now) × (parts.1 ≡ found) × (parts.2.items ≡ second.now)) }
+{
+    let first = Vec::from_slice(alloc, first)?;
+    let second = Vec::from_slice(alloc, second)?;
+    Ok((first, found, second))
+}
+
+/// What stands before the first match of a separator, whether there is one, and what stands behind
+/// it; without a match all the bytes are the front (Library reference, "Bytes and Bytearray
+/// Operations", `bytes.partition`).
+///
+/// Refused with `ValueError` exactly for an empty separator.
+pub fn partition_at(
+    alloc: Global,
+    bytes: &[u8],
+    separator: &[u8],
+) -> Tried<(Vec<u8>, bool, Vec<u8>)>
+    ensures { IfOk result (λ outcome. spec.parts_answered outcome ≡ outcome_of (spec.partition_by separator.now bytes.now)) }
+{
+    if separator.is_empty() {
+        return Ok(Outcome::Refused(Fault::Value));
+    }
+    let (front, found, back) = partition(bytes, separator);
+    let parts = copied_parts(alloc, front, found, back)?;
+    Ok(Outcome::Done(parts))
+}
+
+/// What stands behind the last match of a separator, whether there is one, and what stands before it;
+/// without a match all the bytes are the back (Library reference, "Bytes and Bytearray Operations",
+/// `bytes.rpartition`).
+///
+/// Refused with `ValueError` exactly for an empty separator.
+pub fn rpartition_at(
+    alloc: Global,
+    bytes: &[u8],
+    separator: &[u8],
+) -> Tried<(Vec<u8>, bool, Vec<u8>)>
+    ensures { IfOk result (λ outcome. spec.parts_answered outcome ≡ outcome_of (spec.rpartition_by separator.now bytes.now)) }
+{
+    if separator.is_empty() {
+        return Ok(Outcome::Refused(Fault::Value));
+    }
+    let (back, found, front) = rpartition(bytes, separator);
+    let parts = copied_parts(alloc, back, found, front)?;
+    Ok(Outcome::Done(parts))
+}
+
+/// The bytes, and behind them those of a bytes value, or of the exporter or the view that a handle
+/// names, contiguous or not (Library reference, "Common Sequence Operations", `s + t`).
+///
+/// Refused with `UnknownName` where the lender hasn't the handle, with `ValueError` where it names a
+/// released view, with `TypeError` for every other value, and then with `OverflowError` exactly where
+/// both are more than `isize::MAX` bytes.
+pub fn concat_with<L: Lender>(
+    alloc: Global,
+    bytes: &[u8],
+    other: &Value,
+    lender: &L,
+) -> Tried<Vec<u8>>
+    ensures { IfOk result (λ outcome. items_of outcome ≡ outcome_of (spec.concat_of (L.pairs lender.now) other.now bytes.now)) }
+{
+    let Value::One(scalar) = other else {
+        return Ok(Outcome::Refused(Fault::Kind));
+    };
+    match bytes_lent(scalar, lender) {
+        Ok(operand) => added(alloc, bytes, operand),
+        Err(fault) => Ok(Outcome::Refused(fault)),
+    }
+}
+
+/// The parts between the matches of a separator from the left, or without a separator between runs of
+/// blanks, in order; the greatest number of cuts is no bound where it is negative (Library reference,
+/// "Bytes and Bytearray Operations", `bytes.split`).
+///
+/// Refused with `ValueError` exactly for an empty separator.
+pub fn split_at(alloc: Global, bytes: &[u8], options: ByteInnerSplitOptions) -> Tried<ByteLists>
+    ensures { IfOk result (λ outcome. outcome ≡ outcome_of (spec.split_of options.sep options.maxsplit bytes.now)) }
+{
+    match options.get_value() {
+        Err(fault) => Ok(Outcome::Refused(fault)),
+        Ok((separator, most)) => {
+            let parts = match separator {
+                None => split_at_blanks(alloc, bytes, most)?,
+                Some(separator) => {
+                    pybuf_search::split(alloc, bytes, separator.as_bytes(), most)?
+                }
+            };
+            Ok(Outcome::Done(parts))
+        }
+    }
+}
+
+/// The same with cuts from the right; the parts are in order (Library reference, "Bytes and Bytearray
+/// Operations", `bytes.rsplit`).
+///
+/// Refused with `ValueError` exactly for an empty separator.
+pub fn rsplit_at(alloc: Global, bytes: &[u8], options: ByteInnerSplitOptions) -> Tried<ByteLists>
+    ensures { IfOk result (λ outcome. outcome ≡ outcome_of (spec.rsplit_of options.sep options.maxsplit bytes.now)) }
+{
+    match options.get_value() {
+        Err(fault) => Ok(Outcome::Refused(fault)),
+        Ok((separator, most)) => {
+            let parts = match separator {
+                None => rsplit_at_blanks(alloc, bytes, most)?,
+                Some(separator) => {
+                    pybuf_search::rsplit(alloc, bytes, separator.as_bytes(), most)?
+                }
+            };
+            Ok(Outcome::Done(parts))
+        }
+    }
+}

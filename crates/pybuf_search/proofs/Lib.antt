@@ -1,0 +1,5 @@
+pub mod MatchLaws
+pub mod CutLemmas
+pub mod JoinLaws
+pub mod RepeatLemmas
+pub mod OneByte

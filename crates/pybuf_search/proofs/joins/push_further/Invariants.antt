@@ -1,0 +1,6 @@
+use Rattle.std.proofs.Common.{◌≡◌, ◌++◌, take}
+use Rattle.pybuf_search.specs.Joins.{further}
+use Rattle.pybuf_search.proofs.joins.push_further.Given as goal
+
+abbrev pub invariant-loop-part : goal.invariant-loop-part
+invariant-loop-part l = l.whole.items ≡ l.initial.whole.items ++ further l.separator (take l.part-index l.parts)
