@@ -190,11 +190,7 @@ impl AnyStr for Bytes {
         pybuf_search::number_of_matches(&self.bytes[range], needle)
     }
 
-    fn py_partition(
-        &self,
-        alloc: Global,
-        sub: &PyBytesInner,
-    ) -> Tried<(Vec<u8>, bool, Vec<u8>)> {
+    fn py_partition(&self, alloc: Global, sub: &PyBytesInner) -> Tried<(Vec<u8>, bool, Vec<u8>)> {
         partition_at(alloc, self.bytes.as_slice(), sub.as_bytes())
     }
 
