@@ -1,3 +1,4 @@
 pub mod Options
 pub mod Needles
 pub mod Searching
+pub mod Shaping

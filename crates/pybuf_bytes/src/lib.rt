@@ -2,16 +2,21 @@
 #![tactic(auto)]
 
 mod arguments;
+mod decoding;
 mod inner;
 mod letters;
+mod methods;
 mod needles;
 mod options;
 mod search_methods;
 mod searching;
+mod shaping;
 
 pub use arguments::{ByteInnerFindOptions, ByteInnerSplitOptions};
+pub use decoding::{DecodeArgs, bytes_decode, decode_text};
 pub use inner::PyBytesInner;
 pub use letters::SplitLinesArgs;
+pub use methods::{MethodCall, MethodName, MethodReply};
 pub use needles::Needle;
 pub use options::ByteInnerNewOptions;
 pub use pybuf_arguments::{
@@ -19,13 +24,17 @@ pub use pybuf_arguments::{
     endswith, single_or_tuple_any, startswith,
 };
 pub use pybuf_letters::is_py_ascii_whitespace;
+pub use pybuf_shaping::{ByteInnerPaddingOptions, ByteInnerTranslateOptions, ExpandTabsArgs};
 pub use searching::{
     concat_with, contains_needle, count_between, find_between, partition_at, rpartition_at,
     rsplit_at, split_at,
 };
+pub use shaping::bytes_to_hex;
 
 #[cfg(test)]
 mod search_tests;
+#[cfg(test)]
+mod shaping_tests;
 #[cfg(test)]
 mod tests;
 #[cfg(test)]

@@ -47,21 +47,21 @@ fn is_name(text: &[u8], name: &str) -> bool
 }
 
 /// Whether a name is that of UTF-8.
-fn is_utf8_name(name: &[u8]) -> bool
+pub(crate) fn is_utf8_name(name: &[u8]) -> bool
     ensures { result ≡ spec.is_utf8_name name.now }
 {
     is_name(name, "utf-8") || is_name(name, "utf8")
 }
 
 /// Whether a name is that of ASCII.
-fn is_ascii_name(name: &[u8]) -> bool
+pub(crate) fn is_ascii_name(name: &[u8]) -> bool
     ensures { result ≡ spec.is_ascii_name name.now }
 {
     is_name(name, "ascii")
 }
 
 /// Whether errors are handled by a refusal, as they are where no handler is named.
-fn is_strict(errors: Option<&Text>) -> bool
+pub(crate) fn is_strict(errors: Option<&Text>) -> bool
     ensures { result ≡ spec.is_strict (option_copied errors.entry) }
 {
     match errors {
@@ -71,7 +71,7 @@ fn is_strict(errors: Option<&Text>) -> bool
 }
 
 /// Whether each character of a text is one of ASCII.
-fn is_ascii(text: &[u8]) -> bool
+pub(crate) fn is_ascii(text: &[u8]) -> bool
     ensures { result ≡ spec.is_ascii text.now }
 {
     text.is_ascii()

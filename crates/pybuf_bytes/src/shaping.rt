@@ -1,0 +1,208 @@
+//! Strings of bytes in other shapes.
+ghost use Rattle.std.specs.Prelude.{◌≡◌, IfOk, Ok, length};
+ghost use Rattle.std.specs.Option.{option_copied};
+ghost use Rattle.pybuf_value.specs.Halting.{outcome_of};
+ghost use Rattle.pybuf_search.specs.Joins.{items_of};
+ghost use Rattle.pybuf_shaping.specs.Arguments.{filled, translation};
+ghost use Rattle.pybuf_shaping.specs.Digits.{hex_text, bytes_of_hex};
+ghost use Rattle.pybuf_shaping.specs.Padding.{centered, justified_left, justified_right, zero_filled};
+ghost use Rattle.pybuf_shaping.specs.Replacing.{replacement, replaced, count_given, limit_given};
+ghost use Rattle.pybuf_shaping.specs.Tables.{table_of};
+ghost use Rattle.pybuf_shaping.specs.Tabs.{expanded, tab_size};
+ghost use Rattle.pybuf_bytes.specs.Shaping.{group_given};
+
+use crate::inner::PyBytesInner;
+use pybuf_shaping::{ByteInnerPaddingOptions, ByteInnerTranslateOptions, ExpandTabsArgs};
+use pybuf_value::{ByteList, Lender, Made, Outcome, Text, Tried};
+use std::alloc::Global;
+
+/// The bytes of an answer, as a vector. Takes no memory.
+fn as_vec(answer: Tried<ByteList>) -> Tried<Vec<u8>>
+    ensures { IfOk result (λ outcome. answer ≡ Ok (items_of outcome)) }
+{
+    match answer? {
+        Outcome::Done(bytes) => Ok(Outcome::Done(bytes.into_vec())),
+        Outcome::Refused(fault) => Ok(Outcome::Refused(fault)),
+    }
+}
+
+/// The bytes as pairs of lower-case hexadecimal digits, with a separator, where one is given, between
+/// each two groups of so many bytes: of one where no size is given, counted from the right for a positive
+/// size and from the left for a negative one, none for 0. No bytes give no text (Python's library
+/// reference, "Bytes Objects", `bytes.hex`).
+///
+/// Refused, where there are bytes, a separator and a size other than 0, with `ValueError` exactly for a
+/// separator that isn't one byte below 128, and then with `OverflowError` exactly where the text is more
+/// than `isize::MAX` bytes.
+pub fn bytes_to_hex(
+    alloc: Global,
+    bytes: &[u8],
+    sep: Option<&[u8]>,
+    bytes_per_sep: Option<isize>,
+) -> Tried<Text>
+    ensures { IfOk result (λ outcome. outcome ≡ outcome_of (hex_text (option_copied sep.entry) (group_given bytes_per_sep) bytes.now)) }
+{
+    pybuf_shaping::hex_text(alloc, bytes, sep, bytes_per_sep.unwrap_or(1))
+}
+
+impl PyBytesInner {
+    /// The bytes as hexadecimal digits, as `bytes_to_hex` gives and refuses them.
+    pub fn hex(
+        &self,
+        alloc: Global,
+        sep: Option<&[u8]>,
+        bytes_per_sep: Option<isize>,
+    ) -> Tried<Text>
+        ensures { IfOk result (λ outcome. outcome ≡ outcome_of (hex_text (option_copied sep.entry) (group_given bytes_per_sep) self.now)) }
+    {
+        bytes_to_hex(alloc, self.as_bytes(), sep, bytes_per_sep)
+    }
+
+    /// The bytes that a text writes as pairs of hexadecimal digits of either case; blanks of ASCII
+    /// between pairs are skipped (Python's library reference, "Bytes Objects", `bytes.fromhex`).
+    ///
+    /// Refused with `ValueError` exactly for every other text.
+    pub fn fromhex(alloc: Global, text: &[u8]) -> Tried<Vec<u8>>
+        ensures { IfOk result (λ outcome. items_of outcome ≡ outcome_of (bytes_of_hex text.now)) }
+    {
+        as_vec(pybuf_shaping::bytes_of_hex(alloc, text))
+    }
+
+    /// The bytes without those to be dropped, each other mapped by its entry of a table of 256 bytes
+    /// (library reference, "Bytes and Bytearray Operations", `bytes.translate`).
+    ///
+    /// Refused as `ByteInnerTranslateOptions::get_value` is.
+    pub fn translate<L: Lender>(
+        &self,
+        alloc: Global,
+        options: &ByteInnerTranslateOptions,
+        lender: &L,
+    ) -> Tried<Vec<u8>>
+        ensures { IfOk result (λ outcome. items_of outcome ≡ outcome_of (translation (L.pairs lender.now) options.now.table options.now.delete self.now)) }
+    {
+        as_vec(pybuf_shaping::translate_by(
+            alloc,
+            self.as_bytes(),
+            options.table.as_ref(),
+            options.delete.as_ref(),
+            lender,
+        ))
+    }
+
+    /// The table of 256 bytes that maps each byte of `from` to the one at the same place of `to`, and
+    /// every other byte to itself; of repeated bytes the first counts (library reference, "Bytes and
+    /// Bytearray Operations", `bytes.maketrans`).
+    ///
+    /// Refused with `ValueError` exactly where the lengths differ.
+    pub fn maketrans(alloc: Global, from: &PyBytesInner, to: &PyBytesInner) -> Tried<Vec<u8>>
+        ensures { IfOk result (λ outcome. items_of outcome ≡ outcome_of (table_of from.now to.now)) }
+    {
+        as_vec(pybuf_shaping::make_table(alloc, from.as_bytes(), to.as_bytes()))
+    }
+
+    /// The bytes in the middle of a width, filled up on both sides; the bytes where they are long
+    /// enough. Of an odd number of missing bytes one more stands on the left where the width is odd too,
+    /// and else on the right (library reference, "Bytes and Bytearray Operations", `bytes.center`).
+    ///
+    /// Refused as `ByteInnerPaddingOptions::fill` is.
+    pub fn center<L: Lender>(
+        &self,
+        alloc: Global,
+        options: &ByteInnerPaddingOptions,
+        lender: &L,
+    ) -> Tried<Vec<u8>>
+        ensures { IfOk result (λ outcome. items_of outcome ≡ outcome_of (filled (centered options.now.width) (L.pairs lender.now) options.now.fillchar self.now)) }
+    {
+        as_vec(pybuf_shaping::center_with(alloc, self.as_bytes(), options, lender))
+    }
+
+    /// The bytes on the left of a width, filled up on the right; the bytes where they are long enough
+    /// (library reference, "Bytes and Bytearray Operations", `bytes.ljust`).
+    ///
+    /// Refused as `ByteInnerPaddingOptions::fill` is.
+    pub fn ljust<L: Lender>(
+        &self,
+        alloc: Global,
+        options: &ByteInnerPaddingOptions,
+        lender: &L,
+    ) -> Tried<Vec<u8>>
+        ensures { IfOk result (λ outcome. items_of outcome ≡ outcome_of (filled (justified_left options.now.width) (L.pairs lender.now) options.now.fillchar self.now)) }
+    {
+        as_vec(pybuf_shaping::justify_left_with(alloc, self.as_bytes(), options, lender))
+    }
+
+    /// The bytes on the right of a width, filled up on the left; the bytes where they are long enough
+    /// (library reference, "Bytes and Bytearray Operations", `bytes.rjust`).
+    ///
+    /// Refused as `ByteInnerPaddingOptions::fill` is.
+    pub fn rjust<L: Lender>(
+        &self,
+        alloc: Global,
+        options: &ByteInnerPaddingOptions,
+        lender: &L,
+    ) -> Tried<Vec<u8>>
+        ensures { IfOk result (λ outcome. items_of outcome ≡ outcome_of (filled (justified_right options.now.width) (L.pairs lender.now) options.now.fillchar self.now)) }
+    {
+        as_vec(pybuf_shaping::justify_right_with(alloc, self.as_bytes(), options, lender))
+    }
+
+    /// The bytes with digits `0` before them up to a width, behind one sign that they begin with; the
+    /// bytes where they are long enough (library reference, "Bytes and Bytearray Operations",
+    /// `bytes.zfill`).
+    pub fn zfill(&self, alloc: Global, width: isize) -> Made<Vec<u8>>
+        ensures { IfOk result (λ bytes. bytes.items ≡ zero_filled width self.now) }
+    {
+        let list = pybuf_shaping::zero_fill(alloc, self.as_bytes(), width)?;
+        Ok(list.into_vec())
+    }
+
+    /// The bytes with spaces in place of each tab, up to the next column that is a multiple of the size,
+    /// or none for a size of 0 or less. Columns count bytes from 0, and begin anew behind `\n` and `\r`
+    /// (library reference, "Bytes and Bytearray Operations", `bytes.expandtabs`).
+    ///
+    /// Refused with `OverflowError` exactly where that is more than `isize::MAX` bytes.
+    pub fn expandtabs(&self, alloc: Global, options: ExpandTabsArgs) -> Tried<Vec<u8>>
+        ensures { IfOk result (λ outcome. items_of outcome ≡ outcome_of (expanded (tab_size options.tabsize) self.now)) }
+    {
+        as_vec(pybuf_shaping::expand_tabs(alloc, self.as_bytes(), options.tabsize()))
+    }
+
+    /// The bytes with others in place of the first matches of a needle from the left, and of all where no
+    /// number or a negative one is given. An empty needle stands before each byte and at the end (library
+    /// reference, "Bytes and Bytearray Operations", `bytes.replace`).
+    ///
+    /// Refused with `OverflowError` exactly where that is more than `isize::MAX` bytes.
+    pub fn replace(
+        &self,
+        alloc: Global,
+        from: &PyBytesInner,
+        to: &PyBytesInner,
+        maxcount: Option<isize>,
+    ) -> Tried<Vec<u8>>
+        ensures { IfOk result (λ outcome. items_of outcome ≡ outcome_of (replacement (count_given maxcount) from.now to.now self.now)) }
+    {
+        let most = maxcount.unwrap_or(-1);
+        as_vec(pybuf_shaping::replace(alloc, self.as_bytes(), from.as_bytes(), to.as_bytes(), most))
+    }
+
+    /// The same where both are of one length, so that each byte keeps its place.
+    pub fn replace_in_place(
+        &self,
+        alloc: Global,
+        from: &PyBytesInner,
+        to: &PyBytesInner,
+        maxcount: Option<usize>,
+    ) -> Made<Vec<u8>>
+        requires { length to.now ≡ length from.now }
+        ensures { IfOk result (λ bytes. bytes.items ≡ replaced (limit_given maxcount) from.now to.now self.now) }
+    {
+        let list = pybuf_shaping::replace_in_place(
+            alloc,
+            self.as_bytes(),
+            from.as_bytes(),
+            to.as_bytes(),
+            maxcount,
+        )?;
+        Ok(list.into_vec())
+    }
+}

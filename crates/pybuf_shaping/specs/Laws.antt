@@ -1,0 +1,89 @@
+-- What holds of the digits, of tables and of widths.
+use Rattle.std.specs.Prelude.{◌≡◌, ◌==◌, ◌<◌, ◌≤◌, ℕ, Bool, not, ℤ, pos, List, ◌∷◌, [], ◌++◌, length, map, Ok, ◌⊎◌, IfOk, false}
+use Rattle.std.specs.List.{All, flat_map, filter, list_any}
+use Rattle.std.specs.Str.{byte}
+use Rattle.hex.specs.Hex.{encode_lower, is_hex_digit}
+use Rattle.pybuf_shaping.specs.Digits.{bytes_of_hex, separated, groups_from_left, groups_from_right}
+use Rattle.pybuf_shaping.specs.Tables.{all_bytes, translated, counterpart, table_of}
+use Rattle.pybuf_shaping.specs.Replacing.{replaced}
+use Rattle.pybuf_shaping.specs.Padding.{centered, justified_left, justified_right, zero_filled}
+use Rattle.pybuf_shaping.specs.Tabs.{expanded_from}
+
+abbrev pub AreBytes : List ℕ → Type 0
+AreBytes bytes = All (λ b. b < 256) bytes
+
+-- ---- digits
+
+-- the digits of bytes are read as the bytes
+abbrev pub DigitsReadBack : List ℕ → Type 0
+DigitsReadBack bytes = AreBytes bytes → bytes_of_hex (encode_lower bytes) ≡ Ok bytes
+
+-- Groups of bytes one after another, of which all but the first are full, and the first isn't empty.
+pub record AreFromRight (size : ℕ) (bytes : List ℕ) (groups : List (List ℕ)) : Type 0 where
+  pub first : List ℕ
+  pub others : List (List ℕ)
+  pub parts : groups ≡ first ∷ others
+  pub whole : flat_map (λ group. group) groups ≡ bytes
+  pub begins : (0 < length first) × (length first ≤ size)
+  pub full : All (λ group. length group ≡ size) others
+
+-- The same of which all but the last are full, and the last isn't empty.
+pub record AreFromLeft (size : ℕ) (bytes : List ℕ) (groups : List (List ℕ)) : Type 0 where
+  pub others : List (List ℕ)
+  pub last : List ℕ
+  pub parts : groups ≡ others ++ last ∷ []
+  pub whole : flat_map (λ group. group) groups ≡ bytes
+  pub full : All (λ group. length group ≡ size) others
+  pub ends : (0 < length last) × (length last ≤ size)
+
+-- Groups are counted from the side that they are said to be counted from.
+pub record GroupsAreCounted (size : ℕ) (bytes : List ℕ) : Type 0 where
+  pub right : AreFromRight size bytes (groups_from_right size bytes)
+  pub left : AreFromLeft size bytes (groups_from_left size bytes)
+
+-- a text without a byte
+abbrev pub without : ℕ → List ℕ → List ℕ
+without b text = filter (λ other. not (other == b)) text
+
+-- Without its separators, a text in groups is the digits of the bytes one after another.
+abbrev pub SeparatorsLeftOut : ℕ → List (List ℕ) → Type 0
+SeparatorsLeftOut separator groups = AreBytes (flat_map (λ group. group) groups) → is_hex_digit separator ≡ false →
+    without separator (separated separator groups) ≡ encode_lower (flat_map (λ group. group) groups)
+
+-- ---- tables
+
+-- the table that maps each byte to itself changes nothing
+abbrev pub ByIdentity : List ℕ → Type 0
+ByIdentity bytes = AreBytes bytes → translated all_bytes [] bytes ≡ bytes
+
+-- by a table that was made of two strings, each byte becomes its counterpart, once
+abbrev pub EachOnce : List ℕ → List ℕ → List ℕ → Type 0
+EachOnce from to bytes = AreBytes bytes → IfOk (table_of from to) (λ table. translated table [] bytes ≡ map (counterpart from to) bytes)
+
+-- ---- widths
+
+-- bytes of a width, or those that were long enough
+abbrev pub IsWideOrSame : ℤ → List ℕ → List ℕ → Type 0
+IsWideOrSame width bytes result = (result ≡ bytes) ⊎ (pos (length result) ≡ width)
+
+pub record AreWideOrSame (width : ℤ) (fill : ℕ) (bytes : List ℕ) : Type 0 where
+  pub center : IsWideOrSame width bytes (centered width fill bytes)
+  pub left : IsWideOrSame width bytes (justified_left width fill bytes)
+  pub right : IsWideOrSame width bytes (justified_right width fill bytes)
+  pub zeros : IsWideOrSame width bytes (zero_filled width bytes)
+
+-- ---- tabs
+
+abbrev pub holds_tab : List ℕ → Bool
+holds_tab bytes = list_any (λ b. b == byte "\t") bytes
+
+-- no tab is left, and without one nothing changes
+pub record TabsAreSpaces (size : ℕ) (bytes : List ℕ) : Type 0 where
+  pub none : holds_tab (expanded_from size 0 bytes) ≡ false
+  pub same : holds_tab bytes ≡ false → expanded_from size 0 bytes ≡ bytes
+
+-- ---- replacing
+
+-- a needle in place of its own matches changes nothing
+abbrev pub BySame : ℤ → List ℕ → List ℕ → Type 0
+BySame most old bytes = replaced most old old bytes ≡ bytes

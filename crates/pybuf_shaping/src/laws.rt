@@ -1,0 +1,48 @@
+//! Laws of the definitions that the contracts cite. Each stands on a function that does nothing.
+ghost use Rattle.std.specs.Prelude.{◌<◌, ℕ, ℤ, List, length};
+ghost use Rattle.pybuf_shaping.specs.Laws.{DigitsReadBack, GroupsAreCounted, SeparatorsLeftOut, ByIdentity, EachOnce, AreWideOrSame, TabsAreSpaces, BySame};
+
+use pybuf_search::split_joins_back;
+
+/// Reading the digits of bytes gives the bytes.
+pub fn hex_reads_back()
+    ensures { (bytes : List ℕ) → DigitsReadBack bytes }
+{}
+
+/// The groups of bytes are the bytes, cut from the side that groups are counted from.
+pub fn groups_are_counted()
+    ensures { (size : ℕ) (bytes : List ℕ) → 0 < size → 0 < length bytes → GroupsAreCounted size bytes }
+{}
+
+/// Digits in groups are the digits of all bytes once the separators are left out. A separator that is a
+/// digit itself can't be told from the others.
+pub fn separators_left_out()
+    ensures { (separator : ℕ) (groups : List (List ℕ)) → SeparatorsLeftOut separator groups }
+{}
+
+/// By the table of all bytes, bytes stay as they are.
+pub fn identity_table_changes_nothing()
+    ensures { (bytes : List ℕ) → ByIdentity bytes }
+{}
+
+/// By a table that was made of two strings, each byte is mapped once.
+pub fn tables_map_each_byte_once()
+    ensures { (from to bytes : List ℕ) → EachOnce from to bytes }
+{}
+
+/// What is filled up has the width that was asked for, or is the bytes.
+pub fn wide_or_the_same()
+    ensures { (width : ℤ) (fill : ℕ) (bytes : List ℕ) → AreWideOrSame width fill bytes }
+{}
+
+/// No tab is left, and bytes without one stay as they are.
+pub fn tabs_are_spaces()
+    ensures { (size : ℕ) (bytes : List ℕ) → TabsAreSpaces size bytes }
+{}
+
+/// A needle in place of its own matches changes nothing. (What was split joins back.)
+pub fn replacing_by_the_same()
+    ensures { (most : ℤ) (old bytes : List ℕ) → BySame most old bytes }
+{
+    split_joins_back();
+}
