@@ -49,6 +49,11 @@ def replies(lines):
                 yield repr(bytes(subject))
             elif word == "tolist":
                 yield repr(subject.tolist())
+            elif word == "next":
+                yield repr(next(subject))
+            elif word == "iter":
+                objects.append(iter(subject))
+                yield f"h{len(objects) - 1}"
             elif word == "release":
                 subject.release()
                 yield "ok"
@@ -86,6 +91,8 @@ def replies(lines):
                 yield f"h{len(objects) - 1}"
             else:
                 sys.exit(f"no command of this loop: {line}")
+        except StopIteration:
+            yield "stop"
         except (IndexError, NotImplementedError, TypeError, ValueError) as fault:
             yield f"! {type(fault).__name__}"
 

@@ -21,6 +21,7 @@ from python_objects import NATIVE_CODES, OPERATORS, AsWritten, Items, Reply, row
 WORD = 2**63
 ABSENT = object()
 EDITS = "append extend iadd insert pop remove clear reverse imul init copy".split()
+ITERATING = "iter next hint setstate".split()
 
 
 class Ours(AsWritten):
@@ -32,6 +33,9 @@ class Ours(AsWritten):
         self.strides = {}
         # the handles of vectors, each of which is a bytearray, or bytes where it is read-only
         self.vectors = set()
+        # the handle of what each iterator goes over, by the iterator's handle, and those that are exhausted
+        self.iterators = {}
+        self.exhausted = set()
 
     def reply(self, line):
         words = line.split(" ")
@@ -47,6 +51,8 @@ class Ours(AsWritten):
         handle = int(words[1][1:])
         if handle >= len(self.objects):
             return True
+        if handle in self.iterators:
+            return words[0] not in (("iter", "next") if self.iterators[handle] in self.exporters else ITERATING)
         is_view, is_vector = handle in self.exporters, handle in self.vectors
         is_byte_array = not is_view and not is_vector and isinstance(self.objects[handle], bytearray)
         if words[0] in EDITS:
@@ -58,7 +64,8 @@ class Ours(AsWritten):
             "set": is_view or is_byte_array,
             "del": is_view or is_byte_array,
             "take": is_vector,
-            **dict.fromkeys(("compare", "hash", "repr"), not is_vector),
+            **dict.fromkeys(("compare", "hash", "repr", "iter"), not is_vector),
+            **dict.fromkeys(("next", "hint", "setstate"), False),
         }
         return not kinds.get(words[0], is_view or words[0] in ("view", "bytes", "len"))
 
@@ -85,8 +92,8 @@ class Ours(AsWritten):
         return source.encode(encoding)
 
     def read(self, value):
-        """The bytes that a value is read as."""
-        if isinstance(value, (int, str)):
+        """The bytes that a value is read as, which an iterator never is."""
+        if isinstance(value, (int, str)) or hasattr(value, "__next__"):
             raise TypeError("no bytes")
         return value.tobytes() if isinstance(value, (memoryview, Items)) else bytes(value)
 
@@ -344,6 +351,32 @@ class Ours(AsWritten):
             return super().do_repr(handle, subject)
         return Reply(f"bytearray({bytes(subject)!r})")
 
+    def do_iter(self, handle, subject):
+        if handle in self.iterators:
+            return super().do_iter(handle, subject)
+        # of several dimensions Python has no iterator; the items of this one are never asked for
+        is_line = handle not in self.exporters or len(subject.shape) == 1
+        made = super().do_iter(handle, subject if is_line else b"")
+        self.iterators[int(made[1:])] = handle
+        return made
+
+    def do_next(self, handle, subject):
+        of = self.iterators[handle]
+        if of in self.exporters and handle not in self.exhausted:
+            # where the view was released there is none, also behind the last item
+            shape = self.objects[of].shape
+            if len(shape) != 1 and 0 not in shape[:1]:
+                raise NotImplementedError("not one dimension")
+        found = super().do_next(handle, subject)
+        if isinstance(found, Reply):
+            self.exhausted.add(handle)
+        return found
+
+    def do_setstate(self, handle, subject, place):
+        if handle in self.exhausted:
+            return Reply("ok")
+        return super().do_setstate(handle, subject, max(-WORD, min(WORD - 1, operator.index(place))))
+
     def place_of(self, view):
         return next(at for at, it in enumerate(self.objects) if it is view)
 
@@ -409,7 +442,7 @@ class Ours(AsWritten):
 NUMBERS = [sign * it + more for it in (0, 1, 2**7, 2**8, 2**15, 2**16, 2**31, 2**32, 2**63, 2**64, 2**126) for sign in (1, -1) for more in (-1, 0, 1)]
 FORMATS = ["4s", "2s", "2H", "BH", "<Bb2x", ">i", "!q", "4p", "2p", "xH", "3xB", "u", "@u", "2u", "<u", "HB", "BHB", "<hH", ">2Hi", "2?", "2c", "8x", "x?", "@cxH", "0HB", "B0H", "B0Q", "0s", "3", "@", "d", "<n", "y", "HB0I", "B2", "<<B", "2B2", "99999999999999999999B", "4611686018427387904H"]
 # how often each is drawn
-VERBS = [verb for verb, often in {"get": 10, "set": 10, "cast": 8, "prop": 4, "bytes": 3, "tolist": 3, "view": 2, "release": 2, "toreadonly": 2, "len": 1, "range": 1, "contig": 1, "enter": 1, "exit": 1, "del": 3, "take": 1, "compare": 6, "hash": 1, "repr": 1, **dict.fromkeys(EDITS, 1)}.items() for _ in range(often)]
+VERBS = [verb for verb, often in {"get": 10, "set": 10, "cast": 8, "prop": 4, "bytes": 3, "tolist": 3, "view": 2, "release": 2, "toreadonly": 2, "len": 1, "range": 1, "contig": 1, "enter": 1, "exit": 1, "del": 3, "take": 1, "compare": 6, "hash": 1, "repr": 1, "iter": 3, "next": 8, "hint": 2, "setstate": 2, **dict.fromkeys(EDITS, 1)}.items() for _ in range(often)]
 PROPERTIES = "exports obj nbytes readonly itemsize ndim shape strides suboffsets format contiguous c_contiguous f_contiguous".split()
 
 
@@ -439,9 +472,12 @@ class Drawn:
         return self.one([self.number, self.number, self.number, self.bytes, self.handle, lambda: self.one(["None", "True", "False", "...", "'B'", "'a,b'"])])()
 
     def subject(self, handle):
-        """What a handle names; nothing where that is unknown or released."""
+        """What a handle names; nothing where that is unknown, released or an iterator."""
         at = int(handle[1:])
-        return None if at >= len(self.world.objects) or at in self.world.released else self.world.objects[at]
+        return None if at >= len(self.world.objects) or not self.has_items(at) else self.world.objects[at]
+
+    def has_items(self, at):
+        return at not in self.world.released and at not in self.world.iterators
 
     def place(self, subject):
         """An index or a tuple, mostly of an item."""
@@ -476,7 +512,7 @@ class Drawn:
 
     def assigned(self, subject):
         """A slice, and what might be assigned to it."""
-        sources = [at for at, it in enumerate(self.world.objects) if at not in self.world.released and getattr(it, "format", "B") == getattr(subject, "format", "B")]
+        sources = [at for at, it in enumerate(self.world.objects) if self.has_items(at) and getattr(it, "format", "B") == getattr(subject, "format", "B")]
         if subject is None or not sources or self.draw.random() < 0.2:
             return f"{self.slice()} {self.value()}"
         source = self.one(sources[-8:])
@@ -573,7 +609,7 @@ class Drawn:
     def compared(self, subject):
         """What a subject might be equal to: mostly what has as many items, or the subject's bytes."""
         shape_of = lambda it: it.shape if hasattr(it, "shape") else (len(it),)
-        alike = [at for at, it in enumerate(self.world.objects) if at not in self.world.released and subject is not None and shape_of(it) == shape_of(subject)]
+        alike = [at for at, it in enumerate(self.world.objects) if self.has_items(at) and subject is not None and shape_of(it) == shape_of(subject)]
         if alike and self.draw.random() < 0.5:
             return f"h{self.one(alike)}"
         if subject is not None and self.draw.random() < 0.3:
@@ -589,6 +625,8 @@ class Drawn:
         if verb in ("release", "exit") and self.draw.random() < 0.7 or kind < 0.05:
             verb = "view"
         handles = [self.handle() for _ in range(4)]
+        if verb in ("next", "hint", "setstate"):
+            handles = [f"h{at}" for at in self.draw.sample([*self.world.iterators][-9:], min(4, len(self.world.iterators)))] + handles
         # mostly of a subject that has the command
         handle = next((it for it in handles if self.draw.random() < 0.1 or not self.world.is_unknown([verb, it, "0", "0"])), handles[0])
         subject = self.subject(handle)
@@ -604,6 +642,8 @@ class Drawn:
         if verb == "compare":
             is_view = hasattr(subject, "shape") and self.draw.random() < 0.8
             return f"compare {handle} {self.one(['==', '!='] if is_view else [*OPERATORS])} {self.compared(subject)}"
+        if verb == "setstate":
+            return f"setstate {handle} {self.draw.randrange(-3, 12) if self.draw.random() < 0.8 else self.value()}"
         if verb in EDITS:
             return f"{verb} {handle}{self.edit(verb, subject)}"
         if verb == "cast":

@@ -1,10 +1,12 @@
 """Carries out lines of commands on Python's own objects, and gives the reply texts.
 
-A `World` keeps a list of objects, `h0` being the first: `bytes`, `bytearray`, `memoryview`, and an
-`Items` where a view has a format that Python's `memoryview` can't be cast to.
+A `World` keeps a list of objects, `h0` being the first: `bytes`, `bytearray`, `memoryview`, an
+`Items` where a view has a format that Python's `memoryview` can't be cast to, and the iterators of
+these.
 
 What a command finds is written as Python's `repr` writes it. What has no value in Python is written
-as this program does: `ok`, a handle for an object that has a name, and `!` with a refusal.
+as this program does: `ok`, `stop` for `StopIteration`, a handle for an object that has a name, and
+`!` with a refusal.
 """
 import copy
 import ctypes
@@ -50,8 +52,8 @@ OF_BUFFER.argtypes = [ctypes.POINTER(Buffer)]
 OPERATORS = {"==": operator.eq, "!=": operator.ne, "<": operator.lt, "<=": operator.le, ">": operator.gt, ">=": operator.ge}
 
 
-# What Python refuses with.
-FAULTS = (IndexError, LookupError, ValueError, TypeError, BufferError, OverflowError, NotImplementedError, AttributeError, MemoryError)
+# What Python refuses with; with `SystemError` where it finds a refusal that it hasn't looked at.
+FAULTS = (IndexError, LookupError, ValueError, TypeError, BufferError, OverflowError, NotImplementedError, AttributeError, MemoryError, SystemError)
 
 
 class NoCommand(Exception):
@@ -66,7 +68,8 @@ class Items:
     """Items of a `struct` format, one after another, over a contiguous `memoryview` of bytes.
 
     They have a shape, of one dimension where none is given. What is picked is entries of the first
-    dimension, each a block of items."""
+    dimension, each a block of items. An iterator of them is Python's own, which asks for the items by
+    the indices from 0 on until there is none."""
 
     def __init__(self, memory, text, read=None, shape=None):
         self.memory = memory.cast("B")
@@ -416,11 +419,29 @@ class World:
 
     def do_repr(self, handle, subject):
         shown = repr(as_memory(subject))
-        if handle not in self.exporters:
+        if isinstance(subject, (bytes, bytearray)):
             return Reply(shown)
         # the address is another one in each run
-        assert re.fullmatch("<(released )?memory at 0x[0-9a-f]+>", shown)
+        assert re.fullmatch("<((released )?memory|[a-z]+_iterator object) at 0x[0-9a-f]+>", shown)
         return Reply(re.sub("0x[0-9a-f]+", "..", shown))
+
+    def do_iter(self, handle, subject):
+        # called so, a refusal that CPython 3.11 doesn't look at is always found: that of a released view
+        made = operator.call(iter, subject)
+        return Reply(f"h{handle}") if made is subject else self.named(made)
+
+    def do_next(self, handle, subject):
+        try:
+            return next(subject)
+        except StopIteration:
+            return Reply("stop")
+
+    def do_hint(self, handle, subject):
+        return subject.__length_hint__()
+
+    def do_setstate(self, handle, subject, place):
+        subject.__setstate__(place)
+        return Reply("ok")
 
     def property(self, handle, subject, name):
         if name == "obj":
@@ -433,7 +454,7 @@ class World:
     def exports(self, handle, subject):
         """The number of unreleased views. Python has no such number, but refuses to resize a
         bytearray exactly where it isn't 0, which is compared."""
-        if handle in self.exporters:
+        if not isinstance(subject, (bytes, bytearray)):
             raise NoName(handle)
         views = [it for it, at in self.exporters.items() if at == handle and it not in self.released]
         if isinstance(subject, bytearray):

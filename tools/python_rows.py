@@ -2944,6 +2944,692 @@ def drawn_bytes(draw):
 
 PYTHON += [Case(f"comparisons, drawn ({seed})", drawn_comparisons(Draw(seed))) for seed in (16, 17, 18, 19)]
 PYTHON += [Case(f"bytes in a repr, drawn ({seed})", drawn_bytes(Draw(seed))) for seed in (20, 21)]
+
+# Iterators.
+PYTHON += [
+    Case(
+        "an iterator gives each byte once, in order, and then stops for ever",
+        """
+new bytes x00ff41
+iter h0
+hint h1
+next h1
+hint h1
+next h1
+next h1
+hint h1
+next h1
+hint h1
+next h1
+new bytearray x800a
+iter h2
+next h3
+next h3
+next h3
+next h3
+hint h3
+new bytes x
+iter h4
+hint h5
+next h5
+next h5
+new bytearray x
+iter h6
+hint h7
+next h7
+append h6 1
+next h7
+hint h7
+bytes h2
+""",
+    ),
+    Case(
+        "what is added before an iterator is exhausted is given, and after that nothing",
+        """
+new bytearray x0102
+iter h0
+next h1
+append h0 3
+hint h1
+next h1
+next h1
+extend h0 x0405
+next h1
+iadd h0 x06
+hint h1
+next h1
+next h1
+next h1
+hint h1
+append h0 7
+hint h1
+next h1
+iter h0
+hint h2
+next h2
+next h1
+""",
+    ),
+    Case(
+        "what is taken out leaves the place of an iterator, and what is left falls to none and rises again",
+        """
+new bytearray x0102030405060708
+iter h0
+next h1
+next h1
+next h1
+pop h0
+hint h1
+pop h0 0
+hint h1
+next h1
+del h0 0:3:1
+hint h1
+next h1
+extend h0 x0a0b
+hint h1
+iter h0
+setstate h2 4
+clear h0
+hint h2
+extend h0 x10111213
+hint h2
+append h0 20
+hint h2
+next h2
+hint h2
+clear h0
+next h2
+hint h2
+extend h0 x3031323334353637
+next h2
+next h1
+""",
+    ),
+    Case(
+        "bytes that are put in, turned round and written anew between two items",
+        """
+new bytearray x010203040506
+iter h0
+next h1
+next h1
+insert h0 0 9
+next h1
+insert h0 3 10
+next h1
+reverse h0
+next h1
+set h0 5 255
+next h1
+set h0 0:0:1 x1415
+hint h1
+next h1
+set h0 None:None:1 x1e1f202122232425
+hint h1
+next h1
+remove h0 31
+hint h1
+next h1
+""",
+    ),
+    Case(
+        "a bytearray that is doubled, repeated and made anew between two items",
+        """
+new bytearray x0102
+iter h0
+next h1
+extend h0 h0
+hint h1
+next h1
+imul h0 2
+hint h1
+next h1
+init h0 x4142434445
+hint h1
+next h1
+next h1
+next h1
+imul h0 0
+hint h1
+iter h0
+init h0 2
+next h2
+next h2
+init h0 'ab' 'ascii'
+next h2
+copy h0
+iter h3
+next h4
+clear h0
+next h4
+next h4
+""",
+    ),
+    Case(
+        "an iterator of an iterator is that iterator",
+        """
+new bytes x616263
+iter h0
+iter h1
+next h1
+iter h1
+next h1
+view h0
+iter h2
+iter h3
+next h3
+iter h3
+next h3
+next h1
+next h1
+iter h1
+next h1
+release h2
+iter h3
+next h3
+""",
+    ),
+    Case(
+        "several iterators of one subject, each at its own place",
+        """
+new bytearray x616263
+view h0
+iter h0
+iter h0
+iter h1
+iter h1
+next h2
+next h2
+next h3
+next h4
+next h4
+next h4
+next h4
+next h5
+hint h2
+hint h3
+set h0 2 90
+next h2
+next h5
+next h5
+next h4
+next h2
+next h3
+iter h0
+next h6
+iter h1
+next h7
+""",
+    ),
+    Case(
+        "an iterator keeps no bytearray from being resized, and a view does",
+        """
+new bytearray x6162
+iter h0
+prop h0 exports
+append h0 99
+view h0
+iter h2
+next h3
+prop h0 exports
+append h0 100
+pop h0
+next h1
+release h2
+prop h0 exports
+append h0 100
+next h3
+next h1
+next h1
+next h1
+next h1
+next h3
+""",
+    ),
+    Case(
+        "places that an iterator is moved to",
+        """
+new bytes x6162636465
+iter h0
+setstate h1 3
+hint h1
+next h1
+setstate h1 0
+next h1
+setstate h1 -1
+next h1
+setstate h1 -5
+hint h1
+setstate h1 True
+next h1
+setstate h1 False
+next h1
+setstate h1 5
+hint h1
+setstate h1 4
+next h1
+setstate h1 6
+hint h1
+setstate h1 2
+hint h1
+setstate h1 9223372036854775807
+hint h1
+setstate h1 -9223372036854775808
+hint h1
+setstate h1 0000000000000000000000000000000000000000000004
+hint h1
+next h1
+next h1
+setstate h1 0
+hint h1
+next h1
+setstate h1 9223372036854775807
+next h1
+new bytearray x6162636465
+iter h2
+setstate h3 3
+next h3
+setstate h3 -2
+next h3
+setstate h3 True
+next h3
+setstate h3 6
+hint h3
+setstate h3 -9223372036854775808
+hint h3
+setstate h3 9223372036854775807
+hint h3
+next h3
+setstate h3 0
+hint h3
+next h3
+""",
+    ),
+    Case(
+        "an iterator that is moved past the bytes goes on with those that are added",
+        """
+new bytearray x6162
+iter h0
+setstate h1 100
+hint h1
+append h0 99
+hint h1
+next h1
+setstate h1 100
+clear h0
+hint h1
+extend h0 x4142434445
+hint h1
+next h1
+setstate h1 1
+clear h0
+setstate h1 3
+extend h0 x5a59
+next h1
+setstate h1 2
+next h1
+append h0 88
+setstate h1 0
+next h1
+hint h1
+""",
+    ),
+    Case(
+        "places of a wrong kind",
+        """
+new bytes x616263
+iter h0
+next h1
+setstate h1 None
+setstate h1 ...
+setstate h1 'a'
+setstate h1 x01
+setstate h1 x
+setstate h1 ()
+setstate h1 (1)
+setstate h1 []
+setstate h1 [1]
+setstate h1 0:1:1
+setstate h1 (0:1:1)
+setstate h1 h0
+setstate h1 h1
+hint h1
+next h1
+new bytearray x616263
+iter h2
+next h3
+setstate h3 None
+setstate h3 'a'
+setstate h3 x01
+setstate h3 h2
+setstate h3 h3
+hint h3
+next h3
+""",
+    ),
+    Case(
+        "an iterator of a view by each native code",
+        "\n".join(
+            ["new bytes xff01800a000000f07f00000000000001", "view h0"]
+            + [f"cast h1 '{code}'\niter h{2 * at + 2}\n" + "\n".join([f"next h{2 * at + 3}"] * (16 // struct.calcsize(code) + 2)) for at, code in enumerate(NATIVE_CODES)]
+        ),
+    ),
+    Case(
+        "an iterator of a view with items of other orders, of several values and of bytes",
+        "\n".join(
+            ["new bytes x0102030405060708090a0b0c", "view h0"]
+            + [
+                f"cast h1 '{text}'\niter h{2 * at + 2}\n" + "\n".join([f"next h{2 * at + 3}"] * (12 // struct.calcsize(text) + 2))
+                for at, text in enumerate(["<H", ">H", "!i", "=q4x", "BH", "<BxH", "3B", "2s", "4p", "c?", "2x", "0HB", ">hB", "12s", "<H2c"])
+            ]
+        ),
+    ),
+    Case(
+        "an iterator of a slice of a view",
+        """
+new bytearray x616263646566
+view h0
+get h1 None:None:-1
+iter h2
+next h3
+next h3
+set h0 3 90
+next h3
+get h2 1:None:2
+iter h4
+next h5
+next h5
+next h5
+next h5
+cast h1 'H'
+get h6 None:None:-2
+iter h7
+next h8
+next h8
+next h8
+get h1 2:2:1
+iter h9
+next h10
+next h10
+get h1 5:1:1
+iter h11
+next h12
+get h1 1:5:3
+iter h13
+next h14
+next h14
+next h14
+cast h1 '>H'
+get h15 None:None:-1
+iter h16
+next h17
+next h17
+next h17
+next h17
+range h0 2 4
+iter h18
+next h19
+next h19
+next h19
+toreadonly h2
+iter h20
+next h21
+next h3
+next h3
+next h3
+next h3
+""",
+    ),
+    Case(
+        "an iterator of a view of no bytes, of one item and of a shape of one dimension",
+        """
+new bytes x
+view h0
+iter h1
+next h2
+next h2
+cast h1 'B'
+iter h3
+next h4
+new bytes x01020304
+view h5
+cast h6 'I'
+iter h7
+next h8
+next h8
+cast h6 'H' [2]
+iter h9
+next h10
+next h10
+next h10
+cast h6 'B' [2,2]
+cast h11 'b' [4]
+iter h12
+next h13
+get h6 None:None:-1
+contig h14
+iter h16
+next h17
+next h17
+""",
+    ),
+    Case(
+        "writes are seen by every iterator that comes to them later",
+        """
+new bytearray x6162636465
+view h0
+iter h0
+iter h1
+next h2
+next h3
+set h1 0 65
+set h0 1 66
+next h2
+next h3
+set h1 3:None:1 x4445
+next h2
+next h3
+next h2
+next h3
+cast h1 'B'
+set h4 4 255
+next h2
+next h3
+cast h1 'b'
+iter h5
+setstate h2 0
+next h6
+reverse h0
+next h6
+next h6
+""",
+    ),
+    Case(
+        "a view that is released between two items, and the bytes and the other views that go on",
+        """
+new bytearray x616263
+view h0
+view h0
+iter h1
+iter h2
+iter h0
+next h3
+next h4
+next h5
+release h1
+next h3
+next h3
+next h4
+next h5
+append h0 100
+release h2
+next h4
+append h0 100
+next h3
+next h5
+next h5
+next h5
+next h4
+view h0
+iter h6
+next h7
+next h3
+""",
+    ),
+    Case(
+        "an iterator that is exhausted before its view is released",
+        """
+new bytes x61
+view h0
+iter h1
+next h2
+next h2
+release h1
+next h2
+next h2
+new bytes x
+view h3
+iter h4
+next h5
+release h4
+next h5
+cast h1 'H'
+""",
+    ),
+    Case(
+        "an iterator among the values is of a wrong kind, and stays where it is",
+        """
+new bytearray x616263
+new bytes x616263
+view h1
+iter h0
+iter h1
+iter h2
+next h3
+get h0 h3
+get h0 h4:None:None
+get h0 None:h5:None
+get h0 0:1:h3
+get h0 [h3]
+get h1 h5
+get h2 h3
+get h2 (h4)
+get h2 (0,h4)
+get h2 0:h5:1
+set h0 h3 1
+set h0 0 h3
+set h0 0 [h3]
+set h0 h4:1:1 x61
+set h0 0:1:h4 x61
+set h0 0:1:1 [h3]
+del h0 h3
+del h0 0:h3:1
+range h0 h3 1
+range h0 0 h4
+append h0 h3
+extend h0 [h4]
+extend h0 (1,h5)
+iadd h0 h3
+iadd h0 h5
+insert h0 h3 1
+insert h0 0 h4
+pop h0 h3
+remove h0 h4
+imul h0 h3
+init h0 x61 h3
+init h0 'a' h4
+init h0 'a' 'utf-8' h5
+new bytes [h3]
+new bytes x61 h4
+new bytearray 'a' h5
+new bytearray 'a' 'ascii' h3
+cast h2 h3
+cast h2 'B' h3
+cast h2 'B' [h4]
+cast h2 'B' (1,h5)
+setstate h3 h4
+setstate h4 h5
+view h0
+set h6 h3 1
+set h6 0 h3
+set h6 0 h5
+set h6 (h3) 1
+set h6 0:1:1 h4
+set h6 0:1:1 [h4]
+set h6 h5:1:1 x61
+iter h6
+iadd h0 h7
+append h0 h7
+get h0 h7
+pop h0 h7
+set h6 0 h7
+set h6 0:1:1 h7
+set h6 h7 0
+bytes h0
+next h3
+next h4
+next h5
+""",
+    ),
+    Case(
+        "an iterator is unequal to every view, and has no order with one",
+        """
+new bytes x6162
+view h0
+iter h0
+iter h1
+compare h1 == h2
+compare h1 != h2
+compare h1 == h3
+compare h1 != h3
+compare h1 < h2
+compare h1 >= h3
+compare h1 == [h3]
+cast h1 'B' [1,2]
+compare h4 == h3
+compare h4 != h2
+release h1
+compare h1 == h3
+compare h1 != h3
+next h2
+""",
+    ),
+]
+
+
+def drawn_iterators(draw):
+    """Iterators of a bytearray that is edited, of bytes, and of views that are written."""
+    lines = ["new bytearray x000102030405", "new bytes x6162636465", "new bytearray x707172737475", "view h2", "get h3 None:None:-2"]
+    lines += [f"iter h{of}" for of in (3, 4, 1, 0, 0)]
+    # the last handle, and the first of an iterator that isn't of a view
+    last, first = 9, 7
+    for turn in range(110):
+        own = first + draw.below(last + 1 - first)
+        lines.append(
+            draw.one_of(
+                [
+                    *[f"next h{5 + draw.below(last - 4)}"] * 4,
+                    f"hint h{own}",
+                    f"hint h{own}",
+                    f"setstate h{own} {draw.below(16) - 4}",
+                    f"append h0 {draw.below(256)}",
+                    f"insert h0 {draw.below(9) - 3} {draw.below(256)}",
+                    f"pop h0 {draw.below(9) - 3}",
+                    f"del h0 {draw.below(4)}:{draw.below(9)}:{1 + draw.below(2)}",
+                    f"extend h0 x{bytes(draw.below(256) for _ in range(draw.below(4))).hex()}",
+                    "reverse h0",
+                    f"set h3 {draw.below(6)} {draw.below(256)}",
+                ]
+            )
+        )
+        if turn % 15 == 14:
+            # in place of those that are exhausted
+            last += 1
+            lines += ["iter h0", f"setstate h{last} {draw.below(3)}", "bytes h0"]
+    return "\n".join(lines)
+
+
+PYTHON += [Case(f"iterators, drawn ({seed})", drawn_iterators(Draw(seed))) for seed in (22, 23, 24, 25)]
 ASSIGNED = [assigned(Draw(12 + number), step, others) for others in (False, True) for number, step in enumerate(STEPS)]
 
 # Beside each line our reply, written by hand; Python's is put beside it where it differs.
@@ -3788,6 +4474,270 @@ hash h9                             ! UnknownName   !
 repr h9                             ! UnknownName   !
 release h1                          ok
 compare h1 == h9                    ! UnknownName   !
+""",
+    ),
+    Case(
+        "an iterator is never read as bytes",
+        """
+new bytearray x616263               h0
+new bytes x6465                     h1
+view h1                             h2
+iter h0                             h3
+iter h1                             h4
+iter h2                             h5
+extend h0 h3                        ! TypeError    !
+bytes h0                            b'abc'         !
+set h0 0:1:1 h3                     ! TypeError    !
+set h0 0:1:1 h4                     ! TypeError    !
+set h0 0:3:2 h5                     ! TypeError    !
+extend h0 h4                        ! TypeError    !
+extend h0 h5                        ! TypeError    !
+bytes h0                            b'abc'         !
+init h0 h3                          ! TypeError    !
+init h0 h4                          ! TypeError    !
+init h0 h5                          ! TypeError    !
+iadd h0 h3                          ! TypeError
+iadd h0 h4                          ! TypeError
+iadd h0 h5                          ! TypeError
+bytes h0                            b'abc'         !
+next h3                             97             !
+next h4                             100            !
+next h5                             100            !
+new bytearray x0000                 h6
+view h6                             h7
+iter h7                             h8
+iadd h6 h8                          ! TypeError
+extend h6 h8                        ! TypeError    !
+set h6 0:1:1 h8                     ! TypeError    !
+set h6 0:2:2 h8                     ! TypeError    !
+init h6 h8                          ! TypeError    !
+set h7 0:1:1 h8                     ! TypeError
+cast h7 'c'                         h9
+set h9 0 h8                         ! TypeError
+cast h7 '2s'                        h10
+set h10 0 h8                        ! TypeError    !
+cast h7 '?'                         h11
+set h11 0 h8                        ! TypeError    !
+next h8                             0              !
+bytes h6                            b'\\x00\\x00'   !
+new bytes h3                        ! TypeError    !
+""",
+    ),
+    Case(
+        "bytes are not compared with an iterator",
+        """
+new bytes x6162                     h0
+new bytearray x6162                 h1
+iter h0                             h2
+iter h1                             h3
+compare h0 == h2                    NotImplemented   !
+compare h0 != h3                    NotImplemented   !
+compare h0 < h2                     NotImplemented   !
+compare h1 == h2                    NotImplemented   !
+compare h1 != h3                    NotImplemented   !
+compare h1 >= h3                    NotImplemented   !
+view h0                             h4
+iter h4                             h5
+compare h0 == h5                    NotImplemented   !
+compare h0 <= h5                    NotImplemented   !
+compare h4 == h5                    False
+next h2                             97
+next h3                             97
+next h5                             97
+""",
+    ),
+    Case(
+        "bytes, bytearrays, views and iterators have an iterator, which alone gives items",
+        """
+new bytes x61                       h0
+new bytearray x61                   h1
+view h1                             h2
+next h0                             ! UnknownName   !
+next h1                             ! UnknownName   !
+next h2                             ! UnknownName   !
+hint h0                             ! UnknownName   !
+hint h2                             ! UnknownName   !
+setstate h1 0                       ! UnknownName   !
+setstate h2 'a'                     ! UnknownName   !
+iter h9                             ! UnknownName   !
+next h9                             ! UnknownName   !
+hint h9                             ! UnknownName   !
+setstate h9 0                       ! UnknownName   !
+release h2                          ok
+next h2                             ! UnknownName   !
+iter h1                             h3
+setstate h3 h9                      ! UnknownName   !
+setstate h3 [h9]                    ! UnknownName   !
+next h3                             97
+next h3                             stop
+setstate h3 h9                      ! UnknownName   !
+new bytes x6162                     h4
+view h4                             h5
+get h5 None:None:-1                 h6
+contig h6                           h7 h8
+next h7                             ! UnknownName   !
+iter h7                             ! UnknownName   !
+""",
+    ),
+    Case(
+        "an iterator has the commands iter, next, hint and setstate, and that of a view the first two",
+        """
+new bytearray x616263               h0
+view h0                             h1
+iter h0                             h2
+iter h1                             h3
+next h3                             97
+hint h3                             ! UnknownName   !
+setstate h3 0                       ! UnknownName   !
+setstate h3 None                    ! UnknownName   !
+release h1                          ok
+hint h3                             ! UnknownName   !
+view h2                             ! UnknownName   !
+range h2 0 0                        ! UnknownName   !
+get h2 0                            ! UnknownName   !
+set h2 0 1                          ! UnknownName   !
+del h2 0                            ! UnknownName   !
+cast h2 'B'                         ! UnknownName   !
+toreadonly h2                       ! UnknownName   !
+contig h3                           ! UnknownName   !
+len h2                              ! UnknownName   !
+tolist h3                           ! UnknownName   !
+release h3                          ! UnknownName   !
+exit h3                             ! UnknownName   !
+enter h2                            ! UnknownName   !
+prop h2 exports                     ! UnknownName   !
+prop h3 obj                         ! UnknownName   !
+prop h3 nbytes                      ! UnknownName   !
+compare h2 == h2                    ! UnknownName   !
+compare h3 < x61                    ! UnknownName   !
+repr h2                             ! UnknownName   !
+repr h3                             ! UnknownName   !
+append h2 1                         ! UnknownName   !
+extend h2 x                         ! UnknownName   !
+insert h2 0 1                       ! UnknownName   !
+pop h2                              ! UnknownName   !
+remove h2 1                         ! UnknownName   !
+clear h2                            ! UnknownName   !
+reverse h2                          ! UnknownName   !
+iadd h2 x                           ! UnknownName   !
+imul h2 1                           ! UnknownName   !
+init h2                             ! UnknownName   !
+take h2                             ! UnknownName   !
+copy h2                             ! UnknownName   !
+next h2                             97
+bytes h2                            ! UnknownName   !
+next h2                             98             !
+""",
+    ),
+    Case(
+        "a place past the ends of a word is moved to the nearest one",
+        """
+new bytes x616263                   h0
+iter h0                             h1
+setstate h1 9223372036854775808     ok             !
+hint h1                             0              !
+setstate h1 -9223372036854775809    ok             !
+hint h1                             3
+setstate h1 170141183460469231731687303715884105727   ok   !
+setstate h1 2                       ok
+setstate h1 -170141183460469231731687303715884105728   ok   !
+next h1                             97             !
+setstate h1 9223372036854775807     ok
+hint h1                             0
+setstate h1 -9223372036854775808    ok
+hint h1                             3
+new bytearray x6162                 h2
+iter h2                             h3
+setstate h3 9223372036854775808     ok             !
+append h2 99                        ok
+next h3                             99             !
+""",
+    ),
+    Case(
+        "an exhausted iterator looks at no place",
+        """
+new bytearray x                     h0
+iter h0                             h1
+next h1                             stop
+setstate h1 None                    ok             !
+setstate h1 'a'                     ok             !
+setstate h1 [0]                     ok             !
+setstate h1 0:1:1                   ok             !
+setstate h1 h1                      ok             !
+setstate h1 9223372036854775808     ok             !
+setstate h1 -9223372036854775809    ok             !
+setstate h1 0                       ok
+append h0 1                         ok
+next h1                             stop
+""",
+    ),
+    Case(
+        "a view of several dimensions or of none has an iterator, which refuses its items",
+        """
+new bytes x000102030405             h0
+view h0                             h1
+cast h1 'B' [2,3]                   h2
+get h1 0:1:1                        h3
+cast h3 'B' []                      h4
+cast h1 'B' [6,1]                   h5
+get h5 3:3:1                        h6
+iter h2                             h7             !
+next h7                             ! NotImplementedError   !
+next h7                             ! NotImplementedError   !
+iter h7                             h7             !
+iter h4                             h8             !
+next h8                             ! NotImplementedError   !
+next h8                             ! NotImplementedError   !
+iter h6                             h9             !
+next h9                             stop           !
+next h9                             stop           !
+iter h5                             h10            !
+release h5                          ok
+next h10                            ! ValueError   !
+release h4                          ok
+next h8                             ! ValueError   !
+release h6                          ok
+next h9                             stop           !
+""",
+    ),
+    Case(
+        "a released view refuses its iterator until that is exhausted",
+        """
+new bytes x6162                     h0
+view h0                             h1
+get h1 2:2:1                        h2
+iter h1                             h3
+iter h1                             h4
+iter h2                             h5
+next h3                             97
+next h3                             98
+next h4                             97
+next h4                             98
+next h4                             stop
+release h1                          ok
+release h2                          ok
+next h3                             ! ValueError   !
+next h3                             ! ValueError   !
+next h4                             stop
+next h5                             ! ValueError   !
+""",
+    ),
+    Case(
+        "a released view has no iterator",
+        """
+new bytes x61626364                 h0
+view h0                             h1
+cast h1 'B' [2,2]                   h2
+get h1 0:1:1                        h3
+cast h3 'B' []                      h4
+release h1                          ok
+iter h1                             ! ValueError   !
+release h2                          ok
+iter h2                             ! ValueError   !
+release h4                          ok
+iter h4                             ! ValueError   !
+iter h3                             h5
+next h5                             97
 """,
     ),
     Case(

@@ -7,7 +7,7 @@ use crate::any_str::{AnyStr, AnyStrContainer};
 use pybuf_arguments::{AnyStrWrapper, StringRange, single_or_tuple_any};
 use pybuf_bytes::{ByteInnerSplitOptions, PyBytesInner, SplitLinesArgs, partition_at, split_at};
 use pybuf_value::{ByteLists, Fault, Lender, Made, Outcome, Text, Tried, Value};
-use std::alloc::Global;
+use std::alloc::{AllocError, Global};
 use std::marker::Model;
 use std::ops::Range;
 use std::str;
@@ -190,11 +190,7 @@ impl AnyStr for Bytes {
         pybuf_search::number_of_matches(&self.bytes[range], needle)
     }
 
-    fn py_partition(
-        &self,
-        alloc: Global,
-        sub: &PyBytesInner,
-    ) -> Tried<(Vec<u8>, bool, Vec<u8>)> {
+    fn py_partition(&self, alloc: Global, sub: &PyBytesInner) -> Tried<(Vec<u8>, bool, Vec<u8>)> {
         partition_at(alloc, self.bytes.as_slice(), sub.as_bytes())
     }
 
@@ -204,12 +200,8 @@ impl AnyStr for Bytes {
 }
 
 /// The characters of a text.
-fn characters_of(alloc: Global, text: &str) -> Made<Vec<char>>
+fn characters_of(alloc: Global, text: &str) -> Result<Vec<char>, AllocError>
     ensures { IfOk result (λ found. found.items ≡ chars text.now) }
 {
-    let mut found = Vec::new(alloc);
-    for c in text.chars() {
-        found.push(c)?;
-    }
-    Ok(found)
+    text.chars().collect(alloc)
 }

@@ -6,3 +6,6 @@ mod bytes;
 
 pub use any_str::{AnyStr, AnyStrContainer};
 pub use bytes::Bytes;
+
+#[cfg(test)]
+mod tests;

@@ -7,19 +7,21 @@ use Rattle.pybuf_desc.specs.Items.{content_of_layout}
 use Rattle.pybuf_command.specs.declared.kinds.Subject.{Subject}
 use Rattle.pybuf_command.specs.declared.kinds.Subject.TheVariants as subject
 use Rattle.pybuf_command.specs.Kinds.{holds_readonly}
-use Rattle.pybuf_state.specs.Exporter.{Exporter, live_layout}
+use Rattle.pybuf_state.specs.Exporter.{Exporter, live_layout, iterator_at}
 use Rattle.pybuf_state.specs.Live.{is_live, layout_of, is_writable_run}
 use Rattle.pybuf_exporter.specs.Lending.{overwritten_exporter, written_from}
 
 -- An exporter lends all its bytes, unless they are only read, and a view those of its items, unless it was
--- never given or was released, or its items may only be read or don't lie one after the other. No iterator is
--- given yet.
+-- never given or was released, or its items may only be read or don't lie one after the other. An iterator has
+-- no bytes.
 abbrev pub asked_to_write : Exporter → Subject → Result Bool Fault
 asked_to_write e subject.Own = unless (holds_readonly e.kind) fault.Kind
 asked_to_write e (subject.View k) = do
   layout ← live_layout e k
   unless (not (is_writable_run layout)) fault.Kind
-asked_to_write e (subject.Iter k) = Err fault.UnknownName
+asked_to_write e (subject.Iter k) = do
+  it ← iterator_at e k
+  Err fault.Kind
 
 -- whether it isn't refused
 abbrev pub is_writable : Exporter → Subject → Bool

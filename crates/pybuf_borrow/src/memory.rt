@@ -42,7 +42,12 @@ fn asked_to_write(state: &ExporterState, subject: Subject) -> Result<(), Fault>
             }
             Ok(())
         }
-        Subject::Iter(_) => Err(Fault::UnknownName),
+        Subject::Iter(iterator) => {
+            if iterator < state.iter_count() {
+                return Err(Fault::Kind);
+            }
+            Err(Fault::UnknownName)
+        }
     }
 }
 

@@ -221,12 +221,22 @@ fn a_write_goes_to_the_lent_places(rt: HostRuntime) -> Result<(), Fail> {
 }
 
 /// A subject, and why its bytes aren't lent to be written once view 1 was released.
-const REFUSED: [(Subject, Fault); 4] = [
+const REFUSED: [(Subject, Fault); 5] = [
     (Subject::View(1), Fault::Value),
     (Subject::View(2), Fault::Kind),
     (Subject::View(9), Fault::UnknownName),
-    (Subject::Iter(0), Fault::UnknownName),
+    (Subject::Iter(0), Fault::Kind),
+    (Subject::Iter(1), Fault::UnknownName),
 ];
+
+/// An iterator over the bytes.
+fn iterated(state: &mut ExporterState, alloc: Global) -> Result<(), Fail> {
+    let verb = Verb::Iter;
+    let answer = state.carry_out(Subject::Own, &verb, &LoanList::new(alloc));
+    drop(verb);
+    answer?;
+    Ok(())
+}
 
 #[test]
 fn other_subjects_are_refused(rt: HostRuntime) -> Result<(), Fail> {
@@ -234,6 +244,7 @@ fn other_subjects_are_refused(rt: HostRuntime) -> Result<(), Fail> {
     if let Err(_) = state.release_view(1) {
         return Err(Fail::from("a view"));
     }
+    iterated(&mut state, rt.alloc())?;
     for (subject, fault) in &REFUSED {
         let length = try_rw_bytes_like(&mut state, *subject, |bytes| bytes.len());
         assert!(rt; length == Err(*fault), "{subject:?}");

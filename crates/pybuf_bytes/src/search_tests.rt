@@ -43,7 +43,11 @@ fn searched(
     ) else {
         return Ok(Err(Fault::Value));
     };
-    let place = bytes.find(alloc, search, first_place)?;
+    let place = bytes.find(
+        alloc,
+        search,
+        |part: &[u8], needle: &[u8]| first_place(part, needle),
+    )?;
     let number = bytes.count(alloc, count)?;
     match (place, number) {
         (Outcome::Done(place), Outcome::Done(number)) => Ok(Ok((place, number))),

@@ -51,6 +51,7 @@ handles_of (verb.IAdd v) = handles_in v
 handles_of (verb.IMul count) = handles_in count
 handles_of (verb.Init options) = handles_of_options options
 handles_of (verb.Compare op other) = handles_in other
+handles_of (verb.SetState state) = handles_in state
 handles_of _ = []
 
 -- the handle that a value is

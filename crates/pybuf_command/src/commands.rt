@@ -105,6 +105,15 @@ pub enum Verb {
     Hash,
     /// The subject's text, as `repr(subject)`.
     Repr,
+    /// A new iterator over the subject from its first item on, as `iter(subject)`; of an iterator,
+    /// that one itself.
+    Iter,
+    /// The next item, as `next(iterator)`.
+    Next,
+    /// How many items are still to come, as `iterator.__length_hint__()`.
+    LengthHint,
+    /// Puts an iterator at another item, as `iterator.__setstate__(state)`.
+    SetState { state: Value },
 }
 
 /// A command for one exporter, with what the handles of its values name.
@@ -122,6 +131,8 @@ pub enum LocalReply {
     Ok,
     /// The number of the view that was made.
     View(usize),
+    /// The number of the iterator that was made.
+    Iter(usize),
     /// The subject itself.
     Itself,
     /// The exporter itself.
@@ -142,6 +153,8 @@ pub enum LocalReply {
     NotImplementedReply,
     /// Numbers, one for each dimension.
     Numbers(NumberList),
+    /// An iterator has no further item: Python's `StopIteration`.
+    Stop,
     /// What a new exporter is to be made of: of a bytearray, another of its bytes; of a view, a vector
     /// of its content with a view of it in this format and shape.
     Fresh(Snap),
@@ -229,6 +242,13 @@ impl Twin for Verb {
             }
             Verb::Hash => Ok(Verb::Hash),
             Verb::Repr => Ok(Verb::Repr),
+            Verb::Iter => Ok(Verb::Iter),
+            Verb::Next => Ok(Verb::Next),
+            Verb::LengthHint => Ok(Verb::LengthHint),
+            Verb::SetState { state } => {
+                let state = state.copy(alloc)?;
+                Ok(Verb::SetState { state })
+            }
         }
     }
 }
@@ -252,6 +272,7 @@ impl Twin for LocalReply {
         match self {
             LocalReply::Ok => Ok(LocalReply::Ok),
             LocalReply::View(view) => Ok(LocalReply::View(*view)),
+            LocalReply::Iter(iterator) => Ok(LocalReply::Iter(*iterator)),
             LocalReply::Itself => Ok(LocalReply::Itself),
             LocalReply::Own => Ok(LocalReply::Own),
             LocalReply::Item(item) => {
@@ -281,6 +302,7 @@ impl Twin for LocalReply {
                 let numbers = numbers.copy(alloc)?;
                 Ok(LocalReply::Numbers(numbers))
             }
+            LocalReply::Stop => Ok(LocalReply::Stop),
             LocalReply::Fresh(snap) => {
                 let snap = snap.copy(alloc)?;
                 Ok(LocalReply::Fresh(snap))

@@ -168,6 +168,7 @@ pub fn handles_of(alloc: Global, verb: &Verb) -> Made<Vec<u64>>
         Verb::IMul { count } => push_value(&mut handles, count)?,
         Verb::Init { options } => push_options(&mut handles, options)?,
         Verb::Compare { op: _, other } => push_value(&mut handles, other)?,
+        Verb::SetState { state } => push_value(&mut handles, state)?,
         _ => {}
     }
     Ok(handles)

@@ -1,5 +1,5 @@
 -- Every command, by the laws of its row.
-use Rattle.std.proofs.Common.{◌≡◌, ℕ, ◌+◌, ◌≤◌, List, length, Bool, true, false, true≢false, ap, ap₂, sym, ◌∙◌, refl, subst, arith}
+use Rattle.std.proofs.Common.{◌≡◌, ℕ, ◌+◌, ◌≤◌, List, length, Bool, true, false, true≢false, ap, ap₂, sym, ◌∙◌, refl, subst, arith, inl}
 use Rattle.std.specs.Prelude.{◌==◌, ◌&&◌, nat_lt, slice_index, Result, Ok, Err, if◌then◌else◌}
 use Rattle.std.proofs.lemmas.Bool.{eqb-true}
 use Rattle.std.proofs.lemmas.Grind.{common_steps}
@@ -22,21 +22,22 @@ use Rattle.pybuf_command.specs.declared.commands.LocalReply.TheVariants as reply
 use Rattle.pybuf_command.specs.declared.loans.Loan.{Loan}
 use Rattle.pybuf_command.specs.Handles.{handles_of, handles_read}
 use Rattle.pybuf_memoryview.specs.Items.{item_of_values}
-use Rattle.pybuf_state.specs.Exporter.{Exporter}
+use Rattle.pybuf_state.specs.Exporter.{Exporter, Iterator}
 use Rattle.pybuf_state.specs.Loans.{Lent, are_known, lent_for_each}
 use Rattle.pybuf_state.specs.Sound.{IsSoundExporter}
 use Rattle.pybuf_value.specs.declared.snaps.Snap.{Snap}
 use Rattle.pybuf_state.specs.Fresh.{IsCopyOf}
-use Rattle.pybuf_state.specs.Keeps.{Keeps, is_one_line, is_answer, IsSafe, RepliesCopy, IsCopied}
+use Rattle.pybuf_state.specs.Keeps.{Keeps, LengthsStay, ReadOnlyBytesStay, IteratorsStay, is_one_line, is_answer, IsSafe, RepliesCopy, IsCopied, IsIterated}
 use Rattle.pybuf_state.specs.Laws.{ReadingKeeps, LiveLayoutsAreSound}
 use Rattle.pybuf_rows_views.specs.Laws.{ViewIsSafe, SliceIsSafe, CastIsSafe, ReleaseIsSafe, ToReadonlyIsSafe, RangeIsSafe, EnterIsSafe, ContiguousIsCopied}
 use Rattle.pybuf_rows_reads.specs.Laws.{GetIsSafe, BytesIsSafe, LenIsSafe, PropertyIsSafe, ToListIsSafe}
 use Rattle.pybuf_rows_writes.specs.Laws.{SetIsSafe, AssignIsSafe}
 use Rattle.pybuf_rows_edits.specs.Laws.{EditsAreSafe, DeleteOfViewIsSafe}
 use Rattle.pybuf_rows_compare.specs.Laws.{CompareIsSafe, HashIsSafe, ReprIsSafe}
+use Rattle.pybuf_rows_iters.specs.Laws.{IterIsSafe, IteratorsAreSafe}
 use Rattle.pybuf_exporter.specs.Step.{get_of_view, row, answer_of, settled_answer, estep, set_in_own, set_through_view}
 use Rattle.pybuf_exporter.specs.Rows.{RowsAreSafe, RowIsSafe}
-use Rattle.pybuf_exporter.specs.Laws.{CommandsKeepSound, LengthsStayUnderCommands, ReadOnlyBytesStayUnderCommands, RefusedCommandsChangeNothing, LoansAlikeDoTheSame, ItemsAreRead, FreshRepliesAreCopies, ShownTextsAreOneLine}
+use Rattle.pybuf_exporter.specs.Laws.{CommandsKeepSound, LengthsStayUnderCommands, ReadOnlyBytesStayUnderCommands, IteratorsStayUnderCommands, is_of_iterators, OthersLeaveIterators, IterationChangesNothingElse, RefusedCommandsChangeNothing, LoansAlikeDoTheSame, ItemsAreRead, FreshRepliesAreCopies, ShownTextsAreOneLine}
 
 -- the laws of the rows
 pub record RowLaws : Type 0 where
@@ -60,6 +61,8 @@ pub record RowLaws : Type 0 where
   pub compare : CompareIsSafe
   pub hash : HashIsSafe
   pub repr : ReprIsSafe
+  pub iter : IterIsSafe
+  pub iterators : IteratorsAreSafe
 
 get_of_view_safe : RowLaws → (e : Exporter) (k : ℕ) (key : Value) → IsSafe e (get_of_view e k key)
 get_of_view_safe laws e k (value.Slice slice) = laws.slice e k slice
@@ -114,6 +117,10 @@ rows_safe laws e subject.Own verb.Copy lents = laws.edits e verb.Copy lents
 rows_safe laws e subject.Own (verb.Compare op other) lents = laws.compare.0 e op other lents
 rows_safe laws e subject.Own verb.Hash lents = laws.hash.0 e
 rows_safe laws e subject.Own verb.Repr lents = laws.repr.0 e
+rows_safe laws e subject.Own verb.Iter lents = laws.iter.0 e
+rows_safe laws e subject.Own verb.Next lents = laws.edits e verb.Next lents
+rows_safe laws e subject.Own verb.LengthHint lents = laws.edits e verb.LengthHint lents
+rows_safe laws e subject.Own (verb.SetState state) lents = laws.edits e (verb.SetState state) lents
 rows_safe laws e (subject.View k) verb.View lents = laws.view.1 e k
 rows_safe laws e (subject.View k) (verb.Get key) lents = get_of_view_safe laws e k key
 rows_safe laws e (subject.View k) (verb.Set key value) lents = set_through_view_safe laws e k key value lents
@@ -144,7 +151,11 @@ rows_safe laws e (subject.View k) verb.Copy lents = tt
 rows_safe laws e (subject.View k) (verb.Compare op other) lents = laws.compare.1 e k op other lents
 rows_safe laws e (subject.View k) verb.Hash lents = laws.hash.1 e k
 rows_safe laws e (subject.View k) verb.Repr lents = laws.repr.1 e k
-rows_safe laws e (subject.Iter k) v lents = tt
+rows_safe laws e (subject.View k) verb.Iter lents = laws.iter.1 e k
+rows_safe laws e (subject.View k) verb.Next lents = tt
+rows_safe laws e (subject.View k) verb.LengthHint lents = tt
+rows_safe laws e (subject.View k) (verb.SetState state) lents = tt
+rows_safe laws e (subject.Iter k) v lents = laws.iterators e k v
 
 -- ---- every command
 
@@ -156,10 +167,41 @@ IsReplyTo e s new (reply.Fresh snap) = (new ≡ e) × IsCopyOf e s snap
 IsReplyTo e s new (reply.Shown text) = is_one_line text ≡ true
 IsReplyTo e s new _ = Unit {0}
 
+-- what every command leaves of a sound exporter
+pub record IsLeft (old new : Exporter) : Type 0 where
+  pub sound : IsSoundExporter new
+  pub lengths : LengthsStay old new
+  pub readonly_bytes : ReadOnlyBytesStay old new
+  pub iterators : IteratorsStay old.iterators new.iterators
+
 -- what every row owes where it isn't refused
-pub record IsStep (e : Exporter) (s : Subject) (after : Exporter × LocalReply) : Type 0 where
-  pub keeps : IsSoundExporter e → Keeps e after.0
+pub record IsStep (e : Exporter) (s : Subject) (v : Verb) (after : Exporter × LocalReply) : Type 0 where
+  pub leaves : IsSoundExporter e → IsLeft e after.0
+  pub others : is_of_iterators s v ≡ false → IsSoundExporter e → after.0.iterators ≡ e.iterators
+  pub nothing_else : is_of_iterators s v ≡ true → after.0 ≡ record e { iterators = after.0.iterators }
   pub replies : IsReplyTo e s after.0 after.1
+
+same_iterators : (its : List Iterator) → IteratorsStay its its
+same_iterators its = λ k it given. (it, given, record { subject = refl; exhausted = λ is. refl })
+
+left_so : (old new : Exporter) → Keeps old new → IsLeft old new
+left_so old new keeps = record {
+  sound = keeps.sound;
+  lengths = keeps.lengths;
+  readonly_bytes = keeps.readonly_bytes;
+  iterators = subst (λ (its : List Iterator). IteratorsStay old.iterators its) (sym keeps.iterators) (same_iterators old.iterators);
+}
+
+-- where nothing but iterators changes
+iterated_so : ReadingKeeps → (e new : Exporter) → new ≡ record e { iterators = new.iterators } → IteratorsStay e.iterators new.iterators → IsSoundExporter e → IsLeft e new
+iterated_so reading e new same stay sound =
+    subst (IsLeft e) (sym same)
+    (record {
+      sound = record { views = sound.views };
+      lengths = record { views = (reading e sound).lengths.views; bytes = λ live. refl };
+      readonly_bytes = λ readonly. inl refl;
+      iterators = stay;
+    })
 
 ordinary : (e : Exporter) (s : Subject) (new : Exporter) (r : LocalReply) → is_answer r ≡ true → IsReplyTo e s new r
 ordinary e s new (reply.Refused f) is = absurd (true≢false (sym is))
@@ -175,6 +217,8 @@ ordinary e s new (reply.Text text) is = tt
 ordinary e s new (reply.Shown text) is = is
 ordinary e s new (reply.Truth truth) is = tt
 ordinary e s new reply.NotImplementedReply is = tt
+ordinary e s new (reply.Iter k) is = tt
+ordinary e s new reply.Stop is = tt
 ordinary e s new (reply.Numbers numbers) is = tt
 
 copied_reply : (e : Exporter) (s : Subject) (new : Exporter) (r : LocalReply) → new ≡ e → RepliesCopy e s r → IsReplyTo e s new r
@@ -191,131 +235,176 @@ copied_reply e s new (reply.Text text) same copied = tt
 copied_reply e s new (reply.Shown text) same copied = absurd copied
 copied_reply e s new (reply.Truth truth) same copied = tt
 copied_reply e s new reply.NotImplementedReply same copied = tt
+copied_reply e s new (reply.Iter k) same copied = tt
+copied_reply e s new reply.Stop same copied = tt
 copied_reply e s new (reply.Numbers numbers) same copied = tt
 
-safe_step : (e : Exporter) (s : Subject) (r : Result (Exporter × LocalReply) Fault) → IsSafe e r → IfDone (IsStep e s) r
-safe_step e s (Ok after) safe = record { keeps = safe.keeps; replies = ordinary e s after.0 after.1 safe.answers }
-safe_step e s (Err f) safe = tt
+safe_step : (e : Exporter) (s : Subject) (v : Verb) (r : Result (Exporter × LocalReply) Fault) → is_of_iterators s v ≡ false → IsSafe e r → IfDone (IsStep e s v) r
+safe_step e s v (Ok after) other safe = record {
+  leaves = λ sound. left_so e after.0 (safe.keeps sound);
+  others = λ is sound. (safe.keeps sound).iterators;
+  nothing_else = λ is. absurd (true≢false (sym is ∙ other));
+  replies = ordinary e s after.0 after.1 safe.answers;
+}
+safe_step e s v (Err f) other safe = tt
 
-copied_step : ReadingKeeps → (e : Exporter) (s : Subject) (r : Result (Exporter × LocalReply) Fault) → IfDone (IsCopied e s) r → IfDone (IsStep e s) r
-copied_step reading e s (Ok after) copied = record {
-  keeps = λ sound. subst (λ (x : Exporter). Keeps e x) (sym copied.same) (reading e sound);
+copied_step : ReadingKeeps → (e : Exporter) (s : Subject) (v : Verb) (r : Result (Exporter × LocalReply) Fault) → is_of_iterators s v ≡ false → IfDone (IsCopied e s) r → IfDone (IsStep e s v) r
+copied_step reading e s v (Ok after) other copied = record {
+  leaves = λ sound. subst (IsLeft e) (sym copied.same) (left_so e e (reading e sound));
+  others = λ is sound. ap (λ (x : Exporter). x.iterators) copied.same;
+  nothing_else = λ is. absurd (true≢false (sym is ∙ other));
   replies = copied_reply e s after.0 after.1 copied.same copied.copied;
 }
-copied_step reading e s (Err f) copied = tt
+copied_step reading e s v (Err f) other copied = tt
 
-row_step : ReadingKeeps → (e : Exporter) (s : Subject) (v : Verb) (r : Result (Exporter × LocalReply) Fault) → RowIsSafe e s v r → IfDone (IsStep e s) r
-row_step reading e subject.Own verb.View r safe = safe_step e subject.Own r safe
-row_step reading e subject.Own (verb.Get key) r safe = safe_step e subject.Own r safe
-row_step reading e subject.Own (verb.Set key value) r safe = safe_step e subject.Own r safe
-row_step reading e subject.Own (verb.Cast format shape) r safe = safe_step e subject.Own r safe
-row_step reading e subject.Own verb.ToBytes r safe = safe_step e subject.Own r safe
-row_step reading e subject.Own verb.Release r safe = safe_step e subject.Own r safe
-row_step reading e subject.Own verb.Len r safe = safe_step e subject.Own r safe
-row_step reading e subject.Own (verb.Property name) r safe = safe_step e subject.Own r safe
-row_step reading e subject.Own verb.ToReadonly r safe = safe_step e subject.Own r safe
-row_step reading e subject.Own (verb.Range from to) r safe = safe_step e subject.Own r safe
-row_step reading e subject.Own verb.Enter r safe = safe_step e subject.Own r safe
-row_step reading e subject.Own verb.Exit r safe = safe_step e subject.Own r safe
-row_step reading e subject.Own verb.ToContiguous r safe = safe_step e subject.Own r safe
-row_step reading e subject.Own verb.ToList r safe = safe_step e subject.Own r safe
-row_step reading e subject.Own (verb.Del key) r safe = safe_step e subject.Own r safe
-row_step reading e subject.Own (verb.Append v) r safe = safe_step e subject.Own r safe
-row_step reading e subject.Own (verb.Extend v) r safe = safe_step e subject.Own r safe
-row_step reading e subject.Own (verb.Insert index v) r safe = safe_step e subject.Own r safe
-row_step reading e subject.Own (verb.Pop index) r safe = safe_step e subject.Own r safe
-row_step reading e subject.Own (verb.Remove v) r safe = safe_step e subject.Own r safe
-row_step reading e subject.Own verb.Clear r safe = safe_step e subject.Own r safe
-row_step reading e subject.Own verb.Reverse r safe = safe_step e subject.Own r safe
-row_step reading e subject.Own (verb.IAdd v) r safe = safe_step e subject.Own r safe
-row_step reading e subject.Own (verb.IMul count) r safe = safe_step e subject.Own r safe
-row_step reading e subject.Own (verb.Init options) r safe = safe_step e subject.Own r safe
-row_step reading e subject.Own verb.Take r safe = safe_step e subject.Own r safe
-row_step reading e subject.Own verb.Copy r safe = copied_step reading e subject.Own r safe
-row_step reading e subject.Own (verb.Compare op other) r safe = safe_step e subject.Own r safe
-row_step reading e subject.Own verb.Hash r safe = safe_step e subject.Own r safe
-row_step reading e subject.Own verb.Repr r safe = safe_step e subject.Own r safe
-row_step reading e (subject.Iter k) v r safe = safe_step e (subject.Iter k) r safe
-row_step reading e (subject.View k) verb.ToContiguous r safe = copied_step reading e (subject.View k) r safe
-row_step reading e (subject.View k) verb.View r safe = safe_step e (subject.View k) r safe
-row_step reading e (subject.View k) (verb.Range from to) r safe = safe_step e (subject.View k) r safe
-row_step reading e (subject.View k) (verb.Get key) r safe = safe_step e (subject.View k) r safe
-row_step reading e (subject.View k) (verb.Set key value) r safe = safe_step e (subject.View k) r safe
-row_step reading e (subject.View k) (verb.Cast format shape) r safe = safe_step e (subject.View k) r safe
-row_step reading e (subject.View k) verb.ToBytes r safe = safe_step e (subject.View k) r safe
-row_step reading e (subject.View k) verb.Release r safe = safe_step e (subject.View k) r safe
-row_step reading e (subject.View k) verb.Enter r safe = safe_step e (subject.View k) r safe
-row_step reading e (subject.View k) verb.Exit r safe = safe_step e (subject.View k) r safe
-row_step reading e (subject.View k) verb.ToList r safe = safe_step e (subject.View k) r safe
-row_step reading e (subject.View k) verb.Len r safe = safe_step e (subject.View k) r safe
-row_step reading e (subject.View k) (verb.Property name) r safe = safe_step e (subject.View k) r safe
-row_step reading e (subject.View k) verb.ToReadonly r safe = safe_step e (subject.View k) r safe
-row_step reading e (subject.View k) (verb.Del key) r safe = safe_step e (subject.View k) r safe
-row_step reading e (subject.View k) (verb.Append v) r safe = safe_step e (subject.View k) r safe
-row_step reading e (subject.View k) (verb.Extend v) r safe = safe_step e (subject.View k) r safe
-row_step reading e (subject.View k) (verb.Insert index v) r safe = safe_step e (subject.View k) r safe
-row_step reading e (subject.View k) (verb.Pop index) r safe = safe_step e (subject.View k) r safe
-row_step reading e (subject.View k) (verb.Remove v) r safe = safe_step e (subject.View k) r safe
-row_step reading e (subject.View k) verb.Clear r safe = safe_step e (subject.View k) r safe
-row_step reading e (subject.View k) verb.Reverse r safe = safe_step e (subject.View k) r safe
-row_step reading e (subject.View k) (verb.IAdd v) r safe = safe_step e (subject.View k) r safe
-row_step reading e (subject.View k) (verb.IMul count) r safe = safe_step e (subject.View k) r safe
-row_step reading e (subject.View k) (verb.Init options) r safe = safe_step e (subject.View k) r safe
-row_step reading e (subject.View k) verb.Take r safe = safe_step e (subject.View k) r safe
-row_step reading e (subject.View k) verb.Copy r safe = safe_step e (subject.View k) r safe
-row_step reading e (subject.View k) (verb.Compare op other) r safe = safe_step e (subject.View k) r safe
-row_step reading e (subject.View k) verb.Hash r safe = safe_step e (subject.View k) r safe
-row_step reading e (subject.View k) verb.Repr r safe = safe_step e (subject.View k) r safe
+iterated_step : ReadingKeeps → (e : Exporter) (s : Subject) (v : Verb) (r : Result (Exporter × LocalReply) Fault) → is_of_iterators s v ≡ true → IfDone (IsIterated e) r → IfDone (IsStep e s v) r
+iterated_step reading e s v (Ok after) of_iterators iterated = record {
+  leaves = iterated_so reading e after.0 iterated.same iterated.iterators;
+  others = λ is. absurd (true≢false (sym of_iterators ∙ is));
+  nothing_else = λ is. iterated.same;
+  replies = ordinary e s after.0 after.1 iterated.answers;
+}
+iterated_step reading e s v (Err f) of_iterators iterated = tt
 
-chosen : (e : Exporter) (s : Subject) (b : Bool) (r : Result (Exporter × LocalReply) Fault) → IfDone (IsStep e s) r → IfDone (IsStep e s) (if b then r else Err fault.UnknownName)
-chosen e s true r step = step
-chosen e s false r step = tt
+row_step : ReadingKeeps → (e : Exporter) (s : Subject) (v : Verb) (r : Result (Exporter × LocalReply) Fault) → RowIsSafe e s v r → IfDone (IsStep e s v) r
+row_step reading e subject.Own verb.View r safe = safe_step e subject.Own verb.View r refl safe
+row_step reading e subject.Own (verb.Get key) r safe = safe_step e subject.Own (verb.Get key) r refl safe
+row_step reading e subject.Own (verb.Set key value) r safe = safe_step e subject.Own (verb.Set key value) r refl safe
+row_step reading e subject.Own (verb.Cast format shape) r safe = safe_step e subject.Own (verb.Cast format shape) r refl safe
+row_step reading e subject.Own verb.ToBytes r safe = safe_step e subject.Own verb.ToBytes r refl safe
+row_step reading e subject.Own verb.Release r safe = safe_step e subject.Own verb.Release r refl safe
+row_step reading e subject.Own verb.Len r safe = safe_step e subject.Own verb.Len r refl safe
+row_step reading e subject.Own (verb.Property name) r safe = safe_step e subject.Own (verb.Property name) r refl safe
+row_step reading e subject.Own verb.ToReadonly r safe = safe_step e subject.Own verb.ToReadonly r refl safe
+row_step reading e subject.Own (verb.Range from to) r safe = safe_step e subject.Own (verb.Range from to) r refl safe
+row_step reading e subject.Own verb.Enter r safe = safe_step e subject.Own verb.Enter r refl safe
+row_step reading e subject.Own verb.Exit r safe = safe_step e subject.Own verb.Exit r refl safe
+row_step reading e subject.Own verb.ToContiguous r safe = safe_step e subject.Own verb.ToContiguous r refl safe
+row_step reading e subject.Own verb.ToList r safe = safe_step e subject.Own verb.ToList r refl safe
+row_step reading e subject.Own (verb.Del key) r safe = safe_step e subject.Own (verb.Del key) r refl safe
+row_step reading e subject.Own (verb.Append v) r safe = safe_step e subject.Own (verb.Append v) r refl safe
+row_step reading e subject.Own (verb.Extend v) r safe = safe_step e subject.Own (verb.Extend v) r refl safe
+row_step reading e subject.Own (verb.Insert index v) r safe = safe_step e subject.Own (verb.Insert index v) r refl safe
+row_step reading e subject.Own (verb.Pop index) r safe = safe_step e subject.Own (verb.Pop index) r refl safe
+row_step reading e subject.Own (verb.Remove v) r safe = safe_step e subject.Own (verb.Remove v) r refl safe
+row_step reading e subject.Own verb.Clear r safe = safe_step e subject.Own verb.Clear r refl safe
+row_step reading e subject.Own verb.Reverse r safe = safe_step e subject.Own verb.Reverse r refl safe
+row_step reading e subject.Own (verb.IAdd v) r safe = safe_step e subject.Own (verb.IAdd v) r refl safe
+row_step reading e subject.Own (verb.IMul count) r safe = safe_step e subject.Own (verb.IMul count) r refl safe
+row_step reading e subject.Own (verb.Init options) r safe = safe_step e subject.Own (verb.Init options) r refl safe
+row_step reading e subject.Own verb.Take r safe = safe_step e subject.Own verb.Take r refl safe
+row_step reading e subject.Own verb.Copy r safe = copied_step reading e subject.Own verb.Copy r refl safe
+row_step reading e subject.Own (verb.Compare op other) r safe = safe_step e subject.Own (verb.Compare op other) r refl safe
+row_step reading e subject.Own verb.Hash r safe = safe_step e subject.Own verb.Hash r refl safe
+row_step reading e subject.Own verb.Repr r safe = safe_step e subject.Own verb.Repr r refl safe
+row_step reading e subject.Own verb.Iter r safe = iterated_step reading e subject.Own verb.Iter r refl safe
+row_step reading e subject.Own verb.Next r safe = safe_step e subject.Own verb.Next r refl safe
+row_step reading e subject.Own verb.LengthHint r safe = safe_step e subject.Own verb.LengthHint r refl safe
+row_step reading e subject.Own (verb.SetState state) r safe = safe_step e subject.Own (verb.SetState state) r refl safe
+row_step reading e (subject.Iter k) v r safe = iterated_step reading e (subject.Iter k) v r refl safe
+row_step reading e (subject.View k) verb.ToContiguous r safe = copied_step reading e (subject.View k) verb.ToContiguous r refl safe
+row_step reading e (subject.View k) verb.View r safe = safe_step e (subject.View k) verb.View r refl safe
+row_step reading e (subject.View k) (verb.Range from to) r safe = safe_step e (subject.View k) (verb.Range from to) r refl safe
+row_step reading e (subject.View k) (verb.Get key) r safe = safe_step e (subject.View k) (verb.Get key) r refl safe
+row_step reading e (subject.View k) (verb.Set key value) r safe = safe_step e (subject.View k) (verb.Set key value) r refl safe
+row_step reading e (subject.View k) (verb.Cast format shape) r safe = safe_step e (subject.View k) (verb.Cast format shape) r refl safe
+row_step reading e (subject.View k) verb.ToBytes r safe = safe_step e (subject.View k) verb.ToBytes r refl safe
+row_step reading e (subject.View k) verb.Release r safe = safe_step e (subject.View k) verb.Release r refl safe
+row_step reading e (subject.View k) verb.Enter r safe = safe_step e (subject.View k) verb.Enter r refl safe
+row_step reading e (subject.View k) verb.Exit r safe = safe_step e (subject.View k) verb.Exit r refl safe
+row_step reading e (subject.View k) verb.ToList r safe = safe_step e (subject.View k) verb.ToList r refl safe
+row_step reading e (subject.View k) verb.Len r safe = safe_step e (subject.View k) verb.Len r refl safe
+row_step reading e (subject.View k) (verb.Property name) r safe = safe_step e (subject.View k) (verb.Property name) r refl safe
+row_step reading e (subject.View k) verb.ToReadonly r safe = safe_step e (subject.View k) verb.ToReadonly r refl safe
+row_step reading e (subject.View k) (verb.Del key) r safe = safe_step e (subject.View k) (verb.Del key) r refl safe
+row_step reading e (subject.View k) (verb.Append v) r safe = safe_step e (subject.View k) (verb.Append v) r refl safe
+row_step reading e (subject.View k) (verb.Extend v) r safe = safe_step e (subject.View k) (verb.Extend v) r refl safe
+row_step reading e (subject.View k) (verb.Insert index v) r safe = safe_step e (subject.View k) (verb.Insert index v) r refl safe
+row_step reading e (subject.View k) (verb.Pop index) r safe = safe_step e (subject.View k) (verb.Pop index) r refl safe
+row_step reading e (subject.View k) (verb.Remove v) r safe = safe_step e (subject.View k) (verb.Remove v) r refl safe
+row_step reading e (subject.View k) verb.Clear r safe = safe_step e (subject.View k) verb.Clear r refl safe
+row_step reading e (subject.View k) verb.Reverse r safe = safe_step e (subject.View k) verb.Reverse r refl safe
+row_step reading e (subject.View k) (verb.IAdd v) r safe = safe_step e (subject.View k) (verb.IAdd v) r refl safe
+row_step reading e (subject.View k) (verb.IMul count) r safe = safe_step e (subject.View k) (verb.IMul count) r refl safe
+row_step reading e (subject.View k) (verb.Init options) r safe = safe_step e (subject.View k) (verb.Init options) r refl safe
+row_step reading e (subject.View k) verb.Take r safe = safe_step e (subject.View k) verb.Take r refl safe
+row_step reading e (subject.View k) verb.Copy r safe = safe_step e (subject.View k) verb.Copy r refl safe
+row_step reading e (subject.View k) (verb.Compare op other) r safe = safe_step e (subject.View k) (verb.Compare op other) r refl safe
+row_step reading e (subject.View k) verb.Hash r safe = safe_step e (subject.View k) verb.Hash r refl safe
+row_step reading e (subject.View k) verb.Repr r safe = safe_step e (subject.View k) verb.Repr r refl safe
+row_step reading e (subject.View k) verb.Iter r safe = iterated_step reading e (subject.View k) verb.Iter r refl safe
+row_step reading e (subject.View k) verb.Next r safe = safe_step e (subject.View k) verb.Next r refl safe
+row_step reading e (subject.View k) verb.LengthHint r safe = safe_step e (subject.View k) verb.LengthHint r refl safe
+row_step reading e (subject.View k) (verb.SetState state) r safe = safe_step e (subject.View k) (verb.SetState state) r refl safe
 
-pub answered_step : RowsAreSafe → ReadingKeeps → (e : Exporter) (s : Subject) (v : Verb) (loans : List (ℕ × Loan)) → IfDone (IsStep e s) (answer_of e s v loans)
+chosen : (e : Exporter) (s : Subject) (v : Verb) (b : Bool) (r : Result (Exporter × LocalReply) Fault) → IfDone (IsStep e s v) r → IfDone (IsStep e s v) (if b then r else Err fault.UnknownName)
+chosen e s v true r step = step
+chosen e s v false r step = tt
+
+pub answered_step : RowsAreSafe → ReadingKeeps → (e : Exporter) (s : Subject) (v : Verb) (loans : List (ℕ × Loan)) → IfDone (IsStep e s v) (answer_of e s v loans)
 answered_step rows reading e s v loans =
     let lents = lent_for_each e loans (handles_read s v) in
-    chosen e s (are_known e loans (handles_of v)) (row e s v lents) (row_step reading e s v (row e s v lents) (rows e s v lents))
+    chosen e s v (are_known e loans (handles_of v)) (row e s v lents) (row_step reading e s v (row e s v lents) (rows e s v lents))
 
-settled_keeps : ReadingKeeps → (e : Exporter) (s : Subject) (r : Result (Exporter × LocalReply) Fault) → IfDone (IsStep e s) r → IsSoundExporter e → Keeps e (settled_answer e r).0
-settled_keeps reading e s (Ok after) step sound = step.keeps sound
-settled_keeps reading e s (Err f) step sound = reading e sound
+settled_leaves : ReadingKeeps → (e : Exporter) (s : Subject) (v : Verb) (r : Result (Exporter × LocalReply) Fault) → IfDone (IsStep e s v) r → IsSoundExporter e → IsLeft e (settled_answer e r).0
+settled_leaves reading e s v (Ok after) step sound = step.leaves sound
+settled_leaves reading e s v (Err f) step sound = left_so e e (reading e sound)
 
-step_keeps : RowsAreSafe → ReadingKeeps → (e : Exporter) (s : Subject) (v : Verb) (loans : List (ℕ × Loan)) → IsSoundExporter e → Keeps e (estep e s v loans).0
-step_keeps rows reading e s v loans sound = settled_keeps reading e s (answer_of e s v loans) (answered_step rows reading e s v loans) sound
+step_leaves : RowsAreSafe → ReadingKeeps → (e : Exporter) (s : Subject) (v : Verb) (loans : List (ℕ × Loan)) → IsSoundExporter e → IsLeft e (estep e s v loans).0
+step_leaves rows reading e s v loans sound = settled_leaves reading e s v (answer_of e s v loans) (answered_step rows reading e s v loans) sound
 
 pub sound_stays : RowsAreSafe → ReadingKeeps → CommandsKeepSound
-sound_stays rows reading e s v loans sound = (step_keeps rows reading e s v loans sound).sound
+sound_stays rows reading e s v loans sound = (step_leaves rows reading e s v loans sound).sound
 
 pub lengths_stay_so : RowsAreSafe → ReadingKeeps → LengthsStayUnderCommands
-lengths_stay_so rows reading e s v loans sound = (step_keeps rows reading e s v loans sound).lengths
+lengths_stay_so rows reading e s v loans sound = (step_leaves rows reading e s v loans sound).lengths
 
 pub bytes_stay_so : RowsAreSafe → ReadingKeeps → ReadOnlyBytesStayUnderCommands
-bytes_stay_so rows reading e s v loans sound = (step_keeps rows reading e s v loans sound).readonly_bytes
+bytes_stay_so rows reading e s v loans sound = (step_leaves rows reading e s v loans sound).readonly_bytes
+
+pub iterators_stay_so : RowsAreSafe → ReadingKeeps → IteratorsStayUnderCommands
+iterators_stay_so rows reading e s v loans sound = (step_leaves rows reading e s v loans sound).iterators
+
+-- commands of iterators, and all others
+settled_others : (e : Exporter) (s : Subject) (v : Verb) (r : Result (Exporter × LocalReply) Fault) → IfDone (IsStep e s v) r → IsSoundExporter e → is_of_iterators s v ≡ false → (settled_answer e r).0.iterators ≡ e.iterators
+settled_others e s v (Ok after) step sound other = step.others other sound
+settled_others e s v (Err f) step sound other = refl
+
+pub others_leave_so : RowsAreSafe → ReadingKeeps → OthersLeaveIterators
+others_leave_so rows reading e s v loans sound other = settled_others e s v (answer_of e s v loans) (answered_step rows reading e s v loans) sound other
+
+settled_iterated : (e : Exporter) (s : Subject) (v : Verb) (r : Result (Exporter × LocalReply) Fault) → IfDone (IsStep e s v) r → is_of_iterators s v ≡ true
+    → (settled_answer e r).0 ≡ record e { iterators = (settled_answer e r).0.iterators }
+settled_iterated e s v (Ok after) step is = step.nothing_else is
+settled_iterated e s v (Err f) step is = refl
+
+pub nothing_else_so : RowsAreSafe → ReadingKeeps → IterationChangesNothingElse
+nothing_else_so rows reading e s v loans is = settled_iterated e s v (answer_of e s v loans) (answered_step rows reading e s v loans) is
 
 -- where the reply is a refusal, the exporter is as before
-settled_refusal : (e : Exporter) (s : Subject) (r : Result (Exporter × LocalReply) Fault) (f : Fault) → IfDone (IsStep e s) r → (settled_answer e r).1 ≡ reply.Refused f → (settled_answer e r).0 ≡ e
-settled_refusal e s (Ok after) f step is = absurd (subst (IsReplyTo e s after.0) is step.replies)
-settled_refusal e s (Err g) f step is = refl
+settled_refusal : (e : Exporter) (s : Subject) (v : Verb) (r : Result (Exporter × LocalReply) Fault) (f : Fault) → IfDone (IsStep e s v) r → (settled_answer e r).1 ≡ reply.Refused f → (settled_answer e r).0 ≡ e
+settled_refusal e s v (Ok after) f step is = absurd (subst (IsReplyTo e s after.0) is step.replies)
+settled_refusal e s v (Err g) f step is = refl
 
 pub refusals_stay_so : RowsAreSafe → ReadingKeeps → RefusedCommandsChangeNothing
-refusals_stay_so rows reading e s v loans f is = settled_refusal e s (answer_of e s v loans) f (answered_step rows reading e s v loans) is
+refusals_stay_so rows reading e s v loans f is = settled_refusal e s v (answer_of e s v loans) f (answered_step rows reading e s v loans) is
 
 -- where the reply is something fresh, the exporter is as before, and it is a copy
-settled_fresh : (e : Exporter) (s : Subject) (r : Result (Exporter × LocalReply) Fault) (snap : Snap) → IfDone (IsStep e s) r → (settled_answer e r).1 ≡ reply.Fresh snap
+settled_fresh : (e : Exporter) (s : Subject) (v : Verb) (r : Result (Exporter × LocalReply) Fault) (snap : Snap) → IfDone (IsStep e s v) r → (settled_answer e r).1 ≡ reply.Fresh snap
     → ((settled_answer e r).0 ≡ e) × (IsCopyOf e s snap)
-settled_fresh e s (Ok after) snap step is = subst (IsReplyTo e s after.0) is step.replies
-settled_fresh e s (Err g) snap step is = absurd (cc)
+settled_fresh e s v (Ok after) snap step is = subst (IsReplyTo e s after.0) is step.replies
+settled_fresh e s v (Err g) snap step is = absurd (cc)
 
 pub fresh_are_copies : RowsAreSafe → ReadingKeeps → FreshRepliesAreCopies
-fresh_are_copies rows reading e s v loans snap is = settled_fresh e s (answer_of e s v loans) snap (answered_step rows reading e s v loans) is
+fresh_are_copies rows reading e s v loans snap is = settled_fresh e s v (answer_of e s v loans) snap (answered_step rows reading e s v loans) is
 
 -- where the reply shows a text, it is one line
-settled_shown : (e : Exporter) (s : Subject) (r : Result (Exporter × LocalReply) Fault) (text : List ℕ) → IfDone (IsStep e s) r → (settled_answer e r).1 ≡ reply.Shown text → is_one_line text ≡ true
-settled_shown e s (Ok after) text step is = subst (IsReplyTo e s after.0) is step.replies
-settled_shown e s (Err g) text step is = absurd (cc)
+settled_shown : (e : Exporter) (s : Subject) (v : Verb) (r : Result (Exporter × LocalReply) Fault) (text : List ℕ) → IfDone (IsStep e s v) r → (settled_answer e r).1 ≡ reply.Shown text → is_one_line text ≡ true
+settled_shown e s v (Ok after) text step is = subst (IsReplyTo e s after.0) is step.replies
+settled_shown e s v (Err g) text step is = absurd (cc)
 
 pub shown_are_one_line : RowsAreSafe → ReadingKeeps → ShownTextsAreOneLine
-shown_are_one_line rows reading e s v loans text is = settled_shown e s (answer_of e s v loans) text (answered_step rows reading e s v loans) is
+shown_are_one_line rows reading e s v loans text is = settled_shown e s v (answer_of e s v loans) text (answered_step rows reading e s v loans) is
 
 pub alike_steps : LoansAlikeDoTheSame
 alike_steps e s v loans others alike =

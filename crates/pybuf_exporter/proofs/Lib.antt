@@ -3,3 +3,4 @@ pub mod Described
 pub mod Beside
 pub mod Lent
 pub mod Refusing
+pub mod Iterating

@@ -58,16 +58,20 @@ row_is_edit e verb.ToReadonly lents is = absurd (true≢false (sym is))
 row_is_edit e (verb.Compare op other) lents is = absurd (true≢false (sym is))
 row_is_edit e verb.Hash lents is = absurd (true≢false (sym is))
 row_is_edit e verb.Repr lents is = absurd (true≢false (sym is))
+row_is_edit e verb.Iter lents is = absurd (true≢false (sym is))
+row_is_edit e verb.Next lents is = absurd (true≢false (sym is))
+row_is_edit e verb.LengthHint lents is = absurd (true≢false (sym is))
+row_is_edit e (verb.SetState state) lents is = absurd (true≢false (sym is))
 
 -- what replies a refusal is refused so
-refused_by : (e : Exporter) (r : Result (Exporter × LocalReply) Fault) (f : Fault) → IfDone (IsStep e subject.Own) r → (settled_answer e r).1 ≡ reply.Refused f → r ≡ Err f
-refused_by e (Ok after) f step is = absurd (subst (IsReplyTo e subject.Own after.0) is step.replies)
-refused_by e (Err g) f step is = ap (λ (x : Fault). let gone : Result (Exporter × LocalReply) Fault = Err x in gone) (let same : g ≡ f = cc in same)
+refused_by : (e : Exporter) (v : Verb) (r : Result (Exporter × LocalReply) Fault) (f : Fault) → IfDone (IsStep e subject.Own v) r → (settled_answer e r).1 ≡ reply.Refused f → r ≡ Err f
+refused_by e v (Ok after) f step is = absurd (subst (IsReplyTo e subject.Own after.0) is step.replies)
+refused_by e v (Err g) f step is = ap (λ (x : Fault). let gone : Result (Exporter × LocalReply) Fault = Err x in gone) (let same : g ≡ f = cc in same)
 
-replied : (e : Exporter) (asked : Result Bool Fault) (row answer : Result (Exporter × LocalReply) Fault) → answer ≡ row → IfDone (IsStep e subject.Own) answer → IsAsked e asked row → IsRefusedWhileExported e asked (settled_answer e answer).1
-replied e asked row answer same step is = record {
+replied : (e : Exporter) (v : Verb) (asked : Result Bool Fault) (row answer : Result (Exporter × LocalReply) Fault) → answer ≡ row → IfDone (IsStep e subject.Own v) answer → IsAsked e asked row → IsRefusedWhileExported e asked (settled_answer e answer).1
+replied e v asked row answer same step is = record {
   refused = λ asks live. ap (λ (r : Result (Exporter × LocalReply) Fault). (settled_answer e r).1) (same ∙ is.refused asks live);
-  only = λ refusal. is.only (sym same ∙ refused_by e answer fault.Buffer step refusal);
+  only = λ refusal. is.only (sym same ∙ refused_by e v answer fault.Buffer step refusal);
 }
 
 pub refused_while_exported : RowsAreSafe → ReadingKeeps → EditsAskBeforeTheyResize → ResizingIsRefusedWhileExported
@@ -75,4 +79,4 @@ refused_while_exported rows reading asking e v loans edit known =
     let lents = lent_for_each e loans (handles_read subject.Own v) in
     let same : answer_of e subject.Own v loans ≡ edit_of_own e v lents =
     ap (λ (b : Bool). if b then row_of_own e v lents else Err fault.UnknownName) known ∙ row_is_edit e v lents edit in
-    replied e (asks e v lents) (edit_of_own e v lents) (answer_of e subject.Own v loans) same (answered_step rows reading e subject.Own v loans) (asking e v lents)
+    replied e v (asks e v lents) (edit_of_own e v lents) (answer_of e subject.Own v loans) same (answered_step rows reading e subject.Own v loans) (asking e v lents)

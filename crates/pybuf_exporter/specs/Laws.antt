@@ -1,5 +1,5 @@
 -- Laws over every command on one exporter.
-use Rattle.std.specs.Prelude.{◌≡◌, ◌⊎◌, ℕ, ◌<◌, Bool, true, List, length, slice_index, Result, Ok, Err}
+use Rattle.std.specs.Prelude.{◌≡◌, ◌⊎◌, ℕ, zero, suc, ◌+◌, ◌-◌, ◌<◌, ◌≤◌, Bool, true, false, List, [], ◌∷◌, ◌++◌, length, map, drop, replicate, slice_get, slice_index, Result, Ok, Err, Some}
 use Rattle.pybuf_value.specs.declared.faults.Fault.{Fault}
 use Rattle.pybuf_value.specs.declared.faults.Fault.TheVariants as fault
 use Rattle.pybuf_value.specs.declared.snaps.Snap.{Snap}
@@ -10,16 +10,17 @@ use Rattle.pybuf_desc.specs.Items.{bytes_at}
 use Rattle.pybuf_command.specs.declared.kinds.Subject.{Subject}
 use Rattle.pybuf_command.specs.declared.kinds.Subject.TheVariants as subject
 use Rattle.pybuf_command.specs.declared.commands.Verb.{Verb}
+use Rattle.pybuf_command.specs.declared.commands.Verb.TheVariants as verb
 use Rattle.pybuf_command.specs.declared.commands.LocalReply.{LocalReply}
 use Rattle.pybuf_command.specs.declared.commands.LocalReply.TheVariants as reply
 use Rattle.pybuf_command.specs.declared.loans.Loan.{Loan}
 use Rattle.pybuf_command.specs.Handles.{handles_of, handles_read}
-use Rattle.pybuf_memoryview.specs.Items.{item_by}
-use Rattle.pybuf_state.specs.Exporter.{Exporter, live_layout}
+use Rattle.pybuf_memoryview.specs.Items.{byte_item, item_by}
+use Rattle.pybuf_state.specs.Exporter.{Exporter, Iterator, live_layout}
 use Rattle.pybuf_state.specs.Loans.{are_known, lent_for_each}
 use Rattle.pybuf_state.specs.Sound.{IsSoundExporter}
 use Rattle.pybuf_state.specs.Fresh.{IsCopyOf}
-use Rattle.pybuf_state.specs.Keeps.{LengthsStay, ReadOnlyBytesStay, is_one_line}
+use Rattle.pybuf_state.specs.Keeps.{LengthsStay, ReadOnlyBytesStay, IteratorsStay, is_one_line}
 use Rattle.pybuf_state.specs.Resizing.{has_exports}
 use Rattle.pybuf_rows_edits.specs.Edits.{is_edit}
 use Rattle.pybuf_rows_edits.specs.Asking.{asks}
@@ -37,6 +38,39 @@ LengthsStayUnderCommands = (e : Exporter) (s : Subject) (v : Verb) (loans : List
 -- no command changes the bytes of an exporter that is only read
 abbrev pub ReadOnlyBytesStayUnderCommands : Type 0
 ReadOnlyBytesStayUnderCommands = (e : Exporter) (s : Subject) (v : Verb) (loans : List (ℕ × Loan)) → IsSoundExporter e → ReadOnlyBytesStay e (estep e s v loans).0
+
+-- each iterator keeps its number and what it goes over, and an exhausted one stays as it is
+abbrev pub IteratorsStayUnderCommands : Type 0
+IteratorsStayUnderCommands = (e : Exporter) (s : Subject) (v : Verb) (loans : List (ℕ × Loan)) → IsSoundExporter e → IteratorsStay e.iterators (estep e s v loans).0.iterators
+
+-- whether a command makes an iterator or is asked of one
+abbrev pub is_of_iterators : Subject → Verb → Bool
+is_of_iterators (subject.Iter k) v = true
+is_of_iterators s verb.Iter = true
+is_of_iterators s v = false
+
+-- no other command changes an iterator
+abbrev pub OthersLeaveIterators : Type 0
+OthersLeaveIterators =
+    (e : Exporter) (s : Subject) (v : Verb) (loans : List (ℕ × Loan)) → IsSoundExporter e → is_of_iterators s v ≡ false → (estep e s v loans).0.iterators ≡ e.iterators
+
+-- and these change nothing else
+abbrev pub IterationChangesNothingElse : Type 0
+IterationChangesNothingElse =
+    (e : Exporter) (s : Subject) (v : Verb) (loans : List (ℕ × Loan)) → is_of_iterators s v ≡ true
+    → (estep e s v loans).0 ≡ record e { iterators = (estep e s v loans).0.iterators }
+
+-- what so many `next`s on an iterator reply, one after the other
+abbrev pub nexts : Exporter → ℕ → ℕ → List LocalReply
+nexts e k zero = []
+nexts e k (suc n) = (estep e (subject.Iter k) verb.Next []).1 ∷ nexts (estep e (subject.Iter k) verb.Next []).0 k n
+
+-- An iterator over bytes gives those from its position on, in order and each once, and then it stops, however
+-- often it is asked again.
+abbrev pub IteratorsGiveTheBytes : Type 0
+IteratorsGiveTheBytes =
+    (e : Exporter) (k : ℕ) (it : Iterator) (more : ℕ) → slice_get e.iterators k ≡ Some it → it.subject ≡ subject.Own → it.exhausted ≡ false → it.position ≤ length e.bytes
+    → nexts e k (length e.bytes - it.position + more) ≡ map (λ b. reply.Item (byte_item b)) (drop it.position e.bytes) ++ replicate more reply.Stop
 
 -- a refused command changes nothing
 abbrev pub RefusedCommandsChangeNothing : Type 0

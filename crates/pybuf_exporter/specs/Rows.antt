@@ -9,13 +9,16 @@ use Rattle.pybuf_command.specs.declared.commands.Verb.TheVariants as verb
 use Rattle.pybuf_command.specs.declared.commands.LocalReply.{LocalReply}
 use Rattle.pybuf_state.specs.Exporter.{Exporter}
 use Rattle.pybuf_state.specs.Loans.{Lent}
-use Rattle.pybuf_state.specs.Keeps.{IsSafe, IsCopied}
+use Rattle.pybuf_state.specs.Keeps.{IsSafe, IsCopied, IsIterated}
 use Rattle.pybuf_exporter.specs.Step.{row}
 
--- `contig` of a view and `copy` of a bytearray reply a copy of it; every other row is safe
+-- `contig` of a view and `copy` of a bytearray reply a copy of it, `iter` and the rows of an iterator change
+-- iterators alone, and every other row is safe
 abbrev pub RowIsSafe : Exporter → Subject → Verb → Result (Exporter × LocalReply) Fault → Type 0
 RowIsSafe e (subject.View k) verb.ToContiguous after = IfDone (IsCopied e (subject.View k)) after
 RowIsSafe e subject.Own verb.Copy after = IfDone (IsCopied e subject.Own) after
+RowIsSafe e (subject.Iter k) v after = IfDone (IsIterated e) after
+RowIsSafe e s verb.Iter after = IfDone (IsIterated e) after
 RowIsSafe e s v after = IsSafe e after
 
 abbrev pub RowsAreSafe : Type 0

@@ -33,6 +33,7 @@ use Rattle.pybuf_rows_compare.specs.Hash.{hash_of_own, hash_of_view}
 use Rattle.pybuf_rows_compare.specs.Repr.{repr_of_own, repr_of_view}
 use Rattle.pybuf_rows_writes.specs.Set.{set_of_own, set_of_view}
 use Rattle.pybuf_rows_writes.specs.Assign.{assign_of_view}
+use Rattle.pybuf_rows_iters.specs.Iterators.{iter_of_own, iter_of_view, row_of_iterator}
 use Rattle.pybuf_rows_edits.specs.Shrinking.{delete_of_view}
 use Rattle.pybuf_rows_edits.specs.Edits.{edit_of_own}
 
@@ -71,6 +72,7 @@ row_of_own e (verb.Property name) lents = property_of_own e name
 row_of_own e (verb.Compare op other) lents = compare_of_own e op other lents
 row_of_own e verb.Hash lents = hash_of_own e
 row_of_own e verb.Repr lents = repr_of_own e
+row_of_own e verb.Iter lents = iter_of_own e
 row_of_own e v lents = edit_of_own e v lents
 
 -- the row of a verb on a view
@@ -92,14 +94,15 @@ row_of_view e k (verb.Del key) lents = delete_of_view e k
 row_of_view e k (verb.Compare op other) lents = compare_of_view e k op other lents
 row_of_view e k verb.Hash lents = hash_of_view e k
 row_of_view e k verb.Repr lents = repr_of_view e k
+row_of_view e k verb.Iter lents = iter_of_view e k
 row_of_view e k _ lents = Err fault.UnknownName
 
 -- The row of the subject and the verb, with what is lent to it. A subject of a kind that has no such
--- row is an unknown name; no iterator has one yet.
+-- row is an unknown name.
 abbrev pub row : Exporter → Subject → Verb → List Lent → Result (Exporter × LocalReply) Fault
 row e subject.Own v lents = row_of_own e v lents
 row e (subject.View k) v lents = row_of_view e k v lents
-row e (subject.Iter k) v lents = Err fault.UnknownName
+row e (subject.Iter k) v lents = row_of_iterator e k v
 
 -- An unknown handle is refused before all else, also in a value that the row would not look at.
 abbrev pub answer_of : Exporter → Subject → Verb → List (ℕ × Loan) → Result (Exporter × LocalReply) Fault

@@ -1,4 +1,4 @@
-//! One exporter with its views.
+//! One exporter with its views and iterators.
 ghost use Rattle.std.specs.Prelude.{◌≡◌, ◌<◌, ◌↔◌, [], ◌∷◌, Some, IfOk, IfSome, IsSome, IsSomeAnd, IsOk, IfErr, OnErr, MatchResult, MatchOption, true, false, length, slice_get};
 
 use crate::pick;
@@ -11,9 +11,9 @@ use pybuf_value::{ByteList, Fault, Made, NoMemory, Snap, Twin, copy_all};
 use std::alloc::Global;
 use std::marker::Model;
 
-/// An exporter of bytes, and all views that were made of it.
+/// An exporter of bytes, and all views and iterators that were made of it.
 ///
-/// A clause sees its kind, its bytes and its views, each as a list of places. In every exporter, each
+/// A clause sees its kind, its bytes, its views, each as a list of places, and its iterators. In every exporter, each
 /// byte of each item of an unreleased view lies inside, and the exporter is as long as when that view
 /// was made.
 #[derive(Debug, Drop)]
@@ -57,7 +57,7 @@ impl ExporterState {
     ghost use Rattle.pybuf_state.specs.Exporter.{released_in};
     ghost use Rattle.pybuf_state.specs.Fresh.{IsCopyOf, is_readonly_subject, made_of};
 
-    /// An exporter of these bytes, with no views. Takes no memory.
+    /// An exporter of these bytes, with no views and no iterators. Takes no memory.
     pub fn new(alloc: Global, kind: ExporterKind, bytes: ByteList) -> ExporterState
         ensures { result ≡ new_exporter kind bytes }
     {
@@ -66,6 +66,7 @@ impl ExporterState {
                 kind,
                 bytes: bytes.into_vec(),
                 views: Vec::new(alloc),
+                iterators: Vec::new(alloc),
                 exports: 0,
                 alloc,
             },
@@ -151,8 +152,9 @@ impl ExporterState {
         release::release(&mut self.parts, view)
     }
 
-    /// What a handle of the exporter or of one of its views names, as it stands; the content of a
-    /// released view is empty. None exactly where there is no such view, and for an iterator.
+    /// What a handle of the exporter, of one of its views or of an iterator names, as it stands; the
+    /// content of a released view is empty, and so is that of an iterator. None exactly where there is
+    /// no such view or iterator.
     pub fn snap(&self, alloc: Global, subject: Subject) -> Made<Option<Snap>>
         ensures value { IfOk result (λ snap. snap ≡ snap_of_subject self.now subject) }
         ensures fits { IfOk result (λ snap. IfSome snap (λ s. fits_snap s ≡ true)) }
@@ -290,17 +292,26 @@ impl ExporterState {
     {
         self.parts.views.len()
     }
+
+    /// The number of iterators that were made of the exporter and of its views, exhausted ones too.
+    pub fn iter_count(&self) -> usize
+        ensures { result ≡ length self.now.iterators }
+    {
+        self.parts.iterators.len()
+    }
 }
 
 impl Twin for ExporterState {
     fn copy(&self, alloc: Global) -> Made<ExporterState> {
         let bytes = Vec::from_slice(alloc, self.parts.bytes.as_slice())?;
         let views = copy_all(alloc, self.parts.views.as_slice())?;
+        let iterators = Vec::from_slice(alloc, self.parts.iterators.as_slice())?;
         Ok(ExporterState {
             parts: Parts {
                 kind: self.parts.kind,
                 bytes,
                 views,
+                iterators,
                 exports: self.parts.exports,
                 alloc,
             },

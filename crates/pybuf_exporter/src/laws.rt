@@ -1,5 +1,5 @@
 //! Laws over every command, from the laws of the rows.
-ghost use Rattle.pybuf_exporter.specs.Laws.{CommandsKeepSound, LengthsStayUnderCommands, ReadOnlyBytesStayUnderCommands, RefusedCommandsChangeNothing, FreshRepliesAreCopies, LoansAlikeDoTheSame, ItemsAreRead, ResizingIsRefusedWhileExported, ShownTextsAreOneLine};
+ghost use Rattle.pybuf_exporter.specs.Laws.{CommandsKeepSound, LengthsStayUnderCommands, ReadOnlyBytesStayUnderCommands, IteratorsStayUnderCommands, OthersLeaveIterators, IterationChangesNothingElse, IteratorsGiveTheBytes, RefusedCommandsChangeNothing, FreshRepliesAreCopies, LoansAlikeDoTheSame, ItemsAreRead, ResizingIsRefusedWhileExported, ShownTextsAreOneLine};
 ghost use Rattle.pybuf_exporter.specs.Rows.{RowsAreSafe};
 
 /// Each row keeps a sound exporter, or replies a copy.
@@ -26,6 +26,8 @@ fn rows_are_safe()
     pybuf_rows_compare::compare_is_safe();
     pybuf_rows_compare::hash_is_safe();
     pybuf_rows_compare::repr_is_safe();
+    pybuf_rows_iters::iter_is_safe();
+    pybuf_rows_iters::iterators_are_safe();
 }
 
 /// Every command leaves a sound exporter sound.
@@ -52,6 +54,37 @@ pub fn readonly_bytes_stay()
     rows_are_safe();
     pybuf_state::reading_keeps();
 }
+
+/// Under every command each iterator keeps its number and what it goes over, and an exhausted one stays
+/// as it is: nothing brings it to life again.
+pub fn iterators_stay()
+    ensures { IteratorsStayUnderCommands }
+{
+    rows_are_safe();
+    pybuf_state::reading_keeps();
+}
+
+/// No command changes an iterator but those that are asked of one: an edit leaves each where it is.
+pub fn others_leave_iterators()
+    ensures { OthersLeaveIterators }
+{
+    rows_are_safe();
+    pybuf_state::reading_keeps();
+}
+
+/// A command that makes an iterator, or is asked of one, changes iterators alone.
+pub fn iteration_changes_nothing_else()
+    ensures { IterationChangesNothingElse }
+{
+    rows_are_safe();
+    pybuf_state::reading_keeps();
+}
+
+/// An iterator over bytes gives each of them once, in order, from where it stands, and then it stops
+/// for ever.
+pub fn iterators_give_the_bytes()
+    ensures { IteratorsGiveTheBytes }
+{}
 
 /// A refused command changes nothing of its exporter.
 pub fn refused_commands_change_nothing()

@@ -1,4 +1,4 @@
-//! Exporters of bytes and the views of them.
+//! Exporters of bytes, the views of them, and the iterators over them.
 #![tactic(auto)]
 
 mod exporter;
@@ -7,8 +7,9 @@ mod pick;
 
 pub use exporter::ExporterState;
 pub use laws::{
-    commands_keep_sound, fresh_replies_are_copies, items_are_read, lengths_stay,
-    loans_alike_do_the_same, readonly_bytes_stay, refused_commands_change_nothing,
+    commands_keep_sound, fresh_replies_are_copies, items_are_read, iteration_changes_nothing_else,
+    iterators_give_the_bytes, iterators_stay, lengths_stay, loans_alike_do_the_same,
+    others_leave_iterators, readonly_bytes_stay, refused_commands_change_nothing,
     resizing_is_refused_while_exported, shown_texts_are_one_line,
 };
 pub use pick::source_in_place;

@@ -13,6 +13,7 @@ ghost use Rattle.pybuf_exporter.specs.Step as spec;
 use pybuf_command::{LoanList, LocalReply, Subject, Verb, handles_of};
 use pybuf_rows_compare::{compare, hash, repr};
 use pybuf_rows_edits::{delete_of_view, edit_of_own};
+use pybuf_rows_iters::{making, stepping};
 use pybuf_rows_reads::{get, len, property, to_bytes, to_list};
 use pybuf_rows_views::{cast, contiguous, enter, range, release, slice, to_readonly, view};
 use pybuf_rows_writes::{assign, set};
@@ -72,6 +73,7 @@ fn row_of_own(parts: &mut Parts, verb: &Verb, loans: &LoanList) -> Result<LocalR
         Verb::Compare { op, other } => compare::of_own(parts, *op, other, loans),
         Verb::Hash => hash::of_own(parts),
         Verb::Repr => repr::of_own(parts),
+        Verb::Iter => making::of_own(parts),
         _ => edit_of_own(parts, verb, loans),
     }
 }
@@ -106,6 +108,7 @@ fn row_of_view(
         Verb::Compare { op, other } => compare::of_view(parts, k, *op, other, loans),
         Verb::Hash => hash::of_view(parts, k),
         Verb::Repr => repr::of_view(parts, k),
+        Verb::Iter => making::of_view(parts, k),
         _ => Err(Halt::Refused(Fault::UnknownName)),
     }
 }
@@ -125,7 +128,7 @@ fn row(
     match subject {
         Subject::Own => row_of_own(parts, verb, loans),
         Subject::View(k) => row_of_view(parts, k, verb, loans),
-        Subject::Iter(_) => Err(Halt::Refused(Fault::UnknownName)),
+        Subject::Iter(k) => stepping::of_iterator(parts, k, verb),
     }
 }
 

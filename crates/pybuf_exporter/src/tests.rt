@@ -1,11 +1,9 @@
-//! What no clause says: that the calls succeed with ample memory.
+//! What no clause says: that the calls succeed with ample memory. Each row with Python's replies is in
+//! `cases/`.
 ghost use Rattle.pybuf_command.specs.Fits.{LoansFit};
 
 use super::*;
-use pybuf_value::{
-    ByteList, CompareOp, Fault, Item, ItemList, Made, PySlice, Scalar, ScalarList, Text, Twin,
-    Value,
-};
+use pybuf_value::{ByteList, Item, Made, PySlice, Scalar, ScalarList, Text, Twin, Value};
 use std::alloc::Global;
 use std::test::Fail;
 
@@ -17,11 +15,8 @@ fn number_of(reply: &LocalReply) -> i128 {
     match reply {
         LocalReply::Ok => -1,
         LocalReply::View(view) => *view as i128,
+        LocalReply::Iter(iterator) => *iterator as i128,
         LocalReply::Item(Item::One(Scalar::Int(n))) => *n,
-        LocalReply::Truth(false) => -5,
-        LocalReply::Truth(true) => -6,
-        LocalReply::Refused(Fault::Kind) => -3,
-        LocalReply::Refused(Fault::UnknownName) => -4,
         _ => -2,
     }
 }
@@ -87,91 +82,14 @@ fn an_exporter_steps_and_is_copied(rt: HostRuntime) -> Result<(), Fail> {
         Verb::Set { key, value },
     )?;
     assert_eq!(rt; set, -1);
-    let twin = exporter.copy(rt.alloc())?;
+    let made = stepped(&mut exporter, rt.alloc(), Subject::View(0), Verb::Iter)?;
+    assert_eq!(rt; made, 0);
+    let mut twin = exporter.copy(rt.alloc())?;
     assert_eq!(rt; twin.bytes(), b"abZ".as_slice());
     assert_eq!(rt; twin.exports(), 1);
-    Ok(())
-}
-
-#[test]
-fn a_bytearray_is_edited(rt: HostRuntime) -> Result<(), Fail> {
-    let bytes = abc(rt.alloc())?;
-    let mut exporter = ExporterState::new(rt.alloc(), ExporterKind::ByteArray, bytes);
-    let loans = LoanList::new(rt.alloc());
-    let value = number(100);
-    assert_eq!(rt;
-        asked(&mut exporter, Subject::Own, Verb::Append { value }, &loans)?,
-        -1
-    );
-    let (index, value) = (number(0), number(33));
-    assert_eq!(rt;
-        asked(
-            &mut exporter,
-            Subject::Own,
-            Verb::Insert { index, value },
-            &loans
-        )?,
-        -1
-    );
-    assert_eq!(rt; exporter.bytes(), b"!abcd".as_slice());
-    let key = slice(Scalar::Int(0), Scalar::None, Scalar::Int(2));
-    assert_eq!(rt;
-        asked(&mut exporter, Subject::Own, Verb::Del { key }, &loans)?,
-        -1
-    );
-    assert_eq!(rt; exporter.bytes(), b"ac".as_slice());
-    let count = number(2);
-    assert_eq!(rt;
-        asked(&mut exporter, Subject::Own, Verb::IMul { count }, &loans)?,
-        -1
-    );
-    assert_eq!(rt;
-        asked(
-            &mut exporter,
-            Subject::Own,
-            Verb::Pop { index: None },
-            &loans
-        )?,
-        99
-    );
-    assert_eq!(rt;
-        asked(&mut exporter, Subject::Own, Verb::Reverse, &loans)?,
-        -1
-    );
-    assert_eq!(rt; exporter.bytes(), b"aca".as_slice());
-    assert_eq!(rt;
-        asked(&mut exporter, Subject::Own, Verb::Clear, &loans)?,
-        -1
-    );
-    assert_eq!(rt; exporter.bytes().len(), 0);
-    Ok(())
-}
-
-#[test]
-fn a_command_has_handles(rt: HostRuntime) -> Result<(), Fail> {
-    let bytes = abc(rt.alloc())?;
-    let mut exporter = ExporterState::new(rt.alloc(), ExporterKind::ByteArray, bytes);
-    let mut loans = LoanList::new(rt.alloc());
-    loans.push((7, Loan::Own))?;
-    let mut parts = ScalarList::new(rt.alloc());
-    parts.push(Scalar::Handle(7))?;
-    parts.push(Scalar::Handle(9))?;
-    if !loans.fit(rt.alloc())? {
-        return Err(Fail::from("loans that fit"));
-    }
-    assert_eq!(rt; asked(&mut exporter, Subject::Own, Verb::View, &loans)?, 0);
-    assert_eq!(rt; copied(&mut exporter, 0, number(0), &loans)?, -3);
-    assert_eq!(rt;
-        asked(
-            &mut exporter,
-            Subject::Own,
-            Verb::Get {
-                key: Value::List(parts)
-            },
-            &loans
-        )?,
-        -4
-    );
+    assert_eq!(rt; twin.iter_count(), 1);
+    let first = stepped(&mut twin, rt.alloc(), Subject::Iter(0), Verb::Next)?;
+    assert_eq!(rt; first, 97);
     Ok(())
 }
 
@@ -218,38 +136,6 @@ fn an_item_is_written_from_its_own_exporter(rt: HostRuntime) -> Result<(), Fail>
     Ok(())
 }
 
-fn last_number(items: &ItemList) -> i128 {
-    match items.as_slice() {
-        [_, _, Item::One(Scalar::Int(n))] => *n,
-        _ => -2,
-    }
-}
-
-#[test]
-fn items_are_read_by_a_tuple_and_listed(rt: HostRuntime) -> Result<(), Fail> {
-    let bytes = abc(rt.alloc())?;
-    let mut exporter = ExporterState::new(rt.alloc(), ExporterKind::Bytes, bytes);
-    let loans = LoanList::new(rt.alloc());
-    let mut parts = ScalarList::new(rt.alloc());
-    parts.push(Scalar::Int(-2))?;
-    let key = Value::Tuple(parts);
-    if !loans.fit(rt.alloc())? {
-        return Err(Fail::from("loans that fit"));
-    }
-    assert_eq!(rt; asked(&mut exporter, Subject::Own, Verb::View, &loans)?, 0);
-    assert_eq!(rt;
-        asked(&mut exporter, Subject::View(0), Verb::Get { key }, &loans)?,
-        98
-    );
-    let list = reply_of(&mut exporter, Subject::View(0), Verb::ToList, &loans)?;
-    let LocalReply::Items { shape, items } = list else {
-        return Err(Fail::from("a list"));
-    };
-    assert_eq!(rt; shape.as_slice(), [3usize].as_slice());
-    assert_eq!(rt; last_number(&items), 99);
-    Ok(())
-}
-
 /// A slice of whole numbers, or of none.
 fn slice(start: Scalar, stop: Scalar, step: Scalar) -> Value {
     Value::Slice(PySlice { start, stop, step })
@@ -276,29 +162,6 @@ fn copied(
         Verb::Set { key, value },
         loans,
     )?)
-}
-
-#[test]
-fn items_are_copied_by_value(rt: HostRuntime) -> Result<(), Fail> {
-    let none = LoanList::new(rt.alloc());
-    let key = slice(Scalar::Int(0), Scalar::Int(4), Scalar::None);
-    let mut exporter = letters(rt.alloc())?;
-    assert_eq!(rt; asked(&mut exporter, Subject::Own, Verb::View, &none)?, 0);
-    assert_eq!(rt;
-        asked(&mut exporter, Subject::View(0), Verb::Get { key }, &none)?,
-        1
-    );
-    let mut loans = LoanList::new(rt.alloc());
-    loans.push((7, Loan::View(1)))?;
-    let later = slice(Scalar::Int(1), Scalar::Int(5), Scalar::None);
-    assert_eq!(rt; copied(&mut exporter, 0, later, &loans)?, -1);
-    assert_eq!(rt; exporter.bytes(), b"aabcdf".as_slice());
-    let mut loans = LoanList::new(rt.alloc());
-    loans.push((7, Loan::Own))?;
-    let back = slice(Scalar::None, Scalar::None, Scalar::Int(-1));
-    assert_eq!(rt; copied(&mut exporter, 0, back, &loans)?, -1);
-    assert_eq!(rt; exporter.bytes(), b"fdcbaa".as_slice());
-    Ok(())
 }
 
 /// `set` of view 0 by a slice with what handle 7 names, which is view 1 of another exporter.
@@ -353,97 +216,6 @@ fn items_are_copied_from_another_exporter(rt: HostRuntime) -> Result<(), Fail> {
     let last = slice(Scalar::Int(3), Scalar::None, Scalar::None);
     assert_eq!(rt; copied(&mut exporter, 0, last, &loans)?, -1);
     assert_eq!(rt; exporter.bytes(), b"fbdfdb".as_slice());
-    Ok(())
-}
-
-/// `compare` of a subject with what handle 7 names, which another exporter lends.
-fn compared_beside(
-    exporter: &mut ExporterState,
-    subject: Subject,
-    op: CompareOp,
-    lender: &ExporterState,
-    lent: Subject,
-    loans: &LoanList,
-) -> Result<i128, Fail> {
-    let other = Value::One(Scalar::Handle(7));
-    let compare = Verb::Compare { op, other };
-    if source_in_place(subject, &compare) != Some(7) {
-        drop(compare);
-        return Err(Fail::from("a handle that is compared with"));
-    }
-    let answer = exporter.carry_out_beside(subject, &compare, loans, 7, lender, lent);
-    drop(compare);
-    let reply = answer?;
-    Ok(number_of(&reply))
-}
-
-/// As `==` and `<` of `bytearray(b'abcdef')`, of a `memoryview` of it and of `memoryview(..)[::2]` of
-/// another one in Python 3.
-#[test]
-fn subjects_are_compared_with_another_exporter(rt: HostRuntime) -> Result<(), Fail> {
-    let none = LoanList::new(rt.alloc());
-    let mut exporter = letters(rt.alloc())?;
-    assert_eq!(rt; asked(&mut exporter, Subject::Own, Verb::View, &none)?, 0);
-    let mut lender = letters(rt.alloc())?;
-    let key = slice(Scalar::None, Scalar::None, Scalar::Int(2));
-    assert_eq!(rt; asked(&mut lender, Subject::Own, Verb::View, &none)?, 0);
-    assert_eq!(rt;
-        asked(&mut lender, Subject::View(0), Verb::Get { key }, &none)?,
-        1
-    );
-    let (own, view) = (Subject::Own, Subject::View(0));
-    let (equal, less) = (CompareOp::Eq, CompareOp::Lt);
-    assert_eq!(rt;
-        compared_beside(&mut exporter, view, equal, &lender, view, &none)?,
-        -6
-    );
-    let apart = Subject::View(1);
-    assert_eq!(rt;
-        compared_beside(&mut exporter, view, equal, &lender, apart, &none)?,
-        -5
-    );
-    assert_eq!(rt;
-        compared_beside(&mut exporter, own, equal, &lender, view, &none)?,
-        -6
-    );
-    assert_eq!(rt;
-        compared_beside(&mut exporter, own, less, &lender, own, &none)?,
-        -5
-    );
-    Ok(())
-}
-
-/// As `memoryview(b'abc')` of Python 3: it equals `b'abc'`, and `hash` of both is one.
-#[test]
-fn a_view_is_compared_hashed_and_shown(rt: HostRuntime) -> Result<(), Fail> {
-    let bytes = abc(rt.alloc())?;
-    let mut exporter = ExporterState::new(rt.alloc(), ExporterKind::Bytes, bytes);
-    let mut loans = LoanList::new(rt.alloc());
-    loans.push((7, Loan::Own))?;
-    let (op, other) = (CompareOp::Ne, Value::One(Scalar::Handle(7)));
-    if !loans.fit(rt.alloc())? {
-        return Err(Fail::from("loans that fit"));
-    }
-    assert_eq!(rt; asked(&mut exporter, Subject::Own, Verb::View, &loans)?, 0);
-    assert_eq!(rt;
-        asked(
-            &mut exporter,
-            Subject::View(0),
-            Verb::Compare { op, other },
-            &loans
-        )?,
-        -5
-    );
-    let hashed = reply_of(&mut exporter, Subject::View(0), Verb::Hash, &loans)?;
-    let LocalReply::Bytes(bytes) = hashed else {
-        return Err(Fail::from("bytes"));
-    };
-    assert_eq!(rt; bytes.as_slice(), b"abc".as_slice());
-    let shown = reply_of(&mut exporter, Subject::Own, Verb::Repr, &loans)?;
-    let LocalReply::Shown(text) = shown else {
-        return Err(Fail::from("a text"));
-    };
-    assert_eq!(rt; text.as_slice(), b"b'abc'".as_slice());
     Ok(())
 }
 

@@ -140,6 +140,7 @@ reply_single name single (reply.Text text) h = quoted_single text
 reply_single name single (reply.Shown text) h = h
 reply_single name single (reply.Truth truth) h = truth_single truth
 reply_single name single reply.NotImplementedReply h = refl
+reply_single name single reply.Stop h = refl
 reply_single name single (reply.Numbers numbers) h = tuple_single signed_decimal number_single numbers
 reply_single name single (reply.Refused f) h = name_single f
 
@@ -162,6 +163,7 @@ shows_line shown w c (reply.Bytes bytes) h = tt
 shows_line shown w c (reply.Text text) h = tt
 shows_line shown w c (reply.Truth truth) h = tt
 shows_line shown w c reply.NotImplementedReply h = tt
+shows_line shown w c reply.Stop h = tt
 shows_line shown w c (reply.Numbers numbers) h = tt
 shows_line shown w c (reply.Refused f) h = tt
 

@@ -105,6 +105,12 @@ verb_in name_in word.Compare (operator ∷ other ∷ []) = do
   Some (verb.Compare o v)
 verb_in name_in word.Hash [] = Some verb.Hash
 verb_in name_in word.Repr [] = Some verb.Repr
+verb_in name_in word.Iter [] = Some verb.Iter
+verb_in name_in word.Next [] = Some verb.Next
+verb_in name_in word.LengthHint [] = Some verb.LengthHint
+verb_in name_in word.SetState (state ∷ []) = do
+  s ← value_in name_in state
+  Some (verb.SetState s)
 verb_in name_in w arguments = edit_in name_in w arguments
 
 -- the word that a verb is written with
@@ -126,6 +132,10 @@ word_of verb.ToList = word.ToList
 word_of (verb.Compare operator other) = word.Compare
 word_of verb.Hash = word.Hash
 word_of verb.Repr = word.Repr
+word_of verb.Iter = word.Iter
+word_of verb.Next = word.Next
+word_of verb.LengthHint = word.LengthHint
+word_of (verb.SetState state) = word.SetState
 word_of (verb.Del key) = word.Del
 word_of (verb.Append item) = word.Append
 word_of (verb.Extend item) = word.Extend
@@ -168,6 +178,7 @@ written_arguments name (verb.Remove item) = written_value name item ∷ []
 written_arguments name (verb.IAdd item) = written_value name item ∷ []
 written_arguments name (verb.IMul count) = written_value name count ∷ []
 written_arguments name (verb.Init options) = written_options name options
+written_arguments name (verb.SetState state) = written_value name state ∷ []
 written_arguments name _ = []
 
 -- `new KIND` and the options

@@ -175,6 +175,7 @@ IsSpelledVerb (verb.Pop (Some index)) = IsSpelledValue index
 IsSpelledVerb (verb.Remove item) = IsSpelledValue item
 IsSpelledVerb (verb.IAdd item) = IsSpelledValue item
 IsSpelledVerb (verb.IMul count) = IsSpelledValue count
+IsSpelledVerb (verb.SetState state) = IsSpelledValue state
 IsSpelledVerb (verb.Init options) = AreSpelledOptions options
 IsSpelledVerb _ = Unit {0}
 

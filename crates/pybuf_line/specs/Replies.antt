@@ -57,6 +57,7 @@ reply_text name (reply.Text text) = quoted_text text
 reply_text name (reply.Shown text) = text
 reply_text name (reply.Truth truth) = truth_text truth
 reply_text name reply.NotImplementedReply = codes "NotImplemented"
+reply_text name reply.Stop = codes "stop"
 reply_text name (reply.Numbers numbers) = tuple_text signed_decimal numbers
 reply_text name (reply.Refused fault) = codes "! " ++ python_name_of fault
 

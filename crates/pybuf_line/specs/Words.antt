@@ -41,6 +41,10 @@ written_word word.ToList = codes "tolist"
 written_word word.Compare = codes "compare"
 written_word word.Hash = codes "hash"
 written_word word.Repr = codes "repr"
+written_word word.Iter = codes "iter"
+written_word word.Next = codes "next"
+written_word word.LengthHint = codes "hint"
+written_word word.SetState = codes "setstate"
 written_word word.Del = codes "del"
 written_word word.Append = codes "append"
 written_word word.Extend = codes "extend"
@@ -64,7 +68,7 @@ abbrev pub every_word : List Word
 every_word =
     word.New ∷ word.View ∷ word.Get ∷ word.Set ∷ word.ToBytes ∷ word.Release ∷ word.Len ∷ word.Cast ∷ word.Property
     ∷ word.ToReadonly ∷ word.Range ∷ word.Enter ∷ word.Exit ∷ word.ToContiguous ∷ word.ToList
-    ∷ word.Compare ∷ word.Hash ∷ word.Repr ∷ every_edit
+    ∷ word.Compare ∷ word.Hash ∷ word.Repr ∷ word.Iter ∷ word.Next ∷ word.LengthHint ∷ word.SetState ∷ every_edit
 
 -- the word of an edit that a text spells
 unfoldable pub edit_word_in : List ℕ → Option Word

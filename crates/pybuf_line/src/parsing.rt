@@ -242,6 +242,25 @@ fn verb_of(alloc: Global, word: Word, arguments: &[&[u8]]) -> Result<Verb, Unrea
             [] => Ok(Verb::Repr),
             _ => Err(Unread::NoCommand),
         },
+        Word::Iter => match arguments {
+            [] => Ok(Verb::Iter),
+            _ => Err(Unread::NoCommand),
+        },
+        Word::Next => match arguments {
+            [] => Ok(Verb::Next),
+            _ => Err(Unread::NoCommand),
+        },
+        Word::LengthHint => match arguments {
+            [] => Ok(Verb::LengthHint),
+            _ => Err(Unread::NoCommand),
+        },
+        Word::SetState => match arguments {
+            [state] => {
+                let state = value(alloc, state)?;
+                Ok(Verb::SetState { state })
+            }
+            _ => Err(Unread::NoCommand),
+        },
         _ => edit_of(alloc, word, arguments),
     }
 }

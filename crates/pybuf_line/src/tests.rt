@@ -67,12 +67,16 @@ fn shown_texts_are_printed_with_ample_memory(rt: HostRuntime) -> Result<(), Fail
     let replies = [
         Reply::Shown(Text::from_string(shown)),
         Reply::NotImplementedReply,
+        Reply::Stop,
     ];
     let mut out = Vec::new(rt.alloc());
     for reply in &replies {
         push_reply_line(&mut out, reply)?;
     }
-    assert_eq!(rt; out.as_slice(), b"<memory 0>\nNotImplemented\n".as_slice());
+    assert_eq!(rt;
+        out.as_slice(),
+        b"<memory 0>\nNotImplemented\nstop\n".as_slice()
+    );
     Ok(())
 }
 

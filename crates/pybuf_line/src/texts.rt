@@ -184,6 +184,7 @@ pub fn push_reply(out: &mut Vec<u8>, reply: &Reply) -> Made<()>
         Reply::Shown(text) => out.extend_from_slice(text.as_slice())?,
         Reply::Truth(truth) => push_truth(out, *truth)?,
         Reply::NotImplementedReply => out.extend_from_slice(b"NotImplemented")?,
+        Reply::Stop => out.extend_from_slice(b"stop")?,
         Reply::Numbers(numbers) => push_tuple(out, numbers.as_slice())?,
         Reply::Refused(fault) => {
             out.extend_from_slice(b"! ")?;

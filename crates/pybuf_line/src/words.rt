@@ -27,6 +27,10 @@ pub enum Word {
     Compare,
     Hash,
     Repr,
+    Iter,
+    Next,
+    LengthHint,
+    SetState,
     Del,
     Append,
     Extend,
@@ -107,6 +111,18 @@ pub fn first_word(text: &[u8]) -> Option<Word>
     }
     if is_word(text, "repr") {
         return Some(Word::Repr);
+    }
+    if is_word(text, "iter") {
+        return Some(Word::Iter);
+    }
+    if is_word(text, "next") {
+        return Some(Word::Next);
+    }
+    if is_word(text, "hint") {
+        return Some(Word::LengthHint);
+    }
+    if is_word(text, "setstate") {
+        return Some(Word::SetState);
     }
     edit_word(text)
 }

@@ -1,5 +1,5 @@
--- How the owner of an exporter ends whose exporter, or bytes, were lent, or whose bytes were taken.
-use Rattle.std.specs.Prelude.{ℕ, List, [], Option, Result}
+-- How bytes and bytearrays end whose exporter, or bytes, were lent.
+use Rattle.std.specs.Prelude.{ℕ, List, Option, Result}
 use Rattle.std.specs.Borrow.{Lends, LendsIf, LendsIfOk, MutBor, Fml, Array, u8}
 use Rattle.pybuf_value.specs.declared.faults.Fault.{Fault}
 use Rattle.pybuf_state.specs.Exporter.{Exporter}
@@ -8,12 +8,8 @@ use Rattle.pybuf_exporter.specs.Lending.{overwritten_exporter, resized_exporter}
 use Rattle.pybuf_exporter.specs.contracts.exporter.ExporterState as exporter
 use Rattle.pybuf_object.specs.contracts.bytes.PyBytes as bytes
 use Rattle.pybuf_object.specs.contracts.byte_array.PyByteArray as byte_array
-use Rattle.pybuf_object.specs.contracts.vec_buffer.VecBuffer as vector
 
 -- ---- the exporter: the owner ends with the one that was put in
-
-abbrev pub LendsStateOfVector : MutBor Exporter → MutBor Exporter → Fml
-LendsStateOfVector b r = Lends vector.the_row exporter.the_row b r (λ e. e)
 
 abbrev pub LendsStateOfBytes : MutBor Exporter → MutBor Exporter → Fml
 LendsStateOfBytes b r = Lends bytes.the_row exporter.the_row b r (λ e. e)
@@ -33,9 +29,3 @@ LendsAllIfOk b r = LendsIfOk byte_array.the_row bytes_row b r (resized_exporter 
 
 abbrev pub LendsAllIfSome : MutBor Exporter → Option (MutBor Bytes) → Fml
 LendsAllIfSome b r = LendsIf byte_array.the_row bytes_row b r (resized_exporter b.now) b.now
-
--- ---- the bytes of a vector
-
--- the exporter with no bytes
-abbrev pub emptied : Exporter → Exporter
-emptied e = record e { bytes = [] }

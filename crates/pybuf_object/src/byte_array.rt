@@ -11,10 +11,10 @@ ghost use Rattle.pybuf_value.specs.declared.faults.Fault.{Fault};
 ghost use Rattle.pybuf_state.specs.Exporter.{new_exporter, exports_of};
 
 use crate::guard::BufferResizeGuard;
-use crate::stepping::step_of;
 use pybuf_bytes::ByteInnerNewOptions;
 use pybuf_command::{ExporterKind, LoanList, LocalReply, PropertyName, Subject, Verb};
 use pybuf_exporter::ExporterState;
+use pybuf_memoryobject::step_of;
 use pybuf_value::{ByteList, CompareOp, Fault, Made, Value};
 use std::alloc::Global;
 use std::marker::Model;
@@ -208,6 +208,17 @@ impl PyByteArray {
         ensures err { OnErr result (self.new ≡ self.old) }
     {
         step_of(&mut self.exporter, Subject::Own, Verb::Len, loans)
+    }
+
+    /// A new iterator over the bytes from the first on, as Python's `iter(bytearray)` (Library reference,
+    /// "Built-in Functions", `iter`): the reply is its number. It goes over the bytes as they
+    /// are at each step, also where they were edited since.
+    pub fn iter(&mut self, loans: LoanList) -> Made<LocalReply>
+        requires { LoansFit loans }
+        ensures ok { IfOk result (λ r. estep self.old subjects.Own verbs.Iter loans ≡ (self.new, r)) }
+        ensures err { OnErr result (self.new ≡ self.old) }
+    {
+        step_of(&mut self.exporter, Subject::Own, Verb::Iter, loans)
     }
 
     /// How many views of it are unreleased. Python keeps this number and doesn't show it: while it

@@ -9,9 +9,9 @@ ghost use Rattle.pybuf_command.specs.declared.commands.Verb.TheVariants as verbs
 ghost use Rattle.pybuf_exporter.specs.Step.{estep};
 ghost use Rattle.pybuf_state.specs.Exporter.{new_exporter};
 
-use crate::stepping::step_of;
 use pybuf_command::{ExporterKind, LoanList, LocalReply, PropertyName, Subject, Verb};
 use pybuf_exporter::ExporterState;
+use pybuf_memoryobject::step_of;
 use pybuf_value::{ByteList, CompareOp, Made, Value};
 use std::alloc::Global;
 use std::marker::Model;
@@ -179,6 +179,16 @@ impl PyBytes {
         ensures err { OnErr result (self.new ≡ self.old) }
     {
         step_of(&mut self.exporter, Subject::Own, Verb::Repr, loans)
+    }
+
+    /// A new iterator over the bytes from the first on, as Python's `iter(bytes)` (Library reference,
+    /// "Built-in Functions", `iter`): the reply is its number.
+    pub fn iter(&mut self, loans: LoanList) -> Made<LocalReply>
+        requires { LoansFit loans }
+        ensures ok { IfOk result (λ r. estep self.old subjects.Own verbs.Iter loans ≡ (self.new, r)) }
+        ensures err { OnErr result (self.new ≡ self.old) }
+    {
+        step_of(&mut self.exporter, Subject::Own, Verb::Iter, loans)
     }
 
     /// How many views of it are unreleased. Python keeps this number and doesn't show it: while it

@@ -1,23 +1,17 @@
 //! Python's objects that are made of bytes, as values: `bytes`, `bytearray` and `memoryview`, with a method
-//! for each command that they have, and vectors that lend their bytes.
+//! for each command that they have, their iterators, and vectors that lend their bytes.
 #![tactic(auto)]
 
 mod byte_array;
 mod bytes;
 mod guard;
-mod memory_view;
-mod stepping;
-mod vec_buffer;
-mod view_methods;
-mod views;
+mod iterators;
 
 pub use byte_array::PyByteArray;
 pub use bytes::PyBytes;
 pub use guard::BufferResizeGuard;
-pub use memory_view::PyMemoryView;
-pub use vec_buffer::VecBuffer;
+pub use iterators::{PyByteArrayIterator, PyBytesIterator};
+pub use pybuf_memoryobject::{PyMemoryView, PyMemoryViewIterator, VecBuffer};
 
 #[cfg(test)]
 mod method_tests;
-#[cfg(test)]
-mod view_tests;

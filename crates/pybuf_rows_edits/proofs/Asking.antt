@@ -203,3 +203,7 @@ all_ask e verb.ToReadonly lents = none_of_kind e.kind e
 all_ask e (verb.Compare op other) lents = none_of_kind e.kind e
 all_ask e verb.Hash lents = none_of_kind e.kind e
 all_ask e verb.Repr lents = none_of_kind e.kind e
+all_ask e verb.Iter lents = none_of_kind e.kind e
+all_ask e verb.Next lents = none_of_kind e.kind e
+all_ask e verb.LengthHint lents = none_of_kind e.kind e
+all_ask e (verb.SetState state) lents = none_of_kind e.kind e

@@ -206,3 +206,7 @@ all_safe ways e verb.ToReadonly lents = tt
 all_safe ways e (verb.Compare op other) lents = tt
 all_safe ways e verb.Hash lents = tt
 all_safe ways e verb.Repr lents = tt
+all_safe ways e verb.Iter lents = tt
+all_safe ways e verb.Next lents = tt
+all_safe ways e verb.LengthHint lents = tt
+all_safe ways e (verb.SetState state) lents = tt

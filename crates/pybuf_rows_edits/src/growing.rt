@@ -167,6 +167,14 @@ fn extend_by_view(parts: &Parts, view: usize) -> Result<LocalReply, Halt>
     Err(Halt::Refused(Fault::Buffer))
 }
 
+/// Adds nothing: an iterator has no bytes.
+fn extend_by_iterator(parts: &Parts, iterator: usize) -> Result<LocalReply, Halt>
+    ensures { (h : ℕ) → Answers (spec.extended_or_doubled (exporter_of parts.now) (values.One (scalars.Handle h)) (lent_as h (Some (subjects.Iter iterator)) (snap_of_subject (exporter_of parts.now) (subjects.Iter iterator)))) (exporter_of parts.now) result (exporter_of parts.now) }
+{
+    parts.iterator(iterator)?;
+    Err(Halt::Refused(Fault::Kind))
+}
+
 /// Adds what another exporter lends.
 fn extend_by_other(parts: &mut Parts, snap: &Snap) -> Result<LocalReply, Halt>
     requires { IsWhole parts.old }
@@ -186,6 +194,7 @@ fn extend_by_loan(parts: &mut Parts, loan: Option<&Loan>) -> Result<LocalReply, 
     match loan {
         Some(Loan::Own) => repeat(parts, 2),
         Some(Loan::View(view)) => extend_by_view(parts, *view),
+        Some(Loan::Iter(iterator)) => extend_by_iterator(parts, *iterator),
         Some(Loan::Other(snap)) => extend_by_other(parts, snap),
         _ => Err(Halt::Refused(Fault::UnknownName)),
     }
@@ -243,6 +252,14 @@ fn add_view(parts: &Parts, view: usize) -> Result<LocalReply, Halt>
     Err(Halt::Refused(Fault::Buffer))
 }
 
+/// Adds nothing of an iterator, as for `extend`.
+fn add_iterator(parts: &Parts, iterator: usize) -> Result<LocalReply, Halt>
+    ensures { (h : ℕ) → Answers (spec.added (exporter_of parts.now) (values.One (scalars.Handle h)) (lent_as h (Some (subjects.Iter iterator)) (snap_of_subject (exporter_of parts.now) (subjects.Iter iterator)))) (exporter_of parts.now) result (exporter_of parts.now) }
+{
+    parts.iterator(iterator)?;
+    Err(Halt::Refused(Fault::Kind))
+}
+
 /// Adds what another exporter lends.
 fn add_other(parts: &mut Parts, snap: &Snap) -> Result<LocalReply, Halt>
     requires { IsWhole parts.old }
@@ -262,6 +279,7 @@ fn add_loan(parts: &mut Parts, loan: Option<&Loan>) -> Result<LocalReply, Halt>
     match loan {
         Some(Loan::Own) => Err(Halt::Refused(Fault::Buffer)),
         Some(Loan::View(view)) => add_view(parts, *view),
+        Some(Loan::Iter(iterator)) => add_iterator(parts, *iterator),
         Some(Loan::Other(snap)) => add_other(parts, snap),
         _ => Err(Halt::Refused(Fault::UnknownName)),
     }

@@ -90,6 +90,18 @@ fn put_view(parts: &mut Parts, slice: SaturatedSlice, view: usize) -> Result<Loc
     put(parts, slice, content.as_slice())
 }
 
+/// Puts nothing there: an iterator has no bytes.
+fn put_iterator(
+    parts: &Parts,
+    slice: SaturatedSlice,
+    iterator: usize,
+) -> Result<LocalReply, Halt>
+    ensures { Answers (lent_spec.assigned_by (exporter_of parts.now) slice (snap_of_subject (exporter_of parts.now) (subjects.Iter iterator))) (exporter_of parts.now) result (exporter_of parts.now) }
+{
+    parts.iterator(iterator)?;
+    Err(Halt::Refused(Fault::Kind))
+}
+
 /// Puts what another exporter lends there.
 fn put_other(parts: &mut Parts, slice: SaturatedSlice, snap: &Snap) -> Result<LocalReply, Halt>
     requires { IsWhole parts.old }
@@ -113,6 +125,7 @@ fn put_loan(
     match loan {
         Some(Loan::Own) => put_own(parts, slice),
         Some(Loan::View(view)) => put_view(parts, slice, *view),
+        Some(Loan::Iter(iterator)) => put_iterator(parts, slice, *iterator),
         Some(Loan::Other(snap)) => put_other(parts, slice, snap),
         _ => Err(Halt::Refused(Fault::UnknownName)),
     }
@@ -217,6 +230,14 @@ fn init_by_view(parts: &Parts, view: usize) -> Result<LocalReply, Halt>
     Err(Halt::Refused(Fault::Buffer))
 }
 
+/// By an iterator, which has no bytes.
+fn init_by_iterator(parts: &Parts, iterator: usize) -> Result<LocalReply, Halt>
+    ensures { Answers (lent_spec.initialized_by (exporter_of parts.now) (snap_of_subject (exporter_of parts.now) (subjects.Iter iterator))) (exporter_of parts.now) result (exporter_of parts.now) }
+{
+    parts.iterator(iterator)?;
+    Err(Halt::Refused(Fault::Kind))
+}
+
 /// By what another exporter lends.
 fn init_by_other(parts: &mut Parts, snap: &Snap) -> Result<LocalReply, Halt>
     requires { IsWhole parts.old }
@@ -236,6 +257,7 @@ fn init_by_loan(parts: &mut Parts, loan: Option<&Loan>) -> Result<LocalReply, Ha
     match loan {
         Some(Loan::Own) => init_by_own(parts),
         Some(Loan::View(view)) => init_by_view(parts, *view),
+        Some(Loan::Iter(iterator)) => init_by_iterator(parts, *iterator),
         Some(Loan::Other(snap)) => init_by_other(parts, snap),
         _ => Err(Halt::Refused(Fault::UnknownName)),
     }

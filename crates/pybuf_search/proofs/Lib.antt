@@ -2,3 +2,5 @@ pub mod MatchLaws
 pub mod CutLemmas
 pub mod JoinLaws
 pub mod RepeatLemmas
+pub mod OneByte
+pub mod PlaceLemmas

@@ -4,6 +4,7 @@ use Rattle.std.specs.List.{concat}
 use Rattle.memchr.specs.Find.{OccursAt, match_len}
 use Rattle.bstr.specs.Owned.{joined}
 use Rattle.pybuf_search.specs.Matches.{matches_from_left, matches_from_right}
+use Rattle.pybuf_search.specs.Places.{number_of_matches}
 use Rattle.pybuf_search.specs.Parts.{split_parts, rsplit_parts, partition_parts, rpartition_parts}
 
 -- The needle stands at a place from `from` on, and at none before it.
@@ -41,6 +42,10 @@ MatchesAreFromLeft = (bytes needle : List ℕ) → AreFromLeft bytes needle 0 (m
 abbrev pub MatchesAreFromRight : Type 0
 MatchesAreFromRight =
     (bytes needle : List ℕ) → AreFromRight bytes needle (length bytes + 1) (matches_from_right bytes needle)
+
+-- an empty needle stands at each place, from 0 to the length
+abbrev pub EmptyStandsEverywhere : Type 0
+EmptyStandsEverywhere = (bytes : List ℕ) → number_of_matches bytes [] ≡ length bytes + 1
 
 -- what was split, joined by the separator, is the bytes
 abbrev pub SplitJoinsBack : Type 0

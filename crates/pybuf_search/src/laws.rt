@@ -1,5 +1,5 @@
 //! Laws of the definitions that the contracts cite. Each stands on a function with an empty body.
-ghost use Rattle.pybuf_search.specs.Laws.{MatchesAreFromLeft, MatchesAreFromRight, SplitJoinsBack, RsplitJoinsBack, PartitionIsWhole, RpartitionIsWhole};
+ghost use Rattle.pybuf_search.specs.Laws.{MatchesAreFromLeft, MatchesAreFromRight, EmptyStandsEverywhere, SplitJoinsBack, RsplitJoinsBack, PartitionIsWhole, RpartitionIsWhole};
 
 /// Each match from the left is the least place at which the needle stands, at or past the end of the
 /// match before it; an empty needle stands at each place.
@@ -11,6 +11,11 @@ pub fn matches_are_from_left()
 /// before the match listed before it; an empty needle stands at each place.
 pub fn matches_are_from_right()
     ensures { MatchesAreFromRight }
+{}
+
+/// An empty needle stands at each place, from 0 to the length.
+pub fn empty_stands_everywhere()
+    ensures { EmptyStandsEverywhere }
 {}
 
 /// What was split at a separator, joined by it, is the bytes, whatever the greatest number of cuts.

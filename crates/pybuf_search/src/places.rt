@@ -1,15 +1,16 @@
 //! Where a needle stands in bytes. Nothing here takes memory.
-ghost use Rattle.std.specs.Prelude.{◌≡◌};
+ghost use Rattle.std.specs.Prelude.{◌≡◌, ◌+◌, ◌≤◌, length, IfSome};
 ghost use Rattle.pybuf_search.specs.Places as spec;
 
 use bstr::ByteSlice;
-use memchr::memmem;
+use memchr::{memchr_iter, memmem};
 
 /// The first place at which the needle stands, from 0 to the length: an empty needle stands at 0.
 /// `None` exactly where it stands nowhere (Library reference, "Bytes and Bytearray Operations",
 /// `bytes.find`).
 pub fn first_place(bytes: &[u8], needle: &[u8]) -> Option<usize>
-    ensures { result ≡ spec.first_place bytes.now needle.now }
+    ensures value { result ≡ spec.first_place bytes.now needle.now }
+    ensures inside { IfSome result (λ place. place + length needle.now ≤ length bytes.now) }
 {
     bytes.find(needle)
 }
@@ -18,7 +19,8 @@ pub fn first_place(bytes: &[u8], needle: &[u8]) -> Option<usize>
 /// length. `None` exactly where it stands nowhere (Library reference, "Bytes and Bytearray
 /// Operations", `bytes.rfind`).
 pub fn last_place(bytes: &[u8], needle: &[u8]) -> Option<usize>
-    ensures { result ≡ spec.last_place bytes.now needle.now }
+    ensures value { result ≡ spec.last_place bytes.now needle.now }
+    ensures inside { IfSome result (λ place. place + length needle.now ≤ length bytes.now) }
 {
     bytes.rfind(needle)
 }
@@ -34,9 +36,13 @@ pub fn holds_needle(bytes: &[u8], needle: &[u8]) -> bool
 /// The number of matches from the left, of which no two overlap; an empty needle stands once before
 /// each byte and once at the end (Library reference, "Bytes and Bytearray Operations",
 /// `bytes.count`).
+#[tactic(auto, using(crate::proofs::OneByte::counted_by_byte))]
 pub fn number_of_matches(bytes: &[u8], needle: &[u8]) -> usize
     ensures { result ≡ spec.number_of_matches bytes.now needle.now }
 {
+    if needle.len() == 1 {
+        return memchr_iter(needle[0], bytes).count();
+    }
     let mut number = 0;
     let mut places = memmem::find_iter(bytes, needle);
     'places: while let Some(_place) = places.next() {

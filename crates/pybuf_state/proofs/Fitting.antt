@@ -15,9 +15,9 @@ use Rattle.pybuf_struct.specs.Formats.{codes_in, layout_from, format_after_prefi
 use Rattle.pybuf_command.specs.Sized.{is_sized, byte_count}
 use Rattle.pybuf_command.specs.Fits.{fits_kind, fits_snap}
 use Rattle.pybuf_memoryview.specs.Laws.{ContentsAreWhole}
-use Rattle.pybuf_state.specs.Exporter.{Exporter, View}
+use Rattle.pybuf_state.specs.Exporter.{Exporter, View, Iterator}
 use Rattle.pybuf_state.specs.Sound.{IsSoundView, IsSoundExporter}
-use Rattle.pybuf_state.specs.Snaps.{snap_kind_of, snap_of_exporter, snap_of_view, snap_of_subject}
+use Rattle.pybuf_state.specs.Snaps.{snap_kind_of, snap_of_exporter, snap_of_view, iterator_snap, snap_of_subject}
 use Rattle.pybuf_state.proofs.Finding.{All-slice_get}
 
 bytes_are_sized : is_sized (codes "B") 1 ≡ true
@@ -47,11 +47,15 @@ found_fits : ContentsAreWhole → (e : Exporter) (o : Option View) (k : ℕ) →
 found_fits whole e None k at sound = tt
 found_fits whole e (Some v) k at sound = view_fits whole e.kind e.bytes v (All-slice_get (IsSoundView e.kind e.bytes) e.views k v sound.views at)
 
+iterator_fits : (o : Option Iterator) → IfSome (option_map (λ it. iterator_snap) o) (λ snap. fits_snap snap ≡ true)
+iterator_fits None = tt
+iterator_fits (Some it) = bytes_are_sized
+
 -- whatever is lent of a sound exporter fits
 pub subject_fits : ContentsAreWhole → (e : Exporter) (s : Subject) → IsSoundExporter e → IfSome (snap_of_subject e s) (λ snap. fits_snap snap ≡ true)
 subject_fits whole e subject.Own sound = exporter_fits e
 subject_fits whole e (subject.View k) sound = found_fits whole e (slice_get e.views k) k refl sound
-subject_fits whole e (subject.Iter k) sound = tt
+subject_fits whole e (subject.Iter k) sound = iterator_fits (slice_get e.iterators k)
 
 -- a result that may be no snap has what its definition has
 pub fits_so : {E : Type 0} (r : Result (Option Snap) E) (o : Option Snap) → IfOk r (λ snap. snap ≡ o) → IfSome o (λ snap. fits_snap snap ≡ true) → IfOk r (λ snap. IfSome snap (λ s. fits_snap s ≡ true))

@@ -9,11 +9,11 @@ use Rattle.pybuf_desc.specs.Layouts.{Layout}
 use Rattle.pybuf_command.specs.declared.kinds.ExporterKind.{ExporterKind}
 use Rattle.pybuf_struct.specs.Formats.{codes_in, layout_from, format_after_prefix}
 use Rattle.pybuf_command.specs.Sized.{is_sized}
-use Rattle.pybuf_state.specs.Exporter.{Exporter, View, is_exported, exports_of}
+use Rattle.pybuf_state.specs.Exporter.{Exporter, View, Iterator, is_exported, exports_of}
 use Rattle.pybuf_state.specs.Sound.{IsSoundView, IsSoundExporter}
-use Rattle.pybuf_state.specs.Keeps.{IsSameOrReleased, ViewsStay, LengthsStay}
+use Rattle.pybuf_state.specs.Keeps.{IsSameOrReleased, ViewsStay, LengthsStay, IsSameOrMoved, IteratorsStay}
 use Rattle.pybuf_state.specs.Resizing.{has_exports}
-use Rattle.pybuf_state.specs.Laws.{IsSoundLayout, WholeLayoutsAreSound, PartLayoutsAreSound, LiveLayoutsAreSound, ReadingKeeps, NewViewsKeep, WritingKeeps, ResizingKeeps, EmptyingKeeps, ReleasingKeeps}
+use Rattle.pybuf_state.specs.Laws.{IsSoundLayout, WholeLayoutsAreSound, PartLayoutsAreSound, LiveLayoutsAreSound, ReadingKeeps, NewViewsKeep, WritingKeeps, ResizingKeeps, EmptyingKeeps, ReleasingKeeps, NewIteratorsStay, MovedIteratorsStay}
 use Rattle.pybuf_state.proofs.Finding.{All-slice_get, view_at_given, live_view, slice_get-push, slice_get-set}
 
 -- ---- layouts
@@ -71,6 +71,7 @@ reading e sound = record {
   sound = sound;
   lengths = record { views = views_same e.views; bytes = λ live. refl };
   readonly_bytes = λ readonly. inl refl;
+  iterators = refl;
 }
 
 new_view : (e : Exporter) (layout : Layout) → IsSoundLayout e layout → IsSoundView e.kind e.bytes (record { made_at = length e.bytes; layout = layout; released = false })
@@ -88,6 +89,7 @@ adding e layout sound made =
       sound = record { views = All-push (IsSoundView e.kind e.bytes) e.views v sound.views (new_view e layout made) };
       lengths = record { views = λ k w found. (w, slice_get-push e.views v w k found, same w); bytes = λ live. refl };
       readonly_bytes = λ readonly. inl refl;
+      iterators = refl;
     }
 
 held_by_length : (k : ExporterKind) (old new : List ℕ) (v : View) → length new ≡ length old → IsSoundView k old v → IsSoundView k new v
@@ -108,6 +110,7 @@ writing e bytes sound writable same_length = record {
   sound = record { views = All-weaker (IsSoundView e.kind e.bytes) (IsSoundView e.kind bytes) (λ v view. held_by_length e.kind e.bytes bytes v same_length view) e.views sound.views };
   lengths = record { views = views_same e.views; bytes = λ live. same_length };
   readonly_bytes = λ readonly. absurd (true≢false (sym readonly ∙ writable));
+  iterators = refl;
 }
 
 -- where no view is unreleased, none is held
@@ -144,6 +147,7 @@ resizing e bytes sound none writable = record {
   sound = free_sound e bytes sound none;
   lengths = free_lengths e bytes none;
   readonly_bytes = λ readonly. absurd (true≢false (sym readonly ∙ writable));
+  iterators = refl;
 }
 
 pub emptying : EmptyingKeeps
@@ -152,6 +156,7 @@ emptying e sound none vector = record {
   sound = free_sound e [] sound none;
   lengths = free_lengths e [] none;
   readonly_bytes = λ readonly. inr (record { vector = vector; free = free e none; empty = refl });
+  iterators = refl;
 }
 
 released_sound : (k : ExporterKind) (bytes : List ℕ) (v : View) → IsSoundView k bytes v → IsSoundView k bytes (record v { released = true })
@@ -172,4 +177,16 @@ releasing e k v sound found =
       };
       lengths = record { views = λ j u there. slice_get-set IsSameOrReleased e.views k j v w u same (inr refl) at there; bytes = λ live. refl };
       readonly_bytes = λ readonly. inl refl;
+      iterators = refl;
     }
+
+-- ---- iterators
+
+unmoved : (it : Iterator) → IsSameOrMoved it it
+unmoved it = record { subject = refl; exhausted = λ is. refl }
+
+pub iterators_added : NewIteratorsStay
+iterators_added its new k it found = (it, slice_get-push its new it k found, unmoved it)
+
+pub iterators_moved : MovedIteratorsStay
+iterators_moved its k it moved at is j other found = slice_get-set IsSameOrMoved its k j it moved other unmoved is at found

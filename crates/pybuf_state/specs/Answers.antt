@@ -1,5 +1,5 @@
 -- What the code of a row owes to its definition.
-use Rattle.std.specs.Prelude.{◌≡◌, [], Result, Ok, Err}
+use Rattle.std.specs.Prelude.{◌≡◌, Result, Ok, Err}
 use Rattle.pybuf_value.specs.declared.faults.Fault.{Fault}
 use Rattle.pybuf_value.specs.declared.halt.Halt.{Halt}
 use Rattle.pybuf_value.specs.declared.halt.Halt.TheVariants as halt
@@ -8,9 +8,9 @@ use Rattle.pybuf_state.specs.declared.parts.Parts.{Parts}
 use Rattle.pybuf_state.specs.Exporter.{Exporter, exports_of}
 use Rattle.pybuf_state.specs.Sound.{IsSoundExporter}
 
--- the exporter that the parts keep; no iterator is made yet
+-- the exporter that the parts keep
 abbrev pub exporter_of : Parts → Exporter
-exporter_of p = record { kind = p.kind; bytes = p.bytes.items; views = p.views.items; iterators = [] }
+exporter_of p = record { kind = p.kind; bytes = p.bytes.items; views = p.views.items; iterators = p.iterators.items }
 
 -- what holds of kept parts: the count is that of the unreleased views, and the exporter is sound
 pub record IsWhole (p : Parts) : Type 0 where

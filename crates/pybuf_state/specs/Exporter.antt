@@ -76,6 +76,21 @@ released_in e k = do
   v ← view_at e k
   Ok (released_at e k v)
 
+-- the iterator of a number, which was given
+abbrev pub iterator_at : Exporter → ℕ → Result Iterator Fault
+iterator_at e k = ok_or (slice_get e.iterators k) fault.UnknownName
+
+-- the exporter with one more iterator over a subject, at its first item, and the reply with its number
+abbrev pub with_iterator : Exporter → Subject → Exporter × LocalReply
+with_iterator e s = (
+  record e { iterators = e.iterators ++ (record { subject = s; position = 0; exhausted = false }) ∷ [] },
+  reply.Iter (length e.iterators),
+)
+
+-- the exporter with an iterator of a number as it is now
+abbrev pub iterator_put : Exporter → ℕ → Iterator → Exporter
+iterator_put e k it = record e { iterators = set e.iterators k it }
+
 -- the exporter with other bytes in place of those from one place up to another, as many as there are
 abbrev pub resized : Exporter → ℕ → ℕ → List ℕ → Exporter
 resized e start end bytes = record e { bytes = replaced_range e.bytes start end bytes }

@@ -10,7 +10,7 @@ use Rattle.pybuf_command.specs.declared.kinds.ExporterKind.{ExporterKind}
 use Rattle.pybuf_command.specs.declared.kinds.ExporterKind.TheVariants as kind
 use Rattle.pybuf_command.specs.declared.kinds.Subject.{Subject}
 use Rattle.pybuf_command.specs.Kinds.{holds_readonly}
-use Rattle.pybuf_state.specs.Exporter.{Exporter, View, exports_of}
+use Rattle.pybuf_state.specs.Exporter.{Exporter, View, Iterator, exports_of}
 use Rattle.pybuf_state.specs.Sound.{IsSoundExporter}
 use Rattle.pybuf_state.specs.Fresh.{IsCopyOf}
 
@@ -42,12 +42,23 @@ pub record IsEmptied (old new : Exporter) : Type 0 where
 abbrev pub ReadOnlyBytesStay : Exporter → Exporter → Type 0
 ReadOnlyBytesStay old new = holds_readonly old.kind ≡ true → (new.bytes ≡ old.bytes) ⊎ IsEmptied old new
 
--- what each command keeps of a sound exporter
+-- What each command keeps of a sound exporter, but those on iterators and the one that makes them: these
+-- keep all that follows but the iterators.
 pub record Keeps (old new : Exporter) : Type 0 where
   pub kind : new.kind ≡ old.kind
   pub sound : IsSoundExporter new
   pub lengths : LengthsStay old new
   pub readonly_bytes : ReadOnlyBytesStay old new
+  pub iterators : new.iterators ≡ old.iterators
+
+-- an iterator after a command goes over the same subject, and is as it was where it was exhausted
+pub record IsSameOrMoved (old new : Iterator) : Type 0 where
+  pub subject : new.subject ≡ old.subject
+  pub exhausted : old.exhausted ≡ true → new ≡ old
+
+-- each iterator keeps its number
+abbrev pub IteratorsStay : List Iterator → List Iterator → Type 0
+IteratorsStay old new = (k : ℕ) (it : Iterator) → slice_get old k ≡ Some it → (after : Iterator) × (slice_get new k ≡ Some after) × IsSameOrMoved it after
 
 -- a text without a line feed
 abbrev pub is_one_line : List ℕ → Bool
@@ -69,6 +80,12 @@ pub record IsCarriedOut (old : Exporter) (after : Exporter × LocalReply) : Type
 -- the same of a row that may be refused
 abbrev pub IsSafe : Exporter → Result (Exporter × LocalReply) Fault → Type 0
 IsSafe old row = IfDone (IsCarriedOut old) row
+
+-- a row of iterators that isn't refused changes nothing but iterators, and replies as `IsCarriedOut` says
+pub record IsIterated (old : Exporter) (after : Exporter × LocalReply) : Type 0 where
+  pub same : after.0 ≡ record old { iterators = after.0.iterators }
+  pub iterators : IteratorsStay old.iterators after.0.iterators
+  pub answers : is_answer after.1 ≡ true
 
 -- the reply is a copy of the subject
 abbrev pub RepliesCopy : Exporter → Subject → LocalReply → Type 0

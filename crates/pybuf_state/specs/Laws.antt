@@ -1,12 +1,12 @@
 -- What is kept of an exporter by each way in which a command changes it.
-use Rattle.std.specs.Prelude.{◌≡◌, ℕ, ◌+◌, ◌≤◌, List, [], length, true, false, Ok}
+use Rattle.std.specs.Prelude.{◌≡◌, ℕ, ◌+◌, ◌≤◌, List, [], ◌∷◌, ◌++◌, length, set, true, false, Ok, Some, slice_get}
 use Rattle.pybuf_value.specs.declared.snaps.Snap.{Snap}
 use Rattle.pybuf_desc.specs.Layouts.{Layout, LiesInside, bytes_layout_from}
 use Rattle.pybuf_command.specs.declared.kinds.Subject.{Subject}
 use Rattle.pybuf_command.specs.Kinds.{holds_readonly}
-use Rattle.pybuf_state.specs.Exporter.{Exporter, View, whole_layout, view_at, live_layout, with_view, released_at}
+use Rattle.pybuf_state.specs.Exporter.{Exporter, View, Iterator, whole_layout, view_at, live_layout, with_view, released_at}
 use Rattle.pybuf_state.specs.Sound.{IsFormed, IsSoundExporter}
-use Rattle.pybuf_state.specs.Keeps.{Keeps, is_vector}
+use Rattle.pybuf_state.specs.Keeps.{Keeps, is_vector, IsSameOrMoved, IteratorsStay}
 use Rattle.pybuf_state.specs.Resizing.{has_exports}
 use Rattle.pybuf_state.specs.Fresh.{IsCopyOf, made_of, is_readonly_subject, HoldsCopy}
 
@@ -49,6 +49,16 @@ ResizingKeeps = (e : Exporter) (bytes : List ℕ) → IsSoundExporter e → has_
 -- and where the bytes of a vector are taken out then
 abbrev pub EmptyingKeeps : Type 0
 EmptyingKeeps = (e : Exporter) → IsSoundExporter e → has_exports e ≡ false → is_vector e.kind ≡ true → Keeps e (record e { bytes = [] })
+
+-- ---- iterators
+
+-- the iterators stay where one more is made
+abbrev pub NewIteratorsStay : Type 0
+NewIteratorsStay = (its : List Iterator) (it : Iterator) → IteratorsStay its (its ++ it ∷ [])
+
+-- and where one of them moves, which isn't exhausted or doesn't change
+abbrev pub MovedIteratorsStay : Type 0
+MovedIteratorsStay = (its : List Iterator) (k : ℕ) (it moved : Iterator) → slice_get its k ≡ Some it → IsSameOrMoved it moved → IteratorsStay its (set its k moved)
 
 -- ---- copies
 

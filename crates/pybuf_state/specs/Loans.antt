@@ -51,12 +51,14 @@ lent_as h s None = []
 abbrev pub subject_in : Option Loan → Option Subject
 subject_in (Some loan.Own) = Some subject.Own
 subject_in (Some (loan.View k)) = Some (subject.View k)
+subject_in (Some (loan.Iter k)) = Some (subject.Iter k)
 subject_in _ = None
 
 -- what a loan names, as it stands; nothing where its bytes aren't read
 abbrev pub snap_in : Exporter → Option Loan → Option Snap
 snap_in e (Some loan.Own) = snap_of_subject e subject.Own
 snap_in e (Some (loan.View k)) = snap_of_subject e (subject.View k)
+snap_in e (Some (loan.Iter k)) = snap_of_subject e (subject.Iter k)
 snap_in e (Some (loan.Other snap)) = Some snap
 snap_in e _ = None
 

@@ -1,5 +1,5 @@
 -- What an exporter and its views are lent as.
-use Rattle.std.specs.Prelude.{ℕ, List, [], ◌∷◌, length, Option, Some, None, true, false, slice_get, codes}
+use Rattle.std.specs.Prelude.{ℕ, List, [], ◌∷◌, length, Option, Some, true, false, slice_get, codes}
 use Rattle.std.specs.Option.{option_map}
 use Rattle.pybuf_value.specs.declared.snaps.Snap.{Snap}
 use Rattle.pybuf_value.specs.declared.snaps.SnapKind.{SnapKind}
@@ -31,8 +31,21 @@ snap_of_exporter e = record {
 abbrev pub snap_of_view : List ℕ → View → Snap
 snap_of_view bytes v = snap_of_layout bytes v.layout v.released
 
--- what a handle of an exporter, or of a view of it, names; none where it was never given
+-- an iterator, whose bytes no command reads
+abbrev pub iterator_snap : Snap
+iterator_snap = record {
+  kind = kind.Iterator;
+  format = codes "B";
+  itemsize = 1;
+  shape = 0 ∷ [];
+  content = [];
+  contiguous = true;
+  released = false;
+}
+
+-- what a handle of an exporter, of a view of it or of an iterator over one names; none where it was never
+-- given
 abbrev pub snap_of_subject : Exporter → Subject → Option Snap
 snap_of_subject e subject.Own = Some (snap_of_exporter e)
 snap_of_subject e (subject.View k) = option_map (snap_of_view e.bytes) (slice_get e.views k)
-snap_of_subject e (subject.Iter k) = None
+snap_of_subject e (subject.Iter k) = option_map (λ it. iterator_snap) (slice_get e.iterators k)

@@ -29,6 +29,7 @@ fn with_one_view(
         kind,
         bytes,
         views,
+        iterators: Vec::new(alloc),
         exports: 1,
         alloc,
     })
@@ -43,6 +44,7 @@ fn without_views(alloc: Global, kind: ExporterKind, content: ByteList) -> Parts
         kind,
         bytes: content.into_vec(),
         views: Vec::new(alloc),
+        iterators: Vec::new(alloc),
         exports: 0,
         alloc,
     }

@@ -18,7 +18,7 @@ fn is_named(parts: &Parts, loan: &Loan) -> bool
         Loan::View(view) => *view < parts.views.len(),
         Loan::Other(_) => true,
         Loan::Known => true,
-        Loan::Iter(_) => false,
+        Loan::Iter(iterator) => *iterator < parts.iterators.len(),
         Loan::Missing => false,
     }
 }
@@ -40,7 +40,7 @@ pub fn is_lent(lender: &Parts, subject: Subject) -> bool
     match subject {
         Subject::Own => true,
         Subject::View(view) => view < lender.views.len(),
-        Subject::Iter(_) => false,
+        Subject::Iter(iterator) => iterator < lender.iterators.len(),
     }
 }
 

@@ -1,5 +1,5 @@
 //! Laws of the definitions that the contracts cite. Each stands on a function with an empty body.
-ghost use Rattle.pybuf_state.specs.Laws.{WholeLayoutsAreSound, PartLayoutsAreSound, LiveLayoutsAreSound, CopiesAreFaithful, ReadingKeeps, NewViewsKeep, WritingKeeps, ResizingKeeps, EmptyingKeeps, ReleasingKeeps};
+ghost use Rattle.pybuf_state.specs.Laws.{WholeLayoutsAreSound, PartLayoutsAreSound, LiveLayoutsAreSound, CopiesAreFaithful, ReadingKeeps, NewViewsKeep, WritingKeeps, ResizingKeeps, EmptyingKeeps, ReleasingKeeps, NewIteratorsStay, MovedIteratorsStay};
 
 /// A view of all bytes may be made of every exporter.
 pub fn whole_layouts_are_sound()
@@ -46,6 +46,16 @@ pub fn emptying_keeps()
 /// An exporter is kept where one of its views is released.
 pub fn releasing_keeps()
     ensures { ReleasingKeeps }
+{}
+
+/// Every iterator stays where another is made.
+pub fn new_iterators_stay()
+    ensures { NewIteratorsStay }
+{}
+
+/// Every iterator stays where one of them moves that isn't exhausted.
+pub fn moved_iterators_stay()
+    ensures { MovedIteratorsStay }
 {}
 
 /// What is made of a copy is sound: a bytearray with the bytes of another, or a vector whose one view has

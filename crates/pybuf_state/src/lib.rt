@@ -6,6 +6,7 @@
 #![tactic(auto)]
 
 mod fresh;
+mod iterators;
 mod known;
 mod laws;
 mod lending;
@@ -14,11 +15,12 @@ mod snaps;
 mod stored;
 
 pub use fresh::exporter_of_copy;
+pub use iterators::StoredIterator;
 pub use known::{are_known, are_known_beside, is_lent};
 pub use laws::{
-    copies_are_faithful, emptying_keeps, live_layouts_are_sound, new_views_keep,
-    part_layouts_are_sound, reading_keeps, releasing_keeps, resizing_keeps,
-    whole_layouts_are_sound, writing_keeps,
+    copies_are_faithful, emptying_keeps, live_layouts_are_sound, moved_iterators_stay,
+    new_iterators_stay, new_views_keep, part_layouts_are_sound, reading_keeps, releasing_keeps,
+    resizing_keeps, whole_layouts_are_sound, writing_keeps,
 };
 pub use parts::Parts;
 pub use snaps::{lent_to, snap_of_subject};

@@ -1,8 +1,9 @@
 //! What is kept of an exporter.
-ghost use Rattle.std.specs.Prelude.{◌≡◌, ◌≤◌, [], Ok, Err, length, true, false, IfOk, OnOk, OnErr, MatchResult};
+ghost use Rattle.std.specs.Prelude.{◌≡◌, ◌≤◌, ◌<◌, [], Ok, Err, length, true, false, IfOk, IsOk, OnOk, OnErr, MatchResult};
 
+use crate::iterators::StoredIterator;
 use crate::stored::StoredView;
-use pybuf_command::{ExporterKind, LocalReply};
+use pybuf_command::{ExporterKind, LocalReply, Subject};
 use pybuf_memoryview::KeptLayout;
 use pybuf_slice::SliceableSequenceMutOp;
 use pybuf_value::{Fault, Halt, Made};
@@ -15,12 +16,13 @@ pub struct Parts {
     pub kind: ExporterKind,
     pub bytes: Vec<u8>,
     pub views: Vec<StoredView>,
+    pub iterators: Vec<StoredIterator>,
     pub exports: usize,
     pub alloc: Global,
 }
 
 impl Parts {
-    ghost use Rattle.pybuf_state.specs.Exporter.{view_at, live_layout, with_view, released_in, exports_of, resized};
+    ghost use Rattle.pybuf_state.specs.Exporter.{view_at, live_layout, with_view, released_in, exports_of, resized, iterator_at, with_iterator, iterator_put};
     ghost use Rattle.pybuf_state.specs.Answers.{exporter_of, IsWhole, Answers};
     ghost use Rattle.pybuf_state.specs.Laws.{IsSoundLayout};
     ghost use Rattle.pybuf_state.specs.Resizing.{has_exports, resizable};
@@ -63,6 +65,40 @@ impl Parts {
         self.views.push(StoredView::new(self.bytes.len(), layout))?;
         self.exports += 1;
         Ok(LocalReply::View(number))
+    }
+
+    /// The iterator of a number that was given.
+    ///
+    /// Refused with `UnknownName` exactly where none was.
+    pub fn iterator(&self, iterator: usize) -> Result<StoredIterator, Fault>
+        ensures value { result ≡ iterator_at (exporter_of self.now) iterator }
+        ensures given { IsOk result → iterator < length self.now.iterators.items }
+    {
+        if iterator < self.iterators.len() {
+            return Ok(self.iterators[iterator]);
+        }
+        Err(Fault::UnknownName)
+    }
+
+    /// One more iterator over a subject, at its first item. The reply is its number.
+    pub fn add_iterator(&mut self, subject: Subject) -> Result<LocalReply, Halt>
+        requires { IsWhole self.old }
+        ensures answer { Answers (Ok (with_iterator (exporter_of self.old) subject)) (exporter_of self.old) result (exporter_of self.new) }
+        ensures counted { self.new.exports ≡ exports_of (exporter_of self.new) }
+    {
+        let number = self.iterators.len();
+        self.iterators.push(StoredIterator::new(subject))?;
+        Ok(LocalReply::Iter(number))
+    }
+
+    /// Puts an iterator that was given in another state. Takes no memory.
+    pub fn put_iterator(&mut self, iterator: usize, put: StoredIterator)
+        requires whole { IsWhole self.old }
+        requires given { iterator < length self.old.iterators.items }
+        ensures same { exporter_of self.new ≡ iterator_put (exporter_of self.old) iterator put }
+        ensures counted { self.new.exports ≡ exports_of (exporter_of self.new) }
+    {
+        self.iterators[iterator] = put;
     }
 
     /// Whether the length may change.

@@ -79,8 +79,39 @@ fn snap_of_given(parts: &Parts, alloc: Global, view: usize) -> Made<Option<Snap>
     }
 }
 
-/// What a handle of the exporter or of one of its views names, as it stands; the content of a
-/// released view is empty. None exactly where there is no such view, and for an iterator.
+/// What an iterator is lent as: no bytes.
+fn iterator_snap(alloc: Global) -> Made<Snap>
+    ensures { IfOk result (λ snap. snap ≡ spec.iterator_snap) }
+{
+    let format = byte_format(alloc)?;
+    let shape = row_of(alloc, 0)?;
+    Ok(Snap {
+        kind: SnapKind::Iterator,
+        format,
+        itemsize: 1,
+        shape,
+        content: ByteList::new(alloc),
+        contiguous: true,
+        released: false,
+    })
+}
+
+/// What an iterator of this number is, if it was given.
+fn snap_of_iterator(parts: &Parts, alloc: Global, iterator: usize) -> Made<Option<Snap>>
+    ensures { IfOk result (λ snap. snap ≡ spec.snap_of_subject (exporter_of parts.now) (subjects.Iter iterator)) }
+{
+    match parts.iterator(iterator) {
+        Ok(_) => {
+            let snap = iterator_snap(alloc)?;
+            Ok(Some(snap))
+        }
+        Err(_) => Ok(None),
+    }
+}
+
+/// What a handle of the exporter, of one of its views or of an iterator names, as it stands; the
+/// content of a released view is empty, and so is that of an iterator. None exactly where there is no
+/// such view or iterator.
 pub fn snap_of_subject(parts: &Parts, alloc: Global, subject: Subject) -> Made<Option<Snap>>
     requires { IsWhole parts.now }
     ensures value { IfOk result (λ snap. snap ≡ spec.snap_of_subject (exporter_of parts.now) subject) }
@@ -93,7 +124,7 @@ pub fn snap_of_subject(parts: &Parts, alloc: Global, subject: Subject) -> Made<O
             Ok(Some(snap))
         }
         Subject::View(view) => snap_of_given(parts, alloc, view),
-        Subject::Iter(_) => Ok(None),
+        Subject::Iter(iterator) => snap_of_iterator(parts, alloc, iterator),
     }
 }
 
@@ -115,6 +146,7 @@ fn snap_in(parts: &Parts, alloc: Global, loan: Option<&Loan>) -> Made<Option<Sna
     match loan {
         Some(Loan::Own) => snap_of_subject(parts, alloc, Subject::Own),
         Some(Loan::View(view)) => snap_of_subject(parts, alloc, Subject::View(*view)),
+        Some(Loan::Iter(iterator)) => snap_of_subject(parts, alloc, Subject::Iter(*iterator)),
         Some(Loan::Other(snap)) => {
             let snap = snap.copy(alloc)?;
             Ok(Some(snap))

@@ -14,14 +14,15 @@ pub use pybuf_command::{
 pub use pybuf_exporter::{
     ExporterState, assignments_are_by_value, casts_share_their_bytes, commands_keep_sound,
     contiguity_is_of_strides, copies_are_faithful, equal_views_hash_alike,
-    fresh_replies_are_copies, items_are_read, lengths_stay, lists_hold_the_items,
-    loans_alike_do_the_same, readonly_bytes_stay, refused_commands_change_nothing,
-    shaped_casts_share_their_bytes, shown_texts_are_one_line, slicing_back_twice_is_nothing,
-    writes_are_seen,
+    fresh_replies_are_copies, items_are_read, iteration_changes_nothing_else,
+    iterators_give_the_bytes, iterators_stay, lengths_stay, lists_hold_the_items,
+    loans_alike_do_the_same, others_leave_iterators, readonly_bytes_stay,
+    refused_commands_change_nothing, shaped_casts_share_their_bytes, shown_texts_are_one_line,
+    slicing_back_twice_is_nothing, writes_are_seen,
 };
 pub use pybuf_world::{
     Command, Named, Reply, ReplyList, World, copies_are_exporters_of_their_own, handles_stay,
     new_exporters_stand_behind, refusals_change_nothing, releasing_twice_is_once,
-    unknown_sources_are_refused, world_lengths_stay, world_readonly_bytes_stay,
-    world_shown_texts_are_one_line,
+    unknown_sources_are_refused, world_iterators_stay, world_lengths_stay,
+    world_readonly_bytes_stay, world_shown_texts_are_one_line,
 };

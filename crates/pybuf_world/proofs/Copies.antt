@@ -102,6 +102,7 @@ made_by_reply copies faithful w t v loans e (local.Fresh snap) x y found sound i
       view_named = named.2;
     }
 made_by_reply copies faithful w t v loans e (local.View k) x y found sound is paired = absurd (cc)
+made_by_reply copies faithful w t v loans e (local.Iter k) x y found sound is paired = absurd (cc)
 made_by_reply copies faithful w t v loans e local.Ok x y found sound is paired = absurd (cc)
 made_by_reply copies faithful w t v loans e local.Itself x y found sound is paired = absurd (cc)
 made_by_reply copies faithful w t v loans e local.Own x y found sound is paired = absurd (cc)
@@ -112,6 +113,7 @@ made_by_reply copies faithful w t v loans e (local.Text text) x y found sound is
 made_by_reply copies faithful w t v loans e (local.Shown text) x y found sound is paired = absurd (cc)
 made_by_reply copies faithful w t v loans e (local.Truth truth) x y found sound is paired = absurd (cc)
 made_by_reply copies faithful w t v loans e local.NotImplementedReply x y found sound is paired = absurd (cc)
+made_by_reply copies faithful w t v loans e local.Stop x y found sound is paired = absurd (cc)
 made_by_reply copies faithful w t v loans e (local.Numbers numbers) x y found sound is paired = absurd (cc)
 made_by_reply copies faithful w t v loans e (local.Refused f) x y found sound is paired = absurd (cc)
 
@@ -154,6 +156,7 @@ one_by_reply copies faithful w t v loans e (local.Fresh snap) x found sound is r
     subst (λ (s : Subject). IsCopyMade w (world_after w t ((estep e t.subject v loans).0, local.Fresh snap)).0 s x) (of_own e t.subject snap (copies e t.subject v loans snap is).1 one.0)
     (copy_made copies faithful w t v loans e snap x found sound is one.1)
 one_by_reply copies faithful w t v loans e (local.View k) x found sound is replied more = absurd (none_more w.exporters t.exporter (estep e t.subject v loans).0 more)
+one_by_reply copies faithful w t v loans e (local.Iter k) x found sound is replied more = absurd (none_more w.exporters t.exporter (estep e t.subject v loans).0 more)
 one_by_reply copies faithful w t v loans e local.Ok x found sound is replied more = absurd (none_more w.exporters t.exporter (estep e t.subject v loans).0 more)
 one_by_reply copies faithful w t v loans e local.Itself x found sound is replied more = absurd (none_more w.exporters t.exporter (estep e t.subject v loans).0 more)
 one_by_reply copies faithful w t v loans e local.Own x found sound is replied more = absurd (none_more w.exporters t.exporter (estep e t.subject v loans).0 more)
@@ -164,6 +167,7 @@ one_by_reply copies faithful w t v loans e (local.Text text) x found sound is re
 one_by_reply copies faithful w t v loans e (local.Shown text) x found sound is replied more = absurd (none_more w.exporters t.exporter (estep e t.subject v loans).0 more)
 one_by_reply copies faithful w t v loans e (local.Truth truth) x found sound is replied more = absurd (none_more w.exporters t.exporter (estep e t.subject v loans).0 more)
 one_by_reply copies faithful w t v loans e local.NotImplementedReply x found sound is replied more = absurd (none_more w.exporters t.exporter (estep e t.subject v loans).0 more)
+one_by_reply copies faithful w t v loans e local.Stop x found sound is replied more = absurd (none_more w.exporters t.exporter (estep e t.subject v loans).0 more)
 one_by_reply copies faithful w t v loans e (local.Numbers numbers) x found sound is replied more = absurd (none_more w.exporters t.exporter (estep e t.subject v loans).0 more)
 one_by_reply copies faithful w t v loans e (local.Refused f) x found sound is replied more = absurd (none_more w.exporters t.exporter (estep e t.subject v loans).0 more)
 

@@ -52,6 +52,7 @@ stay_first n handles name owners names firsts i below = firsts i below ∙ sym (
 names_no_other : (n : ℕ) (name : Named) → exporter_of name < n → is_name_of n name ≡ false
 names_no_other n (named.Exporter i) below = ne_eqb i n (λ same. omega (arith, same, below))
 names_no_other n (named.View i k) below = refl
+names_no_other n (named.Iterator i k) below = refl
 
 none_before : (n : ℕ) (handles : List Named) → NameExporters n handles → first handles n ≡ length handles
 none_before n handles names =

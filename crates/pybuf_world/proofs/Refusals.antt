@@ -35,6 +35,7 @@ after_refusal : (w : World) (t : Target) (e : Exporter) (r : LocalReply) (f : Fa
 after_refusal w t e (local.Refused g) f kept is =
     let same : g ≡ f = cc in ap (λ (xs : List Exporter). record w { exporters = xs }) (kept (ap local.Refused same))
 after_refusal w t e (local.View k) f kept is = absurd (cc)
+after_refusal w t e (local.Iter k) f kept is = absurd (cc)
 after_refusal w t e (local.Fresh snap) f kept is = absurd (copy_no_refusal (has_view snap.kind) (length w.handles) f is)
 after_refusal w t e local.Ok f kept is = absurd (cc)
 after_refusal w t e local.Itself f kept is = absurd (cc)
@@ -46,6 +47,7 @@ after_refusal w t e (local.Text text) f kept is = absurd (cc)
 after_refusal w t e (local.Shown text) f kept is = absurd (cc)
 after_refusal w t e (local.Truth truth) f kept is = absurd (cc)
 after_refusal w t e local.NotImplementedReply f kept is = absurd (cc)
+after_refusal w t e local.Stop f kept is = absurd (cc)
 after_refusal w t e (local.Numbers numbers) f kept is = absurd (cc)
 
 loans_refusal : RefusedCommandsChangeNothing → (w : World) (t : Target) (v : Verb) (loans : List (ℕ × Loan)) (o : Option Exporter) (f : Fault) → slice_get w.exporters t.exporter ≡ o
@@ -85,6 +87,7 @@ copy_handles false n handles h below = slice_get-append handles (named.Exporter 
 
 after_handles : (w : World) (t : Target) (r : LocalReply) (h : ℕ) → h < length w.handles → slice_get (handles_after w t r) h ≡ slice_get w.handles h
 after_handles w t (local.View k) h below = slice_get-append w.handles (named.View t.exporter k ∷ []) h below
+after_handles w t (local.Iter k) h below = slice_get-append w.handles (named.Iterator t.exporter k ∷ []) h below
 after_handles w t (local.Fresh snap) h below = copy_handles (has_view snap.kind) (length w.exporters) w.handles h below
 after_handles w t local.Ok h below = refl
 after_handles w t local.Itself h below = refl
@@ -96,6 +99,7 @@ after_handles w t (local.Text text) h below = refl
 after_handles w t (local.Shown text) h below = refl
 after_handles w t (local.Truth truth) h below = refl
 after_handles w t local.NotImplementedReply h below = refl
+after_handles w t local.Stop h below = refl
 after_handles w t (local.Numbers numbers) h below = refl
 after_handles w t (local.Refused g) h below = refl
 

@@ -39,6 +39,7 @@ name_again twice w once handle (Some (named.View i k)) at is =
     ap (λ (hs : List Named). released_by_name once (slice_get hs handle)) (exporter_handles w once i k (slice_get w.exporters i) is)
     ∙ ap (released_by_name once) at ∙ exporter_again twice w once i k (slice_get w.exporters i) refl is
 name_again twice w once handle (Some (named.Exporter i)) at is = absurd (cc)
+name_again twice w once handle (Some (named.Iterator i k)) at is = absurd (cc)
 name_again twice w once handle None at is = absurd (cc)
 
 pub by_handle_twice : ReleasingTwiceIsOnce → ReleasingByHandleTwiceIsOnce

@@ -32,6 +32,7 @@ shown_by_reply w t (local.Shown shown) text single is =
     let same : shown ≡ text = cc in ap is_one_line (sym same) ∙ single shown refl
 shown_by_reply w t (local.Fresh snap) text single is = absurd (copy_no_text (has_view snap.kind) (length w.handles) text is)
 shown_by_reply w t (local.View k) text single is = absurd (cc)
+shown_by_reply w t (local.Iter k) text single is = absurd (cc)
 shown_by_reply w t local.Ok text single is = absurd (cc)
 shown_by_reply w t local.Itself text single is = absurd (cc)
 shown_by_reply w t local.Own text single is = absurd (cc)
@@ -41,6 +42,7 @@ shown_by_reply w t (local.Bytes bytes) text single is = absurd (cc)
 shown_by_reply w t (local.Text told) text single is = absurd (cc)
 shown_by_reply w t (local.Truth truth) text single is = absurd (cc)
 shown_by_reply w t local.NotImplementedReply text single is = absurd (cc)
+shown_by_reply w t local.Stop text single is = absurd (cc)
 shown_by_reply w t (local.Numbers numbers) text single is = absurd (cc)
 shown_by_reply w t (local.Refused f) text single is = absurd (cc)
 

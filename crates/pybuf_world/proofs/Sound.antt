@@ -165,6 +165,9 @@ after_sound : (w : World) (t : Target) (e : Exporter) (r : LocalReply) → IsSou
 after_sound w t e (local.View k) sound there sound_e fresh =
     let below : t.exporter < length (set w.exporters t.exporter e) = subst (λ (n : ℕ). t.exporter < n) (sym (length-set w.exporters t.exporter e)) there in
     with_handle_sound (record w { exporters = set w.exporters t.exporter e }) (named.View t.exporter k) (with_set_sound w t.exporter e sound sound_e) below
+after_sound w t e (local.Iter k) sound there sound_e fresh =
+    let below : t.exporter < length (set w.exporters t.exporter e) = subst (λ (n : ℕ). t.exporter < n) (sym (length-set w.exporters t.exporter e)) there in
+    with_handle_sound (record w { exporters = set w.exporters t.exporter e }) (named.Iterator t.exporter k) (with_set_sound w t.exporter e sound sound_e) below
 after_sound w t e (local.Fresh snap) sound there sound_e fresh =
     with_made_sound (has_view snap.kind) (record w { exporters = set w.exporters t.exporter e }) (made_of (is_readonly_subject e t.subject) snap) (length w.exporters) (length-set w.exporters t.exporter e)
     (with_set_sound w t.exporter e sound sound_e) fresh
@@ -178,6 +181,7 @@ after_sound w t e (local.Text text) sound there sound_e fresh = with_set_sound w
 after_sound w t e (local.Shown text) sound there sound_e fresh = with_set_sound w t.exporter e sound sound_e
 after_sound w t e (local.Truth truth) sound there sound_e fresh = with_set_sound w t.exporter e sound sound_e
 after_sound w t e local.NotImplementedReply sound there sound_e fresh = with_set_sound w t.exporter e sound sound_e
+after_sound w t e local.Stop sound there sound_e fresh = with_set_sound w t.exporter e sound sound_e
 after_sound w t e (local.Numbers numbers) sound there sound_e fresh = with_set_sound w t.exporter e sound sound_e
 after_sound w t e (local.Refused f) sound there sound_e fresh = with_set_sound w t.exporter e sound sound_e
 
@@ -186,6 +190,9 @@ after_owned : (w : World) (t : Target) (e : Exporter) (r : LocalReply) (owners :
 after_owned w t e (local.View k) owners sound sound_e fresh owned =
     let names : AreNamed (length (set w.exporters t.exporter e)) w.handles = subst (λ (n : ℕ). AreNamed n w.handles) (sym (length-set w.exporters t.exporter e)) sound.exporters_are_named in
     with_handle_owned (record w { exporters = set w.exporters t.exporter e }) (named.View t.exporter k) owners names (with_set_owned w t.exporter e owners owned)
+after_owned w t e (local.Iter k) owners sound sound_e fresh owned =
+    let names : AreNamed (length (set w.exporters t.exporter e)) w.handles = subst (λ (n : ℕ). AreNamed n w.handles) (sym (length-set w.exporters t.exporter e)) sound.exporters_are_named in
+    with_handle_owned (record w { exporters = set w.exporters t.exporter e }) (named.Iterator t.exporter k) owners names (with_set_owned w t.exporter e owners owned)
 after_owned w t e (local.Fresh snap) owners sound sound_e fresh owned =
     with_made_owned (has_view snap.kind) (record w { exporters = set w.exporters t.exporter e }) (made_of (is_readonly_subject e t.subject) snap) (length w.exporters) owners (length-set w.exporters t.exporter e)
     (with_set_sound w t.exporter e sound sound_e) fresh (with_set_owned w t.exporter e owners owned)
@@ -199,6 +206,7 @@ after_owned w t e (local.Text text) owners sound sound_e fresh owned = with_set_
 after_owned w t e (local.Shown text) owners sound sound_e fresh owned = with_set_owned w t.exporter e owners owned
 after_owned w t e (local.Truth truth) owners sound sound_e fresh owned = with_set_owned w t.exporter e owners owned
 after_owned w t e local.NotImplementedReply owners sound sound_e fresh owned = with_set_owned w t.exporter e owners owned
+after_owned w t e local.Stop owners sound sound_e fresh owned = with_set_owned w t.exporter e owners owned
 after_owned w t e (local.Numbers numbers) owners sound sound_e fresh owned = with_set_owned w t.exporter e owners owned
 after_owned w t e (local.Refused f) owners sound sound_e fresh owned = with_set_owned w t.exporter e owners owned
 
@@ -213,6 +221,7 @@ fresh_by_reply laws e t v loans (local.Fresh snap) sound is =
     let copied = laws.copies e t.subject v loans snap is in
     subst (λ (x : Exporter). IsSoundExporter (made_of (is_readonly_subject x t.subject) snap)) (sym copied.0) ((laws.faithful e t.subject snap sound copied.1).0)
 fresh_by_reply laws e t v loans (local.View k) sound is = tt
+fresh_by_reply laws e t v loans (local.Iter k) sound is = tt
 fresh_by_reply laws e t v loans local.Ok sound is = tt
 fresh_by_reply laws e t v loans local.Itself sound is = tt
 fresh_by_reply laws e t v loans local.Own sound is = tt
@@ -223,6 +232,7 @@ fresh_by_reply laws e t v loans (local.Text text) sound is = tt
 fresh_by_reply laws e t v loans (local.Shown text) sound is = tt
 fresh_by_reply laws e t v loans (local.Truth truth) sound is = tt
 fresh_by_reply laws e t v loans local.NotImplementedReply sound is = tt
+fresh_by_reply laws e t v loans local.Stop sound is = tt
 fresh_by_reply laws e t v loans (local.Numbers numbers) sound is = tt
 fresh_by_reply laws e t v loans (local.Refused f) sound is = tt
 
@@ -302,11 +312,13 @@ exporter_released_owned w after i k None owners owned is = absurd (cc)
 name_released_sound : ReleaseIsSafe → (w after : World) (o : Option Named) → IsSoundWorld w → released_by_name w o ≡ Ok after → IsSoundWorld after
 name_released_sound safe w after (Some (named.View i k)) sound is = exporter_released_sound safe w after i k (slice_get w.exporters i) refl sound is
 name_released_sound safe w after (Some (named.Exporter i)) sound is = absurd (cc)
+name_released_sound safe w after (Some (named.Iterator i k)) sound is = absurd (cc)
 name_released_sound safe w after None sound is = absurd (cc)
 
 name_released_owned : (w after : World) (o : Option Named) (owners : List ℕ) → AreOwners w owners → released_by_name w o ≡ Ok after → AreOwners after owners
 name_released_owned w after (Some (named.View i k)) owners owned is = exporter_released_owned w after i k (slice_get w.exporters i) owners owned is
 name_released_owned w after (Some (named.Exporter i)) owners owned is = absurd (cc)
+name_released_owned w after (Some (named.Iterator i k)) owners owned is = absurd (cc)
 name_released_owned w after None owners owned is = absurd (cc)
 
 -- releasing keeps a world sound, and the handles of its exporters

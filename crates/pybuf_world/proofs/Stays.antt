@@ -15,7 +15,7 @@ use Rattle.pybuf_state.specs.Exporter.{Exporter}
 use Rattle.pybuf_state.specs.Keeps.{LengthsStay, ReadOnlyBytesStay}
 use Rattle.pybuf_state.specs.Sound.{IsSoundExporter}
 use Rattle.pybuf_exporter.specs.Step.{estep}
-use Rattle.pybuf_exporter.specs.Laws.{LengthsStayUnderCommands, ReadOnlyBytesStayUnderCommands}
+use Rattle.pybuf_exporter.specs.Laws.{LengthsStayUnderCommands, ReadOnlyBytesStayUnderCommands, IteratorsStayUnderCommands}
 use Rattle.pybuf_world.specs.declared.named.Named.{Named}
 use Rattle.pybuf_world.specs.declared.named.Target.{Target}
 use Rattle.pybuf_world.specs.declared.commands.Command.{Command}
@@ -24,7 +24,7 @@ use Rattle.pybuf_world.specs.declared.commands.Reply.TheVariants as reply
 use Rattle.pybuf_command.specs.Handles.{handles_of_options}
 use Rattle.pybuf_world.specs.World.{World, bytes_of_new, world_with_bytes, are_given, loans_of, world_after, step_with_loans, target_of, step_of_handle, wstep}
 use Rattle.pybuf_world.specs.Sound.{IsSoundWorld}
-use Rattle.pybuf_world.specs.Laws.{EachExporterStays, WorldLengthsStay, WorldReadOnlyBytesStay}
+use Rattle.pybuf_world.specs.Laws.{EachExporterStays, WorldLengthsStay, WorldReadOnlyBytesStay, KeepsIterators, WorldIteratorsStay}
 use Rattle.pybuf_world.proofs.Lists.{slice_get-append, slice_get-set, slice_get-set_other, All-slice_get}
 
 -- what holds between an exporter and itself, and before and after each command
@@ -56,6 +56,7 @@ set_or_more Stays kept w t old new (local.Fresh snap) found stays i e at =
     let one = one_set Stays kept w t.exporter old new found stays i e (eqb_tells t.exporter i) at in
     (one.0, slice_get-append (set w.exporters t.exporter new) (_ ∷ []) i (slice_get_within (set w.exporters t.exporter new) i one.0 one.1) ∙ one.1, one.2)
 set_or_more Stays kept w t old new (local.View k) found stays i e at = one_set Stays kept w t.exporter old new found stays i e (eqb_tells t.exporter i) at
+set_or_more Stays kept w t old new (local.Iter k) found stays i e at = one_set Stays kept w t.exporter old new found stays i e (eqb_tells t.exporter i) at
 set_or_more Stays kept w t old new local.Ok found stays i e at = one_set Stays kept w t.exporter old new found stays i e (eqb_tells t.exporter i) at
 set_or_more Stays kept w t old new local.Itself found stays i e at = one_set Stays kept w t.exporter old new found stays i e (eqb_tells t.exporter i) at
 set_or_more Stays kept w t old new local.Own found stays i e at = one_set Stays kept w t.exporter old new found stays i e (eqb_tells t.exporter i) at
@@ -66,6 +67,7 @@ set_or_more Stays kept w t old new (local.Text text) found stays i e at = one_se
 set_or_more Stays kept w t old new (local.Shown text) found stays i e at = one_set Stays kept w t.exporter old new found stays i e (eqb_tells t.exporter i) at
 set_or_more Stays kept w t old new (local.Truth truth) found stays i e at = one_set Stays kept w t.exporter old new found stays i e (eqb_tells t.exporter i) at
 set_or_more Stays kept w t old new local.NotImplementedReply found stays i e at = one_set Stays kept w t.exporter old new found stays i e (eqb_tells t.exporter i) at
+set_or_more Stays kept w t old new local.Stop found stays i e at = one_set Stays kept w t.exporter old new found stays i e (eqb_tells t.exporter i) at
 set_or_more Stays kept w t old new (local.Numbers numbers) found stays i e at = one_set Stays kept w t.exporter old new found stays i e (eqb_tells t.exporter i) at
 set_or_more Stays kept w t old new (local.Refused f) found stays i e at = one_set Stays kept w t.exporter old new found stays i e (eqb_tells t.exporter i) at
 
@@ -104,3 +106,7 @@ world_lengths_stay_so stay w c sound = each_stays LengthsStay (record { same = s
 
 pub world_bytes_stay_so : ReadOnlyBytesStayUnderCommands → WorldReadOnlyBytesStay
 world_bytes_stay_so stay w c sound = each_stays ReadOnlyBytesStay (record { same = λ e readonly. inl refl; step = stay }) w c sound
+
+pub world_iterators_stay_so : IteratorsStayUnderCommands → WorldIteratorsStay
+world_iterators_stay_so stay w c sound =
+    each_stays KeepsIterators (record { same = λ e k it given. (it, given, record { subject = refl; exhausted = λ is. refl }); step = stay }) w c sound

@@ -34,6 +34,7 @@ fresh_answered w t old new snap found =
 reply_answered : (w : World) (t : Target) (old new : Exporter) (r : LocalReply) → slice_get w.exporters t.exporter ≡ Some old → world_after w t (new, r) ≡ answered (record w { exporters = set w.exporters t.exporter new }) t r
 reply_answered w t old new (local.Fresh snap) found = fresh_answered w t old new snap found
 reply_answered w t old new (local.View k) found = refl
+reply_answered w t old new (local.Iter k) found = refl
 reply_answered w t old new local.Ok found = refl
 reply_answered w t old new local.Itself found = refl
 reply_answered w t old new local.Own found = refl
@@ -44,6 +45,7 @@ reply_answered w t old new (local.Text text) found = refl
 reply_answered w t old new (local.Shown text) found = refl
 reply_answered w t old new (local.Truth truth) found = refl
 reply_answered w t old new local.NotImplementedReply found = refl
+reply_answered w t old new local.Stop found = refl
 reply_answered w t old new (local.Numbers numbers) found = refl
 reply_answered w t old new (local.Refused f) found = refl
 
@@ -74,6 +76,7 @@ pub left_alone : FreshRepliesAreCopies → (w : World) (t : Target) (v : Verb) (
     → local_step w t v loans o ≡ (after, r) → IsFresh r → after ≡ w
 left_alone copies w t v loans o after (local.Fresh snap) found is fresh = (fresh_copy copies w t v loans o after snap found is).0
 left_alone copies w t v loans o after (local.View k) found is fresh = absurd fresh
+left_alone copies w t v loans o after (local.Iter k) found is fresh = absurd fresh
 left_alone copies w t v loans o after local.Ok found is fresh = absurd fresh
 left_alone copies w t v loans o after local.Itself found is fresh = absurd fresh
 left_alone copies w t v loans o after local.Own found is fresh = absurd fresh
@@ -84,6 +87,7 @@ left_alone copies w t v loans o after (local.Text text) found is fresh = absurd 
 left_alone copies w t v loans o after (local.Shown text) found is fresh = absurd fresh
 left_alone copies w t v loans o after (local.Truth truth) found is fresh = absurd fresh
 left_alone copies w t v loans o after local.NotImplementedReply found is fresh = absurd fresh
+left_alone copies w t v loans o after local.Stop found is fresh = absurd fresh
 left_alone copies w t v loans o after (local.Numbers numbers) found is fresh = absurd fresh
 left_alone copies w t v loans o after (local.Refused f) found is fresh = absurd fresh
 
@@ -93,6 +97,7 @@ copy_asked copies w t v loans o after (local.Fresh snap) found is =
     let copied = fresh_copy copies w t v loans o after snap found is in
     subst (λ (x : World). IsCopyAt (slice_get x.exporters t.exporter) t.subject snap) (sym copied.0) (subst (λ (x : Option Exporter). IsCopyAt x t.subject snap) (sym found) copied.1)
 copy_asked copies w t v loans o after (local.View k) found is = tt
+copy_asked copies w t v loans o after (local.Iter k) found is = tt
 copy_asked copies w t v loans o after local.Ok found is = tt
 copy_asked copies w t v loans o after local.Itself found is = tt
 copy_asked copies w t v loans o after local.Own found is = tt
@@ -103,6 +108,7 @@ copy_asked copies w t v loans o after (local.Text text) found is = tt
 copy_asked copies w t v loans o after (local.Shown text) found is = tt
 copy_asked copies w t v loans o after (local.Truth truth) found is = tt
 copy_asked copies w t v loans o after local.NotImplementedReply found is = tt
+copy_asked copies w t v loans o after local.Stop found is = tt
 copy_asked copies w t v loans o after (local.Numbers numbers) found is = tt
 copy_asked copies w t v loans o after (local.Refused f) found is = tt
 

@@ -11,7 +11,7 @@ use Rattle.pybuf_command.specs.declared.commands.Verb.{Verb}
 use Rattle.pybuf_command.specs.Handles.{handles_of_options}
 use Rattle.pybuf_state.specs.Exporter.{Exporter, new_exporter}
 use Rattle.pybuf_state.specs.Fresh.{HoldsCopy}
-use Rattle.pybuf_state.specs.Keeps.{LengthsStay, ReadOnlyBytesStay, is_one_line}
+use Rattle.pybuf_state.specs.Keeps.{LengthsStay, ReadOnlyBytesStay, IteratorsStay, is_one_line}
 use Rattle.pybuf_world.specs.declared.named.Named.TheVariants as named
 use Rattle.pybuf_world.specs.declared.commands.Command.{Command}
 use Rattle.pybuf_world.specs.declared.commands.Command.TheVariants as command
@@ -45,6 +45,13 @@ WorldLengthsStay = (w : World) (c : Command) → IsSoundWorld w → EachExporter
 -- no command changes the bytes of an exporter that is only read
 abbrev pub WorldReadOnlyBytesStay : Type 0
 WorldReadOnlyBytesStay = (w : World) (c : Command) → IsSoundWorld w → EachExporterStays ReadOnlyBytesStay w (wstep w c).0
+
+-- each iterator keeps its number and what it goes over, and an exhausted one stays as it is
+abbrev pub KeepsIterators : Exporter → Exporter → Type 0
+KeepsIterators old new = IteratorsStay old.iterators new.iterators
+
+abbrev pub WorldIteratorsStay : Type 0
+WorldIteratorsStay = (w : World) (c : Command) → IsSoundWorld w → EachExporterStays KeepsIterators w (wstep w c).0
 
 -- a text that a command shows of its subject holds no line feed
 abbrev pub WorldShownTextsAreOneLine : Type 0

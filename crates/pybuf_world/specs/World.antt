@@ -1,4 +1,4 @@
--- Worlds: exporters, and the handles that name them and their views.
+-- Worlds: exporters, and the handles that name them, their views and their iterators.
 use Rattle.std.specs.Prelude.{ℕ, ◌+◌, ◌==◌, Bool, true, false, List, [], ◌∷◌, ◌++◌, length, map, set, slice_get, nat_lt, Option, Some, None, Result, Ok, Err, if◌then◌else◌}
 use Rattle.std.specs.List.{list_all, flat_map, position_or_len}
 use Rattle.pybuf_value.specs.declared.faults.Fault.{Fault}
@@ -40,19 +40,22 @@ empty_world = record { exporters = []; handles = [] }
 
 -- ---- what handles name
 
--- the exporter that is named, or of which a view is
+-- the exporter that is named, or of which a view or an iterator is
 abbrev pub exporter_of : Named → ℕ
 exporter_of (named.Exporter i) = i
 exporter_of (named.View i k) = i
+exporter_of (named.Iterator i k) = i
 
 -- and which of its subjects that is
 abbrev pub subject_of : Named → Subject
 subject_of (named.Exporter i) = subject.Own
 subject_of (named.View i k) = subject.View k
+subject_of (named.Iterator i k) = subject.Iter k
 
 abbrev pub is_name_of : ℕ → Named → Bool
 is_name_of i (named.Exporter j) = j == i
 is_name_of i (named.View j k) = false
+is_name_of i (named.Iterator j k) = false
 
 -- the handle of an exporter: the first that names it
 abbrev pub handle_of : World → ℕ → ℕ
@@ -121,8 +124,8 @@ loan_of_own subject.Own = loan.Own
 loan_of_own (subject.View k) = loan.View k
 loan_of_own (subject.Iter k) = loan.Iter k
 
--- What a handle is lent as to an exporter, by what it names: that exporter itself or a view of it, or
--- else another exporter or a view of one as it stands. Nothing is lent for a handle that was never given.
+-- What a handle is lent as to an exporter, by what it names: that exporter itself, a view of it or an iterator
+-- over one, or else another exporter or what is made of one as it stands. Nothing is lent for a handle that was never given.
 abbrev pub loan_of_name : World → ℕ → Option Named → Loan
 loan_of_name w i (Some n) =
     if exporter_of n == i then loan_of_own (subject_of n) else loan_of_other (slice_get w.exporters (exporter_of n)) (subject_of n)
@@ -158,17 +161,20 @@ abbrev pub reply_with_copy : Bool → ℕ → Reply
 reply_with_copy true next = reply.Pair next (next + 1)
 reply_with_copy false next = reply.Handle next
 
--- the handles after a reply: a new view is given the next, and so is a new exporter, and then its view
+-- the handles after a reply: a new view or iterator is given the next, and so is a new exporter, and then its
+-- view
 abbrev pub handles_after : World → Target → LocalReply → List Named
 handles_after w t (local.View k) = w.handles ++ named.View t.exporter k ∷ []
+handles_after w t (local.Iter k) = w.handles ++ named.Iterator t.exporter k ∷ []
 handles_after w t (local.Fresh snap) = handles_with_copy (has_view snap.kind) (length w.exporters) w.handles
 handles_after w t _ = w.handles
 
--- what is replied: a new view by its handle, a new exporter and its view, where it has one, by theirs,
+-- what is replied: a new view or iterator by its handle, a new exporter and its view, where it has one, by theirs,
 -- and the subject and its exporter by their own
 abbrev pub reply_after : World → Target → LocalReply → Reply
 reply_after w t local.Ok = reply.Ok
 reply_after w t (local.View k) = reply.Handle (length w.handles)
+reply_after w t (local.Iter k) = reply.Handle (length w.handles)
 reply_after w t local.Itself = reply.Handle t.handle
 reply_after w t local.Own = reply.Handle (handle_of w t.exporter)
 reply_after w t (local.Item x) = reply.Item x
@@ -179,6 +185,7 @@ reply_after w t (local.Shown text) = reply.Shown text
 reply_after w t (local.Truth truth) = reply.Truth truth
 reply_after w t local.NotImplementedReply = reply.NotImplementedReply
 reply_after w t (local.Numbers numbers) = reply.Numbers numbers
+reply_after w t local.Stop = reply.Stop
 reply_after w t (local.Fresh snap) = reply_with_copy (has_view snap.kind) (length w.handles)
 reply_after w t (local.Refused f) = reply.Refused f
 
@@ -237,6 +244,7 @@ released_in_exporter w i k None = Err fault.UnknownName
 abbrev pub released_by_name : World → Option Named → Result World Fault
 released_by_name w (Some (named.View i k)) = released_in_exporter w i k (slice_get w.exporters i)
 released_by_name w (Some (named.Exporter i)) = Err fault.UnknownName
+released_by_name w (Some (named.Iterator i k)) = Err fault.UnknownName
 released_by_name w None = Err fault.UnknownName
 
 -- the world with the view that a handle names released, where it names one

@@ -44,6 +44,8 @@ pub enum Reply {
     NotImplementedReply,
     /// Numbers, one for each dimension.
     Numbers(NumberList),
+    /// An iterator has no further item.
+    Stop,
     /// Refused: nothing was changed, and no handle was used up.
     Refused(Fault),
 }

@@ -1,6 +1,6 @@
 //! Laws over every command on a world, from the laws over every command on one exporter.
 ghost use Rattle.pybuf_rows_views.specs.Laws.{ReleasingTwiceIsOnce};
-ghost use Rattle.pybuf_world.specs.Laws.{RefusalsChangeNothing, HandlesStay, ReleasingByHandleTwiceIsOnce, WorldLengthsStay, WorldReadOnlyBytesStay, WorldShownTextsAreOneLine, CopiesAreExportersOfTheirOwn, UnviewedCopiesAreExportersOfTheirOwn, NewExportersStandBehind, UnknownSourcesAreRefused};
+ghost use Rattle.pybuf_world.specs.Laws.{RefusalsChangeNothing, HandlesStay, ReleasingByHandleTwiceIsOnce, WorldLengthsStay, WorldReadOnlyBytesStay, WorldIteratorsStay, WorldShownTextsAreOneLine, CopiesAreExportersOfTheirOwn, UnviewedCopiesAreExportersOfTheirOwn, NewExportersStandBehind, UnknownSourcesAreRefused};
 
 /// A refused command leaves the whole world as it was, so no handle is used up.
 pub fn refusals_change_nothing()
@@ -29,6 +29,14 @@ pub fn world_lengths_stay()
     ensures { WorldLengthsStay }
 {
     pybuf_exporter::lengths_stay();
+}
+
+/// Under every command each iterator keeps its number and what it goes over, and an exhausted one stays
+/// as it is.
+pub fn world_iterators_stay()
+    ensures { WorldIteratorsStay }
+{
+    pybuf_exporter::iterators_stay();
 }
 
 /// No command on a sound world changes the bytes of an exporter that is only read.

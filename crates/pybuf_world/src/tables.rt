@@ -105,7 +105,7 @@ fn loan_of_own(subject: Subject) -> Loan
     }
 }
 
-/// What an exporter lends of itself or of a view of it, whole.
+/// What an exporter lends of itself, of a view of it or of an iterator, whole.
 fn loan_of_bytes(alloc: Global, lender: &ExporterState, subject: Subject) -> Made<Loan>
     ensures value { IfOk result (λ loan. loan ≡ loan_of_snap (snap_of_subject lender.now subject)) }
     ensures fits { IfOk result (λ loan. fits loan ≡ true) }
@@ -124,7 +124,7 @@ fn loan_of_known(lender: &ExporterState, subject: Subject) -> Loan
     let is_there = match subject {
         Subject::Own => true,
         Subject::View(view) => view < lender.view_count(),
-        Subject::Iter(_) => false,
+        Subject::Iter(iterator) => iterator < lender.iter_count(),
     };
     if is_there { Loan::Known } else { Loan::Missing }
 }
@@ -460,8 +460,8 @@ impl Tables {
         self.add_exporter(made)
     }
 
-    /// What is replied to a target whose exporter has stepped: a new view is given a handle, and a new
-    /// exporter one for itself and one for its view, where it has one. Only where an exporter is made may
+    /// What is replied to a target whose exporter has stepped: a new view or iterator is given a handle,
+    /// and a new exporter one for itself and one for its view, where it has one. Only where an exporter is made may
     /// memory run out.
     fn answer(&mut self, target: Target, owner: u64, reply: LocalReply) -> Made<Reply>
         requires room { vec_len self.old.handles < vec_capacity self.old.handles }
@@ -481,6 +481,10 @@ impl Tables {
                 push_reserved(&mut self.handles, Named::View { exporter, view });
                 Ok(Reply::Handle(handle))
             }
+            LocalReply::Iter(iterator) => {
+                push_reserved(&mut self.handles, Named::Iterator { exporter, iterator });
+                Ok(Reply::Handle(handle))
+            }
             LocalReply::Itself => Ok(Reply::Handle(target.handle)),
             LocalReply::Own => Ok(Reply::Handle(owner)),
             LocalReply::Item(item) => Ok(Reply::Item(item)),
@@ -491,6 +495,7 @@ impl Tables {
             LocalReply::Truth(truth) => Ok(Reply::Truth(truth)),
             LocalReply::NotImplementedReply => Ok(Reply::NotImplementedReply),
             LocalReply::Numbers(numbers) => Ok(Reply::Numbers(numbers)),
+            LocalReply::Stop => Ok(Reply::Stop),
             LocalReply::Fresh(copy) => self.add_copy(exporter, target.subject, copy),
             LocalReply::Refused(fault) => Ok(Reply::Refused(fault)),
         }

@@ -24,4 +24,6 @@ returns c =
       compare = c.compare_is_safe.ensures;
       hash = c.hash_is_safe.ensures;
       repr = c.repr_is_safe.ensures;
+      iter = c.iter_is_safe.ensures;
+      iterators = c.iterators_are_safe.ensures;
     })

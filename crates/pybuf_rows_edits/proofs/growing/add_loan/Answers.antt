@@ -16,3 +16,9 @@ returns-in-Some-View-clause-answer c =
     let e = exporter_of c.args.parts.now in
     let is : option_copied c.args.loan ≡ some_loan (loan.View c.in-Some-View.view) = search rules in
     λ h. by_loan (added e) e h (option_copied c.args.loan) (loan.View c.in-Some-View.view) c.add_view.result e is (c.add_view.ensures h)
+
+pub returns-in-Some-Iter-clause-answer : goal.returns-in-Some-Iter-clause-answer
+returns-in-Some-Iter-clause-answer c =
+    let e = exporter_of c.args.parts.now in
+    let is : option_copied c.args.loan ≡ some_loan (loan.Iter c.in-Some-Iter.iterator) = search rules in
+    λ h. by_loan (added e) e h (option_copied c.args.loan) (loan.Iter c.in-Some-Iter.iterator) c.add_iterator.result e is (c.add_iterator.ensures h)

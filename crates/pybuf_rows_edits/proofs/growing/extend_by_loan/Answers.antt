@@ -22,3 +22,9 @@ returns-in-Some-Other-clause-answer c =
     let e = exporter_of c.args.parts.now in
     let is : option_copied c.args.loan ≡ some_loan (loan.Other c.in-Some-Other.snap) = search rules in
     λ h. by_loan (extended_or_doubled e) e h (option_copied c.args.loan) (loan.Other c.in-Some-Other.snap) c.extend_by_other.result (exporter_of c.extend_by_other.new.parts) is (c.extend_by_other.ensures.answer h)
+
+pub returns-in-Some-Iter-clause-answer : goal.returns-in-Some-Iter-clause-answer
+returns-in-Some-Iter-clause-answer c =
+    let e = exporter_of c.args.parts.now in
+    let is : option_copied c.args.loan ≡ some_loan (loan.Iter c.in-Some-Iter.iterator) = search rules in
+    λ h. by_loan (extended_or_doubled e) e h (option_copied c.args.loan) (loan.Iter c.in-Some-Iter.iterator) c.extend_by_iterator.result e is (c.extend_by_iterator.ensures h)

@@ -14,3 +14,8 @@ pub returns-in-View-clause-fits : goal.returns-in-View-clause-fits
 returns-in-View-clause-fits c =
     fits_so c.snap_of_given.result _ c.snap_of_given.ensures
     (subject_fits c.contents_are_whole.ensures (exporter_of c.args.parts.now) (subjects.View c.in-View.view) c.requires.sound)
+
+pub returns-in-Iter-clause-fits : goal.returns-in-Iter-clause-fits
+returns-in-Iter-clause-fits c =
+    fits_so c.snap_of_iterator.result _ c.snap_of_iterator.ensures
+    (subject_fits c.contents_are_whole.ensures (exporter_of c.args.parts.now) (subjects.Iter c.in-Iter.iterator) c.requires.sound)

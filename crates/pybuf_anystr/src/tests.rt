@@ -1,0 +1,120 @@
+//! Strings of any kind, with ample memory. What is wanted is what Python's `bytes` answers.
+use super::*;
+use pybuf_bytes::{PyBytesInner, SplitArgs, SplitLinesArgs};
+use pybuf_search::begins_with;
+use pybuf_value::{ByteList, ByteLists, Fault, Outcome, Scalar, SnapList, Tried, Value};
+use std::alloc::Global;
+use std::test::Fail;
+
+/// A string that grows, made of two pieces.
+fn grown<C: AnyStrContainer + Drop>(alloc: Global, first: &[u8], second: &[u8]) -> Result<C, Fail> {
+    let mut string = C::with_capacity(alloc, 4)?;
+    string.push_str(first)?;
+    string.push_str(second)?;
+    Ok(string)
+}
+
+/// The number of bytes and of characters of a string, and whether it is a text.
+fn counted<S: AnyStr>(alloc: Global, string: &S) -> Result<(usize, usize, bool), Fail> {
+    let characters = match string.chars(alloc)? {
+        Outcome::Done(characters) => characters.len(),
+        Outcome::Refused(_) => 0,
+    };
+    let text = string.as_utf8_str(alloc)?;
+    Ok((
+        string.bytes_len(),
+        characters,
+        matches!(text, Outcome::Done(_)),
+    ))
+}
+
+#[test]
+fn strings_grow(rt: HostRuntime) -> Result<(), Fail> {
+    let string: Bytes = grown(rt.alloc(), b"a\xc3", b"\xa9")?;
+    assert!(rt; counted(rt.alloc(), &string)? == (3, 2, true));
+    let string: Bytes = grown(rt.alloc(), b"a\xc3", b"")?;
+    assert!(rt; counted(rt.alloc(), &string)? == (2, 0, false));
+    assert!(rt; string.to_container(rt.alloc())?.elements() == b"a\xc3".as_slice());
+    assert!(rt; Bytes::new(rt.alloc()).is_empty());
+    Ok(())
+}
+
+fn bytes(alloc: Global, bytes: &[u8]) -> Result<Bytes, Fail> {
+    Ok(Bytes::from(Vec::from_slice(alloc, bytes)?))
+}
+
+fn inner(alloc: Global, bytes: &[u8]) -> Result<PyBytesInner, Fail> {
+    Ok(PyBytesInner::from(Vec::from_slice(alloc, bytes)?))
+}
+
+#[test]
+fn strings_are_searched(rt: HostRuntime) -> Result<(), Fail> {
+    let string = bytes(rt.alloc(), b" abab ")?;
+    assert!(rt; string.py_find(b"b", 3..6) == Some(4));
+    assert!(rt; string.py_count(b"ab", 0..6) == 2);
+    assert!(rt; string.py_strip(None) == b"abab".as_slice());
+    let end = inner(rt.alloc(), b"b ")?;
+    assert!(rt; string.py_removesuffix(&end) == b" aba".as_slice());
+    assert!(rt; string.py_removeprefix(&end) == b" abab ".as_slice());
+    assert!(rt; string.get_bytes(1..3) == b"ab".as_slice());
+    Ok(())
+}
+
+/// The number of parts, in which a refusal counts as none.
+fn number(parts: &Outcome<ByteLists>) -> usize {
+    match parts {
+        Outcome::Done(parts) => parts.len(),
+        Outcome::Refused(_) => 0,
+    }
+}
+
+#[test]
+fn strings_are_cut(rt: HostRuntime) -> Result<(), Fail> {
+    let string = bytes(rt.alloc(), b" a b\nc ")?;
+    assert!(rt; string.py_split_whitespace(rt.alloc(), 1)?.len() == 2);
+    assert!(rt; string.py_rsplit_whitespace(rt.alloc(), -1)?.len() == 3);
+    let options = SplitArgs {
+        sep: Some(inner(rt.alloc(), b" ")?),
+        maxsplit: 2,
+    };
+    assert!(rt; number(&string.py_split(rt.alloc(), options)?) == 3);
+    let options = SplitLinesArgs { keepends: true };
+    assert!(rt; string.py_bytes_splitlines(rt.alloc(), options)?.len() == 2);
+    let parts = string.py_partition(rt.alloc(), &inner(rt.alloc(), b"z")?)?;
+    assert!(rt; matches!(parts, Outcome::Done((_, false, _))));
+    Ok(())
+}
+
+/// Whether the string begins with a value.
+fn begins(alloc: Global, string: &Bytes, affix: &Value) -> Tried<bool> {
+    string.py_startsendswith(
+        alloc,
+        affix,
+        &|bytes: &[u8], prefix: &[u8]| begins_with(bytes, prefix),
+        &SnapList::new(alloc),
+    )
+}
+
+#[test]
+fn strings_are_put_together(rt: HostRuntime) -> Result<(), Fail> {
+    let string = bytes(rt.alloc(), b"ab")?;
+    let whole = string.py_add(rt.alloc(), b"c")?;
+    assert!(rt; matches!(whole, Outcome::Done(made) if made.as_slice() == b"abc".as_slice()));
+    let whole = string.py_join(rt.alloc(), &ByteLists::new(rt.alloc()))?;
+    assert!(rt; matches!(whole, Outcome::Done(made) if made.is_empty()));
+    let affix = Scalar::Bytes(ByteList::from_vec(Vec::from_slice(rt.alloc(), b"a")?));
+    assert!(rt;
+        matches!(
+            begins(rt.alloc(), &string, &Value::One(affix))?,
+            Outcome::Done(true)
+        )
+    );
+    let number = Value::One(Scalar::Int(97));
+    assert!(rt;
+        matches!(
+            begins(rt.alloc(), &string, &number)?,
+            Outcome::Refused(Fault::Kind)
+        )
+    );
+    Ok(())
+}

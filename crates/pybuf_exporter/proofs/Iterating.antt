@@ -1,0 +1,91 @@
+-- An iterator over bytes gives each of them once, and then it stops for ever.
+use Rattle.std.proofs.Common.{◌≡◌, ℕ, zero, suc, ◌+◌, ◌-◌, ◌<◌, ◌≤◌, List, [], ◌∷◌, ◌++◌, length, take, drop, map, Bool, true, false, ap, ap₂, sym, ◌∙◌, refl, subst, arith, take-append-drop, append_assoc}
+use Rattle.std.specs.Prelude.{set, replicate, Option, Some, None, Ok, slice_get}
+use Rattle.std.specs.Option.{ok_or, option_map}
+use Rattle.std.proofs.lemmas.Grind.{common_steps}
+use Rattle.pybuf_value.specs.declared.faults.Fault.TheVariants as fault
+use Rattle.pybuf_value.specs.declared.values.Item.{Item}
+use Rattle.pybuf_value.specs.Refusing.{◌>>=◌}
+use Rattle.pybuf_command.specs.declared.kinds.Subject.{Subject}
+use Rattle.pybuf_command.specs.declared.kinds.Subject.TheVariants as subject
+use Rattle.pybuf_command.specs.declared.commands.Verb.TheVariants as verb
+use Rattle.pybuf_command.specs.declared.commands.LocalReply.{LocalReply}
+use Rattle.pybuf_command.specs.declared.commands.LocalReply.TheVariants as reply
+use Rattle.pybuf_memoryview.specs.Items.{byte_item}
+use Rattle.pybuf_state.specs.Exporter.{Exporter, Iterator, iterator_put}
+use Rattle.pybuf_rows_iters.specs.Iterators.{item_over, moved_on, next_unless}
+use Rattle.pybuf_exporter.specs.Step.{settled_answer, estep}
+use Rattle.pybuf_exporter.specs.Laws.{nexts, IteratorsGiveTheBytes}
+
+-- ---- lists
+
+get-middle : {X : Type 0} (before : List X) (x : X) (after : List X) → slice_get (before ++ x ∷ after) (length before) ≡ Some x
+get-middle [] x after = refl
+get-middle (y ∷ before) x after = get-middle before x after
+
+get-past : {X : Type 0} (xs : List X) → slice_get xs (length xs) ≡ None
+get-past [] = refl
+get-past (x ∷ xs) = get-past xs
+
+get-set : {X : Type 0} (xs : List X) (k : ℕ) (x y : X) → slice_get xs k ≡ Some x → slice_get (set xs k y) k ≡ Some y
+get-set [] k x y given = absurd (cc)
+get-set (z ∷ xs) zero x y given = refl
+get-set (z ∷ xs) (suc k) x y given = get-set xs k x y given
+
+-- ---- one `next`
+
+abbrev after_next : Exporter → ℕ → Exporter × LocalReply
+after_next e k = estep e (subject.Iter k) verb.Next []
+
+abbrev by_iterator : Exporter → ℕ → Option Iterator → Exporter × LocalReply
+by_iterator e k o = settled_answer e (ok_or o fault.UnknownName >>= λ it. next_unless it.exhausted e k it)
+
+next_exhausted : (e : Exporter) (k : ℕ) (it : Iterator) → slice_get e.iterators k ≡ Some it → it.exhausted ≡ true → after_next e k ≡ (e, reply.Stop)
+next_exhausted e k it given is = ap (by_iterator e k) given ∙ ap (λ (b : Bool). settled_answer e (next_unless b e k it)) is
+
+next_over_bytes : (e : Exporter) (k : ℕ) (it : Iterator) (x : Option Item) → slice_get e.iterators k ≡ Some it → it.subject ≡ subject.Own → it.exhausted ≡ false → option_map byte_item (slice_get e.bytes it.position) ≡ x
+    → after_next e k ≡ moved_on e k it x
+next_over_bytes e k it x given own goes found =
+    ap (by_iterator e k) given ∙ ap (λ (b : Bool). settled_answer e (next_unless b e k it)) goes
+    ∙ ap (λ (s : Subject). settled_answer e (item_over e s it.position >>= λ y. Ok (moved_on e k it y))) own
+    ∙ ap (moved_on e k it) found
+
+-- ---- and so on
+
+stops : (more : ℕ) (e : Exporter) (k : ℕ) (it : Iterator) → slice_get e.iterators k ≡ Some it → it.exhausted ≡ true → nexts e k more ≡ replicate more reply.Stop
+stops zero e k it given is = refl
+stops (suc more) e k it given is =
+    ap (λ (after : Exporter × LocalReply). after.1 ∷ nexts after.0 k more) (next_exhausted e k it given is)
+    ∙ ap (λ (rest : List LocalReply). reply.Stop ∷ rest) (stops more e k it given is)
+
+ends : (more : ℕ) (e : Exporter) (k : ℕ) (it : Iterator) → slice_get e.iterators k ≡ Some it → it.subject ≡ subject.Own → it.exhausted ≡ false → it.position ≡ length e.bytes → nexts e k more ≡ replicate more reply.Stop
+ends zero e k it given own goes at_end = refl
+ends (suc more) e k it given own goes at_end =
+    let ended : Iterator = record it { exhausted = true } in
+    ap (λ (after : Exporter × LocalReply). after.1 ∷ nexts after.0 k more)
+    (next_over_bytes e k it None given own goes (ap (λ (n : ℕ). option_map byte_item (slice_get e.bytes n)) at_end ∙ ap (option_map byte_item) (get-past e.bytes)))
+    ∙ ap (λ (rest : List LocalReply). reply.Stop ∷ rest) (stops more (iterator_put e k ended) k ended (get-set e.iterators k it ended given) refl)
+
+abbrev item_reply : ℕ → LocalReply
+item_reply b = reply.Item (byte_item b)
+
+gives : (rest before : List ℕ) (e : Exporter) (k : ℕ) (it : Iterator) (more n : ℕ) → n ≡ length rest + more → e.bytes ≡ before ++ rest → it.position ≡ length before → slice_get e.iterators k ≡ Some it → it.subject ≡ subject.Own
+    → it.exhausted ≡ false → nexts e k n ≡ map item_reply rest ++ replicate more reply.Stop
+gives [] before e k it more n count bytes at given own goes =
+    let same : n ≡ more = omega (arith, count) in
+    ap (nexts e k) same ∙ ends more e k it given own goes (at ∙ sym (ap (λ (xs : List ℕ). length xs) bytes ∙ grind (arith, common_steps)))
+gives (b ∷ rest) before e k it more n count bytes at given own goes =
+    let moved : Iterator = record it { position = it.position + 1 } in
+    let left : ℕ = length rest + more in
+    let one_more : n ≡ suc left = omega (arith, count) in
+    let found : slice_get e.bytes it.position ≡ Some b = ap₂ (λ (xs : List ℕ) (m : ℕ). slice_get xs m) bytes at ∙ get-middle before b rest in
+    ap (nexts e k) one_more
+    ∙ ap (λ (after : Exporter × LocalReply). after.1 ∷ nexts after.0 k left) (next_over_bytes e k it (Some (byte_item b)) given own goes (ap (option_map byte_item) found))
+    ∙ ap (λ (replies : List LocalReply). item_reply b ∷ replies)
+    (gives rest (before ++ b ∷ []) (iterator_put e k moved) k moved more left refl (bytes ∙ sym (append_assoc before (b ∷ []) rest)) (grind (arith, common_steps, at)) (get-set e.iterators k it moved given) own goes)
+
+pub gives_the_bytes : IteratorsGiveTheBytes
+gives_the_bytes e k it more given own goes inside =
+    let counted : length e.bytes - it.position + more ≡ length (drop it.position e.bytes) + more = grind (arith, common_steps) in
+    let placed : it.position ≡ length (take it.position e.bytes) = grind (arith, common_steps, inside) in
+    gives (drop it.position e.bytes) (take it.position e.bytes) e k it more (length e.bytes - it.position + more) counted (sym (take-append-drop it.position e.bytes)) placed given own goes

@@ -1,0 +1,58 @@
+//! The iterator of a memoryview.
+ghost use Rattle.std.specs.Prelude.{◌≡◌, [], IfOk, OnErr};
+ghost use Rattle.pybuf_command.specs.declared.kinds.Subject.TheVariants as subjects;
+ghost use Rattle.pybuf_command.specs.declared.commands.Verb.TheVariants as verbs;
+ghost use Rattle.pybuf_exporter.specs.Step.{estep};
+
+use crate::stepping::step_without_loans;
+use pybuf_command::{LocalReply, Subject, Verb};
+use pybuf_exporter::ExporterState;
+use pybuf_value::Made;
+use std::alloc::Global;
+use std::marker::Model;
+
+/// Python's iterator over a memoryview. It names an iterator by its number in one exporter, and keeps nothing else.
+#[derive(Clone, Copy, Debug)]
+pub struct PyMemoryViewIterator {
+    number: usize,
+}
+
+impl Model for PyMemoryViewIterator {
+    ghost use Rattle.std.specs.Prelude.{ℕ};
+
+    ghost Value = { ℕ };
+
+    ghost view = { λ iterator. iterator.number };
+
+    ghost inverse = { λ n. record { number = n } };
+}
+
+impl PyMemoryViewIterator {
+    /// The iterator of this number, counted from 0 in the order in which they were made. Takes no
+    /// memory.
+    pub fn of(iterator: usize) -> PyMemoryViewIterator
+        ensures { result ≡ iterator }
+    {
+        PyMemoryViewIterator { number: iterator }
+    }
+
+    /// The number of the iterator that it names. Takes no memory.
+    pub fn number(&self) -> usize
+        ensures { result ≡ self.now }
+    {
+        self.number
+    }
+
+    /// The next item, or `Stop` where there is none, from when on there is none for ever, as Python's
+    /// `next(iterator)` (Library reference, "Iterator Types").
+    ///
+    /// Refused with `UnknownName` where no iterator of this number was given; unless it is exhausted,
+    /// with `ValueError` where its view was released, and with `NotImplementedError` where that hasn't
+    /// one dimension and an entry is left. A refusal leaves it where it is.
+    pub fn next(&self, alloc: Global, state: &mut ExporterState) -> Made<LocalReply>
+        ensures ok { IfOk result (λ r. estep state.old (subjects.Iter self.now) verbs.Next [] ≡ (state.new, r)) }
+        ensures err { OnErr result (state.new ≡ state.old) }
+    {
+        step_without_loans(alloc, state, Subject::Iter(self.number), Verb::Next)
+    }
+}

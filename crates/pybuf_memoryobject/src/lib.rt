@@ -1,0 +1,20 @@
+//! Python's `memoryview` as a value, with a method for each command that it has, its iterator, and vectors
+//! that lend their bytes.
+#![tactic(auto)]
+
+mod iterator;
+mod memory_view;
+mod stepping;
+mod vec_buffer;
+mod view_methods;
+mod views;
+
+pub use iterator::PyMemoryViewIterator;
+pub use memory_view::PyMemoryView;
+pub use stepping::{step_of, step_without_loans};
+pub use vec_buffer::VecBuffer;
+
+#[cfg(test)]
+mod method_tests;
+#[cfg(test)]
+mod view_tests;

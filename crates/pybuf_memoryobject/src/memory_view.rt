@@ -1,0 +1,164 @@
+//! A memoryview that an exporter keeps.
+ghost use Rattle.std.specs.Prelude.{◌≡◌, ◌<◌, true, length, Ok, IfOk, OnErr};
+ghost use Rattle.pybuf_command.specs.declared.commands.LocalReply.TheVariants as replies;
+ghost use Rattle.pybuf_memoryview.specs.Snaps.{snap_of_copy};
+ghost use Rattle.pybuf_state.specs.Exporter.{with_view, released_in};
+ghost use Rattle.pybuf_state.specs.Fresh.{vector_of};
+ghost use Rattle.pybuf_state.specs.Live.{is_live, layout_of};
+ghost use Rattle.pybuf_buffer.specs.Blocks.{LiesInFirst};
+ghost use Rattle.pybuf_memoryobject.specs.Blocks.{blocks_of};
+
+use crate::views::add_blocks;
+use pybuf_buffer::PyBuffer;
+use pybuf_command::{LoanList, LocalReply, Subject, Verb};
+use pybuf_exporter::ExporterState;
+use pybuf_value::{Made, Outcome, Snap, Tried};
+use std::alloc::Global;
+use std::marker::Model;
+use std::ops::Range;
+
+/// A memoryview, as Python's `memoryview` (Library reference, "Memory Views"): the number of a view of an
+/// exporter. Each call takes the exporter that gave it.
+///
+/// A method that takes loans is one command on the view, and answers its reply. What is refused is replied as
+/// `LocalReply::Refused`, and changes nothing. Before all that a method names, a view that was never given and a
+/// handle among the values that the loans don't name are refused with `UnknownName`, and then a released view
+/// with `ValueError`, but by `exit`. Where memory runs out, nothing is changed. The loans have to fit, as
+/// `LoanList::fit` tells.
+#[derive(Debug, Drop)]
+pub struct PyMemoryView {
+    view: usize,
+}
+
+impl Model for PyMemoryView {
+    ghost use Rattle.std.specs.Prelude.{ℕ};
+
+    ghost Value = { ℕ };
+
+    ghost view = { λ m. m.view };
+}
+
+/// The copy of an unreleased view, one item after the other.
+fn copy_of(alloc: Global, state: &ExporterState, view: usize) -> Made<Snap>
+    requires { is_live state.now view ≡ true }
+    ensures { IfOk result (λ copy. copy ≡ snap_of_copy state.now.bytes (layout_of state.now view)) }
+{
+    match state.snap(alloc, Subject::View(view))? {
+        Some(mut snap) => {
+            snap.contiguous = true;
+            Ok(snap)
+        }
+        None => unreachable!(),
+    }
+}
+
+impl PyMemoryView {
+    ghost use Rattle.pybuf_memoryobject.specs.Viewing.{IsViewOf};
+
+    /// The memoryview of the view of this number. It changes no count, and takes no memory.
+    pub fn of(view: usize) -> PyMemoryView
+        ensures { result ≡ view }
+    {
+        PyMemoryView { view }
+    }
+
+    /// The number of its view. Takes no memory.
+    pub fn number(&self) -> usize
+        ensures { result ≡ self.now }
+    {
+        self.view
+    }
+
+    /// A memoryview of an exporter, over all its bytes, or of a view, over the same items: one more
+    /// view, as Python's reference has it under "Memory Views", `memoryview(object)`.
+    ///
+    /// Refused with `UnknownName` exactly where the view was never given, and for an iterator, and
+    /// with `ValueError` exactly where the view was released. Where it is refused, or memory runs
+    /// out, the exporter is as before.
+    pub fn from_object(
+        alloc: Global,
+        state: &mut ExporterState,
+        subject: Subject,
+    ) -> Tried<PyMemoryView>
+        ensures ok { IfOk result (λ made. IsViewOf state.old subject state.new made) }
+        ensures err { OnErr result (state.new ≡ state.old) }
+    {
+        let loans = LoanList::new(alloc);
+        match state.carry_out(subject, &Verb::View, &loans)? {
+            LocalReply::View(view) => Ok(Outcome::Done(PyMemoryView { view })),
+            LocalReply::Refused(fault) => Ok(Outcome::Refused(fault)),
+            _ => unreachable!(),
+        }
+    }
+
+    /// A memoryview of the items of a buffer: one more view, which is counted and released by itself.
+    /// Where memory runs out, the exporter is as before.
+    pub fn from_buffer(
+        alloc: Global,
+        state: &mut ExporterState,
+        buffer: &PyBuffer,
+    ) -> Made<PyMemoryView>
+        requires { is_live state.old buffer.now ≡ true }
+        ensures ok { IfOk result (λ made. with_view state.old (layout_of state.old buffer.now) ≡ (state.new, replies.View made)) }
+        ensures err { OnErr result (state.new ≡ state.old) }
+    {
+        let kept = buffer.retain(alloc, state)?;
+        Ok(PyMemoryView::of(kept.number()))
+    }
+
+    /// A memoryview of the entries of a buffer's first dimension from one up to another: one more view,
+    /// as a slice of a memoryview is in Python. Where memory runs out, the exporter is as before.
+    pub fn from_buffer_range(
+        alloc: Global,
+        state: &mut ExporterState,
+        buffer: &PyBuffer,
+        range: Range<usize>,
+    ) -> Made<PyMemoryView>
+        requires live { is_live state.old buffer.now ≡ true }
+        requires range { LiesInFirst range (layout_of state.old buffer.now).shape }
+        ensures ok { IfOk result (λ made. with_view state.old (blocks_of (layout_of state.old buffer.now) range) ≡ (state.new, replies.View made)) }
+        ensures err { OnErr result (state.new ≡ state.old) }
+    {
+        let view = add_blocks(alloc, state, buffer.number(), range)?;
+        Ok(PyMemoryView { view })
+    }
+
+    /// One more memoryview of the same items, which is counted and released by itself. Where memory
+    /// runs out, the exporter is as before.
+    pub fn new_view(&self, alloc: Global, state: &mut ExporterState) -> Made<PyMemoryView>
+        requires { is_live state.old self.now ≡ true }
+        ensures ok { IfOk result (λ made. with_view state.old (layout_of state.old self.now) ≡ (state.new, replies.View made)) }
+        ensures err { OnErr result (state.new ≡ state.old) }
+    {
+        let kept = PyBuffer::of(self.view).retain(alloc, state)?;
+        Ok(PyMemoryView::of(kept.number()))
+    }
+
+    /// A new vector of the bytes of the items, in order, and the buffer of all of it, with items of the
+    /// same format in the same shape, which lie one after the other. It can be read alone where this
+    /// view can.
+    pub fn to_contiguous(
+        &self,
+        alloc: Global,
+        state: &ExporterState,
+    ) -> Made<(ExporterState, PyBuffer)>
+        requires { is_live state.now self.now ≡ true }
+        ensures state { IfOk result (λ made. made.0 ≡ vector_of (layout_of state.now self.now).readonly (snap_of_copy state.now.bytes (layout_of state.now self.now))) }
+        ensures buffer { IfOk result (λ made. made.1 ≡ 0) }
+    {
+        let copy = copy_of(alloc, state, self.view)?;
+        let made = state.exporter_of_copy(alloc, Subject::View(self.view), copy)?;
+        Ok((made, PyBuffer::of(0)))
+    }
+
+    /// Releases the view. Releasing it again changes nothing. Takes no memory.
+    pub fn release(&self, state: &mut ExporterState)
+        requires { self.now < length state.old.views }
+        ensures { released_in state.old self.now ≡ Ok state.new }
+    {
+        match state.release_view(self.view) {
+            Ok(()) => {}
+            Err(_) => unreachable!(),
+        }
+    }
+}

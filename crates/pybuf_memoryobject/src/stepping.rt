@@ -1,0 +1,40 @@
+//! One command on an exporter, whose verb and loans are handed over.
+ghost use Rattle.std.specs.Prelude.{◌≡◌, [], IfOk, OnErr};
+ghost use Rattle.pybuf_command.specs.Fits.{LoansFit};
+ghost use Rattle.pybuf_exporter.specs.Step.{estep};
+
+use pybuf_command::{LoanList, LocalReply, Subject, Verb};
+use pybuf_exporter::ExporterState;
+use pybuf_value::Made;
+use std::alloc::Global;
+
+/// One command on an exporter, whose verb and loans are handed over. Every method of an object that takes
+/// loans is this, with its own verb.
+pub fn step_of(
+    state: &mut ExporterState,
+    subject: Subject,
+    verb: Verb,
+    loans: LoanList,
+) -> Made<LocalReply>
+    requires { LoansFit loans }
+    ensures ok { IfOk result (λ r. estep state.old subject verb loans ≡ (state.new, r)) }
+    ensures err { OnErr result (state.new ≡ state.old) }
+{
+    let answer = state.carry_out(subject, &verb, &loans);
+    // Handed over here: a verb that ends with its scope would spell out all its variants.
+    drop(verb);
+    answer
+}
+
+/// The same of a verb without values, to which nothing is lent.
+pub fn step_without_loans(
+    alloc: Global,
+    state: &mut ExporterState,
+    subject: Subject,
+    verb: Verb,
+) -> Made<LocalReply>
+    ensures ok { IfOk result (λ r. estep state.old subject verb [] ≡ (state.new, r)) }
+    ensures err { OnErr result (state.new ≡ state.old) }
+{
+    step_of(state, subject, verb, LoanList::new(alloc))
+}

@@ -1,0 +1,456 @@
+//! The commands on a memoryview, as methods of it.
+ghost use Rattle.std.specs.Prelude.{◌≡◌, IfOk, OnErr};
+ghost use Rattle.pybuf_command.specs.Fits.{LoansFit};
+ghost use Rattle.pybuf_command.specs.declared.kinds.Subject.TheVariants as subjects;
+ghost use Rattle.pybuf_command.specs.declared.commands.PropertyName.TheVariants as names;
+ghost use Rattle.pybuf_command.specs.declared.commands.Verb.TheVariants as verbs;
+ghost use Rattle.pybuf_exporter.specs.Step.{estep};
+
+use crate::memory_view::PyMemoryView;
+use crate::stepping::step_of;
+use pybuf_command::{LoanList, LocalReply, PropertyName, Subject, Verb};
+use pybuf_exporter::ExporterState;
+use pybuf_value::{CompareOp, Made, Value};
+
+impl PyMemoryView {
+    /// One more view of the same items, as Python's `memoryview(view)` (Library reference, "Memory
+    /// Views"): the reply is its number.
+    pub fn as_buffer(&self, state: &mut ExporterState, loans: LoanList) -> Made<LocalReply>
+        requires { LoansFit loans }
+        ensures ok { IfOk result (λ r. estep state.old (subjects.View self.now) verbs.View loans ≡ (state.new, r)) }
+        ensures err { OnErr result (state.new ≡ state.old) }
+    {
+        step_of(state, Subject::View(self.number()), Verb::View, loans)
+    }
+
+    /// The item at a key, or one more view of the items that a slice picks, as Python's `view[key]`
+    /// (Library reference, "Memory Views"). An index is a key where there is one dimension, and a tuple
+    /// of one index for each dimension anywhere. Without dimensions `()` names the item, and `...` the
+    /// view itself.
+    ///
+    /// Refused, where there is a dimension, with `IndexError` where a number of the key doesn't fit
+    /// `isize`, with `NotImplementedError` for a tuple of slices, and with `TypeError` for what is no
+    /// key; for an index with `NotImplementedError` where there are several dimensions, and then with
+    /// `IndexError` out of range; for a slice with `TypeError` where its step is neither a number nor
+    /// `None`, with `ValueError` for a step of 0, and with `TypeError` for another part; for a tuple
+    /// with `NotImplementedError` where it has too few indices, with `TypeError` where it has too many,
+    /// and then with `IndexError` out of range. Without dimensions every other key is refused with
+    /// `TypeError`.
+    pub fn getitem(
+        &self,
+        state: &mut ExporterState,
+        key: Value,
+        loans: LoanList,
+    ) -> Made<LocalReply>
+        requires { LoansFit loans }
+        ensures ok { IfOk result (λ r. estep state.old (subjects.View self.now) (verbs.Get key) loans ≡ (state.new, r)) }
+        ensures err { OnErr result (state.new ≡ state.old) }
+    {
+        step_of(
+            state,
+            Subject::View(self.number()),
+            Verb::Get { key },
+            loans,
+        )
+    }
+
+    /// Writes the item at a key, or items over those that a slice picks, as Python's `view[key] =
+    /// value` (Library reference, "Memory Views"). All views of these bytes see it.
+    ///
+    /// Refused with `TypeError` where the view may only be read, and for `None`; then as `getitem`
+    /// refuses the key; then with `TypeError` where the format of the items doesn't take the value. For
+    /// a slice: with `NotImplementedError` where there isn't one dimension, with `TypeError` for a
+    /// source that is neither bytes nor a handle of them, and with `ValueError` for a released source
+    /// and for one of another format, size of an item or shape.
+    pub fn setitem(
+        &self,
+        state: &mut ExporterState,
+        key: Value,
+        value: Value,
+        loans: LoanList,
+    ) -> Made<LocalReply>
+        requires { LoansFit loans }
+        ensures ok { IfOk result (λ r. estep state.old (subjects.View self.now) (verbs.Set key value) loans ≡ (state.new, r)) }
+        ensures err { OnErr result (state.new ≡ state.old) }
+    {
+        step_of(
+            state,
+            Subject::View(self.number()),
+            Verb::Set { key, value },
+            loans,
+        )
+    }
+
+    /// Whether the view is equal to another value, as Python's `view == other` and `view != other` (Library
+    /// reference, "Memory Views"): to a view with as many dimensions, shapes that agree and equal items,
+    /// each read by its own format. Bytes and exporters count as one dimension of the format `B`. A
+    /// released view is equal to itself alone.
+    ///
+    /// Refused with `TypeError` for an order: views have none.
+    pub fn cmp(
+        &self,
+        state: &mut ExporterState,
+        op: CompareOp,
+        other: Value,
+        loans: LoanList,
+    ) -> Made<LocalReply>
+        requires { LoansFit loans }
+        ensures ok { IfOk result (λ r. estep state.old (subjects.View self.now) (verbs.Compare op other) loans ≡ (state.new, r)) }
+        ensures err { OnErr result (state.new ≡ state.old) }
+    {
+        step_of(
+            state,
+            Subject::View(self.number()),
+            Verb::Compare { op, other },
+            loans,
+        )
+    }
+
+    /// The bytes that are fed to a hasher, as in Python's `hash(view)` (Library reference, "Memory Views"):
+    /// those of the items, in order, whatever their format.
+    ///
+    /// Refused with `ValueError` where the view was released, or may be written.
+    pub fn hash(&self, state: &mut ExporterState, loans: LoanList) -> Made<LocalReply>
+        requires { LoansFit loans }
+        ensures ok { IfOk result (λ r. estep state.old (subjects.View self.now) verbs.Hash loans ≡ (state.new, r)) }
+        ensures err { OnErr result (state.new ≡ state.old) }
+    {
+        step_of(state, Subject::View(self.number()), Verb::Hash, loans)
+    }
+
+    /// The text that the view is shown as: `<memory K>` with its number among the views of its exporter,
+    /// or `<released memory K>`. Python's `repr(view)` has an address there (Library reference, "Memory
+    /// Views").
+    pub fn repr_str(&self, state: &mut ExporterState, loans: LoanList) -> Made<LocalReply>
+        requires { LoansFit loans }
+        ensures ok { IfOk result (λ r. estep state.old (subjects.View self.now) verbs.Repr loans ≡ (state.new, r)) }
+        ensures err { OnErr result (state.new ≡ state.old) }
+    {
+        step_of(state, Subject::View(self.number()), Verb::Repr, loans)
+    }
+
+    /// Refused with `TypeError` always: no item of a view can be taken out, as Python's `del view[key]`
+    /// can't (Library reference, "Memory Views").
+    pub fn delitem(
+        &self,
+        state: &mut ExporterState,
+        key: Value,
+        loans: LoanList,
+    ) -> Made<LocalReply>
+        requires { LoansFit loans }
+        ensures ok { IfOk result (λ r. estep state.old (subjects.View self.now) (verbs.Del key) loans ≡ (state.new, r)) }
+        ensures err { OnErr result (state.new ≡ state.old) }
+    {
+        step_of(
+            state,
+            Subject::View(self.number()),
+            Verb::Del { key },
+            loans,
+        )
+    }
+
+    /// One more view of the same bytes, with items of another format, in one dimension or in those of a
+    /// shape, as Python's `view.cast(format, shape)` (Library reference, "Memory Views"): the reply is
+    /// its number.
+    ///
+    /// Refused with `TypeError` where the items don't lie one after the other, where the format is no
+    /// text, where the shape is neither a tuple nor a list, where there is no byte and a shape or
+    /// another number of dimensions than one, and where neither side has one dimension; with
+    /// `ValueError` for more than 64 dimensions; with `StructError` for a text outside the grammar of
+    /// formats; with `TypeError` for a format of size 0, and for bytes that aren't a whole number of
+    /// items, or not one item for an empty shape. Of the numbers of the shape, in order, with
+    /// `TypeError` for what is no number, with `OverflowError` for one that doesn't fit `isize`, with
+    /// `ValueError` for one below 1, and for one with which the bytes would pass `isize::MAX`; and at
+    /// last with `TypeError` where the items of the shape haven't as many bytes as the view.
+    pub fn cast(
+        &self,
+        state: &mut ExporterState,
+        format: Value,
+        shape: Option<Value>,
+        loans: LoanList,
+    ) -> Made<LocalReply>
+        requires { LoansFit loans }
+        ensures ok { IfOk result (λ r. estep state.old (subjects.View self.now) (verbs.Cast format shape) loans ≡ (state.new, r)) }
+        ensures err { OnErr result (state.new ≡ state.old) }
+    {
+        step_of(
+            state,
+            Subject::View(self.number()),
+            Verb::Cast { format, shape },
+            loans,
+        )
+    }
+
+    /// One more view of the same items, which may only be read, as Python's `view.toreadonly()`
+    /// (Library reference, "Memory Views"): the reply is its number.
+    pub fn toreadonly(&self, state: &mut ExporterState, loans: LoanList) -> Made<LocalReply>
+        requires { LoansFit loans }
+        ensures ok { IfOk result (λ r. estep state.old (subjects.View self.now) verbs.ToReadonly loans ≡ (state.new, r)) }
+        ensures err { OnErr result (state.new ≡ state.old) }
+    {
+        step_of(state, Subject::View(self.number()), Verb::ToReadonly, loans)
+    }
+
+    /// The bytes of the items, with the last dimension running fastest, as Python's `view.tobytes()`
+    /// (Library reference, "Memory Views").
+    pub fn tobytes(&self, state: &mut ExporterState, loans: LoanList) -> Made<LocalReply>
+        requires { LoansFit loans }
+        ensures ok { IfOk result (λ r. estep state.old (subjects.View self.now) verbs.ToBytes loans ≡ (state.new, r)) }
+        ensures err { OnErr result (state.new ≡ state.old) }
+    {
+        step_of(state, Subject::View(self.number()), Verb::ToBytes, loans)
+    }
+
+    /// The view itself, as Python's `with view` begins (Library reference, "Memory Views", `release`).
+    pub fn enter(&self, state: &mut ExporterState, loans: LoanList) -> Made<LocalReply>
+        requires { LoansFit loans }
+        ensures ok { IfOk result (λ r. estep state.old (subjects.View self.now) verbs.Enter loans ≡ (state.new, r)) }
+        ensures err { OnErr result (state.new ≡ state.old) }
+    {
+        step_of(state, Subject::View(self.number()), Verb::Enter, loans)
+    }
+
+    /// Releases the view, as Python's `with view` ends (Library reference, "Memory Views", `release`).
+    /// A second time changes nothing, and isn't refused.
+    pub fn exit(&self, state: &mut ExporterState, loans: LoanList) -> Made<LocalReply>
+        requires { LoansFit loans }
+        ensures ok { IfOk result (λ r. estep state.old (subjects.View self.now) verbs.Exit loans ≡ (state.new, r)) }
+        ensures err { OnErr result (state.new ≡ state.old) }
+    {
+        step_of(state, Subject::View(self.number()), Verb::Exit, loans)
+    }
+
+    /// The items with the shape of the view, as Python's `view.tolist()` (Library reference, "Memory
+    /// Views"); of a view without dimensions a list of its one item.
+    pub fn tolist(&self, state: &mut ExporterState, loans: LoanList) -> Made<LocalReply>
+        requires { LoansFit loans }
+        ensures ok { IfOk result (λ r. estep state.old (subjects.View self.now) verbs.ToList loans ≡ (state.new, r)) }
+        ensures err { OnErr result (state.new ≡ state.old) }
+    {
+        step_of(state, Subject::View(self.number()), Verb::ToList, loans)
+    }
+
+    /// The number of entries of the first dimension, as Python's `len(view)` (Library reference,
+    /// "Memory Views").
+    ///
+    /// Refused with `TypeError` where there is no dimension.
+    pub fn len(&self, state: &mut ExporterState, loans: LoanList) -> Made<LocalReply>
+        requires { LoansFit loans }
+        ensures ok { IfOk result (λ r. estep state.old (subjects.View self.now) verbs.Len loans ≡ (state.new, r)) }
+        ensures err { OnErr result (state.new ≡ state.old) }
+    {
+        step_of(state, Subject::View(self.number()), Verb::Len, loans)
+    }
+
+    /// A new iterator over the items from the first on, as Python's `iter(view)` (Library reference, "Memory
+    /// Views"): the reply is its number. One over several dimensions, or none, is made too, and refuses to go
+    /// on.
+    ///
+    /// Refused with `ValueError` where the view was released.
+    pub fn iter(&self, state: &mut ExporterState, loans: LoanList) -> Made<LocalReply>
+        requires { LoansFit loans }
+        ensures ok { IfOk result (λ r. estep state.old (subjects.View self.now) verbs.Iter loans ≡ (state.new, r)) }
+        ensures err { OnErr result (state.new ≡ state.old) }
+    {
+        step_of(state, Subject::View(self.number()), Verb::Iter, loans)
+    }
+
+    /// The exporter of the view, as Python's `view.obj` (Library reference, "Memory Views").
+    pub fn obj(&self, state: &mut ExporterState, loans: LoanList) -> Made<LocalReply>
+        requires { LoansFit loans }
+        ensures ok { IfOk result (λ r. estep state.old (subjects.View self.now) (verbs.Property names.Obj) loans ≡ (state.new, r)) }
+        ensures err { OnErr result (state.new ≡ state.old) }
+    {
+        step_of(
+            state,
+            Subject::View(self.number()),
+            Verb::Property {
+                name: PropertyName::Obj,
+            },
+            loans,
+        )
+    }
+
+    /// The number of bytes of all items, as Python's `view.nbytes` (Library reference, "Memory Views").
+    pub fn nbytes(&self, state: &mut ExporterState, loans: LoanList) -> Made<LocalReply>
+        requires { LoansFit loans }
+        ensures ok { IfOk result (λ r. estep state.old (subjects.View self.now) (verbs.Property names.Nbytes) loans ≡ (state.new, r)) }
+        ensures err { OnErr result (state.new ≡ state.old) }
+    {
+        step_of(
+            state,
+            Subject::View(self.number()),
+            Verb::Property {
+                name: PropertyName::Nbytes,
+            },
+            loans,
+        )
+    }
+
+    /// Whether the items may only be read, as Python's `view.readonly` (Library reference, "Memory
+    /// Views").
+    pub fn readonly(&self, state: &mut ExporterState, loans: LoanList) -> Made<LocalReply>
+        requires { LoansFit loans }
+        ensures ok { IfOk result (λ r. estep state.old (subjects.View self.now) (verbs.Property names.Readonly) loans ≡ (state.new, r)) }
+        ensures err { OnErr result (state.new ≡ state.old) }
+    {
+        step_of(
+            state,
+            Subject::View(self.number()),
+            Verb::Property {
+                name: PropertyName::Readonly,
+            },
+            loans,
+        )
+    }
+
+    /// The number of bytes of an item, as Python's `view.itemsize` (Library reference, "Memory Views").
+    pub fn itemsize(&self, state: &mut ExporterState, loans: LoanList) -> Made<LocalReply>
+        requires { LoansFit loans }
+        ensures ok { IfOk result (λ r. estep state.old (subjects.View self.now) (verbs.Property names.Itemsize) loans ≡ (state.new, r)) }
+        ensures err { OnErr result (state.new ≡ state.old) }
+    {
+        step_of(
+            state,
+            Subject::View(self.number()),
+            Verb::Property {
+                name: PropertyName::Itemsize,
+            },
+            loans,
+        )
+    }
+
+    /// The number of dimensions, at most 64, as Python's `view.ndim` (Library reference, "Memory
+    /// Views").
+    pub fn ndim(&self, state: &mut ExporterState, loans: LoanList) -> Made<LocalReply>
+        requires { LoansFit loans }
+        ensures ok { IfOk result (λ r. estep state.old (subjects.View self.now) (verbs.Property names.Ndim) loans ≡ (state.new, r)) }
+        ensures err { OnErr result (state.new ≡ state.old) }
+    {
+        step_of(
+            state,
+            Subject::View(self.number()),
+            Verb::Property {
+                name: PropertyName::Ndim,
+            },
+            loans,
+        )
+    }
+
+    /// The number of entries of each dimension, as Python's `view.shape` (Library reference, "Memory
+    /// Views").
+    pub fn shape(&self, state: &mut ExporterState, loans: LoanList) -> Made<LocalReply>
+        requires { LoansFit loans }
+        ensures ok { IfOk result (λ r. estep state.old (subjects.View self.now) (verbs.Property names.Shape) loans ≡ (state.new, r)) }
+        ensures err { OnErr result (state.new ≡ state.old) }
+    {
+        step_of(
+            state,
+            Subject::View(self.number()),
+            Verb::Property {
+                name: PropertyName::Shape,
+            },
+            loans,
+        )
+    }
+
+    /// How many bytes it is from one entry to the next, for each dimension, as Python's `view.strides`
+    /// (Library reference, "Memory Views"); the nearest `isize` where a slice passes it.
+    pub fn strides(&self, state: &mut ExporterState, loans: LoanList) -> Made<LocalReply>
+        requires { LoansFit loans }
+        ensures ok { IfOk result (λ r. estep state.old (subjects.View self.now) (verbs.Property names.Strides) loans ≡ (state.new, r)) }
+        ensures err { OnErr result (state.new ≡ state.old) }
+    {
+        step_of(
+            state,
+            Subject::View(self.number()),
+            Verb::Property {
+                name: PropertyName::Strides,
+            },
+            loans,
+        )
+    }
+
+    /// A 0 for each dimension, since no item is reached through a pointer: Python's `view.suboffsets`
+    /// (Library reference, "Memory Views").
+    pub fn suboffsets(&self, state: &mut ExporterState, loans: LoanList) -> Made<LocalReply>
+        requires { LoansFit loans }
+        ensures ok { IfOk result (λ r. estep state.old (subjects.View self.now) (verbs.Property names.Suboffsets) loans ≡ (state.new, r)) }
+        ensures err { OnErr result (state.new ≡ state.old) }
+    {
+        step_of(
+            state,
+            Subject::View(self.number()),
+            Verb::Property {
+                name: PropertyName::Suboffsets,
+            },
+            loans,
+        )
+    }
+
+    /// The format of an item, as Python's `view.format` (Library reference, "Memory Views").
+    pub fn format(&self, state: &mut ExporterState, loans: LoanList) -> Made<LocalReply>
+        requires { LoansFit loans }
+        ensures ok { IfOk result (λ r. estep state.old (subjects.View self.now) (verbs.Property names.Format) loans ≡ (state.new, r)) }
+        ensures err { OnErr result (state.new ≡ state.old) }
+    {
+        step_of(
+            state,
+            Subject::View(self.number()),
+            Verb::Property {
+                name: PropertyName::Format,
+            },
+            loans,
+        )
+    }
+
+    /// Whether the items lie one after the other, as Python's `view.contiguous` (Library reference,
+    /// "Memory Views"). A view without items is contiguous.
+    pub fn contiguous(&self, state: &mut ExporterState, loans: LoanList) -> Made<LocalReply>
+        requires { LoansFit loans }
+        ensures ok { IfOk result (λ r. estep state.old (subjects.View self.now) (verbs.Property names.Contiguous) loans ≡ (state.new, r)) }
+        ensures err { OnErr result (state.new ≡ state.old) }
+    {
+        step_of(
+            state,
+            Subject::View(self.number()),
+            Verb::Property {
+                name: PropertyName::Contiguous,
+            },
+            loans,
+        )
+    }
+
+    /// The same in the order of C, as Python's `view.c_contiguous` (Library reference, "Memory Views").
+    pub fn c_contiguous(&self, state: &mut ExporterState, loans: LoanList) -> Made<LocalReply>
+        requires { LoansFit loans }
+        ensures ok { IfOk result (λ r. estep state.old (subjects.View self.now) (verbs.Property names.CContiguous) loans ≡ (state.new, r)) }
+        ensures err { OnErr result (state.new ≡ state.old) }
+    {
+        step_of(
+            state,
+            Subject::View(self.number()),
+            Verb::Property {
+                name: PropertyName::CContiguous,
+            },
+            loans,
+        )
+    }
+
+    /// The same in the order of Fortran, as Python's `view.f_contiguous` (Library reference, "Memory
+    /// Views"): so in a contiguous view of at most one dimension.
+    pub fn f_contiguous(&self, state: &mut ExporterState, loans: LoanList) -> Made<LocalReply>
+        requires { LoansFit loans }
+        ensures ok { IfOk result (λ r. estep state.old (subjects.View self.now) (verbs.Property names.FContiguous) loans ≡ (state.new, r)) }
+        ensures err { OnErr result (state.new ≡ state.old) }
+    {
+        step_of(
+            state,
+            Subject::View(self.number()),
+            Verb::Property {
+                name: PropertyName::FContiguous,
+            },
+            loans,
+        )
+    }
+}
