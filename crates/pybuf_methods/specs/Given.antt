@@ -6,7 +6,6 @@ use Rattle.pybuf_value.specs.declared.faults.Outcome.{Outcome}
 use Rattle.pybuf_value.specs.declared.faults.Outcome.TheVariants as outcome
 use Rattle.pybuf_value.specs.declared.halt.Halt.{Halt}
 use Rattle.pybuf_value.specs.declared.halt.Halt.TheVariants as halt
-use Rattle.pybuf_copy.specs.declared.memory.NoMemory.{NoMemory}
 use Rattle.pybuf_value.specs.declared.snaps.Snap.{Snap}
 use Rattle.pybuf_value.specs.declared.values.Scalar.{Scalar}
 use Rattle.pybuf_value.specs.declared.values.Scalar.TheVariants as scalar
@@ -20,7 +19,7 @@ use Rattle.pybuf_value.specs.Texts.{text_in}
 -- ---- what stops a call
 
 -- an answer that is refused, or that wants memory
-abbrev pub IsStopped : {X : Type 0} → Result (Outcome X) NoMemory → Halt → Type 0
+abbrev pub IsStopped : {X E : Type 0} → Result (Outcome X) E → Halt → Type 0
 IsStopped answer (halt.Refused f) = answer ≡ Ok (outcome.Refused f)
 IsStopped answer halt.NoMemory = Unit {0}
 
