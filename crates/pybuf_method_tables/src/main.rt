@@ -130,6 +130,3 @@ fn main(rt: HostRuntime) -> ExitCode {
         Err(_) => ExitCode::from(3),
     }
 }
-
-#[cfg(test)]
-mod tests;
