@@ -70,12 +70,25 @@ fn decoded(
 }
 
 /// The text that the bytes are by a codec, `utf-8`, `utf8` or `ascii` (Python's library reference, "Bytes
-/// and Bytearray Operations", `bytes.decode`). The codec is looked at also for no bytes.
+/// and Bytearray Operations", `bytes.decode`). Without a codec it is UTF-8; without a handler, errors are
+/// refused. The codec is looked at also for no bytes.
 ///
 /// Refused with `ValueError` exactly for another codec, for another handler of errors than `strict`, for
 /// a byte past ASCII under `ascii`, and for bytes that are no UTF-8.
+pub fn decode_text(
+    alloc: Global,
+    bytes: &[u8],
+    encoding: Option<&Text>,
+    errors: Option<&Text>,
+) -> Tried<Text>
+    ensures { IfOk result (λ outcome. outcome ≡ outcome_of (spec.decoded bytes.now (option_copied encoding.entry) (option_copied errors.entry))) }
+{
+    tried(decoded(alloc, bytes, encoding, errors))
+}
+
+/// The same by the arguments.
 pub fn bytes_decode(alloc: Global, bytes: &[u8], args: &DecodeArgs) -> Tried<Text>
     ensures { IfOk result (λ outcome. outcome ≡ outcome_of (spec.decoded bytes.now args.now.encoding args.now.errors)) }
 {
-    tried(decoded(alloc, bytes, args.encoding.as_ref(), args.errors.as_ref()))
+    decode_text(alloc, bytes, args.encoding.as_ref(), args.errors.as_ref())
 }

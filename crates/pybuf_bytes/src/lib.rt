@@ -5,6 +5,7 @@ mod arguments;
 mod decoding;
 mod inner;
 mod letters;
+mod methods;
 mod needles;
 mod options;
 mod search_methods;
@@ -12,9 +13,10 @@ mod searching;
 mod shaping;
 
 pub use arguments::{ByteInnerFindOptions, ByteInnerSplitOptions};
-pub use decoding::{DecodeArgs, bytes_decode};
+pub use decoding::{DecodeArgs, bytes_decode, decode_text};
 pub use inner::PyBytesInner;
 pub use letters::SplitLinesArgs;
+pub use methods::{MethodCall, MethodName, MethodReply};
 pub use needles::Needle;
 pub use options::ByteInnerNewOptions;
 pub use pybuf_arguments::{

@@ -80,7 +80,13 @@ impl PyBytesInner {
     ) -> Tried<Vec<u8>>
         ensures { IfOk result (λ outcome. items_of outcome ≡ outcome_of (translation (L.pairs lender.now) options.now.table options.now.delete self.now)) }
     {
-        as_vec(pybuf_shaping::translate_with(alloc, self.as_bytes(), options, lender))
+        as_vec(pybuf_shaping::translate_by(
+            alloc,
+            self.as_bytes(),
+            options.table.as_ref(),
+            options.delete.as_ref(),
+            lender,
+        ))
     }
 
     /// The table of 256 bytes that maps each byte of `from` to the one at the same place of `to`, and

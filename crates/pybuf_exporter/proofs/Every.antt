@@ -1,5 +1,5 @@
 -- Every command, by the laws of its row.
-use Rattle.std.proofs.Common.{◌≡◌, ℕ, ◌+◌, ◌≤◌, List, length, Bool, true, false, true≢false, ap, ap₂, sym, ◌∙◌, refl, subst, arith}
+use Rattle.std.proofs.Common.{◌≡◌, ℕ, ◌+◌, ◌≤◌, List, length, Bool, true, false, true≢false, ap, ap₂, sym, ◌∙◌, refl, subst, arith, inl}
 use Rattle.std.specs.Prelude.{◌==◌, ◌&&◌, nat_lt, slice_index, Result, Ok, Err, if◌then◌else◌}
 use Rattle.std.proofs.lemmas.Bool.{eqb-true}
 use Rattle.std.proofs.lemmas.Grind.{common_steps}
@@ -199,7 +199,7 @@ iterated_so reading e new same stay sound =
     (record {
       sound = record { views = sound.views };
       lengths = record { views = (reading e sound).lengths.views; bytes = λ live. refl };
-      readonly_bytes = (reading e sound).readonly_bytes;
+      readonly_bytes = λ readonly. inl refl;
       iterators = stay;
     })
 

@@ -1,8 +1,7 @@
 -- An iterator over bytes gives each of them once, and then it stops for ever.
-use Rattle.std.proofs.Common.{◌≡◌, ℕ, zero, suc, ◌+◌, ◌-◌, ◌<◌, ◌≤◌, List, [], ◌∷◌, ◌++◌, length, take, drop, map, Bool, true, false, ap, ap₂, sym, ◌∙◌, refl, subst, arith}
+use Rattle.std.proofs.Common.{◌≡◌, ℕ, zero, suc, ◌+◌, ◌-◌, ◌<◌, ◌≤◌, List, [], ◌∷◌, ◌++◌, length, take, drop, map, Bool, true, false, ap, ap₂, sym, ◌∙◌, refl, subst, arith, take-append-drop, append_assoc}
 use Rattle.std.specs.Prelude.{set, replicate, Option, Some, None, Ok, slice_get}
 use Rattle.std.specs.Option.{ok_or, option_map}
-use Rattle.std.proofs.lemmas.List.{take_drop_id}
 use Rattle.std.proofs.lemmas.Grind.{common_steps}
 use Rattle.pybuf_value.specs.declared.faults.Fault.TheVariants as fault
 use Rattle.pybuf_value.specs.declared.values.Item.{Item}
@@ -35,14 +34,11 @@ get-set (z ∷ xs) (suc k) x y given = get-set xs k x y given
 
 -- ---- one `next`
 
-after_next : Exporter → ℕ → Exporter × LocalReply
+abbrev after_next : Exporter → ℕ → Exporter × LocalReply
 after_next e k = estep e (subject.Iter k) verb.Next []
 
-by_iterator : Exporter → ℕ → Option Iterator → Exporter × LocalReply
+abbrev by_iterator : Exporter → ℕ → Option Iterator → Exporter × LocalReply
 by_iterator e k o = settled_answer e (ok_or o fault.UnknownName >>= λ it. next_unless it.exhausted e k it)
-
-by_iterator_is : (e : Exporter) (k : ℕ) → after_next e k ≡ by_iterator e k (slice_get e.iterators k)
-by_iterator_is e k = refl
 
 next_exhausted : (e : Exporter) (k : ℕ) (it : Iterator) → slice_get e.iterators k ≡ Some it → it.exhausted ≡ true → after_next e k ≡ (e, reply.Stop)
 next_exhausted e k it given is = ap (by_iterator e k) given ∙ ap (λ (b : Bool). settled_answer e (next_unless b e k it)) is
@@ -70,23 +66,26 @@ ends (suc more) e k it given own goes at_end =
     (next_over_bytes e k it None given own goes (ap (λ (n : ℕ). option_map byte_item (slice_get e.bytes n)) at_end ∙ ap (option_map byte_item) (get-past e.bytes)))
     ∙ ap (λ (rest : List LocalReply). reply.Stop ∷ rest) (stops more (iterator_put e k ended) k ended (get-set e.iterators k it ended given) refl)
 
-item_reply : ℕ → LocalReply
+abbrev item_reply : ℕ → LocalReply
 item_reply b = reply.Item (byte_item b)
 
-gives : (rest before : List ℕ) (e : Exporter) (k : ℕ) (it : Iterator) (more : ℕ) → e.bytes ≡ before ++ rest → it.position ≡ length before → slice_get e.iterators k ≡ Some it → it.subject ≡ subject.Own → it.exhausted ≡ false
-    → nexts e k (length rest + more) ≡ map item_reply rest ++ replicate more reply.Stop
-gives [] before e k it more bytes at given own goes =
-    ends more e k it given own goes (at ∙ sym (ap (λ (xs : List ℕ). length xs) bytes ∙ grind (arith, common_steps)))
-gives (b ∷ rest) before e k it more bytes at given own goes =
+gives : (rest before : List ℕ) (e : Exporter) (k : ℕ) (it : Iterator) (more n : ℕ) → n ≡ length rest + more → e.bytes ≡ before ++ rest → it.position ≡ length before → slice_get e.iterators k ≡ Some it → it.subject ≡ subject.Own
+    → it.exhausted ≡ false → nexts e k n ≡ map item_reply rest ++ replicate more reply.Stop
+gives [] before e k it more n count bytes at given own goes =
+    let same : n ≡ more = omega (arith, count) in
+    ap (nexts e k) same ∙ ends more e k it given own goes (at ∙ sym (ap (λ (xs : List ℕ). length xs) bytes ∙ grind (arith, common_steps)))
+gives (b ∷ rest) before e k it more n count bytes at given own goes =
     let moved : Iterator = record it { position = it.position + 1 } in
-    let found : slice_get e.bytes it.position ≡ Some b = ap₂ (λ (xs : List ℕ) (n : ℕ). slice_get xs n) bytes at ∙ get-middle before b rest in
-    ap (λ (after : Exporter × LocalReply). after.1 ∷ nexts after.0 k (length rest + more)) (next_over_bytes e k it (Some (byte_item b)) given own goes (ap (option_map byte_item) found))
+    let left : ℕ = length rest + more in
+    let one_more : n ≡ suc left = omega (arith, count) in
+    let found : slice_get e.bytes it.position ≡ Some b = ap₂ (λ (xs : List ℕ) (m : ℕ). slice_get xs m) bytes at ∙ get-middle before b rest in
+    ap (nexts e k) one_more
+    ∙ ap (λ (after : Exporter × LocalReply). after.1 ∷ nexts after.0 k left) (next_over_bytes e k it (Some (byte_item b)) given own goes (ap (option_map byte_item) found))
     ∙ ap (λ (replies : List LocalReply). item_reply b ∷ replies)
-    (gives rest (before ++ b ∷ []) (iterator_put e k moved) k moved more (bytes ∙ grind (common_steps)) (grind (arith, common_steps, at)) (get-set e.iterators k it moved given) own goes)
+    (gives rest (before ++ b ∷ []) (iterator_put e k moved) k moved more left refl (bytes ∙ sym (append_assoc before (b ∷ []) rest)) (grind (arith, common_steps, at)) (get-set e.iterators k it moved given) own goes)
 
 pub gives_the_bytes : IteratorsGiveTheBytes
 gives_the_bytes e k it more given own goes inside =
-    let counted : length (drop it.position e.bytes) ≡ length e.bytes - it.position = grind (arith, common_steps) in
+    let counted : length e.bytes - it.position + more ≡ length (drop it.position e.bytes) + more = grind (arith, common_steps) in
     let placed : it.position ≡ length (take it.position e.bytes) = grind (arith, common_steps, inside) in
-    ap (λ (n : ℕ). nexts e k (n + more)) (sym counted)
-    ∙ gives (drop it.position e.bytes) (take it.position e.bytes) e k it more (sym (take_drop_id it.position e.bytes)) placed given own goes
+    gives (drop it.position e.bytes) (take it.position e.bytes) e k it more (length e.bytes - it.position + more) counted (sym (take-append-drop it.position e.bytes)) placed given own goes

@@ -3,3 +3,4 @@ pub mod CutLemmas
 pub mod JoinLaws
 pub mod RepeatLemmas
 pub mod OneByte
+pub mod PlaceLemmas

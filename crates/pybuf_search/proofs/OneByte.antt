@@ -1,6 +1,6 @@
 -- The matches of one byte are the places of that byte.
-use Rattle.std.proofs.Common.{◌≡◌, ℕ, zero, suc, ◌+◌, ◌-◌, ◌<◌, Bool, true, false, List, [], ◌∷◌, length, slice_index, Decides, refl, sym, ap, ◌∙◌, arith, ⊎_elim, eq-eqb, eqb-true, cond, if◌then◌else◌}
-use Rattle.std.proofs.lemmas.Bool.{cases_Bool, cond-false, cases_lt}
+use Rattle.std.proofs.Common.{◌≡◌, ℕ, zero, suc, ◌+◌, ◌-◌, ◌<◌, List, [], ◌∷◌, length, slice_index, Decides, sym, ap, ◌∙◌, arith, ⊎_elim, eq-eqb, eqb-true, cond}
+use Rattle.std.proofs.lemmas.Bool.{cases_Bool, cond-false}
 use Rattle.std.proofs.lemmas.Bool.Decides.{same_from_decides}
 use Rattle.memchr.specs.Find.{OccursAt, occurs_at, is_byte, places_from, places, matches_from, matches}
 use Rattle.pybuf_search.specs.Places.{number_of_matches}

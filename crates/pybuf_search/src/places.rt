@@ -1,5 +1,5 @@
 //! Where a needle stands in bytes. Nothing here takes memory.
-ghost use Rattle.std.specs.Prelude.{◌≡◌};
+ghost use Rattle.std.specs.Prelude.{◌≡◌, ◌+◌, ◌≤◌, length, IfSome};
 ghost use Rattle.pybuf_search.specs.Places as spec;
 
 use bstr::ByteSlice;
@@ -9,7 +9,8 @@ use memchr::{memchr_iter, memmem};
 /// `None` exactly where it stands nowhere (Library reference, "Bytes and Bytearray Operations",
 /// `bytes.find`).
 pub fn first_place(bytes: &[u8], needle: &[u8]) -> Option<usize>
-    ensures { result ≡ spec.first_place bytes.now needle.now }
+    ensures value { result ≡ spec.first_place bytes.now needle.now }
+    ensures inside { IfSome result (λ place. place + length needle.now ≤ length bytes.now) }
 {
     bytes.find(needle)
 }
@@ -18,7 +19,8 @@ pub fn first_place(bytes: &[u8], needle: &[u8]) -> Option<usize>
 /// length. `None` exactly where it stands nowhere (Library reference, "Bytes and Bytearray
 /// Operations", `bytes.rfind`).
 pub fn last_place(bytes: &[u8], needle: &[u8]) -> Option<usize>
-    ensures { result ≡ spec.last_place bytes.now needle.now }
+    ensures value { result ≡ spec.last_place bytes.now needle.now }
+    ensures inside { IfSome result (λ place. place + length needle.now ≤ length bytes.now) }
 {
     bytes.rfind(needle)
 }

@@ -1,5 +1,6 @@
 //! Arguments of padding, of tabs and of translating.
 ghost use Rattle.std.specs.Prelude.{◌≡◌, ◌<◌, ◌^◌, IfOk, length};
+ghost use Rattle.std.specs.Option.{option_copied};
 ghost use Rattle.pybuf_value.specs.Halting.{Gives, outcome_of};
 ghost use Rattle.pybuf_value.specs.Snaps.{bytes_in};
 ghost use Rattle.pybuf_shaping.specs.Arguments as spec;
@@ -54,18 +55,26 @@ fn fill_in<L: Lender>(value: &Value, lender: &L) -> Result<u8, Fault>
     }
 }
 
+/// The fill byte that an argument is: that of a bytes value, or of an exporter of kind bytes or bytearray,
+/// of one byte; a space where none is given.
+///
+/// Refused with `UnknownName` where the lender hasn't the handle, and with `TypeError` for every other
+/// value.
+pub fn fill_of<L: Lender>(value: Option<&Value>, lender: &L) -> Result<u8, Fault>
+    ensures { result ≡ spec.fill_of (L.pairs lender.now) (option_copied value.entry) }
+{
+    match value {
+        None => Ok(b' '),
+        Some(value) => fill_in(value, lender),
+    }
+}
+
 impl ByteInnerPaddingOptions {
-    /// The fill byte: that of a bytes value, or of an exporter of kind bytes or bytearray, of one byte.
-    ///
-    /// Refused with `UnknownName` where the lender hasn't the handle, and with `TypeError` for every
-    /// other value.
+    /// The fill byte, as `fill_of` gives and refuses it.
     pub fn fill<L: Lender>(&self, lender: &L) -> Result<u8, Fault>
         ensures { result ≡ spec.fill_of (L.pairs lender.now) self.now.fillchar }
     {
-        match &self.fillchar {
-            None => Ok(b' '),
-            Some(value) => fill_in(value, lender),
-        }
+        fill_of(self.fillchar.as_ref(), lender)
     }
 }
 
@@ -162,10 +171,10 @@ fn table_in<L: Lender>(alloc: Global, value: &Value, lender: &L) -> Result<ByteL
 /// The table that is given, or that of each byte itself.
 fn table_given<L: Lender>(
     alloc: Global,
-    value: &Option<Value>,
+    value: Option<&Value>,
     lender: &L,
 ) -> Result<ByteList, Halt>
-    ensures value { Gives (spec.table_given (L.pairs lender.now) value.now) result }
+    ensures value { Gives (spec.table_given (L.pairs lender.now) (option_copied value.entry)) result }
     ensures full { IfOk result (λ table. length table ≡ 256) }
 {
     match value {
@@ -177,10 +186,10 @@ fn table_given<L: Lender>(
 /// The bytes to be dropped that are given, or none.
 fn dropped_given<L: Lender>(
     alloc: Global,
-    value: &Option<Value>,
+    value: Option<&Value>,
     lender: &L,
 ) -> Result<ByteList, Halt>
-    ensures { Gives (spec.dropped_given (L.pairs lender.now) value.now) result }
+    ensures { Gives (spec.dropped_given (L.pairs lender.now) (option_copied value.entry)) result }
 {
     match value {
         None => Ok(ByteList::new(alloc)),
@@ -191,14 +200,15 @@ fn dropped_given<L: Lender>(
 /// The table, and the bytes to be dropped.
 fn tables_of<L: Lender>(
     alloc: Global,
-    options: &ByteInnerTranslateOptions,
+    table: Option<&Value>,
+    delete: Option<&Value>,
     lender: &L,
 ) -> Result<(ByteList, ByteList), Halt>
-    ensures value { Gives (spec.tables_of (L.pairs lender.now) options.now.table options.now.delete) result }
+    ensures value { Gives (spec.tables_of (L.pairs lender.now) (option_copied table.entry) (option_copied delete.entry)) result }
     ensures full { IfOk result (λ tables. length tables.0 ≡ 256) }
 {
-    let table = table_given(alloc, &options.table, lender)?;
-    let dropped = dropped_given(alloc, &options.delete, lender)?;
+    let table = table_given(alloc, table, lender)?;
+    let dropped = dropped_given(alloc, delete, lender)?;
     Ok((table, dropped))
 }
 
@@ -211,7 +221,7 @@ impl ByteInnerTranslateOptions {
     pub fn get_value<L: Lender>(&self, alloc: Global, lender: &L) -> Tried<(Vec<u8>, Vec<u8>)>
         ensures { IfOk result (λ outcome. spec.pair_answered outcome ≡ outcome_of (spec.tables_of (L.pairs lender.now) self.now.table self.now.delete)) }
     {
-        match tables_of(alloc, self, lender) {
+        match tables_of(alloc, self.table.as_ref(), self.delete.as_ref(), lender) {
             Ok((table, dropped)) => Ok(Outcome::Done((table.into_vec(), dropped.into_vec()))),
             Err(Halt::Refused(fault)) => Ok(Outcome::Refused(fault)),
             Err(Halt::NoMemory) => Err(NoMemory),
@@ -223,27 +233,30 @@ impl ByteInnerTranslateOptions {
 fn translation<L: Lender>(
     alloc: Global,
     bytes: &[u8],
-    options: &ByteInnerTranslateOptions,
+    table: Option<&Value>,
+    delete: Option<&Value>,
     lender: &L,
 ) -> Result<ByteList, Halt>
-    ensures { Gives (spec.translation (L.pairs lender.now) options.now.table options.now.delete bytes.now) result }
+    ensures { Gives (spec.translation (L.pairs lender.now) (option_copied table.entry) (option_copied delete.entry) bytes.now) result }
 {
-    let (table, dropped) = tables_of(alloc, options, lender)?;
+    let (table, dropped) = tables_of(alloc, table, delete, lender)?;
     let list = translate(alloc, bytes, table.as_slice(), dropped.as_slice())?;
     Ok(list)
 }
 
-/// The bytes without those to be dropped, each other mapped by its entry of the table (Python's library
-/// reference, "Bytes and Bytearray Operations", `bytes.translate`).
+/// The bytes without those to be dropped, each other mapped by its entry of a table (Python's library
+/// reference, "Bytes and Bytearray Operations", `bytes.translate`). Without a table, or where it is
+/// Python's `None`, each byte stays; without bytes to be dropped, none is.
 ///
 /// Refused as `ByteInnerTranslateOptions::get_value` is.
-pub fn translate_with<L: Lender>(
+pub fn translate_by<L: Lender>(
     alloc: Global,
     bytes: &[u8],
-    options: &ByteInnerTranslateOptions,
+    table: Option<&Value>,
+    delete: Option<&Value>,
     lender: &L,
 ) -> Tried<ByteList>
-    ensures { IfOk result (λ outcome. outcome ≡ outcome_of (spec.translation (L.pairs lender.now) options.now.table options.now.delete bytes.now)) }
+    ensures { IfOk result (λ outcome. outcome ≡ outcome_of (spec.translation (L.pairs lender.now) (option_copied table.entry) (option_copied delete.entry) bytes.now)) }
 {
-    tried(translation(alloc, bytes, options, lender))
+    tried(translation(alloc, bytes, table, delete, lender))
 }

@@ -12,8 +12,8 @@ mod tables;
 mod tabs;
 
 pub use arguments::{
-    ByteInnerPaddingOptions, ByteInnerTranslateOptions, ExpandTabsArgs, center_with,
-    justify_left_with, justify_right_with, translate_with,
+    ByteInnerPaddingOptions, ByteInnerTranslateOptions, ExpandTabsArgs, center_with, fill_of,
+    justify_left_with, justify_right_with, translate_by,
 };
 pub use digits::hex_text;
 pub use laws::{

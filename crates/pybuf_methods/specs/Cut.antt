@@ -1,0 +1,65 @@
+-- Methods that cut.
+use Rattle.std.specs.Prelude.{ℕ, ℤ, negsuc, Bool, List, [], ◌∷◌, Option, Result, Ok, Err}
+use Rattle.pybuf_value.specs.declared.faults.Fault.{Fault}
+use Rattle.pybuf_value.specs.declared.snaps.Snap.{Snap}
+use Rattle.pybuf_value.specs.declared.values.Value.{Value}
+use Rattle.pybuf_value.specs.Refusing.{◌>>=◌}
+use Rattle.pybuf_value.specs.Snaps.{bytes_in}
+use Rattle.pybuf_search.specs.Parts.{middle}
+use Rattle.pybuf_letters.specs.Strips.{goes}
+use Rattle.pybuf_letters.specs.Lines.{split_lines}
+use Rattle.pybuf_arguments.specs.declared.separators.SplitArgs.{SplitArgs}
+use Rattle.pybuf_bytes.specs.Searching.{partition_by, rpartition_by}
+use Rattle.pybuf_bytes.specs.declared.methods.MethodReply.{MethodReply}
+use Rattle.pybuf_bytes.specs.declared.methods.MethodReply.TheVariants as reply
+use Rattle.pybuf_methods.specs.Given.{one, at_most_one, at_most_two, count_or, flag_given, bytes_given}
+
+-- without the bytes of a set, or the blanks, at one end or both
+abbrev pub strip : ((ℕ → Bool) → List ℕ → List ℕ) → List (ℕ × Snap) → List ℕ → List Value → Result MethodReply Fault
+strip side pairs bytes args = do
+  given ← at_most_one args
+  chars ← bytes_given pairs given
+  Ok (reply.Bytes (side (goes chars) bytes))
+
+-- without a prefix or a suffix
+abbrev pub remove : (List ℕ → List ℕ → List ℕ) → List (ℕ × Snap) → List ℕ → List Value → Result MethodReply Fault
+remove without pairs bytes args = do
+  given ← one args
+  affix ← bytes_in pairs given
+  Ok (reply.Bytes (without bytes affix))
+
+-- any number of cuts where none is given
+abbrev pub cuts_given : List (ℕ × Snap) → List Value → Result (SplitArgs (List ℕ)) Fault
+cuts_given pairs args = do
+  given ← at_most_two args
+  separator ← bytes_given pairs given.0
+  most ← count_or (negsuc 0) given.1
+  Ok (record { sep = separator; maxsplit = most })
+
+-- from the left or from the right
+abbrev pub split : (Option (List ℕ) → ℤ → List ℕ → Result (List (List ℕ)) Fault) → List (ℕ × Snap) → List ℕ → List Value → Result MethodReply Fault
+split parts_by pairs bytes args = do
+  cuts ← cuts_given pairs args
+  parts ← parts_by cuts.sep cuts.maxsplit bytes
+  Ok (reply.ByteLists parts)
+
+-- the three parts in order
+abbrev pub partition : List (ℕ × Snap) → List ℕ → List Value → Result MethodReply Fault
+partition pairs bytes args = do
+  given ← one args
+  separator ← bytes_in pairs given
+  parts ← partition_by separator bytes
+  Ok (reply.ByteLists (parts.0 ∷ middle separator parts.1 ∷ parts.2 ∷ []))
+
+abbrev pub rpartition : List (ℕ × Snap) → List ℕ → List Value → Result MethodReply Fault
+rpartition pairs bytes args = do
+  given ← one args
+  separator ← bytes_in pairs given
+  parts ← rpartition_by separator bytes
+  Ok (reply.ByteLists (parts.2 ∷ middle separator parts.1 ∷ parts.0 ∷ []))
+
+abbrev pub splitlines : List ℕ → List Value → Result MethodReply Fault
+splitlines bytes args = do
+  given ← at_most_one args
+  keep ← flag_given given
+  Ok (reply.ByteLists (split_lines keep bytes))

@@ -1,0 +1,6 @@
+pub mod Given
+pub mod Plain
+pub mod Sought
+pub mod Shaped
+pub mod Cut
+pub mod Methods

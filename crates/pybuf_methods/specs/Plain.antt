@@ -1,0 +1,50 @@
+-- Methods that ask for a class or change a case, and sums.
+use Rattle.std.specs.Prelude.{ℕ, ℤ, Bool, List, ◌++◌, Result, Ok, Err}
+use Rattle.bstr.specs.Owned.{joined}
+use Rattle.pybuf_value.specs.declared.faults.Fault.{Fault}
+use Rattle.pybuf_value.specs.declared.snaps.Snap.{Snap}
+use Rattle.pybuf_value.specs.declared.values.Value.{Value}
+use Rattle.pybuf_value.specs.Refusing.{◌>>=◌}
+use Rattle.pybuf_search.specs.Joins.{fitted}
+use Rattle.pybuf_bytes.specs.Searching.{concat_of, repeated_of}
+use Rattle.pybuf_bytes.specs.declared.methods.MethodReply.{MethodReply}
+use Rattle.pybuf_bytes.specs.declared.methods.MethodReply.TheVariants as reply
+use Rattle.pybuf_methods.specs.Given.{none, one, count_in, like_in, lists_in}
+
+-- what a method without arguments answers, or that there are some
+abbrev pub truth : Bool → List Value → Result MethodReply Fault
+truth answer args = do
+  _ ← none args
+  Ok (reply.Truth answer)
+
+abbrev pub changed : List ℕ → List Value → Result MethodReply Fault
+changed bytes args = do
+  _ ← none args
+  Ok (reply.Bytes bytes)
+
+abbrev pub add : List (ℕ × Snap) → List ℕ → List Value → Result MethodReply Fault
+add pairs bytes args = do
+  other ← one args
+  like ← like_in pairs other
+  sum ← fitted (bytes ++ like)
+  Ok (reply.Bytes sum)
+
+abbrev pub concat : List (ℕ × Snap) → List ℕ → List Value → Result MethodReply Fault
+concat pairs bytes args = do
+  other ← one args
+  sum ← concat_of pairs other bytes
+  Ok (reply.Bytes sum)
+
+abbrev pub mul : List ℕ → List Value → Result MethodReply Fault
+mul bytes args = do
+  times ← one args
+  n ← count_in times
+  product ← repeated_of n bytes
+  Ok (reply.Bytes product)
+
+abbrev pub join : List (ℕ × Snap) → List ℕ → List Value → Result MethodReply Fault
+join pairs bytes args = do
+  list ← one args
+  parts ← lists_in pairs list
+  whole ← fitted (joined bytes parts)
+  Ok (reply.Bytes whole)

@@ -1,0 +1,75 @@
+-- Methods that search.
+use Rattle.std.specs.Prelude.{ℕ, ℤ, pos, negsuc, Bool, List, Option, Some, None, Result, Ok, Err}
+use Rattle.pybuf_value.specs.declared.faults.Fault.{Fault}
+use Rattle.pybuf_value.specs.declared.faults.Fault.TheVariants as fault
+use Rattle.pybuf_value.specs.declared.snaps.Snap.{Snap}
+use Rattle.pybuf_value.specs.declared.values.Value.{Value}
+use Rattle.pybuf_value.specs.Refusing.{◌>>=◌}
+use Rattle.pybuf_bytes.specs.declared.arguments.ByteInnerFindOptions.{ByteInnerFindOptions}
+use Rattle.pybuf_bytes.specs.Needles.{needle_in}
+use Rattle.pybuf_bytes.specs.Searching.{find_of, count_of}
+use Rattle.pybuf_arguments.specs.Affixes.{startswith_of, endswith_of}
+use Rattle.pybuf_bytes.specs.declared.methods.MethodReply.{MethodReply}
+use Rattle.pybuf_bytes.specs.declared.methods.MethodReply.TheVariants as reply
+use Rattle.pybuf_methods.specs.Given.{one_to_three, bound_given}
+
+-- a needle and two bounds
+abbrev pub search_given : List (ℕ × Snap) → List Value → Result ByteInnerFindOptions Fault
+search_given pairs args = do
+  given ← one_to_three args
+  needle ← needle_in pairs given.0
+  start ← bound_given given.1
+  end ← bound_given given.2
+  Ok (record { sub = needle; start = start; end = end })
+
+-- the place that a search finds between the bounds
+abbrev pub place : (List ℕ → List ℕ → Option ℕ) → List (ℕ × Snap) → List ℕ → List Value → Result (Option ℕ) Fault
+place search pairs bytes args = do
+  given ← search_given pairs args
+  find_of search given.sub given.start given.end bytes
+
+-- a place as a number: -1 where nothing was found
+abbrev pub number_of_place : Option ℕ → ℤ
+number_of_place None = negsuc 0
+number_of_place (Some place) = pos place
+
+abbrev pub find : (List ℕ → List ℕ → Option ℕ) → List (ℕ × Snap) → List ℕ → List Value → Result MethodReply Fault
+find search pairs bytes args = do
+  found ← place search pairs bytes args
+  Ok (reply.Number (number_of_place found))
+
+-- a place that was found; that there is none is a wrong value
+abbrev pub found_place : Option ℕ → Result MethodReply Fault
+found_place None = Err fault.Value
+found_place (Some place) = Ok (reply.Number (pos place))
+
+abbrev pub index : (List ℕ → List ℕ → Option ℕ) → List (ℕ × Snap) → List ℕ → List Value → Result MethodReply Fault
+index search pairs bytes args = do
+  found ← place search pairs bytes args
+  found_place found
+
+abbrev pub count : List (ℕ × Snap) → List ℕ → List Value → Result MethodReply Fault
+count pairs bytes args = do
+  given ← search_given pairs args
+  number ← count_of given.sub given.start given.end bytes
+  Ok (reply.Number (pos number))
+
+-- an affix, which isn't read yet, and two bounds
+abbrev pub affix_given : List Value → Result (Value × Option ℤ × Option ℤ) Fault
+affix_given args = do
+  given ← one_to_three args
+  start ← bound_given given.1
+  end ← bound_given given.2
+  Ok (given.0, start, end)
+
+abbrev pub startswith : List (ℕ × Snap) → List ℕ → List Value → Result MethodReply Fault
+startswith pairs bytes args = do
+  given ← affix_given args
+  answer ← startswith_of pairs given.0 given.1 given.2 bytes
+  Ok (reply.Truth answer)
+
+abbrev pub endswith : List (ℕ × Snap) → List ℕ → List Value → Result MethodReply Fault
+endswith pairs bytes args = do
+  given ← affix_given args
+  answer ← endswith_of pairs given.0 given.1 given.2 bytes
+  Ok (reply.Truth answer)

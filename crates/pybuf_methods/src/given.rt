@@ -1,0 +1,271 @@
+//! The arguments that a call is given: how many there are, and what each stands for.
+ghost use Rattle.std.specs.Prelude.{◌≡◌, Ok, Err, IfOk, IfErr, MatchResult};
+ghost use Rattle.std.specs.Option.{option_copied};
+ghost use Rattle.pybuf_value.specs.Halting.{Gives, outcome_of};
+ghost use Rattle.pybuf_value.specs.Snaps.{bytes_in};
+ghost use Rattle.pybuf_value.specs.declared.faults.Outcome.TheVariants as outcomes;
+ghost use Rattle.pybuf_methods.specs.Given as spec;
+ghost use Rattle.pybuf_methods.specs.Given.{IsStopped};
+
+use pybuf_arguments::bytes_lent;
+use pybuf_value::{
+    ByteList, ByteLists, Fault, Halt, Lender, Outcome, Scalar, Tried, Value, bytes_alone,
+    bytes_from_object, bytes_like, fit_count, index_of, text_in,
+};
+use std::alloc::Global;
+
+/// What an answer is, where it is neither refused nor wanting memory.
+pub(crate) fn done<T>(answer: Tried<T>) -> Result<T, Halt>
+    ensures ok { IfOk result (λ value. answer ≡ Ok (outcomes.Done value)) }
+    ensures stopped { IfErr result (λ halt. IsStopped answer halt) }
+{
+    match answer {
+        Ok(Outcome::Done(value)) => Ok(value),
+        Ok(Outcome::Refused(fault)) => Err(Halt::Refused(fault)),
+        Err(_) => Err(Halt::NoMemory),
+    }
+}
+
+/// No argument.
+pub(crate) fn none(args: &[Value]) -> Result<(), Fault>
+    ensures { result ≡ spec.none args.now }
+{
+    match args {
+        [] => Ok(()),
+        _ => Err(Fault::Kind),
+    }
+}
+
+/// One argument.
+pub(crate) fn one(args: &[Value]) -> Result<&Value, Fault>
+    ensures { MatchResult result (λ a. spec.one args.now ≡ Ok a.now) (λ fault. spec.one args.now ≡ Err fault) }
+{
+    match args {
+        [a] => Ok(a),
+        _ => Err(Fault::Kind),
+    }
+}
+
+/// Two arguments.
+pub(crate) fn two(args: &[Value]) -> Result<(&Value, &Value), Fault>
+    ensures { MatchResult result (λ given. spec.two args.now ≡ Ok (given.0.now, given.1.now)) (λ fault. spec.two args.now ≡ Err fault) }
+{
+    match args {
+        [a, b] => Ok((a, b)),
+        _ => Err(Fault::Kind),
+    }
+}
+
+/// One argument, or none.
+pub(crate) fn at_most_one(args: &[Value]) -> Result<Option<&Value>, Fault>
+    ensures { MatchResult result (λ given. spec.at_most_one args.now ≡ Ok (option_copied given)) (λ fault. spec.at_most_one args.now ≡ Err fault) }
+{
+    match args {
+        [] => Ok(None),
+        [a] => Ok(Some(a)),
+        _ => Err(Fault::Kind),
+    }
+}
+
+/// Two arguments, or fewer.
+pub(crate) fn at_most_two(args: &[Value]) -> Result<(Option<&Value>, Option<&Value>), Fault>
+    ensures { MatchResult result (λ given. spec.at_most_two args.now ≡ Ok (option_copied given.0, option_copied given.1)) (λ fault. spec.at_most_two args.now ≡ Err fault) }
+{
+    match args {
+        [] => Ok((None, None)),
+        [a] => Ok((Some(a), None)),
+        [a, b] => Ok((Some(a), Some(b))),
+        _ => Err(Fault::Kind),
+    }
+}
+
+/// One argument, or two.
+pub(crate) fn one_or_two(args: &[Value]) -> Result<(&Value, Option<&Value>), Fault>
+    ensures { MatchResult result (λ given. spec.one_or_two args.now ≡ Ok (given.0.now, option_copied given.1)) (λ fault. spec.one_or_two args.now ≡ Err fault) }
+{
+    match args {
+        [a] => Ok((a, None)),
+        [a, b] => Ok((a, Some(b))),
+        _ => Err(Fault::Kind),
+    }
+}
+
+/// Two arguments, or three.
+pub(crate) fn two_or_three(args: &[Value]) -> Result<(&Value, &Value, Option<&Value>), Fault>
+    ensures { MatchResult result (λ given. spec.two_or_three args.now ≡ Ok (given.0.now, given.1.now, option_copied given.2)) (λ fault. spec.two_or_three args.now ≡ Err fault) }
+{
+    match args {
+        [a, b] => Ok((a, b, None)),
+        [a, b, c] => Ok((a, b, Some(c))),
+        _ => Err(Fault::Kind),
+    }
+}
+
+/// One argument, and two more or fewer.
+pub(crate) fn one_to_three(
+    args: &[Value],
+) -> Result<(&Value, Option<&Value>, Option<&Value>), Fault>
+    ensures { MatchResult result (λ given. spec.one_to_three args.now ≡ Ok (given.0.now, option_copied given.1, option_copied given.2)) (λ fault. spec.one_to_three args.now ≡ Err fault) }
+{
+    match args {
+        [a] => Ok((a, None, None)),
+        [a, b] => Ok((a, Some(b), None)),
+        [a, b, c] => Ok((a, Some(b), Some(c))),
+        _ => Err(Fault::Kind),
+    }
+}
+
+/// A number that fits `isize`.
+pub(crate) fn count_in(value: &Value) -> Result<isize, Fault>
+    ensures { result ≡ spec.count_in value.now }
+{
+    let number = index_of(value)?;
+    fit_count(number)
+}
+
+/// The same, and a number where none is given.
+pub(crate) fn count_or(absent: isize, value: Option<&Value>) -> Result<isize, Fault>
+    ensures { result ≡ spec.count_or absent (option_copied value.entry) }
+{
+    match value {
+        None => Ok(absent),
+        Some(value) => count_in(value),
+    }
+}
+
+/// A bound, where one is given that isn't Python's `None`.
+pub(crate) fn bound_given(value: Option<&Value>) -> Result<Option<i128>, Fault>
+    ensures { result ≡ spec.bound_given (option_copied value.entry) }
+{
+    match value {
+        None => Ok(None),
+        Some(Value::One(Scalar::None)) => Ok(None),
+        Some(value) => {
+            let number = index_of(value)?;
+            Ok(Some(number))
+        }
+    }
+}
+
+/// A truth value, or whether a number isn't 0; false where none is given.
+pub(crate) fn flag_given(value: Option<&Value>) -> Result<bool, Fault>
+    ensures { result ≡ spec.flag_given (option_copied value.entry) }
+{
+    match value {
+        None => Ok(false),
+        Some(value) => {
+            let number = index_of(value)?;
+            Ok(number != 0)
+        }
+    }
+}
+
+/// The bytes that a value is read as.
+pub(crate) fn bytes_of<L: Lender>(
+    alloc: Global,
+    value: &Value,
+    lender: &L,
+) -> Result<ByteList, Halt>
+    ensures { Gives (bytes_in (L.pairs lender.now) value.now) result }
+{
+    match bytes_from_object(alloc, value, lender)? {
+        Outcome::Done(bytes) => Ok(bytes),
+        Outcome::Refused(fault) => Err(Halt::Refused(fault)),
+    }
+}
+
+/// Bytes, where some are given that aren't Python's `None`.
+pub(crate) fn bytes_given<L: Lender>(
+    alloc: Global,
+    value: Option<&Value>,
+    lender: &L,
+) -> Result<Option<ByteList>, Halt>
+    ensures { Gives (spec.bytes_given (L.pairs lender.now) (option_copied value.entry)) result }
+{
+    match value {
+        None => Ok(None),
+        Some(Value::One(Scalar::None)) => Ok(None),
+        Some(value) => {
+            let bytes = bytes_of(alloc, value, lender)?;
+            Ok(Some(bytes))
+        }
+    }
+}
+
+/// The bytes of a bytes value, of an exporter, or of a view whose items lie one after another, lent.
+pub(crate) fn like_in<'a, L: Lender>(value: &'a Value, lender: &'a L) -> Result<&'a [u8], Fault>
+    ensures { MatchResult result (λ bytes. spec.like_in (L.pairs lender.now) value.now ≡ Ok bytes.now) (λ fault. spec.like_in (L.pairs lender.now) value.now ≡ Err fault) }
+{
+    match value {
+        Value::One(scalar) => bytes_like(scalar, lender),
+        _ => Err(Fault::Kind),
+    }
+}
+
+/// The bytes of a text, of a bytes value, or of an exporter of kind bytes, lent.
+fn separator_in<'a, L: Lender>(value: &'a Value, lender: &'a L) -> Result<&'a [u8], Fault>
+    ensures { MatchResult result (λ bytes. spec.separator_in (L.pairs lender.now) value.now ≡ Ok bytes.now) (λ fault. spec.separator_in (L.pairs lender.now) value.now ≡ Err fault) }
+{
+    match value {
+        Value::One(Scalar::Text(text)) => Ok(text.as_slice()),
+        Value::One(scalar) => bytes_alone(scalar, lender),
+        _ => Err(Fault::Kind),
+    }
+}
+
+/// The same, where a separator is given.
+pub(crate) fn separator_given<'a, L: Lender>(
+    value: Option<&'a Value>,
+    lender: &'a L,
+) -> Result<Option<&'a [u8]>, Fault>
+    ensures { MatchResult result (λ bytes. spec.separator_given (L.pairs lender.now) (option_copied value.entry) ≡ Ok (option_copied bytes)) (λ fault. spec.separator_given (L.pairs lender.now) (option_copied value.entry) ≡ Err fault) }
+{
+    match value {
+        None => Ok(None),
+        Some(value) => {
+            let bytes = separator_in(value, lender)?;
+            Ok(Some(bytes))
+        }
+    }
+}
+
+/// A text, where one is given that isn't Python's `None`, lent.
+pub(crate) fn text_given(value: Option<&Value>) -> Result<Option<&pybuf_value::Text>, Fault>
+    ensures { MatchResult result (λ text. spec.text_given (option_copied value.entry) ≡ Ok (option_copied text)) (λ fault. spec.text_given (option_copied value.entry) ≡ Err fault) }
+{
+    match value {
+        None => Ok(None),
+        Some(Value::One(Scalar::None)) => Ok(None),
+        Some(value) => {
+            let text = text_in(value)?;
+            Ok(Some(text))
+        }
+    }
+}
+
+/// The bytes of each part of a list or a tuple, copied.
+fn each_in<L: Lender>(alloc: Global, parts: &[Scalar], lender: &L) -> Result<ByteLists, Halt>
+    ensures { Gives (spec.each_in (L.pairs lender.now) parts.now) result }
+{
+    let mut lists = Vec::with_capacity(alloc, parts.len())?;
+    for part in parts {
+        let bytes = bytes_lent(part, lender)?;
+        lists.push(ByteList::from_vec(Vec::from_slice(alloc, bytes)?))?;
+    }
+    Ok(ByteLists::from_vec(lists))
+}
+
+/// The bytes of each part of a list or a tuple.
+pub(crate) fn lists_in<L: Lender>(
+    alloc: Global,
+    value: &Value,
+    lender: &L,
+) -> Result<ByteLists, Halt>
+    ensures { Gives (spec.lists_in (L.pairs lender.now) value.now) result }
+{
+    match value {
+        Value::Tuple(parts) => each_in(alloc, parts.as_slice(), lender),
+        Value::List(parts) => each_in(alloc, parts.as_slice(), lender),
+        _ => Err(Halt::Refused(Fault::Kind)),
+    }
+}

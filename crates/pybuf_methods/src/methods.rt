@@ -1,0 +1,89 @@
+//! A method, called by its name.
+ghost use Rattle.std.specs.Prelude.{◌≡◌, IfOk};
+ghost use Rattle.pybuf_value.specs.Halting.{Gives, outcome_of};
+ghost use Rattle.pybuf_methods.specs.Methods.{method_reply};
+
+use crate::{cut, plain, shaped, sought};
+use pybuf_bytes::{MethodCall, MethodName, MethodReply};
+use pybuf_letters::{
+    is_alnum, is_alpha, is_ascii, is_digit, is_lower, is_space, is_title, is_upper,
+};
+use pybuf_value::{Halt, Lender, Tried, Value, tried};
+use std::alloc::Global;
+
+/// What the method of a name answers.
+fn reply_of<L: Lender>(
+    alloc: Global,
+    bytes: &[u8],
+    name: MethodName,
+    args: &[Value],
+    lender: &L,
+) -> Result<MethodReply, Halt>
+    ensures { Gives (method_reply (L.pairs lender.now) bytes.now name args.now) result }
+{
+    match name {
+        MethodName::Add => plain::add(alloc, bytes, args, lender),
+        MethodName::Concat => plain::concat(alloc, bytes, args, lender),
+        MethodName::Mul => plain::mul(alloc, bytes, args),
+        MethodName::IsAlnum => plain::truth(is_alnum(bytes), args),
+        MethodName::IsAlpha => plain::truth(is_alpha(bytes), args),
+        MethodName::IsAscii => plain::truth(is_ascii(bytes), args),
+        MethodName::IsDigit => plain::truth(is_digit(bytes), args),
+        MethodName::IsLower => plain::truth(is_lower(bytes), args),
+        MethodName::IsSpace => plain::truth(is_space(bytes), args),
+        MethodName::IsTitle => plain::truth(is_title(bytes), args),
+        MethodName::IsUpper => plain::truth(is_upper(bytes), args),
+        MethodName::Lower => plain::lower(alloc, bytes, args),
+        MethodName::Upper => plain::upper(alloc, bytes, args),
+        MethodName::SwapCase => plain::swapcase(alloc, bytes, args),
+        MethodName::Capitalize => plain::capitalize(alloc, bytes, args),
+        MethodName::Title => plain::title(alloc, bytes, args),
+        MethodName::Hex => shaped::hex(alloc, bytes, args, lender),
+        MethodName::FromHex => shaped::fromhex(alloc, args),
+        MethodName::Center => shaped::center(alloc, bytes, args, lender),
+        MethodName::LJust => shaped::ljust(alloc, bytes, args, lender),
+        MethodName::RJust => shaped::rjust(alloc, bytes, args, lender),
+        MethodName::Find => sought::find(alloc, bytes, args, lender),
+        MethodName::RFind => sought::rfind(alloc, bytes, args, lender),
+        MethodName::Index => sought::index(alloc, bytes, args, lender),
+        MethodName::RIndex => sought::rindex(alloc, bytes, args, lender),
+        MethodName::Count => sought::count(alloc, bytes, args, lender),
+        MethodName::StartsWith => sought::startswith(alloc, bytes, args, lender),
+        MethodName::EndsWith => sought::endswith(alloc, bytes, args, lender),
+        MethodName::Join => plain::join(alloc, bytes, args, lender),
+        MethodName::MakeTrans => shaped::maketrans(alloc, args, lender),
+        MethodName::Translate => shaped::translate(alloc, bytes, args, lender),
+        MethodName::Strip => cut::strip(alloc, bytes, args, lender),
+        MethodName::LStrip => cut::lstrip(alloc, bytes, args, lender),
+        MethodName::RStrip => cut::rstrip(alloc, bytes, args, lender),
+        MethodName::RemovePrefix => cut::removeprefix(alloc, bytes, args, lender),
+        MethodName::RemoveSuffix => cut::removesuffix(alloc, bytes, args, lender),
+        MethodName::Split => cut::split(alloc, bytes, args, lender),
+        MethodName::RSplit => cut::rsplit(alloc, bytes, args, lender),
+        MethodName::Partition => cut::partition(alloc, bytes, args, lender),
+        MethodName::RPartition => cut::rpartition(alloc, bytes, args, lender),
+        MethodName::ExpandTabs => shaped::expandtabs(alloc, bytes, args),
+        MethodName::SplitLines => cut::splitlines(alloc, bytes, args),
+        MethodName::ZFill => shaped::zfill(alloc, bytes, args),
+        MethodName::Replace => shaped::replace(alloc, bytes, args, lender),
+        MethodName::Decode => shaped::decode(alloc, bytes, args),
+    }
+}
+
+/// What a method of the bytes answers, called by its name with values as its arguments (Python's library
+/// reference, "Bytes and Bytearray Operations"). An argument that isn't given is the method's own: a space
+/// as a fill byte, -1 as a greatest number, 8 as the size of a tab, 1 as the size of a group, UTF-8 as a
+/// codec, no bounds, the blanks, no ends kept. The bytes are lent, and not copied but into the answer.
+///
+/// Refused with `TypeError` for a wrong number of arguments, then as the first argument from left to right
+/// that is refused, and then by the method's own rule.
+pub fn apply_method<L: Lender>(
+    alloc: Global,
+    bytes: &[u8],
+    call: &MethodCall,
+    lender: &L,
+) -> Tried<MethodReply>
+    ensures { IfOk result (λ outcome. outcome ≡ outcome_of (method_reply (L.pairs lender.now) bytes.now call.now.name call.now.args)) }
+{
+    tried(reply_of(alloc, bytes, call.name, call.args.as_slice(), lender))
+}
