@@ -1,14 +1,17 @@
 //! Tries the methods of strings of bytes on all short texts over small alphabets, and prints for each
 //! method and argument how many answers there were and the hash of their texts. What must come out is
-//! written by `tools/python_methods.py` from the methods of Python's own `bytes`.
+//! written by `tools/python_methods.py` from the methods of Python's own `bytes`. At the end stand the
+//! answers that differ from Python's by choice.
 #![tactic(auto)]
 
+mod differences;
 mod letters;
 mod searches;
 mod shapes;
 mod tally;
 mod texts;
 
+use differences::push_differences;
 use letters::{BARE, tally_bare};
 use pybuf_bytes::PyBytesInner;
 use pybuf_value::Made;
@@ -118,6 +121,7 @@ fn report(alloc: Global) -> Made<String> {
     push_shapes(alloc, &mut out, "digits", digits.as_slice())?;
     let tally = tally_tables(alloc)?;
     push_line(alloc, &mut out, "maketrans", "ab", &tally)?;
+    push_differences(alloc, &mut out)?;
     Ok(out)
 }
 
