@@ -13,6 +13,11 @@ import itertools
 
 BOUNDS = [None, *range(-7, 8)]
 NUMBERS = range(-2, 5)
+WIDTHS = range(-1, 9)
+REPLACEMENTS = [b"", b"a", b"bb"]
+# bytes that differ from each other: of a repeated one our `maketrans` takes the first, Python's the last
+MAPPED = [b"", b"a", b"b", b"ab", b"ba"]
+SWAPPED = bytes.maketrans(b"ab", b"ba")
 BARE = "isalnum isalpha isascii isdigit islower isspace istitle isupper lower upper swapcase capitalize title strip lstrip rstrip".split()
 BOUNDED = "find rfind count startswith endswith".split()
 
@@ -67,6 +72,8 @@ def of_needle(words, needle):
         line(method, name, getattr(bytes, method), each)
     for method in ("split", "rsplit"):
         line(method, name, getattr(bytes, method), itertools.product(words, [needle], NUMBERS))
+    line("replace", name, bytes.replace, itertools.product(words, [needle], REPLACEMENTS, NUMBERS))
+    line("translate", name, bytes.translate, itertools.product(words, [None, SWAPPED, b"ab"], [needle]))
 
 
 def of_texts(name, words):
@@ -80,6 +87,18 @@ def of_texts(name, words):
     line("mul", name, bytes.__mul__, itertools.product(words, NUMBERS))
 
 
+def of_shapes(name, words):
+    """The lines of the methods that pad, write or read texts."""
+    for method in ("center", "ljust", "rjust"):
+        line(method, name, getattr(bytes, method), itertools.product(words, WIDTHS, [b" ", b"*"]))
+    # each width twice, since no fill byte is given
+    line("zfill", name, lambda word, width, _: word.zfill(width), itertools.product(words, WIDTHS, range(2)))
+    line("expandtabs", name, bytes.expandtabs, itertools.product(words, NUMBERS))
+    groups = [(), *((":", number) for number in NUMBERS)]
+    line("hex", name, lambda word, group: word.hex(*group).encode(), itertools.product(words, groups))
+    line("fromhex", name, lambda word: bytes.fromhex(word.decode("ascii")), [(word,) for word in words])
+
+
 def main():
     words = texts(b"ab", 6)
     for needle in texts(b"ab", 3):
@@ -88,6 +107,10 @@ def main():
     of_texts("blanks", texts(b"a \x0b\x1c", 5))
     of_texts("breaks", texts(b"a\n\r", 6))
     of_texts("bytes", single_bytes())
+    of_shapes("signs", texts(b"+-1a", 4))
+    of_shapes("tabs", texts(b"a\t\n\r", 5))
+    of_shapes("digits", texts(b"1aF g", 5))
+    line("maketrans", "ab", bytes.maketrans, itertools.product(MAPPED, MAPPED))
 
 
 main()

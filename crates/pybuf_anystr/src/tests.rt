@@ -47,16 +47,36 @@ fn inner(alloc: Global, bytes: &[u8]) -> Result<PyBytesInner, Fail> {
     Ok(PyBytesInner::from(Vec::from_slice(alloc, bytes)?))
 }
 
+/// The first place of a needle and the number of its matches, in a range that lies inside.
+fn searched(string: &Bytes, needle: &[u8], start: usize, end: usize) -> (Option<usize>, usize) {
+    if end > string.bytes_len() {
+        return (None, 0);
+    }
+    let place = string.py_find(needle, start..end);
+    (place, string.py_count(needle, start..end))
+}
+
+/// The bytes and the elements at a range that lies inside.
+fn at(string: &Bytes, start: usize, end: usize) -> (&[u8], &[u8]) {
+    if end > string.bytes_len() {
+        return (b"", b"");
+    }
+    if start > end {
+        return (b"", b"");
+    }
+    (string.get_bytes(start..end), string.get_chars(start..end))
+}
+
 #[test]
 fn strings_are_searched(rt: HostRuntime) -> Result<(), Fail> {
     let string = bytes(rt.alloc(), b" abab ")?;
-    assert!(rt; string.py_find(b"b", 3..6) == Some(4));
-    assert!(rt; string.py_count(b"ab", 0..6) == 2);
+    assert!(rt; searched(&string, b"b", 3, 6) == (Some(4), 1));
+    assert!(rt; searched(&string, b"ab", 0, 6) == (Some(1), 2));
     assert!(rt; string.py_strip(None) == b"abab".as_slice());
     let end = inner(rt.alloc(), b"b ")?;
     assert!(rt; string.py_removesuffix(&end) == b" aba".as_slice());
     assert!(rt; string.py_removeprefix(&end) == b" abab ".as_slice());
-    assert!(rt; string.get_bytes(1..3) == b"ab".as_slice());
+    assert!(rt; at(&string, 1, 3) == (b"ab", b"ab"));
     Ok(())
 }
 
@@ -95,26 +115,25 @@ fn begins(alloc: Global, string: &Bytes, affix: &Value) -> Tried<bool> {
     )
 }
 
+/// The bytes, or why not.
+fn made(outcome: &Outcome<Vec<u8>>) -> Result<&[u8], Fault> {
+    match outcome {
+        Outcome::Done(bytes) => Ok(bytes.as_slice()),
+        Outcome::Refused(fault) => Err(*fault),
+    }
+}
+
 #[test]
 fn strings_are_put_together(rt: HostRuntime) -> Result<(), Fail> {
     let string = bytes(rt.alloc(), b"ab")?;
     let whole = string.py_add(rt.alloc(), b"c")?;
-    assert!(rt; matches!(whole, Outcome::Done(made) if made.as_slice() == b"abc".as_slice()));
+    assert!(rt; made(&whole) == Ok(b"abc"));
     let whole = string.py_join(rt.alloc(), &ByteLists::new(rt.alloc()))?;
-    assert!(rt; matches!(whole, Outcome::Done(made) if made.is_empty()));
+    assert!(rt; made(&whole) == Ok(b""));
     let affix = Scalar::Bytes(ByteList::from_vec(Vec::from_slice(rt.alloc(), b"a")?));
-    assert!(rt;
-        matches!(
-            begins(rt.alloc(), &string, &Value::One(affix))?,
-            Outcome::Done(true)
-        )
-    );
-    let number = Value::One(Scalar::Int(97));
-    assert!(rt;
-        matches!(
-            begins(rt.alloc(), &string, &number)?,
-            Outcome::Refused(Fault::Kind)
-        )
-    );
+    let told = begins(rt.alloc(), &string, &Value::One(affix))?;
+    assert!(rt; matches!(told, Outcome::Done(true)));
+    let told = begins(rt.alloc(), &string, &Value::One(Scalar::Int(97)))?;
+    assert!(rt; matches!(told, Outcome::Refused(Fault::Kind)));
     Ok(())
 }

@@ -1,11 +1,12 @@
 //! The methods that are measured.
+ghost use Rattle.std.specs.Prelude.{◌≤◌, length, IfSome};
 
 use crate::texts::{padded, table};
+use bstr::ByteSlice;
 use pybuf_bytes::{
     ByteInnerFindOptions, ByteInnerTranslateOptions, Needle, PyBytesInner, SplitArgs,
     SplitLinesArgs,
 };
-use pybuf_search::first_place;
 use pybuf_value::{ByteList, ByteLists, Made, Outcome, Scalar, SnapList, Tried, Value};
 use std::alloc::Global;
 
@@ -89,6 +90,13 @@ fn mark_of_answer(answer: Tried<Vec<u8>>) -> Made<usize> {
         Outcome::Done(bytes) => Ok(mark_of_bytes(bytes.as_slice())),
         Outcome::Refused(_) => Ok(0),
     }
+}
+
+/// The first place of a needle, of which `find` asks that it lies within the bytes.
+fn first_place(bytes: &[u8], needle: &[u8]) -> Option<usize>
+    ensures { IfSome result (λ place. place ≤ length bytes.now) }
+{
+    bytes.find(needle)
 }
 
 /// The mark of a search for a needle: 0 where it stands nowhere.

@@ -33,9 +33,10 @@ pub fn text(alloc: Global) -> Made<PyBytesInner> {
 
 /// One mebibyte of which the first and the last quarter are blanks.
 pub fn padded(alloc: Global) -> Made<PyBytesInner> {
-    let mut bytes = Vec::from_elem(alloc, b' ', SIZE)?;
-    for place in SIZE / 4..SIZE / 4 * 3 {
-        bytes[place] = b'x';
+    let mut bytes = Vec::with_capacity(alloc, SIZE)?;
+    for place in 0..SIZE {
+        let is_inside = SIZE / 4 <= place && place < SIZE / 4 * 3;
+        bytes.push(if is_inside { b'x' } else { b' ' })?;
     }
     Ok(PyBytesInner::from(bytes))
 }

@@ -5,6 +5,7 @@
 
 mod letters;
 mod searches;
+mod shapes;
 mod tally;
 mod texts;
 
@@ -12,6 +13,10 @@ use letters::{BARE, tally_bare};
 use pybuf_bytes::PyBytesInner;
 use pybuf_value::Made;
 use searches::{BOUNDED, PLAIN, tally_bounded, tally_plain, tally_repeats, tally_splits};
+use shapes::{
+    PADDING, tally_expanded, tally_from_hex, tally_hex, tally_padded, tally_replaced, tally_tables,
+    tally_translated,
+};
 use std::alloc::Global;
 use std::process::ExitCode;
 use tally::Tally;
@@ -52,6 +57,10 @@ fn push_needle(
     push_line(alloc, out, "split", shown.as_str(), &tally)?;
     let tally = tally_splits(alloc, words, Some(needle), true)?;
     push_line(alloc, out, "rsplit", shown.as_str(), &tally)?;
+    let tally = tally_replaced(alloc, words, needle)?;
+    push_line(alloc, out, "replace", shown.as_str(), &tally)?;
+    let tally = tally_translated(alloc, words, needle)?;
+    push_line(alloc, out, "translate", shown.as_str(), &tally)?;
     Ok(())
 }
 
@@ -67,6 +76,21 @@ fn push_bare(alloc: Global, out: &mut String, name: &str, texts: &[PyBytesInner]
     push_line(alloc, out, "rsplit", name, &tally)?;
     let tally = tally_repeats(alloc, texts)?;
     push_line(alloc, out, "mul", name, &tally)?;
+    Ok(())
+}
+
+/// Adds the lines of the methods that pad, write or read texts that have a name.
+fn push_shapes(alloc: Global, out: &mut String, name: &str, texts: &[PyBytesInner]) -> Made<()> {
+    for (method, padding) in &PADDING {
+        let tally = tally_padded(alloc, *padding, texts)?;
+        push_line(alloc, out, method, name, &tally)?;
+    }
+    let tally = tally_expanded(alloc, texts)?;
+    push_line(alloc, out, "expandtabs", name, &tally)?;
+    let tally = tally_hex(alloc, texts)?;
+    push_line(alloc, out, "hex", name, &tally)?;
+    let tally = tally_from_hex(alloc, texts)?;
+    push_line(alloc, out, "fromhex", name, &tally)?;
     Ok(())
 }
 
@@ -86,6 +110,14 @@ fn report(alloc: Global) -> Made<String> {
     push_bare(alloc, &mut out, "breaks", breaks.as_slice())?;
     let bytes = single_bytes(alloc)?;
     push_bare(alloc, &mut out, "bytes", bytes.as_slice())?;
+    let signs = texts(alloc, b"+-1a", 4)?;
+    push_shapes(alloc, &mut out, "signs", signs.as_slice())?;
+    let tabs = texts(alloc, b"a\t\n\r", 5)?;
+    push_shapes(alloc, &mut out, "tabs", tabs.as_slice())?;
+    let digits = texts(alloc, b"1aF g", 5)?;
+    push_shapes(alloc, &mut out, "digits", digits.as_slice())?;
+    let tally = tally_tables(alloc)?;
+    push_line(alloc, &mut out, "maketrans", "ab", &tally)?;
     Ok(out)
 }
 

@@ -187,7 +187,8 @@ pub const PLAIN: [(&str, Plain); 10] = [
     ("rpartition", Plain::RightPartition),
 ];
 
-fn push_bytes(tally: &mut Tally, bytes: Outcome<Vec<u8>>) {
+/// An answer that may be refused.
+pub fn push_bytes(tally: &mut Tally, bytes: Outcome<Vec<u8>>) {
     match bytes {
         Outcome::Done(bytes) => tally.bytes(bytes.as_slice()),
         Outcome::Refused(fault) => tally.refused(fault),

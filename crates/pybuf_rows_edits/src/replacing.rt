@@ -91,11 +91,7 @@ fn put_view(parts: &mut Parts, slice: SaturatedSlice, view: usize) -> Result<Loc
 }
 
 /// Puts nothing there: an iterator has no bytes.
-fn put_iterator(
-    parts: &Parts,
-    slice: SaturatedSlice,
-    iterator: usize,
-) -> Result<LocalReply, Halt>
+fn put_iterator(parts: &Parts, slice: SaturatedSlice, iterator: usize) -> Result<LocalReply, Halt>
     ensures { Answers (lent_spec.assigned_by (exporter_of parts.now) slice (snap_of_subject (exporter_of parts.now) (subjects.Iter iterator))) (exporter_of parts.now) result (exporter_of parts.now) }
 {
     parts.iterator(iterator)?;
