@@ -1,6 +1,10 @@
 //! Methods that give bytes another shape.
-ghost use Rattle.std.specs.Prelude.{◌≡◌, IfOk};
+ghost use Rattle.std.specs.Prelude.{◌≡◌, Some};
+ghost use Rattle.std.specs.Option.{option_copied};
 ghost use Rattle.pybuf_value.specs.Halting.{Gives};
+ghost use Rattle.pybuf_bytes.specs.Shaping.{decoded};
+ghost use Rattle.pybuf_shaping.specs.Arguments.{translation};
+ghost use Rattle.pybuf_shaping.specs.Digits.{hex_text, bytes_of_hex};
 ghost use Rattle.pybuf_shaping.specs.Padding.{centered, justified_left, justified_right};
 ghost use Rattle.pybuf_methods.specs.Shaped as spec;
 
@@ -10,8 +14,52 @@ use crate::given::{
 };
 use pybuf_bytes::{MethodReply, decode_text};
 use pybuf_shaping::{fill_of, tab_size, translate_by};
-use pybuf_value::{Fault, Halt, Lender, Value, text_in};
+use pybuf_value::{ByteList, Fault, Halt, Lender, Text, Value, text_in};
 use std::alloc::Global;
+
+/// Hexadecimal digits, or why not.
+fn digits_of(
+    alloc: Global,
+    bytes: &[u8],
+    separator: Option<&[u8]>,
+    size: isize,
+) -> Result<Text, Halt>
+    ensures { Gives (hex_text (option_copied separator.entry) size bytes.now) result }
+{
+    done(pybuf_shaping::hex_text(alloc, bytes, separator, size))
+}
+
+/// The bytes of hexadecimal digits, or why not.
+fn bytes_of_digits(alloc: Global, text: &Text) -> Result<ByteList, Halt>
+    ensures { Gives (bytes_of_hex text.now) result }
+{
+    done(pybuf_shaping::bytes_of_hex(alloc, text.as_slice()))
+}
+
+/// Bytes mapped by a table, or why not.
+fn mapped<L: Lender>(
+    alloc: Global,
+    bytes: &[u8],
+    table: &Value,
+    delete: Option<&Value>,
+    lender: &L,
+) -> Result<ByteList, Halt>
+    ensures { Gives (translation (L.pairs lender.now) (Some table.now) (option_copied delete.entry) bytes.now) result }
+{
+    done(translate_by(alloc, bytes, Some(table), delete, lender))
+}
+
+/// The text that bytes are, or why not.
+fn text_of(
+    alloc: Global,
+    bytes: &[u8],
+    encoding: Option<&Text>,
+    errors: Option<&Text>,
+) -> Result<Text, Halt>
+    ensures { Gives (decoded bytes.now (option_copied encoding.entry) (option_copied errors.entry)) result }
+{
+    done(decode_text(alloc, bytes, encoding, errors))
+}
 
 /// Hexadecimal digits, in groups of one byte where no size is given.
 pub(crate) fn hex<L: Lender>(
@@ -25,7 +73,7 @@ pub(crate) fn hex<L: Lender>(
     let (separator, size) = at_most_two(args)?;
     let separator = separator_given(separator, lender)?;
     let size = count_or(1, size)?;
-    let text = done(pybuf_shaping::hex_text(alloc, bytes, separator, size))?;
+    let text = digits_of(alloc, bytes, separator, size)?;
     Ok(MethodReply::Text(text))
 }
 
@@ -35,7 +83,7 @@ pub(crate) fn fromhex(alloc: Global, args: &[Value]) -> Result<MethodReply, Halt
 {
     let digits = one(args)?;
     let text = text_in(digits)?;
-    let bytes = done(pybuf_shaping::bytes_of_hex(alloc, text.as_slice()))?;
+    let bytes = bytes_of_digits(alloc, text)?;
     Ok(MethodReply::Bytes(bytes))
 }
 
@@ -136,7 +184,7 @@ pub(crate) fn translate<L: Lender>(
     ensures { Gives (spec.translate (L.pairs lender.now) bytes.now args.now) result }
 {
     let (table, delete) = one_or_two(args)?;
-    let whole = done(translate_by(alloc, bytes, Some(table), delete, lender))?;
+    let whole = mapped(alloc, bytes, table, delete, lender)?;
     Ok(MethodReply::Bytes(whole))
 }
 
@@ -164,6 +212,6 @@ pub(crate) fn decode(alloc: Global, bytes: &[u8], args: &[Value]) -> Result<Meth
     let (encoding, errors) = at_most_two(args)?;
     let encoding = text_given(encoding)?;
     let errors = text_given(errors)?;
-    let text = done(decode_text(alloc, bytes, encoding, errors))?;
+    let text = text_of(alloc, bytes, encoding, errors)?;
     Ok(MethodReply::Text(text))
 }

@@ -1,6 +1,8 @@
 //! Methods that search.
 ghost use Rattle.std.specs.Prelude.{◌≡◌, Ok, Err, MatchResult};
 ghost use Rattle.pybuf_value.specs.Halting.{Gives};
+ghost use Rattle.pybuf_arguments.specs.Affixes.{startswith_of, endswith_of};
+ghost use Rattle.pybuf_bytes.specs.Searching.{find_of};
 ghost use Rattle.pybuf_search.specs.Places as places;
 ghost use Rattle.pybuf_methods.specs.Sought as spec;
 
@@ -26,6 +28,30 @@ fn search_given<L: Lender>(
     Ok(ByteInnerFindOptions { sub, start, end })
 }
 
+/// The first place between bounds, or why not.
+fn first_between(
+    alloc: Global,
+    bytes: &[u8],
+    options: ByteInnerFindOptions,
+) -> Result<Option<usize>, Halt>
+    ensures { Gives (find_of places.first_place options.sub options.start options.end bytes.now) result }
+{
+    let search = |part: &[u8], needle: &[u8]| first_place(part, needle);
+    done(find_between(alloc, bytes, options, search))
+}
+
+/// The last place between bounds, or why not.
+fn last_between(
+    alloc: Global,
+    bytes: &[u8],
+    options: ByteInnerFindOptions,
+) -> Result<Option<usize>, Halt>
+    ensures { Gives (find_of places.last_place options.sub options.start options.end bytes.now) result }
+{
+    let search = |part: &[u8], needle: &[u8]| last_place(part, needle);
+    done(find_between(alloc, bytes, options, search))
+}
+
 /// The first place between the bounds.
 fn place<L: Lender>(
     alloc: Global,
@@ -36,12 +62,7 @@ fn place<L: Lender>(
     ensures { Gives (spec.place places.first_place (L.pairs lender.now) bytes.now args.now) result }
 {
     let options = search_given(alloc, args, lender)?;
-    done(find_between(
-        alloc,
-        bytes,
-        options,
-        |part: &[u8], needle: &[u8]| first_place(part, needle),
-    ))
+    first_between(alloc, bytes, options)
 }
 
 /// The last place between the bounds.
@@ -54,12 +75,7 @@ fn rplace<L: Lender>(
     ensures { Gives (spec.place places.last_place (L.pairs lender.now) bytes.now args.now) result }
 {
     let options = search_given(alloc, args, lender)?;
-    done(find_between(
-        alloc,
-        bytes,
-        options,
-        |part: &[u8], needle: &[u8]| last_place(part, needle),
-    ))
+    last_between(alloc, bytes, options)
 }
 
 /// A place as a number: -1 where nothing was found.
@@ -160,6 +176,30 @@ fn affix_given(args: &[Value]) -> Result<(&Value, Option<i128>, Option<i128>), F
     Ok((affix, start, end))
 }
 
+/// Whether bytes begin with an affix between bounds, or why not.
+fn begins<L: Lender>(
+    alloc: Global,
+    bytes: &[u8],
+    options: &StartsEndsWithArgs,
+    lender: &L,
+) -> Result<bool, Halt>
+    ensures { Gives (startswith_of (L.pairs lender.now) options.now.affix options.now.start options.now.end bytes.now) result }
+{
+    done(pybuf_arguments::startswith(alloc, bytes, options, lender))
+}
+
+/// Whether they end with one, or why not.
+fn ends<L: Lender>(
+    alloc: Global,
+    bytes: &[u8],
+    options: &StartsEndsWithArgs,
+    lender: &L,
+) -> Result<bool, Halt>
+    ensures { Gives (endswith_of (L.pairs lender.now) options.now.affix options.now.start options.now.end bytes.now) result }
+{
+    done(pybuf_arguments::endswith(alloc, bytes, options, lender))
+}
+
 /// Whether the bytes between the bounds begin with an affix.
 pub(crate) fn startswith<L: Lender>(
     alloc: Global,
@@ -172,7 +212,7 @@ pub(crate) fn startswith<L: Lender>(
     let (affix, start, end) = affix_given(args)?;
     let affix = affix.copy(alloc)?;
     let options = StartsEndsWithArgs { affix, start, end };
-    let answer = done(pybuf_arguments::startswith(alloc, bytes, &options, lender))?;
+    let answer = begins(alloc, bytes, &options, lender)?;
     Ok(MethodReply::Truth(answer))
 }
 
@@ -188,6 +228,6 @@ pub(crate) fn endswith<L: Lender>(
     let (affix, start, end) = affix_given(args)?;
     let affix = affix.copy(alloc)?;
     let options = StartsEndsWithArgs { affix, start, end };
-    let answer = done(pybuf_arguments::endswith(alloc, bytes, &options, lender))?;
+    let answer = ends(alloc, bytes, &options, lender)?;
     Ok(MethodReply::Truth(answer))
 }
