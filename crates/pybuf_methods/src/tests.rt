@@ -87,7 +87,8 @@ fn is_refused(answer: &Outcome<MethodReply>, wanted: Fault) -> bool {
 }
 
 /// Bytes, a method, its arguments, and bytes or a text that it gives.
-const BYTES: [(&[u8], MethodName, &[Given], &[u8]); 14] = [
+const BYTES: [(&[u8], MethodName, &[Given], &[u8]); 15] = [
+    (b"abc", MethodName::Decode, &[Given::None], b"abc"),
     (b"ab", MethodName::Add, &[Given::Bytes(b"c")], b"abc"),
     (b"ab", MethodName::Mul, &[Given::Number(2)], b"abab"),
     (b"aB", MethodName::SwapCase, &[], b"Ab"),
@@ -232,7 +233,7 @@ fn methods_give_lists(rt: HostRuntime) -> Result<(), Fail> {
 }
 
 /// Bytes, a method, its arguments, and why it is refused.
-const REFUSED: [(&[u8], MethodName, &[Given], Fault); 8] = [
+const REFUSED: [(&[u8], MethodName, &[Given], Fault); 9] = [
     (b"abc", MethodName::IsAlnum, &[Given::None], Fault::Kind),
     (
         b"abc",
@@ -251,6 +252,12 @@ const REFUSED: [(&[u8], MethodName, &[Given], Fault); 8] = [
         MethodName::Find,
         &[Given::Number(256), Given::Bytes(b"")],
         Fault::Value,
+    ),
+    (
+        b"abc",
+        MethodName::Split,
+        &[Given::Number(5), Given::Number(1 << 63)],
+        Fault::Kind,
     ),
     (
         b"abc",
