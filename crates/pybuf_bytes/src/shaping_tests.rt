@@ -87,30 +87,52 @@ fn zeros_tabs_and_matches(rt: HostRuntime) -> Result<(), Fail> {
     assert!(rt; bytes(&dotted) == Ok(b".P.y.t.h.o.n."));
     let dotted = python.replace(rt.alloc(), &none, &dot, Some(0))?;
     assert!(rt; bytes(&dotted) == Ok(b"Python"));
+    Ok(())
+}
+
+#[test]
+fn matches_are_replaced_in_place(rt: HostRuntime) -> Result<(), Fail> {
+    let python = inner(rt.alloc(), b"Python")?;
+    let dot = inner(rt.alloc(), b".")?;
     let letter = inner(rt.alloc(), b"t")?;
+    if letter.len() != dot.len() {
+        return Err(Fail::from("as many bytes"));
+    }
     let same = python.replace_in_place(rt.alloc(), &letter, &dot, Some(1))?;
     assert!(rt; same.as_slice() == b"Py.hon".as_slice());
     Ok(())
 }
 
+/// What `abracadabra` is by a table, without some bytes.
+fn translated(
+    alloc: Global,
+    table: Option<Value>,
+    delete: &[u8],
+) -> Result<Outcome<Vec<u8>>, Fail> {
+    let delete = Some(value(alloc, delete)?);
+    let options = ByteInnerTranslateOptions { table, delete };
+    let word = inner(alloc, b"abracadabra")?;
+    let lender = SnapList::new(alloc);
+    Ok(word.translate(alloc, &options, &lender)?)
+}
+
+/// The table that maps `a`, `b` and `c` to others, of which the first `a` counts.
+fn letters_mapped(alloc: Global) -> Result<Value, Fail> {
+    let from = inner(alloc, b"abca")?;
+    let to = inner(alloc, b"xyzw")?;
+    let table = PyBytesInner::maketrans(alloc, &from, &to)?;
+    value(alloc, bytes(&table).unwrap_or(b""))
+}
+
 #[test]
 fn tables_are_read(rt: HostRuntime) -> Result<(), Fail> {
-    let lender = SnapList::new(rt.alloc());
-    let from = inner(rt.alloc(), b"abca")?;
-    let to = inner(rt.alloc(), b"xyzw")?;
-    let table = PyBytesInner::maketrans(rt.alloc(), &from, &to)?;
-    let mut options = ByteInnerTranslateOptions {
-        table: Some(value(rt.alloc(), bytes(&table).unwrap_or(b""))?),
-        delete: Some(value(rt.alloc(), b"r")?),
-    };
-    let word = inner(rt.alloc(), b"abracadabra")?;
-    let mapped = word.translate(rt.alloc(), &options, &lender)?;
+    let table = letters_mapped(rt.alloc())?;
+    let mapped = translated(rt.alloc(), Some(table), b"r")?;
     assert!(rt; bytes(&mapped) == Ok(b"xyxzxdxyx"));
-    options.table = None;
-    let mapped = word.translate(rt.alloc(), &options, &lender)?;
+    let mapped = translated(rt.alloc(), None, b"r")?;
     assert!(rt; bytes(&mapped) == Ok(b"abacadaba"));
-    options.table = Some(value(rt.alloc(), b"short")?);
-    let refused = word.translate(rt.alloc(), &options, &lender)?;
+    let short = value(rt.alloc(), b"short")?;
+    let refused = translated(rt.alloc(), Some(short), b"r")?;
     assert!(rt; bytes(&refused) == Err(Fault::Value));
     Ok(())
 }
