@@ -23,6 +23,7 @@ fn with_one_view(alloc: Global, kind: ExporterKind, bytes: &[u8], layout: KeptLa
         kind,
         bytes,
         views,
+        iterators: Vec::new(alloc),
         exports: 1,
         alloc,
     })
