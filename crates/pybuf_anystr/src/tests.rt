@@ -2,6 +2,7 @@
 use super::*;
 use pybuf_bytes::{PyBytesInner, SplitArgs, SplitLinesArgs};
 use pybuf_search::begins_with;
+use pybuf_shaping::ByteInnerPaddingOptions;
 use pybuf_value::{ByteList, ByteLists, Fault, Outcome, Scalar, SnapList, Tried, Value};
 use std::alloc::Global;
 use std::test::Fail;
@@ -135,5 +136,39 @@ fn strings_are_put_together(rt: HostRuntime) -> Result<(), Fail> {
     assert!(rt; matches!(told, Outcome::Done(true)));
     let told = begins(rt.alloc(), &string, &Value::One(Scalar::Int(97)))?;
     assert!(rt; matches!(told, Outcome::Refused(Fault::Kind)));
+    Ok(())
+}
+
+/// The string between one fill byte and two; a string that is too long for that as it is.
+fn fenced(alloc: Global, string: &Bytes) -> Result<Bytes, Fail> {
+    if string.bytes_len() > 8 {
+        return Ok(string.to_container(alloc)?);
+    }
+    Ok(Bytes::from(string.py_pad(alloc, 1, 2, b'x')?))
+}
+
+/// Whether a string is in lower case.
+fn is_lower(string: &Bytes) -> bool {
+    string.py_iscase(|b| b.is_ascii_lowercase(), |b| b.is_ascii_uppercase())
+}
+
+#[test]
+fn strings_are_filled_up(rt: HostRuntime) -> Result<(), Fail> {
+    let string = bytes(rt.alloc(), b"-a")?;
+    assert!(rt; fenced(rt.alloc(), &string)?.as_bytes() == b"x-axx".as_slice());
+    assert!(rt; string.py_zfill(rt.alloc(), 4)?.as_slice() == b"-00a".as_slice());
+    let options = ByteInnerPaddingOptions {
+        width: 5,
+        fillchar: None,
+    };
+    let lender = SnapList::new(rt.alloc());
+    let whole = string.py_center(rt.alloc(), &options, &lender)?;
+    assert!(rt; made(&whole) == Ok(b"  -a "));
+    let whole = string.py_ljust(rt.alloc(), &options, &lender)?;
+    assert!(rt; made(&whole) == Ok(b"-a   "));
+    let whole = string.py_rjust(rt.alloc(), &options, &lender)?;
+    assert!(rt; made(&whole) == Ok(b"   -a"));
+    assert!(rt; is_lower(&string));
+    assert!(rt; !is_lower(&bytes(rt.alloc(), b"aB")?));
     Ok(())
 }
