@@ -2,7 +2,6 @@
 use super::*;
 use pybuf_bytes::{PyBytesInner, SplitArgs, SplitLinesArgs};
 use pybuf_search::begins_with;
-use pybuf_shaping::ByteInnerPaddingOptions;
 use pybuf_value::{ByteList, ByteLists, Fault, Outcome, Scalar, SnapList, Tried, Value};
 use std::alloc::Global;
 use std::test::Fail;
@@ -139,58 +138,9 @@ fn strings_are_put_together(rt: HostRuntime) -> Result<(), Fail> {
     Ok(())
 }
 
-/// The string between one fill byte and two; a string that is too long for that as it is.
-fn fenced(alloc: Global, string: &Bytes) -> Result<Bytes, Fail> {
-    if string.bytes_len() > 8 {
-        return Ok(string.to_container(alloc)?);
-    }
-    Ok(Bytes::from(string.py_pad(alloc, 1, 2, b'x')?))
-}
-
 /// Whether a string is in lower case.
 fn is_lower(string: &Bytes) -> bool {
     string.py_iscase(|b| b.is_ascii_lowercase(), |b| b.is_ascii_uppercase())
-}
-
-/// The bytes, none where they are refused.
-fn granted(outcome: &Outcome<Vec<u8>>) -> &[u8] {
-    match outcome {
-        Outcome::Done(bytes) => bytes.as_slice(),
-        Outcome::Refused(_) => b"",
-    }
-}
-
-/// Whether a string in the middle, on the left and on the right of a width of 5 is as wanted.
-fn is_filled_up(
-    alloc: Global,
-    string: &Bytes,
-    center: &[u8],
-    left: &[u8],
-    right: &[u8],
-) -> Result<(bool, bool, bool), Fail> {
-    let options = ByteInnerPaddingOptions {
-        width: 5,
-        fillchar: None,
-    };
-    let lender = SnapList::new(alloc);
-    let centered = string.py_center(alloc, &options, &lender)?;
-    let on_left = string.py_ljust(alloc, &options, &lender)?;
-    let on_right = string.py_rjust(alloc, &options, &lender)?;
-    Ok((
-        granted(&centered) == center,
-        granted(&on_left) == left,
-        granted(&on_right) == right,
-    ))
-}
-
-#[test]
-fn strings_are_filled_up(rt: HostRuntime) -> Result<(), Fail> {
-    let string = bytes(rt.alloc(), b"-a")?;
-    let told = is_filled_up(rt.alloc(), &string, b"  -a ", b"-a   ", b"   -a")?;
-    assert!(rt; told == (true, true, true));
-    assert!(rt; fenced(rt.alloc(), &string)?.as_bytes() == b"x-axx".as_slice());
-    assert!(rt; string.py_zfill(rt.alloc(), 4)?.as_slice() == b"-00a".as_slice());
-    Ok(())
 }
 
 #[test]
