@@ -1,20 +1,25 @@
 //! What strings of any kind have in common.
-ghost use Rattle.std.specs.Prelude.{◌≡◌, ◌==◌, ◌≤◌, ◌++◌, ℕ, Bool, List, [], length, IfOk, OnOk, OnErr, Option, slice_range};
+ghost use Rattle.std.specs.Prelude.{◌≡◌, ◌==◌, ◌+◌, ◌<◌, ◌≤◌, ◌^◌, ◌++◌, ℕ, Bool, List, [], length, IfOk, OnOk, OnErr, Option, slice_range};
 ghost use Rattle.std.specs.Option.{option_copied};
 ghost use Rattle.bstr.specs.Owned.{joined};
 ghost use Rattle.pybuf_value.specs.Halting.{outcome_of};
 ghost use Rattle.pybuf_search.specs.Joins.{fitted, items_of};
 ghost use Rattle.pybuf_search.specs.Ends.{without_prefix, without_suffix};
 ghost use Rattle.pybuf_letters.specs.Blanks.{blank_parts, blank_parts_from_last};
+ghost use Rattle.pybuf_letters.specs.Classes.{all_in_case};
 ghost use Rattle.pybuf_letters.specs.Lines.{split_lines};
 ghost use Rattle.pybuf_letters.specs.Strips.{stripped, goes};
 ghost use Rattle.pybuf_arguments.specs.Affixes.{single_or_any_of};
+ghost use Rattle.pybuf_shaping.specs.Arguments.{filled};
+ghost use Rattle.pybuf_shaping.specs.Padding.{padded, centered, justified_left, justified_right, zero_filled};
 ghost use Rattle.pybuf_bytes.specs.Searching.{split_of, partition_by, parts_answered};
+ghost use Rattle.pybuf_anystr.specs.Cases.{IsTestOfByte};
 ghost use Rattle.pybuf_anystr.specs.Texts.{IsTextOf, AreCharactersOf};
 ghost use Rattle.pybuf_anystr.specs.Places.{first_place_in, number_of_matches_in, IsTestOfTwo};
 
 use crate::bytes::Bytes;
 use pybuf_bytes::{ByteInnerSplitOptions, PyBytesInner, SplitLinesArgs};
+use pybuf_shaping::ByteInnerPaddingOptions;
 use pybuf_value::{ByteLists, Lender, Made, Text, Tried, Value};
 use std::alloc::Global;
 use std::ops::Range;
@@ -170,4 +175,56 @@ pub trait AnyStr {
     /// not. There is no empty line after the last end.
     fn py_bytes_splitlines(&self, alloc: Global, options: SplitLinesArgs) -> Made<ByteLists>
         ensures { IfOk result (λ lines. lines ≡ split_lines options.keepends (bytes self.now)) };
+
+    /// The bytes between so many fill bytes on the left and on the right.
+    fn py_pad(&self, alloc: Global, left: usize, right: usize, fillchar: u8) -> Made<Vec<u8>>
+        requires { left + length (bytes self.now) + right < 2 ^ 63 }
+        ensures { IfOk result (λ made. made.items ≡ padded left right fillchar (bytes self.now)) };
+
+    /// The bytes in the middle of a width, filled up on both sides; the bytes where they are long
+    /// enough. Of an odd number of missing bytes one more stands on the left where the width is odd
+    /// too, and else on the right.
+    ///
+    /// Refused as `ByteInnerPaddingOptions::fill` is.
+    fn py_center<L: Lender>(
+        &self,
+        alloc: Global,
+        options: &ByteInnerPaddingOptions,
+        lender: &L,
+    ) -> Tried<Vec<u8>>
+        ensures { IfOk result (λ outcome. items_of outcome ≡ outcome_of (filled (centered options.now.width) (L.pairs lender.now) options.now.fillchar (bytes self.now))) };
+
+    /// The bytes on the left of a width, filled up on the right; the bytes where they are long enough.
+    ///
+    /// Refused as `ByteInnerPaddingOptions::fill` is.
+    fn py_ljust<L: Lender>(
+        &self,
+        alloc: Global,
+        options: &ByteInnerPaddingOptions,
+        lender: &L,
+    ) -> Tried<Vec<u8>>
+        ensures { IfOk result (λ outcome. items_of outcome ≡ outcome_of (filled (justified_left options.now.width) (L.pairs lender.now) options.now.fillchar (bytes self.now))) };
+
+    /// The bytes on the right of a width, filled up on the left; the bytes where they are long enough.
+    ///
+    /// Refused as `ByteInnerPaddingOptions::fill` is.
+    fn py_rjust<L: Lender>(
+        &self,
+        alloc: Global,
+        options: &ByteInnerPaddingOptions,
+        lender: &L,
+    ) -> Tried<Vec<u8>>
+        ensures { IfOk result (λ outcome. items_of outcome ≡ outcome_of (filled (justified_right options.now.width) (L.pairs lender.now) options.now.fillchar (bytes self.now))) };
+
+    /// The bytes with digits `0` before them up to a width, behind one sign that they begin with; the
+    /// bytes where they are long enough.
+    fn py_zfill(&self, alloc: Global, width: isize) -> Made<Vec<u8>>
+        ensures { IfOk result (λ made. made.items ≡ zero_filled width (bytes self.now)) };
+
+    /// Whether `is_case` is true of some byte and `is_opposite` of none, as Python's `bytes.islower`
+    /// asks of lower case and upper case, and `bytes.isupper` of upper case and lower case.
+    fn py_iscase<F: Fn(u8) -> bool, G: Fn(u8) -> bool>(&self, is_case: F, is_opposite: G) -> bool
+        requires in_case { F.IsAlwaysCallable is_case }
+        requires opposite { G.IsAlwaysCallable is_opposite }
+        ensures { (case_test opposite_test : ℕ → Bool) → IsTestOfByte (F.post is_case) case_test → IsTestOfByte (G.post is_opposite) opposite_test → result ≡ all_in_case case_test opposite_test (bytes self.now) };
 }

@@ -1,12 +1,16 @@
 //! Bytes as a string of any kind.
-ghost use Rattle.std.specs.Prelude.{◌≡◌, ℕ, List, IfOk};
+ghost use Rattle.std.specs.Prelude.{◌≡◌, ℕ, Bool, List, IfOk, Ok};
 ghost use Rattle.std.specs.Option.{option_copied};
 ghost use Rattle.std.specs.Str.{chars};
+ghost use Rattle.pybuf_search.specs.Joins.{items_of};
+ghost use Rattle.pybuf_letters.specs.Classes as letters;
+ghost use Rattle.pybuf_anystr.specs.Cases.{IsTestOfByte};
 
 use crate::any_str::{AnyStr, AnyStrContainer};
 use pybuf_arguments::{AnyStrWrapper, StringRange, single_or_tuple_any};
 use pybuf_bytes::{ByteInnerSplitOptions, PyBytesInner, SplitLinesArgs, partition_at, split_at};
-use pybuf_value::{ByteLists, Fault, Lender, Made, Outcome, Text, Tried, Value};
+use pybuf_shaping::ByteInnerPaddingOptions;
+use pybuf_value::{ByteList, ByteLists, Fault, Lender, Made, Outcome, Text, Tried, Value};
 use std::alloc::{AllocError, Global};
 use std::marker::Model;
 use std::ops::Range;
@@ -197,6 +201,77 @@ impl AnyStr for Bytes {
     fn py_bytes_splitlines(&self, alloc: Global, options: SplitLinesArgs) -> Made<ByteLists> {
         pybuf_letters::split_lines(alloc, self.bytes.as_slice(), options.keepends)
     }
+
+    fn py_pad(&self, alloc: Global, left: usize, right: usize, fillchar: u8) -> Made<Vec<u8>> {
+        let list = pybuf_shaping::pad(alloc, self.bytes.as_slice(), left, right, fillchar)?;
+        Ok(list.into_vec())
+    }
+
+    fn py_center<L: Lender>(
+        &self,
+        alloc: Global,
+        options: &ByteInnerPaddingOptions,
+        lender: &L,
+    ) -> Tried<Vec<u8>> {
+        as_vec(pybuf_shaping::center_with(alloc, self.bytes.as_slice(), options, lender))
+    }
+
+    fn py_ljust<L: Lender>(
+        &self,
+        alloc: Global,
+        options: &ByteInnerPaddingOptions,
+        lender: &L,
+    ) -> Tried<Vec<u8>> {
+        as_vec(pybuf_shaping::justify_left_with(alloc, self.bytes.as_slice(), options, lender))
+    }
+
+    fn py_rjust<L: Lender>(
+        &self,
+        alloc: Global,
+        options: &ByteInnerPaddingOptions,
+        lender: &L,
+    ) -> Tried<Vec<u8>> {
+        as_vec(pybuf_shaping::justify_right_with(alloc, self.bytes.as_slice(), options, lender))
+    }
+
+    fn py_zfill(&self, alloc: Global, width: isize) -> Made<Vec<u8>> {
+        let list = pybuf_shaping::zero_fill(alloc, self.bytes.as_slice(), width)?;
+        Ok(list.into_vec())
+    }
+
+    fn py_iscase<F: Fn(u8) -> bool, G: Fn(u8) -> bool>(&self, is_case: F, is_opposite: G) -> bool {
+        all_in_case(self.bytes.as_slice(), &is_case, &is_opposite)
+    }
+}
+
+/// The bytes of an answer, as a vector. Takes no memory.
+fn as_vec(answer: Tried<ByteList>) -> Tried<Vec<u8>>
+    ensures { IfOk result (λ outcome. answer ≡ Ok (items_of outcome)) }
+{
+    match answer? {
+        Outcome::Done(bytes) => Ok(Outcome::Done(bytes.into_vec())),
+        Outcome::Refused(fault) => Ok(Outcome::Refused(fault)),
+    }
+}
+
+/// Whether one test is true of some byte and another of none.
+fn all_in_case<F: Fn(u8) -> bool, G: Fn(u8) -> bool>(
+    bytes: &[u8],
+    is_case: &F,
+    is_opposite: &G,
+) -> bool
+    requires in_case { F.IsAlwaysCallable is_case.now }
+    requires opposite { G.IsAlwaysCallable is_opposite.now }
+    ensures { (case_test opposite_test : ℕ → Bool) → IsTestOfByte (F.post is_case.now) case_test → IsTestOfByte (G.post is_opposite.now) opposite_test → result ≡ letters.all_in_case case_test opposite_test bytes.now }
+{
+    let mut found = false;
+    for b in bytes {
+        if is_opposite(*b) {
+            return false;
+        }
+        found = found || is_case(*b);
+    }
+    found
 }
 
 /// The characters of a text.

@@ -137,3 +137,15 @@ fn strings_are_put_together(rt: HostRuntime) -> Result<(), Fail> {
     assert!(rt; matches!(told, Outcome::Refused(Fault::Kind)));
     Ok(())
 }
+
+/// Whether a string is in lower case.
+fn is_lower(string: &Bytes) -> bool {
+    string.py_iscase(|b| b.is_ascii_lowercase(), |b| b.is_ascii_uppercase())
+}
+
+#[test]
+fn strings_tell_their_case(rt: HostRuntime) -> Result<(), Fail> {
+    assert!(rt; is_lower(&bytes(rt.alloc(), b"-a")?));
+    assert!(rt; !is_lower(&bytes(rt.alloc(), b"aB")?));
+    Ok(())
+}
