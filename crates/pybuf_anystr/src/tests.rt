@@ -1,6 +1,6 @@
 //! Strings of any kind, with ample memory. What is wanted is what Python's `bytes` answers.
 use super::*;
-use pybuf_bytes::{PyBytesInner, SplitArgs, SplitLinesArgs};
+use pybuf_bytes::{ByteInnerPaddingOptions, PyBytesInner, SplitArgs, SplitLinesArgs};
 use pybuf_search::begins_with;
 use pybuf_value::{ByteList, ByteLists, Fault, Outcome, Scalar, SnapList, Tried, Value};
 use std::alloc::Global;
@@ -147,5 +147,54 @@ fn is_lower(string: &Bytes) -> bool {
 fn strings_tell_their_case(rt: HostRuntime) -> Result<(), Fail> {
     assert!(rt; is_lower(&bytes(rt.alloc(), b"-a")?));
     assert!(rt; !is_lower(&bytes(rt.alloc(), b"aB")?));
+    Ok(())
+}
+
+/// Whether a string is filled up to width 5 by one call: in the middle, on the left or on the right.
+fn is_filled(answer: Tried<Vec<u8>>, wanted: &[u8]) -> bool {
+    match answer {
+        Ok(Outcome::Done(bytes)) => bytes.as_slice() == wanted,
+        _ => false,
+    }
+}
+
+fn centered(alloc: Global, string: &Bytes, options: &ByteInnerPaddingOptions) -> Tried<Vec<u8>> {
+    string.py_center(alloc, options, &SnapList::new(alloc))
+}
+
+fn on_left(alloc: Global, string: &Bytes, options: &ByteInnerPaddingOptions) -> Tried<Vec<u8>> {
+    string.py_ljust(alloc, options, &SnapList::new(alloc))
+}
+
+fn on_right(alloc: Global, string: &Bytes, options: &ByteInnerPaddingOptions) -> Tried<Vec<u8>> {
+    string.py_rjust(alloc, options, &SnapList::new(alloc))
+}
+
+#[test]
+fn strings_are_filled_up(rt: HostRuntime) -> Result<(), Fail> {
+    let string = bytes(rt.alloc(), b"-a")?;
+    let options = ByteInnerPaddingOptions {
+        width: 5,
+        fillchar: None,
+    };
+    assert!(rt; is_filled(centered(rt.alloc(), &string, &options), b"  -a "));
+    assert!(rt; is_filled(on_left(rt.alloc(), &string, &options), b"-a   "));
+    assert!(rt; is_filled(on_right(rt.alloc(), &string, &options), b"   -a"));
+    Ok(())
+}
+
+/// Between fill bytes, where the length allows it.
+fn fenced(alloc: Global, string: &Bytes) -> Result<Vec<u8>, Fail> {
+    if string.bytes_len() > 9 {
+        return Err(Fail::from("a short string"));
+    }
+    Ok(string.py_pad(alloc, 1, 2, b'x')?)
+}
+
+#[test]
+fn strings_are_fenced_and_numbers_get_zeros(rt: HostRuntime) -> Result<(), Fail> {
+    let string = bytes(rt.alloc(), b"-a")?;
+    assert!(rt; fenced(rt.alloc(), &string)?.as_slice() == b"x-axx".as_slice());
+    assert!(rt; string.py_zfill(rt.alloc(), 4)?.as_slice() == b"-00a".as_slice());
     Ok(())
 }
