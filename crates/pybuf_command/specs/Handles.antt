@@ -52,6 +52,9 @@ handles_of (verb.IMul count) = handles_in count
 handles_of (verb.Init options) = handles_of_options options
 handles_of (verb.Compare op other) = handles_in other
 handles_of (verb.SetState state) = handles_in state
+handles_of (verb.Contains v) = handles_in v
+handles_of (verb.Hex sep group) = handles_in_option sep ++ handles_in_option group
+handles_of (verb.Call method) = flat_map handles_in method.args
 handles_of _ = []
 
 -- the handle that a value is
@@ -64,8 +67,8 @@ handle_of_option (Some v) = handle_of_value v
 handle_of_option None = []
 
 -- The handles whose bytes a command reads: a value that is written through a view or by a slice, one
--- that bytes are added or made of, and one that a subject is compared with. Of every other handle only
--- that it was given matters.
+-- that bytes are added or made of, one that a subject is compared with or searched for, a separator of
+-- digits, and each argument of a method. Of every other handle only that it was given matters.
 abbrev pub handles_read : Subject → Verb → List ℕ
 handles_read (subject.View k) (verb.Set key v) = handle_of_value v
 handles_read (subject.View k) (verb.Compare op v) = handle_of_value v
@@ -74,4 +77,7 @@ handles_read subject.Own (verb.Extend v) = handle_of_value v
 handles_read subject.Own (verb.IAdd v) = handle_of_value v
 handles_read subject.Own (verb.Init options) = handle_of_option options.source
 handles_read subject.Own (verb.Compare op v) = handle_of_value v
+handles_read (subject.View k) (verb.Hex sep group) = handle_of_option sep
+handles_read subject.Own (verb.Contains v) = handle_of_value v
+handles_read subject.Own (verb.Call method) = flat_map handles_in method.args
 handles_read _ _ = []

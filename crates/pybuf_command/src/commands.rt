@@ -1,10 +1,10 @@
 //! Commands and replies of one exporter.
 use crate::kinds::Subject;
 use crate::loans::LoanList;
-use pybuf_bytes::ByteInnerNewOptions;
+use pybuf_bytes::{ByteInnerNewOptions, MethodCall};
 use pybuf_value::{
-    ByteList, CompareOp, CountList, Fault, Item, ItemList, Made, NumberList, Snap, Text, Twin,
-    Value,
+    ByteList, ByteLists, CompareOp, CountList, Fault, Item, ItemList, Made, NumberList, Snap, Text,
+    Twin, Value,
 };
 use std::alloc::Global;
 
@@ -46,13 +46,24 @@ pub enum Verb {
     View,
     /// A new view of the bytes of an exporter from one place up to another, as
     /// `memoryview(subject)[from:to]` where both places are there.
-    Range { from: Value, to: Value },
+    Range {
+        from: Value,
+        to: Value,
+    },
     /// The item at a key, as `subject[key]`.
-    Get { key: Value },
+    Get {
+        key: Value,
+    },
     /// Writes the item at a key, as `subject[key] = value`.
-    Set { key: Value, value: Value },
+    Set {
+        key: Value,
+        value: Value,
+    },
     /// A new view of the same bytes with items of another format, as `view.cast(format, shape)`.
-    Cast { format: Value, shape: Option<Value> },
+    Cast {
+        format: Value,
+        shape: Option<Value>,
+    },
     /// The subject's bytes, as `bytes(subject)`.
     ToBytes,
     /// Releases a view, as `view.release()`.
@@ -70,37 +81,61 @@ pub enum Verb {
     /// The number of items, as `len(subject)`.
     Len,
     /// A property, as `view.nbytes` and the other attributes of a view.
-    Property { name: PropertyName },
+    Property {
+        name: PropertyName,
+    },
     /// A new view of the same items, which may only be read, as `view.toreadonly()`.
     ToReadonly,
     /// Takes out the item at an index or the items of a slice, as `del subject[key]`.
-    Del { key: Value },
+    Del {
+        key: Value,
+    },
     /// Adds a byte at the end, as `bytearray.append(value)`.
-    Append { value: Value },
+    Append {
+        value: Value,
+    },
     /// Adds bytes at the end, as `bytearray.extend(value)`.
-    Extend { value: Value },
+    Extend {
+        value: Value,
+    },
     /// Puts a byte before the item at an index, as `bytearray.insert(index, value)`.
-    Insert { index: Value, value: Value },
+    Insert {
+        index: Value,
+        value: Value,
+    },
     /// Takes out the item at an index, the last where none is given, as `bytearray.pop(index)`.
-    Pop { index: Option<Value> },
+    Pop {
+        index: Option<Value>,
+    },
     /// Takes out the first byte of this value, as `bytearray.remove(value)`.
-    Remove { value: Value },
+    Remove {
+        value: Value,
+    },
     /// Takes out all bytes, as `bytearray.clear()`.
     Clear,
     /// Turns the order of the bytes round, as `bytearray.reverse()`.
     Reverse,
     /// Adds bytes at the end, as `bytearray += value`.
-    IAdd { value: Value },
+    IAdd {
+        value: Value,
+    },
     /// Repeats the bytes, as `bytearray *= count`.
-    IMul { count: Value },
+    IMul {
+        count: Value,
+    },
     /// Puts new bytes in place of all, as `bytearray.__init__(source, encoding, errors)`.
-    Init { options: ByteInnerNewOptions },
+    Init {
+        options: ByteInnerNewOptions,
+    },
     /// Hands out the bytes of a vector, which is empty then.
     Take,
     /// A new bytearray of the same bytes, as `bytearray.copy()`.
     Copy,
     /// Compares the subject with another value, as `subject == other` and the other operators.
-    Compare { op: CompareOp, other: Value },
+    Compare {
+        op: CompareOp,
+        other: Value,
+    },
     /// The bytes that are fed to a hasher, as in `hash(subject)`.
     Hash,
     /// The subject's text, as `repr(subject)`.
@@ -113,7 +148,22 @@ pub enum Verb {
     /// How many items are still to come, as `iterator.__length_hint__()`.
     LengthHint,
     /// Puts an iterator at another item, as `iterator.__setstate__(state)`.
-    SetState { state: Value },
+    SetState {
+        state: Value,
+    },
+    /// Whether a byte or bytes stand in the subject, as `value in subject`.
+    Contains {
+        value: Value,
+    },
+    /// The bytes of a view as hexadecimal digits, as `view.hex(sep, bytes_per_sep)`.
+    Hex {
+        sep: Option<Value>,
+        group: Option<Value>,
+    },
+    /// Calls a method of bytes and bytearrays, as `subject.find(value)`.
+    Call {
+        method: MethodCall,
+    },
 }
 
 /// A command for one exporter, with what the handles of its values name.
@@ -153,6 +203,8 @@ pub enum LocalReply {
     NotImplementedReply,
     /// Numbers, one for each dimension.
     Numbers(NumberList),
+    /// Lists of bytes, in order.
+    ByteLists(ByteLists),
     /// An iterator has no further item: Python's `StopIteration`.
     Stop,
     /// What a new exporter is to be made of: of a bytearray, another of its bytes; of a view, a vector
@@ -249,6 +301,19 @@ impl Twin for Verb {
                 let state = state.copy(alloc)?;
                 Ok(Verb::SetState { state })
             }
+            Verb::Contains { value } => {
+                let value = value.copy(alloc)?;
+                Ok(Verb::Contains { value })
+            }
+            Verb::Hex { sep, group } => {
+                let sep = sep.copy(alloc)?;
+                let group = group.copy(alloc)?;
+                Ok(Verb::Hex { sep, group })
+            }
+            Verb::Call { method } => {
+                let method = method.copy(alloc)?;
+                Ok(Verb::Call { method })
+            }
         }
     }
 }
@@ -301,6 +366,10 @@ impl Twin for LocalReply {
             LocalReply::Numbers(numbers) => {
                 let numbers = numbers.copy(alloc)?;
                 Ok(LocalReply::Numbers(numbers))
+            }
+            LocalReply::ByteLists(lists) => {
+                let lists = lists.copy(alloc)?;
+                Ok(LocalReply::ByteLists(lists))
             }
             LocalReply::Stop => Ok(LocalReply::Stop),
             LocalReply::Fresh(snap) => {

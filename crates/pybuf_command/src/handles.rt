@@ -82,6 +82,16 @@ fn push_option(handles: &mut Vec<u64>, value: &Option<Value>) -> Made<()>
     }
 }
 
+/// Adds the handles of each argument of a call.
+fn push_values(handles: &mut Vec<u64>, values: &[Value]) -> Made<()>
+    ensures { OnOk result (handles.new.items ≡ handles.old.items ++ flat_map spec.handles_in values.now) }
+{
+    for value in values {
+        push_value(handles, value)?;
+    }
+    Ok(())
+}
+
 /// Adds the handles of what bytes are made of.
 fn push_options(handles: &mut Vec<u64>, options: &ByteInnerNewOptions) -> Made<()>
     ensures { OnOk result (handles.new.items ≡ handles.old.items ++ spec.handles_of_options options.now) }
@@ -112,7 +122,8 @@ fn push_whole_option(handles: &mut Vec<u64>, value: &Option<Value>) -> Made<()>
 }
 
 /// The handles whose bytes a command reads: a value that is written through a view or by a slice, one
-/// that bytes are added or made of, and one that a subject is compared with.
+/// that bytes are added or made of, one that a subject is compared with or searched for, a separator of
+/// digits, and each argument of a method.
 pub fn handles_read(alloc: Global, subject: Subject, verb: &Verb) -> Made<Vec<u64>>
     ensures { IfOk result (λ handles. handles.items ≡ spec.handles_read subject verb.now) }
 {
@@ -131,6 +142,9 @@ pub fn handles_read(alloc: Global, subject: Subject, verb: &Verb) -> Made<Vec<u6
         (Subject::Own, Verb::IAdd { value }) => push_whole(&mut handles, value)?,
         (Subject::Own, Verb::Init { options }) => push_whole_option(&mut handles, &options.source)?,
         (Subject::Own, Verb::Compare { op: _, other }) => push_whole(&mut handles, other)?,
+        (Subject::View(_), Verb::Hex { sep, group: _ }) => push_whole_option(&mut handles, sep)?,
+        (Subject::Own, Verb::Contains { value }) => push_whole(&mut handles, value)?,
+        (Subject::Own, Verb::Call { method }) => push_values(&mut handles, method.args.as_slice())?,
         _ => {}
     }
     Ok(handles)
@@ -169,6 +183,12 @@ pub fn handles_of(alloc: Global, verb: &Verb) -> Made<Vec<u64>>
         Verb::Init { options } => push_options(&mut handles, options)?,
         Verb::Compare { op: _, other } => push_value(&mut handles, other)?,
         Verb::SetState { state } => push_value(&mut handles, state)?,
+        Verb::Contains { value } => push_value(&mut handles, value)?,
+        Verb::Hex { sep, group } => {
+            push_option(&mut handles, sep)?;
+            push_option(&mut handles, group)?;
+        }
+        Verb::Call { method } => push_values(&mut handles, method.args.as_slice())?,
         _ => {}
     }
     Ok(handles)

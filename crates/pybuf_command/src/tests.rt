@@ -1,9 +1,9 @@
 //! What no clause says: that the calls succeed with ample memory.
 use super::*;
-use pybuf_bytes::ByteInnerNewOptions;
+use pybuf_bytes::{ByteInnerNewOptions, MethodCall, MethodName};
 use pybuf_value::{
-    ByteList, CompareOp, CountList, Fault, Item, ItemList, Made, NumberList, Scalar, Snap,
-    SnapKind, Text, Twin, Value,
+    ByteList, ByteLists, CompareOp, CountList, Fault, Item, ItemList, Made, NumberList, Scalar,
+    Snap, SnapKind, Text, Twin, Value, ValueList,
 };
 use std::alloc::Global;
 use std::test::Fail;
@@ -45,6 +45,12 @@ fn sum_of(verb: &Verb) -> (i128, i128) {
         } => (4, number_of(source)),
         Verb::Compare { op, other } => (*op as i128, number_of(other)),
         Verb::SetState { state } => (5, number_of(state)),
+        Verb::Contains { value } => (6, number_of(value)),
+        Verb::Hex {
+            sep: None,
+            group: Some(group),
+        } => (7, number_of(group)),
+        Verb::Call { method } => (method.name as i128, method.args.len() as i128),
         _ => (0, 0),
     }
 }
@@ -91,6 +97,22 @@ fn verbs_are_copied(rt: HostRuntime) -> Result<(), Fail> {
     Ok(())
 }
 
+#[test]
+fn calls_are_copied(rt: HostRuntime) -> Result<(), Fail> {
+    let value = number(18);
+    assert!(rt; is_copied(rt.alloc(), Verb::Contains { value }, (6, 18))?);
+    let group = Some(number(19));
+    assert!(rt; is_copied(rt.alloc(), Verb::Hex { sep: None, group }, (7, 19))?);
+    let mut args = ValueList::new(rt.alloc());
+    args.push(number(20))?;
+    let method = MethodCall {
+        name: MethodName::Mul,
+        args,
+    };
+    assert!(rt; is_copied(rt.alloc(), Verb::Call { method }, (2, 1))?);
+    Ok(())
+}
+
 /// What tells one reply of these tests from another.
 fn sum_of_reply(reply: &LocalReply) -> (i128, i128) {
     match reply {
@@ -111,6 +133,7 @@ fn sum_of_reply(reply: &LocalReply) -> (i128, i128) {
         LocalReply::NotImplementedReply => (14, 0),
         LocalReply::Iter(iterator) => (15, *iterator as i128),
         LocalReply::Stop => (16, 0),
+        LocalReply::ByteLists(lists) => (17, lists.len() as i128),
     }
 }
 
@@ -148,6 +171,8 @@ fn list(alloc: Global) -> Result<LocalReply, Fail> {
 fn lists_and_what_is_fresh_are_copied(rt: HostRuntime) -> Result<(), Fail> {
     let fresh = LocalReply::Fresh(snap(rt.alloc(), SnapKind::View, 'B')?);
     let shown = LocalReply::Shown(text(rt.alloc(), "b''")?);
+    let mut lists = ByteLists::new(rt.alloc());
+    lists.push(abc(rt.alloc())?)?;
     let replies = [
         (LocalReply::Itself, (11, 0)),
         (list(rt.alloc())?, (1, 101)),
@@ -156,6 +181,7 @@ fn lists_and_what_is_fresh_are_copied(rt: HostRuntime) -> Result<(), Fail> {
         (LocalReply::NotImplementedReply, (14, 0)),
         (LocalReply::Iter(5), (15, 5)),
         (LocalReply::Stop, (16, 0)),
+        (LocalReply::ByteLists(lists), (17, 1)),
     ];
     for (reply, sum) in &replies {
         assert_eq!(rt; sum_of_reply(&reply.copy(rt.alloc())?), *sum);

@@ -121,6 +121,9 @@ rows_safe laws e subject.Own verb.Iter lents = laws.iter.0 e
 rows_safe laws e subject.Own verb.Next lents = laws.edits e verb.Next lents
 rows_safe laws e subject.Own verb.LengthHint lents = laws.edits e verb.LengthHint lents
 rows_safe laws e subject.Own (verb.SetState state) lents = laws.edits e (verb.SetState state) lents
+rows_safe laws e subject.Own (verb.Contains v) lents = laws.edits e (verb.Contains v) lents
+rows_safe laws e subject.Own (verb.Hex sep group) lents = laws.edits e (verb.Hex sep group) lents
+rows_safe laws e subject.Own (verb.Call method) lents = laws.edits e (verb.Call method) lents
 rows_safe laws e (subject.View k) verb.View lents = laws.view.1 e k
 rows_safe laws e (subject.View k) (verb.Get key) lents = get_of_view_safe laws e k key
 rows_safe laws e (subject.View k) (verb.Set key value) lents = set_through_view_safe laws e k key value lents
@@ -155,6 +158,9 @@ rows_safe laws e (subject.View k) verb.Iter lents = laws.iter.1 e k
 rows_safe laws e (subject.View k) verb.Next lents = tt
 rows_safe laws e (subject.View k) verb.LengthHint lents = tt
 rows_safe laws e (subject.View k) (verb.SetState state) lents = tt
+rows_safe laws e (subject.View k) (verb.Contains v) lents = tt
+rows_safe laws e (subject.View k) (verb.Hex sep group) lents = tt
+rows_safe laws e (subject.View k) (verb.Call method) lents = tt
 rows_safe laws e (subject.Iter k) v lents = laws.iterators e k v
 
 -- ---- every command
@@ -220,6 +226,7 @@ ordinary e s new reply.NotImplementedReply is = tt
 ordinary e s new (reply.Iter k) is = tt
 ordinary e s new reply.Stop is = tt
 ordinary e s new (reply.Numbers numbers) is = tt
+ordinary e s new (reply.ByteLists lists) is = tt
 
 copied_reply : (e : Exporter) (s : Subject) (new : Exporter) (r : LocalReply) → new ≡ e → RepliesCopy e s r → IsReplyTo e s new r
 copied_reply e s new (reply.Fresh snap) same copied = (same, copied)
@@ -238,6 +245,7 @@ copied_reply e s new reply.NotImplementedReply same copied = tt
 copied_reply e s new (reply.Iter k) same copied = tt
 copied_reply e s new reply.Stop same copied = tt
 copied_reply e s new (reply.Numbers numbers) same copied = tt
+copied_reply e s new (reply.ByteLists lists) same copied = tt
 
 safe_step : (e : Exporter) (s : Subject) (v : Verb) (r : Result (Exporter × LocalReply) Fault) → is_of_iterators s v ≡ false → IsSafe e r → IfDone (IsStep e s v) r
 safe_step e s v (Ok after) other safe = record {
@@ -301,6 +309,9 @@ row_step reading e subject.Own verb.Iter r safe = iterated_step reading e subjec
 row_step reading e subject.Own verb.Next r safe = safe_step e subject.Own verb.Next r refl safe
 row_step reading e subject.Own verb.LengthHint r safe = safe_step e subject.Own verb.LengthHint r refl safe
 row_step reading e subject.Own (verb.SetState state) r safe = safe_step e subject.Own (verb.SetState state) r refl safe
+row_step reading e subject.Own (verb.Contains v) r safe = safe_step e subject.Own (verb.Contains v) r refl safe
+row_step reading e subject.Own (verb.Hex sep group) r safe = safe_step e subject.Own (verb.Hex sep group) r refl safe
+row_step reading e subject.Own (verb.Call method) r safe = safe_step e subject.Own (verb.Call method) r refl safe
 row_step reading e (subject.Iter k) v r safe = iterated_step reading e (subject.Iter k) v r refl safe
 row_step reading e (subject.View k) verb.ToContiguous r safe = copied_step reading e (subject.View k) verb.ToContiguous r refl safe
 row_step reading e (subject.View k) verb.View r safe = safe_step e (subject.View k) verb.View r refl safe
@@ -336,6 +347,9 @@ row_step reading e (subject.View k) verb.Iter r safe = iterated_step reading e (
 row_step reading e (subject.View k) verb.Next r safe = safe_step e (subject.View k) verb.Next r refl safe
 row_step reading e (subject.View k) verb.LengthHint r safe = safe_step e (subject.View k) verb.LengthHint r refl safe
 row_step reading e (subject.View k) (verb.SetState state) r safe = safe_step e (subject.View k) (verb.SetState state) r refl safe
+row_step reading e (subject.View k) (verb.Contains v) r safe = safe_step e (subject.View k) (verb.Contains v) r refl safe
+row_step reading e (subject.View k) (verb.Hex sep group) r safe = safe_step e (subject.View k) (verb.Hex sep group) r refl safe
+row_step reading e (subject.View k) (verb.Call method) r safe = safe_step e (subject.View k) (verb.Call method) r refl safe
 
 chosen : (e : Exporter) (s : Subject) (v : Verb) (b : Bool) (r : Result (Exporter × LocalReply) Fault) → IfDone (IsStep e s v) r → IfDone (IsStep e s v) (if b then r else Err fault.UnknownName)
 chosen e s v true r step = step

@@ -62,6 +62,9 @@ row_is_edit e verb.Iter lents is = absurd (true≢false (sym is))
 row_is_edit e verb.Next lents is = absurd (true≢false (sym is))
 row_is_edit e verb.LengthHint lents is = absurd (true≢false (sym is))
 row_is_edit e (verb.SetState state) lents is = absurd (true≢false (sym is))
+row_is_edit e (verb.Contains v) lents is = absurd (true≢false (sym is))
+row_is_edit e (verb.Hex sep group) lents is = absurd (true≢false (sym is))
+row_is_edit e (verb.Call method) lents is = absurd (true≢false (sym is))
 
 -- what replies a refusal is refused so
 refused_by : (e : Exporter) (v : Verb) (r : Result (Exporter × LocalReply) Fault) (f : Fault) → IfDone (IsStep e subject.Own v) r → (settled_answer e r).1 ≡ reply.Refused f → r ≡ Err f

@@ -4,3 +4,5 @@ pub mod Sought
 pub mod Shaped
 pub mod Cut
 pub mod Methods
+pub mod Arity
+pub mod Laws

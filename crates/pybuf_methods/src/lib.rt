@@ -1,6 +1,7 @@
 //! The methods of strings of bytes, called by name with values as their arguments.
 #![tactic(auto)]
 
+mod arity;
 mod cut;
 mod given;
 mod methods;
@@ -8,6 +9,7 @@ mod plain;
 mod shaped;
 mod sought;
 
+pub use arity::{fewest, most, takes, wrong_numbers_are_refused};
 pub use methods::apply_method;
 
 #[cfg(test)]

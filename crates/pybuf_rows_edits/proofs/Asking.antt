@@ -207,3 +207,6 @@ all_ask e verb.Iter lents = none_of_kind e.kind e
 all_ask e verb.Next lents = none_of_kind e.kind e
 all_ask e verb.LengthHint lents = none_of_kind e.kind e
 all_ask e (verb.SetState state) lents = none_of_kind e.kind e
+all_ask e (verb.Contains v) lents = none_of_kind e.kind e
+all_ask e (verb.Hex sep group) lents = none_of_kind e.kind e
+all_ask e (verb.Call method) lents = none_of_kind e.kind e

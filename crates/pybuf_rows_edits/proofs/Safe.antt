@@ -210,3 +210,6 @@ all_safe ways e verb.Iter lents = tt
 all_safe ways e verb.Next lents = tt
 all_safe ways e verb.LengthHint lents = tt
 all_safe ways e (verb.SetState state) lents = tt
+all_safe ways e (verb.Contains v) lents = tt
+all_safe ways e (verb.Hex sep group) lents = tt
+all_safe ways e (verb.Call method) lents = tt

@@ -115,6 +115,7 @@ made_by_reply copies faithful w t v loans e (local.Truth truth) x y found sound 
 made_by_reply copies faithful w t v loans e local.NotImplementedReply x y found sound is paired = absurd (cc)
 made_by_reply copies faithful w t v loans e local.Stop x y found sound is paired = absurd (cc)
 made_by_reply copies faithful w t v loans e (local.Numbers numbers) x y found sound is paired = absurd (cc)
+made_by_reply copies faithful w t v loans e (local.ByteLists lists) x y found sound is paired = absurd (cc)
 made_by_reply copies faithful w t v loans e (local.Refused f) x y found sound is paired = absurd (cc)
 
 loans_made : FreshRepliesAreCopies → CopiesAreFaithful → (w : World) (t : Target) (v : Verb) (loans : List (ℕ × Loan)) (o : Option Exporter) (x y : ℕ) → slice_get w.exporters t.exporter ≡ o → IsSoundWorld w
@@ -169,6 +170,7 @@ one_by_reply copies faithful w t v loans e (local.Truth truth) x found sound is 
 one_by_reply copies faithful w t v loans e local.NotImplementedReply x found sound is replied more = absurd (none_more w.exporters t.exporter (estep e t.subject v loans).0 more)
 one_by_reply copies faithful w t v loans e local.Stop x found sound is replied more = absurd (none_more w.exporters t.exporter (estep e t.subject v loans).0 more)
 one_by_reply copies faithful w t v loans e (local.Numbers numbers) x found sound is replied more = absurd (none_more w.exporters t.exporter (estep e t.subject v loans).0 more)
+one_by_reply copies faithful w t v loans e (local.ByteLists lists) x found sound is replied more = absurd (none_more w.exporters t.exporter (estep e t.subject v loans).0 more)
 one_by_reply copies faithful w t v loans e (local.Refused f) x found sound is replied more = absurd (none_more w.exporters t.exporter (estep e t.subject v loans).0 more)
 
 loans_made_one : FreshRepliesAreCopies → CopiesAreFaithful → (w : World) (t : Target) (v : Verb) (loans : List (ℕ × Loan)) (o : Option Exporter) (x : ℕ) → slice_get w.exporters t.exporter ≡ o → IsSoundWorld w

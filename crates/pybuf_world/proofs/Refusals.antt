@@ -49,6 +49,7 @@ after_refusal w t e (local.Truth truth) f kept is = absurd (cc)
 after_refusal w t e local.NotImplementedReply f kept is = absurd (cc)
 after_refusal w t e local.Stop f kept is = absurd (cc)
 after_refusal w t e (local.Numbers numbers) f kept is = absurd (cc)
+after_refusal w t e (local.ByteLists lists) f kept is = absurd (cc)
 
 loans_refusal : RefusedCommandsChangeNothing → (w : World) (t : Target) (v : Verb) (loans : List (ℕ × Loan)) (o : Option Exporter) (f : Fault) → slice_get w.exporters t.exporter ≡ o
     → (step_with_loans w t v loans o).1 ≡ reply.Refused f → (step_with_loans w t v loans o).0 ≡ w
@@ -101,6 +102,7 @@ after_handles w t (local.Truth truth) h below = refl
 after_handles w t local.NotImplementedReply h below = refl
 after_handles w t local.Stop h below = refl
 after_handles w t (local.Numbers numbers) h below = refl
+after_handles w t (local.ByteLists lists) h below = refl
 after_handles w t (local.Refused g) h below = refl
 
 loans_handles : (w : World) (t : Target) (v : Verb) (loans : List (ℕ × Loan)) (o : Option Exporter) (h : ℕ) → h < length w.handles → slice_get (step_with_loans w t v loans o).0.handles h ≡ slice_get w.handles h

@@ -44,6 +44,7 @@ shown_by_reply w t (local.Truth truth) text single is = absurd (cc)
 shown_by_reply w t local.NotImplementedReply text single is = absurd (cc)
 shown_by_reply w t local.Stop text single is = absurd (cc)
 shown_by_reply w t (local.Numbers numbers) text single is = absurd (cc)
+shown_by_reply w t (local.ByteLists lists) text single is = absurd (cc)
 shown_by_reply w t (local.Refused f) text single is = absurd (cc)
 
 loans_shown : ShownTextsAreOneLine → (w : World) (t : Target) (v : Verb) (loans : List (ℕ × Loan)) (o : Option Exporter) (text : List ℕ) → (step_with_loans w t v loans o).1 ≡ reply.Shown text → is_one_line text ≡ true

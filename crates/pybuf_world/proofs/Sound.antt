@@ -183,6 +183,7 @@ after_sound w t e (local.Truth truth) sound there sound_e fresh = with_set_sound
 after_sound w t e local.NotImplementedReply sound there sound_e fresh = with_set_sound w t.exporter e sound sound_e
 after_sound w t e local.Stop sound there sound_e fresh = with_set_sound w t.exporter e sound sound_e
 after_sound w t e (local.Numbers numbers) sound there sound_e fresh = with_set_sound w t.exporter e sound sound_e
+after_sound w t e (local.ByteLists lists) sound there sound_e fresh = with_set_sound w t.exporter e sound sound_e
 after_sound w t e (local.Refused f) sound there sound_e fresh = with_set_sound w t.exporter e sound sound_e
 
 after_owned : (w : World) (t : Target) (e : Exporter) (r : LocalReply) (owners : List ℕ) → IsSoundWorld w → IsSoundExporter e → IsSoundFresh e t r → AreOwners w owners
@@ -208,6 +209,7 @@ after_owned w t e (local.Truth truth) owners sound sound_e fresh owned = with_se
 after_owned w t e local.NotImplementedReply owners sound sound_e fresh owned = with_set_owned w t.exporter e owners owned
 after_owned w t e local.Stop owners sound sound_e fresh owned = with_set_owned w t.exporter e owners owned
 after_owned w t e (local.Numbers numbers) owners sound sound_e fresh owned = with_set_owned w t.exporter e owners owned
+after_owned w t e (local.ByteLists lists) owners sound sound_e fresh owned = with_set_owned w t.exporter e owners owned
 after_owned w t e (local.Refused f) owners sound sound_e fresh owned = with_set_owned w t.exporter e owners owned
 
 -- the laws of the exporters that a world rests on
@@ -234,6 +236,7 @@ fresh_by_reply laws e t v loans (local.Truth truth) sound is = tt
 fresh_by_reply laws e t v loans local.NotImplementedReply sound is = tt
 fresh_by_reply laws e t v loans local.Stop sound is = tt
 fresh_by_reply laws e t v loans (local.Numbers numbers) sound is = tt
+fresh_by_reply laws e t v loans (local.ByteLists lists) sound is = tt
 fresh_by_reply laws e t v loans (local.Refused f) sound is = tt
 
 fresh_sound : ExporterLaws → (e : Exporter) (t : Target) (v : Verb) (loans : List (ℕ × Loan)) → IsSoundExporter e → IsSoundFresh (estep e t.subject v loans).0 t (estep e t.subject v loans).1

@@ -69,6 +69,7 @@ set_or_more Stays kept w t old new (local.Truth truth) found stays i e at = one_
 set_or_more Stays kept w t old new local.NotImplementedReply found stays i e at = one_set Stays kept w t.exporter old new found stays i e (eqb_tells t.exporter i) at
 set_or_more Stays kept w t old new local.Stop found stays i e at = one_set Stays kept w t.exporter old new found stays i e (eqb_tells t.exporter i) at
 set_or_more Stays kept w t old new (local.Numbers numbers) found stays i e at = one_set Stays kept w t.exporter old new found stays i e (eqb_tells t.exporter i) at
+set_or_more Stays kept w t old new (local.ByteLists lists) found stays i e at = one_set Stays kept w t.exporter old new found stays i e (eqb_tells t.exporter i) at
 set_or_more Stays kept w t old new (local.Refused f) found stays i e at = one_set Stays kept w t.exporter old new found stays i e (eqb_tells t.exporter i) at
 
 loans_stay : (Stays : Exporter → Exporter → Type 0) → IsKeptBySteps Stays → (w : World) (t : Target) (v : Verb) (loans : List (ℕ × Loan)) (o : Option Exporter) → slice_get w.exporters t.exporter ≡ o

@@ -47,6 +47,7 @@ reply_answered w t old new (local.Truth truth) found = refl
 reply_answered w t old new local.NotImplementedReply found = refl
 reply_answered w t old new local.Stop found = refl
 reply_answered w t old new (local.Numbers numbers) found = refl
+reply_answered w t old new (local.ByteLists lists) found = refl
 reply_answered w t old new (local.Refused f) found = refl
 
 -- a step is the local step with its answer
@@ -89,6 +90,7 @@ left_alone copies w t v loans o after (local.Truth truth) found is fresh = absur
 left_alone copies w t v loans o after local.NotImplementedReply found is fresh = absurd fresh
 left_alone copies w t v loans o after local.Stop found is fresh = absurd fresh
 left_alone copies w t v loans o after (local.Numbers numbers) found is fresh = absurd fresh
+left_alone copies w t v loans o after (local.ByteLists lists) found is fresh = absurd fresh
 left_alone copies w t v loans o after (local.Refused f) found is fresh = absurd fresh
 
 pub copy_asked : FreshRepliesAreCopies → (w : World) (t : Target) (v : Verb) (loans : List (ℕ × Loan)) (o : Option Exporter) (after : World) (r : LocalReply) → slice_get w.exporters t.exporter ≡ o
@@ -110,6 +112,7 @@ copy_asked copies w t v loans o after (local.Truth truth) found is = tt
 copy_asked copies w t v loans o after local.NotImplementedReply found is = tt
 copy_asked copies w t v loans o after local.Stop found is = tt
 copy_asked copies w t v loans o after (local.Numbers numbers) found is = tt
+copy_asked copies w t v loans o after (local.ByteLists lists) found is = tt
 copy_asked copies w t v loans o after (local.Refused f) found is = tt
 
 -- ---- room that was reserved, and both facts of an error

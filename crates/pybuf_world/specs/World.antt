@@ -185,6 +185,7 @@ reply_after w t (local.Shown text) = reply.Shown text
 reply_after w t (local.Truth truth) = reply.Truth truth
 reply_after w t local.NotImplementedReply = reply.NotImplementedReply
 reply_after w t (local.Numbers numbers) = reply.Numbers numbers
+reply_after w t (local.ByteLists lists) = reply.ByteLists lists
 reply_after w t local.Stop = reply.Stop
 reply_after w t (local.Fresh snap) = reply_with_copy (has_view snap.kind) (length w.handles)
 reply_after w t (local.Refused f) = reply.Refused f

@@ -2,7 +2,7 @@
 
 use pybuf_bytes::ByteInnerNewOptions;
 use pybuf_command::{ExporterKind, Verb};
-use pybuf_value::{ByteList, CountList, Fault, Item, ItemList, Items, NumberList, Text};
+use pybuf_value::{ByteList, ByteLists, CountList, Fault, Item, ItemList, Items, NumberList, Text};
 
 /// A command for a world.
 #[derive(Debug, Drop)]
@@ -44,6 +44,8 @@ pub enum Reply {
     NotImplementedReply,
     /// Numbers, one for each dimension.
     Numbers(NumberList),
+    /// Lists of bytes, in order.
+    ByteLists(ByteLists),
     /// An iterator has no further item.
     Stop,
     /// Refused: nothing was changed, and no handle was used up.

@@ -495,6 +495,7 @@ impl Tables {
             LocalReply::Truth(truth) => Ok(Reply::Truth(truth)),
             LocalReply::NotImplementedReply => Ok(Reply::NotImplementedReply),
             LocalReply::Numbers(numbers) => Ok(Reply::Numbers(numbers)),
+            LocalReply::ByteLists(lists) => Ok(Reply::ByteLists(lists)),
             LocalReply::Stop => Ok(Reply::Stop),
             LocalReply::Fresh(copy) => self.add_copy(exporter, target.subject, copy),
             LocalReply::Refused(fault) => Ok(Reply::Refused(fault)),
