@@ -10,7 +10,7 @@ ghost use Rattle.pybuf_methods.specs.Given as spec;
 ghost use Rattle.pybuf_methods.specs.Lent.{lent_bytes, Lends, LendsSome, Reads, kind_of_named, string_named};
 
 use pybuf_value::{
-    Fault, Halt, Lender, Outcome, Scalar, SnapKind, SnapList, Value, bytes_from_object,
+    Fault, Halt, Lender, Outcome, Scalar, Snap, SnapKind, SnapList, Value, bytes_from_object,
 };
 use std::alloc::Global;
 
@@ -65,13 +65,12 @@ pub struct ByLender<'a, L> {
     pub lender: &'a L,
 }
 
-/// The bytes of what is lent, together where they are kept.
-fn content_lent<'a, L: Lender>(lender: &'a L, handle: u64) -> Result<Lent<'a>, Halt>
-    ensures { Lends (content_of_named (snap_of (L.pairs lender.now) handle)) result }
+/// The bytes of a snap.
+///
+/// Refused with `ValueError` for a released view, and with `TypeError` for an iterator.
+pub fn content_of_snap(snap: &Snap) -> Result<Lent<'_>, Halt>
+    ensures { Lends (content_of_named (Some snap.now)) result }
 {
-    let Some(snap) = lender.lend(handle) else {
-        return Err(Halt::Refused(Fault::UnknownName));
-    };
     match snap.kind {
         SnapKind::Iterator => Err(Halt::Refused(Fault::Kind)),
         SnapKind::View => {
@@ -84,13 +83,13 @@ fn content_lent<'a, L: Lender>(lender: &'a L, handle: u64) -> Result<Lent<'a>, H
     }
 }
 
-/// The same where the bytes lie together in what is lent.
-fn run_lent<L: Lender>(lender: &L, handle: u64) -> Result<&[u8], Fault>
-    ensures { MatchResult result (λ bytes. content_of (snap_of (L.pairs lender.now) handle) ≡ Ok bytes.now) (λ fault. content_of (snap_of (L.pairs lender.now) handle) ≡ Err fault) }
+/// The bytes of a snap, where they lay together.
+///
+/// Refused with `ValueError` for a released view, and with `TypeError` for a view whose items don't lie one
+/// after another and for an iterator.
+pub fn run_of_snap(snap: &Snap) -> Result<&[u8], Fault>
+    ensures { MatchResult result (λ bytes. content_of (Some snap.now) ≡ Ok bytes.now) (λ fault. content_of (Some snap.now) ≡ Err fault) }
 {
-    let Some(snap) = lender.lend(handle) else {
-        return Err(Fault::UnknownName);
-    };
     match snap.kind {
         SnapKind::Iterator => Err(Fault::Kind),
         SnapKind::View => {
@@ -124,11 +123,17 @@ impl<'a, L: Lender> Names for ByLender<'a, L> {
     }
 
     fn run(&self, handle: u64) -> Result<&[u8], Fault> {
-        run_lent(self.lender, handle)
+        match self.lender.lend(handle) {
+            Some(snap) => run_of_snap(snap),
+            None => Err(Fault::UnknownName),
+        }
     }
 
     fn content(&self, _alloc: Global, handle: u64) -> Result<Lent<'_>, Halt> {
-        content_lent(self.lender, handle)
+        match self.lender.lend(handle) {
+            Some(snap) => content_of_snap(snap),
+            None => Err(Halt::Refused(Fault::UnknownName)),
+        }
     }
 }
 

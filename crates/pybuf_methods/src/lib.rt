@@ -13,7 +13,7 @@ mod shaped;
 mod sought;
 
 pub use arity::{fewest, most, takes, wrong_numbers_are_refused};
-pub use lent::{ByLender, Lent, Names};
+pub use lent::{ByLender, Lent, Names, content_of_snap, run_of_snap};
 pub use methods::{apply_method, reply_of};
 pub use shaped::hex_of;
 pub use sought::contains_in;
