@@ -1,5 +1,5 @@
 //! What holds of these rows, and of what handles name.
-ghost use Rattle.pybuf_rows_methods.specs.Laws.{CallIsSafe, ContainsIsSafe, HexIsSafe, NamesAreFound};
+ghost use Rattle.pybuf_rows_methods.specs.Laws.{CallIsSafe, ContainsIsSafe, HexIsSafe, LentsArePaired, NamesAreFound};
 
 use pybuf_state::reading_keeps;
 
@@ -27,4 +27,9 @@ pub fn hex_is_safe()
 /// What a handle names is found among the pairs of some handles exactly where it is one of them.
 pub fn names_are_found()
     ensures { NamesAreFound }
+{}
+
+/// The pairs of what is lent for some handles are those of what each names by its loan.
+pub fn lents_are_paired()
+    ensures { LentsArePaired }
 {}

@@ -76,7 +76,7 @@ not_first : (b c : Bool) → (b || c) ≡ true → b ≡ false → c ≡ true
 not_first true c any is = absurd (true≢false is)
 not_first false c any is = any
 
-found : (w : World) (i : ℕ) (handles : List ℕ) (x : ℕ) → list_any (λ (h : ℕ). h == x) handles ≡ true → loan_of (whole_loans w i handles) x ≡ Some (loan_for w i x)
+pub found : (w : World) (i : ℕ) (handles : List ℕ) (x : ℕ) → list_any (λ (h : ℕ). h == x) handles ≡ true → loan_of (whole_loans w i handles) x ≡ Some (loan_for w i x)
 found w i [] x among = absurd (true≢false (sym among))
 found w i (h ∷ hs) x among =
     pick (h == x) (loan_for w i h) (loan_for w i x) (loan_of (whole_loans w i hs) x) (λ is. ap (loan_for w i) (eqb-true h x is))
@@ -90,7 +90,7 @@ known_beside e w i g handles x true is among =
 known_beside e w i g handles x false is among =
     known_alike e w i [] handles x ∙ sym (ap (λ (b : Bool). is_named e (if b then Some (loan_for w i g) else loan_of (read_loans w i [] handles) x)) is)
 
-alike_within : (p q : ℕ → Bool) (xs : List ℕ) → ((k d : ℕ) → k < length xs → p (get_or xs k d) ≡ q (get_or xs k d)) → list_all p xs ≡ list_all q xs
+pub alike_within : (p q : ℕ → Bool) (xs : List ℕ) → ((k d : ℕ) → k < length xs → p (get_or xs k d) ≡ q (get_or xs k d)) → list_all p xs ≡ list_all q xs
 alike_within p q [] same = refl
 alike_within p q (x ∷ xs) same =
     ap₂ (λ (a b : Bool). a && b) (same 0 0 (let some : 0 < length (x ∷ xs) = omega arith in some))

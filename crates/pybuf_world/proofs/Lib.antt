@@ -11,3 +11,4 @@ pub mod Beside
 pub mod Releases
 pub mod Copies
 pub mod Shown
+pub mod InPlace

@@ -20,6 +20,7 @@ use Rattle.pybuf_state.specs.Exporter.{Exporter, new_exporter, released_in}
 use Rattle.pybuf_state.specs.Fresh.{is_readonly_subject, made_of}
 use Rattle.pybuf_state.specs.Loans.{loan_of_snap}
 use Rattle.pybuf_state.specs.Snaps.{snap_of_subject}
+use Rattle.pybuf_rows_methods.specs.Names.{all_paired}
 use Rattle.pybuf_exporter.specs.Step.{estep}
 use Rattle.pybuf_world.specs.declared.named.Named.{Named}
 use Rattle.pybuf_world.specs.declared.named.Named.TheVariants as named
@@ -85,13 +86,9 @@ snap_of_name w None = None
 abbrev pub snap_for : World → ℕ → Option Snap
 snap_for w handle = snap_of_name w (slice_get w.handles handle)
 
-abbrev pub paired : ℕ → Option Snap → List (ℕ × Snap)
-paired handle (Some snap) = (handle, snap) ∷ []
-paired handle None = []
-
 -- handles with what they name
 abbrev pub pairs_of : World → List ℕ → List (ℕ × Snap)
-pairs_of w handles = flat_map (λ handle. paired handle (snap_for w handle)) handles
+pairs_of w handles = all_paired (snap_for w) handles
 
 -- the bytes that a new exporter is made of: a handle among its options stands for what it names before
 abbrev pub bytes_of_new : World → ByteInnerNewOptions → Result (List ℕ) Fault

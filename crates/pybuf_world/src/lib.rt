@@ -2,6 +2,7 @@
 #![tactic(auto)]
 
 mod commands;
+mod in_place;
 mod laws;
 mod named;
 mod tables;

@@ -11,8 +11,12 @@ ghost use Rattle.pybuf_value.specs.Snaps.{content_of_named};
 ghost use Rattle.pybuf_bytes.specs.Options.{bytes_of_options};
 ghost use Rattle.pybuf_world.specs.Beside.{IsLentBeside, reads_beside, loans_beside, other_loans, local_step};
 ghost use Rattle.pybuf_world.specs.Needed.{loan_if_read, is_read, needed_for};
+ghost use Rattle.std.specs.List.{list_all};
+ghost use Rattle.pybuf_exporter.specs.Step.{reads_in_place};
+ghost use Rattle.pybuf_world.specs.InPlace.{is_named_in};
 
 use crate::commands::{Command, Reply, ReplyList};
+use crate::in_place::{InPlace, is_named};
 use crate::named::{Named, Target};
 use pybuf_bytes::ByteInnerNewOptions;
 use pybuf_command::{
@@ -21,7 +25,7 @@ use pybuf_command::{
 };
 use pybuf_exporter::{
     ExporterState, commands_keep_sound, copies_are_faithful, fresh_replies_are_copies,
-    loans_alike_do_the_same, source_in_place,
+    lents_are_paired, loans_alike_do_the_same, reads_in_place, source_in_place,
 };
 use pybuf_rows_views::release_is_safe;
 use pybuf_value::{
@@ -86,7 +90,7 @@ fn owner_in(owners: &[u64], exporter: usize) -> u64
 }
 
 /// Whether a handle is among those whose bytes are read.
-fn is_read(reads: &[u64], handle: u64) -> bool
+pub fn is_read(reads: &[u64], handle: u64) -> bool
     ensures { result ≡ is_read reads.now handle }
 {
     reads.contains(&handle)
@@ -502,6 +506,71 @@ impl Tables {
         }
     }
 
+    /// Whether each of these handles names anything.
+    fn are_named(&self, handles: &[u64]) -> bool
+        ensures { result ≡ list_all (is_named_in (world_of_tables self.now)) handles.now }
+    {
+        handles.iter().all(|handle| is_named(self, *handle))
+    }
+
+    /// What a command replies that reads what handles name from where it lies, of an exporter that is there.
+    /// It changes nothing.
+    fn read_in_place(&self, target: Target, verb: &Verb) -> Made<LocalReply>
+        requires there { target.exporter < length (world_of_tables self.now).exporters }
+        requires reads { reads_in_place target.subject verb.now ≡ true }
+        ensures { IfOk result (λ r. local_step (world_of_tables self.now) target verb.now (spec.loans_of (world_of_tables self.now) target.exporter verb.now) (slice_get (world_of_tables self.now).exporters target.exporter) ≡ (world_of_tables self.now, r)) }
+    {
+        lents_are_paired();
+        let handles = handles_of(self.alloc, verb)?;
+        if !self.are_named(handles.as_slice()) {
+            return Ok(LocalReply::Refused(Fault::UnknownName));
+        }
+        let sought = handles_read(self.alloc, target.subject, verb)?;
+        let names = InPlace {
+            tables: self,
+            sought: sought.as_slice(),
+        };
+        let reader = &self.exporters[target.exporter];
+        reader.read_in_place(target.subject, verb, &names)
+    }
+
+    /// What a target that is there replies to such a command.
+    fn work_in_place(&mut self, target: Target, verb: &Verb) -> Made<Reply>
+        requires kept { IsKept self.old }
+        requires reads { reads_in_place target.subject verb.now ≡ true }
+        ensures ok { IfOk result (λ r. spec.step_of_target (world_of_tables self.old) target verb.now ≡ (world_of_tables self.new, r)) }
+        ensures err { OnErr result (world_of_tables self.new ≡ world_of_tables self.old) }
+        ensures owners { IfOk result (λ _. self.new.owners.items ≡ owners_after self.old.owners.items (length (world_of_tables self.old).handles) (local_step (world_of_tables self.old) target verb.now (spec.loans_of (world_of_tables self.old) target.exporter verb.now) (slice_get (world_of_tables self.old).exporters target.exporter)).1) }
+        ensures owners_kept { OnErr result (self.new.owners.items ≡ self.old.owners.items) }
+    {
+        fresh_replies_are_copies();
+        let exporter = target.exporter;
+        if exporter >= self.exporters.len() {
+            return Ok(Reply::Refused(Fault::UnknownName));
+        }
+        let owner = self.owner_of(exporter);
+        let reply = self.read_in_place(target, verb)?;
+        self.handles.reserve(1)?;
+        self.answer(target, owner, reply)
+    }
+
+    /// The same, where the handles of the exporters stay what they are.
+    fn step_in_place(&mut self, target: Target, verb: &Verb) -> Made<Reply>
+        requires kept { IsKept self.old }
+        requires reads { reads_in_place target.subject verb.now ≡ true }
+        ensures ok { IfOk result (λ r. spec.step_of_target (world_of_tables self.old) target verb.now ≡ (world_of_tables self.new, r)) }
+        ensures err { OnErr result (world_of_tables self.new ≡ world_of_tables self.old) }
+        ensures owned { AreOwners (world_of_tables self.new) self.new.owners.items }
+    {
+        commands_keep_sound();
+        fresh_replies_are_copies();
+        copies_are_faithful();
+        match self.work_in_place(target, verb) {
+            Ok(reply) => Ok(reply),
+            Err(NoMemory) => Err(NoMemory),
+        }
+    }
+
     /// What a target that is there does with loans.
     fn work(
         &mut self,
@@ -560,6 +629,9 @@ impl Tables {
         ensures err { OnErr result (world_of_tables self.new ≡ world_of_tables self.old) }
         ensures owned { AreOwners (world_of_tables self.new) self.new.owners.items }
     {
+        if reads_in_place(target.subject, verb) {
+            return self.step_in_place(target, verb);
+        }
         loans_alike_do_the_same();
         let beside = self.lent_beside(target, verb);
         let loans = self.loans(target, verb, beside)?;
