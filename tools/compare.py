@@ -428,8 +428,9 @@ class Ours(AsWritten):
         if method == "maketrans":
             # the last of repeated bytes counts, which was the first
             return bytes.maketrans(*(part[::-1] for part in found))
-        if method == "expandtabs" and b"\t" not in content:
-            return content
+        if method == "expandtabs":
+            # no size that has room is too great, and one below 0 is as 0
+            found = [max(0, size) for size in found if b"\t" in content]
         if method == "decode":
             encoding, errors = (*found, *[None] * (2 - len(found)))
             self.codec(encoding or "utf-8", errors or "strict")

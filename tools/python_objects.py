@@ -429,9 +429,8 @@ class World:
         shown = repr(as_memory(subject))
         if isinstance(subject, (bytes, bytearray)):
             return Reply(shown)
-        # the address is another one in each run
         assert re.fullmatch("<((released )?memory|[a-z]+_iterator object) at 0x[0-9a-f]+>", shown)
-        return Reply(re.sub("0x[0-9a-f]+", "..", shown))
+        return Reply(without_address(shown))
 
     def do_iter(self, handle, subject):
         # called so, a refusal that CPython 3.11 doesn't look at is always found: that of a released view
@@ -488,11 +487,12 @@ class World:
 
 class AsWritten(World):
     """Python's objects, but for three differences of what is written, which `docs/DIFFERENCES.md` names: a
-    slice of a bytearray, and what a method of one gives, is `bytes`; the parts of a partition are a list;
-    and a view is shown by its number among those of its exporter."""
+    slice of a bytearray, and what a method of one gives, is `bytes`; the parts of a partition are a list of
+    such; and a view is shown by its number among those of its exporter."""
 
     def do_get(self, handle, subject, key):
-        return as_bytes(super().do_get(handle, subject, key))
+        found = super().do_get(handle, subject, key)
+        return as_bytes(found) if handle not in self.exporters else found
 
     def do_call(self, handle, subject, method, *arguments):
         found = super().do_call(handle, subject, method, *arguments)
@@ -514,7 +514,8 @@ def readable(value):
 
 
 def as_bytes(found):
-    return bytes(found) if isinstance(found, bytearray) else found
+    """What stands for bytes, which a view does where it separates two parts, as these."""
+    return bytes(found) if isinstance(found, (bytearray, memoryview)) else found
 
 
 class Reply(str):
@@ -523,7 +524,14 @@ class Reply(str):
 
 def written(found):
     """The reply text of what was found."""
+    if isinstance(found, tuple) and any(isinstance(part, memoryview) for part in found):
+        return without_address(repr(found))
     return found if isinstance(found, Reply) else repr(found)
+
+
+def without_address(shown):
+    """A text that has an address, which is another one in each run."""
+    return re.sub("(?<= at )0x[0-9a-f]+", "..", shown)
 
 
 def handle_of(word):
