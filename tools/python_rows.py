@@ -5744,7 +5744,7 @@ call h3 split h2         [b'a', b'b']
 """,
     ),
     Case(
-        "lists and tuples of numbers are read as bytes by every method",
+        "lists and tuples of numbers are read as bytes, but by add, concat and join",
         """
 new bytes x616263616263          h0
 contains h0 [98,99]              True                    !
