@@ -20,8 +20,40 @@ from python_objects import NATIVE_CODES, OPERATORS, AsWritten, Items, Reply, row
 
 WORD = 2**63
 ABSENT = object()
+CODECS = ("utf-8", "utf8", "ascii")
 EDITS = "append extend iadd insert pop remove clear reverse imul init copy".split()
 ITERATING = "iter next hint setstate".split()
+# What each method reads its arguments as; those behind the bar may be left out.
+ARGUMENTS = {
+    **dict.fromkeys("isalnum isalpha isascii isdigit islower isspace istitle isupper lower upper swapcase capitalize title".split(), ""),
+    **dict.fromkeys("find rfind index rindex count".split(), "needle | bound bound"),
+    **dict.fromkeys("startswith endswith".split(), "affix | bound bound"),
+    **dict.fromkeys("center ljust rjust".split(), "size | fill"),
+    **dict.fromkeys("strip lstrip rstrip".split(), "| set"),
+    **dict.fromkeys("removeprefix removesuffix partition rpartition".split(), "bytes"),
+    **dict.fromkeys("split rsplit".split(), "| set count"),
+    "add": "like",
+    "concat": "operand",
+    "mul": "size",
+    "hex": "| separator count",
+    "fromhex": "text",
+    "join": "list",
+    "maketrans": "bytes bytes",
+    "translate": "table | bytes",
+    "expandtabs": "| size",
+    "splitlines": "| flag",
+    "zfill": "size",
+    "replace": "bytes bytes | count",
+    "decode": "| name name",
+}
+
+
+class Vector(bytearray):
+    """A vector."""
+
+
+class ReadOnlyVector(bytes):
+    """A vector whose bytes are never written."""
 
 
 class Ours(AsWritten):
@@ -31,7 +63,7 @@ class Ours(AsWritten):
         super().__init__()
         # the strides of each view
         self.strides = {}
-        # the handles of vectors, each of which is a bytearray, or bytes where it is read-only
+        # the handles of vectors
         self.vectors = set()
         # the handle of what each iterator goes over, by the iterator's handle, and those that are exhausted
         self.iterators = {}
@@ -64,6 +96,7 @@ class Ours(AsWritten):
             "set": is_view or is_byte_array,
             "del": is_view or is_byte_array,
             "take": is_vector,
+            **dict.fromkeys(("contains", "call"), not is_view and not is_vector),
             **dict.fromkeys(("compare", "hash", "repr", "iter"), not is_vector),
             **dict.fromkeys(("next", "hint", "setstate"), False),
         }
@@ -73,7 +106,7 @@ class Ours(AsWritten):
         if words[0] != "new":
             return super().answer(words)
         content = self.content(*(value_of(word, self) for word in words[2:]))
-        made = self.named(content if words[1] in ("bytes", "rovector") else bytearray(content))
+        made = self.named({"bytes": bytes, "bytearray": bytearray, "vector": Vector, "rovector": ReadOnlyVector}[words[1]](content))
         if words[1].endswith("vector"):
             self.vectors.add(len(self.objects) - 1)
         return made
@@ -87,9 +120,12 @@ class Ours(AsWritten):
             return b"" if source is ABSENT else bytes(source) if isinstance(source, int) else self.read(source)
         if not isinstance(source, str):
             raise TypeError("no text")
-        if encoding not in ("utf-8", "utf8", "ascii") or errors not in (ABSENT, "strict"):
-            raise ValueError("another codec")
+        self.codec(encoding, errors)
         return source.encode(encoding)
+
+    def codec(self, encoding, errors):
+        if encoding not in CODECS or errors not in (ABSENT, "strict"):
+            raise ValueError("another codec")
 
     def read(self, value):
         """The bytes that a value is read as, which an iterator never is."""
@@ -126,11 +162,7 @@ class Ours(AsWritten):
         return super().do_extend(handle, subject, content)
 
     def do_iadd(self, handle, subject, value):
-        if not isinstance(value, (bytes, bytearray, memoryview, Items)):
-            raise TypeError("no bytes")
-        content = self.read(value)
-        if isinstance(value, (memoryview, Items)) and not self.is_contiguous(self.place_of(value)):
-            raise TypeError("not contiguous")
+        content = self.as_like(value)
         if value is subject:
             raise BufferError("itself")
         self.resizable(handle)
@@ -235,7 +267,7 @@ class Ours(AsWritten):
 
     def do_contig(self, handle, subject):
         size, content = subject.nbytes, subject.tobytes()
-        copy = content if subject.readonly else bytearray(content)
+        copy = ReadOnlyVector(content) if subject.readonly else Vector(content)
         if isinstance(subject, Items):
             made = Items(memoryview(copy), subject.format, subject.reader.format, subject.shape)
         elif len(subject.shape) == 1:
@@ -281,6 +313,8 @@ class Ours(AsWritten):
             return self.assign(subject, key, value)
         subject[key]
         text = re.sub("(?<![0-9])0+[^0-9sp]|[0-9@=<>!x]", "", subject.format)
+        if text == "c" and isinstance(value, ReadOnlyVector):
+            raise TypeError("no bytes of their own")
         if text == "?" and not isinstance(value, int):
             raise TypeError("no truth value")
         if text in ("s", "p") and isinstance(value, (memoryview, Items)):
@@ -377,6 +411,119 @@ class Ours(AsWritten):
             return Reply("ok")
         return super().do_setstate(handle, subject, max(-WORD, min(WORD - 1, operator.index(place))))
 
+    def do_contains(self, handle, subject, value):
+        return self.as_needle(value) in subject
+
+    def do_hex(self, handle, subject, *arguments):
+        return self.digits(subject.tobytes(), *self.read_as("hex", arguments))
+
+    def do_call(self, handle, subject, method, *arguments):
+        """A method of Python's `bytes`, with the arguments as they are read here."""
+        content = bytes(subject)
+        if method in ("startswith", "endswith"):
+            return self.has_affix(content, method, *arguments)
+        found = self.read_as(method, arguments)
+        if method == "hex":
+            return self.digits(content, *found)
+        if method == "maketrans":
+            # the last of repeated bytes counts, which was the first
+            return bytes.maketrans(*(part[::-1] for part in found))
+        if method == "expandtabs":
+            # no size that has room is too great, and one below 0 is as 0
+            found = [max(0, size) for size in found if b"\t" in content]
+        if method == "decode":
+            encoding, errors = (*found, *[None] * (2 - len(found)))
+            self.codec(encoding or "utf-8", errors or "strict")
+            return self.text(content.decode(encoding or "utf-8"))
+        return super().do_call(handle, content, method, *found)
+
+    def has_affix(self, content, method, affix, *bounds):
+        bounds = self.read_as(method, (b"", *bounds))[1:]
+        # not even no bytes stand where the start passes the end, and no affix is looked at there
+        if not content.startswith(b"", *bounds):
+            return False
+        return any(getattr(content, method)(self.read(it), *bounds) for it in (affix if isinstance(affix, tuple) else (affix,)))
+
+    def digits(self, content, separator=None, group=1):
+        if separator is None or not group or not content:
+            return content.hex()
+        return content.hex(separator, max(-(2**31) + 1, min(2**31 - 1, group)))
+
+    def text(self, found):
+        """A text is written by its bytes."""
+        return Reply(repr(found.encode())[1:])
+
+    def read_as(self, method, arguments):
+        """The arguments of a method, each read as its kind."""
+        return [getattr(self, f"as_{kind}")(value) for kind, value in zip(ARGUMENTS[method].replace("|", "").split(), arguments)]
+
+    def as_like(self, value):
+        content = self.as_operand(value)
+        if isinstance(value, (memoryview, Items)) and not self.is_contiguous(self.place_of(value)):
+            raise TypeError("not contiguous")
+        return content
+
+    def as_operand(self, value):
+        if isinstance(value, (list, tuple)):
+            raise TypeError("no bytes")
+        return self.read(value)
+
+    def as_bytes(self, value):
+        return self.read(value)
+
+    as_affix = as_bytes
+
+    def as_needle(self, value):
+        return self.byte(value) if isinstance(value, int) else self.read(value)
+
+    def as_set(self, value):
+        return value if value is None else self.read(value)
+
+    def as_list(self, value):
+        if not isinstance(value, (list, tuple)):
+            raise TypeError("neither a list nor a tuple")
+        return [self.read(part) for part in value]
+
+    def as_table(self, value):
+        try:
+            table = self.as_set(value)
+        except TypeError:
+            raise ValueError("no table")
+        if table is not None and len(table) != 256:
+            raise ValueError("no table")
+        return table
+
+    def as_fill(self, value):
+        if not isinstance(value, (bytes, bytearray)) or isinstance(value, (Vector, ReadOnlyVector)) or len(value) != 1:
+            raise TypeError("not one byte")
+        return bytes(value)
+
+    def as_separator(self, value):
+        if isinstance(value, str):
+            return value.encode()
+        if not isinstance(value, bytes) or isinstance(value, ReadOnlyVector):
+            raise TypeError("no bytes of their own")
+        return value
+
+    def as_text(self, value):
+        if not isinstance(value, str):
+            raise TypeError("no text")
+        return value
+
+    def as_name(self, value):
+        return value if value is None else self.as_text(value)
+
+    def as_count(self, value):
+        return self.count(value)
+
+    as_size = as_count
+
+    def as_bound(self, value):
+        return value if value is None else operator.index(value)
+
+    def as_flag(self, value):
+        return operator.index(value) != 0
+
     def place_of(self, view):
         return next(at for at, it in enumerate(self.objects) if it is view)
 
@@ -442,7 +589,7 @@ class Ours(AsWritten):
 NUMBERS = [sign * it + more for it in (0, 1, 2**7, 2**8, 2**15, 2**16, 2**31, 2**32, 2**63, 2**64, 2**126) for sign in (1, -1) for more in (-1, 0, 1)]
 FORMATS = ["4s", "2s", "2H", "BH", "<Bb2x", ">i", "!q", "4p", "2p", "xH", "3xB", "u", "@u", "2u", "<u", "HB", "BHB", "<hH", ">2Hi", "2?", "2c", "8x", "x?", "@cxH", "0HB", "B0H", "B0Q", "0s", "3", "@", "d", "<n", "y", "HB0I", "B2", "<<B", "2B2", "99999999999999999999B", "4611686018427387904H"]
 # how often each is drawn
-VERBS = [verb for verb, often in {"get": 10, "set": 10, "cast": 8, "prop": 4, "bytes": 3, "tolist": 3, "view": 2, "release": 2, "toreadonly": 2, "len": 1, "range": 1, "contig": 1, "enter": 1, "exit": 1, "del": 3, "take": 1, "compare": 6, "hash": 1, "repr": 1, "iter": 3, "next": 8, "hint": 2, "setstate": 2, **dict.fromkeys(EDITS, 1)}.items() for _ in range(often)]
+VERBS = [verb for verb, often in {"get": 10, "set": 10, "cast": 8, "prop": 4, "bytes": 3, "tolist": 3, "view": 2, "release": 2, "toreadonly": 2, "len": 1, "range": 1, "contig": 1, "enter": 1, "exit": 1, "del": 3, "take": 1, "compare": 6, "hash": 1, "repr": 1, "iter": 3, "next": 8, "hint": 2, "setstate": 2, "contains": 2, "hex": 2, "call": 14, **dict.fromkeys(EDITS, 1)}.items() for _ in range(often)]
 PROPERTIES = "exports obj nbytes readonly itemsize ndim shape strides suboffsets format contiguous c_contiguous f_contiguous".split()
 
 
@@ -617,6 +764,38 @@ class Drawn:
             return f"x{content.hex()}" if self.draw.random() < 0.7 else f"x{content[: self.draw.randrange(9)].hex()}"
         return self.one([self.handle, self.handle, self.value])()
 
+    def arguments(self, method, subject):
+        """Arguments of a method, mostly of the kinds that it reads."""
+        must, _, may = ARGUMENTS[method].partition("|")
+        may = may.split()
+        return "".join(f" {self.argument(kind, subject)}" for kind in must.split() + may[: self.draw.randrange(len(may) + 1)])
+
+    def argument(self, kind, subject):
+        content = b"" if subject is None else self.world.read(subject)
+        start = self.draw.randrange(len(content) + 1)
+        part = lambda: f"x{content[start : start + self.draw.randrange(4)].hex()}"
+        parts = lambda marks: f"{marks[0]}{','.join(self.one([part, part, self.handle, self.scalar])() for _ in range(self.draw.randrange(4)))}{marks[1]}"
+        if kind == "size":
+            # there is no memory for a great size that a word has
+            return self.one([str(self.draw.randrange(-3, 40)), str(self.draw.randrange(-3, 40)), str(-WORD), str(WORD), "True", "None", "'B'", self.handle()])
+        if self.draw.random() < 0.1:
+            return self.value()
+        if kind in ("count", "bound", "flag"):
+            return self.one([self.number, self.number, lambda: self.one(["None", "True", "False"])])()
+        if kind in ("text", "name"):
+            texts = [f"'{content[:8].hex() or '0'}'", "'4aFf'", "'0'"] if kind == "text" else ["'utf-8'", "'utf8'", "'ascii'", "'strict'", "'latin-1'", "None"]
+            return self.one(texts)
+        if kind == "separator":
+            return self.one(["':'", "'-'", "x2d", "xff", "x", "'::'", self.handle()])
+        if kind == "fill":
+            return self.one(["x2a", "x2a", "x", self.handle()])
+        if kind == "table":
+            return self.one(["None", f"x{self.draw.randbytes(256).hex()}", self.handle()])
+        if kind == "list" or kind == "affix" and self.draw.random() < 0.4:
+            return parts("()" if kind == "affix" else self.one(["()", "[]"]))
+        byte = lambda: str(content[start]) if start < len(content) else str(self.draw.randrange(-1, 257))
+        return self.one([part, part, part, self.handle, self.source, *([byte] if kind == "needle" else []), *([lambda: "None"] if kind == "set" else [])])()
+
     def line(self):
         kind = self.draw.random()
         if kind < 0.06 or not self.world.objects:
@@ -627,6 +806,9 @@ class Drawn:
         handles = [self.handle() for _ in range(4)]
         if verb in ("next", "hint", "setstate"):
             handles = [f"h{at}" for at in self.draw.sample([*self.world.iterators][-9:], min(4, len(self.world.iterators)))] + handles
+        if verb in ("contains", "call"):
+            strings = [f"h{at}" for at in range(len(self.world.objects)) if not self.world.is_unknown([verb, f"h{at}"])]
+            handles = self.draw.sample(strings[-9:], min(4, len(strings))) + handles
         # mostly of a subject that has the command
         handle = next((it for it in handles if self.draw.random() < 0.1 or not self.world.is_unknown([verb, it, "0", "0"])), handles[0])
         subject = self.subject(handle)
@@ -642,6 +824,13 @@ class Drawn:
         if verb == "compare":
             is_view = hasattr(subject, "shape") and self.draw.random() < 0.8
             return f"compare {handle} {self.one(['==', '!='] if is_view else [*OPERATORS])} {self.compared(subject)}"
+        if verb == "contains":
+            return f"contains {handle} {self.argument('needle', subject)}"
+        if verb == "hex":
+            return f"hex {handle}{self.arguments('hex', subject)}"
+        if verb == "call":
+            method = self.one([*ARGUMENTS])
+            return f"call {handle} {method}{self.arguments(method, subject)}"
         if verb == "setstate":
             return f"setstate {handle} {self.draw.randrange(-3, 12) if self.draw.random() < 0.8 else self.value()}"
         if verb in EDITS:

@@ -49,6 +49,9 @@ OF_BUFFER = ctypes.pythonapi.PyMemoryView_FromBuffer
 OF_BUFFER.restype = ctypes.py_object
 OF_BUFFER.argtypes = [ctypes.POINTER(Buffer)]
 
+# The methods of bytes that are operators.
+SUMS = {"add": operator.add, "concat": operator.concat, "mul": operator.mul}
+
 OPERATORS = {"==": operator.eq, "!=": operator.ne, "<": operator.lt, "<=": operator.le, ">": operator.gt, ">=": operator.ge}
 
 
@@ -123,6 +126,9 @@ class Items:
     def tobytes(self):
         size = self.block * self.itemsize
         return b"".join(bytes(self.memory[i * size : (i + 1) * size]) for i in self.live())
+
+    def hex(self, *groups):
+        return self.tobytes().hex(*groups)
 
     def __getitem__(self, key):
         self.live()
@@ -257,6 +263,8 @@ class World:
             return written(self.property(handle, subject, *arguments))
         if words[0] == "compare":
             return written(self.do_compare(handle, subject, OPERATORS[arguments[0]], value_of(arguments[1], self)))
+        if words[0] == "call":
+            return written(self.do_call(handle, subject, arguments[0], *(value_of(word, self) for word in arguments[1:])))
         values = [value_of(word, self) for word in arguments]
         done = getattr(self, f"do_{words[0]}")(handle, subject, *values)
         return written(done)
@@ -421,9 +429,8 @@ class World:
         shown = repr(as_memory(subject))
         if isinstance(subject, (bytes, bytearray)):
             return Reply(shown)
-        # the address is another one in each run
         assert re.fullmatch("<((released )?memory|[a-z]+_iterator object) at 0x[0-9a-f]+>", shown)
-        return Reply(re.sub("0x[0-9a-f]+", "..", shown))
+        return Reply(without_address(shown))
 
     def do_iter(self, handle, subject):
         # called so, a refusal that CPython 3.11 doesn't look at is always found: that of a released view
@@ -442,6 +449,17 @@ class World:
     def do_setstate(self, handle, subject, place):
         subject.__setstate__(place)
         return Reply("ok")
+
+    def do_contains(self, handle, subject, value):
+        return readable(value) in subject
+
+    def do_hex(self, handle, subject, *groups):
+        return subject.hex(*groups)
+
+    def do_call(self, handle, subject, method, *arguments):
+        """A method by its name, or an operator by that of the function which does the same."""
+        arguments = [readable(argument) for argument in arguments]
+        return SUMS[method](subject, *arguments) if method in SUMS else getattr(subject, method)(*arguments)
 
     def property(self, handle, subject, name):
         if name == "obj":
@@ -468,12 +486,17 @@ class World:
 
 
 class AsWritten(World):
-    """Python's objects, but for two differences of what is written, which `docs/DIFFERENCES.md` names: a
-    slice of a bytearray is `bytes`, and a view is shown by its number among those of its exporter."""
+    """Python's objects, but for three differences of what is written, which `docs/DIFFERENCES.md` names: a
+    slice of a bytearray, and what a method of one gives, is `bytes`; the parts of a partition are a list of
+    such; and a view is shown by its number among those of its exporter."""
 
     def do_get(self, handle, subject, key):
         found = super().do_get(handle, subject, key)
-        return bytes(found) if isinstance(found, bytearray) else found
+        return as_bytes(found) if handle not in self.exporters else found
+
+    def do_call(self, handle, subject, method, *arguments):
+        found = super().do_call(handle, subject, method, *arguments)
+        return [as_bytes(part) for part in found] if isinstance(found, (list, tuple)) else as_bytes(found)
 
     def do_repr(self, handle, subject):
         shown = super().do_repr(handle, subject)
@@ -484,8 +507,15 @@ class AsWritten(World):
 
 
 def readable(value):
-    """An argument that is read as bytes: items of other formats by the bytes that they are."""
+    """An argument that is read as bytes, or holds such: items of other formats by the bytes that they are."""
+    if isinstance(value, (list, tuple)):
+        return type(value)(map(readable, value))
     return value.tobytes() if isinstance(value, Items) else value
+
+
+def as_bytes(found):
+    """What stands for bytes, which a view does where it separates two parts, as these."""
+    return bytes(found) if isinstance(found, (bytearray, memoryview)) else found
 
 
 class Reply(str):
@@ -494,7 +524,14 @@ class Reply(str):
 
 def written(found):
     """The reply text of what was found."""
+    if isinstance(found, tuple) and any(isinstance(part, memoryview) for part in found):
+        return without_address(repr(found))
     return found if isinstance(found, Reply) else repr(found)
+
+
+def without_address(shown):
+    """A text that has an address, which is another one in each run."""
+    return re.sub("(?<= at )0x[0-9a-f]+", "..", shown)
 
 
 def handle_of(word):

@@ -3597,6 +3597,952 @@ next h2
 ]
 
 
+PYTHON += [
+    Case(
+        "which bytes and numbers stand in bytes and in a bytearray",
+        """
+new bytes x616263616264
+contains h0 97
+contains h0 101
+contains h0 x6263
+contains h0 x626361
+contains h0 x6161
+contains h0 x
+contains h0 True
+contains h0 h0
+new bytearray x0001ff
+contains h1 True
+contains h1 False
+contains h1 255
+contains h1 256
+contains h1 -1
+contains h1 9223372036854775808
+contains h1 -170141183460469231731687303715884105728
+contains h1 'a'
+contains h1 None
+contains h1 ...
+contains h1 0:1:1
+contains h1 (0:1:1)
+contains h1 h1
+contains h1 h0
+view h0
+contains h0 h2
+get h2 1:3:1
+contains h0 h3
+contains h1 h3
+cast h3 'H'
+contains h0 h4
+get h2 6:None:None
+contains h1 h5
+release h3
+contains h0 h3
+contains h1 h3
+new bytes x
+contains h6 x
+contains h6 h6
+contains h6 0
+contains h6 h0
+iter h0
+contains h0 h7
+next h7
+bytes h0
+bytes h1
+""",
+    ),
+    Case(
+        "a live bytearray is searched, and its methods change nothing",
+        """
+new bytearray x2061425f6142200a
+view h0
+view h0
+contains h0 h1
+call h0 find h2
+call h0 strip
+call h0 upper
+call h0 split x5f
+call h0 replace x6142 x63
+call h0 add h1
+call h0 mul 2
+call h0 translate None x20
+call h0 splitlines
+bytes h0
+set h1 0 33
+call h0 strip
+call h0 count h2
+append h0 1
+release h1
+release h2
+append h0 33
+call h0 rstrip x21
+bytes h0
+prop h0 exports
+""",
+    ),
+    Case(
+        "the digits of the bytes of views",
+        """
+new bytes x00ff10abcdef
+view h0
+hex h1
+hex h1 ':'
+hex h1 x2d 2
+hex h1 ':' -2
+hex h1 ':' 4
+hex h1 ':' -4
+hex h1 ':' 6
+hex h1 ':' 0
+hex h1 ':' True
+hex h1 ':' 2147483647
+hex h1 ':' -2147483647
+get h1 None:None:-1
+hex h2
+hex h2 ':' 4
+get h1 None:None:2
+hex h3 '.'
+cast h1 'H'
+hex h4
+hex h4 ':' 2
+get h4 None:None:-1
+hex h5 ':' 2
+cast h1 'B' [2,3]
+hex h6 ':' 3
+get h6 None:None:-1
+hex h7 ':' 3
+cast h1 '<Hb'
+hex h8 ':' 3
+get h8 None:None:-1
+hex h9 ':' -3
+get h1 3:4:1
+hex h10 ':'
+cast h10 'B' []
+hex h11
+get h1 6:None:None
+hex h12
+hex h12 ':'
+get h6 2:None:None
+hex h13 ':' 9
+toreadonly h2
+hex h14
+bytes h0
+""",
+    ),
+    Case(
+        "digits that are refused, and separators of each kind",
+        """
+new bytes x0a0b0c
+new bytes x3a
+new bytearray x3a
+view h0
+view h1
+hex h3 h1
+hex h3 h1 2
+hex h3 h2
+hex h3 h4
+hex h3 h0
+hex h3 '::'
+hex h3 x
+hex h3 x3a3a 2
+hex h3 x80
+hex h3 xff 2
+hex h3 x7f
+hex h3 x27
+hex h3 x09
+hex h3 x5c
+hex h3 5
+hex h3 None
+hex h3 True
+hex h3 (58)
+hex h3 ...
+hex h3 0:1:1
+hex h3 ':' 'a'
+hex h3 ':' None
+hex h3 ':' x01
+hex h3 ':' h0
+hex h3 ':' 9223372036854775808
+hex h3 ':' -9223372036854775809
+release h3
+hex h3
+hex h3 ':'
+hex h3 ':' 2
+bytes h0
+""",
+    ),
+    Case(
+        "the digits of bytes and bytearrays, and digits read back",
+        """
+new bytes x010203
+call h0 hex
+call h0 hex ':'
+call h0 hex ':' 2
+call h0 hex x2d -2
+call h0 hex ':' 0
+new bytearray xfedcba9876543210
+call h1 hex
+call h1 hex '_' 3
+call h1 hex '_' -3
+call h1 hex h0
+new bytes x2e
+call h1 hex h2
+call h1 hex 5
+call h1 hex ':' 'a'
+call h0 hex xe9
+new bytes x
+call h3 hex
+call h3 hex ':' 2
+call h3 fromhex '4a4B'
+call h0 fromhex 'fF00'
+call h1 fromhex '0A'
+call h0 fromhex '0'
+call h0 fromhex '0g'
+call h0 fromhex '000'
+call h0 fromhex '0:0'
+call h0 fromhex x3030
+call h0 fromhex h2
+call h0 fromhex 30
+call h0 fromhex None
+bytes h1
+""",
+    ),
+    Case(
+        "which bytes are letters, digits, blanks, of one case and titles",
+        """
+new bytes x6142
+new bytearray x3132
+new bytes x61422031
+new bytes x090a0b0c0d20
+new bytearray x61e9
+new bytes x
+new bytes x4142
+new bytearray x6162
+new bytes x4162204364
+new bytes x41622063
+call h0 isalnum
+call h1 isalnum
+call h2 isalnum
+call h5 isalnum
+call h0 isalpha
+call h1 isalpha
+call h4 isalpha
+call h5 isalpha
+call h0 isascii
+call h4 isascii
+call h5 isascii
+call h1 isdigit
+call h2 isdigit
+call h5 isdigit
+call h3 isspace
+call h2 isspace
+call h5 isspace
+call h7 islower
+call h4 islower
+call h0 islower
+call h1 islower
+call h6 isupper
+call h0 isupper
+call h2 isupper
+call h5 isupper
+call h8 istitle
+call h9 istitle
+call h6 istitle
+call h1 istitle
+call h5 istitle
+""",
+    ),
+    Case(
+        "letters in another case",
+        """
+new bytes x6142632d6445e9c931642041
+call h0 lower
+call h0 upper
+call h0 swapcase
+call h0 capitalize
+call h0 title
+new bytearray x676574496e74
+call h1 lower
+call h1 upper
+call h1 swapcase
+call h1 capitalize
+call h1 title
+new bytes x
+call h2 lower
+call h2 upper
+call h2 swapcase
+call h2 capitalize
+call h2 title
+bytes h0
+bytes h1
+""",
+    ),
+    Case(
+        "bytes filled up to a width",
+        """
+new bytes x616263
+new bytearray x2b31
+new bytes x2a
+call h0 center 6
+call h0 center 7 x2a
+call h0 center 6 h2
+call h0 center 3
+call h0 center -1 x2a
+call h1 center 5 x2d
+call h1 center 4 x2d
+call h0 ljust 6
+call h0 ljust 6 x2e
+call h1 ljust 5 h2
+call h0 rjust 6
+call h0 rjust 6 x2e
+call h1 rjust True
+new bytearray x7e
+call h0 center 8 h3
+call h3 rjust 3 h3
+call h0 zfill 5
+call h1 zfill 5
+call h1 zfill 2
+call h1 zfill -9223372036854775808
+new bytes x2d
+call h4 zfill 3
+new bytes x
+call h5 zfill 2
+call h5 center 2
+call h0 center 'a'
+call h0 center None x2a
+call h0 center 9223372036854775808
+call h0 center -9223372036854775809 x2a
+call h0 center 6 x
+call h0 center 6 x2a2a
+call h0 center 6 42
+call h0 center 6 'a'
+call h0 center 6 None
+call h0 center 6 [42]
+call h0 center 1 x2a2a
+view h2
+call h0 center 6 h6
+release h6
+call h0 center 6 h6
+call h0 ljust 6 h0
+call h0 rjust x 5
+call h1 zfill x
+call h1 zfill 9223372036854775808
+bytes h1
+""",
+    ),
+    Case(
+        "where a needle stands, from the left and from the right",
+        """
+new bytes x616263616263
+call h0 find x6263
+call h0 find x62 2
+call h0 find x62 2 4
+call h0 find x64
+call h0 find 99
+call h0 find x
+call h0 find x 6
+call h0 find x 7
+call h0 find x 3 2
+call h0 rfind x6263
+call h0 rfind x62 0 4
+call h0 rfind x62 0 5
+call h0 rfind x
+call h0 rfind x 7
+call h0 rfind 97 None -1
+call h0 index x6361
+call h0 index x6361 -4
+call h0 index x6361 3
+call h0 rindex 97
+call h0 rindex 97 None 3
+call h0 rindex 100
+call h0 count x6263
+call h0 count 98 -3
+call h0 count x
+call h0 count x 7
+call h0 count x 2 4
+call h0 count x616263616263
+new bytearray x616161
+call h1 count x6161
+call h1 find x6161 True
+call h1 rfind x6161 False True
+call h1 count x61 -9223372036854775809 9223372036854775808
+call h1 find x61 -170141183460469231731687303715884105728
+call h1 find x61 170141183460469231731687303715884105727
+call h1 rfind x61 None None
+call h1 index x61 1 None
+new bytes x
+call h2 find x
+call h2 find x61
+call h2 find x 1
+call h2 count x
+call h2 rindex x
+call h2 index x61
+""",
+    ),
+    Case(
+        "needles that are handles, and those that are refused",
+        """
+new bytearray x6162636162
+view h0
+get h1 3:None:None
+call h0 find h2
+call h0 rfind h2
+call h0 count h2 1
+call h0 find h0
+call h0 index h1 1
+call h0 count h1
+new bytes x6261
+view h3
+call h0 find h3
+call h0 find h4 2
+cast h4 'H'
+call h3 find h5
+call h3 rfind h0
+call h0 find 'a'
+call h0 find None
+call h0 find ...
+call h0 find 0:1:1
+call h0 find 256
+call h0 index -1
+call h0 count 9223372036854775808
+call h0 find x61 'a'
+call h0 find x61 0 'a'
+call h0 rfind x61 x00
+call h0 rindex x61 None ...
+call h0 find x61 [0]
+call h0 count x61 0:1:1 2
+iter h3
+call h0 find h6
+call h0 find x61 h6
+release h4
+call h0 find h4
+call h0 rfind h4 0
+call h0 index h4 0 1
+call h0 count h4
+bytes h0
+next h6
+""",
+    ),
+    Case(
+        "what bytes begin and end with",
+        """
+new bytes x616263646566
+new bytearray x6162
+new bytes x6566
+call h0 startswith x6162
+call h0 startswith h1
+call h0 startswith h2
+call h0 startswith h0
+call h0 startswith x
+call h0 startswith x62 1
+call h0 startswith x62 1 2
+call h0 startswith x6263 1 2
+call h0 startswith x -1 -2
+call h0 startswith x 6
+call h0 startswith x 7
+call h0 startswith (x62,x61)
+call h0 startswith (h2,h1)
+call h0 startswith (h2,x62,x) 3
+call h0 startswith ()
+call h0 startswith (x61,5)
+call h0 startswith (5,x61)
+call h0 startswith (x62,'a')
+call h0 startswith (h0,h0)
+call h0 endswith h2
+call h0 endswith x6162
+call h0 endswith x65 None -1
+call h0 endswith x65 4 5
+call h0 endswith x6465 4 5
+call h0 endswith (h1,h2)
+call h0 endswith ()
+call h0 endswith x 6 6
+call h1 startswith h0
+call h1 endswith h1
+view h1
+call h0 startswith h3
+call h1 endswith (x7a,h3)
+call h0 startswith 97
+call h0 startswith 'a'
+call h0 startswith None
+call h0 startswith (None)
+call h0 startswith x61 'a'
+call h0 startswith 'a' x
+call h0 endswith x61 0 h0
+call h0 endswith (0:1:1)
+release h3
+call h0 startswith h3
+call h0 endswith (x66,h3)
+call h0 endswith (h3,x66)
+""",
+    ),
+    Case(
+        "bytes put together",
+        """
+new bytes x2c
+new bytearray x6162
+view h1
+call h0 add x63
+call h0 add h1
+call h0 add h2
+call h0 add h0
+call h1 add h1
+call h1 add x
+call h0 concat x63
+call h0 concat h1
+call h0 concat h2
+call h1 concat h1
+call h1 mul 3
+call h1 mul 0
+call h1 mul -9223372036854775808
+call h1 mul True
+call h0 join [x61,x62,x63]
+call h0 join (h1,h2,h0)
+call h0 join [h1]
+call h0 join []
+call h0 join ()
+call h1 join [h1,h1]
+call h1 join (x,x)
+call h0 add 5
+call h0 add 'a'
+call h0 add None
+call h0 add [1]
+call h0 add (1)
+call h0 concat 5
+call h0 concat 'a'
+call h0 concat [1]
+call h0 concat None
+call h0 mul 'a'
+call h0 mul None
+call h0 mul x01
+call h0 mul h1
+call h0 mul [1]
+call h0 mul 9223372036854775808
+call h1 mul -9223372036854775809
+new bytes x616263
+call h3 mul 9223372036854775807
+call h3 mul 4611686018427387904
+call h0 join 5
+call h0 join None
+call h0 join 'a'
+call h0 join x6162
+call h0 join h1
+call h0 join [x61,5]
+call h0 join ['a',x61]
+call h0 join [x61,None]
+call h0 join (0:1:1)
+get h2 None:None:-1
+call h0 add h4
+bytes h0
+bytes h1
+prop h1 exports
+""",
+    ),
+    Case(
+        "tables, and bytes mapped by them",
+        """
+new bytes x616263
+new bytes x585a59
+call h0 maketrans x x
+call h0 translate None
+call h0 translate None x62
+call h0 translate None h0
+new bytearray x6162636162
+call h2 translate None x6162
+call h2 translate None h2
+view h2
+call h2 translate None h3
+call h2 maketrans h0 h1
+call h0 maketrans x6162 x61
+call h0 maketrans x x61
+call h0 maketrans 'a' x61
+call h0 maketrans x61 5
+call h0 maketrans None x61
+call h0 maketrans x61 'a'
+new bytes x000102030405060708090a0b0c0d0e0f101112131415161718191a1b1c1d1e1f202122232425262728292a2b2c2d2e2f303132333435363738393a3b3c3d3e3f404142434445464748494a4b4c4d4e4f505152535455565758595a5b5c5d5e5f6058595a6465666768696a6b6c6d6e6f707172737475767778797a7b7c7d7e7f808182838485868788898a8b8c8d8e8f909192939495969798999a9b9c9d9e9fa0a1a2a3a4a5a6a7a8a9aaabacadaeafb0b1b2b3b4b5b6b7b8b9babbbcbdbebfc0c1c2c3c4c5c6c7c8c9cacbcccdcecfd0d1d2d3d4d5d6d7d8d9dadbdcdddedfe0e1e2e3e4e5e6e7e8e9eaebecedeeeff0f1f2f3f4f5f6f7f8f9fafbfcfdfeff
+call h2 translate h4
+call h2 translate h4 x62
+view h4
+call h0 translate h5
+call h4 translate h4
+call h0 translate x00
+call h0 translate x
+call h0 translate h0
+call h0 translate None 'a'
+call h0 translate None 97
+call h0 translate h4 None
+call h0 translate x61 5
+release h5
+call h0 translate h5
+call h0 translate None h5
+""",
+    ),
+    Case(
+        "bytes without those at their ends",
+        """
+new bytes x2009612062200a
+new bytearray x787961786278
+call h0 strip
+call h0 lstrip
+call h0 rstrip
+call h0 strip None
+call h0 rstrip None
+call h1 strip x78
+call h1 strip x7879
+call h1 lstrip x7978
+call h1 rstrip x78
+call h1 strip
+call h1 strip x
+call h1 strip h1
+call h1 rstrip h0
+view h1
+call h1 lstrip h2
+get h2 0:2:1
+call h1 strip h3
+cast h3 'H'
+call h1 lstrip h4
+call h1 removeprefix x7879
+call h1 removeprefix x79
+call h1 removeprefix h3
+call h1 removeprefix h1
+call h1 removeprefix x
+call h1 removesuffix x78
+call h1 removesuffix x7878
+call h1 removesuffix h0
+call h1 removesuffix x
+new bytes x
+call h5 strip
+call h5 strip x61
+call h5 removesuffix x61
+call h1 strip 'x'
+call h1 lstrip 120
+call h1 rstrip ...
+call h1 removeprefix None
+call h1 removeprefix 'x'
+call h1 removesuffix 5
+release h3
+call h1 strip h3
+call h1 removeprefix h3
+call h1 removesuffix h3
+bytes h0
+bytes h1
+""",
+    ),
+    Case(
+        "bytes cut at a separator, from the left and from the right",
+        """
+new bytes x612c622c2c63
+new bytearray x2c
+call h0 split x2c
+call h0 split x2c 1
+call h0 split x2c 0
+call h0 split x2c -1
+call h0 split h1 2
+call h0 rsplit h1 1
+call h0 rsplit x2c
+call h0 rsplit x2c 0
+call h0 rsplit x2c -9223372036854775808
+call h0 split x2c 9223372036854775807
+call h0 split x2c2c
+call h0 rsplit x7a
+call h0 split h0
+call h1 split h1
+call h1 rsplit h1 True
+new bytes x
+call h2 split x2c
+call h2 rsplit x2c
+new bytearray x616161
+call h3 split x6161
+call h3 rsplit x6161
+call h0 split x
+call h0 rsplit h2
+call h0 split 'a'
+call h0 split 44
+call h0 rsplit ...
+call h0 split x2c 'a'
+call h0 split x2c None
+call h0 rsplit x2c 9223372036854775808
+call h0 split x2c x01
+call h0 partition x2c
+call h0 partition x2c2c
+call h0 partition x7a
+call h0 rpartition x2c
+call h0 rpartition h1
+call h0 rpartition x7a
+call h1 partition h1
+call h2 rpartition x61
+call h3 partition h3
+call h3 rpartition x61
+call h0 partition x
+call h0 partition h2
+call h0 rpartition x
+call h0 partition 44
+call h0 partition None
+call h0 rpartition 'a'
+view h1
+call h0 split h4
+call h0 rpartition h4
+release h4
+call h0 split h4
+call h0 rsplit h4 1
+call h0 partition h4
+call h0 rpartition h4
+bytes h0
+""",
+    ),
+    Case(
+        "bytes cut at blanks and at the ends of lines",
+        """
+new bytes x2061200962206320
+call h0 split
+call h0 split None
+call h0 split None 1
+call h0 split None 2
+call h0 split None 0
+call h0 split None 5
+call h0 rsplit
+call h0 rsplit None 1
+call h0 rsplit None 0
+call h0 rsplit None -1
+new bytearray x200a
+call h1 split
+call h1 rsplit None 0
+new bytes x610b621c630d0a64
+call h2 split
+new bytes x610a620d0a0a630d640a
+call h3 splitlines
+call h3 splitlines True
+call h3 splitlines False
+call h3 splitlines 0
+call h3 splitlines -5
+call h3 splitlines 2147483647
+call h2 splitlines 1
+call h1 splitlines True
+new bytes x
+call h4 splitlines
+call h4 split
+call h4 rsplit
+call h3 splitlines 'a'
+call h3 splitlines None
+call h3 splitlines x01
+call h0 split None 'a'
+call h0 split None None
+call h0 rsplit None 9223372036854775808
+""",
+    ),
+    Case(
+        "tabs as spaces",
+        """
+new bytes x610962630964
+call h0 expandtabs
+call h0 expandtabs 4
+call h0 expandtabs 1
+call h0 expandtabs 0
+call h0 expandtabs -3
+call h0 expandtabs True
+new bytearray x090a61090d0962
+call h1 expandtabs
+call h1 expandtabs 2
+new bytes x616263
+call h2 expandtabs
+call h2 expandtabs 2147483647
+call h0 expandtabs 'a'
+call h0 expandtabs None
+call h0 expandtabs x04
+call h0 expandtabs 9223372036854775808
+bytes h1
+""",
+    ),
+    Case(
+        "others in place of matches",
+        """
+new bytes x616261626162
+call h0 replace x6162 x63
+call h0 replace x6162 x63 1
+call h0 replace x6162 x63 0
+call h0 replace x6162 x63 -1
+call h0 replace x61 x
+call h0 replace x61 x787878 2
+call h0 replace x x2e
+call h0 replace x x2e 2
+call h0 replace x x
+call h0 replace x7a x79
+call h0 replace x6162 x63 9223372036854775807
+new bytearray x616161
+call h1 replace x6161 x62
+call h1 replace h1 x62
+call h1 replace x61 h1
+call h1 replace h1 h1
+call h1 replace h0 h1
+call h0 replace h1 h0
+view h1
+call h1 replace h2 h0
+get h2 0:1:1
+call h0 replace h3 h2
+call h1 replace h3 x True
+new bytes x
+call h4 replace x x61
+call h4 replace x x61 0
+call h4 replace x61 x62
+call h0 replace 'a' x
+call h0 replace x61 5
+call h0 replace x61 None
+call h0 replace 97 98
+call h0 replace x61 x62 'a'
+call h0 replace x61 x62 None
+call h0 replace x61 x62 9223372036854775808
+release h3
+call h0 replace h3 x
+call h0 replace x61 h3
+bytes h0
+bytes h1
+""",
+    ),
+    Case(
+        "texts of bytes",
+        """
+new bytes x616263
+call h0 decode
+call h0 decode 'utf-8'
+call h0 decode 'ascii'
+call h0 decode 'utf8' 'strict'
+new bytearray x6127220a5c00
+call h1 decode
+call h1 decode 'ascii' 'strict'
+new bytes x2761
+call h2 decode
+new bytes x
+call h3 decode
+call h3 decode 'ascii'
+new bytes xff
+call h4 decode
+call h4 decode 'utf-8' 'strict'
+call h4 decode 'ascii'
+new bytearray xc3
+call h5 decode
+new bytes xeda080
+call h6 decode 'utf8'
+call h0 decode 5
+call h0 decode x61
+call h0 decode h2
+call h0 decode 'ascii' 5
+call h0 decode 'ascii' ...
+bytes h1
+""",
+    ),
+    Case(
+        "several handles in one call",
+        """
+new bytes x2d
+new bytearray x6162
+new bytes x6162
+view h1
+view h2
+get h3 None:None:-1
+call h0 join [h1,h2,h0]
+call h0 join (h3,h4,h0,x)
+call h1 replace h2 h0
+call h1 replace h3 h4
+call h1 replace h1 h1 1
+call h1 startswith (h0,h2)
+call h1 endswith (h4,h3)
+call h1 find h4
+call h1 translate None h3
+call h2 strip h4
+call h0 center 5 h0
+call h2 split h1
+call h2 partition h3
+contains h1 h4
+contains h2 h3
+call h0 maketrans h0 h0
+call h1 removeprefix h2
+call h2 removesuffix h1
+set h1 0 90
+call h0 join [h1,h2,h3]
+call h2 find h3
+bytes h1
+bytes h2
+prop h1 exports
+prop h2 exports
+""",
+    ),
+    Case(
+        "views of every shape as arguments",
+        """
+new bytes x616263646162
+view h0
+cast h1 'H'
+cast h1 'B' [2,3]
+cast h1 '3s'
+get h1 0:1:1
+cast h5 'B' []
+get h1 6:None:None
+get h3 2:None:None
+call h0 find h2
+call h0 count h6
+call h0 startswith h3
+call h0 strip h6
+call h0 split h7
+call h0 split h6
+call h0 replace h6 h3
+call h0 add h2
+call h0 concat h3
+call h0 join [h1,h2,h3]
+call h0 count h8
+contains h0 h4
+call h0 removeprefix h4
+call h0 partition h4
+call h0 rpartition h6
+get h2 1:None:None
+call h0 find h9
+call h0 endswith (h9,h6)
+bytes h0
+prop h0 exports
+""",
+    ),
+    Case(
+        "a vector as an argument",
+        """
+new bytes x62616261
+view h0
+get h1 None:None:-1
+contig h2
+call h0 find h3
+call h0 count h4
+call h0 add h3
+call h0 concat h4
+call h0 join [h3,h4]
+call h0 replace h3 h0
+call h0 startswith (h4,h3)
+call h0 strip h3
+contains h0 h3
+call h0 translate None h3
+call h0 removeprefix h3
+""",
+    ),
+    Case(
+        "no argument is of a kind that no method has",
+        """
+new bytearray x6162
+call h0 find (0:1:1)
+call h0 strip (0:1:1)
+call h0 add (0:1:1)
+call h0 mul (0:1:1)
+call h0 join (0:1:1,0:1:1)
+call h0 center (0:1:1)
+call h0 hex (0:1:1)
+call h0 decode (0:1:1)
+call h0 fromhex (0:1:1)
+call h0 split ... ...
+call h0 replace ... x
+call h0 expandtabs ...
+call h0 splitlines ...
+call h0 zfill ...
+call h0 removeprefix ...
+call h0 startswith ...
+call h0 maketrans ... x
+contains h0 (0:1:1)
+bytes h0
+""",
+    ),
+]
+
+
 def drawn_iterators(draw):
     """Iterators of a bytearray that is edited, of bytes, and of views that are written."""
     lines = ["new bytearray x000102030405", "new bytes x6162636465", "new bytearray x707172737475", "view h2", "get h3 None:None:-2"]
@@ -4766,6 +5712,433 @@ set h0 h9 0                        ! UnknownName  !
 set h0 0 h9                        ! UnknownName  !
 set h0 0 [h9]                      ! UnknownName  !
 bytes h0                           b'\\x01'
+""",
+    ),
+    Case(
+        "what a method of a bytearray answers is bytes, and a partition is a list of bytes",
+        """
+new bytearray x612c62    h0
+view h0                  h1
+get h1 1:2:1             h2
+call h0 upper            b'A,B'               !
+call h0 add x63          b'a,bc'              !
+call h0 mul 2            b'a,ba,b'            !
+call h0 replace x2c x    b'ab'                !
+call h0 fromhex '61'     b'a'                 !
+call h0 split x2c        [b'a', b'b']         !
+call h0 rsplit h2        [b'a', b'b']         !
+call h0 splitlines       [b'a,b']             !
+call h0 join [x61,x62]   b'aa,bb'             !
+call h0 hex              '612c62'
+call h0 find x2c         1
+call h0 isalpha          False
+call h0 partition x2c    [b'a', b',', b'b']   !
+call h0 rpartition h2    [b'a', b',', b'b']   !
+new bytes x612c62        h3
+call h3 partition x2c    [b'a', b',', b'b']   !
+call h3 partition x7a    [b'a,b', b'', b'']   !
+call h3 rpartition x7a   [b'', b'', b'a,b']   !
+call h3 partition h2     [b'a', b',', b'b']   !
+call h3 rpartition h1    [b'', b'a,b', b'']   !
+call h3 split h2         [b'a', b'b']
+""",
+    ),
+    Case(
+        "lists and tuples of numbers are read as bytes, but by add, concat and join",
+        """
+new bytes x616263616263          h0
+contains h0 [98,99]              True                    !
+contains h0 (97)                 True                    !
+contains h0 []                   True                    !
+contains h0 [256]                ! ValueError            !
+contains h0 ['a']                ! TypeError
+contains h0 [True,h0]            ! TypeError
+call h0 find [98,99]             1                       !
+call h0 rfind (97,98)            3                       !
+call h0 find ()                  0                       !
+call h0 count [97] 1             1                       !
+call h0 index [122]              ! ValueError            !
+call h0 find [-1]                ! ValueError            !
+call h0 startswith [97,98]       True                    !
+call h0 endswith [99]            True                    !
+call h0 startswith (97)          ! TypeError
+call h0 startswith [x61]         ! TypeError
+call h0 strip [97,99]            b'bcab'                 !
+call h0 rstrip (99)              b'abcab'                !
+call h0 lstrip [300]             ! ValueError            !
+call h0 split [98]               [b'a', b'ca', b'c']     !
+call h0 rsplit (98) 1            [b'abca', b'c']         !
+call h0 split []                 ! ValueError            !
+call h0 partition [99,97]        [b'ab', b'ca', b'bc']   !
+call h0 rpartition ()            ! ValueError            !
+call h0 removeprefix [97]        b'bcabc'                !
+call h0 removesuffix (98,99)     b'abca'                 !
+call h0 replace [97] (120,121)   b'xybcxybc'             !
+call h0 replace [] [45] 2        b'-a-bcabc'             !
+call h0 replace [97] [256]       ! ValueError            !
+call h0 translate None [98]      b'acac'                 !
+call h0 translate [97]           ! ValueError            !
+call h0 add [97]                 ! TypeError
+call h0 concat (97)              ! TypeError
+call h0 join [97]                ! TypeError
+bytes h0                         b'abcabc'
+""",
+    ),
+    Case(
+        "views whose items lie apart are read as bytes by every method but add",
+        """
+new bytes x616263616263     h0
+view h0                     h1
+get h1 2:None:-1            h2
+get h1 None:None:3          h3
+cast h1 'B' [2,3]           h4
+get h4 None:None:-1         h5
+contains h0 h2              False                   !
+contains h0 h3              False                   !
+call h0 find h2             -1                      !
+call h0 rfind h3            -1                      !
+call h0 startswith h3       False                   !
+call h0 endswith (h2,h5)    True                    !
+call h0 strip h3            b'bcabc'                !
+call h0 split h3            [b'abcabc']             !
+call h0 partition h2        [b'abcabc', b'', b'']   !
+call h0 removeprefix h5     b''                     !
+call h0 replace h2 h3       b'abcabc'               !
+call h0 replace x61 h3      b'aabcaabc'             !
+call h0 translate None h3   b'bcbc'                 !
+call h0 concat h3           b'abcabcaa'             !
+call h0 join [h3,h2]        b'aaabcabccba'          !
+call h0 add h3              ! TypeError
+""",
+    ),
+    Case(
+        "a released view among the arguments is a wrong value",
+        """
+new bytes x6162             h0
+view h0                     h1
+release h1                  ok
+contains h0 h1              ! ValueError
+call h0 find h1             ! ValueError
+call h0 strip h1            ! ValueError
+call h0 add h1              ! ValueError   !
+call h0 concat h1           ! ValueError   !
+call h0 join [x61,h1]       ! ValueError   !
+call h0 join (5,h1)         ! TypeError
+call h0 maketrans h1 x61    ! ValueError
+call h0 translate h1        ! ValueError
+call h0 mul h1              ! TypeError
+call h0 center 5 h1         ! TypeError
+call h0 hex h1              ! TypeError    !
+call h0 fromhex h1          ! TypeError
+call h0 decode h1           ! TypeError
+call h0 split None h1       ! TypeError
+call h0 startswith x61 h1   ! TypeError
+""",
+    ),
+    Case(
+        "join is of a list or a tuple alone",
+        """
+new bytes x2c       h0
+new bytes x         h1
+new bytearray x     h2
+call h0 join x      ! TypeError   !
+call h0 join h1     ! TypeError   !
+call h0 join h2     ! TypeError   !
+view h1             h3
+call h0 join h3     ! TypeError   !
+new bytes x6162     h4
+view h4             h5
+cast h5 'c'         h6
+call h0 join h6     ! TypeError   !
+iter h4             h7
+call h0 join h7     ! TypeError
+next h7             97            !
+call h0 join [h6]   b'ab'
+""",
+    ),
+    Case(
+        "a translation by what is no table is a wrong value",
+        """
+new bytes x6162           h0
+call h0 translate 5       ! ValueError   !
+call h0 translate 'a'     ! ValueError   !
+call h0 translate ...     ! ValueError   !
+call h0 translate 0:1:1   ! ValueError   !
+call h0 translate [5]     ! ValueError   !
+call h0 translate ['a']   ! ValueError   !
+call h0 translate 'a' 5   ! ValueError   !
+iter h0                   h1
+call h0 translate h1      ! ValueError   !
+call h0 translate x61     ! ValueError
+call h0 translate None    b'ab'
+next h1                   97
+""",
+    ),
+    Case(
+        "a table is made by the first of repeated bytes",
+        """
+new bytes x616263                   h0
+call h0 maketrans x000000 x010203   b'\\x01\\x01\\x02\\x03\\x04\\x05\\x06\\x07\\x08\\t\\n\\x0b\\x0c\\r\\x0e\\x0f\\x10\\x11\\x12\\x13\\x14\\x15\\x16\\x17\\x18\\x19\\x1a\\x1b\\x1c\\x1d\\x1e\\x1f !"#$%&\\'()*+,-./0123456789:;<=>?@ABCDEFGHIJKLMNOPQRSTUVWXYZ[\\\\]^_`abcdefghijklmnopqrstuvwxyz{|}~\\x7f\\x80\\x81\\x82\\x83\\x84\\x85\\x86\\x87\\x88\\x89\\x8a\\x8b\\x8c\\x8d\\x8e\\x8f\\x90\\x91\\x92\\x93\\x94\\x95\\x96\\x97\\x98\\x99\\x9a\\x9b\\x9c\\x9d\\x9e\\x9f\\xa0\\xa1\\xa2\\xa3\\xa4\\xa5\\xa6\\xa7\\xa8\\xa9\\xaa\\xab\\xac\\xad\\xae\\xaf\\xb0\\xb1\\xb2\\xb3\\xb4\\xb5\\xb6\\xb7\\xb8\\xb9\\xba\\xbb\\xbc\\xbd\\xbe\\xbf\\xc0\\xc1\\xc2\\xc3\\xc4\\xc5\\xc6\\xc7\\xc8\\xc9\\xca\\xcb\\xcc\\xcd\\xce\\xcf\\xd0\\xd1\\xd2\\xd3\\xd4\\xd5\\xd6\\xd7\\xd8\\xd9\\xda\\xdb\\xdc\\xdd\\xde\\xdf\\xe0\\xe1\\xe2\\xe3\\xe4\\xe5\\xe6\\xe7\\xe8\\xe9\\xea\\xeb\\xec\\xed\\xee\\xef\\xf0\\xf1\\xf2\\xf3\\xf4\\xf5\\xf6\\xf7\\xf8\\xf9\\xfa\\xfb\\xfc\\xfd\\xfe\\xff'   !
+""",
+    ),
+    Case(
+        "in a range whose start passes its end no affix is looked at",
+        """
+new bytes x616263                      h0
+call h0 startswith 97 2 1              False          !
+call h0 startswith 'a' 4               False          !
+call h0 endswith None 4                False          !
+call h0 endswith ('a',5) 3 -3          False          !
+call h0 startswith h0 9223372036854775807   False
+call h0 startswith [256] 5             False          !
+view h0                                h1
+release h1                             ok
+call h0 startswith h1 4                False          !
+call h0 endswith (h1) 2 1              False          !
+call h0 startswith h1 3                ! ValueError
+call h0 startswith 97 3                ! TypeError
+call h0 startswith x 4                 False
+call h0 startswith 97 4 'a'            ! TypeError
+""",
+    ),
+    Case(
+        "digits of nothing, and without groups, look at no separator",
+        """
+new bytes x           h0
+view h0               h1
+hex h1 '::'           ''             !
+hex h1 x              ''             !
+hex h1 xff 2          ''             !
+hex h1 '::' 0         ''             !
+hex h1 5              ! TypeError
+hex h1 ':' 'a'        ! TypeError
+call h0 hex '::'      ''             !
+call h0 hex xff 5     ''             !
+new bytearray x6162   h2
+view h2               h3
+hex h3 '::' 0         '6162'         !
+hex h3 x 0            '6162'         !
+hex h3 xff 0          '6162'         !
+hex h3 xff False      '6162'         !
+hex h3 '::' 1         ! ValueError
+call h2 hex '::' 0    '6162'         !
+call h2 hex x80 0     '6162'         !
+call h2 hex 5 0       ! TypeError
+get h3 0:0:1          h4
+hex h4 '::'           ''             !
+""",
+    ),
+    Case(
+        "sizes of groups and of tabs are counts of a whole word",
+        """
+new bytes x61626364                    h0
+view h0                                h1
+hex h1 ':' 2147483648                  '61626364'        !
+hex h1 ':' 9223372036854775807         '61626364'        !
+hex h1 ':' -2147483649                 '61626364'        !
+hex h1 ':' -9223372036854775808        '61626364'        !
+hex h1 '::' 2147483648                 ! ValueError      !
+hex h1 ':' 9223372036854775808         ! OverflowError
+call h0 hex ':' 2147483648             '61626364'        !
+call h0 hex ':' -9223372036854775808   '61626364'        !
+call h0 expandtabs 2147483648          b'abcd'           !
+call h0 expandtabs -2147483649         b'abcd'           !
+call h0 expandtabs 9223372036854775807   b'abcd'           !
+call h0 expandtabs 9223372036854775808   ! OverflowError
+new bytes x6109620a                    h2
+call h2 expandtabs -9223372036854775808   b'ab\\n'           !
+call h2 splitlines 2147483648          [b'a\\tb\\n']       !
+call h2 splitlines 9223372036854775808   [b'a\\tb\\n']       !
+call h2 splitlines -170141183460469231731687303715884105728   [b'a\\tb\\n']       !
+""",
+    ),
+    Case(
+        "arguments are refused from left to right",
+        """
+new bytes x6162                        h0
+call h0 split 5 9223372036854775808    ! TypeError       !
+call h0 rsplit 'a' -9223372036854775809   ! TypeError       !
+call h0 split x 'a'                    ! TypeError
+call h0 find 256 x61                   ! ValueError      !
+call h0 count -1 0 'a'                 ! ValueError      !
+call h0 index [256] 'a'                ! ValueError      !
+call h0 hex 5 9223372036854775808      ! TypeError       !
+call h0 hex '::' 9223372036854775808   ! OverflowError
+call h0 replace [256] 'a'              ! ValueError      !
+call h0 replace x61 [256] 'a'          ! ValueError      !
+call h0 replace [256] x61 'a'          ! ValueError      !
+call h0 maketrans [256] 5              ! ValueError      !
+call h0 translate x61 5                ! ValueError
+call h0 startswith [256] 'a'           ! TypeError
+call h0 center 9223372036854775808 5   ! OverflowError
+view h0                                h1
+release h1                             ok
+call h0 find h1 'a'                    ! ValueError      !
+call h0 replace h1 5                   ! ValueError
+call h0 split h1 'a'                   ! ValueError      !
+call h0 hex h1 'a'                     ! TypeError
+""",
+    ),
+    Case(
+        "a separator of digits is a text or bytes, whatever its length",
+        """
+new bytes x6162       h0
+new bytearray x3a3a   h1
+view h0               h2
+view h1               h3
+hex h2 h1             ! TypeError   !
+hex h2 h3             ! TypeError   !
+hex h2 h2             ! TypeError   !
+hex h2 [58,58]        ! TypeError   !
+hex h2 [58]           ! TypeError
+hex h2 ()             ! TypeError   !
+call h0 hex h1        ! TypeError   !
+call h0 hex h3 2      ! TypeError   !
+call h1 hex (58,58)   ! TypeError   !
+release h3            ok
+hex h2 h3             ! TypeError   !
+call h0 hex h3        ! TypeError   !
+""",
+    ),
+    Case(
+        "a released view has no digits, whatever is asked",
+        """
+new bytes x6162                  h0
+view h0                          h1
+release h1                       ok
+hex h1                           ! ValueError
+hex h1 'a' 'b'                   ! ValueError   !
+hex h1 ':' 9223372036854775808   ! ValueError   !
+hex h1 '::' 2                    ! ValueError
+hex h1 5                         ! ValueError
+hex h1 ':' None                  ! ValueError   !
+""",
+    ),
+    Case(
+        "decoding without a name is by utf-8, and the codecs are three",
+        """
+new bytes x6162                   h0
+new bytes xe9                     h1
+new bytes x                       h2
+call h0 decode None               'ab'           !
+call h0 decode None None          'ab'           !
+call h0 decode 'ascii' None       'ab'           !
+call h0 decode None 'strict'      'ab'           !
+call h1 decode None               ! ValueError   !
+call h0 decode 'latin'            ! ValueError   !
+call h1 decode 'latin-1'          ! ValueError   !
+call h0 decode 'UTF-8'            ! ValueError   !
+call h0 decode 'utf_8'            ! ValueError   !
+call h0 decode 'x'                ! ValueError   !
+call h2 decode 'x'                ! ValueError   !
+call h0 decode 'ascii' 'ignore'   ! ValueError   !
+call h0 decode 'ascii' 'x'        ! ValueError   !
+call h1 decode 'ascii' 'ignore'   ! ValueError   !
+call h0 decode 'x' 'y'            ! ValueError   !
+call h0 decode 'x' 5              ! TypeError
+call h0 decode 5 'y'              ! TypeError
+""",
+    ),
+    Case(
+        "a text is written by its bytes",
+        """
+new bytes xc3a96127      h0
+call h0 decode           "\\xc3\\xa9a'"     !
+call h0 decode 'utf8'    "\\xc3\\xa9a'"     !
+new bytearray xe282ac    h1
+call h1 decode           '\\xe2\\x82\\xac'   !
+new bytes x7fc280        h2
+call h2 decode           '\\x7f\\xc2\\x80'   !
+call h2 decode 'ascii'   ! ValueError
+""",
+    ),
+    Case(
+        "more than isize::MAX bytes are refused by their number, of a bytearray too",
+        """
+new bytearray x616263             h0
+new bytes x616263                 h1
+call h0 mul 9223372036854775807   ! OverflowError   !
+call h1 mul 9223372036854775807   ! OverflowError
+call h0 mul 3074457345618258603   ! OverflowError   !
+bytes h0                          b'abc'
+""",
+    ),
+    Case(
+        "digits are of views, searches and methods of bytes and bytearrays",
+        """
+new bytes x626162     h0
+view h0               h1
+hex h0                ! UnknownName   !
+hex h0 ':' 1          ! UnknownName   !
+call h1 hex           ! UnknownName   !
+call h1 find x61      ! UnknownName   !
+call h1 upper         ! UnknownName   !
+contains h1 97        ! UnknownName   !
+contains h1 x61       ! UnknownName   !
+release h1            ok
+contains h1 97        ! UnknownName   !
+call h1 hex           ! UnknownName   !
+hex h0 'a' 'b'        ! UnknownName   !
+iter h0               h2
+contains h2 97        ! UnknownName   !
+call h2 hex           ! UnknownName   !
+hex h2                ! UnknownName   !
+next h2               98
+view h0               h3
+get h3 None:None:-2   h4
+contig h4             h5 h6
+contains h5 98        ! UnknownName   !
+call h5 find x62      ! UnknownName   !
+call h5 decode        ! UnknownName   !
+hex h5                ! UnknownName   !
+hex h6                '6262'
+contains h6 98        ! UnknownName   !
+call h6 count 98      ! UnknownName   !
+new bytearray x6162   h7
+hex h7                ! UnknownName   !
+contains h7 97        True
+""",
+    ),
+    Case(
+        "a handle among the arguments of a method that was never given",
+        """
+new bytes x6162                        h0
+view h0                                h1
+contains h0 h9                         ! UnknownName   !
+contains h0 [256,h9]                   ! UnknownName   !
+contains h9 97                         ! UnknownName   !
+hex h9                                 ! UnknownName   !
+hex h1 h9                              ! UnknownName   !
+hex h1 ':' h9                          ! UnknownName   !
+hex h1 5 h9                            ! UnknownName   !
+call h9 upper                          ! UnknownName   !
+call h9 find h9                        ! UnknownName   !
+call h0 find h9                        ! UnknownName   !
+call h0 find 'a' h9                    ! UnknownName   !
+call h0 find 256 'a' h9                ! UnknownName   !
+call h0 startswith (x61,h9)            ! UnknownName   !
+call h0 startswith 5 4 h9              ! UnknownName   !
+call h0 startswith h9 4                ! UnknownName   !
+call h0 join [x61,h9]                  ! UnknownName   !
+call h0 join (5,h9)                    ! UnknownName   !
+call h0 replace 5 x61 h9               ! UnknownName   !
+call h0 split x h9                     ! UnknownName   !
+call h0 translate h9                   ! UnknownName   !
+call h0 translate 5 h9                 ! UnknownName   !
+call h0 center 9223372036854775808 h9   ! UnknownName   !
+call h0 fromhex h9                     ! UnknownName   !
+call h0 decode h9                      ! UnknownName   !
+call h0 decode 5 h9                    ! UnknownName   !
+call h0 add h9                         ! UnknownName   !
+call h0 mul h9                         ! UnknownName   !
+call h0 splitlines h9                  ! UnknownName   !
+call h0 strip 0:1:h9                   ! UnknownName   !
+call h0 maketrans (0:h9:1) 5           ! UnknownName   !
+release h1                             ok
+hex h1 h9                              ! UnknownName   !
+call h1 find h9                        ! UnknownName   !
+call h0 find h1 h9                     ! UnknownName   !
+bytes h0                               b'ab'
 """,
     ),
 ]
