@@ -108,6 +108,10 @@ fn view_repr(state: &mut ExporterState, alloc: Global) -> Made<LocalReply> {
     PyMemoryView::of(1).repr_str(state, LoanList::new(alloc))
 }
 
+fn view_hex(state: &mut ExporterState, alloc: Global, group: Value) -> Made<LocalReply> {
+    PyMemoryView::of(1).hex(state, None, Some(group), LoanList::new(alloc))
+}
+
 fn view_obj(state: &mut ExporterState, alloc: Global) -> Made<i128> {
     Ok(told(PyMemoryView::of(1).obj(state, LoanList::new(alloc))?))
 }
@@ -262,6 +266,7 @@ fn a_memoryview_is_compared_and_shown(rt: HostRuntime) -> Result<(), Fail> {
     assert_eq!(rt; view_cmp(&mut state, a, CompareOp::Eq, other)?, 0);
     assert_eq!(rt; view_hash(&mut state, a)?, -5);
     assert!(rt; shows(view_repr(&mut state, a)?, b"<memory 1>"));
+    assert!(rt; shows(view_hex(&mut state, a, number(2))?, b"010002010300"));
     Ok(())
 }
 

@@ -129,6 +129,27 @@ impl PyMemoryView {
         step_of(state, Subject::View(self.number()), Verb::Repr, loans)
     }
 
+    /// The bytes of the items as hexadecimal digits, of which the last dimension runs fastest, as Python's
+    /// `view.hex(sep, bytes_per_sep)` (Library reference, "Memory Views").
+    pub fn hex(
+        &self,
+        state: &mut ExporterState,
+        sep: Option<Value>,
+        group: Option<Value>,
+        loans: LoanList,
+    ) -> Made<LocalReply>
+        requires { LoansFit loans }
+        ensures ok { IfOk result (λ r. estep state.old (subjects.View self.now) (verbs.Hex sep group) loans ≡ (state.new, r)) }
+        ensures err { OnErr result (state.new ≡ state.old) }
+    {
+        step_of(
+            state,
+            Subject::View(self.number()),
+            Verb::Hex { sep, group },
+            loans,
+        )
+    }
+
     /// Refused with `TypeError` always: no item of a view can be taken out, as Python's `del view[key]`
     /// can't (Library reference, "Memory Views").
     pub fn delitem(

@@ -11,7 +11,7 @@ ghost use Rattle.pybuf_value.specs.declared.faults.Fault.{Fault};
 ghost use Rattle.pybuf_state.specs.Exporter.{new_exporter, exports_of};
 
 use crate::guard::BufferResizeGuard;
-use pybuf_bytes::ByteInnerNewOptions;
+use pybuf_bytes::{ByteInnerNewOptions, MethodCall};
 use pybuf_command::{ExporterKind, LoanList, LocalReply, PropertyName, Subject, Verb};
 use pybuf_exporter::ExporterState;
 use pybuf_memoryobject::step_of;
@@ -420,6 +420,36 @@ impl PyByteArray {
         ensures err { OnErr result (self.new ≡ self.old) }
     {
         step_of(&mut self.exporter, Subject::Own, Verb::Repr, loans)
+    }
+
+    /// Whether a value stands in the bytes, as Python's `value in bytearray`: a number as one byte, and any other
+    /// value as the bytes that it is read as (Library reference, "Common Sequence Operations").
+    pub fn contains(&mut self, value: Value, loans: LoanList) -> Made<LocalReply>
+        requires { LoansFit loans }
+        ensures ok { IfOk result (λ r. estep self.old subjects.Own (verbs.Contains value) loans ≡ (self.new, r)) }
+        ensures err { OnErr result (self.new ≡ self.old) }
+    {
+        step_of(
+            &mut self.exporter,
+            Subject::Own,
+            Verb::Contains { value },
+            loans,
+        )
+    }
+
+    /// Calls a method by its name, as Python's `bytearray.find(value)` and the others (Library reference, "Bytes and
+    /// Bytearray Operations").
+    pub fn call(&mut self, method: MethodCall, loans: LoanList) -> Made<LocalReply>
+        requires { LoansFit loans }
+        ensures ok { IfOk result (λ r. estep self.old subjects.Own (verbs.Call method) loans ≡ (self.new, r)) }
+        ensures err { OnErr result (self.new ≡ self.old) }
+    {
+        step_of(
+            &mut self.exporter,
+            Subject::Own,
+            Verb::Call { method },
+            loans,
+        )
     }
 
     /// Puts the bytes of a source in place of all, as Python's `bytearray.__init__(source, encoding,

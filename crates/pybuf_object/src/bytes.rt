@@ -9,6 +9,7 @@ ghost use Rattle.pybuf_command.specs.declared.commands.Verb.TheVariants as verbs
 ghost use Rattle.pybuf_exporter.specs.Step.{estep};
 ghost use Rattle.pybuf_state.specs.Exporter.{new_exporter};
 
+use pybuf_bytes::MethodCall;
 use pybuf_command::{ExporterKind, LoanList, LocalReply, PropertyName, Subject, Verb};
 use pybuf_exporter::ExporterState;
 use pybuf_memoryobject::step_of;
@@ -179,6 +180,36 @@ impl PyBytes {
         ensures err { OnErr result (self.new ≡ self.old) }
     {
         step_of(&mut self.exporter, Subject::Own, Verb::Repr, loans)
+    }
+
+    /// Whether a value stands in the bytes, as Python's `value in bytes`: a number as one byte, and any other
+    /// value as the bytes that it is read as (Library reference, "Common Sequence Operations").
+    pub fn contains(&mut self, value: Value, loans: LoanList) -> Made<LocalReply>
+        requires { LoansFit loans }
+        ensures ok { IfOk result (λ r. estep self.old subjects.Own (verbs.Contains value) loans ≡ (self.new, r)) }
+        ensures err { OnErr result (self.new ≡ self.old) }
+    {
+        step_of(
+            &mut self.exporter,
+            Subject::Own,
+            Verb::Contains { value },
+            loans,
+        )
+    }
+
+    /// Calls a method by its name, as Python's `bytes.find(value)` and the others (Library reference, "Bytes and
+    /// Bytearray Operations").
+    pub fn call(&mut self, method: MethodCall, loans: LoanList) -> Made<LocalReply>
+        requires { LoansFit loans }
+        ensures ok { IfOk result (λ r. estep self.old subjects.Own (verbs.Call method) loans ≡ (self.new, r)) }
+        ensures err { OnErr result (self.new ≡ self.old) }
+    {
+        step_of(
+            &mut self.exporter,
+            Subject::Own,
+            Verb::Call { method },
+            loans,
+        )
     }
 
     /// A new iterator over the bytes from the first on, as Python's `iter(bytes)` (Library reference,

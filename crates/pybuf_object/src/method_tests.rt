@@ -3,10 +3,12 @@ ghost use Rattle.std.specs.Prelude.{◌≡◌};
 ghost use Rattle.pybuf_command.specs.declared.kinds.ExporterKind.TheVariants as kinds;
 
 use super::*;
-use pybuf_bytes::ByteInnerNewOptions;
+use pybuf_bytes::{ByteInnerNewOptions, MethodCall, MethodName};
 use pybuf_command::{ExporterKind, LoanList, LocalReply, Subject};
 use pybuf_exporter::ExporterState;
-use pybuf_value::{ByteList, CompareOp, Fault, Item, Made, Outcome, PySlice, Scalar, Text, Value};
+use pybuf_value::{
+    ByteList, CompareOp, Fault, Item, Made, Outcome, PySlice, Scalar, Text, Value, ValueList,
+};
 use std::alloc::Global;
 use std::test::Fail;
 
@@ -102,6 +104,14 @@ fn bytes_repr(object: &mut PyBytes, alloc: Global) -> Made<LocalReply> {
     object.repr_str(LoanList::new(alloc))
 }
 
+fn bytes_contains(object: &mut PyBytes, alloc: Global, value: Value) -> Made<i128> {
+    Ok(told(object.contains(value, LoanList::new(alloc))?))
+}
+
+fn bytes_call(object: &mut PyBytes, alloc: Global, method: MethodCall) -> Made<i128> {
+    Ok(told(object.call(method, LoanList::new(alloc))?))
+}
+
 fn array_as_buffer(object: &mut PyByteArray, alloc: Global) -> Made<i128> {
     Ok(told(object.as_buffer(LoanList::new(alloc))?))
 }
@@ -188,6 +198,21 @@ fn array_hash(object: &mut PyByteArray, alloc: Global) -> Made<i128> {
 
 fn array_repr(object: &mut PyByteArray, alloc: Global) -> Made<LocalReply> {
     object.repr_str(LoanList::new(alloc))
+}
+
+fn array_contains(object: &mut PyByteArray, alloc: Global, value: Value) -> Made<i128> {
+    Ok(told(object.contains(value, LoanList::new(alloc))?))
+}
+
+fn array_call(object: &mut PyByteArray, alloc: Global, method: MethodCall) -> Made<LocalReply> {
+    object.call(method, LoanList::new(alloc))
+}
+
+/// A call of a method with one argument.
+fn call_of(alloc: Global, name: MethodName, value: Value) -> Result<MethodCall, Fail> {
+    let mut args = ValueList::new(alloc);
+    args.push(value)?;
+    Ok(MethodCall { name, args })
 }
 
 /// What bytes are made of: a source alone.
@@ -416,5 +441,26 @@ fn a_bytearray_is_iterated_while_it_grows(rt: HostRuntime) -> Result<(), Fail> {
     assert_eq!(rt; array_next(&mut object, a)?, 99);
     assert_eq!(rt; array_next(&mut object, a)?, -7);
     assert_eq!(rt; PyByteArrayIterator::of(3).number(), 3);
+    Ok(())
+}
+
+#[test]
+fn strings_are_searched_and_called(rt: HostRuntime) -> Result<(), Fail> {
+    let a = rt.alloc();
+    let mut object = PyBytes::new_ref(a, Vec::from_slice(a, b"abcab")?);
+    assert_eq!(rt; bytes_contains(&mut object, a, bytes(a, b"ca")?)?, 1);
+    assert_eq!(rt; bytes_contains(&mut object, a, number(100))?, 0);
+    let method = call_of(a, MethodName::RFind, bytes(a, b"ab")?)?;
+    assert_eq!(rt; bytes_call(&mut object, a, method)?, 3);
+    Ok(())
+}
+
+#[test]
+fn bytearrays_are_searched_and_called(rt: HostRuntime) -> Result<(), Fail> {
+    let a = rt.alloc();
+    let mut object = PyByteArray::new_ref(a, Vec::from_slice(a, b"abcab")?);
+    assert_eq!(rt; array_contains(&mut object, a, number(99))?, 1);
+    let method = call_of(a, MethodName::Mul, number(2))?;
+    assert!(rt; shows(array_call(&mut object, a, method)?, b"abcababcab"));
     Ok(())
 }
