@@ -89,7 +89,7 @@ pub fn property_names_read_back()
 {}
 
 /// The same of the names of methods.
-pub fn methods_read_back()
+pub fn method_names_read_back()
     ensures { MethodsReadBack }
 {}
 
