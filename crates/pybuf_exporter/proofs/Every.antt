@@ -23,7 +23,7 @@ use Rattle.pybuf_command.specs.declared.loans.Loan.{Loan}
 use Rattle.pybuf_command.specs.Handles.{handles_of, handles_read}
 use Rattle.pybuf_memoryview.specs.Items.{item_of_values}
 use Rattle.pybuf_state.specs.Exporter.{Exporter, Iterator}
-use Rattle.pybuf_state.specs.Loans.{Lent, are_known, lent_for_each}
+use Rattle.pybuf_state.specs.Loans.{Lent, are_known, lent_for_each, snaps_of}
 use Rattle.pybuf_state.specs.Sound.{IsSoundExporter}
 use Rattle.pybuf_value.specs.declared.snaps.Snap.{Snap}
 use Rattle.pybuf_state.specs.Fresh.{IsCopyOf}
@@ -34,6 +34,7 @@ use Rattle.pybuf_rows_reads.specs.Laws.{GetIsSafe, BytesIsSafe, LenIsSafe, Prope
 use Rattle.pybuf_rows_writes.specs.Laws.{SetIsSafe, AssignIsSafe}
 use Rattle.pybuf_rows_edits.specs.Laws.{EditsAreSafe, DeleteOfViewIsSafe}
 use Rattle.pybuf_rows_compare.specs.Laws.{CompareIsSafe, HashIsSafe, ReprIsSafe}
+use Rattle.pybuf_rows_methods.specs.Laws.{CallIsSafe, ContainsIsSafe, HexIsSafe}
 use Rattle.pybuf_rows_iters.specs.Laws.{IterIsSafe, IteratorsAreSafe}
 use Rattle.pybuf_exporter.specs.Step.{get_of_view, row, answer_of, settled_answer, estep, set_in_own, set_through_view}
 use Rattle.pybuf_exporter.specs.Rows.{RowsAreSafe, RowIsSafe}
@@ -61,6 +62,9 @@ pub record RowLaws : Type 0 where
   pub compare : CompareIsSafe
   pub hash : HashIsSafe
   pub repr : ReprIsSafe
+  pub call : CallIsSafe
+  pub contains : ContainsIsSafe
+  pub hex : HexIsSafe
   pub iter : IterIsSafe
   pub iterators : IteratorsAreSafe
 
@@ -121,9 +125,9 @@ rows_safe laws e subject.Own verb.Iter lents = laws.iter.0 e
 rows_safe laws e subject.Own verb.Next lents = laws.edits e verb.Next lents
 rows_safe laws e subject.Own verb.LengthHint lents = laws.edits e verb.LengthHint lents
 rows_safe laws e subject.Own (verb.SetState state) lents = laws.edits e (verb.SetState state) lents
-rows_safe laws e subject.Own (verb.Contains v) lents = laws.edits e (verb.Contains v) lents
+rows_safe laws e subject.Own (verb.Contains v) lents = laws.contains e v (snaps_of lents)
 rows_safe laws e subject.Own (verb.Hex sep group) lents = laws.edits e (verb.Hex sep group) lents
-rows_safe laws e subject.Own (verb.Call method) lents = laws.edits e (verb.Call method) lents
+rows_safe laws e subject.Own (verb.Call method) lents = laws.call e method (snaps_of lents)
 rows_safe laws e (subject.View k) verb.View lents = laws.view.1 e k
 rows_safe laws e (subject.View k) (verb.Get key) lents = get_of_view_safe laws e k key
 rows_safe laws e (subject.View k) (verb.Set key value) lents = set_through_view_safe laws e k key value lents
@@ -159,7 +163,7 @@ rows_safe laws e (subject.View k) verb.Next lents = tt
 rows_safe laws e (subject.View k) verb.LengthHint lents = tt
 rows_safe laws e (subject.View k) (verb.SetState state) lents = tt
 rows_safe laws e (subject.View k) (verb.Contains v) lents = tt
-rows_safe laws e (subject.View k) (verb.Hex sep group) lents = tt
+rows_safe laws e (subject.View k) (verb.Hex sep group) lents = laws.hex e k sep group (snaps_of lents)
 rows_safe laws e (subject.View k) (verb.Call method) lents = tt
 rows_safe laws e (subject.Iter k) v lents = laws.iterators e k v
 

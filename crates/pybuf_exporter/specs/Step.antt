@@ -1,5 +1,5 @@
 -- One command on one exporter: which row it has, and what stands after it.
-use Rattle.std.specs.Prelude.{ℕ, List, None, Result, Ok, Err, if◌then◌else◌, Option, Some}
+use Rattle.std.specs.Prelude.{ℕ, Bool, true, false, List, None, Result, Ok, Err, if◌then◌else◌, Option, Some}
 use Rattle.pybuf_value.specs.declared.faults.Fault.{Fault}
 use Rattle.pybuf_value.specs.declared.faults.Fault.TheVariants as fault
 use Rattle.pybuf_value.specs.declared.values.Value.{Value}
@@ -14,7 +14,7 @@ use Rattle.pybuf_command.specs.declared.commands.LocalReply.TheVariants as reply
 use Rattle.pybuf_command.specs.declared.loans.Loan.{Loan}
 use Rattle.pybuf_command.specs.Handles.{handles_of, handles_read}
 use Rattle.pybuf_state.specs.Exporter.{Exporter}
-use Rattle.pybuf_state.specs.Loans.{Lent, are_known, lent_for_each}
+use Rattle.pybuf_state.specs.Loans.{Lent, are_known, lent_for_each, snaps_of}
 use Rattle.pybuf_rows_views.specs.View.{view_of_own, view_of_view}
 use Rattle.pybuf_rows_views.specs.Range.{range_of_own}
 use Rattle.pybuf_rows_views.specs.Slice.{slice_of_view}
@@ -33,6 +33,7 @@ use Rattle.pybuf_rows_compare.specs.Hash.{hash_of_own, hash_of_view}
 use Rattle.pybuf_rows_compare.specs.Repr.{repr_of_own, repr_of_view}
 use Rattle.pybuf_rows_writes.specs.Set.{set_of_own, set_of_view}
 use Rattle.pybuf_rows_writes.specs.Assign.{assign_of_view}
+use Rattle.pybuf_rows_methods.specs.Calls.{call_of_own, contains_of_own, hex_of_view}
 use Rattle.pybuf_rows_iters.specs.Iterators.{iter_of_own, iter_of_view, row_of_iterator}
 use Rattle.pybuf_rows_edits.specs.Shrinking.{delete_of_view}
 use Rattle.pybuf_rows_edits.specs.Edits.{edit_of_own}
@@ -60,6 +61,14 @@ source_in_place (subject.View k) (verb.Compare op (value.One (scalar.Handle h)))
 source_in_place subject.Own (verb.Compare op (value.One (scalar.Handle h))) = Some h
 source_in_place s v = None
 
+-- Whether a command reads what the handles among its values name, each from where it lies: a method, a search
+-- and the digits of a view. These change nothing.
+abbrev pub reads_in_place : Subject → Verb → Bool
+reads_in_place subject.Own (verb.Contains v) = true
+reads_in_place subject.Own (verb.Call method) = true
+reads_in_place (subject.View k) (verb.Hex sep group) = true
+reads_in_place s v = false
+
 -- The row of a verb on the exporter itself. Every further verb is an edit, or none that an exporter has.
 abbrev pub row_of_own : Exporter → Verb → List Lent → Result (Exporter × LocalReply) Fault
 row_of_own e verb.View lents = view_of_own e
@@ -73,6 +82,8 @@ row_of_own e (verb.Compare op other) lents = compare_of_own e op other lents
 row_of_own e verb.Hash lents = hash_of_own e
 row_of_own e verb.Repr lents = repr_of_own e
 row_of_own e verb.Iter lents = iter_of_own e
+row_of_own e (verb.Contains v) lents = contains_of_own e v (snaps_of lents)
+row_of_own e (verb.Call method) lents = call_of_own e method (snaps_of lents)
 row_of_own e v lents = edit_of_own e v lents
 
 -- the row of a verb on a view
@@ -95,6 +106,7 @@ row_of_view e k (verb.Compare op other) lents = compare_of_view e k op other len
 row_of_view e k verb.Hash lents = hash_of_view e k
 row_of_view e k verb.Repr lents = repr_of_view e k
 row_of_view e k verb.Iter lents = iter_of_view e k
+row_of_view e k (verb.Hex sep group) lents = hex_of_view e k sep group (snaps_of lents)
 row_of_view e k _ lents = Err fault.UnknownName
 
 -- The row of the subject and the verb, with what is lent to it. A subject of a kind that has no such

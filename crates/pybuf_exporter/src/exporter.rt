@@ -1,13 +1,15 @@
 //! One exporter with its views and iterators.
 ghost use Rattle.std.specs.Prelude.{◌≡◌, ◌<◌, ◌↔◌, [], ◌∷◌, Some, IfOk, IfSome, IsSome, IsSomeAnd, IsOk, IfErr, OnErr, MatchResult, MatchOption, true, false, length, slice_get};
 
-use crate::pick;
+use crate::{pick, reading};
 use pybuf_command::{ExporterKind, LoanList, LocalCommand, LocalReply, Subject, Verb};
 use pybuf_desc::BufferDescriptor;
 use pybuf_memoryview::KeptLayout;
+use pybuf_methods::{Lent, Names};
+use pybuf_rows_methods::{content_of_subject, kind_of_subject, run_of_subject};
 use pybuf_rows_views::release;
 use pybuf_state::{Parts, copies_are_faithful, exporter_of_copy, new_views_keep, snap_of_subject};
-use pybuf_value::{ByteList, Fault, Made, NoMemory, Snap, Twin, copy_all};
+use pybuf_value::{ByteList, Fault, Halt, Made, NoMemory, Snap, SnapKind, Twin, copy_all};
 use std::alloc::Global;
 use std::marker::Model;
 
@@ -50,8 +52,13 @@ impl ExporterState {
     ghost use Rattle.pybuf_desc.specs.Places.{Stands};
     ghost use Rattle.pybuf_desc.specs.Valid.{IsValid};
     ghost use Rattle.pybuf_state.specs.Exporter.{new_exporter};
-    ghost use Rattle.pybuf_exporter.specs.Step.{estep, source_in_place};
-    ghost use Rattle.pybuf_state.specs.Loans.{loan_of_snap};
+    ghost use Rattle.std.specs.Prelude.{ℕ, List, Ok, Err};
+    ghost use Rattle.pybuf_value.specs.Snaps.{content_of, content_of_named};
+    ghost use Rattle.pybuf_command.specs.declared.loans.Loan.{Loan};
+    ghost use Rattle.pybuf_command.specs.Handles.{handles_of, handles_read};
+    ghost use Rattle.pybuf_methods.specs.Lent.{Lends, kind_of_named};
+    ghost use Rattle.pybuf_exporter.specs.Step.{estep, reads_in_place, source_in_place};
+    ghost use Rattle.pybuf_state.specs.Loans.{are_known, lent_for_each, loan_of_snap, snaps_of};
     ghost use Rattle.pybuf_command.specs.Fits.{LoansFit, fits_snap};
     ghost use Rattle.pybuf_state.specs.Snaps.{snap_of_subject};
     ghost use Rattle.pybuf_state.specs.Exporter.{released_in};
@@ -140,6 +147,48 @@ impl ExporterState {
             &lender.parts,
             lent,
         )
+    }
+
+    /// The same of a command that reads what the handles among its values name, each from where it lies, as
+    /// `reads_in_place` tells. It changes nothing. The handles have to be known, and what they name is asked of
+    /// the names.
+    pub fn read_in_place<N: Names>(
+        &self,
+        subject: Subject,
+        verb: &Verb,
+        names: &N,
+    ) -> Made<LocalReply>
+        requires { reads_in_place subject verb.now ≡ true }
+        ensures { (loans : List (ℕ × Loan)) → are_known self.now loans (handles_of verb.now) ≡ true → snaps_of (lent_for_each self.now loans (handles_read subject verb.now)) ≡ N.pairs names.now → IfOk result (λ r. estep self.now subject verb.now loans ≡ (self.now, r)) }
+    {
+        reading::carry_out(&self.parts, subject, verb, names)
+    }
+
+    /// What kind of thing a subject is; `None` exactly where it was never given.
+    pub fn kind_of(&self, subject: Subject) -> Option<SnapKind>
+        ensures { result ≡ kind_of_named (snap_of_subject self.now subject) }
+    {
+        kind_of_subject(&self.parts, subject)
+    }
+
+    /// The bytes of a subject, where they lie together.
+    ///
+    /// Refused with `UnknownName` where it was never given, with `ValueError` for a released view, and with
+    /// `TypeError` for a view whose items don't lie one after another and for an iterator.
+    pub fn run_of(&self, subject: Subject) -> Result<&[u8], Fault>
+        ensures { MatchResult result (λ bytes. content_of (snap_of_subject self.now subject) ≡ Ok bytes.now) (λ fault. content_of (snap_of_subject self.now subject) ≡ Err fault) }
+    {
+        run_of_subject(&self.parts, subject)
+    }
+
+    /// The bytes of a subject. They are copied only where they lie apart.
+    ///
+    /// Refused with `UnknownName` where it was never given, with `ValueError` for a released view, and with
+    /// `TypeError` for an iterator.
+    pub fn content_of(&self, alloc: Global, subject: Subject) -> Result<Lent<'_>, Halt>
+        ensures { Lends (content_of_named (snap_of_subject self.now subject)) result }
+    {
+        content_of_subject(alloc, &self.parts, subject)
     }
 
     /// Releases a view; releasing it again changes nothing. Takes no memory.

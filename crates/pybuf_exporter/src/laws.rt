@@ -26,6 +26,9 @@ fn rows_are_safe()
     pybuf_rows_compare::compare_is_safe();
     pybuf_rows_compare::hash_is_safe();
     pybuf_rows_compare::repr_is_safe();
+    pybuf_rows_methods::call_is_safe();
+    pybuf_rows_methods::contains_is_safe();
+    pybuf_rows_methods::hex_is_safe();
     pybuf_rows_iters::iter_is_safe();
     pybuf_rows_iters::iterators_are_safe();
 }

@@ -4,6 +4,7 @@
 mod exporter;
 mod laws;
 mod pick;
+mod reading;
 
 pub use exporter::ExporterState;
 pub use laws::{
@@ -22,9 +23,11 @@ pub use pybuf_desc::{
     slicing_back_twice_is_nothing,
 };
 pub use pybuf_rows_compare::equal_views_hash_alike;
+pub use pybuf_rows_methods::names_are_found;
 pub use pybuf_rows_reads::lists_hold_the_items;
 pub use pybuf_rows_writes::{assignments_are_by_value, writes_are_seen};
 pub use pybuf_state::copies_are_faithful;
+pub use reading::reads_in_place;
 
 #[cfg(test)]
 mod tests;

@@ -10,6 +10,7 @@ ghost use Rattle.pybuf_state.specs.Snaps.{snap_of_subject};
 ghost use Rattle.pybuf_state.specs.Answers.{exporter_of, IsWhole, Answers};
 ghost use Rattle.pybuf_exporter.specs.Step as spec;
 
+use crate::reading::row_by_loans;
 use pybuf_command::{LoanList, LocalReply, Subject, Verb, handles_of};
 use pybuf_rows_compare::{compare, hash, repr};
 use pybuf_rows_edits::{delete_of_view, edit_of_own};
@@ -74,6 +75,8 @@ fn row_of_own(parts: &mut Parts, verb: &Verb, loans: &LoanList) -> Result<LocalR
         Verb::Hash => hash::of_own(parts),
         Verb::Repr => repr::of_own(parts),
         Verb::Iter => making::of_own(parts),
+        Verb::Contains { value: _ } => row_by_loans(parts, Subject::Own, verb, loans),
+        Verb::Call { method: _ } => row_by_loans(parts, Subject::Own, verb, loans),
         _ => edit_of_own(parts, verb, loans),
     }
 }
@@ -109,6 +112,7 @@ fn row_of_view(
         Verb::Hash => hash::of_view(parts, k),
         Verb::Repr => repr::of_view(parts, k),
         Verb::Iter => making::of_view(parts, k),
+        Verb::Hex { sep: _, group: _ } => row_by_loans(parts, Subject::View(k), verb, loans),
         _ => Err(Halt::Refused(Fault::UnknownName)),
     }
 }

@@ -1,5 +1,5 @@
 -- Methods that cut.
-use Rattle.std.specs.Prelude.{ℕ, ℤ, negsuc, Bool, List, [], ◌∷◌, Option, Result, Ok, Err}
+use Rattle.std.specs.Prelude.{ℕ, ℤ, negsuc, Bool, List, [], ◌∷◌, Option, Result, Ok}
 use Rattle.pybuf_value.specs.declared.faults.Fault.{Fault}
 use Rattle.pybuf_value.specs.declared.snaps.Snap.{Snap}
 use Rattle.pybuf_value.specs.declared.values.Value.{Value}
@@ -8,7 +8,6 @@ use Rattle.pybuf_value.specs.Snaps.{bytes_in}
 use Rattle.pybuf_search.specs.Parts.{middle}
 use Rattle.pybuf_letters.specs.Strips.{goes}
 use Rattle.pybuf_letters.specs.Lines.{split_lines}
-use Rattle.pybuf_arguments.specs.declared.separators.SplitArgs.{SplitArgs}
 use Rattle.pybuf_bytes.specs.Searching.{partition_by, rpartition_by}
 use Rattle.pybuf_bytes.specs.declared.methods.MethodReply.{MethodReply}
 use Rattle.pybuf_bytes.specs.declared.methods.MethodReply.TheVariants as reply
@@ -28,19 +27,13 @@ remove without pairs bytes args = do
   affix ← bytes_in pairs given
   Ok (reply.Bytes (without bytes affix))
 
--- any number of cuts where none is given
-abbrev pub cuts_given : List (ℕ × Snap) → List Value → Result (SplitArgs (List ℕ)) Fault
-cuts_given pairs args = do
+-- from the left or from the right; any number of cuts where none is given
+abbrev pub split : (Option (List ℕ) → ℤ → List ℕ → Result (List (List ℕ)) Fault) → List (ℕ × Snap) → List ℕ → List Value → Result MethodReply Fault
+split parts_by pairs bytes args = do
   given ← at_most_two args
   separator ← bytes_given pairs given.0
   most ← count_or (negsuc 0) given.1
-  Ok (record { sep = separator; maxsplit = most })
-
--- from the left or from the right
-abbrev pub split : (Option (List ℕ) → ℤ → List ℕ → Result (List (List ℕ)) Fault) → List (ℕ × Snap) → List ℕ → List Value → Result MethodReply Fault
-split parts_by pairs bytes args = do
-  cuts ← cuts_given pairs args
-  parts ← parts_by cuts.sep cuts.maxsplit bytes
+  parts ← parts_by separator most bytes
   Ok (reply.ByteLists parts)
 
 -- the three parts in order

@@ -6,3 +6,5 @@ pub mod Cut
 pub mod Methods
 pub mod Arity
 pub mod Laws
+pub mod Lent
+pub mod Affixes

@@ -1,5 +1,5 @@
 -- Methods that ask for a class or change a case, and sums.
-use Rattle.std.specs.Prelude.{ℕ, ℤ, Bool, List, ◌++◌, Result, Ok, Err}
+use Rattle.std.specs.Prelude.{ℕ, Bool, List, ◌++◌, Result, Ok}
 use Rattle.bstr.specs.Owned.{joined}
 use Rattle.pybuf_value.specs.declared.faults.Fault.{Fault}
 use Rattle.pybuf_value.specs.declared.snaps.Snap.{Snap}

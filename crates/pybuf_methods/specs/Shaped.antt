@@ -1,5 +1,5 @@
 -- Methods that give bytes another shape.
-use Rattle.std.specs.Prelude.{ℕ, ℤ, pos, negsuc, List, Option, None, Some, Result, Ok, Err}
+use Rattle.std.specs.Prelude.{ℕ, ℤ, pos, negsuc, List, Option, Some, Result, Ok}
 use Rattle.pybuf_value.specs.declared.faults.Fault.{Fault}
 use Rattle.pybuf_value.specs.declared.snaps.Snap.{Snap}
 use Rattle.pybuf_value.specs.declared.values.Value.{Value}
@@ -17,13 +17,17 @@ use Rattle.pybuf_bytes.specs.declared.methods.MethodReply.{MethodReply}
 use Rattle.pybuf_bytes.specs.declared.methods.MethodReply.TheVariants as reply
 use Rattle.pybuf_methods.specs.Given.{one, two, at_most_one, at_most_two, one_or_two, two_or_three, count_in, count_or, separator_given, text_given}
 
--- a group is of one byte where no size is given
+-- the digits of bytes by the arguments: a group is of one byte where no size is given
+abbrev pub hex_of : List (ℕ × Snap) → Option Value → Option Value → List ℕ → Result (List ℕ) Fault
+hex_of pairs sep group bytes = do
+  separator ← separator_given pairs sep
+  size ← count_or (pos 1) group
+  hex_text separator size bytes
+
 abbrev pub hex : List (ℕ × Snap) → List ℕ → List Value → Result MethodReply Fault
 hex pairs bytes args = do
   given ← at_most_two args
-  separator ← separator_given pairs given.0
-  size ← count_or (pos 1) given.1
-  text ← hex_text separator size bytes
+  text ← hex_of pairs given.0 given.1 bytes
   Ok (reply.Text text)
 
 abbrev pub fromhex : List Value → Result MethodReply Fault

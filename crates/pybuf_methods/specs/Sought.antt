@@ -1,32 +1,49 @@
 -- Methods that search.
-use Rattle.std.specs.Prelude.{ℕ, ℤ, pos, negsuc, Bool, List, Option, Some, None, Result, Ok, Err}
+use Rattle.std.specs.Prelude.{ℕ, ℤ, pos, negsuc, Bool, List, [], ◌∷◌, length, Option, Some, None, Result, Ok, Err}
+use Rattle.std.specs.declared.ops.Range.{Range}
 use Rattle.pybuf_value.specs.declared.faults.Fault.{Fault}
 use Rattle.pybuf_value.specs.declared.faults.Fault.TheVariants as fault
 use Rattle.pybuf_value.specs.declared.snaps.Snap.{Snap}
 use Rattle.pybuf_value.specs.declared.values.Value.{Value}
 use Rattle.pybuf_value.specs.Refusing.{◌>>=◌}
-use Rattle.pybuf_bytes.specs.declared.arguments.ByteInnerFindOptions.{ByteInnerFindOptions}
-use Rattle.pybuf_bytes.specs.Needles.{needle_in}
-use Rattle.pybuf_bytes.specs.Searching.{find_of, count_of}
+use Rattle.pybuf_value.specs.Numbers.{number_of, byte_of}
+use Rattle.pybuf_value.specs.Snaps.{bytes_in}
+use Rattle.pybuf_search.specs.Places.{holds_needle}
 use Rattle.pybuf_arguments.specs.Affixes.{startswith_of, endswith_of}
+use Rattle.pybuf_arguments.specs.Bounds.{adjusted, in_range}
+use Rattle.pybuf_bytes.specs.Searching.{place_in, number_in}
 use Rattle.pybuf_bytes.specs.declared.methods.MethodReply.{MethodReply}
 use Rattle.pybuf_bytes.specs.declared.methods.MethodReply.TheVariants as reply
 use Rattle.pybuf_methods.specs.Given.{one_to_three, bound_given}
 
--- a needle and two bounds
-abbrev pub search_given : List (ℕ × Snap) → List Value → Result ByteInnerFindOptions Fault
-search_given pairs args = do
-  given ← one_to_three args
-  needle ← needle_in pairs given.0
-  start ← bound_given given.1
-  end ← bound_given given.2
-  Ok (record { sub = needle; start = start; end = end })
+-- what is searched for: a number is one byte, and any other value is read as bytes
+abbrev pub sought_by : List (ℕ × Snap) → Value → Result ℤ Fault → Result (List ℕ) Fault
+sought_by pairs v (Ok n) = do
+  byte ← byte_of n
+  Ok (byte ∷ [])
+sought_by pairs v (Err _) = bytes_in pairs v
+
+abbrev pub sought_in : List (ℕ × Snap) → Value → Result (List ℕ) Fault
+sought_in pairs v = sought_by pairs v (number_of v)
+
+-- whether it stands anywhere in bytes
+abbrev pub contains_in : List (ℕ × Snap) → List ℕ → Value → Result Bool Fault
+contains_in pairs bytes v = do
+  needle ← sought_in pairs v
+  Ok (holds_needle bytes needle)
+
+-- the bytes between two bounds, and where they start
+abbrev pub place_between : (List ℕ → List ℕ → Option ℕ) → List ℕ → Range ℕ → List ℕ → Option ℕ
+place_between search needle range bytes = place_in search needle range.start (in_range bytes range)
 
 -- the place that a search finds between the bounds
 abbrev pub place : (List ℕ → List ℕ → Option ℕ) → List (ℕ × Snap) → List ℕ → List Value → Result (Option ℕ) Fault
 place search pairs bytes args = do
-  given ← search_given pairs args
-  find_of search given.sub given.start given.end bytes
+  given ← one_to_three args
+  needle ← sought_in pairs given.0
+  start ← bound_given given.1
+  end ← bound_given given.2
+  Ok (place_between search needle (adjusted start end (length bytes)) bytes)
 
 -- a place as a number: -1 where nothing was found
 abbrev pub number_of_place : Option ℕ → ℤ
@@ -50,9 +67,11 @@ index search pairs bytes args = do
 
 abbrev pub count : List (ℕ × Snap) → List ℕ → List Value → Result MethodReply Fault
 count pairs bytes args = do
-  given ← search_given pairs args
-  number ← count_of given.sub given.start given.end bytes
-  Ok (reply.Number (pos number))
+  given ← one_to_three args
+  needle ← sought_in pairs given.0
+  start ← bound_given given.1
+  end ← bound_given given.2
+  Ok (reply.Number (pos (number_in needle (in_range bytes (adjusted start end (length bytes))))))
 
 -- an affix, which isn't read yet, and two bounds
 abbrev pub affix_given : List Value → Result (Value × Option ℤ × Option ℤ) Fault

@@ -1,18 +1,11 @@
 //! The arguments that a call is given: how many there are, and what each stands for.
 ghost use Rattle.std.specs.Prelude.{◌≡◌, Ok, Err, IfOk, IfErr, MatchResult};
 ghost use Rattle.std.specs.Option.{option_copied};
-ghost use Rattle.pybuf_value.specs.Halting.{Gives, outcome_of};
-ghost use Rattle.pybuf_value.specs.Snaps.{bytes_in};
 ghost use Rattle.pybuf_value.specs.declared.faults.Outcome.TheVariants as outcomes;
 ghost use Rattle.pybuf_methods.specs.Given as spec;
 ghost use Rattle.pybuf_methods.specs.Given.{IsStopped};
 
-use pybuf_arguments::bytes_lent;
-use pybuf_value::{
-    ByteList, ByteLists, Fault, Halt, Lender, Outcome, Scalar, Tried, Value, bytes_alone,
-    bytes_from_object, bytes_like, fit_count, index_of, text_in,
-};
-use std::alloc::Global;
+use pybuf_value::{Fault, Halt, Outcome, Scalar, Tried, Value, fit_count, index_of, text_in};
 
 /// What an answer is, where it is neither refused nor wanting memory.
 pub(crate) fn done<T>(answer: Tried<T>) -> Result<T, Halt>
@@ -124,7 +117,7 @@ pub(crate) fn count_in(value: &Value) -> Result<isize, Fault>
 }
 
 /// The same, and a number where none is given.
-pub(crate) fn count_or(absent: isize, value: Option<&Value>) -> Result<isize, Fault>
+pub fn count_or(absent: isize, value: Option<&Value>) -> Result<isize, Fault>
     ensures { result ≡ spec.count_or absent (option_copied value.entry) }
 {
     match value {
@@ -160,75 +153,6 @@ pub(crate) fn flag_given(value: Option<&Value>) -> Result<bool, Fault>
     }
 }
 
-/// The bytes that a value is read as.
-pub(crate) fn bytes_of<L: Lender>(
-    alloc: Global,
-    value: &Value,
-    lender: &L,
-) -> Result<ByteList, Halt>
-    ensures { Gives (bytes_in (L.pairs lender.now) value.now) result }
-{
-    match bytes_from_object(alloc, value, lender)? {
-        Outcome::Done(bytes) => Ok(bytes),
-        Outcome::Refused(fault) => Err(Halt::Refused(fault)),
-    }
-}
-
-/// Bytes, where some are given that aren't Python's `None`.
-pub(crate) fn bytes_given<L: Lender>(
-    alloc: Global,
-    value: Option<&Value>,
-    lender: &L,
-) -> Result<Option<ByteList>, Halt>
-    ensures { Gives (spec.bytes_given (L.pairs lender.now) (option_copied value.entry)) result }
-{
-    match value {
-        None => Ok(None),
-        Some(Value::One(Scalar::None)) => Ok(None),
-        Some(value) => {
-            let bytes = bytes_of(alloc, value, lender)?;
-            Ok(Some(bytes))
-        }
-    }
-}
-
-/// The bytes of a bytes value, of an exporter, or of a view whose items lie one after another, lent.
-pub(crate) fn like_in<'a, L: Lender>(value: &'a Value, lender: &'a L) -> Result<&'a [u8], Fault>
-    ensures { MatchResult result (λ bytes. spec.like_in (L.pairs lender.now) value.now ≡ Ok bytes.now) (λ fault. spec.like_in (L.pairs lender.now) value.now ≡ Err fault) }
-{
-    match value {
-        Value::One(scalar) => bytes_like(scalar, lender),
-        _ => Err(Fault::Kind),
-    }
-}
-
-/// The bytes of a text, of a bytes value, or of an exporter of kind bytes, lent.
-fn separator_in<'a, L: Lender>(value: &'a Value, lender: &'a L) -> Result<&'a [u8], Fault>
-    ensures { MatchResult result (λ bytes. spec.separator_in (L.pairs lender.now) value.now ≡ Ok bytes.now) (λ fault. spec.separator_in (L.pairs lender.now) value.now ≡ Err fault) }
-{
-    match value {
-        Value::One(Scalar::Text(text)) => Ok(text.as_slice()),
-        Value::One(scalar) => bytes_alone(scalar, lender),
-        _ => Err(Fault::Kind),
-    }
-}
-
-/// The same, where a separator is given.
-pub(crate) fn separator_given<'a, L: Lender>(
-    value: Option<&'a Value>,
-    lender: &'a L,
-) -> Result<Option<&'a [u8]>, Fault>
-    ensures { MatchResult result (λ bytes. spec.separator_given (L.pairs lender.now) (option_copied value.entry) ≡ Ok (option_copied bytes)) (λ fault. spec.separator_given (L.pairs lender.now) (option_copied value.entry) ≡ Err fault) }
-{
-    match value {
-        None => Ok(None),
-        Some(value) => {
-            let bytes = separator_in(value, lender)?;
-            Ok(Some(bytes))
-        }
-    }
-}
-
 /// A text, where one is given that isn't Python's `None`, lent.
 pub(crate) fn text_given(value: Option<&Value>) -> Result<Option<&pybuf_value::Text>, Fault>
     ensures { MatchResult result (λ text. spec.text_given (option_copied value.entry) ≡ Ok (option_copied text)) (λ fault. spec.text_given (option_copied value.entry) ≡ Err fault) }
@@ -240,32 +164,5 @@ pub(crate) fn text_given(value: Option<&Value>) -> Result<Option<&pybuf_value::T
             let text = text_in(value)?;
             Ok(Some(text))
         }
-    }
-}
-
-/// The bytes of each part of a list or a tuple, copied.
-fn each_in<L: Lender>(alloc: Global, parts: &[Scalar], lender: &L) -> Result<ByteLists, Halt>
-    ensures { Gives (spec.each_in (L.pairs lender.now) parts.now) result }
-{
-    let mut lists = Vec::with_capacity(alloc, parts.len())?;
-    for part in parts {
-        let bytes = bytes_lent(part, lender)?;
-        lists.push(ByteList::from_vec(Vec::from_slice(alloc, bytes)?))?;
-    }
-    Ok(ByteLists::from_vec(lists))
-}
-
-/// The bytes of each part of a list or a tuple.
-pub(crate) fn lists_in<L: Lender>(
-    alloc: Global,
-    value: &Value,
-    lender: &L,
-) -> Result<ByteLists, Halt>
-    ensures { Gives (spec.lists_in (L.pairs lender.now) value.now) result }
-{
-    match value {
-        Value::Tuple(parts) => each_in(alloc, parts.as_slice(), lender),
-        Value::List(parts) => each_in(alloc, parts.as_slice(), lender),
-        _ => Err(Halt::Refused(Fault::Kind)),
     }
 }

@@ -1,16 +1,22 @@
 //! The methods of strings of bytes, called by name with values as their arguments.
 #![tactic(auto)]
 
+mod affixes;
 mod arity;
 mod cut;
 mod given;
+mod join;
+mod lent;
 mod methods;
 mod plain;
 mod shaped;
 mod sought;
 
 pub use arity::{fewest, most, takes, wrong_numbers_are_refused};
-pub use methods::apply_method;
+pub use lent::{ByLender, Lent, Names, content_of_snap, run_of_snap};
+pub use methods::{apply_method, reply_of};
+pub use shaped::hex_of;
+pub use sought::contains_in;
 
 #[cfg(test)]
 mod tests;

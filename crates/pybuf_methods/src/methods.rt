@@ -3,6 +3,7 @@ ghost use Rattle.std.specs.Prelude.{◌≡◌, IfOk};
 ghost use Rattle.pybuf_value.specs.Halting.{Gives, outcome_of};
 ghost use Rattle.pybuf_methods.specs.Methods.{method_reply};
 
+use crate::lent::{ByLender, Names};
 use crate::{cut, plain, shaped, sought};
 use pybuf_bytes::{MethodCall, MethodName, MethodReply};
 use pybuf_letters::{
@@ -11,19 +12,20 @@ use pybuf_letters::{
 use pybuf_value::{Halt, Lender, Tried, Value, tried};
 use std::alloc::Global;
 
-/// What the method of a name answers.
-fn reply_of<L: Lender>(
+/// What a method of the bytes answers, by its name and arguments, as `apply_method` says it, where what
+/// handles name is read from where it lies.
+pub fn reply_of<N: Names>(
     alloc: Global,
     bytes: &[u8],
     name: MethodName,
     args: &[Value],
-    lender: &L,
+    names: &N,
 ) -> Result<MethodReply, Halt>
-    ensures { Gives (method_reply (L.pairs lender.now) bytes.now name args.now) result }
+    ensures { Gives (method_reply (N.pairs names.now) bytes.now name args.now) result }
 {
     match name {
-        MethodName::Add => plain::add(alloc, bytes, args, lender),
-        MethodName::Concat => plain::concat(alloc, bytes, args, lender),
+        MethodName::Add => plain::add(alloc, bytes, args, names),
+        MethodName::Concat => plain::concat(alloc, bytes, args, names),
         MethodName::Mul => plain::mul(alloc, bytes, args),
         MethodName::IsAlnum => plain::truth(is_alnum(bytes), args),
         MethodName::IsAlpha => plain::truth(is_alpha(bytes), args),
@@ -38,34 +40,34 @@ fn reply_of<L: Lender>(
         MethodName::SwapCase => plain::swapcase(alloc, bytes, args),
         MethodName::Capitalize => plain::capitalize(alloc, bytes, args),
         MethodName::Title => plain::title(alloc, bytes, args),
-        MethodName::Hex => shaped::hex(alloc, bytes, args, lender),
+        MethodName::Hex => shaped::hex(alloc, bytes, args, names),
         MethodName::FromHex => shaped::fromhex(alloc, args),
-        MethodName::Center => shaped::center(alloc, bytes, args, lender),
-        MethodName::LJust => shaped::ljust(alloc, bytes, args, lender),
-        MethodName::RJust => shaped::rjust(alloc, bytes, args, lender),
-        MethodName::Find => sought::find(alloc, bytes, args, lender),
-        MethodName::RFind => sought::rfind(alloc, bytes, args, lender),
-        MethodName::Index => sought::index(alloc, bytes, args, lender),
-        MethodName::RIndex => sought::rindex(alloc, bytes, args, lender),
-        MethodName::Count => sought::count(alloc, bytes, args, lender),
-        MethodName::StartsWith => sought::startswith(alloc, bytes, args, lender),
-        MethodName::EndsWith => sought::endswith(alloc, bytes, args, lender),
-        MethodName::Join => plain::join(alloc, bytes, args, lender),
-        MethodName::MakeTrans => shaped::maketrans(alloc, args, lender),
-        MethodName::Translate => shaped::translate(alloc, bytes, args, lender),
-        MethodName::Strip => cut::strip(alloc, bytes, args, lender),
-        MethodName::LStrip => cut::lstrip(alloc, bytes, args, lender),
-        MethodName::RStrip => cut::rstrip(alloc, bytes, args, lender),
-        MethodName::RemovePrefix => cut::removeprefix(alloc, bytes, args, lender),
-        MethodName::RemoveSuffix => cut::removesuffix(alloc, bytes, args, lender),
-        MethodName::Split => cut::split(alloc, bytes, args, lender),
-        MethodName::RSplit => cut::rsplit(alloc, bytes, args, lender),
-        MethodName::Partition => cut::partition(alloc, bytes, args, lender),
-        MethodName::RPartition => cut::rpartition(alloc, bytes, args, lender),
+        MethodName::Center => shaped::center(alloc, bytes, args, names),
+        MethodName::LJust => shaped::ljust(alloc, bytes, args, names),
+        MethodName::RJust => shaped::rjust(alloc, bytes, args, names),
+        MethodName::Find => sought::find(alloc, bytes, args, names),
+        MethodName::RFind => sought::rfind(alloc, bytes, args, names),
+        MethodName::Index => sought::index(alloc, bytes, args, names),
+        MethodName::RIndex => sought::rindex(alloc, bytes, args, names),
+        MethodName::Count => sought::count(alloc, bytes, args, names),
+        MethodName::StartsWith => sought::startswith(alloc, bytes, args, names),
+        MethodName::EndsWith => sought::endswith(alloc, bytes, args, names),
+        MethodName::Join => plain::join(alloc, bytes, args, names),
+        MethodName::MakeTrans => shaped::maketrans(alloc, args, names),
+        MethodName::Translate => shaped::translate(alloc, bytes, args, names),
+        MethodName::Strip => cut::strip(alloc, bytes, args, names),
+        MethodName::LStrip => cut::lstrip(alloc, bytes, args, names),
+        MethodName::RStrip => cut::rstrip(alloc, bytes, args, names),
+        MethodName::RemovePrefix => cut::removeprefix(alloc, bytes, args, names),
+        MethodName::RemoveSuffix => cut::removesuffix(alloc, bytes, args, names),
+        MethodName::Split => cut::split(alloc, bytes, args, names),
+        MethodName::RSplit => cut::rsplit(alloc, bytes, args, names),
+        MethodName::Partition => cut::partition(alloc, bytes, args, names),
+        MethodName::RPartition => cut::rpartition(alloc, bytes, args, names),
         MethodName::ExpandTabs => shaped::expandtabs(alloc, bytes, args),
         MethodName::SplitLines => cut::splitlines(alloc, bytes, args),
         MethodName::ZFill => shaped::zfill(alloc, bytes, args),
-        MethodName::Replace => shaped::replace(alloc, bytes, args, lender),
+        MethodName::Replace => shaped::replace(alloc, bytes, args, names),
         MethodName::Decode => shaped::decode(alloc, bytes, args),
     }
 }
@@ -85,5 +87,6 @@ pub fn apply_method<L: Lender>(
 ) -> Tried<MethodReply>
     ensures { IfOk result (λ outcome. outcome ≡ outcome_of (method_reply (L.pairs lender.now) bytes.now call.now.name call.now.args)) }
 {
-    tried(reply_of(alloc, bytes, call.name, call.args.as_slice(), lender))
+    let names = ByLender { lender };
+    tried(reply_of(alloc, bytes, call.name, call.args.as_slice(), &names))
 }

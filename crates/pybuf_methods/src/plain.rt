@@ -4,9 +4,11 @@ ghost use Rattle.pybuf_value.specs.Halting.{Gives};
 ghost use Rattle.pybuf_letters.specs.Cases as cases;
 ghost use Rattle.pybuf_methods.specs.Plain as spec;
 
-use crate::given::{count_in, done, like_in, lists_in, none, one};
-use pybuf_bytes::{MethodReply, concat_with};
-use pybuf_value::{ByteList, Halt, Lender, Value};
+use crate::given::{count_in, done, none, one};
+use crate::join;
+use crate::lent::{Names, like_in, part_of};
+use pybuf_bytes::MethodReply;
+use pybuf_value::{ByteList, Fault, Halt, Value};
 use std::alloc::Global;
 
 /// The answer of a test.
@@ -63,31 +65,34 @@ pub(crate) fn title(alloc: Global, bytes: &[u8], args: &[Value]) -> Result<Metho
 }
 
 /// The bytes, and others behind them.
-pub(crate) fn add<L: Lender>(
+pub(crate) fn add<N: Names>(
     alloc: Global,
     bytes: &[u8],
     args: &[Value],
-    lender: &L,
+    names: &N,
 ) -> Result<MethodReply, Halt>
-    ensures { Gives (spec.add (L.pairs lender.now) bytes.now args.now) result }
+    ensures { Gives (spec.add (N.pairs names.now) bytes.now args.now) result }
 {
     let other = one(args)?;
-    let like = like_in(other, lender)?;
+    let like = like_in(other, names)?;
     let sum = done(pybuf_search::added(alloc, bytes, like))?;
     Ok(MethodReply::Bytes(ByteList::from_vec(sum)))
 }
 
 /// The same, where the others may be the bytes of any view.
-pub(crate) fn concat<L: Lender>(
+pub(crate) fn concat<N: Names>(
     alloc: Global,
     bytes: &[u8],
     args: &[Value],
-    lender: &L,
+    names: &N,
 ) -> Result<MethodReply, Halt>
-    ensures { Gives (spec.concat (L.pairs lender.now) bytes.now args.now) result }
+    ensures { Gives (spec.concat (N.pairs names.now) bytes.now args.now) result }
 {
-    let other = one(args)?;
-    let sum = done(concat_with(alloc, bytes, other, lender))?;
+    let Value::One(other) = one(args)? else {
+        return Err(Halt::Refused(Fault::Kind));
+    };
+    let operand = part_of(alloc, other, names)?;
+    let sum = done(pybuf_search::added(alloc, bytes, operand.as_slice()))?;
     Ok(MethodReply::Bytes(ByteList::from_vec(sum)))
 }
 
@@ -102,16 +107,16 @@ pub(crate) fn mul(alloc: Global, bytes: &[u8], args: &[Value]) -> Result<MethodR
 }
 
 /// The parts of a list, with the bytes between each two.
-pub(crate) fn join<L: Lender>(
+pub(crate) fn join<N: Names>(
     alloc: Global,
     bytes: &[u8],
     args: &[Value],
-    lender: &L,
+    names: &N,
 ) -> Result<MethodReply, Halt>
-    ensures { Gives (spec.join (L.pairs lender.now) bytes.now args.now) result }
+    ensures { Gives (spec.join (N.pairs names.now) bytes.now args.now) result }
 {
     let list = one(args)?;
-    let parts = lists_in(alloc, list, lender)?;
-    let whole = done(pybuf_search::joined(alloc, bytes, parts.as_slice()))?;
+    let parts = join::lists_in(alloc, list, names)?;
+    let whole = join::joined(alloc, bytes, parts.as_slice())?;
     Ok(MethodReply::Bytes(ByteList::from_vec(whole)))
 }

@@ -1,81 +1,138 @@
 //! Methods that search.
-ghost use Rattle.std.specs.Prelude.{◌≡◌, Ok, Err, MatchResult};
+ghost use Rattle.std.specs.Prelude.{◌≡◌, ◌∷◌, [], length, Ok, Err, MatchResult};
 ghost use Rattle.pybuf_value.specs.Halting.{Gives};
-ghost use Rattle.pybuf_arguments.specs.Affixes.{startswith_of, endswith_of};
-ghost use Rattle.pybuf_bytes.specs.Searching.{find_of};
+ghost use Rattle.pybuf_arguments.specs.Bounds.{adjusted, in_range};
+ghost use Rattle.pybuf_bytes.specs.Searching.{place_in, number_in};
 ghost use Rattle.pybuf_search.specs.Places as places;
+ghost use Rattle.pybuf_methods.specs.Lent.{Lends};
 ghost use Rattle.pybuf_methods.specs.Sought as spec;
 
-use crate::given::{bound_given, done, one_to_three};
-use pybuf_arguments::StartsEndsWithArgs;
-use pybuf_bytes::{ByteInnerFindOptions, MethodReply, Needle, count_between, find_between};
-use pybuf_search::{first_place, last_place};
-use pybuf_value::{Fault, Halt, Lender, Twin, Value};
+use crate::affixes::{End, stands_between};
+use crate::given::{bound_given, one_to_three};
+use crate::lent::{Lent, Names, bytes_of};
+use pybuf_arguments::{StringRange, adjust_indices};
+use pybuf_bytes::MethodReply;
+use pybuf_search::{first_place, holds_needle, last_place, number_of_matches};
+use pybuf_value::{ByteOr, Fault, Halt, Value, index_of};
 use std::alloc::Global;
 
-/// A needle and two bounds.
-fn search_given<L: Lender>(
-    alloc: Global,
-    args: &[Value],
-    lender: &L,
-) -> Result<ByteInnerFindOptions, Halt>
-    ensures { Gives (spec.search_given (L.pairs lender.now) args.now) result }
+/// One byte.
+fn one_byte<'a>(alloc: Global, byte: u8) -> Result<Lent<'a>, Halt>
+    ensures { Lends (Ok (byte ∷ [])) result }
 {
-    let (sub, start, end) = one_to_three(args)?;
-    let sub = done(Needle::try_from_value(alloc, sub, lender))?;
-    let start = bound_given(start)?;
-    let end = bound_given(end)?;
-    Ok(ByteInnerFindOptions { sub, start, end })
+    Ok(Lent::Gathered(Vec::from_slice(alloc, &[byte])?))
 }
 
-/// The first place between bounds, or why not.
+/// What is searched for: a number as one byte, and any other value as the bytes that it is read as.
+fn sought<'a, N: Names>(alloc: Global, value: &'a Value, names: &'a N) -> Result<Lent<'a>, Halt>
+    ensures { Lends (spec.sought_in (N.pairs names.now) value.now) result }
+{
+    match index_of(value) {
+        Ok(number) => {
+            let byte = number.byte_or()?;
+            one_byte(alloc, byte)
+        }
+        Err(_) => bytes_of(alloc, value, names),
+    }
+}
+
+/// Whether what a value is searched as stands in bytes, as Python's `value in bytes`: a whole number, or a
+/// truth value as 0 or 1, as one byte, and any other value as the bytes that it is read as.
+///
+/// Refused with `ValueError` for a number outside `0..256`, and else as `bytes_from_object` refuses.
+pub fn contains_in<N: Names>(
+    alloc: Global,
+    bytes: &[u8],
+    value: &Value,
+    names: &N,
+) -> Result<bool, Halt>
+    ensures { Gives (spec.contains_in (N.pairs names.now) bytes.now value.now) result }
+{
+    let needle = sought(alloc, value, names)?;
+    Ok(holds_needle(bytes, needle.as_slice()))
+}
+
+/// The first place between bounds, from the front of the bytes.
 fn first_between(
-    alloc: Global,
     bytes: &[u8],
-    options: ByteInnerFindOptions,
-) -> Result<Option<usize>, Halt>
-    ensures { Gives (find_of places.first_place options.sub options.start options.end bytes.now) result }
+    needle: &[u8],
+    start: Option<i128>,
+    end: Option<i128>,
+) -> Option<usize>
+    ensures { result ≡ place_in places.first_place needle.now (adjusted start end (length bytes.now)).start (in_range bytes.now (adjusted start end (length bytes.now))) }
 {
-    let search = |part: &[u8], needle: &[u8]| first_place(part, needle);
-    done(find_between(alloc, bytes, options, search))
+    let range = adjust_indices(start, end, bytes.len());
+    if !range.is_normal() {
+        return None;
+    }
+    let front = range.start;
+    match first_place(&bytes[range], needle) {
+        None => None,
+        Some(place) => Some(front + place),
+    }
 }
 
-/// The last place between bounds, or why not.
+/// The last place between bounds, from the front of the bytes.
 fn last_between(
-    alloc: Global,
     bytes: &[u8],
-    options: ByteInnerFindOptions,
-) -> Result<Option<usize>, Halt>
-    ensures { Gives (find_of places.last_place options.sub options.start options.end bytes.now) result }
+    needle: &[u8],
+    start: Option<i128>,
+    end: Option<i128>,
+) -> Option<usize>
+    ensures { result ≡ place_in places.last_place needle.now (adjusted start end (length bytes.now)).start (in_range bytes.now (adjusted start end (length bytes.now))) }
 {
-    let search = |part: &[u8], needle: &[u8]| last_place(part, needle);
-    done(find_between(alloc, bytes, options, search))
+    let range = adjust_indices(start, end, bytes.len());
+    if !range.is_normal() {
+        return None;
+    }
+    let front = range.start;
+    match last_place(&bytes[range], needle) {
+        None => None,
+        Some(place) => Some(front + place),
+    }
+}
+
+/// The number of matches between bounds, of which no two overlap.
+fn matches_between(bytes: &[u8], needle: &[u8], start: Option<i128>, end: Option<i128>) -> usize
+    ensures { result ≡ number_in needle.now (in_range bytes.now (adjusted start end (length bytes.now))) }
+{
+    let range = adjust_indices(start, end, bytes.len());
+    if !range.is_normal() {
+        return 0;
+    }
+    number_of_matches(&bytes[range], needle)
 }
 
 /// The first place between the bounds.
-fn place<L: Lender>(
+fn place<N: Names>(
     alloc: Global,
     bytes: &[u8],
     args: &[Value],
-    lender: &L,
+    names: &N,
 ) -> Result<Option<usize>, Halt>
-    ensures { Gives (spec.place places.first_place (L.pairs lender.now) bytes.now args.now) result }
+    ensures { Gives (spec.place places.first_place (N.pairs names.now) bytes.now args.now) result }
 {
-    let options = search_given(alloc, args, lender)?;
-    first_between(alloc, bytes, options)
+    let (sub, start, end) = one_to_three(args)?;
+    let needle = sought(alloc, sub, names)?;
+    let start = bound_given(start)?;
+    let end = bound_given(end)?;
+    Ok(first_between(bytes, needle.as_slice(), start, end))
 }
 
 /// The last place between the bounds.
-fn rplace<L: Lender>(
+fn rplace<N: Names>(
     alloc: Global,
     bytes: &[u8],
     args: &[Value],
-    lender: &L,
+    names: &N,
 ) -> Result<Option<usize>, Halt>
-    ensures { Gives (spec.place places.last_place (L.pairs lender.now) bytes.now args.now) result }
+    ensures { Gives (spec.place places.last_place (N.pairs names.now) bytes.now args.now) result }
 {
-    let options = search_given(alloc, args, lender)?;
-    last_between(alloc, bytes, options)
+    let (sub, start, end) = one_to_three(args)?;
+    let needle = sought(alloc, sub, names)?;
+    let start = bound_given(start)?;
+    let end = bound_given(end)?;
+    Ok(last_between(bytes, needle.as_slice(), start, end))
 }
 
 /// A place as a number: -1 where nothing was found.
@@ -99,70 +156,73 @@ fn found_place(place: Option<usize>) -> Result<MethodReply, Fault>
 }
 
 /// The first place, or -1.
-pub(crate) fn find<L: Lender>(
+pub(crate) fn find<N: Names>(
     alloc: Global,
     bytes: &[u8],
     args: &[Value],
-    lender: &L,
+    names: &N,
 ) -> Result<MethodReply, Halt>
-    ensures { Gives (spec.find places.first_place (L.pairs lender.now) bytes.now args.now) result }
+    ensures { Gives (spec.find places.first_place (N.pairs names.now) bytes.now args.now) result }
 {
-    let found = place(alloc, bytes, args, lender)?;
+    let found = place(alloc, bytes, args, names)?;
     Ok(MethodReply::Number(number_of_place(found)))
 }
 
 /// The last place, or -1.
-pub(crate) fn rfind<L: Lender>(
+pub(crate) fn rfind<N: Names>(
     alloc: Global,
     bytes: &[u8],
     args: &[Value],
-    lender: &L,
+    names: &N,
 ) -> Result<MethodReply, Halt>
-    ensures { Gives (spec.find places.last_place (L.pairs lender.now) bytes.now args.now) result }
+    ensures { Gives (spec.find places.last_place (N.pairs names.now) bytes.now args.now) result }
 {
-    let found = rplace(alloc, bytes, args, lender)?;
+    let found = rplace(alloc, bytes, args, names)?;
     Ok(MethodReply::Number(number_of_place(found)))
 }
 
 /// The first place.
-pub(crate) fn index<L: Lender>(
+pub(crate) fn index<N: Names>(
     alloc: Global,
     bytes: &[u8],
     args: &[Value],
-    lender: &L,
+    names: &N,
 ) -> Result<MethodReply, Halt>
-    ensures { Gives (spec.index places.first_place (L.pairs lender.now) bytes.now args.now) result }
+    ensures { Gives (spec.index places.first_place (N.pairs names.now) bytes.now args.now) result }
 {
-    let found = place(alloc, bytes, args, lender)?;
+    let found = place(alloc, bytes, args, names)?;
     let reply = found_place(found)?;
     Ok(reply)
 }
 
 /// The last place.
-pub(crate) fn rindex<L: Lender>(
+pub(crate) fn rindex<N: Names>(
     alloc: Global,
     bytes: &[u8],
     args: &[Value],
-    lender: &L,
+    names: &N,
 ) -> Result<MethodReply, Halt>
-    ensures { Gives (spec.index places.last_place (L.pairs lender.now) bytes.now args.now) result }
+    ensures { Gives (spec.index places.last_place (N.pairs names.now) bytes.now args.now) result }
 {
-    let found = rplace(alloc, bytes, args, lender)?;
+    let found = rplace(alloc, bytes, args, names)?;
     let reply = found_place(found)?;
     Ok(reply)
 }
 
 /// The number of matches.
-pub(crate) fn count<L: Lender>(
+pub(crate) fn count<N: Names>(
     alloc: Global,
     bytes: &[u8],
     args: &[Value],
-    lender: &L,
+    names: &N,
 ) -> Result<MethodReply, Halt>
-    ensures { Gives (spec.count (L.pairs lender.now) bytes.now args.now) result }
+    ensures { Gives (spec.count (N.pairs names.now) bytes.now args.now) result }
 {
-    let options = search_given(alloc, args, lender)?;
-    let number = done(count_between(alloc, bytes, options))?;
+    let (sub, start, end) = one_to_three(args)?;
+    let needle = sought(alloc, sub, names)?;
+    let start = bound_given(start)?;
+    let end = bound_given(end)?;
+    let number = matches_between(bytes, needle.as_slice(), start, end);
     Ok(MethodReply::Number(number as i128))
 }
 
@@ -176,58 +236,30 @@ fn affix_given(args: &[Value]) -> Result<(&Value, Option<i128>, Option<i128>), F
     Ok((affix, start, end))
 }
 
-/// Whether bytes begin with an affix between bounds, or why not.
-fn begins<L: Lender>(
-    alloc: Global,
-    bytes: &[u8],
-    options: &StartsEndsWithArgs,
-    lender: &L,
-) -> Result<bool, Halt>
-    ensures { Gives (startswith_of (L.pairs lender.now) options.now.affix options.now.start options.now.end bytes.now) result }
-{
-    done(pybuf_arguments::startswith(alloc, bytes, options, lender))
-}
-
-/// Whether they end with one, or why not.
-fn ends<L: Lender>(
-    alloc: Global,
-    bytes: &[u8],
-    options: &StartsEndsWithArgs,
-    lender: &L,
-) -> Result<bool, Halt>
-    ensures { Gives (endswith_of (L.pairs lender.now) options.now.affix options.now.start options.now.end bytes.now) result }
-{
-    done(pybuf_arguments::endswith(alloc, bytes, options, lender))
-}
-
 /// Whether the bytes between the bounds begin with an affix.
-pub(crate) fn startswith<L: Lender>(
+pub(crate) fn startswith<N: Names>(
     alloc: Global,
     bytes: &[u8],
     args: &[Value],
-    lender: &L,
+    names: &N,
 ) -> Result<MethodReply, Halt>
-    ensures { Gives (spec.startswith (L.pairs lender.now) bytes.now args.now) result }
+    ensures { Gives (spec.startswith (N.pairs names.now) bytes.now args.now) result }
 {
     let (affix, start, end) = affix_given(args)?;
-    let affix = affix.copy(alloc)?;
-    let options = StartsEndsWithArgs { affix, start, end };
-    let answer = begins(alloc, bytes, &options, lender)?;
+    let answer = stands_between(alloc, End::Front, bytes, affix, (start, end), names)?;
     Ok(MethodReply::Truth(answer))
 }
 
 /// Whether they end with one.
-pub(crate) fn endswith<L: Lender>(
+pub(crate) fn endswith<N: Names>(
     alloc: Global,
     bytes: &[u8],
     args: &[Value],
-    lender: &L,
+    names: &N,
 ) -> Result<MethodReply, Halt>
-    ensures { Gives (spec.endswith (L.pairs lender.now) bytes.now args.now) result }
+    ensures { Gives (spec.endswith (N.pairs names.now) bytes.now args.now) result }
 {
     let (affix, start, end) = affix_given(args)?;
-    let affix = affix.copy(alloc)?;
-    let options = StartsEndsWithArgs { affix, start, end };
-    let answer = ends(alloc, bytes, &options, lender)?;
+    let answer = stands_between(alloc, End::Back, bytes, affix, (start, end), names)?;
     Ok(MethodReply::Truth(answer))
 }

@@ -24,8 +24,7 @@ ghost use Rattle.pybuf_rows_compare.specs.Compare as spec;
 
 use pybuf_command::{ExporterKind, Loan, LoanList, LocalReply, Subject, loan_of};
 use pybuf_equality::{equal_to_bytes, equal_to_content, equal_views};
-use pybuf_memoryview::{KeptLayout, first_place};
-use pybuf_state::{Parts, StoredView};
+use pybuf_state::{Parts, StoredView, bytes_in_a_row, given};
 use pybuf_value::{
     CompareOp, Fault, Halt, Made, Scalar, Snap, SnapKind, Value, compare_bytes, is_order,
 };
@@ -53,34 +52,7 @@ fn has_no_order(kind: ExporterKind, op: CompareOp, other: SnapKind) -> bool
     }
 }
 
-/// The bytes of items that lie one after the other and inside, from where they lie.
-fn run_of<'a>(bytes: &'a [u8], layout: &KeptLayout) -> &'a [u8]
-    requires contiguous { is_contiguous_layout layout.now ≡ true }
-    requires inside { LiesInside (length bytes.now) layout.now }
-    ensures { result.now ≡ content_of_layout bytes.now layout.now }
-{
-    let start = first_place(layout);
-    &bytes[start..start + layout.nbytes()]
-}
-
-/// The bytes of a view whose items lie one after the other, from where they lie.
-///
-/// Refused with `ValueError` for a released view, and then with `TypeError` where the items lie apart.
-fn bytes_in_a_row<'a>(bytes: &'a [u8], view: &StoredView) -> Result<&'a [u8], Fault>
-    requires inside { view.now.released ≡ false → LiesInside (length bytes.now) view.now.layout }
-    ensures { MatchResult result (λ row. value_spec.content_of (Some (snap_of_view bytes.now view.now)) ≡ Ok row.now) (λ fault. value_spec.content_of (Some (snap_of_view bytes.now view.now)) ≡ Err fault) }
-{
-    if view.is_released() {
-        return Err(Fault::Value);
-    }
-    let layout = view.layout();
-    if !layout.is_contiguous() {
-        return Err(Fault::Kind);
-    }
-    Ok(run_of(bytes, layout))
-}
-
-/// The same of what was lent of another exporter.
+/// The bytes of what was lent of another exporter, where they lie together.
 fn content_in_a_row(snap: &Snap) -> Result<&[u8], Fault>
     ensures { MatchResult result (λ row. value_spec.content_of (Some snap.now) ≡ Ok row.now) (λ fault. value_spec.content_of (Some snap.now) ≡ Err fault) }
 {
@@ -233,16 +205,6 @@ pub fn of_own_beside(
 }
 
 // ---- views
-
-/// A view that was given; the items of one that is unreleased lie inside.
-fn given(parts: &Parts, view: usize) -> Result<&StoredView, Fault>
-    requires { IsWhole parts.now }
-    ensures exact { MatchResult result (λ v. view_at (exporter_of parts.now) view ≡ Ok v.now) (λ f. view_at (exporter_of parts.now) view ≡ Err f) }
-    ensures inside { IfOk result (λ v. v.now.released ≡ false → LiesInside (length parts.now.bytes.items) v.now.layout) }
-{
-    pybuf_state::live_layouts_are_sound();
-    parts.view(view)
-}
 
 /// Refuses an order, which views haven't.
 fn check_equality(op: CompareOp) -> Result<(), Fault>

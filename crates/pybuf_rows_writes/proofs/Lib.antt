@@ -6,3 +6,4 @@ pub mod Laid
 pub mod AssignSafe
 pub mod Moving
 pub mod ByValue
+pub mod Single

@@ -11,6 +11,7 @@ mod known;
 mod laws;
 mod lending;
 mod parts;
+mod runs;
 mod snaps;
 mod stored;
 
@@ -23,5 +24,6 @@ pub use laws::{
     resizing_keeps, whole_layouts_are_sound, writing_keeps,
 };
 pub use parts::Parts;
+pub use runs::{bytes_in_a_row, given, run_of};
 pub use snaps::{lent_to, snap_of_subject};
 pub use stored::StoredView;

@@ -24,6 +24,9 @@ returns c =
       compare = c.compare_is_safe.ensures;
       hash = c.hash_is_safe.ensures;
       repr = c.repr_is_safe.ensures;
+      call = c.call_is_safe.ensures;
+      contains = c.contains_is_safe.ensures;
+      hex = c.hex_is_safe.ensures;
       iter = c.iter_is_safe.ensures;
       iterators = c.iterators_are_safe.ensures;
     })

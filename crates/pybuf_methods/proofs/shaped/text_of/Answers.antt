@@ -1,5 +1,4 @@
 use Rattle.std.specs.Option.{option_copied}
-use Rattle.std.specs.Prelude.{Some}
 use Rattle.pybuf_bytes.specs.Shaping.{decoded}
 use Rattle.pybuf_methods.proofs.Stops.{gives}
 use Rattle.pybuf_methods.proofs.shaped.text_of.Goals as goal

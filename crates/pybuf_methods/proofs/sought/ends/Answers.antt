@@ -1,8 +1,0 @@
-use Rattle.std.specs.Option.{option_copied}
-use Rattle.std.specs.Prelude.{Some}
-use Rattle.pybuf_arguments.specs.Affixes.{endswith_of}
-use Rattle.pybuf_methods.proofs.Stops.{gives}
-use Rattle.pybuf_methods.proofs.sought.ends.Goals as goal
-
-pub returns : goal.returns
-returns g c = gives _ _ (endswith_of (g.L.Lender.pairs c.args.lender.now) c.args.options.now.affix c.args.options.now.start c.args.options.now.end c.args.bytes.now) c.endswith.ensures c.done.ensures.ok c.done.ensures.stopped

@@ -1,0 +1,59 @@
+-- Bytes that are lent from where they lie, or that were put together.
+use Rattle.std.specs.Prelude.{◌≡◌, ℕ, List, map, Option, Some, None, Result, Ok, Err}
+use Rattle.pybuf_value.specs.declared.faults.Fault.{Fault}
+use Rattle.pybuf_value.specs.declared.faults.Fault.TheVariants as fault
+use Rattle.pybuf_value.specs.declared.halt.Halt.{Halt}
+use Rattle.pybuf_value.specs.declared.halt.Halt.TheVariants as halt
+use Rattle.pybuf_value.specs.declared.snaps.Snap.{Snap}
+use Rattle.pybuf_value.specs.declared.snaps.SnapKind.{SnapKind}
+use Rattle.pybuf_value.specs.Snaps.{string_of_named}
+use Rattle.std.specs.Global.{Vec}
+use Rattle.pybuf_methods.specs.declared.lent.Lent.{Lent}
+use Rattle.pybuf_methods.specs.declared.lent.Lent.TheVariants as lent
+
+-- the bytes
+abbrev pub lent_bytes : Lent → List ℕ
+lent_bytes (lent.Lies bytes) = bytes.now
+lent_bytes (lent.Gathered bytes) = bytes.items
+
+abbrev pub lent_option : Option Lent → Option (List ℕ)
+lent_option (Some l) = Some (lent_bytes l)
+lent_option None = None
+
+-- a result is these bytes, or their refusal, unless memory runs out
+abbrev pub Lends : Result (List ℕ) Fault → Result Lent Halt → Type 0
+Lends wanted (Ok l) = wanted ≡ Ok (lent_bytes l)
+Lends wanted (Err (halt.Refused f)) = wanted ≡ Err f
+Lends wanted (Err halt.NoMemory) = Unit {0}
+
+-- the same where there may be none
+abbrev pub LendsSome : Result (Option (List ℕ)) Fault → Result (Option Lent) Halt → Type 0
+LendsSome wanted (Ok l) = wanted ≡ Ok (lent_option l)
+LendsSome wanted (Err (halt.Refused f)) = wanted ≡ Err f
+LendsSome wanted (Err halt.NoMemory) = Unit {0}
+
+-- what kind of thing a handle names
+abbrev pub kind_of_named : Option Snap → Option SnapKind
+kind_of_named (Some snap) = Some snap.kind
+kind_of_named None = None
+
+-- the bytes of what is Python's `bytes` or `bytearray`; a handle that was never given is refused first
+abbrev pub string_or : Option (List ℕ) → Result (List ℕ) Fault
+string_or (Some bytes) = Ok bytes
+string_or None = Err fault.Kind
+
+abbrev pub string_named : Option Snap → Result (List ℕ) Fault
+string_named None = Err fault.UnknownName
+string_named (Some snap) = string_or (string_of_named (Some snap))
+
+-- the same of bytes in a vector
+abbrev pub Reads : Result (List ℕ) Fault → Result (Vec ℕ) Halt → Type 0
+Reads wanted (Ok bytes) = wanted ≡ Ok bytes.items
+Reads wanted (Err (halt.Refused f)) = wanted ≡ Err f
+Reads wanted (Err halt.NoMemory) = Unit {0}
+
+-- the same of many
+abbrev pub LendsEach : Result (List (List ℕ)) Fault → Result (Vec Lent) Halt → Type 0
+LendsEach wanted (Ok lents) = wanted ≡ Ok (map lent_bytes lents.items)
+LendsEach wanted (Err (halt.Refused f)) = wanted ≡ Err f
+LendsEach wanted (Err halt.NoMemory) = Unit {0}

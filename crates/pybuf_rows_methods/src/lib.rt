@@ -1,0 +1,17 @@
+//! The commands that read bytes as strings: `call`, `contains`, `hex`. They only read, and the bytes of the
+//! handles among their values are read from where they lie.
+#![tactic(auto)]
+
+pub mod call;
+pub mod contains;
+pub mod hex;
+mod laws;
+mod loaned;
+mod subjects;
+
+pub use laws::{call_is_safe, contains_is_safe, hex_is_safe, names_are_found};
+pub use loaned::{Loaned, Place};
+pub use subjects::{content_of_subject, kind_of_subject, run_of_subject};
+
+#[cfg(test)]
+mod tests;

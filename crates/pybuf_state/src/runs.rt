@@ -1,0 +1,52 @@
+//! Bytes that lie together, read from where they lie.
+ghost use Rattle.std.specs.Prelude.{◌≡◌, length, Some, Ok, Err, true, false, IfOk, MatchResult};
+ghost use Rattle.pybuf_value.specs.Snaps.{content_of};
+ghost use Rattle.pybuf_desc.specs.Contiguous.{is_contiguous_layout};
+ghost use Rattle.pybuf_desc.specs.Items.{content_of_layout};
+ghost use Rattle.pybuf_desc.specs.Layouts.{LiesInside};
+ghost use Rattle.pybuf_state.specs.Exporter.{view_at};
+ghost use Rattle.pybuf_state.specs.Snaps.{snap_of_view};
+ghost use Rattle.pybuf_state.specs.Answers.{exporter_of, IsWhole};
+
+use crate::laws::live_layouts_are_sound;
+use crate::parts::Parts;
+use crate::stored::StoredView;
+use pybuf_memoryview::{KeptLayout, first_place};
+use pybuf_value::Fault;
+
+/// The bytes of items that lie one after the other and inside, from where they lie.
+pub fn run_of<'a>(bytes: &'a [u8], layout: &KeptLayout) -> &'a [u8]
+    requires contiguous { is_contiguous_layout layout.now ≡ true }
+    requires inside { LiesInside (length bytes.now) layout.now }
+    ensures { result.now ≡ content_of_layout bytes.now layout.now }
+{
+    let start = first_place(layout);
+    &bytes[start..start + layout.nbytes()]
+}
+
+/// The bytes of a view whose items lie one after the other, from where they lie.
+///
+/// Refused with `ValueError` for a released view, and then with `TypeError` where the items lie apart.
+pub fn bytes_in_a_row<'a>(bytes: &'a [u8], view: &StoredView) -> Result<&'a [u8], Fault>
+    requires inside { view.now.released ≡ false → LiesInside (length bytes.now) view.now.layout }
+    ensures { MatchResult result (λ row. content_of (Some (snap_of_view bytes.now view.now)) ≡ Ok row.now) (λ fault. content_of (Some (snap_of_view bytes.now view.now)) ≡ Err fault) }
+{
+    if view.is_released() {
+        return Err(Fault::Value);
+    }
+    let layout = view.layout();
+    if !layout.is_contiguous() {
+        return Err(Fault::Kind);
+    }
+    Ok(run_of(bytes, layout))
+}
+
+/// A view that was given; the items of one that is unreleased lie inside.
+pub fn given(parts: &Parts, view: usize) -> Result<&StoredView, Fault>
+    requires { IsWhole parts.now }
+    ensures exact { MatchResult result (λ v. view_at (exporter_of parts.now) view ≡ Ok v.now) (λ f. view_at (exporter_of parts.now) view ≡ Err f) }
+    ensures inside { IfOk result (λ v. v.now.released ≡ false → LiesInside (length parts.now.bytes.items) v.now.layout) }
+{
+    live_layouts_are_sound();
+    parts.view(view)
+}
