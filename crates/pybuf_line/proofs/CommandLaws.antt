@@ -1,5 +1,5 @@
 -- A command that was written is read back.
-use Rattle.std.proofs.Common.{◌≡◌, ℕ, ◌<◌, ◌^◌, List, [], ◌∷◌, ◌++◌, Bool, true, false, not, cond, ◌==◌, Option, Some, None, refl, ◌∙◌, ap, arith, tests}
+use Rattle.std.proofs.Common.{◌≡◌, ℕ, ◌<◌, ◌^◌, List, [], ◌∷◌, ◌++◌, map, Bool, true, false, not, cond, ◌==◌, Option, Some, None, refl, ◌∙◌, ap, arith, tests}
 use Rattle.std.specs.List.{join_with_byte, onto_first, list_all, AllByRecursion}
 use Rattle.pybuf_value.specs.declared.values.Scalar.{Scalar}
 use Rattle.pybuf_value.specs.declared.values.Scalar.TheVariants as scalar
@@ -15,16 +15,20 @@ use Rattle.pybuf_command.specs.declared.commands.PropertyName.TheVariants as pro
 use Rattle.pybuf_command.specs.declared.commands.Verb.{Verb}
 use Rattle.pybuf_command.specs.declared.commands.Verb.TheVariants as verb
 use Rattle.pybuf_bytes.specs.declared.options.ByteInnerNewOptions.{ByteInnerNewOptions}
+use Rattle.pybuf_bytes.specs.declared.methods.MethodName.{MethodName}
+use Rattle.pybuf_bytes.specs.declared.methods.MethodName.TheVariants as name
+use Rattle.pybuf_bytes.specs.declared.methods.MethodCall.{MethodCall}
 use Rattle.pybuf_world.specs.declared.commands.Command.TheVariants as command
 use Rattle.pybuf_line.specs.declared.words.Word.TheVariants as word
 use Rattle.pybuf_line.specs.Parts.{parts_at}
 use Rattle.pybuf_line.specs.Words.{words, word_in, written_word, written_kind, written_operator, written_name}
+use Rattle.pybuf_line.specs.Methods.{written_method}
 use Rattle.pybuf_value.specs.Spelling.{handle_text}
 use Rattle.pybuf_line.specs.Scalars.{handle_in, is_text_byte, written_scalar}
 use Rattle.pybuf_line.specs.Spellings.{written_slice, written_parts, written_value}
-use Rattle.pybuf_line.specs.Commands.{options_in, verb_in, word_of, written_values, written_options, written_arguments, command_of_words, command_in, written_words}
-use Rattle.pybuf_line.specs.Laws.{IsSpelled, IsSpelledSlice, IsSpelledValue, AreSpelledValues, AreSpelledOptions, IsSpelledVerb, CommandsReadBack}
-use Rattle.pybuf_line.proofs.NameLaws.{kinds_read, operators_read, properties_read}
+use Rattle.pybuf_line.specs.Commands.{options_in, verb_in, word_of, written_values, written_options, values_in, call_in, written_call, written_arguments, command_of_words, command_in, written_words}
+use Rattle.pybuf_line.specs.Laws.{IsSpelled, IsSpelledSlice, IsSpelledValue, AreSpelledValues, AreSpelledOptions, IsSpelledCall, IsSpelledVerb, CommandsReadBack}
+use Rattle.pybuf_line.proofs.NameLaws.{kinds_read, operators_read, properties_read, methods_read}
 use Rattle.pybuf_line.proofs.SpellingLaws.{handle_read}
 use Rattle.pybuf_line.proofs.ValueLaws.{is_free, IsFree, part_free, each_text_byte, values_read}
 
@@ -156,6 +160,65 @@ options_read None None (Some errors) h = absurd h
 options_read None (Some encoding) errors h = absurd h
 options_read (Some source) None (Some errors) h = absurd h
 
+-- a call of a method
+method_unbroken : (m : MethodName) → IsUnbroken (written_method m)
+method_unbroken name.Add = refl
+method_unbroken name.Concat = refl
+method_unbroken name.Mul = refl
+method_unbroken name.IsAlnum = refl
+method_unbroken name.IsAlpha = refl
+method_unbroken name.IsAscii = refl
+method_unbroken name.IsDigit = refl
+method_unbroken name.IsLower = refl
+method_unbroken name.IsSpace = refl
+method_unbroken name.IsTitle = refl
+method_unbroken name.IsUpper = refl
+method_unbroken name.Lower = refl
+method_unbroken name.Upper = refl
+method_unbroken name.SwapCase = refl
+method_unbroken name.Capitalize = refl
+method_unbroken name.Title = refl
+method_unbroken name.Hex = refl
+method_unbroken name.FromHex = refl
+method_unbroken name.Center = refl
+method_unbroken name.LJust = refl
+method_unbroken name.RJust = refl
+method_unbroken name.Find = refl
+method_unbroken name.RFind = refl
+method_unbroken name.Index = refl
+method_unbroken name.RIndex = refl
+method_unbroken name.Count = refl
+method_unbroken name.StartsWith = refl
+method_unbroken name.EndsWith = refl
+method_unbroken name.Join = refl
+method_unbroken name.MakeTrans = refl
+method_unbroken name.Translate = refl
+method_unbroken name.Strip = refl
+method_unbroken name.LStrip = refl
+method_unbroken name.RStrip = refl
+method_unbroken name.RemovePrefix = refl
+method_unbroken name.RemoveSuffix = refl
+method_unbroken name.Split = refl
+method_unbroken name.RSplit = refl
+method_unbroken name.Partition = refl
+method_unbroken name.RPartition = refl
+method_unbroken name.ExpandTabs = refl
+method_unbroken name.SplitLines = refl
+method_unbroken name.ZFill = refl
+method_unbroken name.Replace = refl
+method_unbroken name.Decode = refl
+
+values_unbroken : (values : List Value) → AllByRecursion IsSpelledValue values → AllByRecursion IsUnbroken (map (written_value handle_text) values)
+values_unbroken [] h = tt
+values_unbroken (v ∷ more) h = (value_unbroken v h.0, values_unbroken more h.1)
+
+each_value_read : (values : List Value) → AllByRecursion IsSpelledValue values → values_in handle_in (map (written_value handle_text) values) ≡ Some values
+each_value_read [] h = refl
+each_value_read (v ∷ more) h = rw (values_read v h.0, each_value_read more h.1) refl
+
+call_read : (c : MethodCall) → IsSpelledCall c → call_in handle_in (written_call handle_text c) ≡ Some (verb.Call c)
+call_read c h = rw (methods_read.read c.name tt, each_value_read c.args h.1, h.0) refl
+
 -- a command of a handle
 arguments_unbroken : (v : Verb) → IsSpelledVerb v → AllByRecursion IsUnbroken (written_arguments handle_text v)
 arguments_unbroken verb.View h = tt
@@ -180,6 +243,12 @@ arguments_unbroken verb.Iter h = tt
 arguments_unbroken verb.Next h = tt
 arguments_unbroken verb.LengthHint h = tt
 arguments_unbroken (verb.SetState state) h = (value_unbroken state h, tt)
+arguments_unbroken (verb.Contains item) h = (value_unbroken item h, tt)
+arguments_unbroken (verb.Hex None None) h = tt
+arguments_unbroken (verb.Hex None (Some group)) h = absurd h
+arguments_unbroken (verb.Hex (Some sep) None) h = (value_unbroken sep h, tt)
+arguments_unbroken (verb.Hex (Some sep) (Some group)) h = (value_unbroken sep h.0, (value_unbroken group h.1, tt))
+arguments_unbroken (verb.Call method) h = (method_unbroken method.name, values_unbroken method.args h.1)
 arguments_unbroken (verb.Del key) h = (value_unbroken key h, tt)
 arguments_unbroken (verb.Append item) h = (value_unbroken item h, tt)
 arguments_unbroken (verb.Extend item) h = (value_unbroken item h, tt)
@@ -217,6 +286,9 @@ word_unbroken verb.Iter = refl
 word_unbroken verb.Next = refl
 word_unbroken verb.LengthHint = refl
 word_unbroken (verb.SetState state) = refl
+word_unbroken (verb.Contains item) = refl
+word_unbroken (verb.Hex sep group) = refl
+word_unbroken (verb.Call method) = refl
 word_unbroken (verb.Del key) = refl
 word_unbroken (verb.Append item) = refl
 word_unbroken (verb.Extend item) = refl
@@ -257,6 +329,12 @@ verb_read verb.Iter h = refl
 verb_read verb.Next h = refl
 verb_read verb.LengthHint h = refl
 verb_read (verb.SetState state) h = rw (values_read state h) refl
+verb_read (verb.Contains item) h = rw (values_read item h) refl
+verb_read (verb.Hex None None) h = refl
+verb_read (verb.Hex None (Some group)) h = absurd h
+verb_read (verb.Hex (Some sep) None) h = rw (values_read sep h) refl
+verb_read (verb.Hex (Some sep) (Some group)) h = rw (values_read sep h.0, values_read group h.1) refl
+verb_read (verb.Call method) h = call_read method h
 verb_read (verb.Del key) h = rw (values_read key h) refl
 verb_read (verb.Append item) h = rw (values_read item h) refl
 verb_read (verb.Extend item) h = rw (values_read item h) refl
@@ -297,6 +375,12 @@ do_read n verb.Iter h k = rw (handle_read n h) refl
 do_read n verb.Next h k = rw (handle_read n h) refl
 do_read n verb.LengthHint h k = rw (handle_read n h) refl
 do_read n (verb.SetState state) h k = rw (handle_read n h, verb_read (verb.SetState state) k) refl
+do_read n (verb.Contains item) h k = rw (handle_read n h, verb_read (verb.Contains item) k) refl
+do_read n (verb.Hex None None) h k = rw (handle_read n h) refl
+do_read n (verb.Hex None (Some group)) h k = absurd k
+do_read n (verb.Hex (Some sep) None) h k = rw (handle_read n h, verb_read (verb.Hex (Some sep) None) k) refl
+do_read n (verb.Hex (Some sep) (Some group)) h k = rw (handle_read n h, verb_read (verb.Hex (Some sep) (Some group)) k) refl
+do_read n (verb.Call method) h k = rw (handle_read n h, verb_read (verb.Call method) k) refl
 do_read n (verb.Del key) h k = rw (handle_read n h, verb_read (verb.Del key) k) refl
 do_read n (verb.Append item) h k = rw (handle_read n h, verb_read (verb.Append item) k) refl
 do_read n (verb.Extend item) h k = rw (handle_read n h, verb_read (verb.Extend item) k) refl

@@ -9,10 +9,13 @@ use Rattle.pybuf_command.specs.declared.kinds.ExporterKind.{ExporterKind}
 use Rattle.pybuf_command.specs.declared.kinds.ExporterKind.TheVariants as kind
 use Rattle.pybuf_command.specs.declared.commands.PropertyName.{PropertyName}
 use Rattle.pybuf_command.specs.declared.commands.PropertyName.TheVariants as property
+use Rattle.pybuf_bytes.specs.declared.methods.MethodName.{MethodName}
+use Rattle.pybuf_bytes.specs.declared.methods.MethodName.TheVariants as name
 use Rattle.pybuf_line.specs.declared.words.Word.{Word}
 use Rattle.pybuf_line.specs.declared.words.Word.TheVariants as word
 use Rattle.pybuf_line.specs.Words.{named_in, written_word, every_word, word_in, written_kind, every_kind, kind_in, written_operator, every_operator, operator_in, written_name, every_property, property_in}
-use Rattle.pybuf_line.specs.Laws.{IsAny, WordsReadBack, KindsReadBack, OperatorsReadBack, PropertiesReadBack}
+use Rattle.pybuf_line.specs.Methods.{written_method, every_method, method_in}
+use Rattle.pybuf_line.specs.Laws.{IsAny, WordsReadBack, KindsReadBack, OperatorsReadBack, PropertiesReadBack, MethodsReadBack}
 
 -- what is found passes the test
 found_by : {A : Type 0} (p : A → Bool) (first : A) (others : Option A) (found : A) (passes : Bool) → p first ≡ passes →
@@ -52,6 +55,9 @@ word_read word.Iter h = refl
 word_read word.Next h = refl
 word_read word.LengthHint h = refl
 word_read word.SetState h = refl
+word_read word.Contains h = refl
+word_read word.Hex h = refl
+word_read word.Call h = refl
 word_read word.Del h = refl
 word_read word.Append h = refl
 word_read word.Extend h = refl
@@ -115,3 +121,58 @@ property_written text p h = named_is written_name every_property text p h
 
 pub properties_read : PropertiesReadBack
 properties_read = record { read = property_read; written = property_written }
+
+method_read : (m : MethodName) → IsAny m → method_in (written_method m) ≡ Some m
+unfolding method_in
+method_read name.Add h = refl
+method_read name.Concat h = refl
+method_read name.Mul h = refl
+method_read name.IsAlnum h = refl
+method_read name.IsAlpha h = refl
+method_read name.IsAscii h = refl
+method_read name.IsDigit h = refl
+method_read name.IsLower h = refl
+method_read name.IsSpace h = refl
+method_read name.IsTitle h = refl
+method_read name.IsUpper h = refl
+method_read name.Lower h = refl
+method_read name.Upper h = refl
+method_read name.SwapCase h = refl
+method_read name.Capitalize h = refl
+method_read name.Title h = refl
+method_read name.Hex h = refl
+method_read name.FromHex h = refl
+method_read name.Center h = refl
+method_read name.LJust h = refl
+method_read name.RJust h = refl
+method_read name.Find h = refl
+method_read name.RFind h = refl
+method_read name.Index h = refl
+method_read name.RIndex h = refl
+method_read name.Count h = refl
+method_read name.StartsWith h = refl
+method_read name.EndsWith h = refl
+method_read name.Join h = refl
+method_read name.MakeTrans h = refl
+method_read name.Translate h = refl
+method_read name.Strip h = refl
+method_read name.LStrip h = refl
+method_read name.RStrip h = refl
+method_read name.RemovePrefix h = refl
+method_read name.RemoveSuffix h = refl
+method_read name.Split h = refl
+method_read name.RSplit h = refl
+method_read name.Partition h = refl
+method_read name.RPartition h = refl
+method_read name.ExpandTabs h = refl
+method_read name.SplitLines h = refl
+method_read name.ZFill h = refl
+method_read name.Replace h = refl
+method_read name.Decode h = refl
+
+method_written : (text : List ℕ) (m : MethodName) → method_in text ≡ Some m → text ≡ written_method m
+unfolding method_in
+method_written text m h = named_is written_method every_method text m h
+
+pub methods_read : MethodsReadBack
+methods_read = record { read = method_read; written = method_written }

@@ -17,7 +17,7 @@ use Rattle.pybuf_world.specs.declared.commands.Reply.TheVariants as reply
 use Rattle.pybuf_world.specs.World.{World, wstep}
 use Rattle.pybuf_world.specs.Laws.{WorldShownTextsAreOneLine}
 use Rattle.pybuf_value.specs.Quotes.{quote_of, escaped_byte, quoted_text}
-use Rattle.pybuf_value.specs.Spelling.{truth_text, handle_text, scalar_text}
+use Rattle.pybuf_value.specs.Spelling.{bytes_text, truth_text, handle_text, scalar_text}
 use Rattle.pybuf_line.specs.Replies.{next_part_text, tuple_text, item_text, list_text, blocks, nested_text}
 use Rattle.pybuf_line.specs.Laws.{IsOneLine, ShowsOneLine, RepliesAreSingle, NamesStaySingle, RunsStaySingle}
 
@@ -136,6 +136,7 @@ reply_single name single (reply.Pair exporter view) h =
 reply_single name single (reply.Items shape items) h = nested_single (item_text name) (item_single name single) shape items
 reply_single name single (reply.Item shown) h = item_single name single shown
 reply_single name single (reply.Bytes bytes) h = quoted_single bytes
+reply_single name single (reply.ByteLists lists) h = list_single bytes_text quoted_single lists
 reply_single name single (reply.Text text) h = quoted_single text
 reply_single name single (reply.Shown text) h = h
 reply_single name single (reply.Truth truth) h = truth_single truth
@@ -160,6 +161,7 @@ shows_line shown w c (reply.Pair exporter view) h = tt
 shows_line shown w c (reply.Items shape items) h = tt
 shows_line shown w c (reply.Item item) h = tt
 shows_line shown w c (reply.Bytes bytes) h = tt
+shows_line shown w c (reply.ByteLists lists) h = tt
 shows_line shown w c (reply.Text text) h = tt
 shows_line shown w c (reply.Truth truth) h = tt
 shows_line shown w c reply.NotImplementedReply h = tt

@@ -1,9 +1,12 @@
 -- The command that a line spells, and how a command is written. How a handle is read and written is given.
-use Rattle.std.specs.Prelude.{ℕ, List, [], ◌∷◌, Option, Some, None}
+use Rattle.std.specs.Prelude.{ℕ, List, [], ◌∷◌, length, map, Option, Some, None, if◌then◌else◌}
 use Rattle.std.specs.List.{join_with_byte}
 use Rattle.pybuf_value.specs.Choosing.{◌>>=◌}
 use Rattle.pybuf_value.specs.declared.values.Value.{Value}
 use Rattle.pybuf_bytes.specs.declared.options.ByteInnerNewOptions.{ByteInnerNewOptions}
+use Rattle.pybuf_bytes.specs.declared.methods.MethodName.{MethodName}
+use Rattle.pybuf_bytes.specs.declared.methods.MethodCall.{MethodCall}
+use Rattle.pybuf_methods.specs.Arity.{takes}
 use Rattle.pybuf_command.specs.declared.commands.Verb.{Verb}
 use Rattle.pybuf_command.specs.declared.commands.Verb.TheVariants as verb
 use Rattle.pybuf_world.specs.declared.commands.Command.{Command}
@@ -11,6 +14,8 @@ use Rattle.pybuf_world.specs.declared.commands.Command.TheVariants as command
 use Rattle.pybuf_line.specs.declared.words.Word.{Word}
 use Rattle.pybuf_line.specs.declared.words.Word.TheVariants as word
 use Rattle.pybuf_line.specs.Words.{words, word_in, written_word, kind_in, written_kind, operator_in, written_operator, property_in, written_name}
+use Rattle.pybuf_line.specs.Parts.{each}
+use Rattle.pybuf_line.specs.Methods.{method_in, written_method}
 use Rattle.pybuf_line.specs.Spellings.{value_in, written_value}
 
 -- the options of `new` and `init`: up to three values, the source, its encoding and the handler of errors
@@ -67,6 +72,22 @@ edit_in name_in word.Take [] = Some verb.Take
 edit_in name_in word.Copy [] = Some verb.Copy
 edit_in _ _ _ = None
 
+-- as many values as there are words, one each
+abbrev pub values_in : (List ℕ → Option ℕ) → List (List ℕ) → Option (List Value)
+values_in name_in words = each (value_in name_in) words
+
+-- a call of a method, where that takes so many arguments
+abbrev pub call_of : MethodName → List Value → Option Verb
+call_of name args = if takes name (length args) then Some (verb.Call (record { name = name; args = args })) else None
+
+-- a method by its name, and its arguments
+abbrev pub call_in : (List ℕ → Option ℕ) → List (List ℕ) → Option Verb
+call_in name_in [] = None
+call_in name_in (name ∷ arguments) = do
+  method ← method_in name
+  args ← values_in name_in arguments
+  call_of method args
+
 -- A line `WORD hN ARGS` by its word and its arguments: the place where a new verb goes.
 abbrev pub verb_in : (List ℕ → Option ℕ) → Word → List (List ℕ) → Option Verb
 verb_in name_in word.View [] = Some verb.View
@@ -111,6 +132,18 @@ verb_in name_in word.LengthHint [] = Some verb.LengthHint
 verb_in name_in word.SetState (state ∷ []) = do
   s ← value_in name_in state
   Some (verb.SetState s)
+verb_in name_in word.Contains (item ∷ []) = do
+  v ← value_in name_in item
+  Some (verb.Contains v)
+verb_in name_in word.Hex [] = Some (verb.Hex None None)
+verb_in name_in word.Hex (sep ∷ []) = do
+  s ← value_in name_in sep
+  Some (verb.Hex (Some s) None)
+verb_in name_in word.Hex (sep ∷ group ∷ []) = do
+  s ← value_in name_in sep
+  g ← value_in name_in group
+  Some (verb.Hex (Some s) (Some g))
+verb_in name_in word.Call arguments = call_in name_in arguments
 verb_in name_in w arguments = edit_in name_in w arguments
 
 -- the word that a verb is written with
@@ -136,6 +169,9 @@ word_of verb.Iter = word.Iter
 word_of verb.Next = word.Next
 word_of verb.LengthHint = word.LengthHint
 word_of (verb.SetState state) = word.SetState
+word_of (verb.Contains item) = word.Contains
+word_of (verb.Hex sep group) = word.Hex
+word_of (verb.Call method) = word.Call
 word_of (verb.Del key) = word.Del
 word_of (verb.Append item) = word.Append
 word_of (verb.Extend item) = word.Extend
@@ -160,6 +196,10 @@ written_values name None _ _ = []
 abbrev pub written_options : (ℕ → List ℕ) → ByteInnerNewOptions → List (List ℕ)
 written_options name options = written_values name options.source options.encoding options.errors
 
+-- the words that a call is written with
+abbrev pub written_call : (ℕ → List ℕ) → MethodCall → List (List ℕ)
+written_call name method = written_method method.name ∷ map (written_value name) method.args
+
 -- the words after the subject that a verb is written with
 abbrev pub written_arguments : (ℕ → List ℕ) → Verb → List (List ℕ)
 written_arguments name (verb.Get key) = written_value name key ∷ []
@@ -179,6 +219,10 @@ written_arguments name (verb.IAdd item) = written_value name item ∷ []
 written_arguments name (verb.IMul count) = written_value name count ∷ []
 written_arguments name (verb.Init options) = written_options name options
 written_arguments name (verb.SetState state) = written_value name state ∷ []
+written_arguments name (verb.Contains item) = written_value name item ∷ []
+written_arguments name (verb.Hex (Some sep) None) = written_value name sep ∷ []
+written_arguments name (verb.Hex (Some sep) (Some group)) = written_value name sep ∷ written_value name group ∷ []
+written_arguments name (verb.Call method) = written_call name method
 written_arguments name _ = []
 
 -- `new KIND` and the options

@@ -5,6 +5,8 @@ use Rattle.std.specs.List.{flat_map, join_with_byte, list_any, AllByRecursion}
 use Rattle.pybuf_command.specs.declared.commands.Verb.{Verb}
 use Rattle.pybuf_command.specs.declared.commands.Verb.TheVariants as verb
 use Rattle.pybuf_bytes.specs.declared.options.ByteInnerNewOptions.{ByteInnerNewOptions}
+use Rattle.pybuf_bytes.specs.declared.methods.MethodCall.{MethodCall}
+use Rattle.pybuf_methods.specs.Arity.{takes}
 use Rattle.pybuf_world.specs.declared.commands.Command.{Command}
 use Rattle.pybuf_world.specs.declared.commands.Command.TheVariants as command
 use Rattle.pybuf_world.specs.declared.commands.Reply.{Reply}
@@ -18,6 +20,7 @@ use Rattle.pybuf_value.specs.declared.values.Value.TheVariants as value
 use Rattle.hex.specs.Hex.{IsBytes}
 use Rattle.pybuf_line.specs.Parts.{parts_outside_quotes}
 use Rattle.pybuf_line.specs.Words.{words, written_word, word_in, written_kind, kind_in, written_operator, operator_in, written_name, property_in}
+use Rattle.pybuf_line.specs.Methods.{written_method, method_in}
 use Rattle.pybuf_value.specs.Spelling.{handle_text}
 use Rattle.pybuf_line.specs.Scalars.{enclosed_text, is_text, scalar_in, handle_in, written_scalar}
 use Rattle.pybuf_line.specs.Spellings.{value_in, written_value}
@@ -148,6 +151,9 @@ OperatorsReadBack = IsRead written_operator operator_in IsAny
 abbrev pub PropertiesReadBack : Type 0
 PropertiesReadBack = IsRead written_name property_in IsAny
 
+abbrev pub MethodsReadBack : Type 0
+MethodsReadBack = IsRead written_method method_in IsAny
+
 -- the options that lines spell: none, a source, a source with its encoding, or all three
 abbrev pub AreSpelledValues : Option Value → Option Value → Option Value → Type 0
 AreSpelledValues None None None = Unit {0}
@@ -158,6 +164,10 @@ AreSpelledValues _ _ _ = ⊥
 
 abbrev pub AreSpelledOptions : ByteInnerNewOptions → Type 0
 AreSpelledOptions options = AreSpelledValues options.source options.encoding options.errors
+
+-- the calls that lines spell: as many arguments as the method takes
+abbrev pub IsSpelledCall : MethodCall → Type 0
+IsSpelledCall method = IsTrue (takes method.name (length method.args)) × AllByRecursion IsSpelledValue method.args
 
 -- the verbs that lines spell
 abbrev pub IsSpelledVerb : Verb → Type 0
@@ -176,6 +186,11 @@ IsSpelledVerb (verb.Remove item) = IsSpelledValue item
 IsSpelledVerb (verb.IAdd item) = IsSpelledValue item
 IsSpelledVerb (verb.IMul count) = IsSpelledValue count
 IsSpelledVerb (verb.SetState state) = IsSpelledValue state
+IsSpelledVerb (verb.Contains item) = IsSpelledValue item
+IsSpelledVerb (verb.Hex None (Some group)) = ⊥
+IsSpelledVerb (verb.Hex (Some sep) None) = IsSpelledValue sep
+IsSpelledVerb (verb.Hex (Some sep) (Some group)) = IsSpelledValue sep × IsSpelledValue group
+IsSpelledVerb (verb.Call method) = IsSpelledCall method
 IsSpelledVerb (verb.Init options) = AreSpelledOptions options
 IsSpelledVerb _ = Unit {0}
 

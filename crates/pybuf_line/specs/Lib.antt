@@ -1,5 +1,6 @@
 pub mod Parts
 pub mod Words
+pub mod Methods
 pub mod Scalars
 pub mod Spellings
 pub mod Commands

@@ -53,6 +53,7 @@ reply_text name (reply.Pair exporter view) = name exporter ++ byte " " ∷ name 
 reply_text name (reply.Items shape items) = nested_text (item_text name) shape items
 reply_text name (reply.Item shown) = item_text name shown
 reply_text name (reply.Bytes bytes) = bytes_text bytes
+reply_text name (reply.ByteLists lists) = list_text bytes_text lists
 reply_text name (reply.Text text) = quoted_text text
 reply_text name (reply.Shown text) = text
 reply_text name (reply.Truth truth) = truth_text truth

@@ -45,6 +45,9 @@ written_word word.Iter = codes "iter"
 written_word word.Next = codes "next"
 written_word word.LengthHint = codes "hint"
 written_word word.SetState = codes "setstate"
+written_word word.Contains = codes "contains"
+written_word word.Hex = codes "hex"
+written_word word.Call = codes "call"
 written_word word.Del = codes "del"
 written_word word.Append = codes "append"
 written_word word.Extend = codes "extend"
@@ -68,7 +71,8 @@ abbrev pub every_word : List Word
 every_word =
     word.New ∷ word.View ∷ word.Get ∷ word.Set ∷ word.ToBytes ∷ word.Release ∷ word.Len ∷ word.Cast ∷ word.Property
     ∷ word.ToReadonly ∷ word.Range ∷ word.Enter ∷ word.Exit ∷ word.ToContiguous ∷ word.ToList
-    ∷ word.Compare ∷ word.Hash ∷ word.Repr ∷ word.Iter ∷ word.Next ∷ word.LengthHint ∷ word.SetState ∷ every_edit
+    ∷ word.Compare ∷ word.Hash ∷ word.Repr ∷ word.Iter ∷ word.Next ∷ word.LengthHint ∷ word.SetState
+    ∷ word.Contains ∷ word.Hex ∷ word.Call ∷ every_edit
 
 -- the word of an edit that a text spells
 unfoldable pub edit_word_in : List ℕ → Option Word

@@ -1,7 +1,7 @@
 //! Laws of the definitions that the contracts cite. Each stands on a function with an empty body.
 ghost use Rattle.pybuf_value.specs.Spelling.{handle_text};
 ghost use Rattle.pybuf_line.specs.Nesting.{NestingIsTheShape, ItemsStandInOrder};
-ghost use Rattle.pybuf_line.specs.Laws.{LinesJoin, LinesAreSingle, WordsJoin, CommandsAreOfLines, BadLineIsFirst, RepliesAreSingle, NamesStaySingle, RunsStaySingle, PartsJoin, PartsAreSingle, EnclosedIsBetween, BetweenIsEnclosed, ScalarsReadBack, ValuesReadBack, WordsReadBack, KindsReadBack, OperatorsReadBack, PropertiesReadBack, CommandsReadBack};
+ghost use Rattle.pybuf_line.specs.Laws.{LinesJoin, LinesAreSingle, WordsJoin, CommandsAreOfLines, BadLineIsFirst, RepliesAreSingle, NamesStaySingle, RunsStaySingle, PartsJoin, PartsAreSingle, EnclosedIsBetween, BetweenIsEnclosed, ScalarsReadBack, ValuesReadBack, WordsReadBack, KindsReadBack, OperatorsReadBack, PropertiesReadBack, MethodsReadBack, CommandsReadBack};
 
 use pybuf_world::world_shown_texts_are_one_line;
 
@@ -86,6 +86,11 @@ pub fn operators_read_back()
 /// The same of the names of properties.
 pub fn property_names_read_back()
     ensures { PropertiesReadBack }
+{}
+
+/// The same of the names of methods.
+pub fn method_names_read_back()
+    ensures { MethodsReadBack }
 {}
 
 /// A command that was written is read back.

@@ -3,6 +3,7 @@
 
 mod inputs;
 mod laws;
+mod methods;
 mod parsing;
 mod scalars;
 mod spellings;
@@ -14,9 +15,9 @@ mod words;
 pub use inputs::commands_of;
 pub use laws::{
     commands_are_of_lines, commands_read_back, enclosed_is_between, items_stand_in_order,
-    kinds_read_back, lines_are_the_input, nesting_is_the_shape, operators_read_back,
-    parts_are_the_text, property_names_read_back, replies_are_single_lines, scalars_read_back,
-    values_read_back, words_are_the_line, words_read_back,
+    kinds_read_back, lines_are_the_input, method_names_read_back, nesting_is_the_shape,
+    operators_read_back, parts_are_the_text, property_names_read_back, replies_are_single_lines,
+    scalars_read_back, values_read_back, words_are_the_line, words_read_back,
 };
 pub use parsing::command;
 pub use texts::{push_bad_line, push_reply, push_reply_line};

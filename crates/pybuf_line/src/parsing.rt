@@ -1,14 +1,18 @@
 //! The commands that lines spell.
 ghost use Rattle.std.specs.Prelude.{◌≡◌, ◌+◌, ◌≤◌, ◌<◌, ◌^◌, map, vec_items, Ok, Err};
 ghost use Rattle.pybuf_line.specs.Scalars.{handle_in};
-ghost use Rattle.pybuf_line.specs.Commands.{options_in, edit_in, verb_in, new_in, do_in, command_of_words, command_in};
+ghost use Rattle.pybuf_line.specs.Commands.{options_in, values_in, call_in, edit_in, verb_in, new_in, do_in, command_of_words, command_in};
 ghost use Rattle.pybuf_line.specs.Reading.{Reads};
 
+use crate::methods::method_named;
 use crate::scalars::handle;
 use crate::spellings::value;
 use crate::splitting::words_of;
 use crate::unread::Unread;
 use crate::words::{Word, first_word, kind_named, operator_named, property_named};
+use pybuf_bytes::MethodCall;
+use pybuf_methods::takes;
+use pybuf_value::ValueList;
 use pybuf_view::{ByteInnerNewOptions, Command, Verb};
 use std::alloc::Global;
 
@@ -50,6 +54,39 @@ fn options_of(alloc: Global, words: &[&[u8]]) -> Result<ByteInnerNewOptions, Unr
             })
         }
         _ => Err(Unread::NoCommand),
+    }
+}
+
+/// The values that words spell, one each.
+fn values_of(alloc: Global, words: &[&[u8]]) -> Result<ValueList, Unread>
+    ensures { Reads result (values_in handle_in (map (λ word. word.now) words.now)) }
+{
+    let mut values = Vec::new(alloc);
+    for word in words {
+        let value = value(alloc, word)?;
+        values.push(value)?;
+    }
+    Ok(ValueList::from_vec(values))
+}
+
+/// The call of a method, by its name and its arguments.
+fn call_of(alloc: Global, words: &[&[u8]]) -> Result<Verb, Unread>
+    ensures { Reads result (call_in handle_in (map (λ word. word.now) words.now)) }
+{
+    match words {
+        [name, arguments @ ..] => {
+            let Some(name) = method_named(name) else {
+                return Err(Unread::NoCommand);
+            };
+            let args = values_of(alloc, arguments)?;
+            if takes(name, args.len()) {
+                let method = MethodCall { name, args };
+                Ok(Verb::Call { method })
+            } else {
+                Err(Unread::NoCommand)
+            }
+        }
+        [] => Err(Unread::NoCommand),
     }
 }
 
@@ -261,6 +298,30 @@ fn verb_of(alloc: Global, word: Word, arguments: &[&[u8]]) -> Result<Verb, Unrea
             }
             _ => Err(Unread::NoCommand),
         },
+        Word::Contains => match arguments {
+            [item] => {
+                let value = value(alloc, item)?;
+                Ok(Verb::Contains { value })
+            }
+            _ => Err(Unread::NoCommand),
+        },
+        Word::Hex => match arguments {
+            [] => Ok(Verb::Hex {
+                sep: None,
+                group: None,
+            }),
+            [sep] => {
+                let sep = Some(value(alloc, sep)?);
+                Ok(Verb::Hex { sep, group: None })
+            }
+            [sep, group] => {
+                let sep = Some(value(alloc, sep)?);
+                let group = Some(value(alloc, group)?);
+                Ok(Verb::Hex { sep, group })
+            }
+            _ => Err(Unread::NoCommand),
+        },
+        Word::Call => call_of(alloc, arguments),
         _ => edit_of(alloc, word, arguments),
     }
 }

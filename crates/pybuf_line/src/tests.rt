@@ -1,6 +1,8 @@
 //! What no clause says: that the calls succeed with ample memory.
 use super::*;
-use pybuf_value::{CountList, Item, ItemList, Made, NumberList, Scalar, ScalarList, Text};
+use pybuf_value::{
+    ByteList, ByteLists, CountList, Item, ItemList, Made, NumberList, Scalar, ScalarList, Text,
+};
 use pybuf_view::Reply;
 use std::alloc::Global;
 use std::test::Fail;
@@ -25,6 +27,10 @@ fn replies_are_printed_with_ample_memory(rt: HostRuntime) -> Result<(), Fail> {
     let none = Vec::from_slice(rt.alloc(), &[2, 0])?;
     let items = items_of(rt.alloc(), &[0, 1, 2, 3, 4, 5])?;
     let alone = items_of(rt.alloc(), &[7])?;
+    let mut lists = ByteLists::new(rt.alloc());
+    for bytes in [b"a".as_slice(), b"", b"'\n"] {
+        lists.push(ByteList::from_vec(Vec::from_slice(rt.alloc(), bytes)?))?;
+    }
     let replies = [
         Reply::Pair {
             exporter: 4,
@@ -48,6 +54,8 @@ fn replies_are_printed_with_ample_memory(rt: HostRuntime) -> Result<(), Fail> {
         Reply::Item(Item::Many(parts)),
         Reply::Truth(false),
         Reply::Text(Text::from_string(String::from_str(rt.alloc(), "<hH")?)),
+        Reply::ByteLists(lists),
+        Reply::ByteLists(ByteLists::new(rt.alloc())),
     ];
     let mut out = Vec::new(rt.alloc());
     for reply in &replies {
@@ -56,7 +64,7 @@ fn replies_are_printed_with_ample_memory(rt: HostRuntime) -> Result<(), Fail> {
     // the texts are those of Python's `repr`
     assert_eq!(rt;
         out.as_slice(),
-        b"h4 h5\n[[0, 1, 2], [3, 4, 5]]\n[[], []]\n[7]\n(2, -3, 0)\n(7,)\n()\n(1, True)\nFalse\n'<hH'\n".as_slice()
+        b"h4 h5\n[[0, 1, 2], [3, 4, 5]]\n[[], []]\n[7]\n(2, -3, 0)\n(7,)\n()\n(1, True)\nFalse\n'<hH'\n[b'a', b'', b\"'\\n\"]\n[]\n".as_slice()
     );
     Ok(())
 }
@@ -121,6 +129,21 @@ fn lines_are_read_with_ample_memory(rt: HostRuntime) {
         Err(Unread::NoCommand)
     );
     assert_eq!(rt; is_read(rt.alloc(), b"release"), Err(Unread::NoCommand));
+    let calls =
+        b"contains h0 x61\nhex h1\nhex h1 ':' 2\ncall h0 find x61 0 -1\ncall h0 upper\ncall h0 join [x61,x62]";
+    assert_eq!(rt; count_of(rt.alloc(), calls), Ok(6));
+    assert_eq!(rt;
+        is_read(rt.alloc(), b"call h0 find"),
+        Err(Unread::NoCommand)
+    );
+    assert_eq!(rt;
+        is_read(rt.alloc(), b"call h0 upper 1"),
+        Err(Unread::NoCommand)
+    );
+    assert_eq!(rt;
+        is_read(rt.alloc(), b"call h0 append 1"),
+        Err(Unread::NoCommand)
+    );
 }
 
 #[test]

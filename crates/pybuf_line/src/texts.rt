@@ -7,7 +7,7 @@ ghost use Rattle.pybuf_value.specs.Spelling.{bytes_text, truth_text, handle_text
 ghost use Rattle.pybuf_line.specs.Replies.{next_part_text, tuple_text, item_text, list_text, nested_text, reply_text, reply_line, bad_line_text};
 
 use itoa::Buffer;
-use pybuf_value::{Item, Made, Scalar, push_quoted, push_scalar};
+use pybuf_value::{ByteList, Item, Made, Scalar, push_quoted, push_scalar};
 use pybuf_view::Reply;
 
 /// Adds a decimal number.
@@ -79,6 +79,14 @@ impl Part for Scalar {
 
     fn push_part(&self, out: &mut Vec<u8>) -> Made<()> {
         push_scalar(out, self)
+    }
+}
+
+impl Part for ByteList {
+    ghost text = { bytes_text };
+
+    fn push_part(&self, out: &mut Vec<u8>) -> Made<()> {
+        push_bytes(out, self.as_slice())
     }
 }
 
@@ -180,6 +188,7 @@ pub fn push_reply(out: &mut Vec<u8>, reply: &Reply) -> Made<()>
         Reply::Item(item) => item.push_part(out)?,
         Reply::Items { shape, items } => push_nested(out, shape.as_slice(), items.as_slice())?,
         Reply::Bytes(bytes) => push_bytes(out, bytes.as_slice())?,
+        Reply::ByteLists(lists) => push_list(out, lists.as_slice())?,
         Reply::Text(text) => push_quoted(out, text.as_slice())?,
         Reply::Shown(text) => out.extend_from_slice(text.as_slice())?,
         Reply::Truth(truth) => push_truth(out, *truth)?,

@@ -31,6 +31,9 @@ pub enum Word {
     Next,
     LengthHint,
     SetState,
+    Contains,
+    Hex,
+    Call,
     Del,
     Append,
     Extend,
@@ -123,6 +126,15 @@ pub fn first_word(text: &[u8]) -> Option<Word>
     }
     if is_word(text, "setstate") {
         return Some(Word::SetState);
+    }
+    if is_word(text, "contains") {
+        return Some(Word::Contains);
+    }
+    if is_word(text, "hex") {
+        return Some(Word::Hex);
+    }
+    if is_word(text, "call") {
+        return Some(Word::Call);
     }
     edit_word(text)
 }
