@@ -44,7 +44,7 @@ const NONE: [&str; 35] = [
 ];
 
 /// Lines that are none for another reason than a value.
-const OTHER: [&str; 44] = [
+const OTHER: [&str; 58] = [
     "get h18446744073709551616 0",
     "get h-1 0",
     "get h 0",
@@ -89,6 +89,20 @@ const OTHER: [&str; 44] = [
     "init h0 1 2 3 4",
     "take h0 0",
     "copy",
+    "contains h0",
+    "contains h0 1 2",
+    "hex h0 ',' 1 2",
+    "call h0",
+    "call h0 find",
+    "call h0 find 1 2 3 4",
+    "call h0 upper 1",
+    "call h0 Upper",
+    "call h0 append 1",
+    "call h0 tobytes",
+    "call h0 replace x61",
+    "call h0 replace x61 x62 1 2",
+    "call h0 split None 1 2",
+    "call h0 maketrans x61",
 ];
 
 fn each_ends(rt: &impl Abort, alloc: Global, lines: &[&str]) -> Result<(), Fail> {
