@@ -137,24 +137,37 @@ fn sum_of_reply(reply: &LocalReply) -> (i128, i128) {
     }
 }
 
+/// What tells the copy of a reply from another.
+fn sum_of_reply_copy(alloc: Global, reply: &LocalReply) -> Made<(i128, i128)> {
+    let twin = reply.copy(alloc)?;
+    let sum = sum_of_reply(&twin);
+    drop(twin);
+    Ok(sum)
+}
+
+/// Whether the copy of a reply has this sum. The reply is handed over, as a verb is.
+fn is_reply_copied(alloc: Global, reply: LocalReply, sum: (i128, i128)) -> Made<bool> {
+    let answer = sum_of_reply_copy(alloc, &reply);
+    drop(reply);
+    Ok(answer? == sum)
+}
+
 #[test]
 fn replies_are_copied(rt: HostRuntime) -> Result<(), Fail> {
-    let mut numbers = NumberList::new(rt.alloc());
-    numbers.push(3)?;
-    let replies = [
-        (LocalReply::Ok, (1, 0)),
-        (LocalReply::View(8), (2, 8)),
-        (LocalReply::Own, (3, 0)),
-        (LocalReply::Item(Item::One(Scalar::Int(-9))), (4, -9)),
-        (LocalReply::Bytes(abc(rt.alloc())?), (6, 3)),
-        (LocalReply::Text(text(rt.alloc(), "4sH")?), (7, 3)),
-        (LocalReply::Truth(true), (8, 1)),
-        (LocalReply::Numbers(numbers), (9, 1)),
-        (LocalReply::Refused(Fault::Buffer), (10, 3)),
-    ];
-    for (reply, sum) in &replies {
-        assert_eq!(rt; sum_of_reply(&reply.copy(rt.alloc())?), *sum);
-    }
+    let a = rt.alloc();
+    assert!(rt; is_reply_copied(a, LocalReply::Ok, (1, 0))?);
+    assert!(rt; is_reply_copied(a, LocalReply::View(8), (2, 8))?);
+    assert!(rt; is_reply_copied(a, LocalReply::Own, (3, 0))?);
+    let item = Item::One(Scalar::Int(-9));
+    assert!(rt; is_reply_copied(a, LocalReply::Item(item), (4, -9))?);
+    assert!(rt; is_reply_copied(a, LocalReply::Bytes(abc(a)?), (6, 3))?);
+    assert!(rt; is_reply_copied(a, LocalReply::Text(text(a, "4sH")?), (7, 3))?);
+    assert!(rt; is_reply_copied(a, LocalReply::Truth(true), (8, 1))?);
+    assert!(rt; is_reply_copied(a, LocalReply::Refused(Fault::Buffer), (10, 3))?);
+    assert!(rt; is_reply_copied(a, LocalReply::Itself, (11, 0))?);
+    assert!(rt; is_reply_copied(a, LocalReply::NotImplementedReply, (14, 0))?);
+    assert!(rt; is_reply_copied(a, LocalReply::Iter(5), (15, 5))?);
+    assert!(rt; is_reply_copied(a, LocalReply::Stop, (16, 0))?);
     Ok(())
 }
 
@@ -167,25 +180,29 @@ fn list(alloc: Global) -> Result<LocalReply, Fail> {
     Ok(LocalReply::Items { shape, items })
 }
 
+/// A list of one list of bytes.
+fn lists(alloc: Global) -> Result<LocalReply, Fail> {
+    let mut lists = ByteLists::new(alloc);
+    lists.push(abc(alloc)?)?;
+    Ok(LocalReply::ByteLists(lists))
+}
+
+/// A tuple of one number.
+fn tuple(alloc: Global) -> Result<LocalReply, Fail> {
+    let mut numbers = NumberList::new(alloc);
+    numbers.push(3)?;
+    Ok(LocalReply::Numbers(numbers))
+}
+
 #[test]
 fn lists_and_what_is_fresh_are_copied(rt: HostRuntime) -> Result<(), Fail> {
-    let fresh = LocalReply::Fresh(snap(rt.alloc(), SnapKind::View, 'B')?);
-    let shown = LocalReply::Shown(text(rt.alloc(), "b''")?);
-    let mut lists = ByteLists::new(rt.alloc());
-    lists.push(abc(rt.alloc())?)?;
-    let replies = [
-        (LocalReply::Itself, (11, 0)),
-        (list(rt.alloc())?, (1, 101)),
-        (fresh, (12, 3)),
-        (shown, (13, 3)),
-        (LocalReply::NotImplementedReply, (14, 0)),
-        (LocalReply::Iter(5), (15, 5)),
-        (LocalReply::Stop, (16, 0)),
-        (LocalReply::ByteLists(lists), (17, 1)),
-    ];
-    for (reply, sum) in &replies {
-        assert_eq!(rt; sum_of_reply(&reply.copy(rt.alloc())?), *sum);
-    }
+    let a = rt.alloc();
+    assert!(rt; is_reply_copied(a, list(a)?, (1, 101))?);
+    assert!(rt; is_reply_copied(a, lists(a)?, (17, 1))?);
+    assert!(rt; is_reply_copied(a, tuple(a)?, (9, 1))?);
+    let fresh = snap(a, SnapKind::View, 'B')?;
+    assert!(rt; is_reply_copied(a, LocalReply::Fresh(fresh), (12, 3))?);
+    assert!(rt; is_reply_copied(a, LocalReply::Shown(text(a, "b''")?), (13, 3))?);
     Ok(())
 }
 

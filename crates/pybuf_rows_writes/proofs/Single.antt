@@ -1,5 +1,5 @@
 -- An item of the format `B` is written as its one byte.
-use Rattle.std.proofs.Common.{◌≡◌, ℕ, List, [], ◌∷◌, Result, Ok, Err, slice_index, true, refl, ap, sym, subst, ◌∙◌}
+use Rattle.std.proofs.Common.{◌≡◌, ℕ, List, [], ◌∷◌, Result, Ok, Err, slice_index, true, refl, ap, sym, ◌∙◌}
 use Rattle.std.specs.Prelude.{codes}
 use Rattle.std.proofs.lemmas.Bool.{eqb-true}
 use Rattle.pybuf_value.specs.declared.faults.Fault.{Fault}
@@ -14,7 +14,6 @@ use Rattle.pybuf_memoryview.specs.SingleBytes.{byte_for_item}
 use Rattle.pybuf_memoryview.specs.Laws.{ByteItemsAreTheirByte}
 use Rattle.pybuf_state.specs.Exporter.{Exporter}
 use Rattle.pybuf_state.specs.Loans.{Lent, snaps_of}
-use Rattle.pybuf_state.specs.Answers.{Answers}
 use Rattle.pybuf_rows_writes.specs.Set.{set_target, item_set, set_of_view}
 use Rattle.pybuf_rows_writes.specs.Writing.{single_byte_set, IsStartOfTarget}
 

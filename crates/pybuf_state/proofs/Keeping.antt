@@ -11,7 +11,7 @@ use Rattle.pybuf_struct.specs.Formats.{codes_in, layout_from, format_after_prefi
 use Rattle.pybuf_command.specs.Sized.{is_sized}
 use Rattle.pybuf_state.specs.Exporter.{Exporter, View, Iterator, is_exported, exports_of}
 use Rattle.pybuf_state.specs.Sound.{IsSoundView, IsSoundExporter}
-use Rattle.pybuf_state.specs.Keeps.{IsSameOrReleased, ViewsStay, LengthsStay, IsSameOrMoved, IteratorsStay}
+use Rattle.pybuf_state.specs.Keeps.{IsSameOrReleased, ViewsStay, LengthsStay, IsSameOrMoved}
 use Rattle.pybuf_state.specs.Resizing.{has_exports}
 use Rattle.pybuf_state.specs.Laws.{IsSoundLayout, WholeLayoutsAreSound, PartLayoutsAreSound, LiveLayoutsAreSound, ReadingKeeps, NewViewsKeep, WritingKeeps, ResizingKeeps, EmptyingKeeps, ReleasingKeeps, NewIteratorsStay, MovedIteratorsStay}
 use Rattle.pybuf_state.proofs.Finding.{All-slice_get, view_at_given, live_view, slice_get-push, slice_get-set}

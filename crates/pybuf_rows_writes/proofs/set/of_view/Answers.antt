@@ -1,5 +1,4 @@
-use Rattle.std.proofs.Common.{◌≡◌, ap, sym, subst, ◌∙◌}
-use Rattle.pybuf_value.specs.declared.faults.Fault.{Fault}
+use Rattle.std.proofs.Common.{ap, sym, subst, ◌∙◌}
 use Rattle.pybuf_command.specs.Fits.{is_byte_format}
 use Rattle.pybuf_command.specs.Handles.{handle_of_value}
 use Rattle.pybuf_state.specs.Loans.{lent_for_each}
