@@ -4,3 +4,4 @@ pub mod Beside
 pub mod Lent
 pub mod Refusing
 pub mod Iterating
+pub mod Unchanged

@@ -24,7 +24,7 @@ use Rattle.pybuf_state.specs.Keeps.{LengthsStay, ReadOnlyBytesStay, IteratorsSta
 use Rattle.pybuf_state.specs.Resizing.{has_exports}
 use Rattle.pybuf_rows_edits.specs.Edits.{is_edit}
 use Rattle.pybuf_rows_edits.specs.Asking.{asks}
-use Rattle.pybuf_exporter.specs.Step.{estep}
+use Rattle.pybuf_exporter.specs.Step.{estep, reads_in_place}
 
 -- each command leaves a sound exporter sound
 abbrev pub CommandsKeepSound : Type 0
@@ -71,6 +71,11 @@ abbrev pub IteratorsGiveTheBytes : Type 0
 IteratorsGiveTheBytes =
     (e : Exporter) (k : ℕ) (it : Iterator) (more : ℕ) → slice_get e.iterators k ≡ Some it → it.subject ≡ subject.Own → it.exhausted ≡ false → it.position ≤ length e.bytes
     → nexts e k (length e.bytes - it.position + more) ≡ map (λ b. reply.Item (byte_item b)) (drop it.position e.bytes) ++ replicate more reply.Stop
+
+-- a method, a search and the digits of a view change nothing
+abbrev pub ReadingInPlaceChangesNothing : Type 0
+ReadingInPlaceChangesNothing =
+    (e : Exporter) (s : Subject) (v : Verb) (loans : List (ℕ × Loan)) → reads_in_place s v ≡ true → (estep e s v loans).0 ≡ e
 
 -- a refused command changes nothing
 abbrev pub RefusedCommandsChangeNothing : Type 0

@@ -1,5 +1,5 @@
 //! Laws over every command, from the laws of the rows.
-ghost use Rattle.pybuf_exporter.specs.Laws.{CommandsKeepSound, LengthsStayUnderCommands, ReadOnlyBytesStayUnderCommands, IteratorsStayUnderCommands, OthersLeaveIterators, IterationChangesNothingElse, IteratorsGiveTheBytes, RefusedCommandsChangeNothing, FreshRepliesAreCopies, LoansAlikeDoTheSame, ItemsAreRead, ResizingIsRefusedWhileExported, ShownTextsAreOneLine};
+ghost use Rattle.pybuf_exporter.specs.Laws.{CommandsKeepSound, LengthsStayUnderCommands, ReadOnlyBytesStayUnderCommands, IteratorsStayUnderCommands, OthersLeaveIterators, IterationChangesNothingElse, IteratorsGiveTheBytes, ReadingInPlaceChangesNothing, RefusedCommandsChangeNothing, FreshRepliesAreCopies, LoansAlikeDoTheSame, ItemsAreRead, ResizingIsRefusedWhileExported, ShownTextsAreOneLine};
 ghost use Rattle.pybuf_exporter.specs.Rows.{RowsAreSafe};
 
 /// Each row keeps a sound exporter, or replies a copy.
@@ -66,6 +66,11 @@ pub fn iterators_stay()
     rows_are_safe();
     pybuf_state::reading_keeps();
 }
+
+/// A method, a search and the digits of a view leave the exporter as it is, whatever they reply.
+pub fn reading_in_place_changes_nothing()
+    ensures { ReadingInPlaceChangesNothing }
+{}
 
 /// No command changes an iterator but those that are asked of one: an edit leaves each where it is.
 pub fn others_leave_iterators()
