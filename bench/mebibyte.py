@@ -37,6 +37,15 @@ def counted(word):
         for _ in range(100):
             view[::2] = part
         count += 101
+    if word == "found":
+        replies = [first.find(other) for _ in range(100)]
+        count += len(replies)
+    if word == "absent":
+        replies = [255 in first for _ in range(100)]
+        count += len(replies)
+    if word == "added":
+        replies = [first + other for _ in range(100)]
+        count += len(replies)
     if word == "reversed":
         for _ in range(100):
             view[::-1] = view

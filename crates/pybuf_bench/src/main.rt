@@ -2,8 +2,11 @@
 //! An input of lines can't spell as many bytes.
 #![tactic(auto)]
 
-use pybuf_value::{ByteList, Made, PySlice, Scalar, ScalarList, Text, Value};
-use pybuf_view::{ByteInnerNewOptions, Command, ExporterKind, Reply, ReplyList, Verb, World};
+use pybuf_value::{ByteList, Made, PySlice, Scalar, ScalarList, Text, Value, ValueList};
+use pybuf_view::{
+    ByteInnerNewOptions, Command, ExporterKind, MethodCall, MethodName, Reply, ReplyList, Verb,
+    World,
+};
 use std::alloc::Global;
 use std::env;
 use std::env::Env;
@@ -85,6 +88,14 @@ fn push_two(alloc: Global, commands: &mut Vec<Command>) -> Made<()> {
     Ok(())
 }
 
+/// `call` of a method of what a handle names with what another names.
+fn call(alloc: Global, subject: u64, name: MethodName, other: u64) -> Made<Command> {
+    let mut args = ValueList::new(alloc);
+    args.push(Value::One(Scalar::Handle(other)))?;
+    let method = MethodCall { name, args };
+    Ok(ask(subject, Verb::Call { method }))
+}
+
 /// Whether a word is another.
 fn is_word(word: &str, other: &str) -> bool {
     word.as_bytes() == other.as_bytes()
@@ -92,8 +103,9 @@ fn is_word(word: &str, other: &str) -> bool {
 
 /// The commands of a run: `slices` slices and reverses a view of three dimensions 1,000 times; the
 /// others assign one mebibyte 100 times: `contiguous` from another exporter, `moved` to where it
-/// overlaps, `every-other` byte from every other byte, `reversed` onto itself. Any other word makes
-/// what they stand on alone.
+/// overlaps, `every-other` byte from every other byte, `reversed` onto itself; or they read it 100 times:
+/// `found` looks for all bytes of another exporter by a view of it, `absent` for a byte that isn't there,
+/// `added` puts those of the other behind. Any other word makes what they stand on alone.
 fn commands_of(alloc: Global, word: &str) -> Made<Vec<Command>> {
     let mut commands = Vec::new(alloc);
     if is_word(word, "slices") {
@@ -123,6 +135,24 @@ fn commands_of(alloc: Global, word: &str) -> Made<Vec<Command>> {
         commands.push(ask(3, Verb::Get { key: every(2) }))?;
         for _ in 0..100u64 {
             commands.push(assign(1, every(2), 4))?;
+        }
+    }
+    if is_word(word, "found") {
+        for _ in 0..100u64 {
+            let found = call(alloc, 0, MethodName::Find, 3)?;
+            commands.push(found)?;
+        }
+    }
+    if is_word(word, "absent") {
+        for _ in 0..100u64 {
+            let value = Value::One(Scalar::Int(255));
+            commands.push(ask(0, Verb::Contains { value }))?;
+        }
+    }
+    if is_word(word, "added") {
+        for _ in 0..100u64 {
+            let added = call(alloc, 0, MethodName::Add, 3)?;
+            commands.push(added)?;
         }
     }
     if is_word(word, "reversed") {

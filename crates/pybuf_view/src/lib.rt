@@ -7,7 +7,7 @@ pub use pybuf_borrow::{
     borrows_change_the_lent_bytes_alone, try_bytes_like, try_rw_bytes_like,
 };
 pub use pybuf_buffer::{PyBuffer, Steps, range_counts_are_bounded, ranges_are_counted};
-pub use pybuf_bytes::{ByteInnerNewOptions, PyBytesInner};
+pub use pybuf_bytes::{ByteInnerNewOptions, MethodCall, MethodName, PyBytesInner};
 pub use pybuf_command::{
     ExporterKind, Loan, LoanList, LocalCommand, LocalReply, PropertyName, Subject, Verb,
 };
@@ -16,10 +16,12 @@ pub use pybuf_exporter::{
     contiguity_is_of_strides, copies_are_faithful, equal_views_hash_alike,
     fresh_replies_are_copies, items_are_read, iteration_changes_nothing_else,
     iterators_give_the_bytes, iterators_stay, lengths_stay, lists_hold_the_items,
-    loans_alike_do_the_same, others_leave_iterators, readonly_bytes_stay,
-    refused_commands_change_nothing, shaped_casts_share_their_bytes, shown_texts_are_one_line,
-    slicing_back_twice_is_nothing, writes_are_seen,
+    loans_alike_do_the_same, others_leave_iterators, reading_in_place_changes_nothing,
+    readonly_bytes_stay, reads_in_place, refused_commands_change_nothing,
+    shaped_casts_share_their_bytes, shown_texts_are_one_line, slicing_back_twice_is_nothing,
+    writes_are_seen,
 };
+pub use pybuf_methods::{Lent, Names, takes, wrong_numbers_are_refused};
 pub use pybuf_world::{
     Command, Named, Reply, ReplyList, World, copies_are_exporters_of_their_own, handles_stay,
     new_exporters_stand_behind, refusals_change_nothing, releasing_twice_is_once,
