@@ -3,7 +3,10 @@
 ghost use Rattle.pybuf_command.specs.Fits.{LoansFit};
 
 use super::*;
-use pybuf_value::{ByteList, Item, Made, PySlice, Scalar, ScalarList, Text, Twin, Value};
+use pybuf_methods::ByLender;
+use pybuf_value::{
+    ByteList, Halt, Item, Made, PySlice, Scalar, ScalarList, SnapKind, SnapList, Text, Twin, Value,
+};
 use std::alloc::Global;
 use std::test::Fail;
 
@@ -288,5 +291,42 @@ fn rows_of_a_range_are_copied(rt: HostRuntime) -> Result<(), Fail> {
         -1
     );
     assert_eq!(rt; exporter.exports(), 2);
+    Ok(())
+}
+
+/// The number of the reply to a search, read in place, where no handle is named.
+fn searched(exporter: &ExporterState, alloc: Global, value: Value) -> Made<i128> {
+    let lender = SnapList::new(alloc);
+    let names = ByLender { lender: &lender };
+    let verb = Verb::Contains { value };
+    if !reads_in_place(Subject::Own, &verb) {
+        return Ok(-3);
+    }
+    match exporter.read_in_place(Subject::Own, &verb, &names)? {
+        LocalReply::Truth(truth) => Ok(truth as i128),
+        _ => Ok(-2),
+    }
+}
+
+/// How many bytes a subject has, and how many that lie together.
+fn lengths(
+    exporter: &ExporterState,
+    alloc: Global,
+    subject: Subject,
+) -> Result<(usize, usize), Halt> {
+    let content = exporter.content_of(alloc, subject)?;
+    let run = exporter.run_of(subject)?;
+    Ok((content.as_slice().len(), run.len()))
+}
+
+#[test]
+fn bytes_are_read_in_place(rt: HostRuntime) -> Result<(), Fail> {
+    let bytes = abc(rt.alloc())?;
+    let exporter = ExporterState::new(rt.alloc(), ExporterKind::Bytes, bytes);
+    assert_eq!(rt; searched(&exporter, rt.alloc(), number(98))?, 1);
+    assert_eq!(rt; searched(&exporter, rt.alloc(), number(100))?, 0);
+    assert!(rt; exporter.kind_of(Subject::Own) == Some(SnapKind::Bytes));
+    assert!(rt; exporter.kind_of(Subject::View(0)).is_none());
+    assert!(rt; lengths(&exporter, rt.alloc(), Subject::Own) == Ok((3, 3)));
     Ok(())
 }
