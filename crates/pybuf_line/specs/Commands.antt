@@ -7,6 +7,7 @@ use Rattle.pybuf_bytes.specs.declared.options.ByteInnerNewOptions.{ByteInnerNewO
 use Rattle.pybuf_bytes.specs.declared.methods.MethodName.{MethodName}
 use Rattle.pybuf_bytes.specs.declared.methods.MethodCall.{MethodCall}
 use Rattle.pybuf_methods.specs.Arity.{takes}
+use Rattle.pybuf_command.specs.declared.kinds.ExporterKind.{ExporterKind}
 use Rattle.pybuf_command.specs.declared.commands.Verb.{Verb}
 use Rattle.pybuf_command.specs.declared.commands.Verb.TheVariants as verb
 use Rattle.pybuf_world.specs.declared.commands.Command.{Command}
@@ -224,6 +225,18 @@ written_arguments name (verb.Hex (Some sep) None) = written_value name sep ∷ [
 written_arguments name (verb.Hex (Some sep) (Some group)) = written_value name sep ∷ written_value name group ∷ []
 written_arguments name (verb.Call method) = written_call name method
 written_arguments name _ = []
+
+-- what is asked of a handle
+abbrev pub asked : ℕ → Option Verb → Option Command
+asked subject asks = do
+  v ← asks
+  Some (command.Do subject v)
+
+-- what makes a new exporter
+abbrev pub made : ExporterKind → Option ByteInnerNewOptions → Option Command
+made kind given = do
+  options ← given
+  Some (command.New kind options)
 
 -- `new KIND` and the options
 abbrev pub new_in : (List ℕ → Option ℕ) → List (List ℕ) → Option Command

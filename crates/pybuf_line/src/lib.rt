@@ -4,12 +4,14 @@
 mod inputs;
 mod laws;
 mod methods;
+mod options;
 mod parsing;
 mod scalars;
 mod spellings;
 mod splitting;
 mod texts;
 mod unread;
+mod verbs;
 mod words;
 
 pub use inputs::{check_lines, commands_of};

@@ -3,7 +3,7 @@ use Rattle.pybuf_line.specs.Scalars.{handle_in}
 use Rattle.pybuf_line.specs.Spellings.{value_in}
 use Rattle.pybuf_line.specs.Commands.{values_in}
 use Rattle.pybuf_line.proofs.Spelled.{onto, each_of}
-use Rattle.pybuf_line.proofs.parsing.values_of.Given as goal
+use Rattle.pybuf_line.proofs.verbs.values_of.Given as goal
 
 abbrev pub invariant-loop-word : goal.invariant-loop-word
 invariant-loop-word l =
