@@ -6,7 +6,7 @@ use crate::keys::number;
 use crate::plan::Plan;
 use crate::viewed::Viewed;
 use pybuf_command::{LoanList, LocalReply};
-use pybuf_value::{ByteList, Item, Made, Scalar, ScalarList, Value};
+use pybuf_value::{Item, Made, Scalar};
 use std::alloc::Global;
 
 /// What the items are.
@@ -58,18 +58,6 @@ pub fn count_of_item(reply: &LocalReply) -> i128 {
     }
 }
 
-/// The values of the record of a number.
-pub fn record_of(alloc: Global, number: usize) -> Made<ScalarList> {
-    let mut values = ScalarList::new(alloc);
-    let tag = ByteList::from_vec(Vec::from_slice(alloc, b"tags")?);
-    values.push(Scalar::Bytes(tag))?;
-    values.push(Scalar::Int((number % 65_536) as i128))?;
-    values.push(Scalar::Int(7))?;
-    values.push(Scalar::Int((number % 1_000_003) as i128))?;
-    values.push(Scalar::Int(4_000_000_000))?;
-    Ok(values)
-}
-
 impl Form {
     /// The format.
     fn format(self) -> &'static str {
@@ -89,17 +77,8 @@ impl Form {
         }
     }
 
-    /// The item that is written at a place.
-    fn value(self, alloc: Global, place: usize) -> Made<Value> {
-        match self {
-            Form::Byte => Ok(number(place % 251)),
-            Form::Number => Ok(number(place % 1_000_003)),
-            Form::Record => Ok(Value::Tuple(record_of(alloc, place)?)),
-        }
-    }
-
     /// A view of so many drawn items.
-    fn viewed(self, alloc: Global, plan: Plan) -> Made<Viewed> {
+    pub fn viewed(self, alloc: Global, plan: Plan) -> Made<Viewed> {
         let size = plan.count.saturating_mul(self.size());
         let whole = Viewed::drawn(alloc, plan.seed, size)?;
         whole.cast(alloc, self.format())
@@ -143,30 +122,58 @@ impl Kernel for GetItems {
 #[derive(Drop)]
 pub struct SetItems {
     viewed: Viewed,
-    form: Form,
+    limit: usize,
     count: usize,
 }
 
 impl SetItems {
-    /// Of items of this form.
-    pub fn of(alloc: Global, form: Form, plan: Plan) -> Made<SetItems> {
-        let viewed = form.viewed(alloc, plan)?;
+    /// Of items of one byte.
+    pub fn bytes(alloc: Global, plan: Plan) -> Made<SetItems> {
+        let viewed = Form::Byte.viewed(alloc, plan)?;
         Ok(SetItems {
             viewed,
-            form,
+            limit: 251,
             count: plan.count,
         })
+    }
+
+    /// Of numbers of four bytes.
+    pub fn numbers(alloc: Global, plan: Plan) -> Made<SetItems> {
+        let viewed = Form::Number.viewed(alloc, plan)?;
+        Ok(SetItems {
+            viewed,
+            limit: 1_000_003,
+            count: plan.count,
+        })
+    }
+
+    /// Writes the item at a place. The answer is whether it wasn't refused.
+    fn write(&mut self, alloc: Global, place: usize) -> Made<bool> {
+        let value = number(place.checked_rem(self.limit).unwrap_or(0));
+        let state = self.viewed.object.state_mut();
+        let loans = LoanList::new(alloc);
+        let reply = self
+            .viewed
+            .view
+            .setitem(state, number(place), value, loans)?;
+        Ok(is_done(&reply))
+    }
+}
+
+/// Whether a reply says that something was done.
+fn is_done(reply: &LocalReply) -> bool {
+    match reply {
+        LocalReply::Ok => true,
+        _ => false,
     }
 }
 
 impl Kernel for SetItems {
     fn call(&mut self, alloc: Global) -> Made<Answer> {
         for place in 0..self.count {
-            let value = self.form.value(alloc, place)?;
-            let state = self.viewed.object.state_mut();
-            self.viewed
-                .view
-                .setitem(state, number(place), value, LoanList::new(alloc))?;
+            if !self.write(alloc, place)? {
+                return Ok(Answer::Refused);
+            }
         }
         Ok(Answer::Nothing)
     }

@@ -8,7 +8,7 @@ use crate::kernel::{Measured, Stop, measure};
 use crate::making::{MakeViews, Making};
 use crate::moving::SetOwn;
 use crate::plan::Plan;
-use crate::records::{PackInto, Unpack};
+use crate::records::{PackInto, SetRecords, Unpack};
 use crate::strings::Call;
 use crate::worlds::Beside;
 use std::time::CpuClock;
@@ -96,9 +96,9 @@ fn measure_items<R: CpuClock + AllocGlobal>(
         "get-B" => measure(rt, plan, &mut GetItems::of(alloc, Form::Byte, plan)?)?,
         "get-i" => measure(rt, plan, &mut GetItems::of(alloc, Form::Number, plan)?)?,
         "get-record" => measure(rt, plan, &mut GetItems::of(alloc, Form::Record, plan)?)?,
-        "set-B" => measure(rt, plan, &mut SetItems::of(alloc, Form::Byte, plan)?)?,
-        "set-i" => measure(rt, plan, &mut SetItems::of(alloc, Form::Number, plan)?)?,
-        "set-record" => measure(rt, plan, &mut SetItems::of(alloc, Form::Record, plan)?)?,
+        "set-B" => measure(rt, plan, &mut SetItems::bytes(alloc, plan)?)?,
+        "set-i" => measure(rt, plan, &mut SetItems::numbers(alloc, plan)?)?,
+        "set-record" => measure(rt, plan, &mut SetRecords::drawn(alloc, plan)?)?,
         "unpack" => measure(rt, plan, &mut Unpack::drawn(alloc, plan)?)?,
         "pack-into" => measure(rt, plan, &mut PackInto::drawn(alloc, plan)?)?,
         "append-pop" => measure(rt, plan, &mut AppendPop::of(plan))?,
