@@ -211,8 +211,7 @@ def got(plan, format, size):
     return Kernel(call, lambda answer: sum([view[place] for place in range(plan.count)]))
 
 
-def get_records(plan):
-    """No view of Python's reads such items, so they are read by `struct`."""
+def unpacked(plan, is_marked):
     view = memoryview(bytearray(drawn(plan, 16 * plan.count)))
     unpack_from = RECORD.unpack_from
 
@@ -220,7 +219,8 @@ def get_records(plan):
         for place in range(plan.count):
             unpack_from(view, 16 * place)
 
-    return Kernel(call, lambda answer: sum([count_of(unpack_from(view, 16 * place)) for place in range(plan.count)]))
+    mark = lambda answer: sum([count_of(unpack_from(view, 16 * place)) for place in range(plan.count)])
+    return Kernel(call, mark, view if is_marked else None)
 
 
 def put(plan, format, size, limit):
@@ -234,8 +234,7 @@ def put(plan, format, size, limit):
     return Kernel(call, no_answer, object)
 
 
-def set_records(plan):
-    """No view of Python's writes such items, so they are written by `struct`."""
+def packed(plan):
     object = bytearray(drawn(plan, 16 * plan.count))
     view = memoryview(object)
     pack_into = RECORD.pack_into
@@ -263,13 +262,13 @@ def append_pop(plan):
 
 
 def compare(plan):
-    view = memoryview(bytearray(2 * drawn(plan, plan.size)))
-    first, second = view[: plan.size], view[plan.size :]
-    return Kernel(lambda: first == second, as_number)
+    object = bytearray(2 * drawn(plan, plan.size))
+    first, second = memoryview(object)[: plan.size], memoryview(object)[plan.size :]
+    return Kernel(lambda: first == second, as_number, object)
 
 
 def twins(plan):
-    content = drawn(plan, plan.size)
+    content = drawn_text(plan)
     return bytearray(content), bytearray(content)
 
 
@@ -295,7 +294,7 @@ def add_view(plan):
 
 
 def contains_byte(plan):
-    first = bytearray(drawn_text(plan))
+    first = twins(plan)[0]
     return Kernel(lambda: 122 in first, as_number, first)
 
 
@@ -358,12 +357,13 @@ KERNELS = {
     "casts": casts,
     "get-B": lambda plan: got(plan, "B", 1),
     "get-i": lambda plan: got(plan, "i", 4),
-    "get-record": get_records,
+    # no view of Python's reads or writes such items, so `struct` does
+    "get-record": lambda plan: unpacked(plan, False),
     "set-B": lambda plan: put(plan, "B", 1, 251),
     "set-i": lambda plan: put(plan, "i", 4, 1_000_003),
-    "set-record": set_records,
-    "unpack": get_records,
-    "pack-into": set_records,
+    "set-record": packed,
+    "unpack": lambda plan: unpacked(plan, True),
+    "pack-into": packed,
     "append-pop": append_pop,
     "compare": compare,
     "compare-beside": compare_beside,

@@ -53,14 +53,6 @@ impl Answer {
         }
     }
 
-    /// The parts that a call gives, or its refusal.
-    pub fn of_parts(answer: Tried<ByteLists>) -> Made<Answer> {
-        match answer? {
-            Outcome::Done(parts) => Ok(Answer::Parts(parts)),
-            Outcome::Refused(_) => Ok(Answer::Refused),
-        }
-    }
-
     /// The reply of an object.
     pub fn of_local(reply: LocalReply) -> Answer {
         match reply {

@@ -4,7 +4,6 @@ use crate::answers::Answer;
 use crate::items::count_of_item;
 use crate::kernel::Kernel;
 use crate::keys::number;
-use crate::plan::Plan;
 use pybuf_command::LoanList;
 use pybuf_object::PyByteArray;
 use pybuf_value::Made;
@@ -13,14 +12,7 @@ use std::alloc::Global;
 /// So many bytes appended to an empty bytearray, and popped again.
 #[derive(Clone, Copy)]
 pub struct AppendPop {
-    count: usize,
-}
-
-impl AppendPop {
-    /// So many bytes.
-    pub fn of(plan: Plan) -> AppendPop {
-        AppendPop { count: plan.count }
-    }
+    pub count: usize,
 }
 
 impl Kernel for AppendPop {

@@ -1,6 +1,7 @@
 //! Items of views, one by one, by their formats.
 
 use crate::answers::{Answer, mark_of_bytes};
+use crate::data::drawn;
 use crate::kernel::Kernel;
 use crate::keys::number;
 use crate::plan::Plan;
@@ -20,20 +21,17 @@ pub enum Form {
     Record,
 }
 
-/// The sum of bytes.
-fn sum_of_bytes(bytes: &[u8]) -> i128 {
-    let mut sum = 0u64;
-    for byte in bytes {
-        sum = sum.wrapping_add(*byte as u64);
-    }
-    sum as i128
-}
-
 /// What a value counts: a number itself, bytes their sum.
 fn count_of(value: &Scalar) -> i128 {
     match value {
         Scalar::Int(number) => *number,
-        Scalar::Bytes(bytes) => sum_of_bytes(bytes.as_slice()),
+        Scalar::Bytes(bytes) => {
+            let mut sum = 0u64;
+            for byte in bytes.as_slice() {
+                sum = sum.wrapping_add(*byte as u64);
+            }
+            sum as i128
+        }
         _ => -1,
     }
 }
@@ -59,48 +57,23 @@ pub fn count_of_item(reply: &LocalReply) -> i128 {
 }
 
 impl Form {
-    /// The format.
-    fn format(self) -> &'static str {
-        match self {
-            Form::Byte => "B",
-            Form::Number => "i",
-            Form::Record => "<4sHHII",
-        }
-    }
-
-    /// The number of bytes of an item.
-    fn size(self) -> usize {
-        match self {
-            Form::Byte => 1,
-            Form::Number => 4,
-            Form::Record => 16,
-        }
-    }
-
     /// A view of so many drawn items.
     pub fn viewed(self, alloc: Global, plan: Plan) -> Made<Viewed> {
-        let size = plan.count.saturating_mul(self.size());
-        let whole = Viewed::drawn(alloc, plan.seed, size)?;
-        whole.cast(alloc, self.format())
+        let (format, size) = match self {
+            Form::Byte => ("B", 1),
+            Form::Number => ("i", 4),
+            Form::Record => ("<4sHHII", 16),
+        };
+        let bytes = drawn(alloc, plan.seed, plan.count.saturating_mul(size))?;
+        Viewed::whole(alloc, bytes)?.cast(alloc, format, None)
     }
 }
 
 /// `view[k]` for each item.
 #[derive(Drop)]
 pub struct GetItems {
-    viewed: Viewed,
-    count: usize,
-}
-
-impl GetItems {
-    /// Of items of this form.
-    pub fn of(alloc: Global, form: Form, plan: Plan) -> Made<GetItems> {
-        let viewed = form.viewed(alloc, plan)?;
-        Ok(GetItems {
-            viewed,
-            count: plan.count,
-        })
-    }
+    pub viewed: Viewed,
+    pub count: usize,
 }
 
 impl Kernel for GetItems {
@@ -108,71 +81,32 @@ impl Kernel for GetItems {
         let mut sum = 0i128;
         for place in 0..self.count {
             let state = self.viewed.object.state_mut();
-            let reply = self
-                .viewed
-                .view
-                .getitem(state, number(place), LoanList::new(alloc))?;
+            let loans = LoanList::new(alloc);
+            let reply = self.viewed.view.getitem(state, number(place), loans)?;
             sum = sum.wrapping_add(count_of_item(&reply));
         }
         Ok(Answer::Number(sum))
     }
 }
 
-/// `view[k] = value` for each item.
+/// `view[k] = k % limit` for each item.
 #[derive(Drop)]
 pub struct SetItems {
-    viewed: Viewed,
-    limit: usize,
-    count: usize,
-}
-
-impl SetItems {
-    /// Of items of one byte.
-    pub fn bytes(alloc: Global, plan: Plan) -> Made<SetItems> {
-        let viewed = Form::Byte.viewed(alloc, plan)?;
-        Ok(SetItems {
-            viewed,
-            limit: 251,
-            count: plan.count,
-        })
-    }
-
-    /// Of numbers of four bytes.
-    pub fn numbers(alloc: Global, plan: Plan) -> Made<SetItems> {
-        let viewed = Form::Number.viewed(alloc, plan)?;
-        Ok(SetItems {
-            viewed,
-            limit: 1_000_003,
-            count: plan.count,
-        })
-    }
-
-    /// Writes the item at a place. The answer is whether it wasn't refused.
-    fn write(&mut self, alloc: Global, place: usize) -> Made<bool> {
-        let value = number(place.checked_rem(self.limit).unwrap_or(0));
-        let state = self.viewed.object.state_mut();
-        let loans = LoanList::new(alloc);
-        let reply = self
-            .viewed
-            .view
-            .setitem(state, number(place), value, loans)?;
-        Ok(is_done(&reply))
-    }
-}
-
-/// Whether a reply says that something was done.
-fn is_done(reply: &LocalReply) -> bool {
-    match reply {
-        LocalReply::Ok => true,
-        _ => false,
-    }
+    pub viewed: Viewed,
+    pub limit: usize,
+    pub count: usize,
 }
 
 impl Kernel for SetItems {
     fn call(&mut self, alloc: Global) -> Made<Answer> {
         for place in 0..self.count {
-            if !self.write(alloc, place)? {
-                return Ok(Answer::Refused);
+            let value = number(place.checked_rem(self.limit).unwrap_or(0));
+            let state = self.viewed.object.state_mut();
+            let loans = LoanList::new(alloc);
+            let view = &self.viewed.view;
+            match view.setitem(state, number(place), value, loans)? {
+                LocalReply::Ok => {}
+                _ => return Ok(Answer::Refused),
             }
         }
         Ok(Answer::Nothing)

@@ -37,12 +37,11 @@ impl From<io::Error> for Stop {
     }
 }
 
-/// What a run of a kernel says: its check sum, and the nanoseconds of processor time that its calls took
-/// where they were asked for.
+/// What a run of a kernel says: its check sum, and how long its calls took.
 #[derive(Clone, Copy)]
 pub struct Measured {
     pub mark: i128,
-    pub nanoseconds: Option<u128>,
+    pub nanoseconds: u128,
 }
 
 /// Calls a kernel so often, and gives the last answer; `first` where there is no call.
@@ -54,19 +53,12 @@ fn call_all<K: Kernel>(alloc: Global, kernel: &mut K, calls: u64, first: Answer)
     Ok(answer)
 }
 
-/// The processor time so far, where it is asked for.
-fn time_now<R: CpuClock>(rt: &R, plan: Plan) -> Result<Option<Duration>, io::Error> {
-    if !plan.is_timed {
-        return Ok(None);
-    }
-    Ok(Some(rt.process_cpu_time()?))
-}
-
-/// The nanoseconds from one time to another, where both are told.
-fn nanoseconds_between(start: Option<Duration>, end: Option<Duration>) -> Option<u128> {
-    match (start, end) {
-        (Some(start), Some(end)) => Some(end.saturating_sub(start).as_nanos()),
-        _ => None,
+/// The processor time so far; none where it isn't asked for.
+fn time_now<R: CpuClock>(rt: &R, plan: Plan) -> io::Result<Duration> {
+    if plan.is_timed {
+        rt.process_cpu_time()
+    } else {
+        Ok(Duration::ZERO)
     }
 }
 
@@ -83,6 +75,6 @@ pub fn measure<R: CpuClock + AllocGlobal, K: Kernel>(
     let end = time_now(rt, plan)?;
     Ok(Measured {
         mark: last.mark().wrapping_add(kernel.written()),
-        nanoseconds: nanoseconds_between(start, end),
+        nanoseconds: end.saturating_sub(start).as_nanos(),
     })
 }

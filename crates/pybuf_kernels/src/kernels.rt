@@ -1,16 +1,17 @@
 //! The kernels by their names.
 
-use crate::comparing::Compare;
 use crate::copying::ToBytes;
 use crate::growing::AppendPop;
 use crate::items::{Form, GetItems, SetItems};
 use crate::kernel::{Measured, Stop, measure};
 use crate::making::{MakeViews, Making};
-use crate::moving::SetOwn;
+use crate::own::Own;
 use crate::plan::Plan;
-use crate::records::{PackInto, SetRecords, Unpack};
+use crate::records::Records;
 use crate::strings::Call;
+use crate::viewed::{Part, Viewed};
 use crate::worlds::Beside;
+use crate::{own, records};
 use std::time::CpuClock;
 
 /// All names, in the order in which they are measured.
@@ -67,44 +68,92 @@ fn measure_views<R: CpuClock + AllocGlobal>(
     plan: Plan,
     name: &str,
 ) -> Result<Option<Measured>, Stop> {
-    let alloc = rt.alloc();
-    let measured = match name {
-        "tobytes-contiguous" => measure(rt, plan, &mut ToBytes::contiguous(alloc, plan)?)?,
-        "tobytes-stepped" => measure(rt, plan, &mut ToBytes::stepped(alloc, plan)?)?,
-        "tobytes-reversed" => measure(rt, plan, &mut ToBytes::reversed(alloc, plan)?)?,
-        "tobytes-planes" => measure(rt, plan, &mut ToBytes::planes(alloc, plan)?)?,
-        "set-overlapping" => measure(rt, plan, &mut SetOwn::overlapping(alloc, plan)?)?,
-        "set-itself" => measure(rt, plan, &mut SetOwn::reversed(alloc, plan)?)?,
-        "views" => measure(rt, plan, &mut MakeViews::by(Making::View, plan))?,
-        "slices" => measure(rt, plan, &mut MakeViews::by(Making::Slice, plan))?,
-        "slices-planes" => measure(rt, plan, &mut MakeViews::by(Making::SliceOfPlanes, plan))?,
-        "casts" => measure(rt, plan, &mut MakeViews::by(Making::Cast, plan))?,
-        "compare" => measure(rt, plan, &mut Compare::equal(alloc, plan)?)?,
+    let part = match name {
+        "tobytes-contiguous" => Part::Whole,
+        "tobytes-stepped" => Part::EveryOther,
+        "tobytes-reversed" => Part::Backwards,
+        "tobytes-planes" => Part::Planes,
         _ => return Ok(None),
     };
-    Ok(Some(measured))
+    let viewed = Viewed::part(rt.alloc(), plan, part)?;
+    Ok(Some(measure(rt, plan, &mut ToBytes { viewed })?))
 }
 
-/// Measures a kernel over items.
+/// Measures a kernel over two views of one object.
+fn measure_own<R: CpuClock + AllocGlobal>(
+    rt: &R,
+    plan: Plan,
+    name: &str,
+) -> Result<Option<Measured>, Stop> {
+    let doing = match name {
+        "set-overlapping" => own::Doing::Shift,
+        "set-itself" => own::Doing::Reverse,
+        "compare" => own::Doing::Compare,
+        _ => return Ok(None),
+    };
+    let mut kernel = Own::of(rt.alloc(), plan, doing)?;
+    Ok(Some(measure(rt, plan, &mut kernel)?))
+}
+
+/// Measures a kernel that makes views.
+fn measure_making<R: CpuClock + AllocGlobal>(
+    rt: &R,
+    plan: Plan,
+    name: &str,
+) -> Result<Option<Measured>, Stop> {
+    let making = match name {
+        "views" => Making::View,
+        "slices" => Making::Slice,
+        "slices-planes" => Making::SliceOfPlanes,
+        "casts" => Making::Cast,
+        _ => return Ok(None),
+    };
+    Ok(Some(measure(rt, plan, &mut MakeViews { making, plan })?))
+}
+
+/// Measures a kernel that reads items, or writes them.
 fn measure_items<R: CpuClock + AllocGlobal>(
     rt: &R,
     plan: Plan,
     name: &str,
 ) -> Result<Option<Measured>, Stop> {
-    let alloc = rt.alloc();
-    let measured = match name {
-        "get-B" => measure(rt, plan, &mut GetItems::of(alloc, Form::Byte, plan)?)?,
-        "get-i" => measure(rt, plan, &mut GetItems::of(alloc, Form::Number, plan)?)?,
-        "get-record" => measure(rt, plan, &mut GetItems::of(alloc, Form::Record, plan)?)?,
-        "set-B" => measure(rt, plan, &mut SetItems::bytes(alloc, plan)?)?,
-        "set-i" => measure(rt, plan, &mut SetItems::numbers(alloc, plan)?)?,
-        "set-record" => measure(rt, plan, &mut SetRecords::drawn(alloc, plan)?)?,
-        "unpack" => measure(rt, plan, &mut Unpack::drawn(alloc, plan)?)?,
-        "pack-into" => measure(rt, plan, &mut PackInto::drawn(alloc, plan)?)?,
-        "append-pop" => measure(rt, plan, &mut AppendPop::of(plan))?,
+    let (form, limit) = match name {
+        "get-B" => (Form::Byte, 0),
+        "get-i" => (Form::Number, 0),
+        "get-record" => (Form::Record, 0),
+        "set-B" => (Form::Byte, 251),
+        "set-i" => (Form::Number, 1_000_003),
         _ => return Ok(None),
     };
+    let viewed = form.viewed(rt.alloc(), plan)?;
+    let count = plan.count;
+    let measured = if limit == 0 {
+        measure(rt, plan, &mut GetItems { viewed, count })?
+    } else {
+        let mut kernel = SetItems {
+            viewed,
+            limit,
+            count,
+        };
+        measure(rt, plan, &mut kernel)?
+    };
     Ok(Some(measured))
+}
+
+/// Measures a kernel over records.
+fn measure_records<R: CpuClock + AllocGlobal>(
+    rt: &R,
+    plan: Plan,
+    name: &str,
+) -> Result<Option<Measured>, Stop> {
+    let doing = match name {
+        "set-record" => records::Doing::Set,
+        "unpack" => records::Doing::Unpack,
+        "pack-into" => records::Doing::PackInto,
+        _ => return Ok(None),
+    };
+    let mut kernel = Records::of(rt.alloc(), plan, doing)?;
+    Ok(Some(measure(rt, plan, &mut kernel)?))
 }
 
 /// Measures a kernel over two objects beside each other.
@@ -114,47 +163,34 @@ fn measure_beside<R: CpuClock + AllocGlobal>(
     name: &str,
 ) -> Result<Option<Measured>, Stop> {
     let alloc = rt.alloc();
-    let mut kernel = match name {
-        "set-contiguous" => Beside::set_contiguous(alloc, plan)?,
-        "set-stepped" => Beside::set_stepped(alloc, plan)?,
-        "set-reversed" => Beside::set_reversed(alloc, plan)?,
-        "set-planes" => Beside::set_planes(alloc, plan)?,
-        "compare-beside" => Beside::compare(alloc, plan)?,
-        "find-view" => Beside::find(alloc, plan)?,
-        "contains-byte" => Beside::contains(alloc, plan)?,
-        "add-view" => Beside::add(alloc, plan)?,
-        _ => return Ok(None),
-    };
-    Ok(Some(measure(rt, plan, &mut kernel)?))
+    if let Some(mut kernel) = Beside::assign(alloc, plan, name)? {
+        return Ok(Some(measure(rt, plan, &mut kernel)?));
+    }
+    match Beside::ask(alloc, plan, name)? {
+        Some(mut kernel) => Ok(Some(measure(rt, plan, &mut kernel)?)),
+        None => Ok(None),
+    }
 }
 
-/// Measures a method of strings of bytes.
+/// Measures a method of strings of bytes, or a bytearray that grows.
 fn measure_strings<R: CpuClock + AllocGlobal>(
     rt: &R,
     plan: Plan,
     name: &str,
 ) -> Result<Option<Measured>, Stop> {
     let alloc = rt.alloc();
-    let mut kernel = match name {
-        "find-byte" => Call::find(alloc, plan, b"z")?,
-        "find-three" => Call::find(alloc, plan, b"cba")?,
-        "find-end" => Call::find_end(alloc, plan)?,
-        "count-byte" => Call::count(alloc, plan, b"a")?,
-        "count-three" => Call::count(alloc, plan, b"abc")?,
-        "split-comma" => Call::split_at_commas(alloc, plan)?,
-        "split-blanks" => Call::split_at_blanks(alloc, plan)?,
-        "splitlines" => Call::split_lines(alloc, plan)?,
-        "join" => Call::join(alloc, plan)?,
-        "replace-same" => Call::replace(alloc, plan, b"xy")?,
-        "replace-longer" => Call::replace(alloc, plan, b"wxyz")?,
-        "translate" => Call::translate(alloc, plan)?,
-        "upper" => Call::upper(alloc, plan)?,
-        "strip" => Call::strip(alloc, plan)?,
-        "hex" => Call::hex(alloc, plan)?,
-        "fromhex" => Call::from_hex(alloc, plan)?,
-        _ => return Ok(None),
-    };
-    Ok(Some(measure(rt, plan, &mut kernel)?))
+    if name == "append-pop" {
+        let mut kernel = AppendPop { count: plan.count };
+        return Ok(Some(measure(rt, plan, &mut kernel)?));
+    }
+    if name == "join" {
+        let mut kernel = Call::join(alloc, plan)?;
+        return Ok(Some(measure(rt, plan, &mut kernel)?));
+    }
+    match Call::named(alloc, plan, name)? {
+        Some(mut kernel) => Ok(Some(measure(rt, plan, &mut kernel)?)),
+        None => Ok(None),
+    }
 }
 
 /// Measures the kernel of a name; none where there is no such kernel.
@@ -166,7 +202,16 @@ pub fn measure_named<R: CpuClock + AllocGlobal>(
     if let Some(measured) = measure_views(rt, plan, name)? {
         return Ok(Some(measured));
     }
+    if let Some(measured) = measure_own(rt, plan, name)? {
+        return Ok(Some(measured));
+    }
+    if let Some(measured) = measure_making(rt, plan, name)? {
+        return Ok(Some(measured));
+    }
     if let Some(measured) = measure_items(rt, plan, name)? {
+        return Ok(Some(measured));
+    }
+    if let Some(measured) = measure_records(rt, plan, name)? {
         return Ok(Some(measured));
     }
     if let Some(measured) = measure_beside(rt, plan, name)? {

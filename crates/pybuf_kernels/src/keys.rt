@@ -1,6 +1,5 @@
 //! Values as the methods of objects take them.
 
-use pybuf_command::{Loan, LoanList};
 use pybuf_value::{Made, PySlice, Scalar, Text, Value};
 use std::alloc::Global;
 
@@ -14,39 +13,20 @@ pub fn handle(handle: u64) -> Value {
     Value::One(Scalar::Handle(handle))
 }
 
-/// The slice `start:stop`.
-pub fn between(start: i128, stop: i128) -> Value {
-    Value::Slice(PySlice {
-        start: Scalar::Int(start),
-        stop: Scalar::Int(stop),
-        step: Scalar::None,
-    })
+/// A part of a slice, `None` where there is none.
+fn part(number: Option<i128>) -> Scalar {
+    match number {
+        Some(number) => Scalar::Int(number),
+        None => Scalar::None,
+    }
 }
 
-/// The slice `start:`.
-pub fn from(start: i128) -> Value {
+/// The slice `start:stop:step`.
+pub fn slice(start: Option<i128>, stop: Option<i128>, step: Option<i128>) -> Value {
     Value::Slice(PySlice {
-        start: Scalar::Int(start),
-        stop: Scalar::None,
-        step: Scalar::None,
-    })
-}
-
-/// The slice `:stop`.
-pub fn up_to(stop: i128) -> Value {
-    Value::Slice(PySlice {
-        start: Scalar::None,
-        stop: Scalar::Int(stop),
-        step: Scalar::None,
-    })
-}
-
-/// The slice `::step`.
-pub fn every(step: i128) -> Value {
-    Value::Slice(PySlice {
-        start: Scalar::None,
-        stop: Scalar::None,
-        step: Scalar::Int(step),
+        start: part(start),
+        stop: part(stop),
+        step: part(step),
     })
 }
 

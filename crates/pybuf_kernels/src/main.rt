@@ -7,7 +7,6 @@
 #![tactic(auto)]
 
 mod answers;
-mod comparing;
 mod copying;
 mod data;
 mod growing;
@@ -16,7 +15,7 @@ mod kernel;
 mod kernels;
 mod keys;
 mod making;
-mod moving;
+mod own;
 mod plan;
 mod records;
 mod strings;
@@ -32,12 +31,13 @@ use std::process::ExitCode;
 use std::time::CpuClock;
 use words::{name_of, plan_of, words_of};
 
-/// Prints what a kernel says.
-fn tell<R: Print>(rt: &R, name: &str, measured: Measured) -> io::Result<()> {
-    let mark = measured.mark;
-    match measured.nanoseconds {
-        Some(nanoseconds) => println!(rt; "{name} {mark} {nanoseconds}"),
-        None => println!(rt; "{name} {mark}"),
+/// Prints what a kernel says, and how long it took where that is asked for.
+fn tell<R: Print>(rt: &R, plan: Plan, name: &str, measured: Measured) -> io::Result<()> {
+    let Measured { mark, nanoseconds } = measured;
+    if plan.is_timed {
+        println!(rt; "{name} {mark} {nanoseconds}")
+    } else {
+        println!(rt; "{name} {mark}")
     }
 }
 
@@ -46,7 +46,7 @@ fn run<R: CpuClock + AllocGlobal + Print>(rt: &R, plan: Plan, word: &str) -> Res
     for name in NAMES {
         if word == "all" || word == name {
             if let Some(measured) = measure_named(rt, plan, name)? {
-                tell(rt, name, measured)?;
+                tell(rt, plan, name, measured)?;
             }
         }
     }

@@ -1,13 +1,13 @@
 //! Views that are made and released again.
 
 use crate::answers::Answer;
+use crate::data::drawn;
 use crate::kernel::Kernel;
-use crate::keys::{from, text};
+use crate::keys::{slice, text};
 use crate::plan::Plan;
-use crate::viewed::{PLANE, Viewed, view_of};
+use crate::viewed::{PLANE, Viewed, planes_of, view_of};
 use pybuf_command::{LoanList, LocalReply};
-use pybuf_object::PyMemoryView;
-use pybuf_value::{Made, Value};
+use pybuf_value::Made;
 use std::alloc::Global;
 
 /// How a view is made.
@@ -26,36 +26,31 @@ pub enum Making {
 /// So many views, each released before the next is made. A call begins with a new bytearray.
 #[derive(Clone, Copy)]
 pub struct MakeViews {
-    making: Making,
-    plan: Plan,
-}
-
-impl MakeViews {
-    /// Views that are made so.
-    pub fn by(making: Making, plan: Plan) -> MakeViews {
-        MakeViews { making, plan }
-    }
-
-    /// What the views are made of.
-    fn start(self, alloc: Global) -> Made<Viewed> {
-        let whole = Viewed::drawn(alloc, self.plan.seed, PLANE)?;
-        match self.making {
-            Making::SliceOfPlanes => whole.in_planes(alloc, PLANE),
-            _ => Ok(whole),
-        }
-    }
+    pub making: Making,
+    pub plan: Plan,
 }
 
 impl Making {
+    /// What the views are made of.
+    fn start(self, alloc: Global, seed: u64) -> Made<Viewed> {
+        let whole = Viewed::whole(alloc, drawn(alloc, seed, PLANE)?)?;
+        match self {
+            Making::SliceOfPlanes => {
+                let shape = Some(planes_of(alloc, PLANE)?);
+                whole.cast(alloc, "B", shape)
+            }
+            _ => Ok(whole),
+        }
+    }
+
     /// One more view.
     fn make(self, alloc: Global, viewed: &mut Viewed) -> Made<LocalReply> {
         let loans = LoanList::new(alloc);
         match self {
             Making::View => viewed.object.as_buffer(loans),
             Making::Slice | Making::SliceOfPlanes => {
-                viewed
-                    .view
-                    .getitem(viewed.object.state_mut(), from(1), loans)
+                let key = slice(Some(1), None, None);
+                viewed.view.getitem(viewed.object.state_mut(), key, loans)
             }
             Making::Cast => {
                 let format = text(alloc, "H")?;
@@ -69,7 +64,7 @@ impl Making {
 
 impl Kernel for MakeViews {
     fn call(&mut self, alloc: Global) -> Made<Answer> {
-        let mut viewed = self.start(alloc)?;
+        let mut viewed = self.making.start(alloc, self.plan.seed)?;
         let before = viewed.object.state().view_count();
         for _ in 0..self.plan.count {
             let reply = self.making.make(alloc, &mut viewed)?;

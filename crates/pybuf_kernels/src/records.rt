@@ -1,7 +1,6 @@
 //! Records by a format of `struct`.
 
 use crate::answers::{Answer, mark_of_bytes};
-use crate::data::drawn;
 use crate::items::{Form, count_of_values};
 use crate::kernel::Kernel;
 use crate::plan::Plan;
@@ -15,12 +14,24 @@ use std::alloc::Global;
 /// The number of bytes of a record.
 const RECORD: usize = 16;
 
-/// The format of a record; none where it is refused.
-fn record_format(alloc: Global) -> Made<Option<FormatSpec>> {
-    match FormatSpec::parse(alloc, b"<4sHHII")? {
-        Outcome::Done(format) => Ok(Some(format)),
-        Outcome::Refused(_) => Ok(None),
-    }
+/// What is done with each record.
+#[derive(Clone, Copy)]
+pub enum Doing {
+    /// `struct.unpack`.
+    Unpack,
+    /// `struct.pack_into`, over bytes that are lent once.
+    PackInto,
+    /// The same, where the bytes of a view are lent for each record: a view takes no record as an item.
+    Set,
+}
+
+/// So many records in a view, and their format.
+#[derive(Drop)]
+pub struct Records {
+    format: Option<FormatSpec>,
+    viewed: Viewed,
+    count: usize,
+    doing: Doing,
 }
 
 /// The values of the record of a number.
@@ -35,154 +46,105 @@ fn record_of(alloc: Global, number: usize) -> Made<ScalarList> {
     Ok(values)
 }
 
-/// What the values of a record count; -1 where they are refused.
-fn unpacked(alloc: Global, format: &FormatSpec, record: &[u8]) -> Made<i128> {
-    match format.unpack(alloc, record)? {
-        Outcome::Done(values) => Ok(count_of_values(values.as_slice())),
-        Outcome::Refused(_) => Ok(-1),
-    }
-}
-
 /// Writes the record of a number. The answer is whether it wasn't refused.
 fn pack(alloc: Global, format: &FormatSpec, room: &mut [u8], number: usize) -> Made<bool> {
     if room.len() != format.size() {
         return Ok(false);
     }
     let values = record_of(alloc, number)?;
-    Ok(
-        format
-            .pack_into(room, &values, &SnapList::new(alloc))
-            .is_ok(),
-    )
+    let pairs = SnapList::new(alloc);
+    Ok(format.pack_into(room, &values, &pairs).is_ok())
 }
 
-/// A format, and the bytes of so many records.
-#[derive(Drop)]
-struct Records {
-    format: Option<FormatSpec>,
-    bytes: Vec<u8>,
+/// The bytes of a buffer, lent to be written; none where there are none.
+fn bytes_of<'a>(state: &'a mut ExporterState, buffer: &PyBuffer) -> Option<&'a mut [u8]> {
+    if !buffer.is_live(state) {
+        return None;
+    }
+    buffer.as_contiguous_mut(state)
+}
+
+/// Reads each record, and sums up what they count.
+fn unpack_all(alloc: Global, format: &FormatSpec, bytes: &[u8]) -> Made<Answer> {
+    let mut sum = 0i128;
+    for record in bytes.chunks_exact(RECORD) {
+        let Outcome::Done(values) = format.unpack(alloc, record)? else {
+            return Ok(Answer::Refused);
+        };
+        sum = sum.wrapping_add(count_of_values(values.as_slice()));
+    }
+    Ok(Answer::Number(sum))
+}
+
+/// Writes each record.
+fn pack_all(alloc: Global, format: &FormatSpec, bytes: &mut [u8]) -> Made<Answer> {
+    let mut number = 0usize;
+    for room in bytes.chunks_exact_mut(RECORD) {
+        if !pack(alloc, format, room, number)? {
+            return Ok(Answer::Refused);
+        }
+        number = number.wrapping_add(1);
+    }
+    Ok(Answer::Nothing)
+}
+
+/// Writes the record of a number among the bytes of a buffer. The answer is whether it wasn't refused.
+fn set(
+    alloc: Global,
+    state: &mut ExporterState,
+    buffer: &PyBuffer,
+    format: &FormatSpec,
+    number: usize,
+) -> Made<bool> {
+    let start = number.saturating_mul(RECORD);
+    let end = start.saturating_add(RECORD);
+    let Some(bytes) = bytes_of(state, buffer) else {
+        return Ok(false);
+    };
+    match bytes.get_mut(start..end) {
+        Some(room) => pack(alloc, format, room, number),
+        None => Ok(false),
+    }
 }
 
 impl Records {
     /// So many drawn records.
-    fn drawn(alloc: Global, plan: Plan) -> Made<Records> {
-        let format = record_format(alloc)?;
-        let bytes = drawn(alloc, plan.seed, plan.count.saturating_mul(RECORD))?;
-        Ok(Records { format, bytes })
-    }
-}
-
-/// `struct.unpack` of each record.
-#[derive(Drop)]
-pub struct Unpack {
-    records: Records,
-}
-
-impl Unpack {
-    /// Of drawn records.
-    pub fn drawn(alloc: Global, plan: Plan) -> Made<Unpack> {
-        let records = Records::drawn(alloc, plan)?;
-        Ok(Unpack { records })
-    }
-}
-
-impl Kernel for Unpack {
-    fn call(&mut self, alloc: Global) -> Made<Answer> {
-        let Some(format) = &self.records.format else {
-            return Ok(Answer::Refused);
+    pub fn of(alloc: Global, plan: Plan, doing: Doing) -> Made<Records> {
+        let format = match FormatSpec::parse(alloc, b"<4sHHII")? {
+            Outcome::Done(format) => Some(format),
+            Outcome::Refused(_) => None,
         };
-        let mut sum = 0i128;
-        for record in self.records.bytes.as_slice().chunks_exact(RECORD) {
-            sum = sum.wrapping_add(unpacked(alloc, format, record)?);
-        }
-        Ok(Answer::Number(sum))
-    }
-}
-
-/// `struct.pack_into` of each record.
-#[derive(Drop)]
-pub struct PackInto {
-    records: Records,
-}
-
-impl PackInto {
-    /// Over drawn records.
-    pub fn drawn(alloc: Global, plan: Plan) -> Made<PackInto> {
-        let records = Records::drawn(alloc, plan)?;
-        Ok(PackInto { records })
-    }
-}
-
-impl Kernel for PackInto {
-    fn call(&mut self, alloc: Global) -> Made<Answer> {
-        let Some(format) = &self.records.format else {
-            return Ok(Answer::Refused);
-        };
-        let mut number = 0usize;
-        for room in self.records.bytes.as_mut_slice().chunks_exact_mut(RECORD) {
-            if !pack(alloc, format, room, number)? {
-                return Ok(Answer::Refused);
-            }
-            number = number.wrapping_add(1);
-        }
-        Ok(Answer::Nothing)
-    }
-
-    fn written(&self) -> i128 {
-        mark_of_bytes(self.records.bytes.as_slice())
-    }
-}
-
-/// Each record written where the bytes of a view lie. A view takes no record as an item.
-#[derive(Drop)]
-pub struct SetRecords {
-    format: Option<FormatSpec>,
-    viewed: Viewed,
-    count: usize,
-}
-
-impl SetRecords {
-    /// Over drawn records.
-    pub fn drawn(alloc: Global, plan: Plan) -> Made<SetRecords> {
-        let format = record_format(alloc)?;
-        let viewed = Form::Record.viewed(alloc, plan)?;
-        Ok(SetRecords {
+        Ok(Records {
             format,
-            viewed,
+            viewed: Form::Record.viewed(alloc, plan)?,
             count: plan.count,
+            doing,
         })
     }
 }
 
-/// The bytes of a record of a buffer, lent to be written; none where there are none.
-fn room_of<'a>(
-    state: &'a mut ExporterState,
-    buffer: &PyBuffer,
-    number: usize,
-) -> Option<&'a mut [u8]> {
-    if !buffer.is_live(state) {
-        return None;
-    }
-    let start = number.checked_mul(RECORD)?;
-    let end = start.checked_add(RECORD)?;
-    buffer.as_contiguous_mut(state)?.get_mut(start..end)
-}
-
-impl Kernel for SetRecords {
+impl Kernel for Records {
     fn call(&mut self, alloc: Global) -> Made<Answer> {
         let Some(format) = &self.format else {
             return Ok(Answer::Refused);
         };
         let buffer = PyBuffer::of(self.viewed.view.number());
-        for number in 0..self.count {
-            let Some(room) = room_of(self.viewed.object.state_mut(), &buffer, number) else {
-                return Ok(Answer::Refused);
-            };
-            if !pack(alloc, format, room, number)? {
-                return Ok(Answer::Refused);
+        match self.doing {
+            Doing::Unpack => unpack_all(alloc, format, self.viewed.object.borrow_buf()),
+            Doing::PackInto => match bytes_of(self.viewed.object.state_mut(), &buffer) {
+                Some(bytes) => pack_all(alloc, format, bytes),
+                None => Ok(Answer::Refused),
+            },
+            Doing::Set => {
+                for number in 0..self.count {
+                    let state = self.viewed.object.state_mut();
+                    if !set(alloc, state, &buffer, format, number)? {
+                        return Ok(Answer::Refused);
+                    }
+                }
+                Ok(Answer::Nothing)
             }
         }
-        Ok(Answer::Nothing)
     }
 
     fn written(&self) -> i128 {

@@ -16,8 +16,8 @@ use std::alloc::Global;
 /// A method, and what it is called with beside the bytes.
 #[derive(Drop)]
 enum Method {
-    Find(Vec<u8>),
-    Count(&'static [u8]),
+    Find(PyBytesInner),
+    Count(PyBytesInner),
     SplitAtBlanks,
     SplitAtCommas,
     SplitLines,
@@ -43,9 +43,9 @@ fn inner(alloc: Global, bytes: &[u8]) -> Made<PyBytesInner> {
 }
 
 /// A needle that is searched for everywhere.
-fn everywhere(alloc: Global, needle: &[u8]) -> Made<ByteInnerFindOptions> {
+fn everywhere(alloc: Global, needle: &PyBytesInner) -> Made<ByteInnerFindOptions> {
     Ok(ByteInnerFindOptions {
-        sub: Needle::Bytes(inner(alloc, needle)?),
+        sub: Needle::Bytes(inner(alloc, needle.as_bytes())?),
         start: None,
         end: None,
     })
@@ -59,7 +59,7 @@ fn first_place(bytes: &[u8], needle: &[u8]) -> Option<usize>
 }
 
 /// The place of a needle; -1 where it stands nowhere.
-fn find(alloc: Global, text: &PyBytesInner, needle: &[u8]) -> Made<Answer> {
+fn find(alloc: Global, text: &PyBytesInner, needle: &PyBytesInner) -> Made<Answer> {
     match text.find(alloc, everywhere(alloc, needle)?, first_place)? {
         Outcome::Done(Some(place)) => Ok(Answer::Number(place as i128)),
         Outcome::Done(None) => Ok(Answer::Number(-1)),
@@ -68,17 +68,19 @@ fn find(alloc: Global, text: &PyBytesInner, needle: &[u8]) -> Made<Answer> {
 }
 
 /// The number of a needle's matches.
-fn count(alloc: Global, text: &PyBytesInner, needle: &[u8]) -> Made<Answer> {
+fn count(alloc: Global, text: &PyBytesInner, needle: &PyBytesInner) -> Made<Answer> {
     match text.count(alloc, everywhere(alloc, needle)?)? {
         Outcome::Done(number) => Ok(Answer::Number(number as i128)),
         Outcome::Refused(_) => Ok(Answer::Refused),
     }
 }
 
-/// The parts between commas.
-fn split_at_commas(alloc: Global, text: &PyBytesInner) -> Made<Answer> {
-    let sep = Some(inner(alloc, b",")?);
-    Answer::of_parts(text.split(alloc, SplitArgs { sep, maxsplit: -1 }))
+/// The parts between commas, or between blanks.
+fn split(alloc: Global, text: &PyBytesInner, sep: Option<PyBytesInner>) -> Made<Answer> {
+    match text.split(alloc, SplitArgs { sep, maxsplit: -1 })? {
+        Outcome::Done(parts) => Ok(Answer::Parts(parts)),
+        Outcome::Refused(_) => Ok(Answer::Refused),
+    }
 }
 
 /// The digits.
@@ -101,117 +103,69 @@ fn table(alloc: Global) -> Made<ByteInnerTranslateOptions> {
     })
 }
 
-/// The last thousand bytes.
-fn last_thousand(alloc: Global, bytes: &[u8]) -> Made<Vec<u8>> {
-    let start = bytes.len().saturating_sub(1_000);
-    Ok(Vec::from_slice(alloc, bytes.get(start..).unwrap_or(b""))?)
+impl Method {
+    /// The method of a name, with what it is called with; none where there is no such name. `z` and `cba`
+    /// stand nowhere in a drawn text.
+    fn named(alloc: Global, name: &str, text: &PyBytesInner) -> Made<Option<Method>> {
+        let method = match name {
+            "find-byte" => Method::Find(inner(alloc, b"z")?),
+            "find-three" => Method::Find(inner(alloc, b"cba")?),
+            "find-end" => {
+                let start = text.len().saturating_sub(1_000);
+                let end = text.as_bytes().get(start..).unwrap_or(b"");
+                Method::Find(inner(alloc, end)?)
+            }
+            "count-byte" => Method::Count(inner(alloc, b"a")?),
+            "count-three" => Method::Count(inner(alloc, b"abc")?),
+            "split-comma" => Method::SplitAtCommas,
+            "split-blanks" => Method::SplitAtBlanks,
+            "splitlines" => Method::SplitLines,
+            "replace-same" => Method::Replace(inner(alloc, b"ab")?, inner(alloc, b"xy")?),
+            "replace-longer" => Method::Replace(inner(alloc, b"ab")?, inner(alloc, b"wxyz")?),
+            "translate" => Method::Translate(table(alloc)?),
+            "upper" => Method::Upper,
+            "strip" => Method::Strip,
+            "hex" => Method::Hex,
+            "fromhex" => Method::FromHex,
+            _ => return Ok(None),
+        };
+        Ok(Some(method))
+    }
 }
 
 impl Call {
-    /// A method of a drawn text.
-    fn of_text(alloc: Global, plan: Plan, method: Method) -> Made<Call> {
-        let text = PyBytesInner::from(drawn_text(alloc, plan.seed, plan.size)?);
-        Ok(Call { text, method })
-    }
-
-    /// `find` of a needle.
-    pub fn find(alloc: Global, plan: Plan, needle: &[u8]) -> Made<Call> {
-        let needle = Vec::from_slice(alloc, needle)?;
-        Call::of_text(alloc, plan, Method::Find(needle))
-    }
-
-    /// `find` of the last thousand bytes.
-    pub fn find_end(alloc: Global, plan: Plan) -> Made<Call> {
-        let text = drawn_text(alloc, plan.seed, plan.size)?;
-        let needle = last_thousand(alloc, text.as_slice())?;
-        let text = PyBytesInner::from(text);
-        Ok(Call {
-            text,
-            method: Method::Find(needle),
-        })
-    }
-
-    /// `count` of a needle.
-    pub fn count(alloc: Global, plan: Plan, needle: &'static [u8]) -> Made<Call> {
-        Call::of_text(alloc, plan, Method::Count(needle))
-    }
-
-    /// `split` at commas.
-    pub fn split_at_commas(alloc: Global, plan: Plan) -> Made<Call> {
-        Call::of_text(alloc, plan, Method::SplitAtCommas)
-    }
-
-    /// `split` at blanks.
-    pub fn split_at_blanks(alloc: Global, plan: Plan) -> Made<Call> {
-        Call::of_text(alloc, plan, Method::SplitAtBlanks)
-    }
-
-    /// `splitlines`.
-    pub fn split_lines(alloc: Global, plan: Plan) -> Made<Call> {
-        Call::of_text(alloc, plan, Method::SplitLines)
-    }
-
-    /// `join` of the parts between commas.
+    /// `join` of the parts of a drawn text between commas.
     pub fn join(alloc: Global, plan: Plan) -> Made<Call> {
         let text = PyBytesInner::from(drawn_text(alloc, plan.seed, plan.size)?);
-        let parts = match split_at_commas(alloc, &text)? {
+        let parts = match split(alloc, &text, Some(inner(alloc, b",")?))? {
             Answer::Parts(parts) => parts,
             _ => ByteLists::new(alloc),
         };
-        let text = inner(alloc, b", ")?;
         Ok(Call {
-            text,
+            text: inner(alloc, b", ")?,
             method: Method::Join(parts),
         })
     }
 
-    /// `replace` of `e` by others.
-    pub fn replace(alloc: Global, plan: Plan, to: &[u8]) -> Made<Call> {
-        let method = Method::Replace(inner(alloc, b"ab")?, inner(alloc, to)?);
-        Call::of_text(alloc, plan, method)
-    }
-
-    /// `translate` by a table.
-    pub fn translate(alloc: Global, plan: Plan) -> Made<Call> {
-        let method = Method::Translate(table(alloc)?);
-        Call::of_text(alloc, plan, method)
-    }
-
-    /// `upper`.
-    pub fn upper(alloc: Global, plan: Plan) -> Made<Call> {
-        Call::of_text(alloc, plan, Method::Upper)
-    }
-
-    /// `strip` of a quarter of blanks at each end.
-    pub fn strip(alloc: Global, plan: Plan) -> Made<Call> {
-        let text = PyBytesInner::from(padded(alloc, plan.size)?);
-        Ok(Call {
-            text,
-            method: Method::Strip,
-        })
-    }
-
-    /// `hex` of drawn bytes.
-    pub fn hex(alloc: Global, plan: Plan) -> Made<Call> {
-        let text = PyBytesInner::from(drawn(alloc, plan.seed, plan.size)?);
-        Ok(Call {
-            text,
-            method: Method::Hex,
-        })
-    }
-
-    /// `fromhex` of the digits of drawn bytes.
-    pub fn from_hex(alloc: Global, plan: Plan) -> Made<Call> {
-        let bytes = PyBytesInner::from(drawn(alloc, plan.seed, plan.size)?);
-        let digits = match hex(alloc, &bytes)? {
-            Answer::Bytes(digits) => digits,
-            _ => Vec::new(alloc),
+    /// The method of a name, on a drawn text, on drawn bytes or their digits, or on bytes between blanks.
+    pub fn named(alloc: Global, plan: Plan, name: &str) -> Made<Option<Call>> {
+        let bytes = match name {
+            "strip" => padded(alloc, plan.size)?,
+            "hex" => drawn(alloc, plan.seed, plan.size)?,
+            "fromhex" => {
+                let bytes = PyBytesInner::from(drawn(alloc, plan.seed, plan.size)?);
+                match hex(alloc, &bytes)? {
+                    Answer::Bytes(digits) => digits,
+                    _ => Vec::new(alloc),
+                }
+            }
+            _ => drawn_text(alloc, plan.seed, plan.size)?,
         };
-        let text = PyBytesInner::from(digits);
-        Ok(Call {
-            text,
-            method: Method::FromHex,
-        })
+        let text = PyBytesInner::from(bytes);
+        match Method::named(alloc, name, &text)? {
+            Some(method) => Ok(Some(Call { text, method })),
+            None => Ok(None),
+        }
     }
 }
 
@@ -219,16 +173,10 @@ impl Kernel for Call {
     fn call(&mut self, alloc: Global) -> Made<Answer> {
         let text = &self.text;
         match &self.method {
-            Method::Find(needle) => find(alloc, text, needle.as_slice()),
+            Method::Find(needle) => find(alloc, text, needle),
             Method::Count(needle) => count(alloc, text, needle),
-            Method::SplitAtCommas => split_at_commas(alloc, text),
-            Method::SplitAtBlanks => {
-                let blanks = SplitArgs {
-                    sep: None,
-                    maxsplit: -1,
-                };
-                Answer::of_parts(text.split(alloc, blanks))
-            }
+            Method::SplitAtCommas => split(alloc, text, Some(inner(alloc, b",")?)),
+            Method::SplitAtBlanks => split(alloc, text, None),
             Method::SplitLines => {
                 let lines = text.splitlines(alloc, SplitLinesArgs { keepends: false })?;
                 Ok(Answer::Parts(lines))

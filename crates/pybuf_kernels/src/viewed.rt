@@ -3,7 +3,8 @@ ghost use Rattle.std.specs.Prelude.{IfOk};
 ghost use Rattle.pybuf_command.specs.Fits.{LoansFit};
 
 use crate::data::drawn;
-use crate::keys::{every, text};
+use crate::keys::{slice, text};
+use crate::plan::Plan;
 use pybuf_command::{Loan, LoanList, LocalReply};
 use pybuf_object::{PyByteArray, PyMemoryView};
 use pybuf_value::{Made, Scalar, ScalarList, Value};
@@ -11,6 +12,19 @@ use std::alloc::Global;
 
 /// The number of bytes of a plane of 256 rows of 16 bytes.
 pub const PLANE: usize = 4_096;
+
+/// Which bytes of a bytearray a view has.
+#[derive(Clone, Copy)]
+pub enum Part {
+    /// All.
+    Whole,
+    /// Every other.
+    EveryOther,
+    /// All, from the last on.
+    Backwards,
+    /// Every other plane of 256 rows of 16.
+    Planes,
+}
 
 /// A bytearray, and one of its views.
 #[derive(Drop)]
@@ -27,13 +41,22 @@ pub fn view_of(reply: &LocalReply) -> PyMemoryView {
     }
 }
 
-/// The shape of so many bytes in planes of 256 rows of 16 bytes.
+/// The shape of so many bytes in planes.
 pub fn planes_of(alloc: Global, size: usize) -> Made<Value> {
     let mut shape = ScalarList::new(alloc);
     shape.push(Scalar::Int((size / PLANE) as i128))?;
     shape.push(Scalar::Int(256))?;
     shape.push(Scalar::Int(16))?;
     Ok(Value::Tuple(shape))
+}
+
+/// The loans of a command in which handle 0 names a view of its own object.
+pub fn lend_view(alloc: Global, view: &PyMemoryView) -> Made<LoanList>
+    ensures { IfOk result LoansFit }
+{
+    let mut loans = LoanList::new(alloc);
+    loans.push((0, Loan::View(view.number())))?;
+    Ok(loans)
 }
 
 impl Viewed {
@@ -44,51 +67,38 @@ impl Viewed {
         Ok(Viewed { object, view })
     }
 
-    /// A bytearray of so many drawn bytes, and a view of all.
-    pub fn drawn(alloc: Global, seed: u64, size: usize) -> Made<Viewed> {
-        Viewed::whole(alloc, drawn(alloc, seed, size)?)
-    }
-
     /// The view that a slice of the view makes.
-    pub fn sliced(self, alloc: Global, key: Value) -> Made<Viewed> {
-        let Viewed { mut object, view } = self;
-        let reply = view.getitem(object.state_mut(), key, LoanList::new(alloc))?;
-        let view = view_of(&reply);
-        Ok(Viewed { object, view })
+    pub fn sliced(&mut self, alloc: Global, key: Value) -> Made<PyMemoryView> {
+        let state = self.object.state_mut();
+        let reply = self.view.getitem(state, key, LoanList::new(alloc))?;
+        Ok(view_of(&reply))
     }
 
-    /// The view with items of another format.
-    pub fn cast(self, alloc: Global, format: &str) -> Made<Viewed> {
+    /// The view with items of another format, or in a shape.
+    pub fn cast(self, alloc: Global, format: &str, shape: Option<Value>) -> Made<Viewed> {
         let Viewed { mut object, view } = self;
         let format = text(alloc, format)?;
-        let reply = view.cast(object.state_mut(), format, None, LoanList::new(alloc))?;
+        let loans = LoanList::new(alloc);
+        let reply = view.cast(object.state_mut(), format, shape, loans)?;
         let view = view_of(&reply);
         Ok(Viewed { object, view })
     }
 
-    /// The view in planes.
-    pub fn in_planes(self, alloc: Global, size: usize) -> Made<Viewed> {
-        let Viewed { mut object, view } = self;
-        let format = text(alloc, "B")?;
-        let shape = Some(planes_of(alloc, size)?);
-        let reply = view.cast(object.state_mut(), format, shape, LoanList::new(alloc))?;
-        let view = view_of(&reply);
-        Ok(Viewed { object, view })
+    /// A part of drawn bytes that has so many as the plan says.
+    pub fn part(alloc: Global, plan: Plan, part: Part) -> Made<Viewed> {
+        let twice = plan.size.saturating_mul(2);
+        let (size, step) = match part {
+            Part::Whole => (plan.size, 1),
+            Part::EveryOther => (twice, 2),
+            Part::Backwards => (plan.size, -1),
+            Part::Planes => (twice, 2),
+        };
+        let mut viewed = Viewed::whole(alloc, drawn(alloc, plan.seed, size)?)?;
+        if let Part::Planes = part {
+            let shape = Some(planes_of(alloc, size)?);
+            viewed = viewed.cast(alloc, "B", shape)?;
+        }
+        viewed.view = viewed.sliced(alloc, slice(None, None, Some(step)))?;
+        Ok(viewed)
     }
-
-    /// Every other plane of twice as many drawn bytes.
-    pub fn every_other_plane(alloc: Global, seed: u64, size: usize) -> Made<Viewed> {
-        let whole = Viewed::drawn(alloc, seed, size.saturating_mul(2))?;
-        let planes = whole.in_planes(alloc, size.saturating_mul(2))?;
-        planes.sliced(alloc, every(2))
-    }
-}
-
-/// The loans of a command in which handle 0 names a view of its own object.
-pub fn lend_view(alloc: Global, view: &PyMemoryView) -> Made<LoanList>
-    ensures { IfOk result LoansFit }
-{
-    let mut loans = LoanList::new(alloc);
-    loans.push((0, Loan::View(view.number())))?;
-    Ok(loans)
 }

@@ -3,7 +3,7 @@
 use crate::answers::{Answer, mark_of_bytes};
 use crate::data::{drawn, drawn_text};
 use crate::kernel::Kernel;
-use crate::keys::{between, every, handle, number, text};
+use crate::keys::{handle, number, slice, text};
 use crate::plan::Plan;
 use crate::viewed::planes_of;
 use pybuf_bytes::{ByteInnerNewOptions, MethodCall, MethodName};
@@ -54,13 +54,13 @@ fn world_of(alloc: Global, first: Vec<u8>, second: Vec<u8>) -> Made<World> {
     Ok(world)
 }
 
-/// `set` of a slice of what a handle names, with what another names.
+/// A slice of what a handle names, set to what another names.
 fn set(subject: u64, key: Value, source: u64) -> Command {
     let value = handle(source);
     ask(subject, Verb::Set { key, value })
 }
 
-/// `call` of a method of handle 0 with handle 3.
+/// A method of handle 0, called with handle 3.
 fn call(alloc: Global, name: MethodName) -> Made<Command> {
     let mut args = ValueList::new(alloc);
     args.push(handle(3))?;
@@ -68,107 +68,86 @@ fn call(alloc: Global, name: MethodName) -> Made<Command> {
     Ok(ask(0, Verb::Call { method }))
 }
 
-/// The reply of a world as an answer.
-fn answer_of(reply: Reply) -> Answer {
-    match reply {
-        Reply::Ok => Answer::Nothing,
-        Reply::Bytes(bytes) => Answer::Bytes(bytes.into_vec()),
-        Reply::Truth(truth) => Answer::Number(truth as i128),
-        Reply::Item(Item::One(Scalar::Int(number))) => Answer::Number(number),
-        _ => Answer::Refused,
-    }
+/// Makes handle 4: the items of handle 3 that `::step` picks.
+fn pick(world: &mut World, step: i128) -> Made<()> {
+    let key = slice(None, None, Some(step));
+    prepare(world, ask(3, Verb::Get { key }))
+}
+
+/// Makes handle 4, which is handle 3 in planes of so many bytes, and of it handle 5, every other plane.
+fn pick_planes(alloc: Global, world: &mut World, size: usize) -> Made<()> {
+    let format = text(alloc, "B")?;
+    let shape = Some(planes_of(alloc, size)?);
+    prepare(world, ask(3, Verb::Cast { format, shape }))?;
+    let key = slice(None, None, Some(2));
+    prepare(world, ask(4, Verb::Get { key }))
 }
 
 impl Beside {
-    /// `view[::1] = other`, where the other is a view of another bytearray.
-    pub fn set_contiguous(alloc: Global, plan: Plan) -> Made<Beside> {
-        let first = vec![in alloc; 0u8; plan.size]?;
-        let world = world_of(alloc, first, drawn(alloc, plan.seed, plan.size)?)?;
-        let command = set(1, every(1), 3);
-        Ok(Beside { world, command })
+    /// An assignment to a slice; none where no such one has the name. A slice of a view takes one dimension
+    /// alone, so planes are assigned to a slice of a bytearray.
+    pub fn assign(alloc: Global, plan: Plan, name: &str) -> Made<Option<Beside>> {
+        let twice = plan.size.saturating_mul(2);
+        let (target, source) = match name {
+            "set-contiguous" | "set-reversed" => (plan.size, plan.size),
+            "set-stepped" => (twice, twice),
+            "set-planes" => (plan.size, twice),
+            _ => return Ok(None),
+        };
+        let first = vec![in alloc; 0u8; target]?;
+        let mut world = world_of(alloc, first, drawn(alloc, plan.seed, source)?)?;
+        let all = slice(None, None, Some(1));
+        let command = match name {
+            "set-stepped" => {
+                pick(&mut world, 2)?;
+                set(1, slice(None, None, Some(2)), 4)
+            }
+            "set-reversed" => {
+                pick(&mut world, -1)?;
+                set(1, all, 4)
+            }
+            "set-planes" => {
+                pick_planes(alloc, &mut world, source)?;
+                set(0, slice(Some(0), Some(plan.size as i128), None), 5)
+            }
+            _ => set(1, all, 3),
+        };
+        Ok(Some(Beside { world, command }))
     }
 
-    /// `view[::2] = other[::2]`.
-    pub fn set_stepped(alloc: Global, plan: Plan) -> Made<Beside> {
-        let size = plan.size.saturating_mul(2);
-        let first = vec![in alloc; 0u8; size]?;
-        let mut world = world_of(alloc, first, drawn(alloc, plan.seed, size)?)?;
-        prepare(&mut world, ask(3, Verb::Get { key: every(2) }))?;
-        let command = set(1, every(2), 4);
-        Ok(Beside { world, command })
-    }
-
-    /// `view[::1] = other[::-1]`.
-    pub fn set_reversed(alloc: Global, plan: Plan) -> Made<Beside> {
-        let first = vec![in alloc; 0u8; plan.size]?;
-        let mut world = world_of(alloc, first, drawn(alloc, plan.seed, plan.size)?)?;
-        prepare(&mut world, ask(3, Verb::Get { key: every(-1) }))?;
-        let command = set(1, every(1), 4);
-        Ok(Beside { world, command })
-    }
-
-    /// `object[0:size] = planes[::2]`: a slice of a view takes one dimension alone, one of a bytearray any.
-    pub fn set_planes(alloc: Global, plan: Plan) -> Made<Beside> {
-        let size = plan.size.saturating_mul(2);
-        let first = vec![in alloc; 0u8; plan.size]?;
-        let mut world = world_of(alloc, first, drawn(alloc, plan.seed, size)?)?;
-        let format = text(alloc, "B")?;
-        let shape = Some(planes_of(alloc, size)?);
-        prepare(&mut world, ask(3, Verb::Cast { format, shape }))?;
-        prepare(&mut world, ask(4, Verb::Get { key: every(2) }))?;
-        let command = set(0, between(0, plan.size as i128), 5);
-        Ok(Beside { world, command })
-    }
-
-    /// A world of the same drawn bytes twice.
-    fn twins(alloc: Global, plan: Plan) -> Made<World> {
-        let first = drawn(alloc, plan.seed, plan.size)?;
-        let second = drawn(alloc, plan.seed, plan.size)?;
-        world_of(alloc, first, second)
-    }
-
-    /// `view == other` of equal views.
-    pub fn compare(alloc: Global, plan: Plan) -> Made<Beside> {
-        let world = Beside::twins(alloc, plan)?;
-        let other = handle(3);
-        let command = ask(
-            1,
-            Verb::Compare {
-                op: CompareOp::Eq,
-                other,
-            },
-        );
-        Ok(Beside { world, command })
-    }
-
-    /// `object.find(other)`, where the other is a view of the same bytes in another object.
-    pub fn find(alloc: Global, plan: Plan) -> Made<Beside> {
-        let world = Beside::twins(alloc, plan)?;
-        let command = call(alloc, MethodName::Find)?;
-        Ok(Beside { world, command })
-    }
-
-    /// `object + other`, where the other is a view.
-    pub fn add(alloc: Global, plan: Plan) -> Made<Beside> {
-        let world = Beside::twins(alloc, plan)?;
-        let command = call(alloc, MethodName::Add)?;
-        Ok(Beside { world, command })
-    }
-
-    /// `byte in object`, where it stands nowhere.
-    pub fn contains(alloc: Global, plan: Plan) -> Made<Beside> {
+    /// Something that is asked of one bytearray, or of its view, with another of the same bytes, or with a
+    /// view of that; none where no such one has the name.
+    pub fn ask(alloc: Global, plan: Plan, name: &str) -> Made<Option<Beside>> {
+        let command = match name {
+            "compare-beside" => {
+                let other = handle(3);
+                let op = CompareOp::Eq;
+                ask(1, Verb::Compare { op, other })
+            }
+            "find-view" => call(alloc, MethodName::Find)?,
+            "add-view" => call(alloc, MethodName::Add)?,
+            "contains-byte" => {
+                let value = number(b'z' as usize);
+                ask(0, Verb::Contains { value })
+            }
+            _ => return Ok(None),
+        };
         let first = drawn_text(alloc, plan.seed, plan.size)?;
-        let world = world_of(alloc, first, Vec::new(alloc))?;
-        let value = number(b'z' as usize);
-        let command = ask(0, Verb::Contains { value });
-        Ok(Beside { world, command })
+        let second = drawn_text(alloc, plan.seed, plan.size)?;
+        let world = world_of(alloc, first, second)?;
+        Ok(Some(Beside { world, command }))
     }
 }
 
 impl Kernel for Beside {
     fn call(&mut self, _alloc: Global) -> Made<Answer> {
-        let reply = self.world.step(&self.command)?;
-        Ok(answer_of(reply))
+        match self.world.step(&self.command)? {
+            Reply::Ok => Ok(Answer::Nothing),
+            Reply::Bytes(bytes) => Ok(Answer::Bytes(bytes.into_vec())),
+            Reply::Truth(truth) => Ok(Answer::Number(truth as i128)),
+            Reply::Item(Item::One(Scalar::Int(number))) => Ok(Answer::Number(number)),
+            _ => Ok(Answer::Refused),
+        }
     }
 
     fn written(&self) -> i128 {
