@@ -254,8 +254,11 @@ def append_pop(plan):
         for _ in range(plan.count):
             object.pop()
 
-    # the bytes that are taken out are those that were put in
-    return Kernel(call, lambda answer: sum([place % 251 for place in range(plan.count)]))
+    def mark(answer):
+        object = bytearray([place % 251 for place in range(plan.count)])
+        return sum([object.pop() for _ in range(plan.count)])
+
+    return Kernel(call, mark)
 
 
 # comparisons
