@@ -1,7 +1,7 @@
 """Compares what the documents show with what is run as a test, and ends with status 1 where they differ.
 
 - A block of Rust or of definitions has to stand word for word in a source of `crates/`.
-- A block of changes has to begin with the name of a file, in which the lines that it takes out or leaves stand.
+- A block of changes has to begin with the name of a file, in which its lines before or after the change stand.
 - An input of the program has to be an example of `examples/`, with the output that the document shows.
 - A line in a table of `docs/COMMANDS.md` has to stand in an example, with the reply of the table.
 - A file or a folder that a document names has to be there.
@@ -49,9 +49,10 @@ def check_changes(document, line, block):
         report(document, line, f"{block[0]} names no file")
         return
     before = [part[1:] for part in block[1:] if part[:1] in (" ", "-")]
+    after = [part[1:] for part in block[1:] if part[:1] in (" ", "+")]
     source = path.read_text().split("\n")
-    if not any(source[at : at + len(before)] == before for at in range(len(source))):
-        report(document, line, f"the lines before the change don't stand in {path.relative_to(ROOT)}")
+    if not any(source[at : at + len(form)] == form for form in (before, after) for at in range(len(source))):
+        report(document, line, f"neither the lines before the change nor those after it stand in {path.relative_to(ROOT)}")
 
 
 def check_blocks(document, lines, kept):
