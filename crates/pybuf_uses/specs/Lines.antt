@@ -1,8 +1,7 @@
 -- The lines of a socket's buffer.
-use Rattle.std.specs.Prelude.{◌≡◌, ◌+◌, ◌-◌, ◌≤◌, ◌==◌, ℕ, Bool, true, false, List, [], ◌∷◌, ◌++◌, length, map, take, drop, position, Option, Some, None}
+use Rattle.std.specs.Prelude.{◌≡◌, ◌+◌, ◌-◌, ◌≤◌, ◌==◌, ℕ, Bool, true, false, List, [], ◌∷◌, ◌++◌, length, map, take, drop, slice_range, position, Option, Some, None}
 use Rattle.std.specs.Char.{to_ascii_uppercase}
 use Rattle.pybuf_desc.specs.Layouts.{bytes_layout}
-use Rattle.pybuf_command.specs.declared.kinds.ExporterKind.TheVariants as kinds
 use Rattle.pybuf_state.specs.Exporter.{Exporter}
 use Rattle.pybuf_state.specs.Live.{is_live, layout_of}
 
@@ -48,12 +47,23 @@ sent b = record { answers = []; waiting = b.waiting; free = b.free + length b.an
 
 -- what a room holds, of which the answers end at one place and what came in at another
 abbrev pub lines_in : List ℕ → ℕ → ℕ → Lines
-lines_in room begin end = record { answers = take begin room; waiting = drop begin (take end room); free = length room - end }
+lines_in room begin end = record { answers = take begin room; waiting = slice_range room begin end; free = length room - end }
 
--- What holds of a buffer: one unreleased view spans its bytearray, and the places are in order.
-pub record IsLineBuffer (e : Exporter) (view begin end : ℕ) : Type 0 where
-  pub kind : e.kind ≡ kinds.ByteArray
+-- a room with bytes in place of as many from a place on
+abbrev pub overwritten : List ℕ → ℕ → List ℕ → List ℕ
+overwritten room place bytes = take place room ++ (bytes ++ drop (place + length bytes) room)
+
+-- the same of the room that an exporter is
+abbrev pub with_room : Exporter → List ℕ → Exporter
+with_room e room = record e { bytes = room }
+
+-- one unreleased view, which may be written, spans all bytes
+pub record IsSpanned (e : Exporter) (view : ℕ) : Type 0 where
   pub live : is_live e view ≡ true
   pub whole : layout_of e view ≡ bytes_layout (length e.bytes) false
+
+-- What holds of a buffer: such a view spans its room, and the places are in order.
+pub record IsLineBuffer (e : Exporter) (view begin end : ℕ) : Type 0 where
+  pub spanned : IsSpanned e view
   pub ordered : begin ≤ end
   pub inside : end ≤ length e.bytes

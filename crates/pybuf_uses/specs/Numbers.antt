@@ -17,7 +17,7 @@ IsLent a = Contains a.out true
 
 -- the numbers that bytes spell: two bytes each, the low one first
 abbrev pub numbers_of : List ℕ → List ℕ
-numbers_of (low ∷ high ∷ bytes) = low + 256 * high ∷ numbers_of bytes
+numbers_of (low ∷ high ∷ bytes) = (low + 256 * high) ∷ numbers_of bytes
 numbers_of _ = []
 
 -- what an exporter holds of them

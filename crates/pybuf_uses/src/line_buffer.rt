@@ -1,5 +1,6 @@
 //! The lines that come in over a socket, which are answered where they lie.
-ghost use Rattle.std.specs.Prelude.{◌≡◌, ◌++◌, ◌∷◌, ◌-◌, ◌+◌, [], length, min, take, drop, map, is_some, None, Some, IfOk, MatchOption};
+ghost use Rattle.std.specs.Prelude.{◌≡◌, ◌≤◌, ◌+◌, length, min, take, slice_range, is_some, IfOk, MatchOption};
+ghost use Rattle.pybuf_uses.specs.Lines.{IsSpanned, line_len_of, answer_of, overwritten, with_room};
 
 use pybuf_object::PyByteArray;
 use pybuf_value::Made;
@@ -38,18 +39,34 @@ fn line_len(bytes: &[u8]) -> Option<usize>
     bytes.iter().position(|byte| *byte == b'\n')
 }
 
-/// Puts bytes in place of others through a view of all bytes.
-fn write_at(state: &mut ExporterState, view: usize, place: usize, bytes: &[u8]) {
+/// Puts bytes in place of as many from a place on.
+fn write_at(state: &mut ExporterState, view: usize, place: usize, bytes: &[u8])
+    requires spanned { IsSpanned state.old view }
+    requires inside { place + length bytes.now ≤ length state.old.bytes }
+    ensures { state.new ≡ with_room state.old (overwritten state.old.bytes place bytes.now) }
+{
     let room = state.contiguous_bytes_mut(view);
     room[place..place + bytes.len()].copy_from_slice(bytes);
 }
 
-/// Puts the letters from one place up to another in upper case, through a view of all bytes.
-fn raise(state: &mut ExporterState, view: usize, from: usize, to: usize) {
-    let room = state.contiguous_bytes_mut(view);
-    for byte in &mut room[from..to] {
-        byte.make_ascii_uppercase();
-    }
+/// Puts the letters from one place up to another in upper case.
+fn raise(state: &mut ExporterState, view: usize, from: usize, to: usize)
+    requires spanned { IsSpanned state.old view }
+    requires ordered { from ≤ to }
+    requires inside { to ≤ length state.old.bytes }
+    ensures { state.new ≡ with_room state.old (overwritten state.old.bytes from (answer_of (slice_range state.old.bytes from to))) }
+{
+    state.contiguous_bytes_mut(view)[from..to].make_ascii_uppercase();
+}
+
+/// Moves the bytes from one place up to another to the front.
+fn to_front(state: &mut ExporterState, view: usize, from: usize, to: usize)
+    requires spanned { IsSpanned state.old view }
+    requires ordered { from ≤ to }
+    requires inside { to ≤ length state.old.bytes }
+    ensures { state.new ≡ with_room state.old (overwritten state.old.bytes 0 (slice_range state.old.bytes from to)) }
+{
+    state.contiguous_bytes_mut(view).copy_within(from..to, 0);
 }
 
 impl LineBuffer {
@@ -87,8 +104,10 @@ impl LineBuffer {
         ensures { MatchOption result (next_line self.now ≡ None) (λ line. next_line self.now ≡ Some line.now) }
     {
         let waiting = &self.room.borrow_buf()[self.begin..self.end];
-        let len = line_len(waiting)?;
-        Some(&waiting[..len])
+        match line_len(waiting) {
+            Some(len) => Some(&waiting[..len]),
+            None => None,
+        }
     }
 
     /// Answers that line: its answer lies in its place then. Without such a line nothing is done.
@@ -96,13 +115,15 @@ impl LineBuffer {
         ensures value { result ≡ is_some (next_line self.old) }
         ensures after { self.new ≡ answered self.old }
     {
-        let Some(len) = line_len(&self.room.borrow_buf()[self.begin..self.end]) else {
-            return false;
-        };
-        let end = self.begin + len + 1;
-        raise(self.room.state_mut(), self.view, self.begin, end);
-        self.begin = end;
-        true
+        match line_len(&self.room.borrow_buf()[self.begin..self.end]) {
+            Some(len) => {
+                let end = self.begin + len + 1;
+                raise(self.room.state_mut(), self.view, self.begin, end);
+                self.begin = end;
+                true
+            }
+            None => false,
+        }
     }
 
     /// The answers that weren't sent.
@@ -116,10 +137,7 @@ impl LineBuffer {
     pub fn sent(&mut self)
         ensures { self.new ≡ sent self.old }
     {
-        let state = self.room.state_mut();
-        state
-            .contiguous_bytes_mut(self.view)
-            .copy_within(self.begin..self.end, 0);
+        to_front(self.room.state_mut(), self.view, self.begin, self.end);
         self.end -= self.begin;
         self.begin = 0;
     }
