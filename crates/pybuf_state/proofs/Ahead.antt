@@ -2,9 +2,9 @@
 use Rattle.std.proofs.Common.{◌≡◌, ◌<◌, ◌≤◌, ◌+◌, ◌++◌, ◌==◌, ℕ, Bool, true, false, cond, List, [], ◌∷◌, Option, Some, None, zero, suc, length, take, drop, get_or, arith, refl, ap, sym, subst, ◌∙◌, ◌&&◌}
 use Rattle.std.specs.Prelude.{All}
 use Rattle.std.proofs.lemmas.Bool.{eq-eqb}
-use Rattle.std.proofs.lemmas.List.{take_more}
+use Rattle.std.proofs.lemmas.List.{take_more, take-append-drop}
 use Rattle.std.proofs.lemmas.List.Elements.{All-head, All-tail, All-push}
-use Rattle.std.proofs.lemmas.List.Folds.{list_all_more}
+use Rattle.std.proofs.lemmas.List.Folds.{list_all_more, list_all-append}
 use Rattle.std.specs.List.{list_all}
 use Rattle.pybuf_command.specs.declared.loans.Loan.{Loan}
 use Rattle.pybuf_command.specs.Loans.{loan_of}
@@ -45,3 +45,9 @@ known_more e loans handles n d inside there all same known =
     let front : All (Named e) (take (suc n) loans) = subst (λ (k : ℕ). All (Named e) (take k loans)) next all in
     let here : is_known e loans (get_or handles n 0) ≡ true = ap (is_known e loans) (sym same) ∙ known_at e loans n d inside front in
     list_all_more (is_known e loans) handles n 0 there ∙ (ap (λ t. t && is_known e loans (get_or handles n 0)) known ∙ here)
+
+-- the handles ahead are known, so all are where those behind are
+pub all_by_rest : (p : ℕ → Bool) (handles : List ℕ) (n : ℕ) → list_all p (take n handles) ≡ true → list_all p (drop n handles) ≡ list_all p handles
+all_by_rest p handles n ahead =
+    sym (ap (list_all p) (sym (take-append-drop n handles))
+    ∙ (list_all-append p (take n handles) (drop n handles) ∙ ap (λ t. t && list_all p (drop n handles)) ahead))

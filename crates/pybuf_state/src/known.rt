@@ -103,6 +103,14 @@ fn known_ahead(parts: &Parts, loans: &[(u64, Loan)], handles: &[u64]) -> usize
     ahead
 }
 
+/// Whether each of these handles is known, each by the first pair of it, which is searched for from the
+/// front.
+fn are_found(parts: &Parts, loans: &[(u64, Loan)], handles: &[u64]) -> bool
+    ensures { result ≡ spec.are_known (exporter_of parts.now) loans.now handles.now }
+{
+    handles.iter().all(|handle| is_known(parts, loans, *handle))
+}
+
 /// Whether each of these handles is known by its loan: as the exporter itself, as a view that it
 /// gave, or as something of another exporter.
 ///
@@ -112,7 +120,5 @@ pub fn are_known(parts: &Parts, loans: &[(u64, Loan)], handles: &[u64]) -> bool
     ensures { result ≡ spec.are_known (exporter_of parts.now) loans.now handles.now }
 {
     let ahead = known_ahead(parts, loans, handles);
-    handles[ahead..]
-        .iter()
-        .all(|handle| is_known(parts, loans, *handle))
+    are_found(parts, loans, &handles[ahead..])
 }
