@@ -3,3 +3,4 @@ mod OutLemmas
 mod DigitLemmas
 mod PlaceLemmas
 mod RoomLemmas
+mod LogLemmas
