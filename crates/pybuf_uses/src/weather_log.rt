@@ -1,11 +1,18 @@
 //! A binary file in memory, read by formats and views.
-ghost use Rattle.std.specs.Prelude.{◌≡◌, MatchOption, None, Some, Ok, bytes_eq, codes, IfOk, OnErr};
+ghost use Rattle.std.specs.Prelude.{◌≡◌, ◌≤◌, ◌-◌, true, length, MatchOption, None, Some, Ok, bytes_eq, codes, IfOk, OnErr};
 ghost use Rattle.pybuf_value.specs.Halting.{Gives};
+ghost use Rattle.pybuf_command.specs.Kinds.{holds_readonly};
+ghost use Rattle.pybuf_command.specs.declared.commands.LocalReply.TheVariants as replies;
+ghost use Rattle.pybuf_desc.specs.Contiguous.{is_contiguous_layout};
+ghost use Rattle.pybuf_desc.specs.Items.{content_of_layout};
+ghost use Rattle.pybuf_desc.specs.Layouts.{bytes_layout_from};
+ghost use Rattle.pybuf_state.specs.Exporter.{with_view};
+ghost use Rattle.pybuf_state.specs.Live.{is_live, layout_of};
 ghost use Rattle.pybuf_uses.specs.Log.{values_by, bytes_and_two, three, header_of, reading_of, place_value};
 
 use pybuf_object::PyBytes;
 use pybuf_struct::FormatSpec;
-use pybuf_value::{Fault, Halt, Outcome, Scalar, ScalarList, Value};
+use pybuf_value::{Fault, Halt, Made, Outcome, Scalar, ScalarList, Value};
 use pybuf_view::{ExporterState, LoanList, LocalReply, PyBuffer};
 use std::alloc::Global;
 use std::marker::Model;
@@ -191,24 +198,33 @@ impl WeatherLog {
             return Err(Halt::Refused(Fault::Index));
         }
         let from = HEADER_SIZE + READING_SIZE * number;
-        let view = self.view(alloc, from, from + READING_SIZE)?;
+        let view = view_of(alloc, &mut self.file, from, from + READING_SIZE)?;
         let answer = read_through(alloc, self.file.state(), &view);
         view.release(self.file.state_mut());
         answer
     }
+}
 
-    /// A view of the bytes from one place up to another.
-    fn view(&mut self, alloc: Global, from: usize, to: usize) -> Result<PyBuffer, Halt> {
-        let loans = LoanList::new(alloc);
-        match self.file.range(place(from), place(to), loans)? {
-            LocalReply::View(view) => Ok(PyBuffer::of(view)),
-            _ => unreachable!(),
-        }
+/// A view of the bytes of a file from one place up to another.
+fn view_of(alloc: Global, file: &mut PyBytes, from: usize, to: usize) -> Made<PyBuffer>
+    requires ordered { from ≤ to }
+    requires inside { to ≤ length file.old.bytes }
+    ensures ok { IfOk result (λ view. with_view file.old (bytes_layout_from from (to - from) (holds_readonly file.old.kind)) ≡ (file.new, replies.View view)) }
+    ensures err { OnErr result (file.new ≡ file.old) }
+{
+    let loans = LoanList::new(alloc);
+    match file.range(place(from), place(to), loans)? {
+        LocalReply::View(view) => Ok(PyBuffer::of(view)),
+        _ => unreachable!(),
     }
 }
 
 /// The reading that the bytes of a view are.
-fn read_through(alloc: Global, state: &ExporterState, view: &PyBuffer) -> Result<Reading, Halt> {
+fn read_through(alloc: Global, state: &ExporterState, view: &PyBuffer) -> Result<Reading, Halt>
+    requires live { is_live state.now view.now ≡ true }
+    requires together { is_contiguous_layout (layout_of state.now view.now) ≡ true }
+    ensures { Gives (reading_of (content_of_layout state.now.bytes (layout_of state.now view.now))) result }
+{
     match view.as_contiguous(state) {
         Some(bytes) => read_reading(alloc, bytes),
         None => unreachable!(),
