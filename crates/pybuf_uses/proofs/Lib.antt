@@ -4,3 +4,4 @@ mod DigitLemmas
 mod PlaceLemmas
 mod RoomLemmas
 mod LogLemmas
+mod ViewLemmas
