@@ -3,3 +3,5 @@ mod OutLemmas
 mod DigitLemmas
 mod PlaceLemmas
 mod RoomLemmas
+mod LogLemmas
+mod ViewLemmas

@@ -1,5 +1,5 @@
 -- Logs of a weather station: a header of ten bytes, and then readings of seven bytes each.
-use Rattle.std.specs.Prelude.{◌≡◌, ◌+◌, ◌*◌, ◌==◌, ℕ, pos, true, false, not, List, length, codes, bytes_eq, take, nat_lt, Result, Ok, Err}
+use Rattle.std.specs.Prelude.{◌≡◌, ◌+◌, ◌*◌, ◌==◌, ℕ, ℤ, pos, true, false, not, Option, Some, None, List, [], ◌∷◌, length, codes, bytes_eq, take, nat_lt, Result, Ok, Err}
 use Rattle.pybuf_value.specs.declared.faults.Fault.{Fault}
 use Rattle.pybuf_value.specs.declared.faults.Fault.TheVariants as fault
 use Rattle.pybuf_value.specs.declared.values.Scalar.{Scalar}
@@ -20,6 +20,16 @@ abbrev pub values_by : List ℕ → List ℕ → Result (List Scalar) Fault
 values_by format bytes = do
   f ← format_of format
   unpacked_values f bytes
+
+-- the bytes and the two numbers that values are
+abbrev pub bytes_and_two : List Scalar → Option (List ℕ × ℤ × ℤ)
+bytes_and_two (scalar.Bytes bytes ∷ scalar.Int first ∷ scalar.Int second ∷ []) = Some (bytes, first, second)
+bytes_and_two _ = None
+
+-- the three numbers that values are
+abbrev pub three : List Scalar → Option (ℤ × ℤ × ℤ)
+three (scalar.Int first ∷ scalar.Int second ∷ scalar.Int third ∷ []) = Some (first, second, third)
+three _ = None
 
 -- a place as a value of a command
 abbrev pub place_value : ℕ → Value

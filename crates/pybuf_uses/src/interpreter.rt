@@ -1,7 +1,8 @@
 //! A small interpreter's objects of bytes, over a world.
-ghost use Rattle.std.specs.Prelude.{◌≡◌, ◌<◌, map, length, slice_get, IfOk, OnErr};
+ghost use Rattle.std.specs.Prelude.{◌≡◌, ◌<◌, ℕ, map, length, slice_get, IfOk, OnOk, OnErr};
 ghost use Rattle.pybuf_world.specs.declared.commands.Reply.TheVariants as replies;
 ghost use Rattle.pybuf_value.specs.declared.faults.Fault as faults;
+ghost use Rattle.pybuf_uses.specs.Program.{command_of, number_value};
 
 use pybuf_value::{ByteList, Made, Scalar, Text, Value};
 use pybuf_view::{
@@ -114,6 +115,17 @@ fn command(statement: Statement) -> Command
     }
 }
 
+/// The commands that statements are.
+fn commands(alloc: Global, program: Vec<Statement>) -> Made<Vec<Command>>
+    ensures { IfOk result (λ commands. commands.items ≡ map command_of program.items) }
+{
+    let mut commands = Vec::with_capacity(alloc, program.len())?;
+    for statement in program {
+        commands.push(command(statement))?;
+    }
+    Ok(commands)
+}
+
 /// An interpreter with its objects. A clause sees the world of these.
 #[derive(Debug, Drop)]
 pub struct Interpreter {
@@ -132,7 +144,6 @@ impl Model for Interpreter {
 impl Interpreter {
     ghost use Rattle.pybuf_world.specs.World.{empty_world, wstep, replies_of, world_after_all};
     ghost use Rattle.pybuf_world.specs.Sound.{StaysSound};
-    ghost use Rattle.pybuf_uses.specs.Program.{command_of};
 
     /// An interpreter without objects. Takes no memory.
     pub fn new(alloc: Global) -> Interpreter
@@ -170,11 +181,8 @@ impl Interpreter {
         ensures world { OnOk result (self.new ≡ world_after_all self.old (map command_of program.items)) }
         ensures sound { StaysSound self.old (map command_of program.items) }
     {
+        let commands = commands(self.alloc, program)?;
         let mut answers = ReplyList::new(self.alloc);
-        let mut commands = Vec::with_capacity(self.alloc, program.len())?;
-        for statement in program {
-            commands.push(command(statement))?;
-        }
         self.world.run(commands.as_slice(), &mut answers)?;
         Ok(answers)
     }

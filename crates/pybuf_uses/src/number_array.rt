@@ -1,12 +1,13 @@
 //! Numbers in a bytearray, which refuses to grow while it is lent.
-ghost use Rattle.std.specs.Prelude.{◌≡◌, ◌↔◌, ◌<◌, ◌++◌, [], ◌∷◌, true, false, length, set, slice_get, IfOk, OnOk, OnErr, MatchResult, Ok, Err};
+ghost use Rattle.std.specs.Prelude.{◌≡◌, ◌↔◌, ◌<◌, ◌*◌, ◌++◌, [], ◌∷◌, true, false, length, set, slice_get, IfOk, OnOk, OnErr, MatchResult, Ok, Err};
 ghost use Rattle.pybuf_value.specs.declared.halt.Halt.{Halt};
 ghost use Rattle.pybuf_value.specs.declared.faults.Fault.{Fault};
+ghost use Rattle.pybuf_uses.specs.Numbers.{numbers_of};
 
 use pybuf_object::{PyByteArray, PyMemoryView};
 use pybuf_value::{Fault, Halt, Made};
 use pybuf_view::{ExporterState, LoanList, LocalReply};
-use std::alloc::Global;
+use std::alloc::{AllocError, Global};
 use std::marker::Model;
 
 /// Numbers from 0 to 65,535, as Python's `array('H')`: they lie one after the other in a bytearray, two bytes
@@ -26,6 +27,27 @@ impl Model for NumberArray {
     ghost view = { λ array. numbers_in array.bytes };
 
     ghost invariant = { λ array. IsNumberArray array.bytes };
+}
+
+/// Puts a number in place of that at an index of bytes.
+fn put(bytes: &mut [u8], index: usize, number: u16)
+    requires pairs { length bytes.old ≡ 2 * length (numbers_of bytes.old) }
+    requires inside { index < length (numbers_of bytes.old) }
+    ensures { numbers_of bytes.new ≡ set (numbers_of bytes.old) index number }
+{
+    let [low, high] = number.to_le_bytes();
+    bytes[2 * index] = low;
+    bytes[2 * index + 1] = high;
+}
+
+/// Adds a number behind bytes. Where memory runs out, they are as before.
+fn append(bytes: &mut Vec<u8>, number: u16) -> Result<(), AllocError>
+    requires { length bytes.old.items ≡ 2 * length (numbers_of bytes.old.items) }
+    ensures ok { OnOk result (numbers_of bytes.new.items ≡ numbers_of bytes.old.items ++ number ∷ []) }
+    ensures pairs { length bytes.new.items ≡ 2 * length (numbers_of bytes.new.items) }
+    ensures err { OnErr result (bytes.new.items ≡ bytes.old.items) }
+{
+    bytes.extend_from_slice(&number.to_le_bytes())
 }
 
 impl NumberArray {
@@ -83,10 +105,7 @@ impl NumberArray {
         if index >= self.len() {
             return Err(Fault::Index);
         }
-        let [low, high] = number.to_le_bytes();
-        let bytes = self.bytes.borrow_buf_mut();
-        bytes[2 * index] = low;
-        bytes[2 * index + 1] = high;
+        put(self.bytes.borrow_buf_mut(), index, number);
         Ok(())
     }
 
@@ -99,8 +118,7 @@ impl NumberArray {
         ensures lent { (result ≡ Err (Halt.Refused Fault.Buffer)) ↔ IsLent self.old }
         ensures err { OnErr result (self.new ≡ self.old) }
     {
-        let bytes = self.bytes.try_resizable()?;
-        bytes.extend_from_slice(&number.to_le_bytes())?;
+        append(self.bytes.try_resizable()?, number)?;
         Ok(())
     }
 
