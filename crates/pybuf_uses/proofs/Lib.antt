@@ -1,0 +1,7 @@
+mod NumberLemmas
+mod OutLemmas
+mod DigitLemmas
+mod PlaceLemmas
+mod RoomLemmas
+mod LogLemmas
+mod ViewLemmas
