@@ -1,12 +1,12 @@
 -- Numbers only grow by further digits.
 use Rattle.std.proofs.Common.{ℕ, ◌≡◌, ◌<◌, ◌≤◌, ◌*◌, ◌+◌, ◌-◌, drop, length, get_or, List, [], ◌∷◌, sym, ◌∙◌, ap, arith, tests, true}
-use Rattle.std.specs.Prelude.{None}
+use Rattle.std.specs.Prelude.{Some, None}
 use Rattle.std.specs.Char.{digit_value, is_ascii_digit}
 use Rattle.std.specs.Str.Parse.{digits_value, digits_value_after}
 use Rattle.std.specs.List.{list_all}
-use Rattle.std.proofs.lemmas.List.{drop_more}
+use Rattle.std.proofs.lemmas.List.{drop_more, drop_all}
 use Rattle.std.proofs.lemmas.List.Sums.{AllPass-from_list_all}
-use Rattle.pybuf_line.specs.Scalars.{below}
+use Rattle.pybuf_line.specs.Scalars.{below, number_below}
 
 pub le-digits_value_after : (n : ℕ) (digits : List ℕ) → n ≤ digits_value_after 10 n digits
 le-digits_value_after n [] = omega arith
@@ -33,3 +33,19 @@ outgrown bound most number i text within here all h none =
     let same : digits_value_after 10 (number * 10 + digit_value c) (drop (i + 1) text) ≡ digits_value 10 text =
     sym (ap (digits_value_after 10 number) (drop_more text i 0 here)) ∙ h in
     sym (below_none bound (digits_value 10 text) (omega (arith, large, grows, same, digit)))
+
+-- a number below a bound is below any that is no smaller
+pub below_more : (bound more n m : ℕ) → bound ≤ more → below bound n ≡ Some m → below more n ≡ Some m
+below_more bound more n m within h = grind (arith, tests)
+
+pub wider : (bound more n : ℕ) (digits : List ℕ) → bound ≤ more → number_below bound digits ≡ Some n → number_below more digits ≡ Some n
+wider bound more n digits within h = grind (arith, tests, below_more)
+
+below_some : (bound n : ℕ) → n < bound → Some n ≡ below bound n
+below_some bound n h = grind (arith, tests)
+
+-- all digits are read, and the number is below the bound
+pub all_read : (bound number i : ℕ) (text : List ℕ) → length text ≤ i → digits_value_after 10 number (drop i text) ≡ digits_value 10 text → number < bound →
+    Some number ≡ below bound (digits_value 10 text)
+all_read bound number i text done h small =
+    below_some bound number small ∙ ap (below bound) (sym (ap (digits_value_after 10 number) (drop_all i text done)) ∙ h)

@@ -60,6 +60,43 @@ fn with_digit(number: u128, digit: u8) -> Option<u128>
     }
 }
 
+/// The same of a machine word.
+fn word_with_digit(number: u64, digit: u8) -> Option<u64>
+    ensures { result ≡ below (2 ^ 64) (number * 10 + digit) }
+{
+    match number.checked_mul(10) {
+        Some(tens) => tens.checked_add(u64::from(digit)),
+        None => None,
+    }
+}
+
+/// The number of decimal digits, where a machine word holds it.
+fn word_value(text: &[u8]) -> Option<u64>
+    requires { list_all is_ascii_digit text.now ≡ true }
+    ensures { result ≡ below (2 ^ 64) (digits_value 10 text.now) }
+{
+    let mut number: u64 = 0;
+    for c in text {
+        // a number that is too large stays so, whatever digits follow
+        let Some(longer) = word_with_digit(number, *c - b'0') else {
+            return None;
+        };
+        number = longer;
+    }
+    Some(number)
+}
+
+/// The number that a text spells in decimal digits, where a machine word holds it.
+fn word_number(text: &[u8]) -> Option<u64>
+    ensures { result ≡ number_below (2 ^ 64) text.now }
+{
+    if is_digits(text) {
+        word_value(text)
+    } else {
+        None
+    }
+}
+
 /// The number of decimal digits, where it is below a bound.
 fn value_below(bound: u128, text: &[u8]) -> Option<u128>
     requires { list_all is_ascii_digit text.now ≡ true }
@@ -92,21 +129,30 @@ pub fn handle(text: &[u8]) -> Option<u64>
     ensures { result ≡ handle_in text.now }
 {
     match text {
-        [b'h', digits @ ..] => match number(1 << 64, digits) {
-            Some(number) => Some(number as u64),
-            None => None,
-        },
+        [b'h', digits @ ..] => word_number(digits),
         _ => None,
     }
 }
 
-/// The whole number that digits without a sign spell.
-fn positive(digits: &[u8]) -> Option<Scalar>
+/// The whole number that any number of digits without a sign spell.
+#[inline(never)]
+fn long_positive(digits: &[u8]) -> Option<Scalar>
     ensures { result ≡ positive_in digits.now }
 {
     match number(1 << 127, digits) {
         Some(number) => Some(Scalar::Int(number as i128)),
         None => None,
+    }
+}
+
+/// The whole number that digits without a sign spell: most of them by one machine word.
+#[tactic(auto, using(crate::proofs::Digits::wider))]
+fn positive(digits: &[u8]) -> Option<Scalar>
+    ensures { result ≡ positive_in digits.now }
+{
+    match word_number(digits) {
+        Some(number) => Some(Scalar::Int(i128::from(number))),
+        None => long_positive(digits),
     }
 }
 
