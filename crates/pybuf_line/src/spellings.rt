@@ -1,6 +1,7 @@
 //! Values as they are spelled on a line.
 ghost use Rattle.std.specs.Prelude.{◌≡◌, ◌==◌, ◌∷◌, [], map, MatchOption};
 ghost use Rattle.std.specs.List.{position};
+ghost use Rattle.pybuf_value.specs.Choosing.{◌or_else◌};
 ghost use Rattle.pybuf_line.specs.Parts.{parts_at, each};
 ghost use Rattle.pybuf_line.specs.Scalars.{scalar_in, handle_in};
 ghost use Rattle.pybuf_line.specs.Spellings.{slice_in, scalars_in, slices_in, one_in, slice_value_in, tuple_in, list_in, tuple_of_slices_in, value_in};
@@ -140,15 +141,11 @@ fn tuple_of_slices(alloc: Global, text: &[u8]) -> Result<Value, Unread>
     Ok(Value::Slices(parts))
 }
 
-/// The one value that a word of a line spells.
-#[tactic(auto, unfolding(crate::specs::Spellings::value_in))]
-pub fn value(alloc: Global, text: &[u8]) -> Result<Value, Unread>
-    ensures { Reads result (value_in handle_in text.now) }
+/// A value with parts.
+#[inline(never)]
+fn parted(alloc: Global, text: &[u8]) -> Result<Value, Unread>
+    ensures { Reads result (slice_value_in handle_in text.now or_else tuple_in handle_in text.now or_else list_in handle_in text.now or_else tuple_of_slices_in handle_in text.now) }
 {
-    match one(alloc, text) {
-        Err(Unread::NoCommand) => {}
-        read => return read,
-    }
     match slice_value(alloc, text) {
         Err(Unread::NoCommand) => {}
         read => return read,
@@ -162,4 +159,16 @@ pub fn value(alloc: Global, text: &[u8]) -> Result<Value, Unread>
         read => return read,
     }
     tuple_of_slices(alloc, text)
+}
+
+/// The one value that a word of a line spells.
+#[inline(never)]
+#[tactic(auto, unfolding(crate::specs::Spellings::value_in))]
+pub fn value(alloc: Global, text: &[u8]) -> Result<Value, Unread>
+    ensures { Reads result (value_in handle_in text.now) }
+{
+    match one(alloc, text) {
+        Err(Unread::NoCommand) => parted(alloc, text),
+        read => read,
+    }
 }
