@@ -87,7 +87,7 @@ fn word_value(text: &[u8]) -> Option<u64>
 }
 
 /// The number that a text spells in decimal digits, where a machine word holds it.
-fn word_number(text: &[u8]) -> Option<u64>
+pub fn word_number(text: &[u8]) -> Option<u64>
     ensures { result ≡ number_below (2 ^ 64) text.now }
 {
     if is_digits(text) {

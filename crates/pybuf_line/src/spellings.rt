@@ -1,5 +1,7 @@
 //! Values as they are spelled on a line.
-ghost use Rattle.std.specs.Prelude.{◌≡◌, ◌==◌, ◌∷◌, [], map, MatchOption};
+ghost use Rattle.std.specs.Prelude.{◌≡◌, ◌==◌, ◌∷◌, [], map, MatchOption, Some, pos};
+ghost use Rattle.pybuf_value.specs.declared.values.Scalar.TheVariants as scalars_of_values;
+ghost use Rattle.pybuf_value.specs.declared.values.Value.TheVariants as values;
 ghost use Rattle.std.specs.List.{position};
 ghost use Rattle.pybuf_value.specs.Choosing.{◌or_else◌};
 ghost use Rattle.pybuf_line.specs.Parts.{parts_at, each};
@@ -7,10 +9,10 @@ ghost use Rattle.pybuf_line.specs.Scalars.{scalar_in, handle_in};
 ghost use Rattle.pybuf_line.specs.Spellings.{slice_in, scalars_in, slices_in, one_in, slice_value_in, tuple_in, list_in, tuple_of_slices_in, value_in};
 ghost use Rattle.pybuf_line.specs.Reading.{Reads};
 
-use crate::scalars::{between, plain, scalar};
+use crate::scalars::{between, plain, scalar, word_number};
 use crate::splitting::parts_outside;
 use crate::unread::Unread;
-use pybuf_value::{PySlice, ScalarList, SliceList, Value};
+use pybuf_value::{PySlice, Scalar, ScalarList, SliceList, Value};
 use std::alloc::Global;
 
 /// The place of the first colon.
@@ -161,14 +163,33 @@ fn parted(alloc: Global, text: &[u8]) -> Result<Value, Unread>
     tuple_of_slices(alloc, text)
 }
 
-/// The one value that a word of a line spells.
+/// A value that is no number of a machine word.
 #[inline(never)]
 #[tactic(auto, unfolding(crate::specs::Spellings::value_in))]
-pub fn value(alloc: Global, text: &[u8]) -> Result<Value, Unread>
+fn other_value(alloc: Global, text: &[u8]) -> Result<Value, Unread>
     ensures { Reads result (value_in handle_in text.now) }
 {
     match one(alloc, text) {
         Err(Unread::NoCommand) => parted(alloc, text),
         read => read,
+    }
+}
+
+/// A whole number as a value.
+fn number_value(number: u64) -> Result<Value, Unread>
+    ensures { Reads result (Some (values.One (scalars_of_values.Int (pos number)))) }
+{
+    Ok(Value::One(Scalar::Int(i128::from(number))))
+}
+
+/// The one value that a word of a line spells.
+#[inline(never)]
+#[tactic(auto, using(crate::proofs::Shorts::short_value))]
+pub fn value(alloc: Global, text: &[u8]) -> Result<Value, Unread>
+    ensures { Reads result (value_in handle_in text.now) }
+{
+    match word_number(text) {
+        Some(number) => number_value(number),
+        None => other_value(alloc, text),
     }
 }
