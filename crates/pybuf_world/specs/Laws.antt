@@ -17,8 +17,8 @@ use Rattle.pybuf_world.specs.declared.commands.Command.{Command}
 use Rattle.pybuf_world.specs.declared.commands.Command.TheVariants as command
 use Rattle.pybuf_world.specs.declared.commands.Reply.{Reply}
 use Rattle.pybuf_world.specs.declared.commands.Reply.TheVariants as reply
-use Rattle.pybuf_world.specs.World.{World, bytes_of_new, wstep, released_by}
-use Rattle.pybuf_world.specs.Sound.{IsSoundWorld}
+use Rattle.pybuf_world.specs.World.{World, empty_world, bytes_of_new, wstep, released_by}
+use Rattle.pybuf_world.specs.Sound.{IsSoundWorld, StaysSound}
 
 -- a refused command leaves the whole world as it was, so no handle is used up
 abbrev pub RefusalsChangeNothing : Type 0
@@ -106,3 +106,7 @@ abbrev pub UnknownSourcesAreRefused : Type 0
 UnknownSourcesAreRefused =
     (w : World) (k : ExporterKind) (options : ByteInnerNewOptions) (handle : ℕ) → list_any (λ (given : ℕ). given == handle) (handles_of_options options) ≡ true → length w.handles ≤ handle
     → wstep w (command.New k options) ≡ (w, reply.Refused fault.UnknownName)
+
+-- the world of every run that begins empty is sound after each of its commands
+abbrev pub RunsStaySound : Type 0
+RunsStaySound = (commands : List Command) → StaysSound empty_world commands

@@ -1,6 +1,6 @@
 //! Laws over every command on a world, from the laws over every command on one exporter.
 ghost use Rattle.pybuf_rows_views.specs.Laws.{ReleasingTwiceIsOnce};
-ghost use Rattle.pybuf_world.specs.Laws.{RefusalsChangeNothing, HandlesStay, ReleasingByHandleTwiceIsOnce, WorldLengthsStay, WorldReadOnlyBytesStay, WorldIteratorsStay, WorldShownTextsAreOneLine, CopiesAreExportersOfTheirOwn, UnviewedCopiesAreExportersOfTheirOwn, NewExportersStandBehind, UnknownSourcesAreRefused};
+ghost use Rattle.pybuf_world.specs.Laws.{RefusalsChangeNothing, HandlesStay, ReleasingByHandleTwiceIsOnce, WorldLengthsStay, WorldReadOnlyBytesStay, WorldIteratorsStay, WorldShownTextsAreOneLine, CopiesAreExportersOfTheirOwn, UnviewedCopiesAreExportersOfTheirOwn, NewExportersStandBehind, UnknownSourcesAreRefused, RunsStaySound};
 
 /// A refused command leaves the whole world as it was, so no handle is used up.
 pub fn refusals_change_nothing()
@@ -79,3 +79,14 @@ pub fn new_exporters_stand_behind()
 pub fn unknown_sources_are_refused()
     ensures { UnknownSourcesAreRefused }
 {}
+
+/// A world that begins empty is sound after each of the commands of every list: each byte of each item
+/// of an unreleased view lies inside its exporter, and that exporter is as long as when the view was
+/// made.
+pub fn runs_stay_sound()
+    ensures { RunsStaySound }
+{
+    pybuf_exporter::commands_keep_sound();
+    pybuf_exporter::fresh_replies_are_copies();
+    pybuf_exporter::copies_are_faithful();
+}

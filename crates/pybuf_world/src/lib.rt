@@ -11,7 +11,7 @@ mod world;
 pub use commands::{Command, Reply, ReplyList};
 pub use laws::{
     copies_are_exporters_of_their_own, handles_stay, new_exporters_stand_behind,
-    refusals_change_nothing, releasing_twice_is_once, unknown_sources_are_refused,
+    refusals_change_nothing, releasing_twice_is_once, runs_stay_sound, unknown_sources_are_refused,
     world_iterators_stay, world_lengths_stay, world_readonly_bytes_stay,
     world_shown_texts_are_one_line,
 };
