@@ -17,3 +17,9 @@ abbrev pub ReadsAll : {Z : Type 0} → Result (Vec Command Z) Misread → Result
 ReadsAll (Ok commands) read = read ≡ Ok commands.items
 ReadsAll (Err (misread.BadLine n)) read = read ≡ Err n
 ReadsAll (Err misread.NoMemory) read = Unit {0}
+
+-- Whether all lines of an input are commands, where the number of the first bad line is told. Memory may run out.
+abbrev pub ChecksAll : {X : Type 0} → Result X Misread → Result (List Command) ℕ → Type 0
+ChecksAll (Ok x) read = (commands : List Command) × (read ≡ Ok commands)
+ChecksAll (Err (misread.BadLine n)) read = read ≡ Err n
+ChecksAll (Err misread.NoMemory) read = Unit {0}

@@ -2,10 +2,10 @@
 ghost use Rattle.std.specs.Prelude.{◌≡◌, map};
 ghost use Rattle.pybuf_line.specs.Scalars.{handle_in};
 ghost use Rattle.pybuf_line.specs.Lines.{commands_in, commands_from};
-ghost use Rattle.pybuf_line.specs.Reading.{ReadsAll};
+ghost use Rattle.pybuf_line.specs.Reading.{ReadsAll, ChecksAll};
 
-use crate::parsing::command;
-use crate::splitting::lines_of;
+use crate::parsing::{command, command_of_line};
+use crate::splitting::{lines_of, next_line};
 use crate::unread::{Misread, Unread};
 use pybuf_view::Command;
 use std::alloc::Global;
@@ -31,4 +31,23 @@ pub fn commands_of(alloc: Global, input: &[u8]) -> Result<Vec<Command>, Misread>
 {
     let lines = lines_of(alloc, input)?;
     commands_of_lines(alloc, &lines)
+}
+
+/// That each line of an input is a command, or the first line that is none.
+pub fn check_lines(alloc: Global, input: &[u8]) -> Result<(), Misread>
+    ensures { ChecksAll result (commands_in handle_in input.now) }
+{
+    let mut words = Vec::new(alloc);
+    let mut rest = input;
+    let mut number: u64 = 0;
+    while let Some((line, after)) = next_line(rest) {
+        number += 1;
+        match command_of_line(alloc, &mut words, line) {
+            Ok(_) => {}
+            Err(Unread::NoCommand) => return Err(Misread::BadLine(number)),
+            Err(Unread::NoMemory) => return Err(Misread::NoMemory),
+        }
+        rest = after;
+    }
+    Ok(())
 }

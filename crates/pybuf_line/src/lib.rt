@@ -12,14 +12,15 @@ mod texts;
 mod unread;
 mod words;
 
-pub use inputs::commands_of;
+pub use inputs::{check_lines, commands_of};
 pub use laws::{
     commands_are_of_lines, commands_read_back, enclosed_is_between, items_stand_in_order,
     kinds_read_back, lines_are_the_input, method_names_read_back, nesting_is_the_shape,
     operators_read_back, parts_are_the_text, property_names_read_back, replies_are_single_lines,
     scalars_read_back, values_read_back, words_are_the_line, words_read_back,
 };
-pub use parsing::command;
+pub use parsing::{command, command_of_line};
+pub use splitting::next_line;
 pub use texts::{push_bad_line, push_reply, push_reply_line};
 pub use unread::{Misread, Unread};
 pub use words::is_word;

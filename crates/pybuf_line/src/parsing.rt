@@ -7,7 +7,7 @@ ghost use Rattle.pybuf_line.specs.Reading.{Reads};
 use crate::methods::method_named;
 use crate::scalars::handle;
 use crate::spellings::value;
-use crate::splitting::words_of;
+use crate::splitting::fill_words;
 use crate::unread::Unread;
 use crate::words::{Word, first_word, kind_named, operator_named, property_named};
 use pybuf_bytes::MethodCall;
@@ -372,11 +372,24 @@ fn command_of(alloc: Global, words: &[&[u8]]) -> Result<Command, Unread>
     }
 }
 
-/// The one command that a line spells.
+/// The one command that a line spells. The list of words is filled for the line, so that the lines
+/// of an input share its memory.
 #[tactic(auto, unfolding(crate::specs::Commands::command_in))]
+pub fn command_of_line<'a>(
+    alloc: Global,
+    words: &mut Vec<&'a [u8]>,
+    line: &'a [u8],
+) -> Result<Command, Unread>
+    ensures { Reads result (command_in handle_in line.now) }
+{
+    fill_words(words, line)?;
+    command_of(alloc, words)
+}
+
+/// The one command that a line spells.
 pub fn command(alloc: Global, line: &[u8]) -> Result<Command, Unread>
     ensures { Reads result (command_in handle_in line.now) }
 {
-    let words = words_of(alloc, line)?;
-    command_of(alloc, &words)
+    let mut words = Vec::new(alloc);
+    command_of_line(alloc, &mut words, line)
 }

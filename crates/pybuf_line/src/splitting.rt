@@ -1,11 +1,12 @@
 //! Texts cut into lines, and lines into words.
-ghost use Rattle.std.specs.Prelude.{◌≡◌, ◌==◌, ◌&&◌, not, IfOk, map};
+ghost use Rattle.std.specs.Prelude.{◌≡◌, ◌==◌, ◌∷◌, [], ◌&&◌, not, IfOk, OnOk, MatchOption, map};
 ghost use Rattle.std.specs.List.{join_with_byte};
 ghost use Rattle.std.specs.Str.{byte};
 ghost use Rattle.pybuf_line.specs.Parts.{parts_at, parts_outside_quotes};
 ghost use Rattle.pybuf_line.specs.Words.{words};
 ghost use Rattle.pybuf_line.specs.Lines.{lines};
 
+use memchr::memchr;
 use std::alloc::{AllocError, Global};
 
 /// The parts of a text between the places of a byte.
@@ -28,11 +29,33 @@ pub fn lines_of(alloc: Global, input: &[u8]) -> Result<Vec<&[u8]>, AllocError>
     Ok(found)
 }
 
-/// The words of a line, with one blank between them.
-pub fn words_of(alloc: Global, line: &[u8]) -> Result<Vec<&[u8]>, AllocError>
-    ensures { IfOk result (λ found. map (λ word. word.now) found.items ≡ words line.now) }
+/// The first line of an input, and what is left behind it. An input that is empty has none.
+pub fn next_line<'a>(rest: &'a [u8]) -> Option<(&'a [u8], &'a [u8])>
+    ensures { MatchOption result (lines rest.now ≡ []) (λ cut. lines rest.now ≡ cut.0.now ∷ lines cut.1.now) }
 {
-    parts(alloc, line, b' ')
+    if rest.is_empty() {
+        return None;
+    }
+    match memchr(b'\n', rest) {
+        Some(at) => Some((&rest[..at], &rest[at + 1..])),
+        None => Some((rest, &rest[rest.len()..])),
+    }
+}
+
+/// Fills a list with the words of a line, which have one blank between them. What it held goes.
+pub fn fill_words<'a>(found: &mut Vec<&'a [u8]>, line: &'a [u8]) -> Result<(), AllocError>
+    ensures { OnOk result (map (λ word. word.now) found.new.items ≡ words line.now) }
+{
+    found.clear();
+    let mut start = 0;
+    for (i, b) in line.iter().enumerate() {
+        if *b == b' ' {
+            found.push(&line[start..i])?;
+            start = i + 1;
+        }
+    }
+    found.push(&line[start..])?;
+    Ok(())
 }
 
 /// Whether a part ends at a byte.
