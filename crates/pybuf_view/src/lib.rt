@@ -24,7 +24,7 @@ pub use pybuf_exporter::{
 pub use pybuf_methods::{Lent, Names, takes, wrong_numbers_are_refused};
 pub use pybuf_world::{
     Command, Named, Reply, ReplyList, World, copies_are_exporters_of_their_own, handles_stay,
-    new_exporters_stand_behind, refusals_change_nothing, releasing_twice_is_once,
+    new_exporters_stand_behind, refusals_change_nothing, releasing_twice_is_once, runs_stay_sound,
     unknown_sources_are_refused, world_iterators_stay, world_lengths_stay,
     world_readonly_bytes_stay, world_shown_texts_are_one_line,
 };
