@@ -3,6 +3,9 @@ pub mod Joined
 pub mod Commands
 pub mod LineParts
 pub mod Spelled
+pub mod Cuts
+pub mod Blanks
+pub mod FirstLine
 pub mod Commas
 pub mod Colons
 pub mod Printed

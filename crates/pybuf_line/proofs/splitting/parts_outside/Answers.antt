@@ -1,6 +1,7 @@
 use Rattle.std.specs.Prelude.{false}
 use Rattle.std.proofs.Common.{[], ◌+◌, arith, map, ap, ◌∙◌, sym}
-use Rattle.pybuf_line.proofs.Commas.{nothing_begun, at_quote, at_other, at_comma, same_cuts, no_quote, one_text_more, onto_parts}
+use Rattle.pybuf_line.proofs.Commas.{nothing_begun, at_quote, at_other, at_comma, same_cuts, no_quote}
+use Rattle.pybuf_line.proofs.Cuts.{onto_parts, one_text_more}
 use Rattle.pybuf_line.specs.Parts.{parts_from}
 use Rattle.pybuf_line.proofs.splitting.parts_outside.Goals as goal
 use Rattle.pybuf_line.proofs.splitting.parts_outside.Goals.{then-b-eq39, else-b-eq39+then-ends_part+in_ok-push, else-b-eq39+else-ends_part}

@@ -1,7 +1,7 @@
 use Rattle.std.proofs.Common.{◌≡◌, ◌≤◌, ◌-◌, map, take, drop}
 use Rattle.std.specs.Prelude.{false}
 use Rattle.pybuf_line.specs.Parts.{parts_from}
-use Rattle.pybuf_line.proofs.Commas.{onto_parts}
+use Rattle.pybuf_line.proofs.Cuts.{onto_parts}
 use Rattle.pybuf_line.proofs.splitting.parts_outside.Given as goal
 
 -- the parts so far, and the place of the one that is begun
