@@ -1,4 +1,5 @@
 pub mod GroupLemmas
+pub mod DigitValues
 pub mod ReadLemmas
 pub mod TableLemmas
 pub mod TabLemmas

@@ -21,6 +21,11 @@ abbrev pub bytes_before : List ℕ → Result (List ℕ) Fault → Result (List 
 bytes_before bytes (Ok rest) = Ok (bytes ++ rest)
 bytes_before bytes (Err f) = Err f
 
+-- no bytes before them
+pub nothing_before : (rest : Result (List ℕ) Fault) → bytes_before [] rest ≡ rest
+nothing_before (Ok rest) = refl
+nothing_before (Err f) = refl
+
 -- a byte, and then the others
 pub one_more : (bytes : List ℕ) (byte : ℕ) (rest : Result (List ℕ) Fault) → bytes_before bytes (rest >>= (λ others. Ok (byte ∷ others))) ≡ bytes_before (bytes ++ byte ∷ []) rest
 one_more bytes byte (Ok rest) = ap Ok (sym (append_assoc bytes (byte ∷ []) rest))

@@ -1,8 +1,8 @@
 -- Tables of all bytes, and bytes mapped by them.
-use Rattle.std.proofs.Common.{◌≡◌, ℕ, ◌+◌, ◌<◌, ◌==◌, Bool, true, false, not, cond, Ok, Err, List, [], ◌∷◌, ◌++◌, length, map, slice_index, get_or, drop, refl, ap, sym, ◌∙◌, arith}
+use Rattle.std.proofs.Common.{◌≡◌, ℕ, ◌+◌, ◌<◌, ◌==◌, Bool, true, false, not, cond, Ok, Err, List, [], ◌∷◌, ◌++◌, length, map, slice_index, get_or, set, take, drop, refl, ap, sym, ◌∙◌, arith}
 use Rattle.std.specs.List.{All, range_with_len, filter}
 use Rattle.std.specs.Prelude.{IfOk}
-use Rattle.std.proofs.lemmas.List.{map-id, drop_all}
+use Rattle.std.proofs.lemmas.List.{map-id, map_more, length-map, length-take-le, drop_all, drop_more, get_or_at, set_at, append_assoc}
 use Rattle.std.proofs.lemmas.List.FromFn.{fill_by_all, get_or-range_with_len, get_or-map-range_with_len, length-range_with_len, map-range_with_len_more}
 use Rattle.std.proofs.lemmas.List.Elements.{All-head, All-tail}
 use Rattle.pybuf_shaping.specs.Tables.{all_bytes, counterpart, is_among, translated}
@@ -65,3 +65,16 @@ by_test false from to bytes all = tt
 
 pub each_once : (from to bytes : List ℕ) → EachOnce from to bytes
 each_once from to bytes all = by_test (length from == length to) from to bytes all
+
+-- one more byte is mapped in its place
+pub one_mapped : (f : ℕ → ℕ) (old now : List ℕ) (i : ℕ) → i < length old → now ≡ map f (take i old) ++ drop i old →
+    set now i (f (get_or now i 0)) ≡ map f (take (i + 1) old) ++ drop (i + 1) old
+one_mapped f old now i inside is =
+    let x : ℕ = get_or old i 0 in
+    let front : List ℕ = map f (take i old) in
+    let back : List ℕ = drop (i + 1) old in
+    let parts : now ≡ front ++ x ∷ back = is ∙ ap (λ rest. front ++ rest) (drop_more old i 0 inside) in
+    let long : length front ≡ i = length-map (take i old) f ∙ length-take-le i old (omega (arith, inside)) in
+    let read : get_or now i 0 ≡ x = ap (λ xs. get_or xs i 0) parts ∙ get_or_at front x back 0 i long in
+    ap (λ y. set now i (f y)) read ∙ ap (λ xs. set xs i (f x)) parts ∙ set_at front x back (f x) i long
+    ∙ sym (ap (λ xs. xs ++ back) (map_more f old i 0 inside) ∙ append_assoc front (f x ∷ []) back)

@@ -65,6 +65,10 @@ hex_text (Some separator) size bytes = text_by_groups separator size bytes
 
 -- ---- read back
 
+-- a number as the value of a digit, where it is one
+abbrev pub value_below_16 : ℕ → Option ℕ
+value_below_16 n = if nat_lt n 16 then Some n else None
+
 -- the byte of two digits of either case
 abbrev pub byte_of_digits : Option ℕ → Option ℕ → Result ℕ Fault
 byte_of_digits (Some high) (Some low) = Ok (high * 16 + low)

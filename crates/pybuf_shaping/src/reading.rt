@@ -1,29 +1,58 @@
 //! Hexadecimal digits, read.
-ghost use Rattle.std.specs.Prelude.{◌≡◌, IfOk};
+ghost use Rattle.std.specs.Prelude.{◌≡◌, ◌≤◌, ◌/◌, Ok, Err, IfOk, MatchResult, length, take};
 ghost use Rattle.hex.specs.Hex.{hex_digit_value};
 ghost use Rattle.pybuf_value.specs.Halting.{Gives, outcome_of};
 ghost use Rattle.pybuf_shaping.specs.Digits as spec;
 
-use hex::FromHex;
 use pybuf_letters::is_py_ascii_whitespace;
 use pybuf_value::{ByteList, Fault, Halt, Tried, tried};
 use std::alloc::Global;
+
+/// The value of a digit of either case, or 16. It is one look-up, since a branch for each kind of digit
+/// is seldom foreseen.
+fn digit_value(digit: u8) -> u8
+    ensures { hex_digit_value digit ≡ spec.value_below_16 result }
+{
+    let values = [
+        16, 16, 16, 16, 16, 16, 16, 16, 16, 16, 16, 16, 16, 16, 16, 16, 16, 16, 16, 16, 16, 16, 16,
+        16, 16, 16, 16, 16, 16, 16, 16, 16, 16, 16, 16, 16, 16, 16, 16, 16, 16, 16, 16, 16, 16, 16,
+        16, 16, 0, 1, 2, 3, 4, 5, 6, 7, 8, 9, 16, 16, 16, 16, 16, 16, 16, 10, 11, 12, 13, 14, 15,
+        16, 16, 16, 16, 16, 16, 16, 16, 16, 16, 16, 16, 16, 16, 16, 16, 16, 16, 16, 16, 16, 16, 16,
+        16, 16, 16, 10, 11, 12, 13, 14, 15, 16, 16, 16, 16, 16, 16, 16, 16, 16, 16, 16, 16, 16, 16,
+        16, 16, 16, 16, 16, 16, 16, 16, 16, 16, 16, 16, 16, 16, 16, 16, 16, 16, 16, 16, 16, 16, 16,
+        16, 16, 16, 16, 16, 16, 16, 16, 16, 16, 16, 16, 16, 16, 16, 16, 16, 16, 16, 16, 16, 16, 16,
+        16, 16, 16, 16, 16, 16, 16, 16, 16, 16, 16, 16, 16, 16, 16, 16, 16, 16, 16, 16, 16, 16, 16,
+        16, 16, 16, 16, 16, 16, 16, 16, 16, 16, 16, 16, 16, 16, 16, 16, 16, 16, 16, 16, 16, 16, 16,
+        16, 16, 16, 16, 16, 16, 16, 16, 16, 16, 16, 16, 16, 16, 16, 16, 16, 16, 16, 16, 16, 16, 16,
+        16, 16, 16, 16, 16, 16, 16, 16, 16, 16, 16, 16, 16, 16, 16, 16, 16, 16, 16, 16, 16, 16, 16,
+        16,
+    ];
+    values[digit as usize]
+}
 
 /// The byte of two digits.
 fn byte_of_digits(high: u8, low: u8) -> Result<u8, Fault>
     ensures { result ≡ spec.byte_of_digits (hex_digit_value high) (hex_digit_value low) }
 {
-    match <[u8; 1] as FromHex>::from_hex([high, low]) {
-        Ok(bytes) => Ok(bytes[0]),
-        Err(_) => Err(Fault::Value),
+    let high = digit_value(high);
+    let low = digit_value(low);
+    if high > 15 {
+        return Err(Fault::Value);
     }
+    if low > 15 {
+        return Err(Fault::Value);
+    }
+    Ok(high * 16 + low)
 }
 
-/// The bytes of pairs of digits.
-fn read_pairs(alloc: Global, text: &[u8]) -> Result<ByteList, Halt>
-    ensures { Gives (spec.bytes_of_hex text.now) result }
+/// Writes the bytes of pairs of digits to the front of a room, and gives how many they are.
+fn write_pairs(room: &mut [u8], text: &[u8]) -> Result<usize, Fault>
+    requires { length room.old ≡ length text.now / 2 }
+    ensures bytes { MatchResult result (λ count. spec.bytes_of_hex text.now ≡ Ok (take count room.new)) (λ f. spec.bytes_of_hex text.now ≡ Err f) }
+    ensures inside { IfOk result (λ count. count ≤ length room.new) }
+    ensures same_length { length room.new ≡ length room.old }
 {
-    let mut bytes = Vec::with_capacity(alloc, text.len() / 2)?;
+    let mut count = 0;
     let mut at = 0;
     while at < text.len() {
         let high = text[at];
@@ -32,12 +61,24 @@ fn read_pairs(alloc: Global, text: &[u8]) -> Result<ByteList, Halt>
             continue;
         }
         if at + 1 == text.len() {
-            return Err(Halt::Refused(Fault::Value));
+            return Err(Fault::Value);
         }
-        let byte = byte_of_digits(high, text[at + 1])?;
-        bytes.push(byte)?;
+        room[count] = byte_of_digits(high, text[at + 1])?;
+        count += 1;
         at += 2;
     }
+    Ok(count)
+}
+
+/// The bytes of pairs of digits. They are written into a room that is as long as they can be, since
+/// bytes that are added to a list one by one cost three times as much.
+fn read_pairs(alloc: Global, text: &[u8]) -> Result<ByteList, Halt>
+    ensures { Gives (spec.bytes_of_hex text.now) result }
+{
+    let mut bytes = Vec::new(alloc);
+    bytes.resize(text.len() / 2, 0)?;
+    let count = write_pairs(bytes.as_mut_slice(), text)?;
+    bytes.truncate(count);
     Ok(ByteList::from_vec(bytes))
 }
 

@@ -66,15 +66,24 @@ fn flags_of(bytes: &[u8]) -> [bool; 256]
     flags
 }
 
-/// Each byte mapped by its entry of the table, in one look-up.
+/// Puts its entry of the table in the place of each byte.
+fn map_in_place(bytes: &mut [u8], table: &[u8])
+    requires { length table.now ≡ 256 }
+    ensures { bytes.new ≡ map (slice_index table.now) bytes.old }
+{
+    for byte in bytes.iter_mut() {
+        *byte = table[*byte as usize];
+    }
+}
+
+/// Each byte mapped by its entry of the table, in one look-up. A copy of the bytes is mapped in its
+/// place, since bytes that are added to a list one by one cost three times as much.
 fn mapped(alloc: Global, bytes: &[u8], table: &[u8]) -> Made<ByteList>
     requires { length table.now ≡ 256 }
     ensures { IfOk result (λ list. list ≡ map (slice_index table.now) bytes.now) }
 {
-    let mut list = Vec::with_capacity(alloc, bytes.len())?;
-    for byte in bytes {
-        list.push(table[*byte as usize])?;
-    }
+    let mut list = Vec::from_slice(alloc, bytes)?;
+    map_in_place(list.as_mut_slice(), table);
     Ok(ByteList::from_vec(list))
 }
 

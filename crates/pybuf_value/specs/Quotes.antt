@@ -1,5 +1,5 @@
 -- Bytes between quotes, as Python's `repr` writes them.
-use Rattle.std.specs.Prelude.{ℕ, ◌^◌, nat_lt, length, Result, Ok, Err, ◌/◌, ◌%◌, List, ◌∷◌, [], ◌++◌, ◌==◌, ◌&&◌, not, nat_le, codes, slice_index, if◌then◌else◌}
+use Rattle.std.specs.Prelude.{ℕ, ◌^◌, Bool, nat_lt, length, Result, Ok, Err, ◌/◌, ◌%◌, List, ◌∷◌, [], ◌++◌, ◌==◌, ◌&&◌, not, nat_le, codes, slice_index, if◌then◌else◌}
 use Rattle.std.specs.Str.{byte}
 use Rattle.std.specs.List.{flat_map, list_any}
 use Rattle.hex.specs.Hex.{lower_digits}
@@ -9,6 +9,10 @@ use Rattle.pybuf_value.specs.declared.faults.Fault.TheVariants as fault
 -- the quote round bytes: a double one where they hold a single quote and no double one
 abbrev pub quote_of : List ℕ → ℕ
 quote_of bytes = if list_any (λ b. b == byte "'") bytes && not (list_any (λ b. b == byte "\"") bytes) then byte "\"" else byte "'"
+
+-- whether a byte stands between such quotes as it is
+abbrev pub is_plain : ℕ → ℕ → Bool
+is_plain quote b = nat_le 32 b && nat_le b 126 && not (b == quote) && not (b == byte "\\")
 
 -- a byte between such quotes
 abbrev pub escaped_byte : ℕ → ℕ → List ℕ

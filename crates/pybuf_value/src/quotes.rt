@@ -1,8 +1,8 @@
 //! Bytes between quotes, as Python's `repr` writes them.
 ghost use Rattle.std.specs.Prelude.{◌≡◌, ◌<◌, ◌==◌, ◌++◌, ◌+◌, ◌*◌, ◌≤◌, OnOk, OnErr, length, take, slice_index};
-ghost use Rattle.std.specs.List.{list_any};
+ghost use Rattle.std.specs.List.{flat_map, list_any};
 ghost use Rattle.hex.specs.Hex.{lower_digits};
-ghost use Rattle.pybuf_value.specs.Quotes.{quote_of, escaped_byte, quoted_text};
+ghost use Rattle.pybuf_value.specs.Quotes.{quote_of, is_plain, escaped_byte, quoted_text};
 
 use crate::list::ByteList;
 use pybuf_copy::{Made, NoMemory};
@@ -75,6 +75,31 @@ pub fn push_escaped(out: &mut Vec<u8>, quote: u8, byte: u8) -> Made<()>
     Ok(())
 }
 
+/// Whether a byte stands between such quotes as it is.
+fn is_plain(quote: u8, byte: u8) -> bool
+    ensures { result ≡ is_plain quote byte }
+{
+    byte >= 32 && byte <= 126 && byte != quote && byte != b'\\'
+}
+
+/// Adds the bytes as they stand between such quotes, each run of those that stand as they are at once.
+/// Where memory runs out, a part of them may have been added.
+fn write_escaped(out: &mut Vec<u8>, quote: u8, bytes: &[u8]) -> Made<()>
+    ensures ok { OnOk result (out.new.items ≡ out.old.items ++ flat_map (escaped_byte quote) bytes.now) }
+    ensures err { OnErr result (take (length out.old.items) out.new.items ≡ out.old.items) }
+{
+    let mut start = 0;
+    for (i, byte) in bytes.iter().enumerate() {
+        if !is_plain(quote, *byte) {
+            out.extend_from_slice(&bytes[start..i])?;
+            push_escaped(out, quote, *byte)?;
+            start = i + 1;
+        }
+    }
+    out.extend_from_slice(&bytes[start..])?;
+    Ok(())
+}
+
 /// Adds the bytes between quotes. Where memory runs out, a part of them may have been added.
 fn write_quoted(out: &mut Vec<u8>, bytes: &[u8]) -> Made<()>
     ensures ok { OnOk result (out.new.items ≡ out.old.items ++ quoted_text bytes.now) }
@@ -82,9 +107,7 @@ fn write_quoted(out: &mut Vec<u8>, bytes: &[u8]) -> Made<()>
 {
     let quote = quote(bytes);
     out.push(quote)?;
-    for byte in bytes {
-        push_escaped(out, quote, *byte)?;
-    }
+    write_escaped(out, quote, bytes)?;
     Ok(out.push(quote)?)
 }
 

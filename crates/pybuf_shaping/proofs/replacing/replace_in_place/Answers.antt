@@ -2,7 +2,7 @@ use Rattle.std.proofs.Common.{◌≡◌, ◌<◌, ◌^◌, length, take, subst, 
 use Rattle.std.specs.Prelude.{IfOk}
 use Rattle.bstr.specs.Text.{replaced_at}
 use Rattle.pybuf_search.specs.Matches.{matches_from_left}
-use Rattle.pybuf_shaping.specs.Replacing.{limit_given, replaced}
+use Rattle.pybuf_shaping.specs.Replacing.{limit_given}
 use Rattle.pybuf_shaping.proofs.ReplaceLemmas.{replaced-is}
 use Rattle.pybuf_shaping.proofs.replacing.replace_in_place.Goals as goal
 

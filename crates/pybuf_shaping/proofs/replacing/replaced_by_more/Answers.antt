@@ -1,7 +1,7 @@
-use Rattle.std.proofs.Common.{◌≡◌, ◌*◌, length, take, subst, sym, ap, ◌∙◌, arith}
+use Rattle.std.proofs.Common.{◌≡◌, ◌*◌, length, take, subst, ap, arith}
 use Rattle.std.proofs.lemmas.Grind.{common_steps}
 use Rattle.std.proofs.lemmas.Bool.Decides.{nat_tests}
-use Rattle.bstr.specs.Text.{MatchList, replaced_at}
+use Rattle.bstr.specs.Text.{MatchList}
 use Rattle.pybuf_search.specs.Matches.{matches_from_left}
 use Rattle.pybuf_shaping.proofs.ReplaceLemmas.{length-of-replaced, places-fit}
 use Rattle.pybuf_shaping.proofs.replacing.replaced_by_more.Goals as goal
