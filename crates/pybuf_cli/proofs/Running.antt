@@ -2,6 +2,7 @@
 use Rattle.std.proofs.Common.{◌≡◌, ℕ, ◌+◌, List, [], ◌∷◌, ◌++◌, Option, Some, None, Result, Ok, Err, refl, sym, ◌∙◌, ap, subst}
 use Rattle.std.proofs.lemmas.List.{append_assoc, append-nil}
 use Rattle.pybuf_world.specs.declared.commands.Command.{Command}
+use Rattle.pybuf_world.specs.declared.commands.Reply.{Reply}
 use Rattle.pybuf_world.specs.World.{World, empty_world, wstep, replies_of}
 use Rattle.pybuf_value.specs.Spelling.{handle_text}
 use Rattle.pybuf_line.specs.Scalars.{handle_in}
@@ -49,6 +50,17 @@ cut_at : (rest line after : List ℕ) (number : ℕ) (commands : List Command) �
 cut_at rest line after number commands left cut =
     cut_before number line (lines after) commands (command_in handle_in line) (commands_from handle_in (number + 1) (lines after)) refl refl
     (sym (ap (commands_from handle_in number) cut) ∙ left)
+
+-- what a line that is read, run and answered does
+pub answered_by : (w next : World) (line text longer : List ℕ) (c : Command) (r : Reply) → command_in handle_in line ≡ Some c → wstep w c ≡ (next, r) →
+    longer ≡ text ++ reply_line handle_text r → IsAnswered w line text next longer
+answered_by w next line text longer c r read stepped pushed d also =
+    let same : c ≡ d = cc in (
+      ap (λ (p : World × Reply). p.0) (sym stepped) ∙ ap (λ (x : Command). (wstep w x).0) same,
+      pushed
+          ∙ (ap (λ (p : World × Reply). text ++ reply_line handle_text p.1) (sym stepped)
+          ∙ ap (λ (x : Command). text ++ reply_line handle_text (wstep w x).1) same),
+    )
 
 -- the first line that is left is a command
 pub spelled_first : (input rest line after : List ℕ) (w : World) (old : Option (List ℕ)) (waiting : List ℕ) (held : Option (List ℕ)) →
