@@ -18,6 +18,11 @@ fn push_range(gathered: &mut Vec<u8>, bytes: &[u8], range: Range<usize>) -> Made
     ensures { OnOk result (gathered.new.items ≡ gathered.old.items ++ take (range.end - range.start) (drop range.start bytes.now)) }
 {
     if range.start < range.end {
+        if range.end - range.start == 1 {
+            // one byte costs less by itself than as a run
+            gathered.push(bytes[range.start])?;
+            return Ok(());
+        }
         gathered.extend_from_slice(&bytes[range])?;
     }
     Ok(())

@@ -21,6 +21,11 @@ fn copy_over(bytes: &mut [u8], place: usize, piece: &[u8])
     ensures { bytes.new ≡ bytes_with bytes.old place piece.now }
 {
     let end = place + piece.len();
+    if piece.len() == 1 {
+        // one byte costs less by itself than as a run
+        bytes[place] = piece[0];
+        return;
+    }
     bytes[place..end].copy_from_slice(piece);
 }
 

@@ -1,5 +1,6 @@
 //! Which handles an exporter knows by its loans.
-ghost use Rattle.std.specs.Prelude.{◌≡◌, ◌∷◌, Some};
+ghost use Rattle.std.specs.Prelude.{◌≡◌, ◌≤◌, ◌∷◌, Some, length, take, true};
+ghost use Rattle.std.specs.List.{list_all};
 ghost use Rattle.pybuf_state.specs.Answers.{exporter_of};
 ghost use Rattle.pybuf_command.specs.declared.loans.Loan as spec_loan;
 ghost use Rattle.pybuf_state.specs.Exporter.{Exporter};
@@ -79,10 +80,45 @@ pub fn are_known_beside(
     true
 }
 
-/// Whether each of these handles is known by its loan: as the exporter itself, as a view that it
-/// gave, or as something of another exporter.
-pub fn are_known(parts: &Parts, loans: &[(u64, Loan)], handles: &[u64]) -> bool
+/// How many of the handles stand in the loans at their own places, in pairs of something that is there.
+/// Each of them is known, since its first pair is among these.
+fn known_ahead(parts: &Parts, loans: &[(u64, Loan)], handles: &[u64]) -> usize
+    ensures known { list_all (spec.is_known (exporter_of parts.now) loans.now) (take result handles.now) ≡ true }
+    ensures inside { result ≤ length handles.now }
+{
+    let mut ahead = 0;
+    while ahead < handles.len() {
+        if ahead == loans.len() {
+            return ahead;
+        }
+        let pair = &loans[ahead];
+        if pair.0 != handles[ahead] {
+            return ahead;
+        }
+        if !is_named(parts, &pair.1) {
+            return ahead;
+        }
+        ahead += 1;
+    }
+    ahead
+}
+
+/// Whether each of these handles is known, each by the first pair of it, which is searched for from the
+/// front.
+fn are_found(parts: &Parts, loans: &[(u64, Loan)], handles: &[u64]) -> bool
     ensures { result ≡ spec.are_known (exporter_of parts.now) loans.now handles.now }
 {
     handles.iter().all(|handle| is_known(parts, loans, *handle))
+}
+
+/// Whether each of these handles is known by its loan: as the exporter itself, as a view that it
+/// gave, or as something of another exporter.
+///
+/// Loans that stand in the order of the handles are walked once. For each handle from the first on that
+/// doesn't, or that isn't known, its pair is searched for from the front.
+pub fn are_known(parts: &Parts, loans: &[(u64, Loan)], handles: &[u64]) -> bool
+    ensures { result ≡ spec.are_known (exporter_of parts.now) loans.now handles.now }
+{
+    let ahead = known_ahead(parts, loans, handles);
+    are_found(parts, loans, &handles[ahead..])
 }

@@ -1,0 +1,412 @@
+"""What crates/pybuf_kernels does, by Python's own calls on the same bytes, with the same words.
+
+The words are a kernel, or `all`; how often it is called; the bytes of a kernel over bytes; the items of a
+kernel over items; the seed of the bytes; and `time`, where the time is to be told. For each kernel its name and
+a check sum are printed, and with `time` the nanoseconds of processor time that all calls took. The kernel
+`copy` copies so many bytes from one place to another, and nothing else.
+"""
+import ctypes
+import struct
+import sys
+import time
+import zlib
+
+PLANE = 4_096
+MASK = 2**64 - 1
+RECORD = struct.Struct("<4sHHII")
+
+
+def drawn(plan, size):
+    """So many drawn bytes, by the shifts of Marsaglia's xorshift."""
+    state = plan.seed * 0x9E3779B97F4A7C15 & MASK | 1
+    numbers = []
+    for _ in range(size // 8):
+        state ^= state << 13 & MASK
+        state ^= state >> 7
+        state ^= state << 17 & MASK
+        numbers.append(state)
+    return struct.pack(f"<{len(numbers)}Q", *numbers) + bytes(size % 8)
+
+
+def letter_of(byte):
+    """The byte of a text that a drawn byte stands for."""
+    if byte < 200:
+        return 97 + byte % 23
+    if byte < 216:
+        return 65 + byte - 200
+    return ord(" " if byte < 240 else "," if byte < 252 else "\n")
+
+
+def drawn_text(plan):
+    """A drawn text, in which `z` and `cba` stand nowhere."""
+    return drawn(plan, plan.size).translate(bytes(map(letter_of, range(256)))).replace(b"cba", b"cbd")
+
+
+def mark_of_bytes(made):
+    """The length and Adler's check sum."""
+    return (len(made) << 32) + zlib.adler32(made)
+
+
+def mark_of_parts(parts):
+    """The number of parts and the check sum of all, with a bar behind each."""
+    return (len(parts) << 32) + zlib.adler32(b"".join([part + b"|" for part in parts]))
+
+
+def count_of(item):
+    """What an item counts: a number itself, a record each of its values, as often as its place says."""
+    if isinstance(item, int):
+        return item
+    return sum(weight * (value if isinstance(value, int) else sum(value)) for weight, value in enumerate(item, 1))
+
+
+def as_number(answer):
+    return int(answer)
+
+
+class Kernel:
+    """What is called, how the last answer is marked, and what the calls write to."""
+
+    def __init__(self, call, mark, written=None):
+        self.call, self.mark, self.written = call, mark, written
+
+    def measure(self, calls):
+        """The check sum, and the nanoseconds of processor time of so many calls after a first."""
+        call = self.call
+        answer = call()
+        start = time.process_time_ns()
+        for _ in range(calls):
+            answer = call()
+        taken = time.process_time_ns() - start
+        written = 0 if self.written is None else mark_of_bytes(self.written)
+        return self.mark(answer) + written, taken
+
+
+def in_planes(view):
+    return view.cast("B", (len(view) // PLANE, 256, 16))
+
+
+def no_answer(answer):
+    assert answer is None
+    return 0
+
+
+# copies
+
+
+def to_bytes(view):
+    return Kernel(view.tobytes, mark_of_bytes)
+
+
+def of_contiguous(plan):
+    return to_bytes(memoryview(bytearray(drawn(plan, plan.size))))
+
+
+def of_stepped(plan):
+    return to_bytes(memoryview(bytearray(drawn(plan, 2 * plan.size)))[::2])
+
+
+def of_reversed(plan):
+    return to_bytes(memoryview(bytearray(drawn(plan, plan.size)))[::-1])
+
+
+def of_planes(plan):
+    return to_bytes(in_planes(memoryview(bytearray(drawn(plan, 2 * plan.size))))[::2])
+
+
+# assignments of slices
+
+
+def assigned(object, target, key, source):
+    def call():
+        target[key] = source
+
+    return Kernel(call, no_answer, object)
+
+
+def set_contiguous(plan):
+    object = bytearray(plan.size)
+    return assigned(object, memoryview(object), slice(None, None, 1), memoryview(bytearray(drawn(plan, plan.size))))
+
+
+def set_stepped(plan):
+    object = bytearray(2 * plan.size)
+    return assigned(object, memoryview(object), slice(None, None, 2), memoryview(bytearray(drawn(plan, 2 * plan.size)))[::2])
+
+
+def set_reversed(plan):
+    object = bytearray(plan.size)
+    return assigned(object, memoryview(object), slice(None, None, 1), memoryview(bytearray(drawn(plan, plan.size)))[::-1])
+
+
+def set_planes(plan):
+    object = bytearray(plan.size)
+    source = in_planes(memoryview(bytearray(drawn(plan, 2 * plan.size))))[::2]
+    return assigned(object, object, slice(0, plan.size), source)
+
+
+def set_overlapping(plan):
+    object = bytearray(drawn(plan, plan.size))
+    view = memoryview(object)
+    return assigned(object, view, slice(1, None), view[:-1])
+
+
+def set_itself(plan):
+    object = bytearray(drawn(plan, plan.size))
+    view = memoryview(object)
+    return assigned(object, view, slice(None, None, -1), view)
+
+
+# views that are made and released
+
+
+def views(plan):
+    object = bytearray(drawn(plan, PLANE))
+
+    def call():
+        for _ in range(plan.count):
+            memoryview(object).release()
+        return plan.count
+
+    return Kernel(call, as_number)
+
+
+def sliced(plan, view):
+    def call():
+        for _ in range(plan.count):
+            view[1:].release()
+        return plan.count
+
+    return Kernel(call, as_number)
+
+
+def slices(plan):
+    return sliced(plan, memoryview(bytearray(drawn(plan, 2 * PLANE))))
+
+
+def slices_planes(plan):
+    return sliced(plan, in_planes(memoryview(bytearray(drawn(plan, 2 * PLANE)))))
+
+
+def casts(plan):
+    view = memoryview(bytearray(drawn(plan, PLANE)))
+
+    def call():
+        for _ in range(plan.count):
+            view.cast("H").release()
+        return plan.count
+
+    return Kernel(call, as_number)
+
+
+# items
+
+
+def got(plan, format, size):
+    view = memoryview(bytearray(drawn(plan, size * plan.count))).cast(format)
+
+    def call():
+        for place in range(plan.count):
+            view[place]
+
+    return Kernel(call, lambda answer: sum([view[place] for place in range(plan.count)]))
+
+
+def unpacked(plan, is_marked):
+    view = memoryview(bytearray(drawn(plan, 16 * plan.count)))
+    unpack_from = RECORD.unpack_from
+
+    def call():
+        for place in range(plan.count):
+            unpack_from(view, 16 * place)
+
+    mark = lambda answer: sum([count_of(unpack_from(view, 16 * place)) for place in range(plan.count)])
+    return Kernel(call, mark, view if is_marked else None)
+
+
+def put(plan, format, size, limit):
+    object = bytearray(drawn(plan, size * plan.count))
+    view = memoryview(object).cast(format)
+
+    def call():
+        for place in range(plan.count):
+            view[place] = place % limit
+
+    return Kernel(call, no_answer, object)
+
+
+def packed(plan):
+    object = bytearray(drawn(plan, 16 * plan.count))
+    view = memoryview(object)
+    pack_into = RECORD.pack_into
+
+    def call():
+        for place in range(plan.count):
+            pack_into(view, 16 * place, b"tags", place % 65_536, 7, place % 1_000_003, 4_000_000_000)
+
+    return Kernel(call, no_answer, object)
+
+
+def append_pop(plan):
+    def call():
+        object = bytearray()
+        for place in range(plan.count):
+            object.append(place % 251)
+        for _ in range(plan.count):
+            object.pop()
+
+    def mark(answer):
+        object = bytearray([place % 251 for place in range(plan.count)])
+        return sum([object.pop() for _ in range(plan.count)])
+
+    return Kernel(call, mark)
+
+
+# comparisons
+
+
+def compare(plan):
+    object = bytearray(2 * drawn(plan, plan.size))
+    first, second = memoryview(object)[: plan.size], memoryview(object)[plan.size :]
+    return Kernel(lambda: first == second, as_number, object)
+
+
+def twins(plan):
+    content = drawn_text(plan)
+    return bytearray(content), bytearray(content)
+
+
+def compare_beside(plan):
+    first, second = twins(plan)
+    view, other = memoryview(first), memoryview(second)
+    return Kernel(lambda: view == other, as_number, first)
+
+
+# strings of bytes
+
+
+def find_view(plan):
+    first, second = twins(plan)
+    other = memoryview(second)
+    return Kernel(lambda: first.find(other), as_number, first)
+
+
+def add_view(plan):
+    first, second = twins(plan)
+    other = memoryview(second)
+    return Kernel(lambda: first + other, mark_of_bytes, first)
+
+
+def contains_byte(plan):
+    first = twins(plan)[0]
+    return Kernel(lambda: 122 in first, as_number, first)
+
+
+def of_text(mark, method, *arguments):
+    """A method of a drawn text."""
+
+    def kernel(plan):
+        call = getattr(drawn_text(plan), method)
+        return Kernel(lambda: call(*arguments), mark)
+
+    return kernel
+
+
+def find_end(plan):
+    text = drawn_text(plan)
+    needle = text[-1_000:]
+    return Kernel(lambda: text.find(needle), as_number)
+
+
+def join(plan):
+    parts = drawn_text(plan).split(b",")
+    return Kernel(lambda: b", ".join(parts), mark_of_bytes)
+
+
+def strip(plan):
+    edge = b" " * (plan.size // 4)
+    padded = edge + b"x" * (plan.size - 2 * len(edge)) + edge
+    return Kernel(padded.strip, mark_of_bytes)
+
+
+def hex(plan):
+    return Kernel(drawn(plan, plan.size).hex, lambda answer: mark_of_bytes(answer.encode()))
+
+
+def from_hex(plan):
+    digits = drawn(plan, plan.size).hex()
+    return Kernel(lambda: bytes.fromhex(digits), mark_of_bytes)
+
+
+def copy(plan):
+    source, target = (ctypes.create_string_buffer(plan.size) for _ in range(2))
+    move, size = ctypes.memmove, plan.size
+    return Kernel(lambda: move(target, source, size), lambda answer: 0)
+
+
+KERNELS = {
+    "tobytes-contiguous": of_contiguous,
+    "tobytes-stepped": of_stepped,
+    "tobytes-reversed": of_reversed,
+    "tobytes-planes": of_planes,
+    "set-contiguous": set_contiguous,
+    "set-stepped": set_stepped,
+    "set-reversed": set_reversed,
+    "set-planes": set_planes,
+    "set-overlapping": set_overlapping,
+    "set-itself": set_itself,
+    "views": views,
+    "slices": slices,
+    "slices-planes": slices_planes,
+    "casts": casts,
+    "get-B": lambda plan: got(plan, "B", 1),
+    "get-i": lambda plan: got(plan, "i", 4),
+    # no view of Python's reads or writes such items, so `struct` does
+    "get-record": lambda plan: unpacked(plan, False),
+    "set-B": lambda plan: put(plan, "B", 1, 251),
+    "set-i": lambda plan: put(plan, "i", 4, 1_000_003),
+    "set-record": packed,
+    "unpack": lambda plan: unpacked(plan, True),
+    "pack-into": packed,
+    "append-pop": append_pop,
+    "compare": compare,
+    "compare-beside": compare_beside,
+    "find-byte": of_text(as_number, "find", b"z"),
+    "find-three": of_text(as_number, "find", b"cba"),
+    "find-end": find_end,
+    "find-view": find_view,
+    "contains-byte": contains_byte,
+    "count-byte": of_text(as_number, "count", b"a"),
+    "count-three": of_text(as_number, "count", b"abc"),
+    "split-comma": of_text(mark_of_parts, "split", b","),
+    "split-blanks": of_text(mark_of_parts, "split"),
+    "splitlines": of_text(mark_of_parts, "splitlines"),
+    "join": join,
+    "add-view": add_view,
+    "replace-same": of_text(mark_of_bytes, "replace", b"ab", b"xy"),
+    "replace-longer": of_text(mark_of_bytes, "replace", b"ab", b"wxyz"),
+    "translate": of_text(mark_of_bytes, "translate", bytes(range(255, -1, -1))),
+    "upper": of_text(mark_of_bytes, "upper"),
+    "strip": strip,
+    "hex": hex,
+    "fromhex": from_hex,
+}
+
+
+class Plan:
+    """The sizes of the kernels."""
+
+    def __init__(self, size, count, seed):
+        self.size, self.count, self.seed = size, count, seed
+
+
+def main():
+    name, calls, size, count, seed = sys.argv[1], *map(int, sys.argv[2:6])
+    plan = Plan(size, count, seed)
+    for each, kernel in {**KERNELS, "copy": copy}.items():
+        if name == each or name == "all" and each != "copy":
+            mark, taken = kernel(plan).measure(calls)
+            print(each, mark, *[taken for word in sys.argv[6:] if word == "time"])
+
+
+if __name__ == "__main__":
+    main()

@@ -1,0 +1,153 @@
+//! Records by a format of `struct`.
+
+use crate::answers::{Answer, mark_of_bytes};
+use crate::items::{Form, count_of_values};
+use crate::kernel::Kernel;
+use crate::plan::Plan;
+use crate::viewed::Viewed;
+use pybuf_buffer::PyBuffer;
+use pybuf_exporter::ExporterState;
+use pybuf_struct::FormatSpec;
+use pybuf_value::{ByteList, Made, Outcome, Scalar, ScalarList, SnapList};
+use std::alloc::Global;
+
+/// The number of bytes of a record.
+const RECORD: usize = 16;
+
+/// What is done with each record.
+#[derive(Clone, Copy)]
+pub enum Doing {
+    /// `struct.unpack`.
+    Unpack,
+    /// `struct.pack_into`, over bytes that are lent once.
+    PackInto,
+    /// The same, where the bytes of a view are lent for each record: a view takes no record as an item.
+    Set,
+}
+
+/// So many records in a view, and their format.
+#[derive(Drop)]
+pub struct Records {
+    format: Option<FormatSpec>,
+    viewed: Viewed,
+    count: usize,
+    doing: Doing,
+}
+
+/// The values of the record of a number.
+fn record_of(alloc: Global, number: usize) -> Made<ScalarList> {
+    let mut values = ScalarList::new(alloc);
+    let tag = ByteList::from_vec(Vec::from_slice(alloc, b"tags")?);
+    values.push(Scalar::Bytes(tag))?;
+    values.push(Scalar::Int((number % 65_536) as i128))?;
+    values.push(Scalar::Int(7))?;
+    values.push(Scalar::Int((number % 1_000_003) as i128))?;
+    values.push(Scalar::Int(4_000_000_000))?;
+    Ok(values)
+}
+
+/// Writes the record of a number. The answer is whether it wasn't refused.
+fn pack(alloc: Global, format: &FormatSpec, room: &mut [u8], number: usize) -> Made<bool> {
+    if room.len() != format.size() {
+        return Ok(false);
+    }
+    let values = record_of(alloc, number)?;
+    let pairs = SnapList::new(alloc);
+    Ok(format.pack_into(room, &values, &pairs).is_ok())
+}
+
+/// The bytes of a buffer, lent to be written; none where there are none.
+fn bytes_of<'a>(state: &'a mut ExporterState, buffer: &PyBuffer) -> Option<&'a mut [u8]> {
+    if !buffer.is_live(state) {
+        return None;
+    }
+    buffer.as_contiguous_mut(state)
+}
+
+/// Reads each record, and sums up what they count.
+fn unpack_all(alloc: Global, format: &FormatSpec, bytes: &[u8]) -> Made<Answer> {
+    let mut sum = 0i128;
+    for record in bytes.chunks_exact(RECORD) {
+        let Outcome::Done(values) = format.unpack(alloc, record)? else {
+            return Ok(Answer::Refused);
+        };
+        sum = sum.wrapping_add(count_of_values(values.as_slice()));
+    }
+    Ok(Answer::Number(sum))
+}
+
+/// Writes each record.
+fn pack_all(alloc: Global, format: &FormatSpec, bytes: &mut [u8]) -> Made<Answer> {
+    let mut number = 0usize;
+    for room in bytes.chunks_exact_mut(RECORD) {
+        if !pack(alloc, format, room, number)? {
+            return Ok(Answer::Refused);
+        }
+        number = number.wrapping_add(1);
+    }
+    Ok(Answer::Nothing)
+}
+
+/// Writes the record of a number among the bytes of a buffer. The answer is whether it wasn't refused.
+fn set(
+    alloc: Global,
+    state: &mut ExporterState,
+    buffer: &PyBuffer,
+    format: &FormatSpec,
+    number: usize,
+) -> Made<bool> {
+    let start = number.saturating_mul(RECORD);
+    let end = start.saturating_add(RECORD);
+    let Some(bytes) = bytes_of(state, buffer) else {
+        return Ok(false);
+    };
+    match bytes.get_mut(start..end) {
+        Some(room) => pack(alloc, format, room, number),
+        None => Ok(false),
+    }
+}
+
+impl Records {
+    /// So many drawn records.
+    pub fn of(alloc: Global, plan: Plan, doing: Doing) -> Made<Records> {
+        let format = match FormatSpec::parse(alloc, b"<4sHHII")? {
+            Outcome::Done(format) => Some(format),
+            Outcome::Refused(_) => None,
+        };
+        Ok(Records {
+            format,
+            viewed: Form::Record.viewed(alloc, plan)?,
+            count: plan.count,
+            doing,
+        })
+    }
+}
+
+impl Kernel for Records {
+    fn call(&mut self, alloc: Global) -> Made<Answer> {
+        let Some(format) = &self.format else {
+            return Ok(Answer::Refused);
+        };
+        let buffer = PyBuffer::of(self.viewed.view.number());
+        match self.doing {
+            Doing::Unpack => unpack_all(alloc, format, self.viewed.object.borrow_buf()),
+            Doing::PackInto => match bytes_of(self.viewed.object.state_mut(), &buffer) {
+                Some(bytes) => pack_all(alloc, format, bytes),
+                None => Ok(Answer::Refused),
+            },
+            Doing::Set => {
+                for number in 0..self.count {
+                    let state = self.viewed.object.state_mut();
+                    if !set(alloc, state, &buffer, format, number)? {
+                        return Ok(Answer::Refused);
+                    }
+                }
+                Ok(Answer::Nothing)
+            }
+        }
+    }
+
+    fn written(&self) -> i128 {
+        mark_of_bytes(self.viewed.object.borrow_buf())
+    }
+}

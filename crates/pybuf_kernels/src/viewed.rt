@@ -1,0 +1,104 @@
+//! Objects with a view that kernels work on.
+ghost use Rattle.std.specs.Prelude.{IfOk};
+ghost use Rattle.pybuf_command.specs.Fits.{LoansFit};
+
+use crate::data::drawn;
+use crate::keys::{slice, text};
+use crate::plan::Plan;
+use pybuf_command::{Loan, LoanList, LocalReply};
+use pybuf_object::{PyByteArray, PyMemoryView};
+use pybuf_value::{Made, Scalar, ScalarList, Value};
+use std::alloc::Global;
+
+/// The number of bytes of a plane of 256 rows of 16 bytes.
+pub const PLANE: usize = 4_096;
+
+/// Which bytes of a bytearray a view has.
+#[derive(Clone, Copy)]
+pub enum Part {
+    /// All.
+    Whole,
+    /// Every other.
+    EveryOther,
+    /// All, from the last on.
+    Backwards,
+    /// Every other plane of 256 rows of 16.
+    Planes,
+}
+
+/// A bytearray, and one of its views.
+#[derive(Drop)]
+pub struct Viewed {
+    pub object: PyByteArray,
+    pub view: PyMemoryView,
+}
+
+/// The view of a reply. Where it was refused, one that was never given, of which every command is refused.
+pub fn view_of(reply: &LocalReply) -> PyMemoryView {
+    match reply {
+        LocalReply::View(view) => PyMemoryView::of(*view),
+        _ => PyMemoryView::of(usize::MAX),
+    }
+}
+
+/// The shape of so many bytes in planes.
+pub fn planes_of(alloc: Global, size: usize) -> Made<Value> {
+    let mut shape = ScalarList::new(alloc);
+    shape.push(Scalar::Int((size / PLANE) as i128))?;
+    shape.push(Scalar::Int(256))?;
+    shape.push(Scalar::Int(16))?;
+    Ok(Value::Tuple(shape))
+}
+
+/// The loans of a command in which handle 0 names a view of its own object.
+pub fn lend_view(alloc: Global, view: &PyMemoryView) -> Made<LoanList>
+    ensures { IfOk result LoansFit }
+{
+    let mut loans = LoanList::new(alloc);
+    loans.push((0, Loan::View(view.number())))?;
+    Ok(loans)
+}
+
+impl Viewed {
+    /// A bytearray of these bytes, and a view of all.
+    pub fn whole(alloc: Global, bytes: Vec<u8>) -> Made<Viewed> {
+        let mut object = PyByteArray::new_ref(alloc, bytes);
+        let view = view_of(&object.as_buffer(LoanList::new(alloc))?);
+        Ok(Viewed { object, view })
+    }
+
+    /// The view that a slice of the view makes.
+    pub fn sliced(&mut self, alloc: Global, key: Value) -> Made<PyMemoryView> {
+        let state = self.object.state_mut();
+        let reply = self.view.getitem(state, key, LoanList::new(alloc))?;
+        Ok(view_of(&reply))
+    }
+
+    /// The view with items of another format, or in a shape.
+    pub fn cast(self, alloc: Global, format: &str, shape: Option<Value>) -> Made<Viewed> {
+        let Viewed { mut object, view } = self;
+        let format = text(alloc, format)?;
+        let loans = LoanList::new(alloc);
+        let reply = view.cast(object.state_mut(), format, shape, loans)?;
+        let view = view_of(&reply);
+        Ok(Viewed { object, view })
+    }
+
+    /// A part of drawn bytes that has so many as the plan says.
+    pub fn part(alloc: Global, plan: Plan, part: Part) -> Made<Viewed> {
+        let twice = plan.size.saturating_mul(2);
+        let (size, step) = match part {
+            Part::Whole => (plan.size, 1),
+            Part::EveryOther => (twice, 2),
+            Part::Backwards => (plan.size, -1),
+            Part::Planes => (twice, 2),
+        };
+        let mut viewed = Viewed::whole(alloc, drawn(alloc, plan.seed, size)?)?;
+        if let Part::Planes = part {
+            let shape = Some(planes_of(alloc, size)?);
+            viewed = viewed.cast(alloc, "B", shape)?;
+        }
+        viewed.view = viewed.sliced(alloc, slice(None, None, Some(step)))?;
+        Ok(viewed)
+    }
+}

@@ -1,0 +1,5 @@
+mod NumberLemmas
+mod OutLemmas
+mod DigitLemmas
+mod PlaceLemmas
+mod RoomLemmas

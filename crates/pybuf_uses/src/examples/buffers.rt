@@ -1,0 +1,71 @@
+//! `PyBuffer`, `VecBuffer`, and bytes that are borrowed for a call.
+use super::bytes;
+use pybuf_object::{PyByteArray, VecBuffer};
+use pybuf_value::{Fault, SnapList};
+use pybuf_view::{
+    ArgBytesLike, ArgMemoryBuffer, ExporterKind, LoanList, PyBuffer, Subject, try_rw_bytes_like,
+};
+use std::alloc::Global;
+use std::test::Fail;
+
+#[test]
+fn a_buffer_lends_the_bytes_of_a_view(rt: HostRuntime) -> Result<(), Fail> {
+    let alloc = rt.alloc();
+    let mut array = PyByteArray::new_ref(alloc, Vec::from_slice(alloc, b"abc")?);
+    array.as_buffer(LoanList::new(alloc))?;
+    let buffer = PyBuffer::of(0);
+    let state = array.state_mut();
+    assert!(rt; buffer.is_live(state));
+    assert_eq!(rt; buffer.as_contiguous(state), Some(b"abc".as_slice()));
+    let mut copied = Vec::new(alloc);
+    buffer.append_uncounted(state, &mut copied)?;
+    assert_eq!(rt; copied.as_slice(), b"abc".as_slice());
+    Ok(())
+}
+
+/// Lends a vector's bytes, and tries to take them out before and after the loan ends.
+fn lend_and_take(alloc: Global, bytes: &[u8]) -> Result<(Option<Fault>, Vec<u8>), Fail> {
+    let mut vector = VecBuffer::from(alloc, Vec::from_slice(alloc, bytes)?);
+    let lent = vector.into_pybuffer(false)?;
+    let refused = vector.take().err();
+    lent.release(vector.state_mut());
+    if vector.state().kind() != (ExporterKind::Vector { readonly: false }) {
+        return Ok((refused, Vec::new(alloc)));
+    }
+    let taken = vector.take().unwrap_or(Vec::new(alloc));
+    Ok((refused, taken))
+}
+
+#[test]
+fn a_vector_is_taken_back(rt: HostRuntime) -> Result<(), Fail> {
+    let (refused, taken) = lend_and_take(rt.alloc(), b"abc")?;
+    assert_eq!(rt; refused, Some(Fault::Buffer));
+    assert_eq!(rt; taken.as_slice(), b"abc".as_slice());
+    Ok(())
+}
+
+#[test]
+fn the_bytes_of_a_value_are_borrowed(rt: HostRuntime) -> Result<(), Fail> {
+    let alloc = rt.alloc();
+    let lender = SnapList::new(alloc);
+    let value = bytes(alloc, b"abc")?;
+    match ArgBytesLike::try_from_value(&value, &lender) {
+        Ok(argument) => assert_eq!(rt; argument.borrow_buf(), b"abc".as_slice()),
+        Err(_) => assert!(rt; false),
+    }
+    Ok(())
+}
+
+#[test]
+fn the_bytes_of_a_view_are_borrowed_to_be_written(rt: HostRuntime) -> Result<(), Fail> {
+    let alloc = rt.alloc();
+    let mut array = PyByteArray::new_ref(alloc, Vec::from_slice(alloc, b"abcdef")?);
+    array.range(super::int(1), super::int(4), LoanList::new(alloc))?;
+    let state = array.state_mut();
+    let turned = try_rw_bytes_like(state, Subject::View(0), |bytes| bytes.reverse());
+    assert!(rt; turned.is_ok());
+    assert_eq!(rt; state.bytes(), b"adcbef".as_slice());
+    let refused = ArgMemoryBuffer::try_from_subject(state, Subject::View(1)).err();
+    assert_eq!(rt; refused, Some(Fault::UnknownName));
+    Ok(())
+}

@@ -1,0 +1,52 @@
+//! `FormatSpec`, as Python's `struct`.
+use pybuf_struct::FormatSpec;
+use pybuf_value::{Fault, Outcome, Scalar, ScalarList, SnapList, Tried};
+use std::alloc::Global;
+use std::test::Fail;
+
+/// What a call answers that isn't refused.
+fn done<T>(answer: Tried<T>) -> Result<T, Fail> {
+    match answer? {
+        Outcome::Done(value) => Ok(value),
+        Outcome::Refused(fault) => Err(Fail::new(fault)),
+    }
+}
+
+fn first_number(values: &ScalarList) -> Option<i128> {
+    match values.as_slice() {
+        [Scalar::Int(number), ..] => Some(*number),
+        _ => None,
+    }
+}
+
+#[test]
+fn values_are_packed_and_unpacked(rt: HostRuntime) -> Result<(), Fail> {
+    let alloc = rt.alloc();
+    let format = done(FormatSpec::parse(alloc, b"<hI"))?;
+    assert_eq!(rt; format.size(), 6);
+    let mut values = ScalarList::new(alloc);
+    values.push(Scalar::Int(-2))?;
+    values.push(Scalar::Int(258))?;
+    let bytes = done(format.pack(alloc, &values, &SnapList::new(alloc)))?;
+    assert_eq!(rt; bytes.as_slice(), b"\xfe\xff\x02\x01\x00\x00".as_slice());
+    let read = done(format.unpack(alloc, bytes.as_slice()))?;
+    assert_eq!(rt; first_number(&read), Some(-2));
+    Ok(())
+}
+
+/// Why a text is no format.
+fn refusal(alloc: Global, format: &[u8]) -> Result<Option<Fault>, Fail> {
+    match FormatSpec::parse(alloc, format)? {
+        Outcome::Done(_) => Ok(None),
+        Outcome::Refused(fault) => Ok(Some(fault)),
+    }
+}
+
+#[test]
+fn texts_are_formats_or_refused(rt: HostRuntime) -> Result<(), Fail> {
+    let alloc = rt.alloc();
+    assert_eq!(rt; refusal(alloc, b">4s2xQ")?, None);
+    assert_eq!(rt; refusal(alloc, b"4")?, Some(Fault::Struct));
+    assert_eq!(rt; refusal(alloc, b"<n")?, Some(Fault::Struct));
+    Ok(())
+}

@@ -1,0 +1,55 @@
+//! The methods of strings of bytes, by the type that has them and by their names.
+use super::{Told, bytes, has, tell};
+use pybuf_object::PyBytes;
+use pybuf_value::{Outcome, Tried, ValueList};
+use pybuf_view::{LoanList, MethodCall, MethodName, PyBytesInner};
+use std::alloc::Global;
+use std::test::Fail;
+
+fn string(alloc: Global, bytes: &[u8]) -> Result<PyBytesInner, Fail> {
+    Ok(PyBytesInner::from(Vec::from_slice(alloc, bytes)?))
+}
+
+/// What a call answers that isn't refused.
+fn done<T>(answer: Tried<T>) -> Result<T, Fail> {
+    match answer? {
+        Outcome::Done(value) => Ok(value),
+        Outcome::Refused(fault) => Err(Fail::new(fault)),
+    }
+}
+
+#[test]
+fn strings_have_methods(rt: HostRuntime) -> Result<(), Fail> {
+    let alloc = rt.alloc();
+    let name = string(alloc, b" key=value ")?;
+    assert_eq!(rt;
+        name.strip(alloc, None)?.as_slice(),
+        b"key=value".as_slice()
+    );
+    assert_eq!(rt; name.upper(alloc)?.as_slice(), b" KEY=VALUE ".as_slice());
+    let (sign, colon) = (string(alloc, b"=")?, string(alloc, b": ")?);
+    let replaced = done(name.replace(alloc, &sign, &colon, None))?;
+    assert_eq!(rt; replaced.as_slice(), b" key: value ".as_slice());
+    let digits = done(sign.hex(alloc, None, None))?;
+    assert_eq!(rt; digits.as_slice(), b"3d".as_slice());
+    Ok(())
+}
+
+/// A call of a method with one argument.
+fn call(alloc: Global, name: MethodName, argument: &[u8]) -> Result<MethodCall, Fail> {
+    let mut args = ValueList::new(alloc);
+    args.push(bytes(alloc, argument)?)?;
+    Ok(MethodCall { name, args })
+}
+
+#[test]
+fn methods_are_called_by_name(rt: HostRuntime) -> Result<(), Fail> {
+    let alloc = rt.alloc();
+    let none = || LoanList::new(alloc);
+    let mut object = PyBytes::new_ref(alloc, Vec::from_slice(alloc, b"a,b,c")?);
+    let find = call(alloc, MethodName::RFind, b",")?;
+    assert_eq!(rt; tell(object.call(find, none())?), Told::Number(3));
+    let without = call(alloc, MethodName::RemovePrefix, b"a,")?;
+    assert!(rt; has(object.call(without, none())?, b"b,c"));
+    Ok(())
+}

@@ -1,0 +1,196 @@
+"""Compares what the documents show with what is run as a test, and ends with status 1 where they differ.
+
+- A block of Rust or of definitions has to stand word for word in a source of `crates/`.
+- A block of changes has to begin with the name of a file, in which its lines before or after the change stand.
+- An input of the program has to be an example of `examples/`, with the output that the document shows.
+- A line in a table of `docs/COMMANDS.md` has to stand in an example, with the reply of the table.
+- A file or a folder that a document names has to be there.
+"""
+
+import pathlib
+import re
+import shlex
+import sys
+
+ROOT = pathlib.Path(__file__).resolve().parent.parent
+DOCUMENTS = [ROOT / "README.md", ROOT / "CONTRIBUTING.md", ROOT / "CHANGELOG.md"] + sorted((ROOT / "docs").glob("*.md"))
+ENDINGS = {"rust": ".rt", "antt": ".antt"}
+faults = []
+
+
+def report(document, line, what):
+    faults.append(f"{document.relative_to(ROOT)}:{line}: {what}")
+
+
+def stripped(lines):
+    """The lines without the indentation that they share, and without blanks at their ends."""
+    lines = [line.rstrip() for line in lines]
+    indents = [len(line) - len(line.lstrip()) for line in lines if line]
+    indent = min(indents, default=0)
+    return [line[indent:] for line in lines]
+
+
+def stands_in(block, source):
+    """Whether the lines stand in a source one after the other, all indented alike."""
+    for start in range(len(source) - len(block) + 1):
+        if block[0].strip() == source[start].strip() and stripped(source[start : start + len(block)]) == block:
+            return True
+    return False
+
+
+def sources(ending):
+    return [path.read_text().split("\n") for path in sorted((ROOT / "crates").glob("*/*/**/*" + ending)) if "out" not in path.parts]
+
+
+def check_changes(document, line, block):
+    """A block of changes: its file, and then lines that begin with a blank, a minus or a plus."""
+    path = ROOT / block[0].removeprefix("--- ")
+    if not path.exists():
+        report(document, line, f"{block[0]} names no file")
+        return
+    before = [part[1:] for part in block[1:] if part[:1] in (" ", "-")]
+    after = [part[1:] for part in block[1:] if part[:1] in (" ", "+")]
+    source = path.read_text().split("\n")
+    if not any(source[at : at + len(form)] == form for form in (before, after) for at in range(len(source))):
+        report(document, line, f"neither the lines before the change nor those after it stand in {path.relative_to(ROOT)}")
+
+
+def check_blocks(document, lines, kept):
+    """Blocks between fences, whose language is said behind the first fence."""
+    start = None
+    for number, line in enumerate(lines, 1):
+        if not line.startswith("```"):
+            continue
+        if start is None:
+            start, language = number, line[3:].strip()
+            continue
+        if language == "diff":
+            check_changes(document, start, lines[start : number - 1])
+        ending = ENDINGS.get(language)
+        if ending is not None:
+            block = stripped(lines[start : number - 1])
+            if ending not in kept:
+                kept[ending] = sources(ending)
+            if not any(stands_in(block, source) for source in kept[ending]):
+                report(document, start, f"the block stands in no source with the ending {ending}")
+        start = None
+
+
+def outputs():
+    """Of each example its input and its output."""
+    found = []
+    for path in sorted((ROOT / "examples").glob("*.stdout")):
+        found.append((path.with_suffix("").read_text(), path.read_text()))
+    return found
+
+
+def shown_behind(lines, at):
+    """The output that stands behind a command of a document."""
+    shown = []
+    while at < len(lines) and lines[at].startswith("    ") and not lines[at].startswith("    $ "):
+        shown.append(lines[at][4:])
+        at += 1
+    return "".join(line + "\n" for line in shown)
+
+
+def check_inputs(document, lines, examples):
+    """Inputs that a document pipes into the program, or writes into a file."""
+    for at, line in enumerate(lines):
+        piped = re.fullmatch(r" {4}\$ (printf .*) \| pybuf", line)
+        if piped is not None:
+            text = shlex.split(piped[1])[1].replace("\\n", "\n")
+            if (text, shown_behind(lines, at + 1)) not in examples:
+                report(document, at + 1, "no example has this input and this output")
+        if re.fullmatch(r" {4}\$ cat > \S+ <<'END'", line) is not None:
+            end = lines.index("    END", at)
+            text = "".join(part[4:] + "\n" for part in lines[at + 1 : end])
+            if text not in [given for given, _ in examples]:
+                report(document, at + 1, "no example has this input")
+            elif not any(given == text and written in plain_blocks(lines) for given, written in examples):
+                report(document, at + 1, "the output of this input is not shown")
+
+
+def plain_blocks(lines):
+    """The indented blocks of a document."""
+    blocks, block = [], []
+    for line in lines + [""]:
+        if line.startswith("    "):
+            block.append(line[4:] + "\n")
+        elif block:
+            blocks.append("".join(block))
+            block = []
+    return blocks
+
+
+def rows(lines, head):
+    """The rows of the table whose head begins so, with their numbers of line."""
+    start = next((at for at, line in enumerate(lines) if line.startswith(head)), None)
+    if start is None:
+        return
+    for at in range(start + 2, len(lines)):
+        if not lines[at].startswith("|"):
+            return
+        yield at + 1, [cell.strip() for cell in lines[at].strip().strip("|").split("|")]
+
+
+def quoted(cell):
+    """What stands between backquotes."""
+    return re.findall(r"`([^`]+)`", cell)
+
+
+def check_tables(document, lines, examples):
+    """Lines and replies of the tables of commands, methods, properties and refusals."""
+    pairs = set()
+    for given, written in examples:
+        pairs.update(zip(given.split("\n"), written.split("\n")))
+    wanted = []
+    for head in ["| Line | What it does |", "| METHOD and its arguments |"]:
+        for number, cells in rows(lines, head):
+            wanted += [(number, line, reply) for line, reply in zip(quoted(cells[2]), quoted(cells[3]))]
+    for number, cells in rows(lines, "| Name | Of |"):
+        for name in quoted(cells[0]):
+            subject = "h0" if name == "exports" else "h1"
+            wanted.append((number, f"prop {subject} {name}", quoted(cells[3])[0]))
+    for number, cells in rows(lines, "| Refusal | Where it comes |"):
+        wanted.append((number, quoted(cells[2])[0], quoted(cells[0])[0]))
+    if not wanted:
+        report(document, 1, "the tables were not found")
+    for number, line, reply in wanted:
+        if (line, reply) not in pairs:
+            report(document, number, f"no example has the line {line} with the reply {reply}")
+
+
+def check_names(document, lines):
+    """Files and folders that are named between backquotes or linked."""
+    tops = ("crates/", "docs/", "examples/", "cases/", "tools/", "bench/", ".ci/")
+    for number, line in enumerate(lines, 1):
+        for name in re.findall(r"`([^`\s]+)`", line):
+            if name.startswith(tops) and not re.search(r"[A-Z]{3,}/|NAME|[*{<]", name):
+                path = name.split("::")[0].rstrip("/")
+                if "/out" not in path and not (ROOT / path).exists():
+                    report(document, number, f"{name} is not there")
+        for name in re.findall(r"\]\(([^)#\s]+)(?:#[^)]*)?\)", line):
+            if "://" not in name and not (document.parent / name).exists():
+                report(document, number, f"{name} is not there")
+
+
+def main():
+    kept = {}
+    examples = outputs()
+    for document in DOCUMENTS:
+        if not document.exists():
+            report(document, 1, "the document is not there")
+            continue
+        lines = document.read_text().split("\n")
+        check_blocks(document, lines, kept)
+        check_inputs(document, lines, examples)
+        check_names(document, lines)
+        if document.name == "COMMANDS.md":
+            check_tables(document, lines, examples)
+    for fault in faults:
+        print(fault)
+    return 1 if faults else 0
+
+
+if __name__ == "__main__":
+    sys.exit(main())
