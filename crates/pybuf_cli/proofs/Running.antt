@@ -11,7 +11,7 @@ use Rattle.pybuf_line.specs.Lines.{lines, before, commands_from, commands_in}
 use Rattle.pybuf_line.specs.Replies.{reply_line, reply_lines}
 use Rattle.pybuf_cli.specs.Devices.{Put, PutPrefix, Sends}
 use Rattle.pybuf_cli.specs.Program.{program, due_for}
-use Rattle.pybuf_cli.specs.Running.{IsSpelled, AreSpelled, IsAnswered}
+use Rattle.pybuf_cli.specs.Running.{IsSpelled, AreSpelled, IsCarriedOut, IsAnswered}
 use Rattle.pybuf_cli.proofs.Sending.{put_both, put_front, put_then_front, sends_nothing, sends_more}
 
 -- The lines that are left are commands. What they reply in this world comes behind a text, of which a part was put and the other
@@ -51,16 +51,20 @@ cut_at rest line after number commands left cut =
     cut_before number line (lines after) commands (command_in handle_in line) (commands_from handle_in (number + 1) (lines after)) refl refl
     (sym (ap (commands_from handle_in number) cut) ∙ left)
 
--- what a line that is read, run and answered does
-pub answered_by : (w next : World) (line text longer : List ℕ) (c : Command) (r : Reply) → command_in handle_in line ≡ Some c → wstep w c ≡ (next, r) →
-    longer ≡ text ++ reply_line handle_text r → IsAnswered w line text next longer
-answered_by w next line text longer c r read stepped pushed d also =
-    let same : c ≡ d = cc in (
-      ap (λ (p : World × Reply). p.0) (sym stepped) ∙ ap (λ (x : Command). (wstep w x).0) same,
-      pushed
-          ∙ (ap (λ (p : World × Reply). text ++ reply_line handle_text p.1) (sym stepped)
-          ∙ ap (λ (x : Command). text ++ reply_line handle_text (wstep w x).1) same),
-    )
+-- a command that was carried out, by its step and what was added to the text
+pub carried_out : (w next : World) (c : Command) (r : Reply) (text longer : List ℕ) → wstep w c ≡ (next, r) → longer ≡ text ++ reply_line handle_text r →
+    IsCarriedOut w c text next longer
+carried_out w next c r text longer stepped pushed = (
+  ap (λ (p : World × Reply). p.0) (sym stepped),
+  pushed ∙ ap (λ (p : World × Reply). text ++ reply_line handle_text p.1) (sym stepped),
+)
+
+-- a line is the one command that it was read as
+pub answered_by : (w next : World) (line text longer : List ℕ) (c : Command) → command_in handle_in line ≡ Some c → IsCarriedOut w c text next longer →
+    IsAnswered w line text next longer
+answered_by w next line text longer c read out d also =
+    let same : c ≡ d = cc in
+    subst (λ (x : Command). IsCarriedOut w x text next longer) same out
 
 -- the first line that is left is a command
 pub spelled_first : (input rest line after : List ℕ) (w : World) (old : Option (List ℕ)) (waiting : List ℕ) (held : Option (List ℕ)) →

@@ -16,7 +16,10 @@ IsSpelled line = (c : Command) × (command_in handle_in line ≡ Some c)
 abbrev pub AreSpelled : List ℕ → Type 0
 AreSpelled input = (commands : List Command) × (commands_in handle_in input ≡ Ok commands)
 
--- the world has stepped by the command of the line, and the line of its reply was added to the text
+-- the world has stepped by a command, and the line of its reply was added to the text
+abbrev pub IsCarriedOut : World → Command → List ℕ → World → List ℕ → Type 0
+IsCarriedOut old c text new longer = (new ≡ (wstep old c).0) × (longer ≡ text ++ reply_line handle_text (wstep old c).1)
+
+-- so it is by the command of the line
 abbrev pub IsAnswered : World → List ℕ → List ℕ → World → List ℕ → Type 0
-IsAnswered old line text new longer =
-    (c : Command) → command_in handle_in line ≡ Some c → (new ≡ (wstep old c).0) × (longer ≡ text ++ reply_line handle_text (wstep old c).1)
+IsAnswered old line text new longer = (c : Command) → command_in handle_in line ≡ Some c → IsCarriedOut old c text new longer

@@ -4,14 +4,14 @@ ghost use Rattle.pybuf_line.specs.Scalars.{handle_in};
 ghost use Rattle.pybuf_line.specs.Lines.{commands_in};
 ghost use Rattle.pybuf_cli.specs.Devices.{Put, PutPrefix, Rose, Sends};
 ghost use Rattle.pybuf_cli.specs.Program.{due_for};
-ghost use Rattle.pybuf_cli.specs.Running.{IsSpelled, AreSpelled, IsAnswered};
+ghost use Rattle.pybuf_cli.specs.Running.{IsSpelled, AreSpelled, IsCarriedOut, IsAnswered};
 ghost use Rattle.pybuf_cli.specs.declared.devices.PutFault.{PutFault};
 
 use crate::devices::{PutFault, Sink};
 use crate::loops::{PIECE, write_all};
 use pybuf_line::{Unread, command_of_line, next_line, push_reply_line};
 use pybuf_value::{Made, NoMemory};
-use pybuf_view::World;
+use pybuf_view::{Command, World};
 use std::alloc::Global;
 
 /// Puts the text once it is as long as a piece, and leaves what waits.
@@ -28,7 +28,17 @@ fn send_full<K: Sink>(sink: &mut K, text: &mut Vec<u8>) -> Result<(), PutFault>
     Ok(())
 }
 
-/// Runs the command of a line, and adds the line of its reply to the text.
+/// Carries out a command, and adds the line of its reply to the text.
+fn answer_command(world: &mut World, command: &Command, text: &mut Vec<u8>) -> Made<()>
+    ensures { OnOk result (IsCarriedOut world.old command.now text.old.items world.new text.new.items) }
+{
+    match world.step(command) {
+        Ok(reply) => push_reply_line(text, &reply),
+        Err(NoMemory) => Err(NoMemory),
+    }
+}
+
+/// Carries out the command of a line, and adds the line of its reply to the text.
 fn answer_line<'a>(
     alloc: Global,
     world: &mut World,
@@ -39,13 +49,11 @@ fn answer_line<'a>(
     requires { IsSpelled line.now }
     ensures { OnOk result (IsAnswered world.old line.now text.old.items world.new text.new.items) }
 {
-    let command = match command_of_line(alloc, words, line) {
-        Ok(command) => command,
-        Err(Unread::NoMemory) => return Err(NoMemory),
+    match command_of_line(alloc, words, line) {
+        Ok(command) => answer_command(world, &command, text),
+        Err(Unread::NoMemory) => Err(NoMemory),
         Err(Unread::NoCommand) => unreachable!(),
-    };
-    let reply = world.step(&command)?;
-    push_reply_line(text, &reply)
+    }
 }
 
 /// Runs the lines of an input in a new world, and puts a line for each reply, a piece at a time. No
