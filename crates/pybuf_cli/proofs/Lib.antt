@@ -2,4 +2,5 @@ pub mod Taking
 pub mod Outcomes
 pub mod Served
 pub mod Sending
+pub mod Running
 pub mod OneForm

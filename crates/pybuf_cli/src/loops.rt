@@ -10,8 +10,8 @@ use std::alloc::{AllocError, Global};
 /// The greatest length of an input, in bytes.
 pub const MOST: usize = 1_048_576;
 
-/// As many bytes are taken or put in one call at most.
-pub const PIECE: usize = 4096;
+/// As many bytes are taken in one call at most, and with so many waiting a text is put.
+pub const PIECE: usize = 65_536;
 
 /// Why an input wasn't read to its end.
 #[derive(Clone, Copy, Debug, PartialEq, Eq)]
@@ -48,6 +48,8 @@ pub fn read_all<S: Source>(alloc: Global, source: &mut S) -> Result<Vec<u8>, Rea
     ensures later { S.faults source.old ≤ S.faults source.new }
 {
     let mut input = Vec::new(alloc);
+    // once for all pieces, so that none is moved when the next comes
+    input.reserve_exact(MOST + 1)?;
     let mut room = [0u8; PIECE];
     'reading: loop {
         let wanted = (MOST + 1 - input.len()).min(PIECE);
@@ -71,8 +73,7 @@ pub fn write_all<K: Sink>(sink: &mut K, text: &[u8]) -> Result<(), PutFault>
 {
     let mut at = 0;
     'writing: while at < text.len() {
-        let end = (text.len() - at).min(PIECE) + at;
-        let count = sink.put(&text[at..end])?;
+        let count = sink.put(&text[at..])?;
         at += count;
     }
     Ok(())

@@ -1,13 +1,14 @@
 //! The top call: from the words and the input to the output and the status.
 ghost use Rattle.std.specs.Prelude.{◌≡◌, ◌≢◌, ◌≤◌, ◌⊎◌, ◌^◌, List, [], ℕ, ◌↔◌, IfOk, Some, None, Ok, Err, length, take};
 ghost use Rattle.pybuf_world.specs.declared.commands.Command.{Command};
-ghost use Rattle.pybuf_world.specs.World.{empty_world, replies_of};
+ghost use Rattle.pybuf_world.specs.World.{empty_world};
 ghost use Rattle.pybuf_world.specs.Sound.{StaysSound};
 ghost use Rattle.pybuf_cli.specs.Devices.{Put, PutPrefix, Rose};
 ghost use Rattle.pybuf_line.specs.Scalars.{handle_in};
 ghost use Rattle.pybuf_line.specs.Lines.{commands_in};
 ghost use Rattle.pybuf_line.specs.Replies.{bad_line_text};
 ghost use Rattle.pybuf_cli.specs.declared.forms.Form.{Form};
+ghost use Rattle.pybuf_cli.specs.Running.{AreSpelled};
 ghost use Rattle.pybuf_cli.specs.Program.{form_of, program, due_for, ending_for, text_due, ending, IsDone, IsBadLine, IsTooLong, Serves};
 
 use crate::devices::{PutFault, Sink, Source};
@@ -15,40 +16,26 @@ use crate::forms::{Form, form_named};
 use crate::loops::{ReadStop, read_all, write_all};
 use crate::memory::{QuietSink, QuietSource};
 use crate::status::Status;
-use crate::writing::write_replies;
-use pybuf_line::{Misread, commands_of, push_bad_line};
+use crate::writing::run_lines;
+use pybuf_line::{Misread, check_lines, push_bad_line};
 use pybuf_value::{ByteList, Made, Text};
-use pybuf_view::{Command, ReplyList, World};
+use pybuf_view::runs_stay_sound;
 use std::alloc::Global;
 use std::sync::Wait;
 use std::thread::Threads;
 
-/// The replies of a world that begins empty.
-fn replies_of_run(alloc: Global, commands: &[Command]) -> Made<ReplyList>
-    ensures replies { IfOk result (λ replies. replies ≡ replies_of empty_world commands.now) }
-    ensures sound { StaysSound empty_world commands.now }
-{
-    let mut world = World::new(alloc);
-    let mut replies = ReplyList::new(alloc);
-    world.run(commands, &mut replies)?;
-    Ok(replies)
-}
-
-/// Runs the commands and puts their replies.
-fn run_commands<K: Sink>(alloc: Global, sink: &mut K, commands: &[Command]) -> Status
-    ensures put { result ≡ Status.Done → Put (K.bytes_held sink.old) (program commands.now) (K.bytes_held sink.new) }
-    ensures sound { StaysSound empty_world commands.now }
-    ensures prefix { PutPrefix (K.bytes_held sink.old) (program commands.now) (K.bytes_held sink.new) }
+/// Runs the lines of an input, each of which is a command, and puts their replies.
+fn run_commands<K: Sink>(alloc: Global, sink: &mut K, input: &[u8]) -> Status
+    requires { AreSpelled input.now }
+    ensures put { result ≡ Status.Done → Put (K.bytes_held sink.old) (due_for (commands_in handle_in input.now)) (K.bytes_held sink.new) }
+    ensures prefix { PutPrefix (K.bytes_held sink.old) (due_for (commands_in handle_in input.now)) (K.bytes_held sink.new) }
     ensures rose { result ≡ Status.WriteFault → Rose (K.faults sink.old) (K.faults sink.new) }
     ensures ending { (result ≡ Status.Done) ⊎ ((result ≡ Status.NoMemory) ⊎ (result ≡ Status.WriteFault)) }
 {
-    match replies_of_run(alloc, commands) {
-        Ok(replies) => match write_replies(alloc, sink, replies.as_slice()) {
-            Ok(()) => Status::Done,
-            Err(PutFault::Failed) => Status::WriteFault,
-            Err(PutFault::NoMemory) => Status::NoMemory,
-        },
-        Err(_) => Status::NoMemory,
+    match run_lines(alloc, sink, input) {
+        Ok(()) => Status::Done,
+        Err(PutFault::Failed) => Status::WriteFault,
+        Err(PutFault::NoMemory) => Status::NoMemory,
     }
 }
 
@@ -78,7 +65,8 @@ fn write_bad_line<K: Sink>(alloc: Global, sink: &mut K, number: u64) -> Status
     }
 }
 
-/// Answers an input: runs its lines, or tells the first that is no command.
+/// Answers an input: runs its lines, or tells the first that is no command. Lines are read twice, so
+/// that no list of commands is kept: first all are looked over, and then each is read and run.
 fn answer<K: Sink>(alloc: Global, sink: &mut K, input: &[u8]) -> Status
     ensures done { result ≡ Status.Done → (commands : List Command) × (commands_in handle_in input.now ≡ Ok commands)
         × StaysSound empty_world commands × Put (K.bytes_held sink.old) (program commands) (K.bytes_held sink.new) }
@@ -88,8 +76,9 @@ fn answer<K: Sink>(alloc: Global, sink: &mut K, input: &[u8]) -> Status
     ensures rose { result ≡ Status.WriteFault → Rose (K.faults sink.old) (K.faults sink.new) }
     ensures ending { (result ≡ ending_for (commands_in handle_in input.now)) ⊎ ((result ≡ Status.NoMemory) ⊎ (result ≡ Status.WriteFault)) }
 {
-    match commands_of(alloc, input) {
-        Ok(commands) => run_commands(alloc, sink, &commands),
+    runs_stay_sound();
+    match check_lines(alloc, input) {
+        Ok(()) => run_commands(alloc, sink, input),
         Err(Misread::BadLine(number)) => write_bad_line(alloc, sink, number),
         Err(Misread::NoMemory) => Status::NoMemory,
     }
@@ -126,8 +115,8 @@ fn run<S: Source, K: Sink>(alloc: Global, source: &mut S, sink: &mut K) -> Statu
 /// Does all that the program `pybuf` does, but for forms of words that need more than one thread.
 ///
 /// With no word, or with the one word `run`, it reads the whole input, at most 1,048,576 bytes,
-/// makes a command of each line, runs them in order in a new world, and puts one line for each
-/// reply. What it needs more memory for is given up with `NoMemory` at any point; what was put then
+/// looks whether each line is a command, runs them in order in a new world, and puts one line for
+/// each reply. What it needs more memory for is given up with `NoMemory` at any point; what was put then
 /// is the front of what was due. Other words are refused with `Usage`.
 ///
 /// It ends where each call of the source and of the sink does.

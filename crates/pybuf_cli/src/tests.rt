@@ -75,11 +75,11 @@ fn a_writer_that_fails_in_mid_stream(rt: HostRuntime) {
 
 #[test]
 fn bytes_in_memory_are_read_and_put_with_ample_memory(rt: HostRuntime) -> Result<(), Fail> {
-    let mut source = QuietSource::new(ByteList::from_vec(vec![in rt.alloc(); 7; 5000]?));
+    let mut source = QuietSource::new(ByteList::from_vec(vec![in rt.alloc(); 7; 150_000]?));
     let input = read_all(rt.alloc(), &mut source)
         .ok()
         .unwrap_or(Vec::new(rt.alloc()));
-    assert_eq!(rt; input.len(), 5000);
+    assert_eq!(rt; input.len(), 150_000);
     let mut sink = QuietSink::new(rt.alloc());
     assert_eq!(rt; write_all(&mut sink, input.as_slice()), Ok(()));
     assert_eq!(rt; sink.bytes(), input.as_slice());

@@ -1,17 +1,20 @@
-//! The replies of a run, written line by line.
+//! The lines of an input, run one after the other, with a line for each reply.
 ghost use Rattle.std.specs.Prelude.{◌≡◌, ◌≤◌, ◌^◌, OnOk, OnErr, IfErr};
+ghost use Rattle.pybuf_line.specs.Scalars.{handle_in};
+ghost use Rattle.pybuf_line.specs.Lines.{commands_in};
 ghost use Rattle.pybuf_cli.specs.Devices.{Put, PutPrefix, Rose, Sends};
-ghost use Rattle.pybuf_value.specs.Spelling.{handle_text};
-ghost use Rattle.pybuf_line.specs.Replies.{reply_lines};
+ghost use Rattle.pybuf_cli.specs.Program.{due_for};
+ghost use Rattle.pybuf_cli.specs.Running.{IsSpelled, AreSpelled, IsCarriedOut, IsAnswered};
 ghost use Rattle.pybuf_cli.specs.declared.devices.PutFault.{PutFault};
 
 use crate::devices::{PutFault, Sink};
 use crate::loops::{PIECE, write_all};
-use pybuf_line::push_reply_line;
-use pybuf_view::Reply;
+use pybuf_line::{Unread, command_of_line, next_line, push_reply_line};
+use pybuf_value::{Made, NoMemory};
+use pybuf_view::{Command, World};
 use std::alloc::Global;
 
-/// Puts the text once it is a few KiB long, and leaves what waits.
+/// Puts the text once it is as long as a piece, and leaves what waits.
 fn send_full<K: Sink>(sink: &mut K, text: &mut Vec<u8>) -> Result<(), PutFault>
     ensures sent { OnOk result (Sends (K.bytes_held sink.old) text.old.items text.new.items (K.bytes_held sink.new)) }
     ensures prefix { OnErr result (PutPrefix (K.bytes_held sink.old) text.old.items (K.bytes_held sink.new)) }
@@ -25,21 +28,51 @@ fn send_full<K: Sink>(sink: &mut K, text: &mut Vec<u8>) -> Result<(), PutFault>
     Ok(())
 }
 
-/// Puts a line for each reply, a few KiB at a time.
-pub fn write_replies<K: Sink>(
+/// Carries out a command, and adds the line of its reply to the text.
+fn answer_command(world: &mut World, command: &Command, text: &mut Vec<u8>) -> Made<()>
+    ensures { OnOk result (IsCarriedOut world.old command.now text.old.items world.new text.new.items) }
+{
+    match world.step(command) {
+        Ok(reply) => push_reply_line(text, &reply),
+        Err(NoMemory) => Err(NoMemory),
+    }
+}
+
+/// Carries out the command of a line, and adds the line of its reply to the text.
+fn answer_line<'a>(
     alloc: Global,
-    sink: &mut K,
-    replies: &[Reply],
-) -> Result<(), PutFault>
-    ensures all { OnOk result (Put (K.bytes_held sink.old) (reply_lines handle_text replies.now) (K.bytes_held sink.new)) }
-    ensures prefix { OnErr result (PutPrefix (K.bytes_held sink.old) (reply_lines handle_text replies.now) (K.bytes_held sink.new)) }
+    world: &mut World,
+    words: &mut Vec<&'a [u8]>,
+    line: &'a [u8],
+    text: &mut Vec<u8>,
+) -> Made<()>
+    requires { IsSpelled line.now }
+    ensures { OnOk result (IsAnswered world.old line.now text.old.items world.new text.new.items) }
+{
+    match command_of_line(alloc, words, line) {
+        Ok(command) => answer_command(world, &command, text),
+        Err(Unread::NoMemory) => Err(NoMemory),
+        Err(Unread::NoCommand) => unreachable!(),
+    }
+}
+
+/// Runs the lines of an input in a new world, and puts a line for each reply, a piece at a time. No
+/// command is kept and no reply.
+pub fn run_lines<K: Sink>(alloc: Global, sink: &mut K, input: &[u8]) -> Result<(), PutFault>
+    requires { AreSpelled input.now }
+    ensures all { OnOk result (Put (K.bytes_held sink.old) (due_for (commands_in handle_in input.now)) (K.bytes_held sink.new)) }
+    ensures prefix { OnErr result (PutPrefix (K.bytes_held sink.old) (due_for (commands_in handle_in input.now)) (K.bytes_held sink.new)) }
     ensures rose { IfErr result (λ fault. fault ≡ PutFault.Failed → Rose (K.faults sink.old) (K.faults sink.new)) }
     ensures later { K.faults sink.old ≤ K.faults sink.new }
 {
+    let mut world = World::new(alloc);
+    let mut words = Vec::new(alloc);
     let mut text = Vec::new(alloc);
-    'replying: for reply in replies {
-        push_reply_line(&mut text, reply)?;
+    let mut rest = input;
+    'running: while let Some((line, after)) = next_line(rest) {
+        answer_line(alloc, &mut world, &mut words, line, &mut text)?;
         send_full(sink, &mut text)?;
+        rest = after;
     }
     write_all(sink, text.as_slice())
 }

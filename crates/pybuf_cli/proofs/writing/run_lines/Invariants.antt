@@ -1,0 +1,18 @@
+use Rattle.std.proofs.Common.{◌≤◌, length}
+use Rattle.pybuf_line.specs.Lines.{lines}
+use Rattle.pybuf_cli.proofs.Running.{IsRunning}
+use Rattle.pybuf_cli.proofs.writing.run_lines.Given as goal
+
+-- what was run and put so far
+pub record Runs (Lines Later : Type 0) : Type 0 where
+  pub lines : Lines
+  pub later : Later
+
+abbrev pub invariant-running : goal.invariant-running
+invariant-running g l =
+    Runs
+    (IsRunning l.input l.rest l.world (g.K.Sink.bytes_held l.fn.sink) l.text.items (g.K.Sink.bytes_held l.sink))
+    (g.K.Sink.faults l.fn.sink ≤ g.K.Sink.faults l.sink)
+
+abbrev pub decreases-running : goal.decreases-running
+decreases-running g l = length (lines l.rest)
