@@ -14,6 +14,7 @@ pub mod LineLaws
 pub mod SpellingLaws
 pub mod ReplyLaws
 pub mod NameLaws
+pub mod ByLength
 pub mod ValueLaws
 pub mod CommandLaws
 pub mod NestingLaws

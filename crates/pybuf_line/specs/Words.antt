@@ -1,6 +1,6 @@
 -- The words of a line, and those that name something: each kind of these is a table, of what is written for each, and of all
 -- of them.
-use Rattle.std.specs.Prelude.{ℕ, true, false, List, [], ◌∷◌, codes, Option}
+use Rattle.std.specs.Prelude.{ℕ, ◌==◌, true, false, List, [], ◌∷◌, length, codes, Option, if◌then◌else◌}
 use Rattle.std.specs.Str.{bytes_eq}
 use Rattle.std.specs.List.{find}
 use Rattle.pybuf_value.specs.declared.values.CompareOp.{CompareOp}
@@ -74,9 +74,14 @@ every_word =
     ∷ word.Compare ∷ word.Hash ∷ word.Repr ∷ word.Iter ∷ word.Next ∷ word.LengthHint ∷ word.SetState
     ∷ word.Contains ∷ word.Hex ∷ word.Call ∷ every_edit
 
--- the word of an edit that a text spells
-unfoldable pub edit_word_in : List ℕ → Option Word
-edit_word_in text = named_in written_word every_edit text
+-- those of a table whose texts have so many bytes, by what is written for each
+abbrev pub of_length : {A : Type 0} → ℕ → (A → List ℕ) → List A → List A
+of_length n name [] = []
+of_length n name (first ∷ more) = if length (name first) == n then first ∷ of_length n name more else of_length n name more
+
+-- the first words of so many letters
+abbrev pub words_of_length : ℕ → List Word
+words_of_length n = of_length n written_word every_word
 
 unfoldable pub word_in : List ℕ → Option Word
 word_in text = named_in written_word every_word text

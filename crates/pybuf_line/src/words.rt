@@ -1,7 +1,7 @@
 //! The first words of lines, and the names that stand on them.
 ghost use Rattle.std.specs.Prelude.{◌≡◌};
 ghost use Rattle.std.specs.Str.{bytes_eq};
-ghost use Rattle.pybuf_line.specs.Words.{word_in, edit_word_in, kind_in, operator_in, property_in};
+ghost use Rattle.pybuf_line.specs.Words.{named_in, written_word, words_of_length, word_in, kind_in, operator_in, property_in};
 
 use pybuf_value::CompareOp;
 use pybuf_view::{ExporterKind, PropertyName};
@@ -56,16 +56,12 @@ pub fn is_word(text: &[u8], word: &str) -> bool
     text == word.as_bytes()
 }
 
-/// The first word that a text spells.
-#[tactic(auto, unfolding(crate::specs::Words::word_in, crate::specs::Words::edit_word_in))]
-pub fn first_word(text: &[u8]) -> Option<Word>
-    ensures { result ≡ word_in text.now }
+/// The first word of three letters that a text spells.
+fn word_of_three(text: &[u8]) -> Option<Word>
+    ensures { result ≡ named_in written_word (words_of_length 3) text.now }
 {
     if is_word(text, "new") {
         return Some(Word::New);
-    }
-    if is_word(text, "view") {
-        return Some(Word::View);
     }
     if is_word(text, "get") {
         return Some(Word::Get);
@@ -73,14 +69,27 @@ pub fn first_word(text: &[u8]) -> Option<Word>
     if is_word(text, "set") {
         return Some(Word::Set);
     }
-    if is_word(text, "bytes") {
-        return Some(Word::ToBytes);
-    }
-    if is_word(text, "release") {
-        return Some(Word::Release);
-    }
     if is_word(text, "len") {
         return Some(Word::Len);
+    }
+    if is_word(text, "hex") {
+        return Some(Word::Hex);
+    }
+    if is_word(text, "del") {
+        return Some(Word::Del);
+    }
+    if is_word(text, "pop") {
+        return Some(Word::Pop);
+    }
+    None
+}
+
+/// The first word of four letters that a text spells.
+fn word_of_four(text: &[u8]) -> Option<Word>
+    ensures { result ≡ named_in written_word (words_of_length 4) text.now }
+{
+    if is_word(text, "view") {
+        return Some(Word::View);
     }
     if is_word(text, "cast") {
         return Some(Word::Cast);
@@ -88,26 +97,8 @@ pub fn first_word(text: &[u8]) -> Option<Word>
     if is_word(text, "prop") {
         return Some(Word::Property);
     }
-    if is_word(text, "toreadonly") {
-        return Some(Word::ToReadonly);
-    }
-    if is_word(text, "range") {
-        return Some(Word::Range);
-    }
-    if is_word(text, "enter") {
-        return Some(Word::Enter);
-    }
     if is_word(text, "exit") {
         return Some(Word::Exit);
-    }
-    if is_word(text, "contig") {
-        return Some(Word::ToContiguous);
-    }
-    if is_word(text, "tolist") {
-        return Some(Word::ToList);
-    }
-    if is_word(text, "compare") {
-        return Some(Word::Compare);
     }
     if is_word(text, "hash") {
         return Some(Word::Hash);
@@ -124,49 +115,8 @@ pub fn first_word(text: &[u8]) -> Option<Word>
     if is_word(text, "hint") {
         return Some(Word::LengthHint);
     }
-    if is_word(text, "setstate") {
-        return Some(Word::SetState);
-    }
-    if is_word(text, "contains") {
-        return Some(Word::Contains);
-    }
-    if is_word(text, "hex") {
-        return Some(Word::Hex);
-    }
     if is_word(text, "call") {
         return Some(Word::Call);
-    }
-    edit_word(text)
-}
-
-/// The same of the words of edits.
-#[tactic(auto, unfolding(crate::specs::Words::edit_word_in))]
-fn edit_word(text: &[u8]) -> Option<Word>
-    ensures { result ≡ edit_word_in text.now }
-{
-    if is_word(text, "del") {
-        return Some(Word::Del);
-    }
-    if is_word(text, "append") {
-        return Some(Word::Append);
-    }
-    if is_word(text, "extend") {
-        return Some(Word::Extend);
-    }
-    if is_word(text, "insert") {
-        return Some(Word::Insert);
-    }
-    if is_word(text, "pop") {
-        return Some(Word::Pop);
-    }
-    if is_word(text, "remove") {
-        return Some(Word::Remove);
-    }
-    if is_word(text, "clear") {
-        return Some(Word::Clear);
-    }
-    if is_word(text, "reverse") {
-        return Some(Word::Reverse);
     }
     if is_word(text, "iadd") {
         return Some(Word::IAdd);
@@ -184,6 +134,105 @@ fn edit_word(text: &[u8]) -> Option<Word>
         return Some(Word::Copy);
     }
     None
+}
+
+/// The first word of five letters that a text spells.
+fn word_of_five(text: &[u8]) -> Option<Word>
+    ensures { result ≡ named_in written_word (words_of_length 5) text.now }
+{
+    if is_word(text, "bytes") {
+        return Some(Word::ToBytes);
+    }
+    if is_word(text, "range") {
+        return Some(Word::Range);
+    }
+    if is_word(text, "enter") {
+        return Some(Word::Enter);
+    }
+    if is_word(text, "clear") {
+        return Some(Word::Clear);
+    }
+    None
+}
+
+/// The first word of six letters that a text spells.
+fn word_of_six(text: &[u8]) -> Option<Word>
+    ensures { result ≡ named_in written_word (words_of_length 6) text.now }
+{
+    if is_word(text, "contig") {
+        return Some(Word::ToContiguous);
+    }
+    if is_word(text, "tolist") {
+        return Some(Word::ToList);
+    }
+    if is_word(text, "append") {
+        return Some(Word::Append);
+    }
+    if is_word(text, "extend") {
+        return Some(Word::Extend);
+    }
+    if is_word(text, "insert") {
+        return Some(Word::Insert);
+    }
+    if is_word(text, "remove") {
+        return Some(Word::Remove);
+    }
+    None
+}
+
+/// The first word of seven letters that a text spells.
+fn word_of_seven(text: &[u8]) -> Option<Word>
+    ensures { result ≡ named_in written_word (words_of_length 7) text.now }
+{
+    if is_word(text, "release") {
+        return Some(Word::Release);
+    }
+    if is_word(text, "compare") {
+        return Some(Word::Compare);
+    }
+    if is_word(text, "reverse") {
+        return Some(Word::Reverse);
+    }
+    None
+}
+
+/// The first word of eight letters that a text spells.
+fn word_of_eight(text: &[u8]) -> Option<Word>
+    ensures { result ≡ named_in written_word (words_of_length 8) text.now }
+{
+    if is_word(text, "setstate") {
+        return Some(Word::SetState);
+    }
+    if is_word(text, "contains") {
+        return Some(Word::Contains);
+    }
+    None
+}
+
+/// The first word of ten letters that a text spells.
+fn word_of_ten(text: &[u8]) -> Option<Word>
+    ensures { result ≡ named_in written_word (words_of_length 10) text.now }
+{
+    if is_word(text, "toreadonly") {
+        return Some(Word::ToReadonly);
+    }
+    None
+}
+
+/// The first word that a text spells, among those of its length.
+pub fn first_word(text: &[u8]) -> Option<Word>
+    ensures { result ≡ word_in text.now }
+{
+    match text.len() {
+        3 => word_of_three(text),
+        4 => word_of_four(text),
+        5 => word_of_five(text),
+        6 => word_of_six(text),
+        7 => word_of_seven(text),
+        8 => word_of_eight(text),
+        10 => word_of_ten(text),
+        _ => None,
+    }
 }
 
 /// The kind of exporter that a text names.
