@@ -1,18 +1,6 @@
-//! Four small programs' parts that stand on the library, each with a contract in words of its own: what
-//! README and docs/LIBRARY.md show.
+//! The examples of README.md and docs/LIBRARY.md, as tests: what is shown there stands here word for
+//! word.
 #![tactic(auto)]
-
-mod interpreter;
-mod line_buffer;
-mod number_array;
-mod weather_log;
-
-pub use interpreter::{Interpreter, Statement};
-pub use line_buffer::LineBuffer;
-pub use number_array::NumberArray;
-pub use weather_log::{Header, Reading, WeatherLog, read_header, read_reading};
 
 #[cfg(test)]
 mod examples;
-#[cfg(test)]
-mod tests;

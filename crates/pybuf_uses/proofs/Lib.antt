@@ -1,7 +1,0 @@
-mod NumberLemmas
-mod OutLemmas
-mod DigitLemmas
-mod PlaceLemmas
-mod RoomLemmas
-mod LogLemmas
-mod ViewLemmas

@@ -1,4 +1,0 @@
-pub mod Numbers
-pub mod Log
-pub mod Lines
-pub mod Program
