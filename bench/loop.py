@@ -1,6 +1,6 @@
 """A plain loop that carries out lines of commands on Python's own objects, to measure beside.
 
-It reads all lines, then carries them out, then writes all replies, as the program does.
+It carries out one line after the other, and keeps neither lines nor replies, as the program keeps no list of them.
 """
 import operator
 import re
@@ -216,10 +216,9 @@ def replies(lines):
 
 
 def main():
-    lines = sys.stdin.read().split("\n")
-    if not lines[-1]:
-        lines.pop()
-    sys.stdout.write("".join([f"{reply}\n" for reply in replies(lines)]))
+    write = sys.stdout.write
+    for reply in replies(line.rstrip("\n") for line in sys.stdin):
+        write(reply + "\n")
 
 
 if __name__ == "__main__":
