@@ -1,9 +1,19 @@
 //! Where a needle stands in bytes. Nothing here takes memory.
 ghost use Rattle.std.specs.Prelude.{◌≡◌, ◌+◌, ◌≤◌, length, IfSome};
+ghost use Rattle.memchr.specs.Find.{FindsNeedle};
 ghost use Rattle.pybuf_search.specs.Places as spec;
 
 use bstr::ByteSlice;
 use memchr::{memchr_iter, memmem};
+
+/// The first place of a needle that is as long as the bytes, where it can stand at 0 alone: to compare them
+/// costs less than a search.
+fn whole_place(bytes: &[u8], needle: &[u8]) -> Option<usize>
+    requires { length bytes.now ≡ length needle.now }
+    ensures { FindsNeedle bytes.now needle.now 0 result }
+{
+    if bytes == needle { Some(0) } else { None }
+}
 
 /// The first place at which the needle stands, from 0 to the length: an empty needle stands at 0.
 /// `None` exactly where it stands nowhere (Library reference, "Bytes and Bytearray Operations",
@@ -12,6 +22,9 @@ pub fn first_place(bytes: &[u8], needle: &[u8]) -> Option<usize>
     ensures value { result ≡ spec.first_place bytes.now needle.now }
     ensures inside { IfSome result (λ place. place + length needle.now ≤ length bytes.now) }
 {
+    if bytes.len() == needle.len() {
+        return whole_place(bytes, needle);
+    }
     bytes.find(needle)
 }
 
