@@ -1,7 +1,7 @@
 -- Digits that are read, a pair at a time.
-use Rattle.std.proofs.Common.{◌≡◌, refl, sym, ap, ◌∙◌, ℕ, ◌<◌, ◌+◌, ◌*◌, ◌/◌, ◌%◌, List, [], ◌∷◌, ◌++◌, Result, Ok, Err, Some, Bool, true, false, not, cond, length, get_or, take, drop, eq-eqb, slice_index, inl, inr, ◌==◌, arith}
+use Rattle.std.proofs.Common.{◌≡◌, refl, sym, ap, ◌∙◌, ℕ, ◌<◌, ◌+◌, ◌*◌, ◌/◌, ◌%◌, List, [], ◌∷◌, ◌++◌, Result, Ok, Err, Some, None, Bool, true, false, not, cond, length, get_or, take, drop, eq-eqb, slice_index, inl, inr, ◌==◌, arith}
 use Rattle.std.specs.Prelude.{is_some}
-use Rattle.std.proofs.lemmas.Bool.{cases_eq, false≢true}
+use Rattle.std.proofs.lemmas.Bool.{cases_eq, false≢true, lt-ltb, le-ltb}
 use Rattle.std.proofs.lemmas.Bool.Decides.{nat_tests}
 use Rattle.std.specs.List.{All, flat_map}
 use Rattle.std.proofs.lemmas.List.{append_assoc, drop_more, take_at, drop_at}
@@ -13,7 +13,7 @@ use Rattle.pybuf_value.specs.declared.faults.Fault.{Fault}
 use Rattle.pybuf_value.specs.declared.faults.Fault.TheVariants as fault
 use Rattle.pybuf_value.specs.Refusing.{◌>>=◌}
 use Rattle.pybuf_letters.specs.Classes.{is_blank}
-use Rattle.pybuf_shaping.specs.Digits.{byte_of_digits, bytes_of_hex, behind}
+use Rattle.pybuf_shaping.specs.Digits.{byte_of_digits, bytes_of_hex, behind, value_below_16}
 use Rattle.pybuf_shaping.specs.Laws.{DigitsReadBack, SeparatorsLeftOut, without}
 
 -- bytes that stand before those of what is left of a text
@@ -43,6 +43,20 @@ pair c d byte text printed digits =
     ap (λ t. cond t (bytes_of_hex (d ∷ text)) (byte_of_digits (hex_digit_value c) (hex_digit_value d) >>= (λ byte. bytes_of_hex text >>= (λ bytes. Ok (byte ∷ bytes))))) printed
     ∙ ap (λ r. r >>= (λ byte. bytes_of_hex text >>= (λ bytes. Ok (byte ∷ bytes)))) digits
 
+-- no pair in front
+bad : (c : ℕ) (text : List ℕ) → is_blank c ≡ false → hex_digit_value c ≡ None → bytes_of_hex (c ∷ text) ≡ Err fault.Value
+bad c [] printed none = ap (λ t. cond t (Ok []) (Err fault.Value)) printed
+bad c (d ∷ text) printed none =
+    ap (λ t. cond t (bytes_of_hex (d ∷ text)) (byte_of_digits (hex_digit_value c) (hex_digit_value d) >>= (λ byte. bytes_of_hex text >>= (λ bytes. Ok (byte ∷ bytes))))) printed
+    ∙ ap (λ h. byte_of_digits h (hex_digit_value d) >>= (λ byte. bytes_of_hex text >>= (λ bytes. Ok (byte ∷ bytes)))) none
+
+-- a number below 16 is the value of a digit, and no other is
+value_kept : (n : ℕ) → n < 16 → value_below_16 n ≡ Some n
+value_kept n small = ap (λ t. cond t (Some n) None) (lt-ltb n 16 small)
+
+pub value_refused : (n : ℕ) → 15 < n → value_below_16 n ≡ None
+value_refused n large = ap (λ t. cond t (Some n) None) (le-ltb n 16 (omega (arith, large)))
+
 pub blank_step : (text : List ℕ) (at : ℕ) → at < length text → is_blank (get_or text at 0) ≡ true → bytes_of_hex (drop (at + 1) text) ≡ bytes_of_hex (drop at text)
 blank_step text at inside blank = sym (ap bytes_of_hex (drop_more text at 0 inside) ∙ skip (get_or text at 0) (drop (at + 1) text) blank)
 
@@ -57,6 +71,21 @@ pair_step text bytes at byte inside printed digits =
     ∙ (ap (bytes_before bytes) (pair (get_or text at 0) (get_or text (at + 1) 0) byte (drop (at + 1 + 1) text) printed digits)
     ∙ (one_more bytes byte (bytes_of_hex (drop (at + 1 + 1) text))
     ∙ ap (λ n. bytes_before (bytes ++ byte ∷ []) (bytes_of_hex (drop n text))) same)))
+
+-- what is neither a blank nor a digit is refused
+pub bad_step : (text : List ℕ) (at : ℕ) → at < length text → is_blank (get_or text at 0) ≡ false → hex_digit_value (get_or text at 0) ≡ None → bytes_of_hex (drop at text) ≡ Err fault.Value
+bad_step text at inside printed none = ap bytes_of_hex (drop_more text at 0 inside) ∙ bad (get_or text at 0) (drop (at + 1) text) printed none
+
+-- a refusal behind some bytes is one of all
+pub refused_behind : (bytes : List ℕ) (rest whole : Result (List ℕ) Fault) → bytes_before bytes rest ≡ whole → rest ≡ Err fault.Value → whole ≡ Err fault.Value
+refused_behind bytes rest whole same refused = sym same ∙ ap (bytes_before bytes) refused
+
+-- two digits below 16 are a byte
+pub byte_of_values : (c d high low : ℕ) → hex_digit_value c ≡ value_below_16 high → hex_digit_value d ≡ value_below_16 low → high < 16 → low < 16 → byte_of_digits (hex_digit_value c) (hex_digit_value d) ≡ Ok (high * 16 + low)
+byte_of_values c d high low one other small less =
+    let first : hex_digit_value c ≡ Some high = one ∙ value_kept high small in
+    let second : hex_digit_value d ≡ Some low = other ∙ value_kept low less in
+    ap (λ h. byte_of_digits h (hex_digit_value d)) first ∙ ap (byte_of_digits (Some high)) second
 
 -- ---- the digits of bytes are read as the bytes
 

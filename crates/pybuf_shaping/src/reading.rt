@@ -1,6 +1,7 @@
 //! Hexadecimal digits, read.
-ghost use Rattle.std.specs.Prelude.{◌≡◌, ◌≤◌, ◌/◌, Ok, Err, IfOk, MatchResult, length, take};
+ghost use Rattle.std.specs.Prelude.{◌≡◌, ◌≤◌, ◌<◌, ◌/◌, false, Ok, Err, IfOk, MatchResult, length, take};
 ghost use Rattle.hex.specs.Hex.{hex_digit_value};
+ghost use Rattle.pybuf_letters.specs.Classes.{is_blank};
 ghost use Rattle.pybuf_value.specs.Halting.{Gives, outcome_of};
 ghost use Rattle.pybuf_shaping.specs.Digits as spec;
 
@@ -11,7 +12,8 @@ use std::alloc::Global;
 /// The value of a digit of either case, or 16. It is one look-up, since a branch for each kind of digit
 /// is seldom foreseen, in a text that is lent, since a local table would be made at each call.
 fn digit_value(digit: u8) -> u8
-    ensures { hex_digit_value digit ≡ spec.value_below_16 result }
+    ensures value { hex_digit_value digit ≡ spec.value_below_16 result }
+    ensures printed { result < 16 → is_blank digit ≡ false }
 {
     b"\x10\x10\x10\x10\x10\x10\x10\x10\x10\x10\x10\x10\x10\x10\x10\x10\
         \x10\x10\x10\x10\x10\x10\x10\x10\x10\x10\x10\x10\x10\x10\x10\x10\
@@ -31,22 +33,8 @@ fn digit_value(digit: u8) -> u8
         \x10\x10\x10\x10\x10\x10\x10\x10\x10\x10\x10\x10\x10\x10\x10\x10"[digit as usize]
 }
 
-/// The byte of two digits.
-fn byte_of_digits(high: u8, low: u8) -> Result<u8, Fault>
-    ensures { result ≡ spec.byte_of_digits (hex_digit_value high) (hex_digit_value low) }
-{
-    let high = digit_value(high);
-    let low = digit_value(low);
-    if high > 15 {
-        return Err(Fault::Value);
-    }
-    if low > 15 {
-        return Err(Fault::Value);
-    }
-    Ok(high * 16 + low)
-}
-
-/// Writes the bytes of pairs of digits to the front of a room, and gives how many they are.
+/// Writes the bytes of pairs of digits to the front of a room, and gives how many they are. Whether a byte
+/// is a blank is asked only where it is no digit.
 fn write_pairs(room: &mut [u8], text: &[u8]) -> Result<usize, Fault>
     requires { length room.old ≡ length text.now / 2 }
     ensures bytes { MatchResult result (λ count. spec.bytes_of_hex text.now ≡ Ok (take count room.new)) (λ f. spec.bytes_of_hex text.now ≡ Err f) }
@@ -56,15 +44,22 @@ fn write_pairs(room: &mut [u8], text: &[u8]) -> Result<usize, Fault>
     let mut count = 0;
     let mut at = 0;
     while at < text.len() {
-        let high = text[at];
-        if is_py_ascii_whitespace(high) {
-            at += 1;
-            continue;
+        let high = digit_value(text[at]);
+        if high > 15 {
+            if is_py_ascii_whitespace(text[at]) {
+                at += 1;
+                continue;
+            }
+            return Err(Fault::Value);
         }
         if at + 1 == text.len() {
             return Err(Fault::Value);
         }
-        room[count] = byte_of_digits(high, text[at + 1])?;
+        let low = digit_value(text[at + 1]);
+        if low > 15 {
+            return Err(Fault::Value);
+        }
+        room[count] = high * 16 + low;
         count += 1;
         at += 2;
     }
