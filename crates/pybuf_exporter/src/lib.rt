@@ -1,6 +1,7 @@
 //! Exporters of bytes, the views of them, and the iterators over them.
 #![tactic(auto)]
 
+mod direct;
 mod exporter;
 mod laws;
 mod pick;

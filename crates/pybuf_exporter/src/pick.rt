@@ -22,7 +22,7 @@ use pybuf_state::{Parts, are_known, are_known_beside, is_lent};
 use pybuf_value::{Fault, Halt, Made, NoMemory, Scalar, Value};
 
 /// `get` of a view: a new view of the items that a slice picks, or the item that any other key names.
-fn get_of_view(parts: &mut Parts, view: usize, key: &Value) -> Result<LocalReply, Halt>
+pub(crate) fn get_of_view(parts: &mut Parts, view: usize, key: &Value) -> Result<LocalReply, Halt>
     requires { IsWhole parts.old }
     ensures answer { Answers (spec.get_of_view (exporter_of parts.old) view key.now) (exporter_of parts.old) result (exporter_of parts.new) }
     ensures counted { parts.new.exports ≡ exports_of (exporter_of parts.new) }
@@ -34,7 +34,7 @@ fn get_of_view(parts: &mut Parts, view: usize, key: &Value) -> Result<LocalReply
 }
 
 /// `set` of a view: items over those that a slice picks, or the item at an index.
-fn set_through_view(
+pub(crate) fn set_through_view(
     parts: &mut Parts,
     view: usize,
     key: &Value,

@@ -1,0 +1,274 @@
+//! Commands that are called very often, each with its values lent by themselves: no verb is made for it, none is
+//! looked at for its row, and none is dropped. Each is the command of its verb, and answers the same.
+ghost use Rattle.std.specs.Prelude.{◌≡◌, IfOk, OnErr};
+ghost use Rattle.pybuf_command.specs.declared.commands.Verb.TheVariants as verbs;
+ghost use Rattle.pybuf_command.specs.declared.kinds.Subject.TheVariants as subjects;
+ghost use Rattle.pybuf_command.specs.Fits.{LoansFit};
+ghost use Rattle.pybuf_state.specs.Exporter.{exports_of};
+ghost use Rattle.pybuf_state.specs.Answers.{exporter_of, IsWhole, Answers};
+ghost use Rattle.pybuf_exporter.specs.Step as spec;
+
+use crate::pick::{get_of_view, set_through_view};
+use pybuf_command::{
+    LoanList, LocalReply, handles_in, handles_in_both, handles_in_option, handles_with_option,
+};
+use pybuf_rows_edits::{append as append_of_own, pop as pop_of_own};
+use pybuf_rows_reads::get;
+use pybuf_rows_views::{cast, release, view};
+use pybuf_state::{Parts, are_known};
+use pybuf_value::{Fault, Halt, Made, NoMemory, Value};
+
+/// A new view of all bytes.
+pub fn view_own(parts: &mut Parts, loans: &LoanList) -> Made<LocalReply>
+    requires whole { IsWhole parts.old }
+    requires fit { LoansFit loans.now }
+    ensures ok { IfOk result (λ r. spec.estep (exporter_of parts.old) subjects.Own verbs.View loans.now ≡ (exporter_of parts.new, r)) }
+    ensures err { OnErr result (exporter_of parts.new ≡ exporter_of parts.old) }
+    ensures whole { IsWhole parts.new }
+{
+    crate::laws::commands_keep_sound();
+    match view::of_own(parts) {
+        Ok(reply) => Ok(reply),
+        Err(Halt::Refused(fault)) => Ok(LocalReply::Refused(fault)),
+        Err(Halt::NoMemory) => Err(NoMemory),
+    }
+}
+
+/// A new view of the items of a view.
+pub fn view_view(parts: &mut Parts, view: usize, loans: &LoanList) -> Made<LocalReply>
+    requires whole { IsWhole parts.old }
+    requires fit { LoansFit loans.now }
+    ensures ok { IfOk result (λ r. spec.estep (exporter_of parts.old) (subjects.View view) verbs.View loans.now ≡ (exporter_of parts.new, r)) }
+    ensures err { OnErr result (exporter_of parts.new ≡ exporter_of parts.old) }
+    ensures whole { IsWhole parts.new }
+{
+    crate::laws::commands_keep_sound();
+    match view::of_view(parts, view) {
+        Ok(reply) => Ok(reply),
+        Err(Halt::Refused(fault)) => Ok(LocalReply::Refused(fault)),
+        Err(Halt::NoMemory) => Err(NoMemory),
+    }
+}
+
+/// A view is released, as `with view` ends.
+pub fn exit_view(parts: &mut Parts, view: usize, loans: &LoanList) -> Made<LocalReply>
+    requires whole { IsWhole parts.old }
+    requires fit { LoansFit loans.now }
+    ensures ok { IfOk result (λ r. spec.estep (exporter_of parts.old) (subjects.View view) verbs.Exit loans.now ≡ (exporter_of parts.new, r)) }
+    ensures err { OnErr result (exporter_of parts.new ≡ exporter_of parts.old) }
+    ensures whole { IsWhole parts.new }
+{
+    crate::laws::commands_keep_sound();
+    match release::of_view(parts, view) {
+        Ok(reply) => Ok(reply),
+        Err(Halt::Refused(fault)) => Ok(LocalReply::Refused(fault)),
+        Err(Halt::NoMemory) => Err(NoMemory),
+    }
+}
+
+fn answered_get_own(parts: &mut Parts, key: &Value, loans: &LoanList) -> Result<LocalReply, Halt>
+    requires whole { IsWhole parts.old }
+    requires fit { LoansFit loans.now }
+    ensures answer { Answers (spec.answer_of (exporter_of parts.old) subjects.Own (verbs.Get key.now) loans.now) (exporter_of parts.old) result (exporter_of parts.new) }
+    ensures counted { parts.new.exports ≡ exports_of (exporter_of parts.new) }
+{
+    let handles = handles_in(parts.alloc, key)?;
+    if !are_known(parts, loans.as_slice(), handles.as_slice()) {
+        return Err(Halt::Refused(Fault::UnknownName));
+    }
+    get::of_own(parts, key)
+}
+
+/// The byte of an exporter at an index, or the bytes that a slice picks.
+pub fn get_own(parts: &mut Parts, key: &Value, loans: &LoanList) -> Made<LocalReply>
+    requires whole { IsWhole parts.old }
+    requires fit { LoansFit loans.now }
+    ensures ok { IfOk result (λ r. spec.estep (exporter_of parts.old) subjects.Own (verbs.Get key.now) loans.now ≡ (exporter_of parts.new, r)) }
+    ensures err { OnErr result (exporter_of parts.new ≡ exporter_of parts.old) }
+    ensures whole { IsWhole parts.new }
+{
+    crate::laws::commands_keep_sound();
+    match answered_get_own(parts, key, loans) {
+        Ok(reply) => Ok(reply),
+        Err(Halt::Refused(fault)) => Ok(LocalReply::Refused(fault)),
+        Err(Halt::NoMemory) => Err(NoMemory),
+    }
+}
+
+fn answered_get_view(
+    parts: &mut Parts,
+    view: usize,
+    key: &Value,
+    loans: &LoanList,
+) -> Result<LocalReply, Halt>
+    requires whole { IsWhole parts.old }
+    requires fit { LoansFit loans.now }
+    ensures answer { Answers (spec.answer_of (exporter_of parts.old) (subjects.View view) (verbs.Get key.now) loans.now) (exporter_of parts.old) result (exporter_of parts.new) }
+    ensures counted { parts.new.exports ≡ exports_of (exporter_of parts.new) }
+{
+    let handles = handles_in(parts.alloc, key)?;
+    if !are_known(parts, loans.as_slice(), handles.as_slice()) {
+        return Err(Halt::Refused(Fault::UnknownName));
+    }
+    get_of_view(parts, view, key)
+}
+
+/// The item of a view at a key, or a new view of those that a slice picks.
+pub fn get_view(parts: &mut Parts, view: usize, key: &Value, loans: &LoanList) -> Made<LocalReply>
+    requires whole { IsWhole parts.old }
+    requires fit { LoansFit loans.now }
+    ensures ok { IfOk result (λ r. spec.estep (exporter_of parts.old) (subjects.View view) (verbs.Get key.now) loans.now ≡ (exporter_of parts.new, r)) }
+    ensures err { OnErr result (exporter_of parts.new ≡ exporter_of parts.old) }
+    ensures whole { IsWhole parts.new }
+{
+    crate::laws::commands_keep_sound();
+    match answered_get_view(parts, view, key, loans) {
+        Ok(reply) => Ok(reply),
+        Err(Halt::Refused(fault)) => Ok(LocalReply::Refused(fault)),
+        Err(Halt::NoMemory) => Err(NoMemory),
+    }
+}
+
+fn answered_set_view(
+    parts: &mut Parts,
+    view: usize,
+    key: &Value,
+    value: &Value,
+    loans: &LoanList,
+) -> Result<LocalReply, Halt>
+    requires whole { IsWhole parts.old }
+    requires fit { LoansFit loans.now }
+    ensures answer { Answers (spec.answer_of (exporter_of parts.old) (subjects.View view) (verbs.Set key.now value.now) loans.now) (exporter_of parts.old) result (exporter_of parts.new) }
+    ensures counted { parts.new.exports ≡ exports_of (exporter_of parts.new) }
+{
+    let handles = handles_in_both(parts.alloc, key, value)?;
+    if !are_known(parts, loans.as_slice(), handles.as_slice()) {
+        return Err(Halt::Refused(Fault::UnknownName));
+    }
+    set_through_view(parts, view, key, value, loans)
+}
+
+/// Writes the item of a view at a key, or items over those that a slice picks.
+pub fn set_view(
+    parts: &mut Parts,
+    view: usize,
+    key: &Value,
+    value: &Value,
+    loans: &LoanList,
+) -> Made<LocalReply>
+    requires whole { IsWhole parts.old }
+    requires fit { LoansFit loans.now }
+    ensures ok { IfOk result (λ r. spec.estep (exporter_of parts.old) (subjects.View view) (verbs.Set key.now value.now) loans.now ≡ (exporter_of parts.new, r)) }
+    ensures err { OnErr result (exporter_of parts.new ≡ exporter_of parts.old) }
+    ensures whole { IsWhole parts.new }
+{
+    crate::laws::commands_keep_sound();
+    match answered_set_view(parts, view, key, value, loans) {
+        Ok(reply) => Ok(reply),
+        Err(Halt::Refused(fault)) => Ok(LocalReply::Refused(fault)),
+        Err(Halt::NoMemory) => Err(NoMemory),
+    }
+}
+
+fn answered_cast_view(
+    parts: &mut Parts,
+    view: usize,
+    format: &Value,
+    shape: &Option<Value>,
+    loans: &LoanList,
+) -> Result<LocalReply, Halt>
+    requires whole { IsWhole parts.old }
+    requires fit { LoansFit loans.now }
+    ensures answer { Answers (spec.answer_of (exporter_of parts.old) (subjects.View view) (verbs.Cast format.now shape.now) loans.now) (exporter_of parts.old) result (exporter_of parts.new) }
+    ensures counted { parts.new.exports ≡ exports_of (exporter_of parts.new) }
+{
+    let handles = handles_with_option(parts.alloc, format, shape)?;
+    if !are_known(parts, loans.as_slice(), handles.as_slice()) {
+        return Err(Halt::Refused(Fault::UnknownName));
+    }
+    cast::of_view(parts, view, format, shape)
+}
+
+/// A new view of the bytes of a view, with items of another format.
+pub fn cast_view(
+    parts: &mut Parts,
+    view: usize,
+    format: &Value,
+    shape: &Option<Value>,
+    loans: &LoanList,
+) -> Made<LocalReply>
+    requires whole { IsWhole parts.old }
+    requires fit { LoansFit loans.now }
+    ensures ok { IfOk result (λ r. spec.estep (exporter_of parts.old) (subjects.View view) (verbs.Cast format.now shape.now) loans.now ≡ (exporter_of parts.new, r)) }
+    ensures err { OnErr result (exporter_of parts.new ≡ exporter_of parts.old) }
+    ensures whole { IsWhole parts.new }
+{
+    crate::laws::commands_keep_sound();
+    match answered_cast_view(parts, view, format, shape, loans) {
+        Ok(reply) => Ok(reply),
+        Err(Halt::Refused(fault)) => Ok(LocalReply::Refused(fault)),
+        Err(Halt::NoMemory) => Err(NoMemory),
+    }
+}
+
+fn answered_append(parts: &mut Parts, value: &Value, loans: &LoanList) -> Result<LocalReply, Halt>
+    requires whole { IsWhole parts.old }
+    requires fit { LoansFit loans.now }
+    ensures answer { Answers (spec.answer_of (exporter_of parts.old) subjects.Own (verbs.Append value.now) loans.now) (exporter_of parts.old) result (exporter_of parts.new) }
+    ensures counted { parts.new.exports ≡ exports_of (exporter_of parts.new) }
+{
+    let handles = handles_in(parts.alloc, value)?;
+    if !are_known(parts, loans.as_slice(), handles.as_slice()) {
+        return Err(Halt::Refused(Fault::UnknownName));
+    }
+    append_of_own(parts, value)
+}
+
+/// Adds a byte at the end.
+pub fn append(parts: &mut Parts, value: &Value, loans: &LoanList) -> Made<LocalReply>
+    requires whole { IsWhole parts.old }
+    requires fit { LoansFit loans.now }
+    ensures ok { IfOk result (λ r. spec.estep (exporter_of parts.old) subjects.Own (verbs.Append value.now) loans.now ≡ (exporter_of parts.new, r)) }
+    ensures err { OnErr result (exporter_of parts.new ≡ exporter_of parts.old) }
+    ensures whole { IsWhole parts.new }
+{
+    crate::laws::commands_keep_sound();
+    match answered_append(parts, value, loans) {
+        Ok(reply) => Ok(reply),
+        Err(Halt::Refused(fault)) => Ok(LocalReply::Refused(fault)),
+        Err(Halt::NoMemory) => Err(NoMemory),
+    }
+}
+
+fn answered_pop(
+    parts: &mut Parts,
+    index: &Option<Value>,
+    loans: &LoanList,
+) -> Result<LocalReply, Halt>
+    requires whole { IsWhole parts.old }
+    requires fit { LoansFit loans.now }
+    ensures answer { Answers (spec.answer_of (exporter_of parts.old) subjects.Own (verbs.Pop index.now) loans.now) (exporter_of parts.old) result (exporter_of parts.new) }
+    ensures counted { parts.new.exports ≡ exports_of (exporter_of parts.new) }
+{
+    let handles = handles_in_option(parts.alloc, index)?;
+    if !are_known(parts, loans.as_slice(), handles.as_slice()) {
+        return Err(Halt::Refused(Fault::UnknownName));
+    }
+    pop_of_own(parts, index)
+}
+
+/// Takes the byte at an index out.
+pub fn pop(parts: &mut Parts, index: &Option<Value>, loans: &LoanList) -> Made<LocalReply>
+    requires whole { IsWhole parts.old }
+    requires fit { LoansFit loans.now }
+    ensures ok { IfOk result (λ r. spec.estep (exporter_of parts.old) subjects.Own (verbs.Pop index.now) loans.now ≡ (exporter_of parts.new, r)) }
+    ensures err { OnErr result (exporter_of parts.new ≡ exporter_of parts.old) }
+    ensures whole { IsWhole parts.new }
+{
+    crate::laws::commands_keep_sound();
+    match answered_pop(parts, index, loans) {
+        Ok(reply) => Ok(reply),
+        Err(Halt::Refused(fault)) => Ok(LocalReply::Refused(fault)),
+        Err(Halt::NoMemory) => Err(NoMemory),
+    }
+}
