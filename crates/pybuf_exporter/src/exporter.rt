@@ -1,7 +1,7 @@
 //! One exporter with its views and iterators.
 ghost use Rattle.std.specs.Prelude.{◌≡◌, ◌<◌, ◌↔◌, [], ◌∷◌, Some, IfOk, IfSome, IsSome, IsSomeAnd, IsOk, IfErr, OnErr, MatchResult, MatchOption, true, false, length, slice_get};
 
-use crate::{pick, reading};
+use crate::{direct, pick, reading};
 use pybuf_command::{ExporterKind, LoanList, LocalCommand, LocalReply, Subject, Verb};
 use pybuf_desc::BufferDescriptor;
 use pybuf_memoryview::KeptLayout;
@@ -9,7 +9,7 @@ use pybuf_methods::{Lent, Names};
 use pybuf_rows_methods::{content_of_subject, kind_of_subject, run_of_subject};
 use pybuf_rows_views::release;
 use pybuf_state::{Parts, copies_are_faithful, exporter_of_copy, new_views_keep, snap_of_subject};
-use pybuf_value::{ByteList, Fault, Halt, Made, NoMemory, Snap, SnapKind, Twin, copy_all};
+use pybuf_value::{ByteList, Fault, Halt, Made, NoMemory, Snap, SnapKind, Twin, Value, copy_all};
 use std::alloc::Global;
 use std::marker::Model;
 
@@ -44,6 +44,8 @@ impl ExporterState {
     ghost use Rattle.pybuf_desc.specs.Items.{content_of_layout};
     ghost use Rattle.pybuf_value.specs.declared.faults.Fault.{Fault};
     ghost use Rattle.pybuf_command.specs.declared.commands.LocalReply.TheVariants as replies;
+    ghost use Rattle.pybuf_command.specs.declared.commands.Verb.TheVariants as verbs;
+    ghost use Rattle.pybuf_command.specs.declared.kinds.Subject.TheVariants as subjects;
     ghost use Rattle.pybuf_desc.specs.Places.{layout_at};
     ghost use Rattle.pybuf_desc.specs.Valid.{IsPlaced};
     ghost use Rattle.pybuf_state.specs.Exporter.{with_view};
@@ -101,6 +103,102 @@ impl ExporterState {
         ensures was_sound { IsSoundExporter self.old }
     {
         pick::carry_out(&mut self.parts, subject, verb, loans)
+    }
+
+    // The commands that are called very often follow, each with its values lent by themselves: no verb is made for
+    // it. Each is refused as its verb is, a handle that the loans don't name before all else.
+
+    /// A new view of all bytes, as `Verb::View` of the exporter itself. The reply is its number.
+    pub fn view_own(&mut self, loans: &LoanList) -> Made<LocalReply>
+        requires { LoansFit loans.now }
+        ensures ok { IfOk result (λ r. estep self.old subjects.Own verbs.View loans.now ≡ (self.new, r)) }
+        ensures err { OnErr result (self.new ≡ self.old) }
+    {
+        direct::view_own(&mut self.parts, loans)
+    }
+
+    /// A new view of the items of a view, as `Verb::View` of it. The reply is its number.
+    pub fn view_view(&mut self, view: usize, loans: &LoanList) -> Made<LocalReply>
+        requires { LoansFit loans.now }
+        ensures ok { IfOk result (λ r. estep self.old (subjects.View view) verbs.View loans.now ≡ (self.new, r)) }
+        ensures err { OnErr result (self.new ≡ self.old) }
+    {
+        direct::view_view(&mut self.parts, view, loans)
+    }
+
+    /// Releases a view, as `Verb::Exit`. The second time changes nothing, and isn't refused.
+    pub fn exit_view(&mut self, view: usize, loans: &LoanList) -> Made<LocalReply>
+        requires { LoansFit loans.now }
+        ensures ok { IfOk result (λ r. estep self.old (subjects.View view) verbs.Exit loans.now ≡ (self.new, r)) }
+        ensures err { OnErr result (self.new ≡ self.old) }
+    {
+        direct::exit_view(&mut self.parts, view, loans)
+    }
+
+    /// The byte at an index, or the bytes that a slice picks, as `Verb::Get` of the exporter itself.
+    pub fn get_own(&mut self, key: &Value, loans: &LoanList) -> Made<LocalReply>
+        requires { LoansFit loans.now }
+        ensures ok { IfOk result (λ r. estep self.old subjects.Own (verbs.Get key.now) loans.now ≡ (self.new, r)) }
+        ensures err { OnErr result (self.new ≡ self.old) }
+    {
+        direct::get_own(&mut self.parts, key, loans)
+    }
+
+    /// The item of a view at a key, or a new view of the items that a slice picks, as `Verb::Get` of it.
+    pub fn get_view(&mut self, view: usize, key: &Value, loans: &LoanList) -> Made<LocalReply>
+        requires { LoansFit loans.now }
+        ensures ok { IfOk result (λ r. estep self.old (subjects.View view) (verbs.Get key.now) loans.now ≡ (self.new, r)) }
+        ensures err { OnErr result (self.new ≡ self.old) }
+    {
+        direct::get_view(&mut self.parts, view, key, loans)
+    }
+
+    /// Writes the item of a view at a key, or items over those that a slice picks, as `Verb::Set` of it.
+    pub fn set_view(
+        &mut self,
+        view: usize,
+        key: &Value,
+        value: &Value,
+        loans: &LoanList,
+    ) -> Made<LocalReply>
+        requires { LoansFit loans.now }
+        ensures ok { IfOk result (λ r. estep self.old (subjects.View view) (verbs.Set key.now value.now) loans.now ≡ (self.new, r)) }
+        ensures err { OnErr result (self.new ≡ self.old) }
+    {
+        direct::set_view(&mut self.parts, view, key, value, loans)
+    }
+
+    /// A new view of the bytes of a view with items of another format, as `Verb::Cast`. The reply is its number.
+    pub fn cast_view(
+        &mut self,
+        view: usize,
+        format: &Value,
+        shape: &Option<Value>,
+        loans: &LoanList,
+    ) -> Made<LocalReply>
+        requires { LoansFit loans.now }
+        ensures ok { IfOk result (λ r. estep self.old (subjects.View view) (verbs.Cast format.now shape.now) loans.now ≡ (self.new, r)) }
+        ensures err { OnErr result (self.new ≡ self.old) }
+    {
+        direct::cast_view(&mut self.parts, view, format, shape, loans)
+    }
+
+    /// Adds a byte at the end, as `Verb::Append`.
+    pub fn append(&mut self, value: &Value, loans: &LoanList) -> Made<LocalReply>
+        requires { LoansFit loans.now }
+        ensures ok { IfOk result (λ r. estep self.old subjects.Own (verbs.Append value.now) loans.now ≡ (self.new, r)) }
+        ensures err { OnErr result (self.new ≡ self.old) }
+    {
+        direct::append(&mut self.parts, value, loans)
+    }
+
+    /// Takes the byte at an index out, the last where none is given, as `Verb::Pop`. The reply is that byte.
+    pub fn pop(&mut self, index: &Option<Value>, loans: &LoanList) -> Made<LocalReply>
+        requires { LoansFit loans.now }
+        ensures ok { IfOk result (λ r. estep self.old subjects.Own (verbs.Pop index.now) loans.now ≡ (self.new, r)) }
+        ensures err { OnErr result (self.new ≡ self.old) }
+    {
+        direct::pop(&mut self.parts, index, loans)
     }
 
     /// The exporter that is made of a copy: of this bytearray, another one of its bytes, with no view;

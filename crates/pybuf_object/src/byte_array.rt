@@ -122,7 +122,7 @@ impl PyByteArray {
         ensures ok { IfOk result (λ r. estep self.old subjects.Own verbs.View loans ≡ (self.new, r)) }
         ensures err { OnErr result (self.new ≡ self.old) }
     {
-        step_of(&mut self.exporter, Subject::Own, Verb::View, loans)
+        self.exporter.view_own(&loans)
     }
 
     /// A view of the bytes from the place `from` up to `to`, as `memoryview(object)[from:to]` where
@@ -154,7 +154,7 @@ impl PyByteArray {
         ensures ok { IfOk result (λ r. estep self.old subjects.Own (verbs.Get key) loans ≡ (self.new, r)) }
         ensures err { OnErr result (self.new ≡ self.old) }
     {
-        step_of(&mut self.exporter, Subject::Own, Verb::Get { key }, loans)
+        self.exporter.get_own(&key, &loans)
     }
 
     /// Writes the byte at an index, or puts bytes in place of those that a slice picks, as Python's
@@ -248,12 +248,7 @@ impl PyByteArray {
         ensures ok { IfOk result (λ r. estep self.old subjects.Own (verbs.Append value) loans ≡ (self.new, r)) }
         ensures err { OnErr result (self.new ≡ self.old) }
     {
-        step_of(
-            &mut self.exporter,
-            Subject::Own,
-            Verb::Append { value },
-            loans,
-        )
+        self.exporter.append(&value, &loans)
     }
 
     /// Adds bytes at the end, as Python's `bytearray.extend(value)` (Library reference, "Mutable
@@ -303,7 +298,7 @@ impl PyByteArray {
         ensures ok { IfOk result (λ r. estep self.old subjects.Own (verbs.Pop index) loans ≡ (self.new, r)) }
         ensures err { OnErr result (self.new ≡ self.old) }
     {
-        step_of(&mut self.exporter, Subject::Own, Verb::Pop { index }, loans)
+        self.exporter.pop(&index, &loans)
     }
 
     /// Takes out the first byte of this value, as Python's `bytearray.remove(value)` (Library
