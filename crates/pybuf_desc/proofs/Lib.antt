@@ -28,3 +28,4 @@ pub mod ShapedCasts
 pub mod PackedDims
 pub mod PackedItems
 pub mod PlaceBits
+pub mod FewDims

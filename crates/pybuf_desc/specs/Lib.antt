@@ -15,3 +15,4 @@ pub mod Positions
 pub mod Segments
 pub mod Laws
 pub mod Pairs
+pub mod KeptDims

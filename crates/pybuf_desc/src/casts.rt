@@ -10,14 +10,16 @@ ghost use Rattle.pybuf_desc.specs.Casts.{cast_of};
 ghost use Rattle.pybuf_desc.specs.ShapedCasts.{cast_to};
 
 use crate::descriptor::BufferDescriptor;
+use crate::dims::Dims;
 use pybuf_value::{DimList, Made, Text};
 use std::alloc::Global;
 
-/// The dimensions of a shape whose items lie one after the other and have `len` bytes together.
+/// The dimensions of a shape whose items lie one after the other and have `len` bytes together, as
+/// a list.
 ///
 /// The stride of a dimension is the bytes of one of its entries: those of all entries, divided by
 /// their number.
-fn row_major_dims(alloc: Global, len: usize, itemsize: usize, shape: &[usize]) -> Made<DimList>
+fn row_major_list(alloc: Global, len: usize, itemsize: usize, shape: &[usize]) -> Made<DimList>
     requires entries { All (λ n. 0 < n) shape.now }
     requires whole { itemsize * product shape.now ≡ len }
     requires fits { len < 2 ^ 63 }
@@ -30,6 +32,27 @@ fn row_major_dims(alloc: Global, len: usize, itemsize: usize, shape: &[usize]) -
         dims.push((*n, size as isize, 0))?;
     }
     Ok(dims)
+}
+
+/// The dimensions of a shape whose items lie one after the other and have `len` bytes together.
+fn row_major_dims(alloc: Global, len: usize, itemsize: usize, shape: &[usize]) -> Made<Dims>
+    requires size_fits { itemsize < 2 ^ 63 }
+    requires entries { All (λ n. 0 < n) shape.now }
+    requires whole { itemsize * product shape.now ≡ len }
+    requires fits { len < 2 ^ 63 }
+    ensures { IfOk result (λ dims. dims ≡ row_major_dims itemsize shape.now) }
+{
+    match shape {
+        [items] => Ok(Dims::one((*items, itemsize as isize, 0))),
+        [rows, items] => Ok(Dims::two(
+            (*rows, (len / *rows) as isize, 0),
+            (*items, itemsize as isize, 0),
+        )),
+        _ => {
+            let list = row_major_list(alloc, len, itemsize, shape)?;
+            Ok(Dims::from_list(list))
+        }
+    }
 }
 
 impl BufferDescriptor {
@@ -75,6 +98,6 @@ impl BufferDescriptor {
         ensures stands { IfOk result (λ d. (start : ℕ) (view : Layout) → Stands self.now start view → Stands d start (cast_to view format itemsize shape.now)) }
     {
         let dims = row_major_dims(alloc, self.len(), itemsize, shape)?;
-        Ok(BufferDescriptor::raw(self.len(), self.readonly(), itemsize, format, dims))
+        Ok(BufferDescriptor::from_dims(self.len(), self.readonly(), itemsize, format, dims))
     }
 }

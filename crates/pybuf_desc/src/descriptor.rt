@@ -4,6 +4,7 @@ ghost use Rattle.std.specs.List.{Any};
 ghost use Rattle.pybuf_value.specs.declared.faults.Fault.{Fault};
 
 use crate::checks::{are_inside, extent, has_later_entries, has_strides, has_zero, is_direct};
+use crate::dims::Dims;
 use pybuf_value::{DimList, Fault, Made, Text, Twin};
 use std::alloc::Global;
 use std::marker::Model;
@@ -20,7 +21,7 @@ pub struct BufferDescriptor {
     readonly: bool,
     itemsize: usize,
     format: Text,
-    dim_desc: DimList,
+    dim_desc: Dims,
 }
 
 impl Model for BufferDescriptor {
@@ -83,7 +84,7 @@ impl BufferDescriptor {
     pub fn ndim(&self) -> usize
         ensures { result ≡ length self.now.dims }
     {
-        self.dim_desc.len()
+        self.dim_desc.as_slice().len()
     }
 
     /// Whether a dimension has no entry.
@@ -157,9 +158,9 @@ impl BufferDescriptor {
         BufferDescriptor::format(alloc, bytes_len, readonly, 1, Text::from_string(text))
     }
 
-    /// One dimension of items, one after the other.
+    /// One dimension of items, one after the other. Takes no memory.
     pub fn format(
-        alloc: Global,
+        _alloc: Global,
         bytes_len: usize,
         readonly: bool,
         itemsize: usize,
@@ -173,14 +174,12 @@ impl BufferDescriptor {
         ensures valid { IfOk result (λ d. IsValid d 0 bytes_len) }
         ensures stands { IfOk result (λ d. Stands d 0 (flat_layout format itemsize (bytes_len / itemsize) readonly)) }
     {
-        let mut dim_desc = DimList::new(alloc);
-        dim_desc.push((bytes_len / itemsize, itemsize as isize, 0))?;
         Ok(BufferDescriptor {
             len: bytes_len,
             readonly,
             itemsize,
             format,
-            dim_desc,
+            dim_desc: Dims::one((bytes_len / itemsize, itemsize as isize, 0)),
         })
     }
 
@@ -196,20 +195,18 @@ impl BufferDescriptor {
         ensures { IfOk result (λ d. d ≡ record self.now { len = len; dims = slice_set self.now.dims 0 (count, stride, (slice_index_or self.now.dims 0 (0, pos 0, pos 0)).2) }) }
     {
         let format = self.format.copy(alloc)?;
-        let mut dims = self.dim_desc.copy(alloc)?.into_vec();
-        let suboffset = dims[0].2;
-        dims[0] = (count, stride, suboffset);
+        let dim_desc = self.dim_desc.with_first(alloc, count, stride)?;
         Ok(BufferDescriptor {
             len,
             readonly: self.readonly,
             itemsize: self.itemsize,
             format,
-            dim_desc: DimList::from_vec(dims),
+            dim_desc,
         })
     }
 
     /// The same items over the same bytes, which may only be read: Python's reference has it under
-    /// `memoryview.toreadonly`. It takes memory for the format and the dimensions.
+    /// `memoryview.toreadonly`. It takes memory for the format, and for more dimensions than two.
     pub fn to_readonly(&self, alloc: Global) -> Made<BufferDescriptor>
         ensures made { IfOk result (λ d. d ≡ record self.now { readonly = true }) }
         ensures valid { IfOk result (λ d. (start room : ℕ) → IsValid self.now start room → IsValid d start room) }
@@ -233,6 +230,19 @@ impl BufferDescriptor {
         itemsize: usize,
         format: Text,
         dim_desc: DimList,
+    ) -> BufferDescriptor
+        ensures { result ≡ record { len = len; readonly = readonly; itemsize = itemsize; format = format; dims = dim_desc } }
+    {
+        BufferDescriptor::from_dims(len, readonly, itemsize, format, Dims::from_list(dim_desc))
+    }
+
+    /// The record as given, with its dimensions as they are kept.
+    pub(crate) fn from_dims(
+        len: usize,
+        readonly: bool,
+        itemsize: usize,
+        format: Text,
+        dim_desc: Dims,
     ) -> BufferDescriptor
         ensures { result ≡ record { len = len; readonly = readonly; itemsize = itemsize; format = format; dims = dim_desc } }
     {

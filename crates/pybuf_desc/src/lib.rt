@@ -5,6 +5,7 @@ mod casts;
 mod checks;
 mod contiguous;
 mod descriptor;
+mod dims;
 mod laws;
 mod packed;
 mod pairs;

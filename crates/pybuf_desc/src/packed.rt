@@ -10,6 +10,7 @@ ghost use Rattle.pybuf_desc.specs.PackedDescriptor.{row_major_descriptor};
 
 use crate::checks::extent;
 use crate::descriptor::BufferDescriptor;
+use crate::dims::Dims;
 use pybuf_value::{DimList, Made, Twin};
 use std::alloc::Global;
 
@@ -33,11 +34,11 @@ fn entry_size(bytes: usize, entries: usize) -> usize
     if entries == 0 { bytes } else { bytes / entries }
 }
 
-/// The dimensions of the same entries whose items lie one after the other.
+/// The dimensions of the same entries whose items lie one after the other, as a list.
 ///
 /// The stride of a dimension is the bytes of one of its entries. Only the first may have none: its
 /// stride is then that of the entries that there would be.
-fn packed_dims(
+fn packed_list(
     alloc: Global,
     extent: usize,
     itemsize: usize,
@@ -57,6 +58,32 @@ fn packed_dims(
     Ok(packed)
 }
 
+/// The dimensions of the same entries whose items lie one after the other.
+fn packed_dims(
+    alloc: Global,
+    extent: usize,
+    itemsize: usize,
+    dims: &[(usize, isize, isize)],
+) -> Made<Dims>
+    requires size_fits { itemsize < 2 ^ 63 }
+    requires later { All (λ dim. 0 < dim.0) (drop 1 dims.now) }
+    requires whole { extent ≡ itemsize * product (nonzero_entries (shape_of dims.now)) }
+    requires fits { extent < 2 ^ 63 }
+    ensures { IfOk result (λ packed. packed ≡ row_major_dims itemsize (shape_of dims.now)) }
+{
+    match dims {
+        [items] => Ok(Dims::one((items.0, itemsize as isize, 0))),
+        [rows, items] => Ok(Dims::two(
+            (rows.0, entry_size(extent, rows.0) as isize, 0),
+            (items.0, itemsize as isize, 0),
+        )),
+        _ => {
+            let list = packed_list(alloc, extent, itemsize, dims)?;
+            Ok(Dims::from_list(list))
+        }
+    }
+}
+
 impl BufferDescriptor {
     /// The same items one after the other without a gap, row-major: as they lie in a copy of their
     /// bytes, from its start.
@@ -69,6 +96,6 @@ impl BufferDescriptor {
         let bytes = fitting_extent(self.itemsize(), self.dim_desc());
         let format = self.format_text().copy(alloc)?;
         let dims = packed_dims(alloc, bytes, self.itemsize(), self.dim_desc())?;
-        Ok(BufferDescriptor::raw(self.len(), self.readonly(), self.itemsize(), format, dims))
+        Ok(BufferDescriptor::from_dims(self.len(), self.readonly(), self.itemsize(), format, dims))
     }
 }

@@ -348,3 +348,29 @@ fn a_copy_has_the_shape_of_its_items(rt: HostRuntime) -> Result<(), Fail> {
     assert_eq!(rt; d.dim_desc(), [(24, 1, 0)].as_slice());
     Ok(())
 }
+
+/// Whether a copy, and one that may only be read, show the dimensions that were given.
+fn copies_are_equal(alloc: Global, dims: &[(usize, isize)]) -> Made<bool> {
+    let d = descriptor_of(alloc, 24, dims)?;
+    let twin = d.copy(alloc)?;
+    let readonly = d.to_readonly(alloc)?;
+    if d.ndim() != dims.len() {
+        return Ok(false);
+    }
+    if twin.dim_desc() != d.dim_desc() {
+        return Ok(false);
+    }
+    Ok(readonly.dim_desc() == d.dim_desc())
+}
+
+#[test]
+fn copies_have_the_same_dimensions(rt: HostRuntime) -> Result<(), Fail> {
+    assert!(rt; copies_are_equal(rt.alloc(), [].as_slice())?);
+    assert!(rt; copies_are_equal(rt.alloc(), [(2, -12)].as_slice())?);
+    assert!(rt; copies_are_equal(rt.alloc(), [(2, -12), (2, 8)].as_slice())?);
+    assert!(rt; copies_are_equal(rt.alloc(), CUT.as_slice())?);
+    let list = vec![in rt.alloc(); (2, -12, 0), (2, 8, 0)]?;
+    let d = BufferDescriptor::raw(4, false, 1, Text::new(rt.alloc()), DimList::from_vec(list));
+    assert_eq!(rt; d.dim_desc(), [(2, -12, 0), (2, 8, 0)].as_slice());
+    Ok(())
+}

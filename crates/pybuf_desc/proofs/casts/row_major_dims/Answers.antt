@@ -1,10 +1,7 @@
-use Rattle.std.proofs.Common.{◌/◌, ◌++◌, [], ◌∷◌, ℕ, ℤ, pos, w64, slice_index_or, refl, ap, ◌∙◌}
-use Rattle.std.proofs.lemmas.Int.{to_z_pos}
-use Rattle.pybuf_desc.proofs.ShapedCasts.{dim_step}
+use Rattle.std.proofs.Common.{◌∙◌}
+use Rattle.pybuf_desc.proofs.FewDims.{two_of_shape}
 use Rattle.pybuf_desc.proofs.casts.row_major_dims.Goals as goal
 
-pub loop-n-preserved : goal.loop-n-preserved
-loop-n-preserved c =
-    let n : ℕ = slice_index_or c.args.shape.now c.loop-n.n-index 0 in
-    let step = dim_step c.args.itemsize c.loop-n.size n c.loop-n.n-index c.args.shape.now c.loop-n.dims c.push.new.self c.loop-n-test.true refl c.requires.entries c.loop-n.invariant.0 c.loop-n.invariant.1 c.loop-n.invariant.2 in
-    (step.size_is, step.size_fits, step.dims_are (c.in_ok-push.ensures.ok ∙ ap (λ (stride : ℤ). c.loop-n.dims ++ (n, stride, pos 0) ∷ []) (to_z_pos w64 (c.loop-n.size / n) step.size_fits)))
+pub returns-in-len2 : goal.returns-in-len2
+returns-in-len2 c =
+    c.two.ensures ∙ two_of_shape c.args.itemsize c.args.len c.args.shape.now c.in-len2.len_at_least c.in-len2.len_below c.requires.size_fits c.requires.entries c.requires.whole c.requires.fits

@@ -13,7 +13,7 @@ row_major_dims-requires-clause-fits c = subst (λ n. n < 2 ^ 63) (sym c.len.ensu
 
 pub returns-clause-valid : goal.returns-clause-valid
 returns-clause-valid c =
-    let made : c.raw.result ≡ shaped_cast c.args.self.now c.args.format c.args.itemsize c.args.shape.now = search rules in
+    let made : c.from_dims.result ≡ shaped_cast c.args.self.now c.args.format c.args.itemsize c.args.shape.now = search rules in
     let cast : IsShapedCast c.args.self.now c.args.itemsize c.args.shape.now = record {
       sized = c.requires.some_size;
       fits = c.requires.size_fits;
@@ -27,7 +27,7 @@ returns-clause-valid c =
 
 pub returns-clause-stands : goal.returns-clause-stands
 returns-clause-stands c =
-    let made : c.raw.result ≡ shaped_cast c.args.self.now c.args.format c.args.itemsize c.args.shape.now = search rules in
+    let made : c.from_dims.result ≡ shaped_cast c.args.self.now c.args.format c.args.itemsize c.args.shape.now = search rules in
     let cast : IsShapedCast c.args.self.now c.args.itemsize c.args.shape.now = record {
       sized = c.requires.some_size;
       fits = c.requires.size_fits;

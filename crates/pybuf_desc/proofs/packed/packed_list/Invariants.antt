@@ -3,7 +3,7 @@ use Rattle.pybuf_desc.specs.Layouts.{product}
 use Rattle.pybuf_desc.specs.Descriptor.{shape_of}
 use Rattle.pybuf_desc.specs.Valid.{nonzero_entries}
 use Rattle.pybuf_desc.specs.RowMajor.{row_major_dims}
-use Rattle.pybuf_desc.proofs.packed.packed_dims.Given as goal
+use Rattle.pybuf_desc.proofs.packed.packed_list.Given as goal
 
 abbrev pub invariant-loop-dim : goal.invariant-loop-dim
 invariant-loop-dim l =

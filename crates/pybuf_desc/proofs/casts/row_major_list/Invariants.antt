@@ -1,7 +1,7 @@
 use Rattle.std.proofs.Common.{◌≡◌, ◌*◌, ◌++◌, ◌<◌, ◌^◌, drop}
 use Rattle.pybuf_desc.specs.Layouts.{product}
 use Rattle.pybuf_desc.specs.RowMajor.{row_major_dims}
-use Rattle.pybuf_desc.proofs.casts.row_major_dims.Given as goal
+use Rattle.pybuf_desc.proofs.casts.row_major_list.Given as goal
 
 abbrev pub invariant-loop-n : goal.invariant-loop-n
 invariant-loop-n l =

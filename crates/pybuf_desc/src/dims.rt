@@ -1,0 +1,140 @@
+//! The dimensions of a descriptor. Up to two take no memory of their own, since most views have no
+//! more and a view is made at each slice.
+ghost use Rattle.std.specs.Prelude.{◌≡◌, ◌<◌, ℕ, ℤ, pos, List, [], ◌∷◌, length, IfOk, IfSome, slice_set, slice_index_or};
+
+use pybuf_value::{DimList, Exact, Made, Twin};
+use std::alloc::Global;
+use std::marker::Model;
+
+/// The number of entries of a dimension, its stride and its suboffset.
+type Dim = (usize, isize, isize);
+
+#[derive(Debug, Drop)]
+enum KeptDims {
+    One([Dim; 1]),
+    Two([Dim; 2]),
+    Many(DimList),
+}
+
+/// A list of dimensions. A clause sees the list, and not how it is kept.
+#[derive(Debug, Drop)]
+pub(crate) struct Dims {
+    kept: KeptDims,
+}
+
+impl Model for Dims {
+    ghost use Rattle.std.specs.Prelude.{ℕ, ℤ, List};
+
+    ghost Value = { List (ℕ × ℤ × ℤ) };
+
+    ghost use Rattle.pybuf_desc.specs.KeptDims.{dims_of};
+
+    ghost view = { λ d. dims_of d.kept };
+}
+
+/// One or two dimensions, kept without memory of their own.
+fn few_dims(dims: &[Dim]) -> Option<Dims>
+    ensures { IfSome result (λ few. few ≡ dims.now) }
+{
+    match dims {
+        [first] => Some(Dims::one(*first)),
+        [first, second] => Some(Dims::two(*first, *second)),
+        _ => None,
+    }
+}
+
+/// The dimensions with another first one, in a vector.
+fn many_with_first(alloc: Global, dims: &DimList, count: usize, stride: isize) -> Made<Dims>
+    requires { 0 < length dims.now }
+    ensures { IfOk result (λ d. d ≡ slice_set dims.now 0 (count, stride, (slice_index_or dims.now 0 (0, pos 0, pos 0)).2)) }
+{
+    let mut list = dims.copy(alloc)?.into_vec();
+    let suboffset = list[0].2;
+    list[0] = (count, stride, suboffset);
+    Ok(Dims {
+        kept: KeptDims::Many(DimList::from_vec(list)),
+    })
+}
+
+impl Dims {
+    /// One dimension. Takes no memory.
+    pub(crate) fn one(first: Dim) -> Dims
+        ensures { result ≡ first ∷ [] }
+    {
+        Dims {
+            kept: KeptDims::One([first]),
+        }
+    }
+
+    /// Two dimensions. Takes no memory.
+    pub(crate) fn two(first: Dim, second: Dim) -> Dims
+        ensures { result ≡ first ∷ second ∷ [] }
+    {
+        Dims {
+            kept: KeptDims::Two([first, second]),
+        }
+    }
+
+    /// The dimensions of the list. Takes no memory, and gives back that of one or two.
+    pub(crate) fn from_list(list: DimList) -> Dims
+        ensures { result ≡ list }
+    {
+        match few_dims(list.as_slice()) {
+            Some(few) => few,
+            None => Dims {
+                kept: KeptDims::Many(list),
+            },
+        }
+    }
+
+    /// The dimensions, lent.
+    pub(crate) fn as_slice(&self) -> &[Dim]
+        ensures { result.now ≡ self.now }
+    {
+        match &self.kept {
+            KeptDims::One(dims) => dims.as_slice(),
+            KeptDims::Two(dims) => dims.as_slice(),
+            KeptDims::Many(list) => list.as_slice(),
+        }
+    }
+
+    /// The same but for the entries and the stride of the first.
+    pub(crate) fn with_first(&self, alloc: Global, count: usize, stride: isize) -> Made<Dims>
+        requires { 0 < length self.now }
+        ensures { IfOk result (λ d. d ≡ slice_set self.now 0 (count, stride, (slice_index_or self.now 0 (0, pos 0, pos 0)).2)) }
+    {
+        match &self.kept {
+            KeptDims::One(dims) => {
+                let mut dims = *dims;
+                dims[0] = (count, stride, dims[0].2);
+                Ok(Dims {
+                    kept: KeptDims::One(dims),
+                })
+            }
+            KeptDims::Two(dims) => {
+                let mut dims = *dims;
+                dims[0] = (count, stride, dims[0].2);
+                Ok(Dims {
+                    kept: KeptDims::Two(dims),
+                })
+            }
+            KeptDims::Many(list) => many_with_first(alloc, list, count, stride),
+        }
+    }
+}
+
+impl Twin for Dims {
+    fn copy(&self, alloc: Global) -> Made<Dims> {
+        match &self.kept {
+            KeptDims::One(dims) => Ok(Dims {
+                kept: KeptDims::One(*dims),
+            }),
+            KeptDims::Two(dims) => Ok(Dims {
+                kept: KeptDims::Two(*dims),
+            }),
+            KeptDims::Many(list) => Ok(Dims {
+                kept: KeptDims::Many(list.copy(alloc)?),
+            }),
+        }
+    }
+}
