@@ -66,6 +66,18 @@ pub fn single_size(text: &[u8]) -> Option<usize>
     Some(code.size(Endianness::Native))
 }
 
+/// Whether a text is the letter alone of a code whose value is a whole number or a truth value, and
+/// values of the code have so many bytes. Then `single_value` and `pack_single` decide what its
+/// items are. Takes no memory.
+pub fn is_numeric_letter(text: &[u8], size: usize) -> bool
+    ensures { result ≡ spec.is_as_long (spec.numeric_code text.now) size }
+{
+    match numeric_code(text) {
+        Some(code) => size == code.size(Endianness::Native),
+        None => false,
+    }
+}
+
 /// The one value that bytes read as by the format of a text of one code's letter, a whole number or
 /// a truth value. Takes no memory.
 ///

@@ -669,6 +669,8 @@ fn single_letters_are_read_as_their_formats_read(rt: HostRuntime) -> Result<(), 
             single_size(text) == Some(parsed(&rt, letter)?.size()),
             "{letter}"
         );
+        let numeric = single_value(text, bytes).is_some();
+        assert!(rt; is_numeric_letter(text, bytes.len()) == numeric, "{letter}");
         let values = values(&rt, letter, bytes)?;
         assert!(rt;
             is_the_value(&single_value(text, bytes), values.as_slice()),
@@ -683,6 +685,7 @@ fn single_letters_are_read_as_their_formats_read(rt: HostRuntime) -> Result<(), 
         );
     }
     assert!(rt; single_value(b"i", b"\x01\x02\x03").is_none());
+    assert!(rt; !is_numeric_letter(b"i", 3));
     Ok(())
 }
 
