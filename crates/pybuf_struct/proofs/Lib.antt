@@ -16,3 +16,4 @@ pub mod Places
 pub mod Whole
 pub mod RoundTrips
 pub mod Aligned
+pub mod Singles

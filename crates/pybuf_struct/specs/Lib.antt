@@ -6,3 +6,4 @@ pub mod Packing
 pub mod Cursor
 pub mod FormatTexts
 pub mod Laws
+pub mod Singles

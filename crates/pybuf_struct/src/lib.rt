@@ -7,6 +7,7 @@ mod format;
 mod laws;
 mod pack;
 mod parse;
+mod single;
 mod table;
 mod unpack;
 
@@ -15,6 +16,7 @@ pub use laws::{
     bytes_of_the_size_are_read, fields_lie_in_order, formats_read_back, packing_fills_the_format,
     reads_what_was_written, writes_what_was_read,
 };
+pub use single::{is_numeric_letter, pack_single, single_size, single_value};
 pub use table::{Endianness, FormatType};
 
 #[cfg(test)]

@@ -15,7 +15,7 @@ use pybuf_value::{Fault, Lender, Outcome, Scalar, ScalarList, Tried, bytes_alone
 use std::alloc::Global;
 
 /// The number of an argument.
-fn number_of(value: &Scalar) -> Result<i128, Fault>
+pub(crate) fn number_of(value: &Scalar) -> Result<i128, Fault>
     ensures { result ≡ number_in value.now }
 {
     match value {
@@ -26,7 +26,7 @@ fn number_of(value: &Scalar) -> Result<i128, Fault>
 }
 
 /// The byte of a truth value, or of a number: 0 for 0, else 1.
-fn truth_byte(value: &Scalar) -> Result<u8, Fault>
+pub(crate) fn truth_byte(value: &Scalar) -> Result<u8, Fault>
     ensures { result ≡ truth_byte value.now }
 {
     match value {
@@ -37,7 +37,7 @@ fn truth_byte(value: &Scalar) -> Result<u8, Fault>
 }
 
 /// Whether a number has a place in so many bytes.
-fn is_in_range(signed: bool, size: usize, number: i128) -> bool
+pub(crate) fn is_in_range(signed: bool, size: usize, number: i128) -> bool
     requires { IsTrue (is_width size) }
     ensures { result ≡ is_in_range signed size number }
 {
@@ -50,7 +50,7 @@ fn is_in_range(signed: bool, size: usize, number: i128) -> bool
 }
 
 /// The number in two's complement of so many bytes.
-fn complement_of(size: usize, number: i128) -> u64
+pub(crate) fn complement_of(size: usize, number: i128) -> u64
     requires width { IsTrue (is_width size) }
     requires range { IsTrue (is_in_range true size number || is_in_range false size number) }
     ensures { result ≡ complement_of size number }
@@ -63,7 +63,7 @@ fn complement_of(size: usize, number: i128) -> u64
 }
 
 /// Writes the digits of a number in base 256.
-fn put_digits(big: bool, number: u64, place: &mut [u8])
+pub(crate) fn put_digits(big: bool, number: u64, place: &mut [u8])
     requires { IsTrue (is_width (length place.old)) }
     ensures { place.new ≡ digits_of big (length place.old) number }
 {

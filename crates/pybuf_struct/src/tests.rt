@@ -613,3 +613,97 @@ fn the_first_refusal_decides(rt: HostRuntime) -> Result<(), Fail> {
     }
     Ok(())
 }
+
+/// The letter of each code, and bytes of its size.
+const SINGLES: [(&str, &[u8]); 18] = [
+    ("x", b"\x80"),
+    ("b", b"\x80"),
+    ("B", b"\x80"),
+    ("c", b"\x80"),
+    ("?", b"\x80"),
+    ("h", b"\x01\x80"),
+    ("H", b"\x01\x80"),
+    ("i", b"\x01\x02\x03\x80"),
+    ("I", b"\x01\x02\x03\x80"),
+    ("l", b"\x01\x02\x03\x04\x05\x06\x07\x80"),
+    ("L", b"\x01\x02\x03\x04\x05\x06\x07\x80"),
+    ("q", b"\x01\x02\x03\x04\x05\x06\x07\x80"),
+    ("Q", b"\x01\x02\x03\x04\x05\x06\x07\x80"),
+    ("n", b"\x01\x02\x03\x04\x05\x06\x07\x80"),
+    ("N", b"\x01\x02\x03\x04\x05\x06\x07\x80"),
+    ("u", b"\x01\x02\x03\x80"),
+    ("s", b"\x80"),
+    ("p", b"\x80"),
+];
+
+/// Numbers that some codes have room for and others haven't.
+const SOME_NUMBERS: [i128; 12] = [
+    -9223372036854775808,
+    -2147483649,
+    -32768,
+    -129,
+    -1,
+    0,
+    1,
+    200,
+    40000,
+    3000000000,
+    9223372036854775808,
+    18446744073709551616,
+];
+
+fn is_the_value(value: &Option<Scalar>, values: &[Scalar]) -> bool {
+    match (value, values) {
+        (Some(Scalar::Int(n)), [Scalar::Int(m)]) => n == m,
+        (Some(Scalar::Bool(n)), [Scalar::Bool(m)]) => n == m,
+        (None, []) | (None, [Scalar::Bytes(_)]) => true,
+        _ => false,
+    }
+}
+
+#[test]
+fn single_letters_are_read_as_their_formats_read(rt: HostRuntime) -> Result<(), Fail> {
+    for (letter, bytes) in &SINGLES {
+        let text = letter.as_bytes();
+        assert!(rt;
+            single_size(text) == Some(parsed(&rt, letter)?.size()),
+            "{letter}"
+        );
+        let numeric = single_value(text, bytes).is_some();
+        assert!(rt; is_numeric_letter(text, bytes.len()) == numeric, "{letter}");
+        let values = values(&rt, letter, bytes)?;
+        assert!(rt;
+            is_the_value(&single_value(text, bytes), values.as_slice()),
+            "{letter}"
+        );
+    }
+    for text in &["", "2i", "@i", "<i", "ii", "z"] {
+        assert!(rt; single_size(text.as_bytes()).is_none(), "{text}");
+        assert!(rt;
+            single_value(text.as_bytes(), b"\x01\x02\x03\x80").is_none(),
+            "{text}"
+        );
+    }
+    assert!(rt; single_value(b"i", b"\x01\x02\x03").is_none());
+    assert!(rt; !is_numeric_letter(b"i", 3));
+    Ok(())
+}
+
+#[test]
+fn single_letters_are_written_as_their_formats_write(rt: HostRuntime) -> Result<(), Fail> {
+    let none = SnapList::new(rt.alloc());
+    for (letter, bytes) in &SINGLES {
+        for number in &SOME_NUMBERS {
+            let mut room = vec![in rt.alloc(); 0xaau8; bytes.len()]?;
+            let value = Scalar::Int(*number);
+            let written = pack_single(letter.as_bytes(), room.as_mut_slice(), &value);
+            let args = numbers_list(&rt, &[*number])?;
+            let same = match both_ways(&rt, letter, &args, &none)? {
+                Outcome::Done(b) => written && room.as_slice() == b.as_slice(),
+                Outcome::Refused(_) => !written && room.as_slice().iter().all(|b| *b == 0xaa),
+            };
+            assert!(rt; same, "{letter}");
+        }
+    }
+    Ok(())
+}
