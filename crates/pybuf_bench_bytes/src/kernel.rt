@@ -58,7 +58,7 @@ fn parts_of(alloc: Global, text: &PyBytesInner, separator: Option<&[u8]>) -> Mad
 /// The digits of a text; none after a refusal.
 fn digits_of(alloc: Global, text: &PyBytesInner) -> Made<Vec<u8>> {
     match text.hex(alloc, None, None)? {
-        Outcome::Done(digits) => Ok(digits.into_string()?.into_bytes()),
+        Outcome::Done(digits) => Ok(digits.into_string().into_bytes()),
         Outcome::Refused(_) => Ok(Vec::new(alloc)),
     }
 }

@@ -86,7 +86,7 @@ fn split(alloc: Global, text: &PyBytesInner, sep: Option<PyBytesInner>) -> Made<
 /// The digits.
 fn hex(alloc: Global, text: &PyBytesInner) -> Made<Answer> {
     match text.hex(alloc, None, None)? {
-        Outcome::Done(digits) => Ok(Answer::Bytes(digits.into_string()?.into_bytes())),
+        Outcome::Done(digits) => Ok(Answer::Bytes(digits.into_string().into_bytes())),
         Outcome::Refused(_) => Ok(Answer::Refused),
     }
 }

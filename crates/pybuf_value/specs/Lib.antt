@@ -4,7 +4,6 @@ pub mod Choosing
 pub mod Numbers
 pub mod Equality
 pub mod Order
-pub mod Kept
 pub mod Texts
 pub mod Snaps
 pub mod Quotes
