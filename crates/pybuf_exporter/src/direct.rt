@@ -28,8 +28,7 @@ fn answered_view_own(parts: &mut Parts) -> Result<LocalReply, Halt>
 
 /// A new view of all bytes.
 pub fn view_own(parts: &mut Parts, loans: &LoanList) -> Made<LocalReply>
-    requires whole { IsWhole parts.old }
-    requires fit { LoansFit loans.now }
+    requires { IsWhole parts.old }
     ensures ok { IfOk result (λ r. spec.estep (exporter_of parts.old) subjects.Own verbs.View loans.now ≡ (exporter_of parts.new, r)) }
     ensures err { OnErr result (exporter_of parts.new ≡ exporter_of parts.old) }
     ensures whole { IsWhole parts.new }
@@ -52,8 +51,7 @@ fn answered_view_view(parts: &mut Parts, view: usize) -> Result<LocalReply, Halt
 
 /// A new view of the items of a view.
 pub fn view_view(parts: &mut Parts, view: usize, loans: &LoanList) -> Made<LocalReply>
-    requires whole { IsWhole parts.old }
-    requires fit { LoansFit loans.now }
+    requires { IsWhole parts.old }
     ensures ok { IfOk result (λ r. spec.estep (exporter_of parts.old) (subjects.View view) verbs.View loans.now ≡ (exporter_of parts.new, r)) }
     ensures err { OnErr result (exporter_of parts.new ≡ exporter_of parts.old) }
     ensures whole { IsWhole parts.new }
@@ -76,8 +74,7 @@ fn answered_exit_view(parts: &mut Parts, view: usize) -> Result<LocalReply, Halt
 
 /// A view is released, as `with view` ends.
 pub fn exit_view(parts: &mut Parts, view: usize, loans: &LoanList) -> Made<LocalReply>
-    requires whole { IsWhole parts.old }
-    requires fit { LoansFit loans.now }
+    requires { IsWhole parts.old }
     ensures ok { IfOk result (λ r. spec.estep (exporter_of parts.old) (subjects.View view) verbs.Exit loans.now ≡ (exporter_of parts.new, r)) }
     ensures err { OnErr result (exporter_of parts.new ≡ exporter_of parts.old) }
     ensures whole { IsWhole parts.new }
@@ -91,8 +88,7 @@ pub fn exit_view(parts: &mut Parts, view: usize, loans: &LoanList) -> Made<Local
 }
 
 fn answered_get_own(parts: &mut Parts, key: &Value, loans: &LoanList) -> Result<LocalReply, Halt>
-    requires whole { IsWhole parts.old }
-    requires fit { LoansFit loans.now }
+    requires { IsWhole parts.old }
     ensures answer { Answers (spec.answer_of (exporter_of parts.old) subjects.Own (verbs.Get key.now) loans.now) (exporter_of parts.old) result (exporter_of parts.new) }
     ensures counted { parts.new.exports ≡ exports_of (exporter_of parts.new) }
 {
@@ -105,8 +101,7 @@ fn answered_get_own(parts: &mut Parts, key: &Value, loans: &LoanList) -> Result<
 
 /// The byte of an exporter at an index, or the bytes that a slice picks.
 pub fn get_own(parts: &mut Parts, key: &Value, loans: &LoanList) -> Made<LocalReply>
-    requires whole { IsWhole parts.old }
-    requires fit { LoansFit loans.now }
+    requires { IsWhole parts.old }
     ensures ok { IfOk result (λ r. spec.estep (exporter_of parts.old) subjects.Own (verbs.Get key.now) loans.now ≡ (exporter_of parts.new, r)) }
     ensures err { OnErr result (exporter_of parts.new ≡ exporter_of parts.old) }
     ensures whole { IsWhole parts.new }
@@ -125,8 +120,7 @@ fn answered_get_view(
     key: &Value,
     loans: &LoanList,
 ) -> Result<LocalReply, Halt>
-    requires whole { IsWhole parts.old }
-    requires fit { LoansFit loans.now }
+    requires { IsWhole parts.old }
     ensures answer { Answers (spec.answer_of (exporter_of parts.old) (subjects.View view) (verbs.Get key.now) loans.now) (exporter_of parts.old) result (exporter_of parts.new) }
     ensures counted { parts.new.exports ≡ exports_of (exporter_of parts.new) }
 {
@@ -139,8 +133,7 @@ fn answered_get_view(
 
 /// The item of a view at a key, or a new view of those that a slice picks.
 pub fn get_view(parts: &mut Parts, view: usize, key: &Value, loans: &LoanList) -> Made<LocalReply>
-    requires whole { IsWhole parts.old }
-    requires fit { LoansFit loans.now }
+    requires { IsWhole parts.old }
     ensures ok { IfOk result (λ r. spec.estep (exporter_of parts.old) (subjects.View view) (verbs.Get key.now) loans.now ≡ (exporter_of parts.new, r)) }
     ensures err { OnErr result (exporter_of parts.new ≡ exporter_of parts.old) }
     ensures whole { IsWhole parts.new }
@@ -201,8 +194,7 @@ fn answered_cast_view(
     shape: &Option<Value>,
     loans: &LoanList,
 ) -> Result<LocalReply, Halt>
-    requires whole { IsWhole parts.old }
-    requires fit { LoansFit loans.now }
+    requires { IsWhole parts.old }
     ensures answer { Answers (spec.answer_of (exporter_of parts.old) (subjects.View view) (verbs.Cast format.now shape.now) loans.now) (exporter_of parts.old) result (exporter_of parts.new) }
     ensures counted { parts.new.exports ≡ exports_of (exporter_of parts.new) }
 {
@@ -221,8 +213,7 @@ pub fn cast_view(
     shape: &Option<Value>,
     loans: &LoanList,
 ) -> Made<LocalReply>
-    requires whole { IsWhole parts.old }
-    requires fit { LoansFit loans.now }
+    requires { IsWhole parts.old }
     ensures ok { IfOk result (λ r. spec.estep (exporter_of parts.old) (subjects.View view) (verbs.Cast format.now shape.now) loans.now ≡ (exporter_of parts.new, r)) }
     ensures err { OnErr result (exporter_of parts.new ≡ exporter_of parts.old) }
     ensures whole { IsWhole parts.new }
@@ -236,8 +227,7 @@ pub fn cast_view(
 }
 
 fn answered_append(parts: &mut Parts, value: &Value, loans: &LoanList) -> Result<LocalReply, Halt>
-    requires whole { IsWhole parts.old }
-    requires fit { LoansFit loans.now }
+    requires { IsWhole parts.old }
     ensures answer { Answers (spec.answer_of (exporter_of parts.old) subjects.Own (verbs.Append value.now) loans.now) (exporter_of parts.old) result (exporter_of parts.new) }
     ensures counted { parts.new.exports ≡ exports_of (exporter_of parts.new) }
 {
@@ -250,8 +240,7 @@ fn answered_append(parts: &mut Parts, value: &Value, loans: &LoanList) -> Result
 
 /// Adds a byte at the end.
 pub fn append(parts: &mut Parts, value: &Value, loans: &LoanList) -> Made<LocalReply>
-    requires whole { IsWhole parts.old }
-    requires fit { LoansFit loans.now }
+    requires { IsWhole parts.old }
     ensures ok { IfOk result (λ r. spec.estep (exporter_of parts.old) subjects.Own (verbs.Append value.now) loans.now ≡ (exporter_of parts.new, r)) }
     ensures err { OnErr result (exporter_of parts.new ≡ exporter_of parts.old) }
     ensures whole { IsWhole parts.new }
@@ -269,8 +258,7 @@ fn answered_pop(
     index: &Option<Value>,
     loans: &LoanList,
 ) -> Result<LocalReply, Halt>
-    requires whole { IsWhole parts.old }
-    requires fit { LoansFit loans.now }
+    requires { IsWhole parts.old }
     ensures answer { Answers (spec.answer_of (exporter_of parts.old) subjects.Own (verbs.Pop index.now) loans.now) (exporter_of parts.old) result (exporter_of parts.new) }
     ensures counted { parts.new.exports ≡ exports_of (exporter_of parts.new) }
 {
@@ -283,8 +271,7 @@ fn answered_pop(
 
 /// Takes the byte at an index out.
 pub fn pop(parts: &mut Parts, index: &Option<Value>, loans: &LoanList) -> Made<LocalReply>
-    requires whole { IsWhole parts.old }
-    requires fit { LoansFit loans.now }
+    requires { IsWhole parts.old }
     ensures ok { IfOk result (λ r. spec.estep (exporter_of parts.old) subjects.Own (verbs.Pop index.now) loans.now ≡ (exporter_of parts.new, r)) }
     ensures err { OnErr result (exporter_of parts.new ≡ exporter_of parts.old) }
     ensures whole { IsWhole parts.new }

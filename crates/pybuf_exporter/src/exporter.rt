@@ -110,7 +110,6 @@ impl ExporterState {
 
     /// A new view of all bytes, as `Verb::View` of the exporter itself. The reply is its number.
     pub fn view_own(&mut self, loans: &LoanList) -> Made<LocalReply>
-        requires { LoansFit loans.now }
         ensures ok { IfOk result (λ r. estep self.old subjects.Own verbs.View loans.now ≡ (self.new, r)) }
         ensures err { OnErr result (self.new ≡ self.old) }
     {
@@ -119,7 +118,6 @@ impl ExporterState {
 
     /// A new view of the items of a view, as `Verb::View` of it. The reply is its number.
     pub fn view_view(&mut self, view: usize, loans: &LoanList) -> Made<LocalReply>
-        requires { LoansFit loans.now }
         ensures ok { IfOk result (λ r. estep self.old (subjects.View view) verbs.View loans.now ≡ (self.new, r)) }
         ensures err { OnErr result (self.new ≡ self.old) }
     {
@@ -128,7 +126,6 @@ impl ExporterState {
 
     /// Releases a view, as `Verb::Exit`. The second time changes nothing, and isn't refused.
     pub fn exit_view(&mut self, view: usize, loans: &LoanList) -> Made<LocalReply>
-        requires { LoansFit loans.now }
         ensures ok { IfOk result (λ r. estep self.old (subjects.View view) verbs.Exit loans.now ≡ (self.new, r)) }
         ensures err { OnErr result (self.new ≡ self.old) }
     {
@@ -137,7 +134,6 @@ impl ExporterState {
 
     /// The byte at an index, or the bytes that a slice picks, as `Verb::Get` of the exporter itself.
     pub fn get_own(&mut self, key: &Value, loans: &LoanList) -> Made<LocalReply>
-        requires { LoansFit loans.now }
         ensures ok { IfOk result (λ r. estep self.old subjects.Own (verbs.Get key.now) loans.now ≡ (self.new, r)) }
         ensures err { OnErr result (self.new ≡ self.old) }
     {
@@ -146,7 +142,6 @@ impl ExporterState {
 
     /// The item of a view at a key, or a new view of the items that a slice picks, as `Verb::Get` of it.
     pub fn get_view(&mut self, view: usize, key: &Value, loans: &LoanList) -> Made<LocalReply>
-        requires { LoansFit loans.now }
         ensures ok { IfOk result (λ r. estep self.old (subjects.View view) (verbs.Get key.now) loans.now ≡ (self.new, r)) }
         ensures err { OnErr result (self.new ≡ self.old) }
     {
@@ -176,7 +171,6 @@ impl ExporterState {
         shape: &Option<Value>,
         loans: &LoanList,
     ) -> Made<LocalReply>
-        requires { LoansFit loans.now }
         ensures ok { IfOk result (λ r. estep self.old (subjects.View view) (verbs.Cast format.now shape.now) loans.now ≡ (self.new, r)) }
         ensures err { OnErr result (self.new ≡ self.old) }
     {
@@ -185,7 +179,6 @@ impl ExporterState {
 
     /// Adds a byte at the end, as `Verb::Append`.
     pub fn append(&mut self, value: &Value, loans: &LoanList) -> Made<LocalReply>
-        requires { LoansFit loans.now }
         ensures ok { IfOk result (λ r. estep self.old subjects.Own (verbs.Append value.now) loans.now ≡ (self.new, r)) }
         ensures err { OnErr result (self.new ≡ self.old) }
     {
@@ -194,7 +187,6 @@ impl ExporterState {
 
     /// Takes the byte at an index out, the last where none is given, as `Verb::Pop`. The reply is that byte.
     pub fn pop(&mut self, index: &Option<Value>, loans: &LoanList) -> Made<LocalReply>
-        requires { LoansFit loans.now }
         ensures ok { IfOk result (λ r. estep self.old subjects.Own (verbs.Pop index.now) loans.now ≡ (self.new, r)) }
         ensures err { OnErr result (self.new ≡ self.old) }
     {
