@@ -50,7 +50,11 @@ fn answer_line<'a>(
     ensures { OnOk result (IsAnswered world.old line.now text.old.items world.new text.new.items) }
 {
     match command_of_line(alloc, words, line) {
-        Ok(command) => answer_command(world, &command, text),
+        Ok(command) => {
+            let answered = answer_command(world, &command, text);
+            command.let_go();
+            answered
+        }
         Err(Unread::NoMemory) => Err(NoMemory),
         Err(Unread::NoCommand) => unreachable!(),
     }

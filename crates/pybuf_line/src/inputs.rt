@@ -43,7 +43,7 @@ pub fn check_lines(alloc: Global, input: &[u8]) -> Result<(), Misread>
     while let Some((line, after)) = next_line(rest) {
         number += 1;
         match command_of_line(alloc, &mut words, line) {
-            Ok(_) => {}
+            Ok(command) => command.let_go(),
             Err(Unread::NoCommand) => return Err(Misread::BadLine(number)),
             Err(Unread::NoMemory) => return Err(Misread::NoMemory),
         }

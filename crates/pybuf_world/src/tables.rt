@@ -89,10 +89,29 @@ fn owner_in(owners: &[u64], exporter: usize) -> u64
     owners.get(exporter).copied().unwrap_or(0)
 }
 
-/// Whether a handle is among those whose bytes are read.
+/// Whether a handle stands as far behind the first as its number is above that one's. In handles that were
+/// given one after another each does.
+fn stands_in_row(reads: &[u64], handle: u64) -> bool
+    ensures { result ≡ true → is_read reads.now handle ≡ true }
+{
+    if reads.is_empty() || handle < reads[0] {
+        return false;
+    }
+    let place = handle - reads[0];
+    if place >= reads.len() as u64 {
+        return false;
+    }
+    reads[place as usize] == handle
+}
+
+/// Whether a handle is among those whose bytes are read. It is looked for where it stands in a row of handles
+/// before it is searched for.
 pub fn is_read(reads: &[u64], handle: u64) -> bool
     ensures { result ≡ is_read reads.now handle }
 {
+    if stands_in_row(reads, handle) {
+        return true;
+    }
     reads.contains(&handle)
 }
 
