@@ -9,7 +9,7 @@ ghost use Rattle.pybuf_cli.specs.declared.devices.PutFault.{PutFault};
 
 use crate::devices::{PutFault, Sink};
 use crate::loops::{PIECE, write_all};
-use pybuf_line::{Unread, command_of_line, next_line, push_reply_line};
+use pybuf_line::{Unread, command_of_line, let_go, next_line, push_reply_line};
 use pybuf_value::{Made, NoMemory};
 use pybuf_view::{Command, World};
 use std::alloc::Global;
@@ -49,15 +49,15 @@ fn answer_line<'a>(
     requires { IsSpelled line.now }
     ensures { OnOk result (IsAnswered world.old line.now text.old.items world.new text.new.items) }
 {
-    match command_of_line(alloc, words, line) {
-        Ok(command) => {
-            let answered = answer_command(world, &command, text);
-            command.let_go();
-            answered
-        }
+    // The command is lent where it was read to: it is long, and each move of it would be a copy.
+    let read = command_of_line(alloc, words, line);
+    let answered = match &read {
+        Ok(command) => answer_command(world, command, text),
         Err(Unread::NoMemory) => Err(NoMemory),
         Err(Unread::NoCommand) => unreachable!(),
-    }
+    };
+    let_go(read);
+    answered
 }
 
 /// Runs the lines of an input in a new world, and puts a line for each reply, a piece at a time. No

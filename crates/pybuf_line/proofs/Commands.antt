@@ -1,5 +1,5 @@
 -- Commands of lines, one line on.
-use Rattle.std.proofs.Common.{◌≡◌, ℕ, ◌+◌, ◌≤◌, List, [], ◌∷◌, ◌++◌, length, drop, map, refl, sym, ◌∙◌, ap, Bor, Result, Ok, Err, Some, None, Bool, true, false, cond, ◌==◌, arith}
+use Rattle.std.proofs.Common.{◌≡◌, ℕ, ◌+◌, ◌≤◌, List, [], ◌∷◌, ◌++◌, length, refl, sym, ◌∙◌, ap, Result, Ok, Err, Some, None, Bool, true, false, cond, ◌==◌, arith}
 use Rattle.std.proofs.lemmas.List.{append_assoc}
 use Rattle.std.proofs.lemmas.List.Splits.{length-slice_split}
 use Rattle.std.proofs.lemmas.List.Sums.{count_by-le-length}
@@ -14,31 +14,12 @@ abbrev pub onto : List Command → Result (List Command) ℕ → Result (List Co
 onto commands (Ok rest) = Ok (commands ++ rest)
 onto commands (Err n) = Err n
 
-abbrev pub commands_left : ℕ → List (Bor (List ℕ)) → Result (List Command) ℕ
-commands_left i lines = commands_from handle_in (i + 1) (map (λ line. line.now) lines)
-
 onto_before : (commands : List Command) (n : ℕ) (c : Command) (rest : Result (List Command) ℕ) →
     onto commands (before n (Some c) rest) ≡ onto (commands ++ c ∷ []) rest
 onto_before commands n c (Ok rest) = ap Ok (sym (append_assoc commands (c ∷ []) rest))
 onto_before commands n c (Err m) = refl
 
-pub one_command_more : (all : Result (List Command) ℕ) (commands : List Command) (lines : List (Bor (List ℕ))) (line : Bor (List ℕ)) (i : ℕ) (c : Command) →
-    drop i lines ≡ line ∷ drop (i + 1) lines → command_in handle_in line.now ≡ Some c →
-    all ≡ onto commands (commands_left i (drop i lines)) →
-    all ≡ onto (commands ++ c ∷ []) (commands_left (i + 1) (drop (i + 1) lines))
-one_command_more all commands lines line i c e spells h =
-    h ∙ (ap (λ l. onto commands (commands_left i l)) e
-    ∙ (ap (λ x. onto commands (before (i + 1) x (commands_left (i + 1) (drop (i + 1) lines)))) spells
-    ∙ onto_before commands (i + 1) c (commands_left (i + 1) (drop (i + 1) lines))))
-
-pub no_command_there : (all : Result (List Command) ℕ) (commands : List Command) (lines : List (Bor (List ℕ))) (line : Bor (List ℕ)) (i : ℕ) →
-    drop i lines ≡ line ∷ drop (i + 1) lines → command_in handle_in line.now ≡ None →
-    all ≡ onto commands (commands_left i (drop i lines)) → all ≡ Err (i + 1)
-no_command_there all commands lines line i e none h =
-    h ∙ (ap (λ l. onto commands (commands_left i l)) e
-    ∙ ap (λ x. onto commands (before (i + 1) x (commands_left (i + 1) (drop (i + 1) lines)))) none)
-
--- The same of an input that is read line by line: what all its lines give, by the commands before and the rest.
+-- What all lines of an input give, by the commands before and the rest.
 pub next_command : (all : Result (List Command) ℕ) (commands : List Command) (n : ℕ) (rest line after : List ℕ) (c : Command) →
     lines rest ≡ line ∷ lines after → command_in handle_in line ≡ Some c →
     all ≡ onto commands (commands_from handle_in (n + 1) (lines rest)) →

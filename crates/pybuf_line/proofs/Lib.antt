@@ -2,7 +2,6 @@ pub mod Digits
 pub mod Shorts
 pub mod Joined
 pub mod Commands
-pub mod LineParts
 pub mod Spelled
 pub mod Cuts
 pub mod Blanks

@@ -1,5 +1,5 @@
 -- What a function that reads a line says of the definition that it reads by.
-use Rattle.std.specs.Prelude.{◌≡◌, ℕ, List, Vec, Option, Some, None, Result, Ok, Err}
+use Rattle.std.specs.Prelude.{◌≡◌, ℕ, List, Option, Some, None, Result, Ok, Err}
 use Rattle.pybuf_world.specs.declared.commands.Command.{Command}
 use Rattle.pybuf_line.specs.declared.unread.Unread.{Unread}
 use Rattle.pybuf_line.specs.declared.unread.Unread.TheVariants as unread
@@ -12,11 +12,11 @@ Reads (Ok x) read = read ≡ Some x
 Reads (Err unread.NoCommand) read = read ≡ None
 Reads (Err unread.NoMemory) read = Unit {0}
 
--- The same of all lines of an input, where the number of the first bad line is told.
-abbrev pub ReadsAll : {Z : Type 0} → Result (Vec Command Z) Misread → Result (List Command) ℕ → Type 0
-ReadsAll (Ok commands) read = read ≡ Ok commands.items
-ReadsAll (Err (misread.BadLine n)) read = read ≡ Err n
-ReadsAll (Err misread.NoMemory) read = Unit {0}
+-- Whether the definition gives anything.
+abbrev pub Tells : {X : Type 0} → Result X Unread → Option Command → Type 0
+Tells (Ok x) read = (command : Command) × (read ≡ Some command)
+Tells (Err unread.NoCommand) read = read ≡ None
+Tells (Err unread.NoMemory) read = Unit {0}
 
 -- Whether all lines of an input are commands, where the number of the first bad line is told. Memory may run out.
 abbrev pub ChecksAll : {X : Type 0} → Result X Misread → Result (List Command) ℕ → Type 0

@@ -1,36 +1,35 @@
-//! The commands of an input.
-ghost use Rattle.std.specs.Prelude.{◌≡◌, map};
+//! Whether the lines of an input are commands.
 ghost use Rattle.pybuf_line.specs.Scalars.{handle_in};
 ghost use Rattle.pybuf_line.specs.Lines.{commands_in, commands_from};
-ghost use Rattle.pybuf_line.specs.Reading.{ReadsAll, ChecksAll};
+ghost use Rattle.pybuf_line.specs.Commands.{command_in};
+ghost use Rattle.pybuf_line.specs.Reading.{Tells, ChecksAll};
 
-use crate::parsing::{command, command_of_line};
-use crate::splitting::{lines_of, next_line};
+use crate::parsing::command_of_line;
+use crate::splitting::next_line;
 use crate::unread::{Misread, Unread};
 use pybuf_view::Command;
 use std::alloc::Global;
 
-/// The commands of lines that are counted from 1, in order.
-fn commands_of_lines(alloc: Global, lines: &[&[u8]]) -> Result<Vec<Command>, Misread>
-    ensures { ReadsAll result (commands_from handle_in 1 (map (λ line. line.now) lines.now)) }
-{
-    let mut commands = Vec::new(alloc);
-    for (i, line) in lines.iter().enumerate() {
-        match command(alloc, line) {
-            Ok(command) => commands.push(command)?,
-            Err(Unread::NoCommand) => return Err(Misread::BadLine(i as u64 + 1)),
-            Err(Unread::NoMemory) => return Err(Misread::NoMemory),
-        }
+/// Lets go of a command that was read.
+pub fn let_go(read: Result<Command, Unread>) {
+    if let Ok(command) = read {
+        command.let_go();
     }
-    Ok(commands)
 }
 
-/// The commands of an input, line by line.
-pub fn commands_of(alloc: Global, input: &[u8]) -> Result<Vec<Command>, Misread>
-    ensures { ReadsAll result (commands_in handle_in input.now) }
+/// Whether a line is a command.
+fn look_at<'a>(alloc: Global, words: &mut Vec<&'a [u8]>, line: &'a [u8]) -> Result<(), Unread>
+    ensures { Tells result (command_in handle_in line.now) }
 {
-    let lines = lines_of(alloc, input)?;
-    commands_of_lines(alloc, &lines)
+    // The command is looked at where it was read to: it is long, and each move of it would be a copy.
+    let read = command_of_line(alloc, words, line);
+    let told = match &read {
+        Ok(_command) => Ok(()),
+        Err(Unread::NoCommand) => Err(Unread::NoCommand),
+        Err(Unread::NoMemory) => Err(Unread::NoMemory),
+    };
+    let_go(read);
+    told
 }
 
 /// That each line of an input is a command, or the first line that is none.
@@ -42,8 +41,8 @@ pub fn check_lines(alloc: Global, input: &[u8]) -> Result<(), Misread>
     let mut number: u64 = 0;
     while let Some((line, after)) = next_line(rest) {
         number += 1;
-        match command_of_line(alloc, &mut words, line) {
-            Ok(command) => command.let_go(),
+        match look_at(alloc, &mut words, line) {
+            Ok(()) => {}
             Err(Unread::NoCommand) => return Err(Misread::BadLine(number)),
             Err(Unread::NoMemory) => return Err(Misread::NoMemory),
         }

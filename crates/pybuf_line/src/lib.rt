@@ -14,7 +14,7 @@ mod unread;
 mod verbs;
 mod words;
 
-pub use inputs::{check_lines, commands_of};
+pub use inputs::{check_lines, let_go};
 pub use laws::{
     commands_are_of_lines, commands_read_back, enclosed_is_between, items_stand_in_order,
     kinds_read_back, lines_are_the_input, method_names_read_back, nesting_is_the_shape,

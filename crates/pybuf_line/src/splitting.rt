@@ -1,33 +1,11 @@
 //! Texts cut into lines, and lines into words.
 ghost use Rattle.std.specs.Prelude.{◌≡◌, ◌==◌, ◌∷◌, [], ◌&&◌, not, IfOk, OnOk, MatchOption, map};
-ghost use Rattle.std.specs.List.{join_with_byte};
-ghost use Rattle.std.specs.Str.{byte};
-ghost use Rattle.pybuf_line.specs.Parts.{parts_at, parts_outside_quotes};
+ghost use Rattle.pybuf_line.specs.Parts.{parts_outside_quotes};
 ghost use Rattle.pybuf_line.specs.Words.{words};
 ghost use Rattle.pybuf_line.specs.Lines.{lines};
 
 use memchr::memchr;
 use std::alloc::{AllocError, Global};
-
-/// The parts of a text between the places of a byte.
-fn parts(alloc: Global, text: &[u8], byte: u8) -> Result<Vec<&[u8]>, AllocError>
-    ensures { IfOk result (λ parts. map (λ part. part.now) parts.items ≡ parts_at byte text.now) }
-{
-    text.split(|b| *b == byte).collect(alloc)
-}
-
-/// The lines of an input, which end with a line feed. The last line may lack it.
-pub fn lines_of(alloc: Global, input: &[u8]) -> Result<Vec<&[u8]>, AllocError>
-    ensures { IfOk result (λ found. map (λ line. line.now) found.items ≡ lines input.now) }
-{
-    let mut found = parts(alloc, input, b'\n')?;
-    if let Some(last) = found.pop() {
-        if !last.is_empty() {
-            found.push(last)?;
-        }
-    }
-    Ok(found)
-}
 
 /// The first line of an input, and what is left behind it. An input that is empty has none.
 pub fn next_line<'a>(rest: &'a [u8]) -> Option<(&'a [u8], &'a [u8])>

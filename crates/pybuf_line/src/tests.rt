@@ -88,18 +88,6 @@ fn shown_texts_are_printed_with_ample_memory(rt: HostRuntime) -> Result<(), Fail
     Ok(())
 }
 
-/// How many commands the lines spell. The commands are handed over, so that no test drops them.
-fn count_of(alloc: Global, lines: &[u8]) -> Result<usize, Misread> {
-    match commands_of(alloc, lines) {
-        Ok(commands) => {
-            let count = commands.len();
-            drop(commands);
-            Ok(count)
-        }
-        Err(misread) => Err(misread),
-    }
-}
-
 /// That a line spells a command, or why not.
 fn is_read(alloc: Global, line: &[u8]) -> Result<bool, Unread> {
     match command(alloc, line) {
@@ -114,15 +102,15 @@ fn is_read(alloc: Global, line: &[u8]) -> Result<bool, Unread> {
 #[test]
 fn lines_are_read_with_ample_memory(rt: HostRuntime) {
     let lines = b"new bytearray x616263\nview h0\ncast h1 'B' [1,3]\nset h2 (0,1) (0:1:1)";
-    assert_eq!(rt; count_of(rt.alloc(), lines), Ok(4));
+    assert_eq!(rt; check_lines(rt.alloc(), lines), Ok(()));
     let edits = b"new vector 'ab' 'ascii' 'strict'\ninsert h0 -1 7\npop h0\ninit h0 [1,2]";
-    assert_eq!(rt; count_of(rt.alloc(), edits), Ok(4));
+    assert_eq!(rt; check_lines(rt.alloc(), edits), Ok(()));
     assert_eq!(rt;
-        count_of(rt.alloc(), b"view h0\nview  h0\n"),
+        check_lines(rt.alloc(), b"view h0\nview  h0\n"),
         Err(Misread::BadLine(2))
     );
     let comparisons = b"compare h0 == x61\ncompare h1 >= h0\nhash h0\nrepr h1";
-    assert_eq!(rt; count_of(rt.alloc(), comparisons), Ok(4));
+    assert_eq!(rt; check_lines(rt.alloc(), comparisons), Ok(()));
     assert_eq!(rt; is_read(rt.alloc(), b"release h7"), Ok(true));
     assert_eq!(rt;
         is_read(rt.alloc(), b"compare h7 = 1"),
@@ -131,7 +119,7 @@ fn lines_are_read_with_ample_memory(rt: HostRuntime) {
     assert_eq!(rt; is_read(rt.alloc(), b"release"), Err(Unread::NoCommand));
     let calls =
         b"contains h0 x61\nhex h1\nhex h1 ':' 2\ncall h0 find x61 0 -1\ncall h0 upper\ncall h0 join [x61,x62]";
-    assert_eq!(rt; count_of(rt.alloc(), calls), Ok(6));
+    assert_eq!(rt; check_lines(rt.alloc(), calls), Ok(()));
     assert_eq!(rt;
         is_read(rt.alloc(), b"call h0 find"),
         Err(Unread::NoCommand)
