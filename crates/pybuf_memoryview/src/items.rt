@@ -9,7 +9,7 @@ ghost use Rattle.pybuf_memoryview.specs.SingleBytes.{byte_for_item};
 
 use crate::kept::KeptLayout;
 use pybuf_slice::SequenceIndexOp;
-use pybuf_struct::FormatSpec;
+use pybuf_struct::{FormatSpec, single_value};
 use pybuf_value::{
     Fault, Halt, Item, Made, Outcome, Scalar, ScalarList, Text, Twin, Value, fit_index, index_of,
     value_from_object,
@@ -72,12 +72,15 @@ fn single_byte(format: &[u8], bytes: &[u8]) -> Option<u8>
 }
 
 /// What an item's bytes read as by the text of its format. Bytes of the format `B`, which most views
-/// have, are read without parsing it.
+/// have, and numbers of a format of one letter are read without parsing it.
 pub fn item_by(alloc: Global, format: &Text, bytes: &[u8]) -> Made<Item>
     ensures { IfOk result (λ item. item ≡ spec.item_by format.now bytes.now) }
 {
     if let Some(byte) = single_byte(format.as_slice(), bytes) {
         return Ok(byte_item(byte));
+    }
+    if let Some(value) = single_value(format.as_slice(), bytes) {
+        return Ok(Item::One(value));
     }
     match FormatSpec::parse(alloc, format.as_slice())? {
         Outcome::Done(format) => match format.unpack(alloc, bytes)? {

@@ -15,15 +15,18 @@ ghost use Rattle.pybuf_rows_views.specs.CastEntries as entries;
 use pybuf_command::LocalReply;
 use pybuf_memoryview::KeptLayout;
 use pybuf_state::Parts;
-use pybuf_struct::FormatSpec;
+use pybuf_struct::{FormatSpec, single_size};
 use pybuf_value::{CountList, Fault, Halt, Outcome, Scalar, Text, Twin, Value, fit_count, text_in};
 use std::alloc::Global;
 
-/// The size of a format's items.
+/// The size of a format's items. That of a format of one letter is told without parsing it.
 fn size_of(alloc: Global, text: &Text) -> Result<usize, Halt>
     ensures size { Gives (spec.size_of_format text.now) result }
     ensures fits { IfOk result (λ size. size < 2 ^ 63) }
 {
+    if let Some(size) = single_size(text.as_slice()) {
+        return Ok(size);
+    }
     match FormatSpec::parse(alloc, text.as_slice())? {
         Outcome::Done(format) => Ok(format.size()),
         Outcome::Refused(fault) => Err(Halt::Refused(fault)),
