@@ -7,3 +7,4 @@ pub mod AssignSafe
 pub mod Moving
 pub mod ByValue
 pub mod Single
+pub mod Numbers
