@@ -18,9 +18,9 @@ use pybuf_rows_views::{cast, release, view};
 use pybuf_state::{Parts, are_known};
 use pybuf_value::{Fault, Halt, Made, NoMemory, Value};
 
-fn answered_view_own(parts: &mut Parts) -> Result<LocalReply, Halt>
+fn answered_view_own(parts: &mut Parts, _loans: &LoanList) -> Result<LocalReply, Halt>
     requires { IsWhole parts.old }
-    ensures answer { (loans : _) → Answers (spec.answer_of (exporter_of parts.old) subjects.Own verbs.View loans) (exporter_of parts.old) result (exporter_of parts.new) }
+    ensures answer { Answers (spec.answer_of (exporter_of parts.old) subjects.Own verbs.View _loans.now) (exporter_of parts.old) result (exporter_of parts.new) }
     ensures counted { parts.new.exports ≡ exports_of (exporter_of parts.new) }
 {
     view::of_own(parts)
@@ -34,16 +34,16 @@ pub fn view_own(parts: &mut Parts, loans: &LoanList) -> Made<LocalReply>
     ensures whole { IsWhole parts.new }
 {
     crate::laws::commands_keep_sound();
-    match answered_view_own(parts) {
+    match answered_view_own(parts, loans) {
         Ok(reply) => Ok(reply),
         Err(Halt::Refused(fault)) => Ok(LocalReply::Refused(fault)),
         Err(Halt::NoMemory) => Err(NoMemory),
     }
 }
 
-fn answered_view_view(parts: &mut Parts, view: usize) -> Result<LocalReply, Halt>
+fn answered_view_view(parts: &mut Parts, view: usize, _loans: &LoanList) -> Result<LocalReply, Halt>
     requires { IsWhole parts.old }
-    ensures answer { (loans : _) → Answers (spec.answer_of (exporter_of parts.old) (subjects.View view) verbs.View loans) (exporter_of parts.old) result (exporter_of parts.new) }
+    ensures answer { Answers (spec.answer_of (exporter_of parts.old) (subjects.View view) verbs.View _loans.now) (exporter_of parts.old) result (exporter_of parts.new) }
     ensures counted { parts.new.exports ≡ exports_of (exporter_of parts.new) }
 {
     view::of_view(parts, view)
@@ -57,16 +57,16 @@ pub fn view_view(parts: &mut Parts, view: usize, loans: &LoanList) -> Made<Local
     ensures whole { IsWhole parts.new }
 {
     crate::laws::commands_keep_sound();
-    match answered_view_view(parts, view) {
+    match answered_view_view(parts, view, loans) {
         Ok(reply) => Ok(reply),
         Err(Halt::Refused(fault)) => Ok(LocalReply::Refused(fault)),
         Err(Halt::NoMemory) => Err(NoMemory),
     }
 }
 
-fn answered_exit_view(parts: &mut Parts, view: usize) -> Result<LocalReply, Halt>
+fn answered_exit_view(parts: &mut Parts, view: usize, _loans: &LoanList) -> Result<LocalReply, Halt>
     requires { IsWhole parts.old }
-    ensures answer { (loans : _) → Answers (spec.answer_of (exporter_of parts.old) (subjects.View view) verbs.Exit loans) (exporter_of parts.old) result (exporter_of parts.new) }
+    ensures answer { Answers (spec.answer_of (exporter_of parts.old) (subjects.View view) verbs.Exit _loans.now) (exporter_of parts.old) result (exporter_of parts.new) }
     ensures counted { parts.new.exports ≡ exports_of (exporter_of parts.new) }
 {
     release::of_view(parts, view)
@@ -80,7 +80,7 @@ pub fn exit_view(parts: &mut Parts, view: usize, loans: &LoanList) -> Made<Local
     ensures whole { IsWhole parts.new }
 {
     crate::laws::commands_keep_sound();
-    match answered_exit_view(parts, view) {
+    match answered_exit_view(parts, view, loans) {
         Ok(reply) => Ok(reply),
         Err(Halt::Refused(fault)) => Ok(LocalReply::Refused(fault)),
         Err(Halt::NoMemory) => Err(NoMemory),

@@ -6,5 +6,5 @@ use Rattle.pybuf_exporter.proofs.direct.exit_view.Goals as goal
 pub returns-in-Ok-clause-whole : goal.returns-in-Ok-clause-whole
 returns-in-Ok-clause-whole c = record {
   counted = c.answered_exit_view.ensures.counted;
-  sound = answered_is_sound c.commands_keep_sound.ensures _ _ (subjects.View c.args.view) verbs.Exit c.args.loans.now _ c.requires.sound (c.in-Ok.ensures.answer c.args.loans.now);
+  sound = answered_is_sound c.commands_keep_sound.ensures _ _ (subjects.View c.args.view) verbs.Exit c.args.loans.now _ c.requires.sound c.in-Ok.ensures.answer;
 }

@@ -6,5 +6,5 @@ use Rattle.pybuf_exporter.proofs.direct.view_own.Goals as goal
 pub returns-in-Ok-clause-whole : goal.returns-in-Ok-clause-whole
 returns-in-Ok-clause-whole c = record {
   counted = c.answered_view_own.ensures.counted;
-  sound = answered_is_sound c.commands_keep_sound.ensures _ _ subjects.Own verbs.View c.args.loans.now _ c.requires.sound (c.in-Ok.ensures.answer c.args.loans.now);
+  sound = answered_is_sound c.commands_keep_sound.ensures _ _ subjects.Own verbs.View c.args.loans.now _ c.requires.sound c.in-Ok.ensures.answer;
 }
