@@ -636,6 +636,22 @@ const SINGLES: [(&str, &[u8]); 18] = [
     ("p", b"\x80"),
 ];
 
+/// Numbers that some codes have room for and others haven't.
+const SOME_NUMBERS: [i128; 12] = [
+    -9223372036854775808,
+    -2147483649,
+    -32768,
+    -129,
+    -1,
+    0,
+    1,
+    200,
+    40000,
+    3000000000,
+    9223372036854775808,
+    18446744073709551616,
+];
+
 fn is_the_value(value: &Option<Scalar>, values: &[Scalar]) -> bool {
     match (value, values) {
         (Some(Scalar::Int(n)), [Scalar::Int(m)]) => n == m,
@@ -670,5 +686,24 @@ fn single_letters_are_read_as_their_formats_read(rt: HostRuntime) -> Result<(), 
     }
     assert!(rt; single_value(b"i", b"\x01\x02\x03").is_none());
     assert!(rt; !is_numeric_letter(b"i", 3));
+    Ok(())
+}
+
+#[test]
+fn single_letters_are_written_as_their_formats_write(rt: HostRuntime) -> Result<(), Fail> {
+    let none = SnapList::new(rt.alloc());
+    for (letter, bytes) in &SINGLES {
+        for number in &SOME_NUMBERS {
+            let mut room = vec![in rt.alloc(); 0xaau8; bytes.len()]?;
+            let value = Scalar::Int(*number);
+            let written = pack_single(letter.as_bytes(), room.as_mut_slice(), &value);
+            let args = numbers_list(&rt, &[*number])?;
+            let same = match both_ways(&rt, letter, &args, &none)? {
+                Outcome::Done(b) => written && room.as_slice() == b.as_slice(),
+                Outcome::Refused(_) => !written && room.as_slice().iter().all(|b| *b == 0xaa),
+            };
+            assert!(rt; same, "{letter}");
+        }
+    }
     Ok(())
 }
