@@ -1,5 +1,6 @@
 //! Texts cut into lines, and lines into words.
 ghost use Rattle.std.specs.Prelude.{◌≡◌, ◌==◌, ◌∷◌, [], ◌&&◌, not, IfOk, OnOk, MatchOption, map};
+ghost use Rattle.std.specs.Str.{byte};
 ghost use Rattle.pybuf_line.specs.Parts.{parts_outside_quotes};
 ghost use Rattle.pybuf_line.specs.Words.{words};
 ghost use Rattle.pybuf_line.specs.Lines.{lines};
