@@ -1,4 +1,4 @@
-//! The examples of docs/LIBRARY.md and README.md, a module for each part. What is shown there stands here word for word,
+//! The examples of docs/LIBRARY.md, a module for each of its parts. What is shown there stands here word for word,
 //! and is run as a test.
 use pybuf_value::{ByteList, Fault, Item, Made, PySlice, Scalar, Text, Value};
 use pybuf_view::LocalReply;

@@ -1,6 +1,18 @@
-//! The examples of README.md and docs/LIBRARY.md, as tests: what is shown there stands here word for
-//! word.
+//! Four users of the library, each with a contract in words of its own, and the examples of README.md and
+//! docs/LIBRARY.md as tests: what is shown there stands here word for word.
 #![tactic(auto)]
+
+mod interpreter;
+mod line_buffer;
+mod number_array;
+mod weather_log;
+
+pub use interpreter::{Interpreter, Statement};
+pub use line_buffer::LineBuffer;
+pub use number_array::NumberArray;
+pub use weather_log::{Header, Reading, WeatherLog, read_header, read_reading};
 
 #[cfg(test)]
 mod examples;
+#[cfg(test)]
+mod tests;

@@ -1,0 +1,9 @@
+mod NumberLemmas
+mod OutLemmas
+mod DigitLemmas
+mod PlaceLemmas
+mod SpanLemmas
+mod RoomLemmas
+mod LogLemmas
+mod ViewLemmas
+mod WorldLemmas

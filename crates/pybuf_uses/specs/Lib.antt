@@ -1,0 +1,4 @@
+pub mod Numbers
+pub mod Log
+pub mod Lines
+pub mod Program

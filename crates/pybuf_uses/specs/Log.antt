@@ -1,0 +1,73 @@
+-- Logs of a weather station: a header of ten bytes, and then readings of seven bytes each.
+use Rattle.std.specs.Prelude.{◌≡◌, ◌+◌, ◌*◌, ◌==◌, ℕ, ℤ, pos, true, false, not, Option, Some, None, List, [], ◌∷◌, length, codes, bytes_eq, take, nat_lt, Result, Ok}
+use Rattle.pybuf_value.specs.declared.faults.Fault.{Fault}
+use Rattle.pybuf_value.specs.declared.faults.Fault.TheVariants as fault
+use Rattle.pybuf_value.specs.declared.values.Scalar.{Scalar}
+use Rattle.pybuf_value.specs.declared.values.Scalar.TheVariants as scalar
+use Rattle.pybuf_value.specs.declared.values.Value.{Value}
+use Rattle.pybuf_value.specs.declared.values.Value.TheVariants as value
+use Rattle.pybuf_value.specs.Refusing.{◌>>=◌, unless}
+use Rattle.pybuf_struct.specs.Digits.{little_endian, number}
+use Rattle.pybuf_struct.specs.Formats.{format_of}
+use Rattle.pybuf_struct.specs.Values.{unpacked_values}
+use Rattle.pybuf_desc.specs.Items.{bytes_at}
+use Rattle.pybuf_state.specs.Exporter.{Exporter}
+use Rattle.pybuf_uses.specs.declared.weather_log.Header.{Header}
+use Rattle.pybuf_uses.specs.declared.weather_log.Reading.{Reading}
+
+-- what a format reads of bytes
+abbrev pub values_by : List ℕ → List ℕ → Result (List Scalar) Fault
+values_by format bytes = do
+  f ← format_of format
+  unpacked_values f bytes
+
+-- the bytes and the two numbers that values are
+abbrev pub bytes_and_two : List Scalar → Option (List ℕ × ℤ × ℤ)
+bytes_and_two (scalar.Bytes bytes ∷ scalar.Int first ∷ scalar.Int second ∷ []) = Some (bytes, first, second)
+bytes_and_two _ = None
+
+-- the three numbers that values are
+abbrev pub three : List Scalar → Option (ℤ × ℤ × ℤ)
+three (scalar.Int first ∷ scalar.Int second ∷ scalar.Int third ∷ []) = Some (first, second, third)
+three _ = None
+
+-- a place as a value of a command
+abbrev pub place_value : ℕ → Value
+place_value place = value.One (scalar.Int (pos place))
+
+-- The header: after four bytes that say what the file is, the year in two bytes and the number of readings in
+-- four, each with the low byte first.
+abbrev pub header_of : List ℕ → Result Header Fault
+header_of file = do
+  _ ← unless (nat_lt (length file) 10) fault.Struct
+  _ ← unless (not (bytes_eq (take 4 file) (codes "LOGS"))) fault.Value
+  Ok (record { year = little_endian 0 (bytes_at file 2 4); count = little_endian 0 (bytes_at file 4 6) })
+
+-- A reading: the second in four bytes, the temperature in two, with a sign, and the station in one.
+abbrev pub reading_of : List ℕ → Result Reading Fault
+reading_of bytes = do
+  _ ← unless (not (length bytes == 7)) fault.Struct
+  Ok (record {
+    second = little_endian 0 (bytes_at bytes 4 0);
+    temperature = number false true (bytes_at bytes 2 4);
+    station = little_endian 0 (bytes_at bytes 1 6);
+  })
+
+-- the bytes, where they are as many as their header says
+abbrev pub checked_log : List ℕ → Result (List ℕ) Fault
+checked_log file = do
+  header ← header_of file
+  _ ← unless (not (length file == 10 + 7 * header.count)) fault.Struct
+  Ok file
+
+-- the reading of a number, which lies behind the header and the readings before it
+abbrev pub reading_at : List ℕ → ℕ → Result Reading Fault
+reading_at file number = do
+  header ← header_of file
+  _ ← unless (not (nat_lt number header.count)) fault.Index
+  reading_of (bytes_at file 7 (10 + 7 * number))
+
+-- what holds of a log that was opened
+pub record IsLog (e : Exporter) (header : Header) : Type 0 where
+  pub read : header_of e.bytes ≡ Ok header
+  pub whole : length e.bytes ≡ 10 + 7 * header.count

@@ -1,0 +1,195 @@
+//! A small interpreter's objects of bytes, over a world.
+ghost use Rattle.std.specs.Prelude.{◌≡◌, ◌<◌, ℕ, map, take, length, slice_get, IfOk, OnOk, OnErr};
+ghost use Rattle.pybuf_world.specs.declared.commands.Reply.TheVariants as replies;
+ghost use Rattle.pybuf_value.specs.declared.faults.Fault as faults;
+ghost use Rattle.pybuf_uses.specs.Program.{command_of, number_value};
+
+use pybuf_value::{ByteList, Made, Scalar, Text, Value};
+use pybuf_view::{
+    ByteInnerNewOptions, Command, ExporterKind, Reply, ReplyList, Verb, World, handles_stay,
+    refusals_change_nothing, runs_stay_sound,
+};
+use std::alloc::Global;
+use std::marker::Model;
+
+/// A statement of a program. An object is named by its handle: how many were made before it.
+#[derive(Debug, Drop)]
+pub enum Statement {
+    /// `bytearray(bytes)`
+    ByteArray {
+        bytes: ByteList,
+    },
+    /// `memoryview(object)`
+    MemoryView {
+        object: u64,
+    },
+    /// `object.cast(format)`
+    Cast {
+        object: u64,
+        format: Text,
+    },
+    /// `object[index]`
+    GetItem {
+        object: u64,
+        index: i128,
+    },
+    /// `object[index] = value`
+    SetItem {
+        object: u64,
+        index: i128,
+        value: i128,
+    },
+    /// `object.append(value)`
+    Append {
+        object: u64,
+        value: i128,
+    },
+    /// `bytes(object)`
+    Bytes {
+        object: u64,
+    },
+    /// `object.release()`
+    Release {
+        object: u64,
+    },
+}
+
+/// A whole number as a value.
+fn number(number: i128) -> Value
+    ensures { result ≡ number_value number }
+{
+    Value::One(Scalar::Int(number))
+}
+
+/// A command on an object.
+fn ask(object: u64, verb: Verb) -> Command
+    ensures { result ≡ Command.Do object verb }
+{
+    Command::Do {
+        subject: object,
+        verb,
+    }
+}
+
+/// The command that a statement is.
+fn command(statement: Statement) -> Command
+    ensures { result ≡ command_of statement }
+{
+    match statement {
+        Statement::ByteArray { bytes } => Command::New {
+            kind: ExporterKind::ByteArray,
+            options: ByteInnerNewOptions {
+                source: Some(Value::One(Scalar::Bytes(bytes))),
+                encoding: None,
+                errors: None,
+            },
+        },
+        Statement::MemoryView { object } => ask(object, Verb::View),
+        Statement::Cast { object, format } => ask(
+            object,
+            Verb::Cast {
+                format: Value::One(Scalar::Text(format)),
+                shape: None,
+            },
+        ),
+        Statement::GetItem { object, index } => ask(object, Verb::Get { key: number(index) }),
+        Statement::SetItem {
+            object,
+            index,
+            value,
+        } => ask(
+            object,
+            Verb::Set {
+                key: number(index),
+                value: number(value),
+            },
+        ),
+        Statement::Append { object, value } => ask(
+            object,
+            Verb::Append {
+                value: number(value),
+            },
+        ),
+        Statement::Bytes { object } => ask(object, Verb::ToBytes),
+        Statement::Release { object } => ask(object, Verb::Release),
+    }
+}
+
+/// The commands that statements are.
+fn commands(alloc: Global, program: Vec<Statement>) -> Made<Vec<Command>>
+    ensures { IfOk result (λ commands. commands.items ≡ map command_of program.items) }
+{
+    let mut commands = Vec::with_capacity(alloc, program.len())?;
+    for statement in program {
+        commands.push(command(statement))?;
+    }
+    Ok(commands)
+}
+
+/// An interpreter with its objects. A clause sees the world of these.
+#[derive(Debug, Drop)]
+pub struct Interpreter {
+    world: World,
+    alloc: Global,
+}
+
+impl Model for Interpreter {
+    ghost use Rattle.pybuf_world.specs.World.{World};
+    ghost use Rattle.pybuf_uses.specs.Program.{IsMade};
+
+    ghost Value = { World };
+
+    ghost view = { λ interpreter. interpreter.world };
+
+    ghost invariant = { λ interpreter. IsMade interpreter.world };
+}
+
+impl Interpreter {
+    ghost use Rattle.pybuf_world.specs.World.{empty_world, wstep, replies_of, world_after_all};
+    ghost use Rattle.pybuf_world.specs.Sound.{StaysSound};
+
+    /// An interpreter without objects. Takes no memory.
+    pub fn new(alloc: Global) -> Interpreter
+        ensures { result ≡ empty_world }
+    {
+        Interpreter {
+            world: World::new(alloc),
+            alloc,
+        }
+    }
+
+    /// Carries out a statement, and answers it. A refusal is an answer and changes nothing, and every object
+    /// keeps its name. Where memory runs out, nothing is changed.
+    pub fn step(&mut self, statement: Statement) -> Made<Reply>
+        ensures answer { IfOk result (λ reply. wstep self.old (command_of statement) ≡ (self.new, reply)) }
+        ensures refused { IfOk result (λ reply. (fault : faults.Fault) → reply ≡ replies.Refused fault → self.new ≡ self.old) }
+        ensures named { IfOk result (λ _. (handle : ℕ) → handle < length self.old.handles → slice_get self.new.handles handle ≡ slice_get self.old.handles handle) }
+        ensures err { OnErr result (self.new ≡ self.old) }
+    {
+        refusals_change_nothing();
+        handles_stay();
+        let command = command(statement);
+        let answer = self.world.step(&command);
+        drop(command);
+        answer
+    }
+
+    /// Carries out a program: one answer for each statement, in order. Where memory runs out, its first
+    /// statements were carried out.
+    ///
+    /// After each statement every byte of each item of an unreleased view lies inside its bytearray, which is as
+    /// long as when the view was made.
+    pub fn run(&mut self, program: Vec<Statement>) -> Made<ReplyList>
+        ensures answers { IfOk result (λ answers. answers ≡ replies_of self.old (map command_of program.items)) }
+        ensures one_each { IfOk result (λ answers. length answers ≡ length program.items) }
+        ensures world { OnOk result (self.new ≡ world_after_all self.old (map command_of program.items)) }
+        ensures stopped { OnErr result ((count : ℕ) × (self.new ≡ world_after_all self.old (take count (map command_of program.items)))) }
+        ensures sound { StaysSound self.old (map command_of program.items) }
+    {
+        runs_stay_sound();
+        let commands = commands(self.alloc, program)?;
+        let mut answers = ReplyList::new(self.alloc);
+        self.world.run(commands.as_slice(), &mut answers)?;
+        Ok(answers)
+    }
+}

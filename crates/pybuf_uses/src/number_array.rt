@@ -1,0 +1,151 @@
+//! Numbers in a bytearray, which refuses to grow while it is lent.
+ghost use Rattle.std.specs.Prelude.{◌≡◌, ◌↔◌, ◌<◌, ◌*◌, ◌++◌, [], ◌∷◌, true, false, length, set, slice_get, IfOk, OnOk, OnErr, MatchResult, Ok, Err};
+ghost use Rattle.pybuf_value.specs.declared.halt.Halt.{Halt};
+ghost use Rattle.pybuf_value.specs.declared.faults.Fault.{Fault};
+ghost use Rattle.pybuf_uses.specs.Numbers.{numbers_of};
+
+use pybuf_object::{PyByteArray, PyMemoryView};
+use pybuf_value::{Fault, Halt, Made};
+use pybuf_view::{ExporterState, LoanList, LocalReply};
+use std::alloc::{AllocError, Global};
+use std::marker::Model;
+
+/// Numbers from 0 to 65,535, as Python's `array('H')`: they lie one after the other in a bytearray, two bytes
+/// each, the low one first. Memoryviews of them are lent, and while one is out no number is added.
+///
+/// A clause sees the numbers, and of each view that was ever lent whether it is still out.
+#[derive(Debug, Drop)]
+pub struct NumberArray {
+    bytes: PyByteArray,
+}
+
+impl Model for NumberArray {
+    ghost use Rattle.pybuf_uses.specs.Numbers.{Numbers, numbers_in, IsNumberArray};
+
+    ghost Value = { Numbers };
+
+    ghost view = { λ array. numbers_in array.bytes };
+
+    ghost invariant = { λ array. IsNumberArray array.bytes };
+}
+
+/// Puts a number in place of that at an index of bytes.
+fn put(bytes: &mut [u8], index: usize, number: u16)
+    requires pairs { length bytes.old ≡ 2 * length (numbers_of bytes.old) }
+    requires inside { index < length (numbers_of bytes.old) }
+    ensures { numbers_of bytes.new ≡ set (numbers_of bytes.old) index number }
+{
+    let [low, high] = number.to_le_bytes();
+    bytes[2 * index] = low;
+    bytes[2 * index + 1] = high;
+}
+
+/// The number at an index of bytes; None exactly where there is none.
+fn at(bytes: &[u8], index: usize) -> Option<u16>
+    requires { length bytes.now ≡ 2 * length (numbers_of bytes.now) }
+    ensures { result ≡ slice_get (numbers_of bytes.now) index }
+{
+    if index >= bytes.len() / 2 {
+        return None;
+    }
+    Some(u16::from_le_bytes([bytes[2 * index], bytes[2 * index + 1]]))
+}
+
+/// Adds a number behind bytes. Where memory runs out, they are as before.
+fn append(bytes: &mut Vec<u8>, number: u16) -> Result<(), AllocError>
+    requires { length bytes.old.items ≡ 2 * length (numbers_of bytes.old.items) }
+    ensures ok { OnOk result (numbers_of bytes.new.items ≡ numbers_of bytes.old.items ++ number ∷ []) }
+    ensures pairs { length bytes.new.items ≡ 2 * length (numbers_of bytes.new.items) }
+    ensures err { OnErr result (bytes.new.items ≡ bytes.old.items) }
+{
+    bytes.extend_from_slice(&number.to_le_bytes())
+}
+
+impl NumberArray {
+    ghost use Rattle.pybuf_uses.specs.Numbers.{no_numbers, numbers_in, IsLent};
+
+    /// No numbers, and nothing lent. Takes no memory.
+    pub fn new(alloc: Global) -> NumberArray
+        ensures { result ≡ no_numbers }
+    {
+        NumberArray {
+            bytes: PyByteArray::new_ref(alloc, Vec::new(alloc)),
+        }
+    }
+
+    /// The exporter, from which the views that are lent are read.
+    pub fn state(&self) -> &ExporterState
+        ensures { numbers_in result.now ≡ self.now }
+    {
+        self.bytes.state()
+    }
+
+    /// The number of numbers.
+    pub fn len(&self) -> usize
+        ensures { result ≡ length self.now.numbers }
+    {
+        self.bytes.borrow_buf().len() / 2
+    }
+
+    /// Whether there is no number.
+    pub fn is_empty(&self) -> bool
+        ensures { result ≡ true ↔ (self.now.numbers ≡ []) }
+    {
+        self.len() == 0
+    }
+
+    /// The number at an index; None exactly where there is none.
+    pub fn get(&self, index: usize) -> Option<u16>
+        ensures { result ≡ slice_get self.now.numbers index }
+    {
+        at(self.bytes.borrow_buf(), index)
+    }
+
+    /// Puts a number in place of that at an index. This is done also while views are out: they show it.
+    ///
+    /// Refused with `IndexError` exactly where there is none at the index.
+    pub fn set(&mut self, index: usize, number: u16) -> Result<(), Fault>
+        ensures ok { OnOk result (self.new ≡ record self.old { numbers = set self.old.numbers index number }) }
+        ensures exact { MatchResult result (λ _. index < length self.old.numbers) (λ fault. fault ≡ Fault.Index) }
+        ensures err { OnErr result (self.new ≡ self.old) }
+    {
+        if index >= self.len() {
+            return Err(Fault::Index);
+        }
+        put(self.bytes.borrow_buf_mut(), index, number);
+        Ok(())
+    }
+
+    /// Adds a number at the end.
+    ///
+    /// Refused with `BufferError` exactly where a view is out. Where it is refused, or memory runs out, nothing
+    /// is changed.
+    pub fn push(&mut self, number: u16) -> Result<(), Halt>
+        ensures ok { OnOk result (self.new ≡ record self.old { numbers = self.old.numbers ++ number ∷ [] }) }
+        ensures lent { (result ≡ Err (Halt.Refused Fault.Buffer)) ↔ IsLent self.old }
+        ensures err { OnErr result (self.new ≡ self.old) }
+    {
+        append(self.bytes.try_resizable()?, number)?;
+        Ok(())
+    }
+
+    /// A memoryview of all the numbers' bytes. It is out until it is given back. Where memory runs out, nothing
+    /// is changed.
+    pub fn lend(&mut self, alloc: Global) -> Made<PyMemoryView>
+        ensures view { IfOk result (λ view. view ≡ length self.old.out) }
+        ensures ok { OnOk result (self.new ≡ record self.old { out = self.old.out ++ true ∷ [] }) }
+        ensures err { OnErr result (self.new ≡ self.old) }
+    {
+        match self.bytes.as_buffer(LoanList::new(alloc))? {
+            LocalReply::View(view) => Ok(PyMemoryView::of(view)),
+            _ => unreachable!(),
+        }
+    }
+
+    /// Takes a view back. One that was taken back before changes nothing. Takes no memory.
+    pub fn give_back(&mut self, view: PyMemoryView)
+        ensures { self.new ≡ record self.old { out = set self.old.out view false } }
+    {
+        let _ = self.bytes.state_mut().release_view(view.number());
+    }
+}
