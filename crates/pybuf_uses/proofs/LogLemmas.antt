@@ -15,7 +15,8 @@ use Rattle.pybuf_value.specs.declared.values.Scalar.{Scalar}
 use Rattle.pybuf_value.specs.declared.values.Scalar.TheVariants as scalar
 use Rattle.pybuf_struct.specs.Digits.{little_endian, number}
 use Rattle.pybuf_struct.specs.Formats.{codes_in, layout_from, format_after_prefix}
-use Rattle.pybuf_uses.specs.Log.{values_by, bytes_and_two, three}
+use Rattle.pybuf_struct.specs.Singles.{values_by}
+use Rattle.pybuf_uses.specs.Log.{bytes_and_two, three}
 use Rattle.pybuf_desc.specs.Items.{bytes_at}
 
 take_less : (m j : ℕ) (xs : List ℕ) → m ≤ j → take m (take j xs) ≡ take m xs

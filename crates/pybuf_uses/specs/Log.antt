@@ -8,18 +8,10 @@ use Rattle.pybuf_value.specs.declared.values.Value.{Value}
 use Rattle.pybuf_value.specs.declared.values.Value.TheVariants as value
 use Rattle.pybuf_value.specs.Refusing.{◌>>=◌, unless}
 use Rattle.pybuf_struct.specs.Digits.{little_endian, number}
-use Rattle.pybuf_struct.specs.Formats.{format_of}
-use Rattle.pybuf_struct.specs.Values.{unpacked_values}
 use Rattle.pybuf_desc.specs.Items.{bytes_at}
 use Rattle.pybuf_state.specs.Exporter.{Exporter}
 use Rattle.pybuf_uses.specs.declared.weather_log.Header.{Header}
 use Rattle.pybuf_uses.specs.declared.weather_log.Reading.{Reading}
-
--- what a format reads of bytes
-abbrev pub values_by : List ℕ → List ℕ → Result (List Scalar) Fault
-values_by format bytes = do
-  f ← format_of format
-  unpacked_values f bytes
 
 -- the bytes and the two numbers that values are
 abbrev pub bytes_and_two : List Scalar → Option (List ℕ × ℤ × ℤ)

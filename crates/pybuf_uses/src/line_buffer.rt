@@ -34,7 +34,7 @@ impl Model for LineBuffer {
     ghost invariant = { λ buffer. IsLineBuffer buffer.room buffer.view buffer.begin buffer.end };
 }
 
-/// The number of bytes before the first line feed, which there has to be.
+/// The number of bytes before the first line feed; None exactly where there is none.
 fn line_len(bytes: &[u8]) -> Option<usize>
     ensures { result ≡ line_len_of bytes.now }
 {

@@ -8,7 +8,8 @@ ghost use Rattle.pybuf_desc.specs.Items.{content_of_layout, bytes_at};
 ghost use Rattle.pybuf_desc.specs.Layouts.{bytes_layout_from};
 ghost use Rattle.pybuf_state.specs.Exporter.{with_view};
 ghost use Rattle.pybuf_state.specs.Live.{is_live, layout_of};
-ghost use Rattle.pybuf_uses.specs.Log.{values_by, bytes_and_two, three, header_of, reading_of, place_value};
+ghost use Rattle.pybuf_struct.specs.Singles.{values_by};
+ghost use Rattle.pybuf_uses.specs.Log.{bytes_and_two, three, header_of, reading_of, place_value};
 
 use pybuf_object::PyBytes;
 use pybuf_struct::FormatSpec;
