@@ -59,13 +59,6 @@ carried_out w next c r text longer stepped pushed = (
   pushed ∙ ap (λ (p : World × Reply). text ++ reply_line handle_text p.1) (sym stepped),
 )
 
--- a line is the one command that it was read as
-pub answered_by : (w next : World) (line text longer : List ℕ) (c : Command) → command_in handle_in line ≡ Some c → IsCarriedOut w c text next longer →
-    IsAnswered w line text next longer
-answered_by w next line text longer c read out d also =
-    let same : c ≡ d = cc in
-    subst (λ (x : Command). IsCarriedOut w x text next longer) same out
-
 -- the first line that is left is a command
 pub spelled_first : (input rest line after : List ℕ) (w : World) (old : Option (List ℕ)) (waiting : List ℕ) (held : Option (List ℕ)) →
     IsRunning input rest w old waiting held → lines rest ≡ line ∷ lines after → IsSpelled line
