@@ -8,7 +8,7 @@ ghost use Rattle.pybuf_state.specs.Exporter.{exports_of};
 ghost use Rattle.pybuf_state.specs.Answers.{exporter_of, IsWhole, Answers};
 ghost use Rattle.pybuf_exporter.specs.Step as spec;
 
-use crate::pick::{get_of_view, set_through_view};
+use crate::pick;
 use pybuf_command::{
     LoanList, LocalReply, handles_in, handles_in_both, handles_in_option, handles_with_option,
 };
@@ -18,7 +18,7 @@ use pybuf_rows_views::{cast, release, view};
 use pybuf_state::{Parts, are_known};
 use pybuf_value::{Fault, Halt, Made, NoMemory, Value};
 
-fn answered_view_own(parts: &mut Parts, _loans: &LoanList) -> Result<LocalReply, Halt>
+fn answered_view_of_own(parts: &mut Parts, _loans: &LoanList) -> Result<LocalReply, Halt>
     requires { IsWhole parts.old }
     ensures answer { Answers (spec.answer_of (exporter_of parts.old) subjects.Own verbs.View _loans.now) (exporter_of parts.old) result (exporter_of parts.new) }
     ensures counted { parts.new.exports ≡ exports_of (exporter_of parts.new) }
@@ -27,21 +27,25 @@ fn answered_view_own(parts: &mut Parts, _loans: &LoanList) -> Result<LocalReply,
 }
 
 /// A new view of all bytes.
-pub fn view_own(parts: &mut Parts, loans: &LoanList) -> Made<LocalReply>
+pub fn view_of_own(parts: &mut Parts, loans: &LoanList) -> Made<LocalReply>
     requires { IsWhole parts.old }
     ensures ok { IfOk result (λ r. spec.estep (exporter_of parts.old) subjects.Own verbs.View loans.now ≡ (exporter_of parts.new, r)) }
     ensures err { OnErr result (exporter_of parts.new ≡ exporter_of parts.old) }
     ensures whole { IsWhole parts.new }
 {
     crate::laws::commands_keep_sound();
-    match answered_view_own(parts, loans) {
+    match answered_view_of_own(parts, loans) {
         Ok(reply) => Ok(reply),
         Err(Halt::Refused(fault)) => Ok(LocalReply::Refused(fault)),
         Err(Halt::NoMemory) => Err(NoMemory),
     }
 }
 
-fn answered_view_view(parts: &mut Parts, view: usize, _loans: &LoanList) -> Result<LocalReply, Halt>
+fn answered_view_of_view(
+    parts: &mut Parts,
+    view: usize,
+    _loans: &LoanList,
+) -> Result<LocalReply, Halt>
     requires { IsWhole parts.old }
     ensures answer { Answers (spec.answer_of (exporter_of parts.old) (subjects.View view) verbs.View _loans.now) (exporter_of parts.old) result (exporter_of parts.new) }
     ensures counted { parts.new.exports ≡ exports_of (exporter_of parts.new) }
@@ -50,21 +54,25 @@ fn answered_view_view(parts: &mut Parts, view: usize, _loans: &LoanList) -> Resu
 }
 
 /// A new view of the items of a view.
-pub fn view_view(parts: &mut Parts, view: usize, loans: &LoanList) -> Made<LocalReply>
+pub fn view_of_view(parts: &mut Parts, view: usize, loans: &LoanList) -> Made<LocalReply>
     requires { IsWhole parts.old }
     ensures ok { IfOk result (λ r. spec.estep (exporter_of parts.old) (subjects.View view) verbs.View loans.now ≡ (exporter_of parts.new, r)) }
     ensures err { OnErr result (exporter_of parts.new ≡ exporter_of parts.old) }
     ensures whole { IsWhole parts.new }
 {
     crate::laws::commands_keep_sound();
-    match answered_view_view(parts, view, loans) {
+    match answered_view_of_view(parts, view, loans) {
         Ok(reply) => Ok(reply),
         Err(Halt::Refused(fault)) => Ok(LocalReply::Refused(fault)),
         Err(Halt::NoMemory) => Err(NoMemory),
     }
 }
 
-fn answered_exit_view(parts: &mut Parts, view: usize, _loans: &LoanList) -> Result<LocalReply, Halt>
+fn answered_exit_of_view(
+    parts: &mut Parts,
+    view: usize,
+    _loans: &LoanList,
+) -> Result<LocalReply, Halt>
     requires { IsWhole parts.old }
     ensures answer { Answers (spec.answer_of (exporter_of parts.old) (subjects.View view) verbs.Exit _loans.now) (exporter_of parts.old) result (exporter_of parts.new) }
     ensures counted { parts.new.exports ≡ exports_of (exporter_of parts.new) }
@@ -73,21 +81,21 @@ fn answered_exit_view(parts: &mut Parts, view: usize, _loans: &LoanList) -> Resu
 }
 
 /// A view is released, as `with view` ends.
-pub fn exit_view(parts: &mut Parts, view: usize, loans: &LoanList) -> Made<LocalReply>
+pub fn exit_of_view(parts: &mut Parts, view: usize, loans: &LoanList) -> Made<LocalReply>
     requires { IsWhole parts.old }
     ensures ok { IfOk result (λ r. spec.estep (exporter_of parts.old) (subjects.View view) verbs.Exit loans.now ≡ (exporter_of parts.new, r)) }
     ensures err { OnErr result (exporter_of parts.new ≡ exporter_of parts.old) }
     ensures whole { IsWhole parts.new }
 {
     crate::laws::commands_keep_sound();
-    match answered_exit_view(parts, view, loans) {
+    match answered_exit_of_view(parts, view, loans) {
         Ok(reply) => Ok(reply),
         Err(Halt::Refused(fault)) => Ok(LocalReply::Refused(fault)),
         Err(Halt::NoMemory) => Err(NoMemory),
     }
 }
 
-fn answered_get_own(parts: &mut Parts, key: &Value, loans: &LoanList) -> Result<LocalReply, Halt>
+fn answered_get_of_own(parts: &mut Parts, key: &Value, loans: &LoanList) -> Result<LocalReply, Halt>
     requires { IsWhole parts.old }
     ensures answer { Answers (spec.answer_of (exporter_of parts.old) subjects.Own (verbs.Get key.now) loans.now) (exporter_of parts.old) result (exporter_of parts.new) }
     ensures counted { parts.new.exports ≡ exports_of (exporter_of parts.new) }
@@ -100,21 +108,21 @@ fn answered_get_own(parts: &mut Parts, key: &Value, loans: &LoanList) -> Result<
 }
 
 /// The byte of an exporter at an index, or the bytes that a slice picks.
-pub fn get_own(parts: &mut Parts, key: &Value, loans: &LoanList) -> Made<LocalReply>
+pub fn get_of_own(parts: &mut Parts, key: &Value, loans: &LoanList) -> Made<LocalReply>
     requires { IsWhole parts.old }
     ensures ok { IfOk result (λ r. spec.estep (exporter_of parts.old) subjects.Own (verbs.Get key.now) loans.now ≡ (exporter_of parts.new, r)) }
     ensures err { OnErr result (exporter_of parts.new ≡ exporter_of parts.old) }
     ensures whole { IsWhole parts.new }
 {
     crate::laws::commands_keep_sound();
-    match answered_get_own(parts, key, loans) {
+    match answered_get_of_own(parts, key, loans) {
         Ok(reply) => Ok(reply),
         Err(Halt::Refused(fault)) => Ok(LocalReply::Refused(fault)),
         Err(Halt::NoMemory) => Err(NoMemory),
     }
 }
 
-fn answered_get_view(
+fn answered_get_of_view(
     parts: &mut Parts,
     view: usize,
     key: &Value,
@@ -128,25 +136,30 @@ fn answered_get_view(
     if !are_known(parts, loans.as_slice(), handles.as_slice()) {
         return Err(Halt::Refused(Fault::UnknownName));
     }
-    get_of_view(parts, view, key)
+    pick::get_of_view(parts, view, key)
 }
 
 /// The item of a view at a key, or a new view of those that a slice picks.
-pub fn get_view(parts: &mut Parts, view: usize, key: &Value, loans: &LoanList) -> Made<LocalReply>
+pub fn get_of_view(
+    parts: &mut Parts,
+    view: usize,
+    key: &Value,
+    loans: &LoanList,
+) -> Made<LocalReply>
     requires { IsWhole parts.old }
     ensures ok { IfOk result (λ r. spec.estep (exporter_of parts.old) (subjects.View view) (verbs.Get key.now) loans.now ≡ (exporter_of parts.new, r)) }
     ensures err { OnErr result (exporter_of parts.new ≡ exporter_of parts.old) }
     ensures whole { IsWhole parts.new }
 {
     crate::laws::commands_keep_sound();
-    match answered_get_view(parts, view, key, loans) {
+    match answered_get_of_view(parts, view, key, loans) {
         Ok(reply) => Ok(reply),
         Err(Halt::Refused(fault)) => Ok(LocalReply::Refused(fault)),
         Err(Halt::NoMemory) => Err(NoMemory),
     }
 }
 
-fn answered_set_view(
+fn answered_set_through_view(
     parts: &mut Parts,
     view: usize,
     key: &Value,
@@ -162,11 +175,11 @@ fn answered_set_view(
     if !are_known(parts, loans.as_slice(), handles.as_slice()) {
         return Err(Halt::Refused(Fault::UnknownName));
     }
-    set_through_view(parts, view, key, value, loans)
+    pick::set_through_view(parts, view, key, value, loans)
 }
 
 /// Writes the item of a view at a key, or items over those that a slice picks.
-pub fn set_view(
+pub fn set_through_view(
     parts: &mut Parts,
     view: usize,
     key: &Value,
@@ -180,14 +193,14 @@ pub fn set_view(
     ensures whole { IsWhole parts.new }
 {
     crate::laws::commands_keep_sound();
-    match answered_set_view(parts, view, key, value, loans) {
+    match answered_set_through_view(parts, view, key, value, loans) {
         Ok(reply) => Ok(reply),
         Err(Halt::Refused(fault)) => Ok(LocalReply::Refused(fault)),
         Err(Halt::NoMemory) => Err(NoMemory),
     }
 }
 
-fn answered_cast_view(
+fn answered_cast_of_view(
     parts: &mut Parts,
     view: usize,
     format: &Value,
@@ -206,7 +219,7 @@ fn answered_cast_view(
 }
 
 /// A new view of the bytes of a view, with items of another format.
-pub fn cast_view(
+pub fn cast_of_view(
     parts: &mut Parts,
     view: usize,
     format: &Value,
@@ -219,7 +232,7 @@ pub fn cast_view(
     ensures whole { IsWhole parts.new }
 {
     crate::laws::commands_keep_sound();
-    match answered_cast_view(parts, view, format, shape, loans) {
+    match answered_cast_of_view(parts, view, format, shape, loans) {
         Ok(reply) => Ok(reply),
         Err(Halt::Refused(fault)) => Ok(LocalReply::Refused(fault)),
         Err(Halt::NoMemory) => Err(NoMemory),

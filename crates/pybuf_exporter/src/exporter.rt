@@ -106,50 +106,66 @@ impl ExporterState {
     }
 
     // The commands that are called very often follow, each with its values lent by themselves: no verb is made for
-    // it. Each is refused as its verb is, a handle that the loans don't name before all else.
+    // it.
 
-    /// A new view of all bytes, as `Verb::View` of the exporter itself. The reply is its number.
-    pub fn view_own(&mut self, loans: &LoanList) -> Made<LocalReply>
+    /// A new view of all bytes, as `Verb::View` of the exporter itself. The reply is its number. Never refused.
+    pub fn view_of_own(&mut self, loans: &LoanList) -> Made<LocalReply>
         ensures ok { IfOk result (λ r. estep self.old subjects.Own verbs.View loans.now ≡ (self.new, r)) }
         ensures err { OnErr result (self.new ≡ self.old) }
     {
-        direct::view_own(&mut self.parts, loans)
+        direct::view_of_own(&mut self.parts, loans)
     }
 
     /// A new view of the items of a view, as `Verb::View` of it. The reply is its number.
-    pub fn view_view(&mut self, view: usize, loans: &LoanList) -> Made<LocalReply>
+    ///
+    /// Refused with `UnknownName` where the view was never given, and with `ValueError` where it is released.
+    pub fn view_of_view(&mut self, view: usize, loans: &LoanList) -> Made<LocalReply>
         ensures ok { IfOk result (λ r. estep self.old (subjects.View view) verbs.View loans.now ≡ (self.new, r)) }
         ensures err { OnErr result (self.new ≡ self.old) }
     {
-        direct::view_view(&mut self.parts, view, loans)
+        direct::view_of_view(&mut self.parts, view, loans)
     }
 
     /// Releases a view, as `Verb::Exit`. The second time changes nothing, and isn't refused.
-    pub fn exit_view(&mut self, view: usize, loans: &LoanList) -> Made<LocalReply>
+    ///
+    /// Refused with `UnknownName` where the view was never given.
+    pub fn exit_of_view(&mut self, view: usize, loans: &LoanList) -> Made<LocalReply>
         ensures ok { IfOk result (λ r. estep self.old (subjects.View view) verbs.Exit loans.now ≡ (self.new, r)) }
         ensures err { OnErr result (self.new ≡ self.old) }
     {
-        direct::exit_view(&mut self.parts, view, loans)
+        direct::exit_of_view(&mut self.parts, view, loans)
     }
 
     /// The byte at an index, or the bytes that a slice picks, as `Verb::Get` of the exporter itself.
-    pub fn get_own(&mut self, key: &Value, loans: &LoanList) -> Made<LocalReply>
+    ///
+    /// Refused with `UnknownName` where the exporter is a vector, and for a handle in the key that the loans don't
+    /// name, before all else; with `TypeError` where the key is neither a number nor a slice, and where a part of the
+    /// slice is neither a number nor `None`; with `ValueError` for a step of 0; with `IndexError` for an index out of
+    /// range.
+    pub fn get_of_own(&mut self, key: &Value, loans: &LoanList) -> Made<LocalReply>
         ensures ok { IfOk result (λ r. estep self.old subjects.Own (verbs.Get key.now) loans.now ≡ (self.new, r)) }
         ensures err { OnErr result (self.new ≡ self.old) }
     {
-        direct::get_own(&mut self.parts, key, loans)
+        direct::get_of_own(&mut self.parts, key, loans)
     }
 
     /// The item of a view at a key, or a new view of the items that a slice picks, as `Verb::Get` of it.
-    pub fn get_view(&mut self, view: usize, key: &Value, loans: &LoanList) -> Made<LocalReply>
+    ///
+    /// Refused with `UnknownName` for a handle in the key that the loans don't name, before all else, and where the
+    /// view was never given; with `ValueError` where it is released; then as `PyMemoryView::getitem` refuses the key.
+    pub fn get_of_view(&mut self, view: usize, key: &Value, loans: &LoanList) -> Made<LocalReply>
         ensures ok { IfOk result (λ r. estep self.old (subjects.View view) (verbs.Get key.now) loans.now ≡ (self.new, r)) }
         ensures err { OnErr result (self.new ≡ self.old) }
     {
-        direct::get_view(&mut self.parts, view, key, loans)
+        direct::get_of_view(&mut self.parts, view, key, loans)
     }
 
     /// Writes the item of a view at a key, or items over those that a slice picks, as `Verb::Set` of it.
-    pub fn set_view(
+    ///
+    /// Refused with `UnknownName` for a handle in the key or the value that the loans don't name, before all else,
+    /// and where the view was never given; with `ValueError` where it is released; then as `PyMemoryView::setitem`
+    /// refuses the key and the value.
+    pub fn set_through_view(
         &mut self,
         view: usize,
         key: &Value,
@@ -160,11 +176,15 @@ impl ExporterState {
         ensures ok { IfOk result (λ r. estep self.old (subjects.View view) (verbs.Set key.now value.now) loans.now ≡ (self.new, r)) }
         ensures err { OnErr result (self.new ≡ self.old) }
     {
-        direct::set_view(&mut self.parts, view, key, value, loans)
+        direct::set_through_view(&mut self.parts, view, key, value, loans)
     }
 
     /// A new view of the bytes of a view with items of another format, as `Verb::Cast`. The reply is its number.
-    pub fn cast_view(
+    ///
+    /// Refused with `UnknownName` for a handle in the values that the loans don't name, before all else, and where
+    /// the view was never given; with `ValueError` where it is released; then as `PyMemoryView::cast` refuses the
+    /// format and the shape.
+    pub fn cast_of_view(
         &mut self,
         view: usize,
         format: &Value,
@@ -174,10 +194,14 @@ impl ExporterState {
         ensures ok { IfOk result (λ r. estep self.old (subjects.View view) (verbs.Cast format.now shape.now) loans.now ≡ (self.new, r)) }
         ensures err { OnErr result (self.new ≡ self.old) }
     {
-        direct::cast_view(&mut self.parts, view, format, shape, loans)
+        direct::cast_of_view(&mut self.parts, view, format, shape, loans)
     }
 
     /// Adds a byte at the end, as `Verb::Append`.
+    ///
+    /// Refused with `UnknownName` where the exporter is no bytearray, and for a handle that the loans don't name,
+    /// before all else; with `TypeError` where the value is no number, with `ValueError` outside `0..256`, and then
+    /// with `BufferError` where a view is unreleased.
     pub fn append(&mut self, value: &Value, loans: &LoanList) -> Made<LocalReply>
         ensures ok { IfOk result (λ r. estep self.old subjects.Own (verbs.Append value.now) loans.now ≡ (self.new, r)) }
         ensures err { OnErr result (self.new ≡ self.old) }
@@ -186,6 +210,10 @@ impl ExporterState {
     }
 
     /// Takes the byte at an index out, the last where none is given, as `Verb::Pop`. The reply is that byte.
+    ///
+    /// Refused with `UnknownName` where the exporter is no bytearray, and for a handle that the loans don't name,
+    /// before all else; with `TypeError` where the index is no number, with `OverflowError` where it doesn't fit
+    /// `isize`, with `BufferError` where a view is unreleased, and then with `IndexError` out of range.
     pub fn pop(&mut self, index: &Option<Value>, loans: &LoanList) -> Made<LocalReply>
         ensures ok { IfOk result (λ r. estep self.old subjects.Own (verbs.Pop index.now) loans.now ≡ (self.new, r)) }
         ensures err { OnErr result (self.new ≡ self.old) }

@@ -20,7 +20,7 @@ impl PyMemoryView {
         ensures ok { IfOk result (λ r. estep state.old (subjects.View self.now) verbs.View loans ≡ (state.new, r)) }
         ensures err { OnErr result (state.new ≡ state.old) }
     {
-        state.view_view(self.number(), &loans)
+        state.view_of_view(self.number(), &loans)
     }
 
     /// The item at a key, or one more view of the items that a slice picks, as Python's `view[key]`
@@ -46,7 +46,7 @@ impl PyMemoryView {
         ensures ok { IfOk result (λ r. estep state.old (subjects.View self.now) (verbs.Get key) loans ≡ (state.new, r)) }
         ensures err { OnErr result (state.new ≡ state.old) }
     {
-        state.get_view(self.number(), &key, &loans)
+        state.get_of_view(self.number(), &key, &loans)
     }
 
     /// Writes the item at a key, or items over those that a slice picks, as Python's `view[key] =
@@ -68,7 +68,7 @@ impl PyMemoryView {
         ensures ok { IfOk result (λ r. estep state.old (subjects.View self.now) (verbs.Set key value) loans ≡ (state.new, r)) }
         ensures err { OnErr result (state.new ≡ state.old) }
     {
-        state.set_view(self.number(), &key, &value, &loans)
+        state.set_through_view(self.number(), &key, &value, &loans)
     }
 
     /// Whether the view is equal to another value, as Python's `view == other` and `view != other` (Library
@@ -184,7 +184,7 @@ impl PyMemoryView {
         ensures ok { IfOk result (λ r. estep state.old (subjects.View self.now) (verbs.Cast format shape) loans ≡ (state.new, r)) }
         ensures err { OnErr result (state.new ≡ state.old) }
     {
-        state.cast_view(self.number(), &format, &shape, &loans)
+        state.cast_of_view(self.number(), &format, &shape, &loans)
     }
 
     /// One more view of the same items, which may only be read, as Python's `view.toreadonly()`
@@ -223,7 +223,7 @@ impl PyMemoryView {
         ensures ok { IfOk result (λ r. estep state.old (subjects.View self.now) verbs.Exit loans ≡ (state.new, r)) }
         ensures err { OnErr result (state.new ≡ state.old) }
     {
-        state.exit_view(self.number(), &loans)
+        state.exit_of_view(self.number(), &loans)
     }
 
     /// The items with the shape of the view, as Python's `view.tolist()` (Library reference, "Memory

@@ -122,7 +122,7 @@ impl PyByteArray {
         ensures ok { IfOk result (λ r. estep self.old subjects.Own verbs.View loans ≡ (self.new, r)) }
         ensures err { OnErr result (self.new ≡ self.old) }
     {
-        self.exporter.view_own(&loans)
+        self.exporter.view_of_own(&loans)
     }
 
     /// A view of the bytes from the place `from` up to `to`, as `memoryview(object)[from:to]` where
@@ -154,7 +154,7 @@ impl PyByteArray {
         ensures ok { IfOk result (λ r. estep self.old subjects.Own (verbs.Get key) loans ≡ (self.new, r)) }
         ensures err { OnErr result (self.new ≡ self.old) }
     {
-        self.exporter.get_own(&key, &loans)
+        self.exporter.get_of_own(&key, &loans)
     }
 
     /// Writes the byte at an index, or puts bytes in place of those that a slice picks, as Python's

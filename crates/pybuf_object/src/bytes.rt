@@ -97,7 +97,7 @@ impl PyBytes {
         ensures ok { IfOk result (λ r. estep self.old subjects.Own verbs.View loans ≡ (self.new, r)) }
         ensures err { OnErr result (self.new ≡ self.old) }
     {
-        self.exporter.view_own(&loans)
+        self.exporter.view_of_own(&loans)
     }
 
     /// A view of the bytes from the place `from` up to `to`, as `memoryview(object)[from:to]` where
@@ -129,7 +129,7 @@ impl PyBytes {
         ensures ok { IfOk result (λ r. estep self.old subjects.Own (verbs.Get key) loans ≡ (self.new, r)) }
         ensures err { OnErr result (self.new ≡ self.old) }
     {
-        self.exporter.get_own(&key, &loans)
+        self.exporter.get_of_own(&key, &loans)
     }
 
     /// A copy of the bytes, as Python's `bytes(object)` (Library reference, "Bytes Objects").

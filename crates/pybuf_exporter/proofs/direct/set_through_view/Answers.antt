@@ -1,10 +1,10 @@
 use Rattle.pybuf_command.specs.declared.commands.Verb.TheVariants as verbs
 use Rattle.pybuf_command.specs.declared.kinds.Subject.TheVariants as subjects
 use Rattle.pybuf_exporter.proofs.Every.{answered_is_sound}
-use Rattle.pybuf_exporter.proofs.direct.set_view.Goals as goal
+use Rattle.pybuf_exporter.proofs.direct.set_through_view.Goals as goal
 
 pub returns-in-Ok-clause-whole : goal.returns-in-Ok-clause-whole
 returns-in-Ok-clause-whole c = record {
-  counted = c.answered_set_view.ensures.counted;
+  counted = c.answered_set_through_view.ensures.counted;
   sound = answered_is_sound c.commands_keep_sound.ensures _ _ (subjects.View c.args.view) (verbs.Set c.args.key.now c.args.value.now) c.args.loans.now _ c.requires.whole.sound c.in-Ok.ensures.answer;
 }
