@@ -1,7 +1,7 @@
 -- Copies, list by list.
 use Rattle.std.proofs.Common.{◌≡◌, ℕ, zero, suc, ◌+◌, ◌*◌, ◌<◌, ◌≤◌, length, arith, append_assoc, append-nil, length-append, List, [], ◌∷◌, ◌++◌, reverse, subst, sym, ap, ◌∙◌}
 use Rattle.std.specs.List.{AllZip, AppendsClones}
-use Rattle.std.proofs.lemmas.List.{reverse-append}
+use Rattle.std.proofs.lemmas.List.{nil_from_length, reverse-append}
 use Rattle.std.proofs.lemmas.List.Elements.{length_all_zip}
 use Rattle.std.proofs.lemmas.Nat.{mul-le}
 use Rattle.std.proofs.Math.Nat.{suc-mul, mul_comm}
@@ -33,6 +33,15 @@ repeated_push : {X : Type 0} (n : ℕ) (items : List X) → repeated_list n item
 repeated_push zero items = sym (append-nil items)
 repeated_push {X} (suc n) items =
     append_assoc items (repeated_list n items) items ∙ ap (λ (xs : List X). items ++ xs) (repeated_push n items)
+
+none_of_none : {X : Type 0} (R : X → X → Type 0) (n : ℕ) → AllZip R (repeated_list n []) []
+none_of_none R zero = tt
+none_of_none R (suc n) = none_of_none R n
+
+pub none_repeated : {X : Type 0} (R : X → X → Type 0) (n : ℕ) (items list : List X) → length items ≡ 0 → list ≡ [] → AllZip R (repeated_list n items) list
+none_repeated {X} R n items list none empty =
+    subst (λ (xs : List X). AllZip R (repeated_list n xs) list) (sym (nil_from_length items none))
+    (subst (λ (ys : List X). AllZip R (repeated_list n []) ys) (sym empty) (none_of_none R n))
 
 pub once_more : {X : Type 0} (R : X → X → Type 0) (n : ℕ) (items old new : List X) → AllZip R (repeated_list n items) old → AppendsClones R old new items → AllZip R (repeated_list (n + 1) items) new
 once_more {X} R n items old new before added =

@@ -30,6 +30,10 @@ fn copies_of<T: Twin>(alloc: Global, items: &[T], times: usize) -> Made<Vec<T>>
     ensures { IfOk result (λ list. AllZip T.same (repeated_list times items.now) list.items) }
 {
     let mut list = Vec::with_capacity(alloc, items.len() * times)?;
+    // No items are done at once, however often they are asked for.
+    if items.is_empty() {
+        return Ok(list);
+    }
     for _time in 0..times {
         T::append_copies(alloc, items, &mut list)?;
     }

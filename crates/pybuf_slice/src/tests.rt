@@ -590,6 +590,19 @@ fn texts_are_set_by_numbers(rt: HostRuntime) -> Result<(), Fail> {
     Ok(())
 }
 
+// Of no texts there are none at once, however often they are asked for.
+#[test]
+fn no_texts_are_repeated_at_once(rt: HostRuntime) -> Result<(), Fail> {
+    let mut list = texts(rt.alloc(), "")?;
+    let Outcome::Done(none) = list.mul(rt.alloc(), isize::MAX)? else {
+        return Err(Fail::from("a list"));
+    };
+    assert!(rt; none.is_empty());
+    let _ = list.imul(rt.alloc(), isize::MAX)?;
+    assert!(rt; list.is_empty());
+    Ok(())
+}
+
 #[test]
 fn texts_are_repeated(rt: HostRuntime) -> Result<(), Fail> {
     let mut list = texts(rt.alloc(), "ab")?;

@@ -1,7 +1,13 @@
--- Each round adds the copies of one more list.
-use Rattle.std.proofs.Common.{◌+◌, ◌≤◌, length, arith, vec_capacity}
-use Rattle.pybuf_slice.proofs.TwinLemmas.{once_more, room_for_more}
+-- No items are none, and each round adds the copies of one more list.
+use Rattle.std.proofs.Common.{rules, ◌≡◌, ◌+◌, ◌≤◌, [], length, arith, vec_capacity}
+use Rattle.pybuf_slice.proofs.TwinLemmas.{none_repeated, once_more, room_for_more}
 use Rattle.pybuf_slice.proofs.repeats.copies_of.Goals as goal
+
+pub returns-then-is_empty : goal.returns-then-is_empty
+returns-then-is_empty g c =
+    let none : length c.args.items.now ≡ 0 = search rules in
+    let empty : c.in_ok-list.list.items ≡ [] = search rules in
+    none_repeated g.T.Twin.same c.args.times c.args.items.now c.in_ok-list.list.items none empty
 
 pub append_copies-requires : goal.append_copies-requires
 append_copies-requires g c =
