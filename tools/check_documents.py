@@ -1,10 +1,15 @@
 """Compares what the documents show with what is run as a test, and ends with status 1 where they differ.
 
 - A block of Rust or of definitions has to stand word for word in a source of `crates/`.
-- A block of changes has to begin with the name of a file, in which its lines before or after the change stand.
+- A block of changes has to begin with the name of a file, in which its lines before or after the change stand. One that
+  only takes lines out has to find them there.
+- A must-fail edit that a document shows has to lie in a folder `must-fail/`, or to turn a line that a block of changes of
+  that document puts in.
 - An input of the program has to be an example of `examples/`, with the output that the document shows.
-- A line in a table of `docs/COMMANDS.md` has to stand in an example, with the reply of the table.
-- A file or a folder that a document names has to be there.
+- A line in a table of `docs/COMMANDS.md` has to stand in an example, with the reply of the table. A value in its table of
+  values has to stand in the input of one, and a reply in its table of replies in the output of one.
+- A file or a folder that a document names has to be there, and so has a case or a test that `docs/DIFFERENCES.md` names.
+- `docs/DEFINITIONS.md` has to name each file of definitions but those of laws.
 """
 
 import pathlib
@@ -51,7 +56,8 @@ def check_changes(document, line, block):
     before = [part[1:] for part in block[1:] if part[:1] in (" ", "-")]
     after = [part[1:] for part in block[1:] if part[:1] in (" ", "+")]
     source = path.read_text().split("\n")
-    if not any(source[at : at + len(form)] == form for form in (before, after) for at in range(len(source))):
+    forms = [form for form in (before, after) if form]
+    if not any(source[at : at + len(form)] == form for form in forms for at in range(len(source))):
         report(document, line, f"neither the lines before the change nor those after it stand in {path.relative_to(ROOT)}")
 
 
@@ -74,6 +80,17 @@ def check_blocks(document, lines, kept):
             if not any(stands_in(block, source) for source in kept[ending]):
                 report(document, start, f"the block stands in no source with the ending {ending}")
         start = None
+
+
+def check_edits(document, lines):
+    """Must-fail edits that are shown whole: indented blocks that begin with a file."""
+    edits = [path.read_text() for path in sorted((ROOT / "crates").glob("*/must-fail/*.edit"))]
+    put = [line[1:].strip() for line in lines if line.startswith("+")]
+    for block in plain_blocks(lines):
+        if block.startswith("file: ") and block not in edits:
+            old = re.search(r"^old: (.*)$", block, re.MULTILINE)
+            if old is None or not any(old[1] in line for line in put):
+                report(document, 1, f"no must-fail edit is this, and no change puts its line in: {block.splitlines()[1]}")
 
 
 def outputs():
@@ -158,6 +175,61 @@ def check_tables(document, lines, examples):
     for number, line, reply in wanted:
         if (line, reply) not in pairs:
             report(document, number, f"no example has the line {line} with the reply {reply}")
+    words = {word for given, _ in examples for line in given.split("\n") for word in line.split(" ")}
+    replies = {reply for _, written in examples for reply in written.split("\n")}
+    spelled = [(number, value) for number, cells in rows(lines, "| Spelling | Value |") for value in quoted(cells[2])]
+    written = [(number, reply) for number, cells in rows(lines, "| Reply | Text |") for reply in quoted(cells[2])]
+    if not spelled or not written:
+        report(document, 1, "the tables of values and of replies were not found")
+    for number, value in spelled:
+        if value not in words:
+            report(document, number, f"no example has the value {value}")
+    for number, reply in written:
+        if reply not in replies:
+            report(document, number, f"no example has the reply {reply}")
+
+
+def named_definitions(lines):
+    """Files of definitions that are named, with the number of the line. A name without a folder lies in that named last."""
+    folder = ""
+    for number, line in enumerate(lines, 1):
+        for name in re.findall(r"`([^`\s]+)`", line):
+            whole = re.fullmatch(r"(pybuf_\w+/specs/)(\w+\.antt)?", name)
+            if whole is not None:
+                folder = whole[1]
+                name = whole[2] or ""
+            if folder and re.fullmatch(r"[A-Z]\w+(\.antt)?", name):
+                yield number, f"crates/{folder}{name.removesuffix('.antt')}.antt", whole is not None or name.endswith(".antt")
+
+
+def check_definitions(document, lines):
+    """Every file of definitions is named, and every file that is named is there."""
+    named = set()
+    for number, name, is_file in named_definitions(lines):
+        named.add(name)
+        if is_file and not (ROOT / name).exists():
+            report(document, number, f"{name} is not there")
+    for path in sorted((ROOT / "crates").glob("*/specs/*.antt")):
+        if path.name not in ("Lib.antt", "Laws.antt") and str(path.relative_to(ROOT)) not in named:
+            report(document, 1, f"{path.relative_to(ROOT)} is not named")
+
+
+def check_differences(document, lines):
+    """The cases and the tests that show a difference."""
+    for number, cells in ((at, line.strip().strip("|").split(" | ")) for at, line in enumerate(lines, 1) if line.startswith("|")):
+        folder = "differences"
+        for top, title in re.findall(r"`cases/(\w+)`|\"((?:[^\"`]|`[^`]*`)+)\"", cells[-1]):
+            if top:
+                folder = top
+                continue
+            name = re.sub("[^A-Za-z0-9]+", "-", title.replace("'", "")).strip("-")
+            if not (ROOT / "cases" / folder / name).exists():
+                report(document, number, f"no case of cases/{folder} is named: {title}")
+        for names, crate in re.findall(r"tests? ((?:`\w+`(?:,| and)? ?)+)of `(pybuf_\w+)`", cells[-1]):
+            source = "".join(path.read_text() for path in (ROOT / "crates" / crate / "src").glob("**/*.rt"))
+            for name in quoted(names):
+                if f"fn {name}(" not in source:
+                    report(document, number, f"{crate} has no test {name}")
 
 
 def check_names(document, lines):
@@ -165,6 +237,8 @@ def check_names(document, lines):
     tops = ("crates/", "docs/", "examples/", "cases/", "tools/", "bench/", ".ci/")
     for number, line in enumerate(lines, 1):
         for name in re.findall(r"`([^`\s]+)`", line):
+            if re.match(r"pybuf_\w+/(src|specs|proofs)/", name):
+                name = "crates/" + name
             if name.startswith(tops) and not re.search(r"[A-Z]{3,}/|NAME|[*{<]", name):
                 path = name.split("::")[0].rstrip("/")
                 if "/out" not in path and not (ROOT / path).exists():
@@ -184,7 +258,12 @@ def main():
         lines = document.read_text().split("\n")
         check_blocks(document, lines, kept)
         check_inputs(document, lines, examples)
+        check_edits(document, lines)
         check_names(document, lines)
+        if document.name == "DEFINITIONS.md":
+            check_definitions(document, lines)
+        if document.name == "DIFFERENCES.md":
+            check_differences(document, lines)
         if document.name == "COMMANDS.md":
             check_tables(document, lines, examples)
     for fault in faults:
