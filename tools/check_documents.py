@@ -2,7 +2,7 @@
 
 - A block of Rust or of definitions has to stand word for word in a source of `crates/`.
 - A block of changes has to begin with the name of a file, in which its lines before or after the change stand. One that
-  only takes lines out has to find them there.
+  only takes lines out has to find them there, unless the changes of the document were made.
 - A must-fail edit that a document shows has to lie in a folder `must-fail/`, or to turn a line that a block of changes of
   that document puts in.
 - An input of the program has to be an example of `examples/`, with the output that the document shows.
@@ -47,23 +47,35 @@ def sources(ending):
     return [path.read_text().split("\n") for path in sorted((ROOT / "crates").glob("*/*/**/*" + ending)) if "out" not in path.parts]
 
 
-def check_changes(document, line, block):
-    """A block of changes: its file, and then lines that begin with a blank, a minus or a plus."""
-    path = ROOT / block[0].removeprefix("--- ")
-    if not path.exists():
-        report(document, line, f"{block[0]} names no file")
-        return
+def change_of(block):
+    """A block of changes, whose lines begin with a blank, a minus or a plus: its file, and its lines before and after."""
     before = [part[1:] for part in block[1:] if part[:1] in (" ", "-")]
     after = [part[1:] for part in block[1:] if part[:1] in (" ", "+")]
+    return ROOT / block[0].removeprefix("--- "), before, after
+
+
+def holds(path, form):
+    """Whether the lines stand in a file one after the other; no lines don't."""
     source = path.read_text().split("\n")
-    forms = [form for form in (before, after) if form]
-    if not any(source[at : at + len(form)] == form for form in forms for at in range(len(source))):
-        report(document, line, f"neither the lines before the change nor those after it stand in {path.relative_to(ROOT)}")
+    return bool(form) and any(source[at : at + len(form)] == form for at in range(len(source)))
+
+
+def check_changes(document, blocks):
+    """Blocks of changes with the numbers of their lines: each stands in its file as before or as after the change."""
+    changes = [(line, *change_of(block)) for line, block in blocks]
+    for line, path, _, _ in changes:
+        if not path.exists():
+            report(document, line, f"{path.relative_to(ROOT)} is not there")
+            return
+    made = any(holds(path, after) and not holds(path, before) for _, path, before, after in changes)
+    for line, path, before, after in changes:
+        if not holds(path, before) and not holds(path, after) and (after or not made):
+            report(document, line, f"neither the lines before the change nor those after it stand in {path.relative_to(ROOT)}")
 
 
 def check_blocks(document, lines, kept):
     """Blocks between fences, whose language is said behind the first fence."""
-    start = None
+    start, changes = None, []
     for number, line in enumerate(lines, 1):
         if not line.startswith("```"):
             continue
@@ -71,7 +83,7 @@ def check_blocks(document, lines, kept):
             start, language = number, line[3:].strip()
             continue
         if language == "diff":
-            check_changes(document, start, lines[start : number - 1])
+            changes.append((start, lines[start : number - 1]))
         ending = ENDINGS.get(language)
         if ending is not None:
             block = stripped(lines[start : number - 1])
@@ -80,6 +92,7 @@ def check_blocks(document, lines, kept):
             if not any(stands_in(block, source) for source in kept[ending]):
                 report(document, start, f"the block stands in no source with the ending {ending}")
         start = None
+    check_changes(document, changes)
 
 
 def check_edits(document, lines):
