@@ -9,3 +9,5 @@ mod judging;
 mod rows;
 #[cfg(test)]
 mod spellings;
+#[cfg(test)]
+mod users;
