@@ -1,11 +1,7 @@
-//! Tests that cross crates: whole inputs of the program with their outputs and statuses.
+//! Tests of the top call over what the program has not: a source and a sink that fail, and bytes.
 #![tactic(auto)]
 
 #[cfg(test)]
 mod devices;
 #[cfg(test)]
-mod judging;
-#[cfg(test)]
 mod rows;
-#[cfg(test)]
-mod spellings;
