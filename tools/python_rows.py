@@ -6362,7 +6362,9 @@ def files():
 
 def main():
     made = dict(files())
-    old = {path for folder in {path.parent for path in made} for path in folder.glob("*") if path.is_file()}
+    # (what else lies in `cases/` itself is not made here)
+    beside = {path for folder in {path.parent for path in made} - {CASES} for path in folder.glob("*")}
+    old = {path for path in {*made, *beside} if path.is_file()}
     changed = sorted(path for path in {*made, *old} if path not in old or path not in made or path.read_text() != made[path])
     for path in changed:
         print(path.relative_to(CASES.parent))
