@@ -1,8 +1,9 @@
 //! Calls of strings of bytes that no line makes, and what no table of `pybuf_method_tables` has, with ample memory.
-use pybuf_bytes::PyBytesInner;
+use pybuf_bytes::{ByteInnerFindOptions, ByteInnerTranslateOptions, Needle, PyBytesInner};
 use pybuf_value::{ByteList, CompareOp, Fault, Outcome, Scalar, SnapList, Text, Value};
 use std::alloc::Global;
 use std::hash::{DefaultHasher, Hasher};
+use std::ops::Range;
 use std::test::Fail;
 
 #[test]
@@ -118,5 +119,53 @@ fn digits_are_read_between_blanks(rt: HostRuntime) -> Result<(), Fail> {
         let answer = PyBytesInner::fromhex(rt.alloc(), text)?;
         assert!(rt; made(&answer) == *wanted);
     }
+    Ok(())
+}
+
+/// What the options of a search for a number from a place on are of `abc`.
+fn searched_for(alloc: Global, number: i128) -> Result<Outcome<(Vec<u8>, Range<usize>)>, Fail> {
+    let options = ByteInnerFindOptions {
+        sub: Needle::Number(number),
+        start: Some(-2),
+        end: None,
+    };
+    Ok(options.get_value(alloc, 3)?)
+}
+
+#[test]
+fn options_of_a_search_are_read(rt: HostRuntime) -> Result<(), Fail> {
+    let read = searched_for(rt.alloc(), 98)?;
+    assert!(rt;
+        matches!(read, Outcome::Done((needle, range)) if needle.as_slice() == b"b".as_slice() && range == (1..3))
+    );
+    let refused = searched_for(rt.alloc(), 256)?;
+    assert!(rt; matches!(refused, Outcome::Refused(Fault::Value)));
+    Ok(())
+}
+
+/// The length of a table, what it has for `a`, and the bytes to be dropped.
+fn table_read(alloc: Global, table: Option<Value>) -> Result<(usize, u8, Vec<u8>), Fail> {
+    let dropped = ByteList::from_vec(Vec::from_slice(alloc, b"r")?);
+    let options = ByteInnerTranslateOptions {
+        table,
+        delete: Some(Value::One(Scalar::Bytes(dropped))),
+    };
+    let read = options.get_value(alloc, &SnapList::new(alloc));
+    drop(options);
+    match read? {
+        Outcome::Done((table, dropped)) => Ok((
+            table.len(),
+            table.get(97).copied().unwrap_or(0),
+            dropped,
+        )),
+        Outcome::Refused(_) => Err(Fail::from("a table")),
+    }
+}
+
+#[test]
+fn options_of_a_translation_are_read(rt: HostRuntime) -> Result<(), Fail> {
+    let (length, letter, dropped) = table_read(rt.alloc(), None)?;
+    assert!(rt; (length, letter) == (256, 97));
+    assert!(rt; dropped.as_slice() == b"r".as_slice());
     Ok(())
 }

@@ -14,26 +14,36 @@ fn grown<C: AnyStrContainer + Drop>(alloc: Global, first: &[u8], second: &[u8]) 
     Ok(string)
 }
 
-/// The number of bytes and of characters of a string, and whether it is a text.
-fn counted<S: AnyStr>(alloc: Global, string: &S) -> Result<(usize, usize, bool), Fail> {
-    let characters = match string.chars(alloc)? {
-        Outcome::Done(characters) => characters.len(),
-        Outcome::Refused(_) => 0,
+/// Whether a string is a text of these characters.
+fn is_text_of(alloc: Global, string: &Bytes, wanted: &str) -> Result<bool, Fail> {
+    let Outcome::Done(text) = string.as_utf8_str(alloc)? else {
+        return Ok(false);
     };
-    let text = string.as_utf8_str(alloc)?;
-    Ok((
-        string.bytes_len(),
-        characters,
-        matches!(text, Outcome::Done(_)),
-    ))
+    Ok(text.as_slice() == wanted.as_bytes())
+}
+
+/// Whether a string has these characters.
+fn has_characters(alloc: Global, string: &Bytes, wanted: &[char]) -> Result<bool, Fail> {
+    let Outcome::Done(characters) = string.chars(alloc)? else {
+        return Ok(false);
+    };
+    Ok(characters.as_slice() == wanted)
 }
 
 #[test]
 fn strings_grow(rt: HostRuntime) -> Result<(), Fail> {
     let string: Bytes = grown(rt.alloc(), b"a\xc3", b"\xa9")?;
-    assert!(rt; counted(rt.alloc(), &string)? == (3, 2, true));
+    assert!(rt; string.bytes_len() == 3);
+    assert!(rt; is_text_of(rt.alloc(), &string, "a\u{e9}")?);
+    assert!(rt; has_characters(rt.alloc(), &string, ['a', '\u{e9}'].as_slice())?);
+    Ok(())
+}
+
+#[test]
+fn strings_that_are_no_texts(rt: HostRuntime) -> Result<(), Fail> {
     let string: Bytes = grown(rt.alloc(), b"a\xc3", b"")?;
-    assert!(rt; counted(rt.alloc(), &string)? == (2, 0, false));
+    assert!(rt; !is_text_of(rt.alloc(), &string, "a")?);
+    assert!(rt; !has_characters(rt.alloc(), &string, ['a'].as_slice())?);
     assert!(rt; string.to_container(rt.alloc())?.elements() == b"a\xc3".as_slice());
     assert!(rt; Bytes::new(rt.alloc()).is_empty());
     Ok(())
@@ -80,28 +90,83 @@ fn strings_are_searched(rt: HostRuntime) -> Result<(), Fail> {
     Ok(())
 }
 
-/// The number of parts, in which a refusal counts as none.
-fn number(parts: &Outcome<ByteLists>) -> usize {
-    match parts {
-        Outcome::Done(parts) => parts.len(),
-        Outcome::Refused(_) => 0,
+/// Whether the parts are these, in order.
+fn are(parts: &ByteLists, wanted: &[&[u8]]) -> bool {
+    parts.len() == wanted.len()
+        && parts
+            .as_slice()
+            .iter()
+            .zip(wanted)
+            .all(|(part, wanted)| part.as_slice() == *wanted)
+}
+
+/// The parts between separators, at most so many cuts, or none where that is refused.
+fn parted(
+    alloc: Global,
+    string: &Bytes,
+    separator: &[u8],
+    maxsplit: isize,
+) -> Result<ByteLists, Fail> {
+    let options = SplitArgs {
+        sep: Some(inner(alloc, separator)?),
+        maxsplit,
+    };
+    match string.py_split(alloc, options)? {
+        Outcome::Done(parts) => Ok(parts),
+        Outcome::Refused(_) => Ok(ByteLists::new(alloc)),
     }
 }
 
 #[test]
-fn strings_are_cut(rt: HostRuntime) -> Result<(), Fail> {
+fn strings_are_cut_at_blanks(rt: HostRuntime) -> Result<(), Fail> {
     let string = bytes(rt.alloc(), b" a b\nc ")?;
-    assert!(rt; string.py_split_whitespace(rt.alloc(), 1)?.len() == 2);
-    assert!(rt; string.py_rsplit_whitespace(rt.alloc(), -1)?.len() == 3);
-    let options = SplitArgs {
-        sep: Some(inner(rt.alloc(), b" ")?),
-        maxsplit: 2,
-    };
-    assert!(rt; number(&string.py_split(rt.alloc(), options)?) == 3);
+    assert!(rt;
+        are(
+            &string.py_split_whitespace(rt.alloc(), 1)?,
+            &[b"a", b"b\nc "]
+        )
+    );
+    assert!(rt;
+        are(
+            &string.py_rsplit_whitespace(rt.alloc(), 1)?,
+            &[b"c", b" a b"]
+        )
+    );
+    Ok(())
+}
+
+#[test]
+fn strings_are_cut_at_separators_and_lines(rt: HostRuntime) -> Result<(), Fail> {
+    let string = bytes(rt.alloc(), b" a b\nc ")?;
+    assert!(rt;
+        are(
+            &parted(rt.alloc(), &string, b" ", 2)?,
+            &[b"", b"a", b"b\nc "]
+        )
+    );
     let options = SplitLinesArgs { keepends: true };
-    assert!(rt; string.py_bytes_splitlines(rt.alloc(), options)?.len() == 2);
-    let parts = string.py_partition(rt.alloc(), &inner(rt.alloc(), b"z")?)?;
-    assert!(rt; matches!(parts, Outcome::Done((_, false, _))));
+    assert!(rt;
+        are(
+            &string.py_bytes_splitlines(rt.alloc(), options)?,
+            &[b" a b\n", b"c "]
+        )
+    );
+    Ok(())
+}
+
+/// The three parts, or why not.
+fn three(outcome: &Outcome<(Vec<u8>, bool, Vec<u8>)>) -> Result<(&[u8], bool, &[u8]), Fault> {
+    match outcome {
+        Outcome::Done((front, found, back)) => Ok((front.as_slice(), *found, back.as_slice())),
+        Outcome::Refused(fault) => Err(*fault),
+    }
+}
+
+#[test]
+fn strings_are_parted(rt: HostRuntime) -> Result<(), Fail> {
+    let string = bytes(rt.alloc(), b"a,b,c")?;
+    let parts = string.py_partition(rt.alloc(), &inner(rt.alloc(), b",")?)?;
+    assert!(rt; three(&parts) == Ok((b"a", true, b"b,c")));
     Ok(())
 }
 

@@ -1,0 +1,26 @@
+//! Tests of the calls of objects, buffers, borrows, exporters and worlds that no line of the program makes, and
+//! the examples of docs/LIBRARY.md.
+#![tactic(auto)]
+
+#[cfg(test)]
+mod answers;
+#[cfg(test)]
+mod borrows;
+#[cfg(test)]
+mod buffers;
+#[cfg(test)]
+mod byte_arrays;
+#[cfg(test)]
+mod byte_strings;
+#[cfg(test)]
+mod examples;
+#[cfg(test)]
+mod exporters;
+#[cfg(test)]
+mod memory_views;
+#[cfg(test)]
+mod vectors;
+#[cfg(test)]
+mod view_methods;
+#[cfg(test)]
+mod worlds;
