@@ -3,7 +3,9 @@
 ghost use Rattle.std.specs.Prelude.{◌≡◌};
 ghost use Rattle.pybuf_command.specs.declared.kinds.ExporterKind.TheVariants as kinds;
 
-use crate::answers::{bytes, call_of, number, tell, tell_bytes, tell_fault, tell_truth, tell_word};
+use crate::answers::{
+    bytes, call_of, number, tell, tell_bytes, tell_count, tell_fault, tell_truth, tell_word,
+};
 use pybuf_bytes::{ByteInnerNewOptions, MethodName};
 use pybuf_command::{ExporterKind, LoanList};
 use pybuf_object::{BufferResizeGuard, PyByteArray, PyByteArrayIterator};
@@ -11,7 +13,8 @@ use pybuf_value::{CompareOp, Made, PySlice, Scalar, Value};
 use std::alloc::Global;
 use std::test::Fail;
 
-/// A call, named as the method. The last four are those that lend the bytes to be changed.
+/// A call, named as the method. `Number` is asked of an iterator of that number, and the last four change the bytes or
+/// the views through what is lent.
 #[derive(Clone, Copy)]
 enum Call {
     AsBuffer,
@@ -35,6 +38,7 @@ enum Call {
     LengthHint,
     Mul(i128),
     Next,
+    Number(usize),
     Pop,
     Range(i128, i128),
     Remove(i128),
@@ -195,6 +199,7 @@ fn answer(object: &mut PyByteArray, alloc: Global, call: Call, told: &mut Vec<u8
             told,
             PyByteArrayIterator::of(0).next(alloc, object.state_mut())?,
         ),
+        Call::Number(iterator) => tell_count(told, PyByteArrayIterator::of(iterator).number()),
         Call::Pop => tell(told, object.pop(None, LoanList::new(alloc))?),
         Call::Range(from, to) => {
             tell(
@@ -329,7 +334,7 @@ fn a_bytearray_is_resized_once_its_views_are_released(rt: HostRuntime) -> Result
 }
 
 /// As `i = iter(b)` of Python 3, where `b = bytearray(b'ab')` grows between two items.
-const ITEMS: [(Call, &str); 7] = [
+const ITEMS: [(Call, &str); 8] = [
     (Call::Iter, "i0"),
     (Call::SetState(1), "None"),
     (Call::Append(99), "None"),
@@ -337,6 +342,7 @@ const ITEMS: [(Call, &str); 7] = [
     (Call::Next, "98"),
     (Call::Next, "99"),
     (Call::Next, "StopIteration"),
+    (Call::Number(3), "3"),
 ];
 
 #[test]
@@ -346,6 +352,5 @@ fn a_bytearray_is_iterated_while_it_grows(rt: HostRuntime) -> Result<(), Fail> {
     let (mut told, mut wanted) = (Vec::new(alloc), Vec::new(alloc));
     carry_out(&mut object, alloc, &ITEMS, &mut told, &mut wanted)?;
     assert_eq!(rt; told.as_slice(), wanted.as_slice());
-    assert_eq!(rt; PyByteArrayIterator::of(3).number(), 3);
     Ok(())
 }

@@ -8,7 +8,7 @@ use pybuf_value::{CompareOp, Made};
 use std::alloc::Global;
 use std::test::Fail;
 
-/// A call, named as the method.
+/// A call, named as the method. `StateExports` is asked of the exporter, and `Number` of an iterator of that number.
 #[derive(Clone, Copy)]
 enum Call {
     AsBuffer,
@@ -22,12 +22,14 @@ enum Call {
     IsEmpty,
     Iter,
     Len,
-    Next,
     LengthHint,
+    Next,
+    Number(usize),
     Range(i128, i128),
     Repr,
     RFind(&'static [u8]),
     SetState(i128),
+    StateExports,
     ToBytes,
 }
 
@@ -85,6 +87,8 @@ fn answer(object: &mut PyBytes, alloc: Global, call: Call, told: &mut Vec<u8>) -
                 iterator.setstate(object.state_mut(), number(place), LoanList::new(alloc))?,
             )
         }
+        Call::Number(iterator) => tell_count(told, PyBytesIterator::of(iterator).number()),
+        Call::StateExports => tell_count(told, object.state().exports()),
         Call::ToBytes => tell(told, object.tobytes(LoanList::new(alloc))?),
     }
 }
@@ -105,12 +109,13 @@ fn carry_out(
 }
 
 /// As `b = b'abcab'` of Python 3. A view is told by its number, and a hash by the bytes that it is of.
-const ANSWERED: [(Call, &str); 14] = [
+const ANSWERED: [(Call, &str); 15] = [
     (Call::AsBuffer, "v0"),
     (Call::Range(1, 3), "v1"),
     (Call::GetItem(-1), "98"),
     (Call::ToBytes, "b'abcab'"),
     (Call::Exports, "2"),
+    (Call::StateExports, "2"),
     (Call::Len, "5"),
     (Call::IsEmpty, "False"),
     (Call::AsBytes, "b'abcab'"),
@@ -129,18 +134,18 @@ fn bytes_are_read_compared_and_searched(rt: HostRuntime) -> Result<(), Fail> {
     let (mut told, mut wanted) = (Vec::new(alloc), Vec::new(alloc));
     carry_out(&mut object, alloc, &ANSWERED, &mut told, &mut wanted)?;
     assert_eq!(rt; told.as_slice(), wanted.as_slice());
-    assert_eq!(rt; object.state().exports(), 2);
     Ok(())
 }
 
 /// As `i = iter(b'ab')` of Python 3.
-const ITEMS: [(Call, &str); 6] = [
+const ITEMS: [(Call, &str); 7] = [
     (Call::Iter, "i0"),
     (Call::Next, "97"),
     (Call::LengthHint, "1"),
     (Call::SetState(9), "None"),
     (Call::Next, "StopIteration"),
     (Call::LengthHint, "0"),
+    (Call::Number(3), "3"),
 ];
 
 #[test]
@@ -150,6 +155,5 @@ fn bytes_are_iterated(rt: HostRuntime) -> Result<(), Fail> {
     let (mut told, mut wanted) = (Vec::new(alloc), Vec::new(alloc));
     carry_out(&mut object, alloc, &ITEMS, &mut told, &mut wanted)?;
     assert_eq!(rt; told.as_slice(), wanted.as_slice());
-    assert_eq!(rt; PyBytesIterator::of(3).number(), 3);
     Ok(())
 }

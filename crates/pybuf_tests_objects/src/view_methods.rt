@@ -10,8 +10,8 @@ use pybuf_value::{CompareOp, Made, Outcome};
 use std::alloc::Global;
 use std::test::Fail;
 
-/// A call, named as the method. The first two make view 0 of all bytes and view 1 of the same by a format, and
-/// `Exports` is asked of the exporter.
+/// A call, named as the method. The first two make view 0 of all bytes and view 1 of the same by a format. `Exports` and
+/// `IterCount` are asked of the exporter, and `Number` of an iterator of that number.
 #[derive(Clone, Copy)]
 enum Call {
     FromObject,
@@ -26,8 +26,10 @@ enum Call {
     Hash,
     Hex(i128),
     Iter,
+    IterCount,
     Len,
     Next,
+    Number(usize),
     Repr,
     SetItem(i128, i128),
     ToBytes,
@@ -102,8 +104,10 @@ fn answer(state: &mut ExporterState, alloc: Global, call: Call, told: &mut Vec<u
             )
         }
         Call::Iter => tell(told, view.iter(state, LoanList::new(alloc))?),
+        Call::IterCount => tell_count(told, state.iter_count()),
         Call::Len => tell(told, view.len(state, LoanList::new(alloc))?),
         Call::Next => tell(told, PyMemoryViewIterator::of(0).next(alloc, state)?),
+        Call::Number(iterator) => tell_count(told, PyMemoryViewIterator::of(iterator).number()),
         Call::Repr => tell(told, view.repr_str(state, LoanList::new(alloc))?),
         Call::SetItem(index, value) => {
             tell(
@@ -176,7 +180,7 @@ const NUMBERS: &[u8] = b"\x01\x00\x02\x01\x03\x00";
 
 /// As `m = memoryview(bytearray(b'\x01\0\x02\x01\x03\0')).cast('H')` of Python 3. A view is told by its number, and so
 /// it is shown.
-const ANSWERED: [(Call, &str); 14] = [
+const ANSWERED: [(Call, &str); 15] = [
     (Call::FromObject, "v0"),
     (Call::Cast("H"), "v1"),
     (Call::Compare(CompareOp::Eq, b"\x01\x02\x03"), "False"),
@@ -191,6 +195,7 @@ const ANSWERED: [(Call, &str); 14] = [
     (Call::ToList, "[ 1 5 3 ]"),
     (Call::ToReadOnly, "v2"),
     (Call::AsBuffer, "v3"),
+    (Call::Exports, "4"),
 ];
 
 #[test]
@@ -200,12 +205,11 @@ fn a_memoryview_is_read_and_written(rt: HostRuntime) -> Result<(), Fail> {
     let (mut told, mut wanted) = (Vec::new(alloc), Vec::new(alloc));
     carry_out(&mut state, alloc, &ANSWERED, &mut told, &mut wanted)?;
     assert_eq!(rt; told.as_slice(), wanted.as_slice());
-    assert_eq!(rt; state.exports(), 4);
     Ok(())
 }
 
 /// As that memoryview of Python 3 is iterated, entered, left twice and entered again.
-const ENDED: [(Call, &str); 12] = [
+const ENDED: [(Call, &str); 14] = [
     (Call::FromObject, "v0"),
     (Call::Cast("H"), "v1"),
     (Call::Iter, "i0"),
@@ -218,6 +222,8 @@ const ENDED: [(Call, &str); 12] = [
     (Call::Exit, "None"),
     (Call::Enter, "ValueError"),
     (Call::Exports, "1"),
+    (Call::IterCount, "1"),
+    (Call::Number(3), "3"),
 ];
 
 #[test]
@@ -227,8 +233,6 @@ fn a_memoryview_is_iterated_entered_and_ended(rt: HostRuntime) -> Result<(), Fai
     let (mut told, mut wanted) = (Vec::new(alloc), Vec::new(alloc));
     carry_out(&mut state, alloc, &ENDED, &mut told, &mut wanted)?;
     assert_eq!(rt; told.as_slice(), wanted.as_slice());
-    assert_eq!(rt; state.iter_count(), 1);
-    assert_eq!(rt; PyMemoryViewIterator::of(3).number(), 3);
     Ok(())
 }
 
