@@ -82,6 +82,19 @@ pub(crate) fn tell_numbered(told: &mut Vec<u8>, letter: u8, number: usize) -> Ma
     push_scalar(told, &Scalar::Int(number as i128))
 }
 
+pub(crate) fn count_reply(count: usize) -> Made<LocalReply> {
+    Ok(LocalReply::Item(Item::One(Scalar::Int(count as i128))))
+}
+
+pub(crate) fn truth_reply(truth: bool) -> Made<LocalReply> {
+    Ok(LocalReply::Truth(truth))
+}
+
+pub(crate) fn bytes_reply(alloc: Global, bytes: &[u8]) -> Made<LocalReply> {
+    let bytes = ByteList::from_vec(Vec::from_slice(alloc, bytes)?);
+    Ok(LocalReply::Bytes(bytes))
+}
+
 fn tell_item(told: &mut Vec<u8>, item: &Item) -> Made<()> {
     match item {
         Item::One(scalar) => tell_scalar(told, scalar),

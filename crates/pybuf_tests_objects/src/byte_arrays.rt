@@ -4,10 +4,10 @@ ghost use Rattle.std.specs.Prelude.{◌≡◌};
 ghost use Rattle.pybuf_command.specs.declared.kinds.ExporterKind.TheVariants as kinds;
 
 use crate::answers::{
-    bytes, call_of, number, tell, tell_bytes, tell_count, tell_fault, tell_truth, tell_word,
+    bytes, bytes_reply, call_of, count_reply, number, tell, tell_word, truth_reply,
 };
 use pybuf_bytes::{ByteInnerNewOptions, MethodName};
-use pybuf_command::{ExporterKind, LoanList};
+use pybuf_command::{ExporterKind, LoanList, LocalReply};
 use pybuf_object::{BufferResizeGuard, PyByteArray, PyByteArrayIterator};
 use pybuf_value::{CompareOp, Made, PySlice, Scalar, Value};
 use std::alloc::Global;
@@ -71,16 +71,6 @@ fn source_alone(alloc: Global, source: &[u8]) -> Made<ByteInnerNewOptions> {
     })
 }
 
-fn set_part(
-    object: &mut PyByteArray,
-    alloc: Global,
-    key: Value,
-    source: Value,
-    told: &mut Vec<u8>,
-) -> Made<()> {
-    tell(told, object.setitem(key, source, LoanList::new(alloc))?)
-}
-
 /// Whether the bytes were turned round where they lie.
 fn is_turned(object: &mut PyByteArray) -> bool {
     if object.state().kind() != ExporterKind::ByteArray {
@@ -132,106 +122,64 @@ fn is_cleared(object: &mut PyByteArray) -> bool {
     is_emptied(object)
 }
 
-fn release(object: &mut PyByteArray, view: usize, told: &mut Vec<u8>) -> Made<()> {
+fn release(object: &mut PyByteArray, view: usize) -> Made<LocalReply> {
     match object.state_mut().release_view(view) {
-        Ok(()) => tell_word(told, b"None"),
-        Err(fault) => tell_fault(told, fault),
+        Ok(()) => Ok(LocalReply::Ok),
+        Err(fault) => Ok(LocalReply::Refused(fault)),
     }
 }
 
 /// What a call answers of the object, or of its iterator 0.
-fn answer(object: &mut PyByteArray, alloc: Global, call: Call, told: &mut Vec<u8>) -> Made<()> {
+fn answer(object: &mut PyByteArray, alloc: Global, call: Call) -> Made<LocalReply> {
     match call {
-        Call::AsBuffer => tell(told, object.as_buffer(LoanList::new(alloc))?),
-        Call::Append(byte) => tell(told, object.append(number(byte), LoanList::new(alloc))?),
-        Call::BorrowBuf => tell_bytes(told, object.borrow_buf()),
-        Call::Clear => tell(told, object.clear(LoanList::new(alloc))?),
-        Call::Compare(op, other) => {
-            tell(
-                told,
-                object.cmp(op, bytes(alloc, other)?, LoanList::new(alloc))?,
-            )
-        }
-        Call::Contains(byte) => tell(told, object.contains(number(byte), LoanList::new(alloc))?),
-        Call::Copy => tell(told, object.copy(LoanList::new(alloc))?),
-        Call::DelItem(index) => tell(told, object.delitem(number(index), LoanList::new(alloc))?),
-        Call::Exports => tell(told, object.exports(LoanList::new(alloc))?),
-        Call::Extend(source) => {
-            tell(
-                told,
-                object.extend(bytes(alloc, source)?, LoanList::new(alloc))?,
-            )
-        }
-        Call::GetItem(index) => tell(told, object.getitem(number(index), LoanList::new(alloc))?),
-        Call::Hash => tell(told, object.hash(LoanList::new(alloc))?),
-        Call::InPlaceAdd(source) => {
-            tell(
-                told,
-                object.iadd(bytes(alloc, source)?, LoanList::new(alloc))?,
-            )
-        }
-        Call::InPlaceMul(count) => tell(told, object.imul(number(count), LoanList::new(alloc))?),
-        Call::Init(source) => {
-            tell(
-                told,
-                object.init(source_alone(alloc, source)?, LoanList::new(alloc))?,
-            )
-        }
+        Call::AsBuffer => object.as_buffer(LoanList::new(alloc)),
+        Call::Append(byte) => object.append(number(byte), LoanList::new(alloc)),
+        Call::BorrowBuf => bytes_reply(alloc, object.borrow_buf()),
+        Call::Clear => object.clear(LoanList::new(alloc)),
+        Call::Compare(op, other) => object.cmp(op, bytes(alloc, other)?, LoanList::new(alloc)),
+        Call::Contains(byte) => object.contains(number(byte), LoanList::new(alloc)),
+        Call::Copy => object.copy(LoanList::new(alloc)),
+        Call::DelItem(index) => object.delitem(number(index), LoanList::new(alloc)),
+        Call::Exports => object.exports(LoanList::new(alloc)),
+        Call::Extend(source) => object.extend(bytes(alloc, source)?, LoanList::new(alloc)),
+        Call::GetItem(index) => object.getitem(number(index), LoanList::new(alloc)),
+        Call::Hash => object.hash(LoanList::new(alloc)),
+        Call::InPlaceAdd(source) => object.iadd(bytes(alloc, source)?, LoanList::new(alloc)),
+        Call::InPlaceMul(count) => object.imul(number(count), LoanList::new(alloc)),
+        Call::Init(source) => object.init(source_alone(alloc, source)?, LoanList::new(alloc)),
         Call::Insert(index, byte) => {
-            tell(
-                told,
-                object.insert(number(index), number(byte), LoanList::new(alloc))?,
-            )
+            object.insert(number(index), number(byte), LoanList::new(alloc))
         }
-        Call::Iter => tell(told, object.iter(LoanList::new(alloc))?),
-        Call::Len => tell(told, object.len(LoanList::new(alloc))?),
-        Call::LengthHint => {
-            tell(
-                told,
-                PyByteArrayIterator::of(0).length_hint(alloc, object.state_mut())?,
-            )
-        }
+        Call::Iter => object.iter(LoanList::new(alloc)),
+        Call::Len => object.len(LoanList::new(alloc)),
+        Call::LengthHint => PyByteArrayIterator::of(0).length_hint(alloc, object.state_mut()),
         Call::Mul(count) => {
             let method = call_of(alloc, MethodName::Mul, number(count))?;
-            tell(told, object.call(method, LoanList::new(alloc))?)
+            object.call(method, LoanList::new(alloc))
         }
-        Call::Next => tell(
-            told,
-            PyByteArrayIterator::of(0).next(alloc, object.state_mut())?,
-        ),
-        Call::Number(iterator) => tell_count(told, PyByteArrayIterator::of(iterator).number()),
-        Call::Pop => tell(told, object.pop(None, LoanList::new(alloc))?),
-        Call::Range(from, to) => {
-            tell(
-                told,
-                object.range(number(from), number(to), LoanList::new(alloc))?,
-            )
-        }
-        Call::Remove(byte) => tell(told, object.remove(number(byte), LoanList::new(alloc))?),
-        Call::Repr => tell(told, object.repr_str(LoanList::new(alloc))?),
-        Call::Reverse => tell(told, object.reverse(LoanList::new(alloc))?),
+        Call::Next => PyByteArrayIterator::of(0).next(alloc, object.state_mut()),
+        Call::Number(iterator) => count_reply(PyByteArrayIterator::of(iterator).number()),
+        Call::Pop => object.pop(None, LoanList::new(alloc)),
+        Call::Range(from, to) => object.range(number(from), number(to), LoanList::new(alloc)),
+        Call::Remove(byte) => object.remove(number(byte), LoanList::new(alloc)),
+        Call::Repr => object.repr_str(LoanList::new(alloc)),
+        Call::Reverse => object.reverse(LoanList::new(alloc)),
         Call::SetItem(index, byte) => {
-            tell(
-                told,
-                object.setitem(number(index), number(byte), LoanList::new(alloc))?,
-            )
+            object.setitem(number(index), number(byte), LoanList::new(alloc))
         }
         Call::SetSlice(start, stop, source) => {
             let source = bytes(alloc, source)?;
-            set_part(object, alloc, part(start, stop), source, told)
+            object.setitem(part(start, stop), source, LoanList::new(alloc))
         }
         Call::SetState(place) => {
             let iterator = PyByteArrayIterator::of(0);
-            tell(
-                told,
-                iterator.setstate(object.state_mut(), number(place), LoanList::new(alloc))?,
-            )
+            iterator.setstate(object.state_mut(), number(place), LoanList::new(alloc))
         }
-        Call::ToBytes => tell(told, object.tobytes(LoanList::new(alloc))?),
-        Call::TurnRound => tell_truth(told, is_turned(object)),
-        Call::AddByGuard(byte) => tell_truth(told, is_grown(object, byte)?),
-        Call::EmptyByGuard => tell_truth(told, is_cleared(object)),
-        Call::Release(view) => release(object, view, told),
+        Call::ToBytes => object.tobytes(LoanList::new(alloc)),
+        Call::TurnRound => truth_reply(is_turned(object)),
+        Call::AddByGuard(byte) => truth_reply(is_grown(object, byte)?),
+        Call::EmptyByGuard => truth_reply(is_cleared(object)),
+        Call::Release(view) => release(object, view),
     }
 }
 
@@ -244,7 +192,7 @@ fn carry_out(
     wanted: &mut Vec<u8>,
 ) -> Made<()> {
     for (call, word) in rows {
-        answer(object, alloc, *call, told)?;
+        tell(told, answer(object, alloc, *call)?)?;
         tell_word(wanted, word.as_bytes())?;
     }
     Ok(())

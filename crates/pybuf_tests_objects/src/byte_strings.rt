@@ -1,8 +1,10 @@
 //! The methods of `PyBytes` and of its iterator, with Python's answers: a line of the program makes the same commands
 //! on a world, and none calls these.
-use crate::answers::{bytes, call_of, number, tell, tell_bytes, tell_count, tell_truth, tell_word};
+use crate::answers::{
+    bytes, bytes_reply, call_of, count_reply, number, tell, tell_word, truth_reply,
+};
 use pybuf_bytes::MethodName;
-use pybuf_command::LoanList;
+use pybuf_command::{LoanList, LocalReply};
 use pybuf_object::{PyBytes, PyBytesIterator};
 use pybuf_value::{CompareOp, Made};
 use std::alloc::Global;
@@ -34,62 +36,34 @@ enum Call {
 }
 
 /// What a call answers of the object, or of its iterator 0.
-fn answer(object: &mut PyBytes, alloc: Global, call: Call, told: &mut Vec<u8>) -> Made<()> {
+fn answer(object: &mut PyBytes, alloc: Global, call: Call) -> Made<LocalReply> {
     match call {
-        Call::AsBuffer => tell(told, object.as_buffer(LoanList::new(alloc))?),
-        Call::AsBytes => tell_bytes(told, object.as_bytes()),
-        Call::Compare(op, other) => {
-            tell(
-                told,
-                object.cmp(op, bytes(alloc, other)?, LoanList::new(alloc))?,
-            )
-        }
-        Call::Contains(part) => {
-            tell(
-                told,
-                object.contains(bytes(alloc, part)?, LoanList::new(alloc))?,
-            )
-        }
-        Call::ContainsByte(byte) => {
-            tell(told, object.contains(number(byte), LoanList::new(alloc))?)
-        }
-        Call::Exports => tell(told, object.exports(LoanList::new(alloc))?),
-        Call::GetItem(index) => tell(told, object.getitem(number(index), LoanList::new(alloc))?),
-        Call::Hash => tell(told, object.hash(LoanList::new(alloc))?),
-        Call::IsEmpty => tell_truth(told, object.is_empty()),
-        Call::Iter => tell(told, object.iter(LoanList::new(alloc))?),
-        Call::Len => tell_count(told, object.len()),
-        Call::Next => tell(
-            told,
-            PyBytesIterator::of(0).next(alloc, object.state_mut())?,
-        ),
-        Call::LengthHint => {
-            tell(
-                told,
-                PyBytesIterator::of(0).length_hint(alloc, object.state_mut())?,
-            )
-        }
-        Call::Range(from, to) => {
-            tell(
-                told,
-                object.range(number(from), number(to), LoanList::new(alloc))?,
-            )
-        }
-        Call::Repr => tell(told, object.repr_str(LoanList::new(alloc))?),
+        Call::AsBuffer => object.as_buffer(LoanList::new(alloc)),
+        Call::AsBytes => bytes_reply(alloc, object.as_bytes()),
+        Call::Compare(op, other) => object.cmp(op, bytes(alloc, other)?, LoanList::new(alloc)),
+        Call::Contains(part) => object.contains(bytes(alloc, part)?, LoanList::new(alloc)),
+        Call::ContainsByte(byte) => object.contains(number(byte), LoanList::new(alloc)),
+        Call::Exports => object.exports(LoanList::new(alloc)),
+        Call::GetItem(index) => object.getitem(number(index), LoanList::new(alloc)),
+        Call::Hash => object.hash(LoanList::new(alloc)),
+        Call::IsEmpty => truth_reply(object.is_empty()),
+        Call::Iter => object.iter(LoanList::new(alloc)),
+        Call::Len => count_reply(object.len()),
+        Call::Next => PyBytesIterator::of(0).next(alloc, object.state_mut()),
+        Call::LengthHint => PyBytesIterator::of(0).length_hint(alloc, object.state_mut()),
+        Call::Range(from, to) => object.range(number(from), number(to), LoanList::new(alloc)),
+        Call::Repr => object.repr_str(LoanList::new(alloc)),
         Call::RFind(part) => {
             let method = call_of(alloc, MethodName::RFind, bytes(alloc, part)?)?;
-            tell(told, object.call(method, LoanList::new(alloc))?)
+            object.call(method, LoanList::new(alloc))
         }
         Call::SetState(place) => {
             let iterator = PyBytesIterator::of(0);
-            tell(
-                told,
-                iterator.setstate(object.state_mut(), number(place), LoanList::new(alloc))?,
-            )
+            iterator.setstate(object.state_mut(), number(place), LoanList::new(alloc))
         }
-        Call::Number(iterator) => tell_count(told, PyBytesIterator::of(iterator).number()),
-        Call::StateExports => tell_count(told, object.state().exports()),
-        Call::ToBytes => tell(told, object.tobytes(LoanList::new(alloc))?),
+        Call::Number(iterator) => count_reply(PyBytesIterator::of(iterator).number()),
+        Call::StateExports => count_reply(object.state().exports()),
+        Call::ToBytes => object.tobytes(LoanList::new(alloc)),
     }
 }
 
@@ -102,7 +76,7 @@ fn carry_out(
     wanted: &mut Vec<u8>,
 ) -> Made<()> {
     for (call, word) in rows {
-        answer(object, alloc, *call, told)?;
+        tell(told, answer(object, alloc, *call)?)?;
         tell_word(wanted, word.as_bytes())?;
     }
     Ok(())

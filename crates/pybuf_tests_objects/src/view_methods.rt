@@ -1,9 +1,7 @@
 //! The methods of `PyMemoryView` and of its iterator, with Python's answers: a line of the program makes the same
 //! commands on a world, and none calls these.
-use crate::answers::{
-    bytes, exporter_of, number, tell, tell_count, tell_fault, tell_numbered, tell_word, text,
-};
-use pybuf_command::{LoanList, Subject};
+use crate::answers::{bytes, count_reply, exporter_of, number, tell, tell_word, text};
+use pybuf_command::{LoanList, LocalReply, Subject};
 use pybuf_exporter::ExporterState;
 use pybuf_object::{PyMemoryView, PyMemoryViewIterator};
 use pybuf_value::{CompareOp, Made, Outcome};
@@ -55,93 +53,65 @@ enum Attribute {
 }
 
 /// View 0, of all bytes.
-fn view_whole(state: &mut ExporterState, alloc: Global, told: &mut Vec<u8>) -> Made<()> {
+fn view_whole(state: &mut ExporterState, alloc: Global) -> Made<LocalReply> {
     match PyMemoryView::from_object(alloc, state, Subject::Own)? {
-        Outcome::Done(view) => tell_numbered(told, b'v', view.number()),
-        Outcome::Refused(fault) => tell_fault(told, fault),
+        Outcome::Done(view) => Ok(LocalReply::View(view.number())),
+        Outcome::Refused(fault) => Ok(LocalReply::Refused(fault)),
     }
 }
 
 /// What a call answers of view 1, or of iterator 0.
-fn answer(state: &mut ExporterState, alloc: Global, call: Call, told: &mut Vec<u8>) -> Made<()> {
+fn answer(state: &mut ExporterState, alloc: Global, call: Call) -> Made<LocalReply> {
     let view = PyMemoryView::of(1);
     match call {
-        Call::FromObject => view_whole(state, alloc, told),
+        Call::FromObject => view_whole(state, alloc),
         Call::Cast(format) => {
             let format = text(alloc, format)?;
-            tell(
-                told,
-                PyMemoryView::of(0).cast(state, format, None, LoanList::new(alloc))?,
-            )
+            PyMemoryView::of(0).cast(state, format, None, LoanList::new(alloc))
         }
-        Call::AsBuffer => tell(told, view.as_buffer(state, LoanList::new(alloc))?),
+        Call::AsBuffer => view.as_buffer(state, LoanList::new(alloc)),
         Call::Compare(op, other) => {
-            tell(
-                told,
-                view.cmp(state, op, bytes(alloc, other)?, LoanList::new(alloc))?,
-            )
+            view.cmp(state, op, bytes(alloc, other)?, LoanList::new(alloc))
         }
-        Call::DelItem(index) => {
-            tell(
-                told,
-                view.delitem(state, number(index), LoanList::new(alloc))?,
-            )
-        }
-        Call::Enter => tell(told, view.enter(state, LoanList::new(alloc))?),
-        Call::Exit => tell(told, view.exit(state, LoanList::new(alloc))?),
-        Call::Exports => tell_count(told, state.exports()),
-        Call::GetItem(index) => {
-            tell(
-                told,
-                view.getitem(state, number(index), LoanList::new(alloc))?,
-            )
-        }
-        Call::Hash => tell(told, view.hash(state, LoanList::new(alloc))?),
-        Call::Hex(group) => {
-            tell(
-                told,
-                view.hex(state, None, Some(number(group)), LoanList::new(alloc))?,
-            )
-        }
-        Call::Iter => tell(told, view.iter(state, LoanList::new(alloc))?),
-        Call::IterCount => tell_count(told, state.iter_count()),
-        Call::Len => tell(told, view.len(state, LoanList::new(alloc))?),
-        Call::Next => tell(told, PyMemoryViewIterator::of(0).next(alloc, state)?),
-        Call::Number(iterator) => tell_count(told, PyMemoryViewIterator::of(iterator).number()),
-        Call::Repr => tell(told, view.repr_str(state, LoanList::new(alloc))?),
+        Call::DelItem(index) => view.delitem(state, number(index), LoanList::new(alloc)),
+        Call::Enter => view.enter(state, LoanList::new(alloc)),
+        Call::Exit => view.exit(state, LoanList::new(alloc)),
+        Call::Exports => count_reply(state.exports()),
+        Call::GetItem(index) => view.getitem(state, number(index), LoanList::new(alloc)),
+        Call::Hash => view.hash(state, LoanList::new(alloc)),
+        Call::Hex(group) => view.hex(state, None, Some(number(group)), LoanList::new(alloc)),
+        Call::Iter => view.iter(state, LoanList::new(alloc)),
+        Call::IterCount => count_reply(state.iter_count()),
+        Call::Len => view.len(state, LoanList::new(alloc)),
+        Call::Next => PyMemoryViewIterator::of(0).next(alloc, state),
+        Call::Number(iterator) => count_reply(PyMemoryViewIterator::of(iterator).number()),
+        Call::Repr => view.repr_str(state, LoanList::new(alloc)),
         Call::SetItem(index, value) => {
-            tell(
-                told,
-                view.setitem(state, number(index), number(value), LoanList::new(alloc))?,
-            )
+            view.setitem(state, number(index), number(value), LoanList::new(alloc))
         }
-        Call::ToBytes => tell(told, view.tobytes(state, LoanList::new(alloc))?),
-        Call::ToList => tell(told, view.tolist(state, LoanList::new(alloc))?),
-        Call::ToReadOnly => tell(told, view.toreadonly(state, LoanList::new(alloc))?),
+        Call::ToBytes => view.tobytes(state, LoanList::new(alloc)),
+        Call::ToList => view.tolist(state, LoanList::new(alloc)),
+        Call::ToReadOnly => view.toreadonly(state, LoanList::new(alloc)),
     }
 }
 
 /// What an attribute of view 1 is.
-fn ask(
-    state: &mut ExporterState,
-    alloc: Global,
-    attribute: Attribute,
-    told: &mut Vec<u8>,
-) -> Made<()> {
-    let (view, loans) = (PyMemoryView::of(1), LoanList::new(alloc));
+fn ask(state: &mut ExporterState, alloc: Global, attribute: Attribute) -> Made<LocalReply> {
+    let view = PyMemoryView::of(1);
+    let loans = LoanList::new(alloc);
     match attribute {
-        Attribute::Obj => tell(told, view.obj(state, loans)?),
-        Attribute::NBytes => tell(told, view.nbytes(state, loans)?),
-        Attribute::ReadOnly => tell(told, view.readonly(state, loans)?),
-        Attribute::ItemSize => tell(told, view.itemsize(state, loans)?),
-        Attribute::NDim => tell(told, view.ndim(state, loans)?),
-        Attribute::Format => tell(told, view.format(state, loans)?),
-        Attribute::Shape => tell(told, view.shape(state, loans)?),
-        Attribute::Strides => tell(told, view.strides(state, loans)?),
-        Attribute::SubOffsets => tell(told, view.suboffsets(state, loans)?),
-        Attribute::Contiguous => tell(told, view.contiguous(state, loans)?),
-        Attribute::CContiguous => tell(told, view.c_contiguous(state, loans)?),
-        Attribute::FContiguous => tell(told, view.f_contiguous(state, loans)?),
+        Attribute::Obj => view.obj(state, loans),
+        Attribute::NBytes => view.nbytes(state, loans),
+        Attribute::ReadOnly => view.readonly(state, loans),
+        Attribute::ItemSize => view.itemsize(state, loans),
+        Attribute::NDim => view.ndim(state, loans),
+        Attribute::Format => view.format(state, loans),
+        Attribute::Shape => view.shape(state, loans),
+        Attribute::Strides => view.strides(state, loans),
+        Attribute::SubOffsets => view.suboffsets(state, loans),
+        Attribute::Contiguous => view.contiguous(state, loans),
+        Attribute::CContiguous => view.c_contiguous(state, loans),
+        Attribute::FContiguous => view.f_contiguous(state, loans),
     }
 }
 
@@ -154,7 +124,7 @@ fn carry_out(
     wanted: &mut Vec<u8>,
 ) -> Made<()> {
     for (call, word) in rows {
-        answer(state, alloc, *call, told)?;
+        tell(told, answer(state, alloc, *call)?)?;
         tell_word(wanted, word.as_bytes())?;
     }
     Ok(())
@@ -169,7 +139,7 @@ fn ask_all(
     wanted: &mut Vec<u8>,
 ) -> Made<()> {
     for (attribute, word) in rows {
-        ask(state, alloc, *attribute, told)?;
+        tell(told, ask(state, alloc, *attribute)?)?;
         tell_word(wanted, word.as_bytes())?;
     }
     Ok(())
