@@ -4576,6 +4576,177 @@ def drawn_iterators(draw):
 
 
 PYTHON += [Case(f"iterators, drawn ({seed})", drawn_iterators(Draw(seed))) for seed in (22, 23, 24, 25)]
+
+def asked(*rows):
+    """Lines that make bytes of each content, and then ask each of its lines, in which `h0` stands for them."""
+    lines = []
+    for number, (content, *asks) in enumerate(rows):
+        lines.append(f"new bytes x{content.hex()}")
+        lines += [re.sub(r"\bh0\b", f"h{number}", ask) for ask in asks]
+    return "\n".join(lines)
+
+
+CASE_METHODS = [f"call h0 {name}" for name in ("lower", "upper", "swapcase", "capitalize", "title", "istitle")]
+LETTERED = [
+    b" hello ",
+    b"hello ",
+    b"Hello ",
+    b"fOrMaT thIs aS titLe String",
+    b"fOrMaT,thIs-aS*titLe;String",
+    b"getInt",
+    b"a1b\xe9C",
+    b"",
+    b"A",
+    b"A Titlecased Line",
+    b"A\nTitlecased Line",
+    b"A Titlecased, Line",
+    b"a",
+    b"\n",
+    b"Not a capitalized String",
+    b"Not\ta Titlecase String",
+    b"Not--a Titlecase String",
+    b"NOT",
+    b"A1B",
+    b"A1b",
+    b"1",
+]
+
+PYTHON += [
+    Case("letters of whole lines in another case", asked(*((text, *CASE_METHODS) for text in LETTERED))),
+    Case(
+        "parts and lines one by one",
+        asked(
+            (b" a b c ", "call h0 split None 1", "call h0 rsplit None 1", "call h0 split", "call h0 rsplit", "call h0 split None 0", "call h0 rsplit None 0"),
+            (b"a\x0b\x0cb\x1c", "call h0 split None 5", "call h0 rsplit None 5"),
+            (b" \t", "call h0 split None 0", "call h0 rsplit None 0"),
+            (b"", "call h0 split", "call h0 rsplit", "call h0 splitlines", "call h0 splitlines True"),
+            (b"a\nb\r\nc\rd", "call h0 splitlines", "call h0 splitlines True", "call h0 splitlines 2"),
+            (b"a\n\n", "call h0 splitlines", "call h0 splitlines True"),
+            (b"\r\r\n", "call h0 splitlines", "call h0 splitlines True"),
+            (b"\n\r", "call h0 splitlines", "call h0 splitlines True"),
+            (b"a,b,,c", "call h0 split x2c", "call h0 rsplit x2c 2", "call h0 split x2c 1", "call h0 split x"),
+            (b"aaaa", "call h0 split x616161 9223372036854775807", "call h0 rsplit x616161 -9223372036854775808"),
+            (b"a,b", "call h0 partition x2c", "call h0 rpartition x2c", "call h0 partition x7a", "call h0 rpartition x7a"),
+            (b" a b c ", "call h0 partition x2061", "call h0 rpartition x2061", "call h0 rsplit x20 2"),
+        ),
+    ),
+    Case(
+        "bytes put together, repeated and filled up one by one",
+        asked(
+            (b"ab", "call h0 add x63", "call h0 mul 3", "call h0 mul 9223372036854775807", "call h0 join [x31,x32]", "call h0 join []"),
+            (b"abab", "call h0 removeprefix x6162", "call h0 removesuffix x61", "call h0 removesuffix x6162"),
+            (b"abc", "call h0 center 6 x2a", "call h0 ljust 5 x2e", "call h0 rjust 5 x2e", "call h0 rjust -5 x2e", "call h0 rjust 6", "call h0 center 6 x2a2a"),
+            (b"ab", "call h0 center 5 x2a"),
+            (b"-42", "call h0 zfill 5"),
+            (b"42", "call h0 zfill 5"),
+            (b"", "call h0 zfill 2"),
+            (b"01\t012\t0123\n\t4", "call h0 expandtabs 4", "call h0 expandtabs"),
+            (b"\ta\t", "call h0 expandtabs -1"),
+        ),
+    ),
+    Case(
+        "digits of bytes and back one by one",
+        asked(
+            (b"\x01\x02\x03", "hex h0", "hex h0 ':' 2", "hex h0 ':' -2", "hex h0 ':'", "hex h0 x3a", "call h0 hex ':' 2", "call h0 hex x3a"),
+            (b"\xab\xcd", "hex h0 '-' 1", "hex h0 '--' 1"),
+            (b"\xab", "hex h0 '--' 1", "hex h0 x80 1"),
+            (b"", "call h0 fromhex '0aFf10'", "call h0 fromhex '0'", "call h0 fromhex '0g'"),
+        ),
+    ),
+    Case(
+        "matches replaced and bytes mapped one by one",
+        asked(
+            (b"Python", "call h0 replace x x2e", "call h0 replace x x2e 2", "call h0 replace x x2e 0", "call h0 replace x"),
+            (b"", "call h0 replace x x6162", "call h0 replace x x6162 0"),
+            (b"aaaa", "call h0 replace x6161 x78797a"),
+            (b"banana", "call h0 replace x616e x 1", "call h0 replace x616e x414e 1", "call h0 replace x616e x6c6f6e676572 0", "call h0 replace x71 x6c6f6e676572"),
+            (b"abracadabra", "call h0 translate None x72"),
+        ),
+    ),
+    Case(
+        "needles one by one",
+        asked(
+            (b"abc", "call h0 find x 4", "call h0 count x 4", "call h0 find x 3", "call h0 count x 3", "call h0 find x", "call h0 count x", "call h0 find x7a", "call h0 count 98 -3", "contains h0 99"),
+            (b"abcabc", "call h0 find x63 3", "call h0 rfind 97", "call h0 find x64 None 2", "call h0 count x", "call h0 startswith x6263 1", "call h0 index x64"),
+            (b"abc", "call h0 startswith (x62,x61) 0", "call h0 endswith (x62,x61) 0", "call h0 startswith (x62,x6263) -2", "call h0 endswith (x62,x6263) -2", "call h0 startswith 97"),
+        ),
+    ),
+    Case(
+        "texts decoded by each name",
+        asked(
+            (b"ab", "call h0 decode", "call h0 decode 'ascii'", "call h0 decode 'utf8' 'strict'"),
+            (b"\xc3\xa9", "call h0 decode 'utf8' 'strict'", "call h0 decode", "call h0 decode 'ascii'"),
+            (b"\xff", "call h0 decode"),
+        ),
+    ),
+    Case(
+        "bytes compared by each operator",
+        asked(
+            *(
+                (left, *(f"compare h0 {operator} x{right.hex()}" for operator in ("==", "!=", "<", "<=", ">", ">=")))
+                for left, right in (
+                    (b"", b""),
+                    (b"", b"a"),
+                    (b"a", b""),
+                    (b"ab", b"b"),
+                    (b"ab", b"a"),
+                    (b"\xff", b"\x00"),
+                    (b"0123456789abcdefg", b"0123456789abcdefg"),
+                    (b"0123456789abcdefg", b"0123456789abcdefh"),
+                )
+            )
+        ),
+    ),
+    Case(
+        "views of bytes apart compared one by one",
+        """
+new bytes x010203
+new bytes x78030201
+new bytes x0102030405060708
+new bytes x0102000000000506
+new bytes x01020506
+new bytes x0100ffff
+new bytes x01ff
+new bytes x01fe
+view h0
+get h8 None:None:-1
+range h1 1 4
+compare h8 == h8
+compare h8 == h9
+compare h9 == h10
+compare h10 == h9
+compare h9 == x010203
+compare h9 == x030201
+view h2
+cast h11 'B' [4,2]
+get h12 None:None:2
+view h3
+cast h14 'B' [4,2]
+get h15 None:None:3
+view h4
+cast h17 'B' [2,2]
+cast h17 'B' [4,1]
+compare h13 == h18
+compare h18 == h13
+compare h16 == h18
+compare h18 == h16
+compare h18 == h19
+compare h13 == h16
+compare h18 == x01020506
+view h5
+cast h20 'h'
+cast h20 'H'
+view h6
+cast h23 'b'
+view h7
+cast h25 'b'
+compare h21 == h21
+compare h21 == h24
+compare h26 == h21
+compare h21 == h22
+""",
+    ),
+]
 ASSIGNED = [assigned(Draw(12 + number), step, others) for others in (False, True) for number, step in enumerate(STEPS)]
 
 # Beside each line our reply, written by hand; Python's is put beside it where it differs.
@@ -6191,7 +6362,9 @@ def files():
 
 def main():
     made = dict(files())
-    old = {path for folder in {path.parent for path in made} for path in folder.glob("*") if path.is_file()}
+    # (what else lies in `cases/` itself is not made here)
+    beside = {path for folder in {path.parent for path in made} - {CASES} for path in folder.glob("*")}
+    old = {path for path in {*made, *beside} if path.is_file()}
     changed = sorted(path for path in {*made, *old} if path not in old or path not in made or path.read_text() != made[path])
     for path in changed:
         print(path.relative_to(CASES.parent))

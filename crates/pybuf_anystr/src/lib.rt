@@ -6,6 +6,3 @@ mod bytes;
 
 pub use any_str::{AnyStr, AnyStrContainer};
 pub use bytes::Bytes;
-
-#[cfg(test)]
-mod tests;

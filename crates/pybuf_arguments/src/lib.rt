@@ -8,6 +8,3 @@ mod separators;
 pub use affixes::{StartsEndsWithArgs, bytes_lent, endswith, single_or_tuple_any, startswith};
 pub use bounds::{StringRange, adjust_indices};
 pub use separators::{AnyStrWrapper, SplitArgs};
-
-#[cfg(test)]
-mod tests;

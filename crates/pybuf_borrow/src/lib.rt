@@ -11,6 +11,3 @@ pub use bytes::{ArgBytesLike, try_bytes_like};
 pub use laws::borrows_change_the_lent_bytes_alone;
 pub use memory::{ArgMemoryBuffer, try_rw_bytes_like};
 pub use texts::{ArgAsciiBuffer, ArgStrOrBytesLike};
-
-#[cfg(test)]
-mod tests;

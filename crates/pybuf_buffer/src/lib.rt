@@ -14,6 +14,3 @@ pub use buffer::PyBuffer;
 pub use laws::{range_counts_are_bounded, ranges_are_counted};
 pub use steps::Steps;
 pub use views::live_descriptor;
-
-#[cfg(test)]
-mod tests;

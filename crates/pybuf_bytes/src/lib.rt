@@ -30,12 +30,3 @@ pub use searching::{
     rsplit_at, split_at,
 };
 pub use shaping::bytes_to_hex;
-
-#[cfg(test)]
-mod search_tests;
-#[cfg(test)]
-mod shaping_tests;
-#[cfg(test)]
-mod tests;
-#[cfg(test)]
-mod text_tests;

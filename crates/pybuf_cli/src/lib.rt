@@ -16,6 +16,3 @@ pub use forms::{Form, form_named};
 pub use memory::{QuietSink, QuietSource};
 pub use serving::{serve, serve_alone, serve_bytes};
 pub use status::Status;
-
-#[cfg(test)]
-mod tests;

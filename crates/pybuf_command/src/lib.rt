@@ -14,6 +14,3 @@ pub use handles::{
 };
 pub use kinds::{ExporterKind, Subject};
 pub use loans::{Loan, LoanList, is_byte_format};
-
-#[cfg(test)]
-mod tests;

@@ -8,6 +8,3 @@ mod twin;
 
 pub use memory::{Made, NoMemory};
 pub use twin::{Exact, Twin, copy_all};
-
-#[cfg(test)]
-mod tests;

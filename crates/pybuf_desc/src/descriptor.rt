@@ -9,7 +9,7 @@ use pybuf_value::{DimList, Fault, Made, Text, Twin};
 use std::alloc::Global;
 use std::marker::Model;
 
-/// What the items of a buffer are and how they are blocks_apart out, as Python's C API has it under
+/// What the items of a buffer are and how far apart they lie, as Python's C API has it under
 /// "Buffer Protocol", "Buffer structure" and "NumPy-style: shape and strides". Where the items
 /// start is no part of it.
 ///

@@ -25,6 +25,3 @@ pub use laws::{
 };
 pub use pairs::ZipSegments;
 pub use segments::Segments;
-
-#[cfg(test)]
-mod tests;

@@ -16,6 +16,3 @@ pub use laws::{
     view_equality_is_equivalence,
 };
 pub use lent::{equal_to_bytes, equal_to_content};
-
-#[cfg(test)]
-mod tests;

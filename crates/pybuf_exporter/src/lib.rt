@@ -29,6 +29,3 @@ pub use pybuf_rows_reads::lists_hold_the_items;
 pub use pybuf_rows_writes::{assignments_are_by_value, writes_are_seen};
 pub use pybuf_state::copies_are_faithful;
 pub use reading::reads_in_place;
-
-#[cfg(test)]
-mod tests;

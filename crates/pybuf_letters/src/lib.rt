@@ -21,6 +21,3 @@ pub use laws::{
 };
 pub use lines::split_lines;
 pub use strips::{strip, strip_left, strip_right};
-
-#[cfg(test)]
-mod tests;

@@ -26,6 +26,3 @@ pub use splitting::next_line;
 pub use texts::{push_bad_line, push_reply, push_reply_line};
 pub use unread::{Misread, Unread};
 pub use words::is_word;
-
-#[cfg(test)]
-mod tests;

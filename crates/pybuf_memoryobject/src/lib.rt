@@ -13,8 +13,3 @@ pub use iterator::PyMemoryViewIterator;
 pub use memory_view::PyMemoryView;
 pub use stepping::{step_of, step_without_loans};
 pub use vec_buffer::VecBuffer;
-
-#[cfg(test)]
-mod method_tests;
-#[cfg(test)]
-mod view_tests;

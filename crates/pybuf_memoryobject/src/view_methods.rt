@@ -28,13 +28,14 @@ impl PyMemoryView {
     /// of one index for each dimension anywhere. Without dimensions `()` names the item, and `...` the
     /// view itself.
     ///
-    /// Refused, where there is a dimension, with `IndexError` where a number of the key doesn't fit
-    /// `isize`, with `NotImplementedError` for a tuple of slices, and with `TypeError` for what is no
-    /// key; for an index with `NotImplementedError` where there are several dimensions, and then with
-    /// `IndexError` out of range; for a slice with `TypeError` where its step is neither a number nor
-    /// `None`, with `ValueError` for a step of 0, and with `TypeError` for another part; for a tuple
-    /// with `NotImplementedError` where it has too few indices, with `TypeError` where it has too many,
-    /// and then with `IndexError` out of range. Without dimensions every other key is refused with
+    /// Refused, where there is a dimension, with `NotImplementedError` for a tuple of slices, and with
+    /// `TypeError` for what is no key; for an index with `IndexError` where it doesn't fit `isize`, then
+    /// with `NotImplementedError` where there are several dimensions, and then with `IndexError` out of
+    /// range; for a slice with `TypeError` where its step is neither a number nor `None`, with
+    /// `ValueError` for a step of 0, and with `TypeError` for another part; for a tuple with `TypeError`
+    /// where a part is no number, then with `IndexError` where one doesn't fit `isize`, with
+    /// `NotImplementedError` where it has too few indices, with `TypeError` where it has too many, and
+    /// then with `IndexError` out of range. Without dimensions every other key is refused with
     /// `TypeError`.
     pub fn getitem(
         &self,

@@ -17,6 +17,3 @@ pub use lent::{ByLender, Lent, Names, content_of_snap, run_of_snap};
 pub use methods::{apply_method, reply_of};
 pub use shaped::hex_of;
 pub use sought::contains_in;
-
-#[cfg(test)]
-mod tests;

@@ -182,7 +182,7 @@ impl PyByteArray {
     /// (Library reference, "Mutable Sequence Types").
     ///
     /// The key is refused as `getitem` refuses it, but that `BufferError`, where a view is unreleased,
-    /// comes before `IndexError`.
+    /// comes before the `IndexError` of an index that fits `isize`.
     pub fn delitem(&mut self, key: Value, loans: LoanList) -> Made<LocalReply>
         requires { LoansFit loans }
         ensures ok { IfOk result (λ r. estep self.old subjects.Own (verbs.Del key) loans ≡ (self.new, r)) }

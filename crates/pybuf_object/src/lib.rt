@@ -12,6 +12,3 @@ pub use bytes::PyBytes;
 pub use guard::BufferResizeGuard;
 pub use iterators::{PyByteArrayIterator, PyBytesIterator};
 pub use pybuf_memoryobject::{PyMemoryView, PyMemoryViewIterator, VecBuffer};
-
-#[cfg(test)]
-mod method_tests;

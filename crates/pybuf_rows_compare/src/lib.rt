@@ -11,6 +11,3 @@ mod laws;
 pub mod repr;
 
 pub use laws::{compare_is_safe, equal_views_hash_alike, hash_is_safe, repr_is_safe};
-
-#[cfg(test)]
-mod tests;

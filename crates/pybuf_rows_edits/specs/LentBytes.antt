@@ -12,7 +12,7 @@ use Rattle.pybuf_command.specs.declared.commands.LocalReply.{LocalReply}
 use Rattle.pybuf_state.specs.Exporter.{Exporter}
 use Rattle.pybuf_rows_edits.specs.Replacing.{assigned, replaced_all}
 
--- a slice is set to the bytes of what a handle names, if it is there a handle names, if it is there
+-- a slice is set to the bytes of what a handle names, if it is there
 abbrev pub assigned_by : Exporter → SliceParts → Option Snap → Result (Exporter × LocalReply) Fault
 assigned_by e parts lent = do
   bytes ← content_of_named lent

@@ -58,7 +58,7 @@ next_by : MovedIteratorsStay → (e : Exporter) (k : ℕ) (it : Iterator) (b : B
 next_by stays e k it true is given = read e reply.Stop refl
 next_by stays e k it false is given = bind e (item_over e it.subject it.position) _ (λ x _. moved_on_so stays e k it x given is)
 
--- ---- `hint` and `setstate`
+-- ---- how many are left, and the place that an iterator is moved to
 
 over_bytes_case : (b : Bool) (it found : Iterator) → (unless (not b) fault.UnknownName >>= λ _. Ok it) ≡ Ok found → it ≡ found
 over_bytes_case true it found is = cc

@@ -1,4 +1,5 @@
--- `iter`, `next`, `hint` and `setstate`: iterators over the bytes of an exporter and over the items of a view.
+-- Iterators over the bytes of an exporter and over the items of a view: how one is made, gives its next item,
+-- tells how many are left, and is moved to a place.
 use Rattle.std.specs.Prelude.{ℕ, ◌+◌, ◌-◌, ◌==◌, Bool, true, false, not, List, [], ◌∷◌, length, slice_get, slice_index, nat_lt, min, ℤ, pos, negsuc, Option, Some, None, Result, Ok, Err, if◌then◌else◌}
 use Rattle.std.specs.Option.{option_map}
 use Rattle.pybuf_value.specs.declared.faults.Fault.{Fault}
@@ -88,7 +89,7 @@ next_of_iterator e k = do
   it ← iterator_at e k
   next_unless it.exhausted e k it
 
--- ---- `hint` and `setstate`, of iterators over bytes alone
+-- ---- how many are left, and the place that it is moved to, of iterators over bytes alone
 
 abbrev pub is_over_bytes : Subject → Bool
 is_over_bytes subject.Own = true

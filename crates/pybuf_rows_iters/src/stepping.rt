@@ -1,4 +1,4 @@
-//! `next`, `hint` and `setstate` of an iterator.
+//! The next item of an iterator, how many are left, and the place that it is moved to.
 ghost use Rattle.std.specs.Prelude.{◌≡◌, ◌<◌, ◌^◌, IfOk, IsOk, IfSome, length};
 ghost use Rattle.pybuf_value.specs.Halting.{Gives};
 ghost use Rattle.pybuf_command.specs.declared.kinds.Subject.TheVariants as subjects;
@@ -107,7 +107,7 @@ fn next(parts: &mut Parts, k: usize) -> Result<LocalReply, Halt>
     Ok(moved_on(parts, k, iterator, item))
 }
 
-// ---- `hint` and `setstate`
+// ---- how many are left, and the place that it is moved to
 
 /// The iterator of a number that goes over bytes.
 ///

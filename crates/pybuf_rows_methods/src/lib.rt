@@ -12,6 +12,3 @@ mod subjects;
 pub use laws::{call_is_safe, contains_is_safe, hex_is_safe, lents_are_paired, names_are_found};
 pub use loaned::{Loaned, Place};
 pub use subjects::{content_of_subject, kind_of_subject, run_of_subject};
-
-#[cfg(test)]
-mod tests;

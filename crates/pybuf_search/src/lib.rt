@@ -15,6 +15,3 @@ pub use laws::{
 };
 pub use parts::{partition, rpartition, rsplit, split};
 pub use places::{first_place, holds_needle, last_place, number_of_matches};
-
-#[cfg(test)]
-mod tests;

@@ -25,6 +25,3 @@ pub use reading::bytes_of_hex;
 pub use replacing::{replace, replace_in_place};
 pub use tables::{identity_table, make_table, translate};
 pub use tabs::{expand_tabs, tab_size};
-
-#[cfg(test)]
-mod tests;

@@ -23,8 +23,3 @@ pub use laws::{
 };
 pub use saturated::SaturatedSlice;
 pub use sequence::SliceableSequenceOp;
-
-#[cfg(test)]
-mod compared_tests;
-#[cfg(test)]
-mod tests;

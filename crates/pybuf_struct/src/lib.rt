@@ -18,6 +18,3 @@ pub use laws::{
 };
 pub use single::{is_numeric_letter, pack_single, single_size, single_value};
 pub use table::{Endianness, FormatType};
-
-#[cfg(test)]
-mod tests;

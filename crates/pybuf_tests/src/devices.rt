@@ -1,5 +1,8 @@
-//! Readers and writers that fail in mid-stream, under the top call.
-use pybuf_cli::{QuietSink, QuietSource, ReaderSource, Status, WriterSink, serve_alone};
+//! Readers and writers that fail in mid-stream: alone, call by call, and under the top call.
+use pybuf_cli::{
+    Failed, PutFault, QuietSink, QuietSource, ReaderSource, Sink, Source, Status, WriterSink,
+    serve_alone,
+};
 use pybuf_value::ByteList;
 use std::io::{Error, ErrorKind, Read, Write};
 use std::test::Fail;
@@ -68,4 +71,52 @@ fn a_sink_that_fails(rt: HostRuntime) -> Result<(), Fail> {
     );
     assert_eq!(rt; sink.faults(), 1);
     Ok(())
+}
+
+// The call that fails is counted, and so is the next one.
+#[test]
+fn a_reader_that_fails_is_counted(rt: HostRuntime) {
+    let mut source = ReaderSource::new(FaultyReader { calls: 0 });
+    let mut room = [0u8; 30];
+    assert!(rt; source.take(room.as_mut_slice()) == Ok(22));
+    assert_eq!(rt; source.faults(), 0);
+    assert!(rt; source.take(room.as_mut_slice()) == Err(Failed));
+    assert_eq!(rt; source.faults(), 1);
+    assert!(rt; source.take(room.as_mut_slice()) == Err(Failed));
+    assert_eq!(rt; source.faults(), 2);
+}
+
+/// Takes two bytes at its first call, nothing at its second, and fails after.
+#[derive(Drop)]
+struct TiredWriter {
+    calls: u8,
+}
+
+impl Write for TiredWriter {
+    fn write(&mut self, buf: &[u8]) -> std::io::Result<usize> {
+        self.calls = self.calls.saturating_add(1);
+        if self.calls > 2 {
+            return Err(Error::from(ErrorKind::Other));
+        }
+        if self.calls > 1 {
+            return Ok(0);
+        }
+        Ok(buf.len().min(2))
+    }
+
+    fn flush(&mut self) -> std::io::Result<()> {
+        Ok(())
+    }
+}
+
+// A call that takes nothing of a piece counts as a fault, and so does one that fails.
+#[test]
+fn a_writer_that_takes_nothing_is_counted(rt: HostRuntime) {
+    let mut sink = WriterSink::new(TiredWriter { calls: 0 });
+    assert!(rt; sink.put(b"abc") == Ok(2));
+    assert_eq!(rt; sink.faults(), 0);
+    assert!(rt; sink.put(b"c") == Err(PutFault::Failed));
+    assert_eq!(rt; sink.faults(), 1);
+    assert!(rt; sink.put(b"c") == Err(PutFault::Failed));
+    assert_eq!(rt; sink.faults(), 2);
 }

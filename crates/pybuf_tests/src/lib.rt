@@ -1,11 +1,10 @@
-//! Tests that cross crates: whole inputs of the program with their outputs and statuses.
+//! Tests of what the program has not: a source and a sink that fail, bytes in place of devices, and the
+//! four users of the library.
 #![tactic(auto)]
 
 #[cfg(test)]
 mod devices;
 #[cfg(test)]
-mod judging;
-#[cfg(test)]
 mod rows;
 #[cfg(test)]
-mod spellings;
+mod users;

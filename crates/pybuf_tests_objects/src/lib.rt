@@ -1,4 +1,5 @@
-//! Tests of the calls of objects, buffers, borrows, exporters and worlds that no line of the program makes.
+//! Tests of the calls of objects, buffers, borrows, exporters and worlds that no line of the program makes, and
+//! the examples of docs/LIBRARY.md.
 #![tactic(auto)]
 
 #[cfg(test)]
@@ -11,6 +12,8 @@ mod buffers;
 mod byte_arrays;
 #[cfg(test)]
 mod byte_strings;
+#[cfg(test)]
+mod examples;
 #[cfg(test)]
 mod exporters;
 #[cfg(test)]

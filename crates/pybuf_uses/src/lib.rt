@@ -1,5 +1,4 @@
-//! Four users of the library, each with a contract in words of its own, and the examples of README.md and
-//! docs/LIBRARY.md as tests: what is shown there stands here word for word.
+//! Four users of the library, each with a contract in words of its own.
 #![tactic(auto)]
 
 mod interpreter;
@@ -11,8 +10,3 @@ pub use interpreter::{Interpreter, Statement};
 pub use line_buffer::LineBuffer;
 pub use number_array::NumberArray;
 pub use weather_log::{Header, Reading, WeatherLog, read_header, read_reading};
-
-#[cfg(test)]
-mod examples;
-#[cfg(test)]
-mod tests;

@@ -36,10 +36,3 @@ pub use snaps::{Lender, Snap, SnapKind, SnapList};
 pub use spelling::{named_repr_text, push_scalar, repr_text};
 pub use text::Text;
 pub use values::{CompareOp, Item, PySlice, Scalar, Value};
-
-#[cfg(test)]
-mod content_tests;
-#[cfg(test)]
-mod tests;
-#[cfg(test)]
-mod text_tests;

@@ -18,8 +18,8 @@ pub use pybuf_exporter::{
     iterators_give_the_bytes, iterators_stay, lengths_stay, lists_hold_the_items,
     loans_alike_do_the_same, others_leave_iterators, reading_in_place_changes_nothing,
     readonly_bytes_stay, reads_in_place, refused_commands_change_nothing,
-    shaped_casts_share_their_bytes, shown_texts_are_one_line, slicing_back_twice_is_nothing,
-    writes_are_seen,
+    resizing_is_refused_while_exported, shaped_casts_share_their_bytes, shown_texts_are_one_line,
+    slicing_back_twice_is_nothing, writes_are_seen,
 };
 pub use pybuf_methods::{Lent, Names, takes, wrong_numbers_are_refused};
 pub use pybuf_world::{

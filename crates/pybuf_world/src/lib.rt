@@ -17,6 +17,3 @@ pub use laws::{
 };
 pub use named::{Named, Target};
 pub use world::World;
-
-#[cfg(test)]
-mod tests;

@@ -1,0 +1,22 @@
+//! Tests of what no line of the program reaches in the crates up to those of strings of bytes, slices and
+//! formats: calls at concrete types, with ample memory, and tables of Python's answers.
+#![tactic(auto)]
+
+#[cfg(test)]
+mod bytes;
+#[cfg(test)]
+mod compared_slices;
+#[cfg(test)]
+mod contents;
+#[cfg(test)]
+mod copies;
+#[cfg(test)]
+mod formats;
+#[cfg(test)]
+mod slices;
+#[cfg(test)]
+mod sources;
+#[cfg(test)]
+mod strings;
+#[cfg(test)]
+mod values;

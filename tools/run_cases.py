@@ -1,0 +1,213 @@
+#!/usr/bin/env python3
+"""Runs the cases on a program that was built, and ends with status 1 where one differs.
+
+    python3 tools/run_cases.py [PROGRAM [FOLDER..]]
+
+PROGRAM is what the gate built, `crates/pybuf/out/pybuf`, where none is named. The FOLDERs are `examples` and every
+folder of `cases/`; where none is named, the lines of `cases/no-commands.txt` and the inputs that are made here are run
+too.
+
+A case is a file NAME, which is the input, with what has to be written for it beside it, NAME.stdout. NAME.args has the
+words behind the program's name, a word a line, none where it isn't there, and NAME.status the status that has to come,
+0 where it isn't there. Nothing may come on standard error. Each line of `cases/no-commands.txt` is an input of its own.
+
+As many cases run side by side as there are processors. A folder that isn't there or has no case, and a file that neither
+is a case nor belongs to one, fail too.
+"""
+
+import ast
+import collections
+import itertools
+import os
+import pathlib
+import re
+import resource
+import subprocess
+import sys
+from concurrent.futures import ThreadPoolExecutor
+
+ROOT = pathlib.Path(__file__).resolve().parent.parent
+PROGRAM = ROOT / "crates/pybuf/out/pybuf"
+NO_COMMANDS = ROOT / "cases/no-commands.txt"
+SECONDS = 10
+# How many bytes an input can have.
+LIMIT = 1_048_576
+# Many times what the program needs for any input here, and less than three dozen lists of a million places.
+ADDRESS_SPACE = 256 * 1024 * 1024
+DONE, BAD_LINE, NO_MEMORY, TOO_LONG = 0, 2, 3, 7
+
+# `address_space` is how many bytes the process may map, or None for no such limit.
+Case = collections.namedtuple("Case", "name given written status words address_space", defaults=((), None))
+# `faults` are what is wrong with the folder itself.
+Folder = collections.namedtuple("Folder", "name cases faults")
+
+
+def shown(line):
+    """A line as Python writes its bytes, the front alone of a long one."""
+    if line is None:
+        return "nothing"
+    return repr(line) if len(line) <= 100 else f"{line[:100]!r} and {len(line) - 100} bytes more"
+
+
+def first_difference(wanted, came):
+    """The first line that differs, with the line feeds, since the last one may be missing."""
+    lines = (re.findall(rb"[^\n]*\n|[^\n]+", text) for text in (wanted, came))
+    for number, (expected, found) in enumerate(itertools.zip_longest(*lines), 1):
+        if expected != found:
+            return f"line {number} of the output has to be {shown(expected)}, and is {shown(found)}"
+    return None
+
+
+def differences(program, case):
+    """What differs when the case is run, as texts."""
+    pipes = dict.fromkeys(("stdin", "stdout", "stderr"), subprocess.PIPE)
+    try:
+        with subprocess.Popen([program, *case.words], env={}, **pipes) as process:
+            if case.address_space is not None:
+                # (in time: the program works once its input has ended, and nothing of that was written yet)
+                resource.prlimit(process.pid, resource.RLIMIT_AS, (case.address_space, case.address_space))
+            try:
+                written, complaint = process.communicate(case.given, timeout=SECONDS)
+            except subprocess.TimeoutExpired:
+                process.kill()
+                return [f"it had not ended after {SECONDS} seconds"]
+    except (OSError, ValueError) as error:
+        return [f"it was not run: {error}"]
+    found = [first_difference(case.written, written)]
+    if process.returncode < 0:
+        found.append(f"signal {-process.returncode} ended it")
+    elif process.returncode != case.status:
+        found.append(f"the status has to be {case.status}, and is {process.returncode}")
+    if complaint:
+        found.append(f"on standard error came {shown(complaint)}")
+    return [it for it in found if it is not None]
+
+
+def folder_of(path):
+    """The cases of a folder of files."""
+    label = os.path.relpath(path, ROOT) if ROOT in path.parents else str(path)
+    if not path.is_dir():
+        return Folder(label, [], ["it is not there"])
+    files = {it.name for it in path.iterdir() if it.is_file()}
+    inputs = sorted(name for name in files if f"{name}.stdout" in files)
+    belonging = {name + ending for name in inputs for ending in ("", ".stdout", ".args", ".status")}
+    strays = sorted(it.name for it in path.iterdir() if it.name not in files & belonging)
+    faults = [f"{name} neither is a case nor belongs to one" for name in strays]
+    cases = []
+    for name in inputs:
+        status, words = b"0", b""
+        if f"{name}.status" in files:
+            status = (path / f"{name}.status").read_bytes().strip()
+        if f"{name}.args" in files:
+            words = (path / f"{name}.args").read_bytes()
+        if re.fullmatch(rb"[0-9]{1,3}", status) is None:
+            faults.append(f"{name}.status holds no status")
+            continue
+        given, written = ((path / it).read_bytes() for it in (name, f"{name}.stdout"))
+        # (the last line feed ends a word, and begins none)
+        lines = words.split(b"\n")
+        cases.append(Case(name, given, written, int(status), lines if lines[-1] else lines[:-1]))
+    return Folder(label, cases, faults)
+
+
+def no_commands():
+    """The lines that are no commands, each alone."""
+    cases, faults = [], []
+    lines = NO_COMMANDS.read_text().split("\n") if NO_COMMANDS.is_file() else []
+    for number, text in enumerate(lines, 1):
+        if not text or text.startswith("#"):
+            continue
+        try:
+            line = ast.literal_eval(text)
+        except (SyntaxError, ValueError):
+            line = None
+        if not isinstance(line, bytes) or b"\n" in line:
+            faults.append(f"line {number} of {NO_COMMANDS.relative_to(ROOT)} is no literal of the bytes of one line")
+        else:
+            cases.append(Case(text, line + b"\n", b"line 1 is not a command\n", BAD_LINE))
+    return Folder("no-commands", cases, faults)
+
+
+def long_words():
+    """Words of about a million bytes. What is read in steps that grow with the square of a word's length would not end
+    in time, and what calls itself for each part of a word would run out of stack. Each is a key of a bytearray, and
+    where it is a value the command is refused, since only a number or a slice is a key; else its line is no command."""
+    refused, bad = (b"h0\n! TypeError\n", DONE), (b"line 2 is not a command\n", BAD_LINE)
+    for name, word, (written, status) in [
+        # zeros in front of a number don't count, however many there are
+        ("a 2 behind a million zeros", b"0" * 1_000_000 + b"2", (b"h0\n99\n", DONE)),
+        # numbers end at 128 bits
+        ("a number of a million digits", b"9" * 1_000_000, bad),
+        ("a text of a million bytes", b"'" + b"a" * 1_000_000 + b"'", refused),
+        ("a million digits of bytes", b"x" + b"aB" * 500_000, refused),
+        ("a tuple of half a million numbers", b"(1" + b",1" * 500_000 + b")", refused),
+        # a comma between quotes parts nothing
+        ("a list of many texts with commas", b"[1" + b",'a,b'" * 160_000 + b"]", refused),
+        ("a tuple of many slices", b"(1:1:1" + b",1:1:1" * 160_000 + b")", refused),
+        # a tuple of slices has no other part, which shows at the last one alone
+        ("a number behind many slices", b"(1:1:1" + b",1:1:1" * 160_000 + b",1)", bad),
+        # no part of a slice or of a tuple may be empty
+        ("a million colons", b"1" + b":" * 1_000_000, bad),
+        ("a million commas", b"(" + b"," * 1_000_000 + b")", bad),
+    ]:
+        yield Case(name, b"new bytearray x616263\nget h0 " + word + b"\n", written, status)
+
+
+def large_inputs():
+    """Cases that are too large to be kept as files."""
+    made, count = b"new bytearray x\n", 149_792
+    lines = made + count * b"len h0\n" + made
+    assert len(lines) == LIMIT
+    views = b"new bytearray 1000000\n" + 10_000 * b"view h0\n" + b"set h1 999999 7\nget h10000 999999\n"
+    handles = b"".join(b"h%d\n" % number for number in range(10_001))
+    cases = [
+        # As many lines as an input can hold, each with its reply; more than 64 KiB are written in several pieces.
+        Case("as many lines as an input can hold", lines, b"h0\n" + count * b"0\n" + b"h1\n", DONE),
+        # Of an input that is too long nothing is run, though each of its whole lines is a command.
+        Case("as many lines, and one byte more", lines + b"\n", b"", TOO_LONG),
+        # The longest input is read, and only then its one line, which lacks its line feed, is no command.
+        Case("the longest input", LIMIT * b"a", b"line 1 is not a command\n", BAD_LINE),
+        # One byte more is too long, whatever the lines are.
+        Case("the longest input, and one byte more", (LIMIT + 1) * b"a", b"", TOO_LONG),
+        # The byte that is written through the first view is read through the last. A view that kept a list of its
+        # places would need more memory than there is.
+        Case("ten thousand views of a million bytes", views, handles + b"ok\n7\n", DONE, (), ADDRESS_SPACE),
+        # That there is no more memory than that, and that the want of it has a status of its own.
+        Case("more bytes than there is memory for", b"new bytearray 1000000000\n", b"", NO_MEMORY, (), ADDRESS_SPACE),
+    ]
+    return Folder("large inputs", [*cases, *long_words()], [])
+
+
+def folders(named):
+    """The folders that are named, or all there are."""
+    if named:
+        return [folder_of(pathlib.Path(name).resolve()) for name in named]
+    kept = sorted(path for path in (ROOT / "cases").glob("*") if path.is_dir())
+    return [*map(folder_of, [ROOT / "examples", *kept]), no_commands(), large_inputs()]
+
+
+def main(words):
+    program = pathlib.Path(words[0] if words else PROGRAM).resolve()
+    if not program.is_file():
+        print(f"{program} is not there: build it by `rt ci`, or by `rt run` in crates/pybuf", file=sys.stderr)
+        print("0 passed, 1 failed")
+        return 1
+    passed = failed = 0
+    with ThreadPoolExecutor(os.cpu_count() or 1) as pool:
+        for folder in folders(words[1:]):
+            results = pool.map(lambda case: differences(program, case), folder.cases)
+            differing = [(case, found) for case, found in zip(folder.cases, results) if found]
+            faults = folder.faults if folder.cases or folder.faults else ["it has no case"]
+            print(f"{folder.name}: {len(folder.cases)} ran, {len(differing)} differ", flush=True)
+            for fault in faults:
+                print(f"    {fault}")
+            for case, found in differing:
+                print(f"    {case.name}: {'; '.join(found)}")
+            passed += len(folder.cases) - len(differing)
+            failed += len(differing) + len(faults)
+    print(f"{passed} passed, {failed} failed")
+    return 1 if failed else 0
+
+
+if __name__ == "__main__":
+    sys.exit(main(sys.argv[1:]))
