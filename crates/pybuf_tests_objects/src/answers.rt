@@ -2,9 +2,12 @@
 //!
 //! Each call of a script stands in a function without clauses, which hands over what it was answered. So no script
 //! carries what the calls before did, and none drops a reply at each place where it may stop.
+use pybuf_bytes::{MethodCall, MethodName};
 use pybuf_command::{ExporterKind, LocalReply};
 use pybuf_exporter::ExporterState;
-use pybuf_value::{ByteList, Fault, Item, Made, Scalar, Text, Value, push_quoted, push_scalar};
+use pybuf_value::{
+    ByteList, Fault, Item, Made, Scalar, Text, Value, ValueList, push_quoted, push_scalar,
+};
 use std::alloc::Global;
 
 pub(crate) fn number(n: i128) -> Value {
@@ -19,6 +22,13 @@ pub(crate) fn bytes(alloc: Global, bytes: &[u8]) -> Made<Value> {
 pub(crate) fn text(alloc: Global, characters: &str) -> Made<Value> {
     let text = Text::from_string(String::from_str(alloc, characters)?);
     Ok(Value::One(Scalar::Text(text)))
+}
+
+/// A call of a method with one argument.
+pub(crate) fn call_of(alloc: Global, name: MethodName, value: Value) -> Made<MethodCall> {
+    let mut args = ValueList::new(alloc);
+    args.push(value)?;
+    Ok(MethodCall { name, args })
 }
 
 /// A bytearray of these bytes.
@@ -70,6 +80,19 @@ pub(crate) fn tell_numbered(told: &mut Vec<u8>, letter: u8, number: usize) -> Ma
     tell_word(told, b"")?;
     told.push(letter)?;
     push_scalar(told, &Scalar::Int(number as i128))
+}
+
+pub(crate) fn count_reply(count: usize) -> Made<LocalReply> {
+    Ok(LocalReply::Item(Item::One(Scalar::Int(count as i128))))
+}
+
+pub(crate) fn truth_reply(truth: bool) -> Made<LocalReply> {
+    Ok(LocalReply::Truth(truth))
+}
+
+pub(crate) fn bytes_reply(alloc: Global, bytes: &[u8]) -> Made<LocalReply> {
+    let bytes = ByteList::from_vec(Vec::from_slice(alloc, bytes)?);
+    Ok(LocalReply::Bytes(bytes))
 }
 
 fn tell_item(told: &mut Vec<u8>, item: &Item) -> Made<()> {

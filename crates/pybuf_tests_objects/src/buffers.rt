@@ -202,7 +202,7 @@ fn write(state: &mut ExporterState, alloc: Global, told: &mut Vec<u8>) -> Made<(
     tell_truth(told, is_turned_by_number(state))?;
     tell_bytes(told, state.bytes())?;
     tell_truth(told, is_turned_whole(state))?;
-    read(state, told)
+    tell_bytes(told, state.bytes())
 }
 
 #[test]
@@ -213,9 +213,8 @@ fn a_write_goes_to_the_lent_places(rt: HostRuntime) -> Result<(), Fail> {
     write(&mut state, alloc, &mut told)?;
     assert_eq!(rt;
         told.as_slice(),
-        b"v0 True b'abedcf' b'edc' True b'abcdef' True b'dcb'".as_slice()
+        b"v0 True b'abedcf' b'edc' True b'abcdef' True b'fedcba'".as_slice()
     );
-    assert_eq!(rt; state.bytes(), b"fedcba".as_slice());
     Ok(())
 }
 
@@ -259,19 +258,18 @@ fn a_caller_counts_the_ranges(rt: HostRuntime) -> Result<(), Fail> {
     Ok(())
 }
 
-/// Tells the number of a buffer and the bytes of buffer 0, and lets their exporter go.
-fn tell_vector(told: &mut Vec<u8>, state: ExporterState, number: usize) -> Made<()> {
-    let named = tell_numbered(told, b'v', number);
+/// The bytes of buffer 0 of an exporter, which is let go.
+fn tell_vector(told: &mut Vec<u8>, state: ExporterState) -> Made<()> {
     let done = read(&state, told);
     drop(state);
-    named?;
     done
 }
 
 fn lend_vector(alloc: Global, told: &mut Vec<u8>) -> Made<()> {
     let bytes = Vec::from_slice(alloc, b"abc")?;
     let (state, buffer) = PyBuffer::from_byte_vector(alloc, bytes)?;
-    tell_vector(told, state, buffer.number())
+    tell_vector(told, state)?;
+    tell_numbered(told, b'v', buffer.number())
 }
 
 #[test]
@@ -279,6 +277,6 @@ fn a_buffer_of_a_vector_lends_its_bytes(rt: HostRuntime) -> Result<(), Fail> {
     let alloc = rt.alloc();
     let mut told = Vec::new(alloc);
     lend_vector(alloc, &mut told)?;
-    assert_eq!(rt; told.as_slice(), b"v0 b'abc'".as_slice());
+    assert_eq!(rt; told.as_slice(), b"b'abc' v0".as_slice());
     Ok(())
 }

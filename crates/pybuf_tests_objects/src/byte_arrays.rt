@@ -3,124 +3,55 @@
 ghost use Rattle.std.specs.Prelude.{◌≡◌};
 ghost use Rattle.pybuf_command.specs.declared.kinds.ExporterKind.TheVariants as kinds;
 
-use crate::answers::{bytes, number, tell, tell_bytes, tell_count, tell_fault, tell_truth};
-use pybuf_bytes::{ByteInnerNewOptions, MethodCall, MethodName};
-use pybuf_command::{ExporterKind, LoanList};
+use crate::answers::{
+    bytes, bytes_reply, call_of, count_reply, number, tell, tell_word, truth_reply,
+};
+use pybuf_bytes::{ByteInnerNewOptions, MethodName};
+use pybuf_command::{ExporterKind, LoanList, LocalReply};
 use pybuf_object::{BufferResizeGuard, PyByteArray, PyByteArrayIterator};
-use pybuf_value::{CompareOp, Made, PySlice, Scalar, Value, ValueList};
+use pybuf_value::{CompareOp, Made, PySlice, Scalar, Value};
 use std::alloc::Global;
 use std::test::Fail;
 
-fn array_append(
-    object: &mut PyByteArray,
-    alloc: Global,
-    byte: i128,
-    told: &mut Vec<u8>,
-) -> Made<()> {
-    tell(told, object.append(number(byte), LoanList::new(alloc))?)
-}
-
-fn array_extend(
-    object: &mut PyByteArray,
-    alloc: Global,
-    source: &[u8],
-    told: &mut Vec<u8>,
-) -> Made<()> {
-    tell(
-        told,
-        object.extend(bytes(alloc, source)?, LoanList::new(alloc))?,
-    )
-}
-
-fn array_insert(
-    object: &mut PyByteArray,
-    alloc: Global,
-    index: i128,
-    byte: i128,
-    told: &mut Vec<u8>,
-) -> Made<()> {
-    tell(
-        told,
-        object.insert(number(index), number(byte), LoanList::new(alloc))?,
-    )
-}
-
-fn array_pop(object: &mut PyByteArray, alloc: Global, told: &mut Vec<u8>) -> Made<()> {
-    tell(told, object.pop(None, LoanList::new(alloc))?)
-}
-
-fn array_remove(
-    object: &mut PyByteArray,
-    alloc: Global,
-    byte: i128,
-    told: &mut Vec<u8>,
-) -> Made<()> {
-    tell(told, object.remove(number(byte), LoanList::new(alloc))?)
-}
-
-fn array_reverse(object: &mut PyByteArray, alloc: Global, told: &mut Vec<u8>) -> Made<()> {
-    tell(told, object.reverse(LoanList::new(alloc))?)
-}
-
-fn array_imul(
-    object: &mut PyByteArray,
-    alloc: Global,
-    count: i128,
-    told: &mut Vec<u8>,
-) -> Made<()> {
-    tell(told, object.imul(number(count), LoanList::new(alloc))?)
-}
-
-fn array_iadd(
-    object: &mut PyByteArray,
-    alloc: Global,
-    source: &[u8],
-    told: &mut Vec<u8>,
-) -> Made<()> {
-    tell(
-        told,
-        object.iadd(bytes(alloc, source)?, LoanList::new(alloc))?,
-    )
-}
-
-fn grow(object: &mut PyByteArray, alloc: Global, told: &mut Vec<u8>) -> Made<()> {
-    array_append(object, alloc, 100, told)?;
-    array_extend(object, alloc, b"ef", told)?;
-    array_insert(object, alloc, 0, 33, told)?;
-    tell_bytes(told, object.borrow_buf())?;
-    array_pop(object, alloc, told)?;
-    array_remove(object, alloc, 97, told)?;
-    array_reverse(object, alloc, told)?;
-    array_imul(object, alloc, 2, told)?;
-    array_iadd(object, alloc, b"?", told)
-}
-
-/// As `b = bytearray(b'abc')` of Python 3, edited by the same calls.
-#[test]
-fn a_bytearray_grows_and_shrinks(rt: HostRuntime) -> Result<(), Fail> {
-    let alloc = rt.alloc();
-    let mut object = PyByteArray::new_ref(alloc, Vec::from_slice(alloc, b"abc")?);
-    let mut told = Vec::new(alloc);
-    grow(&mut object, alloc, &mut told)?;
-    assert_eq!(rt;
-        told.as_slice(),
-        b"None None None b'!abcdef' 102 None None None None".as_slice()
-    );
-    assert_eq!(rt; object.borrow_buf(), b"edcb!edcb!?".as_slice());
-    Ok(())
-}
-
-fn array_setitem(
-    object: &mut PyByteArray,
-    alloc: Global,
-    index: i128,
-    byte: i128,
-    told: &mut Vec<u8>,
-) -> Made<()> {
-    tell(
-        told,
-        object.setitem(number(index), number(byte), LoanList::new(alloc))?,
-    )
+/// A call, named as the method. `Number` is asked of an iterator of that number, and the last four change the bytes or
+/// the views through what is lent.
+#[derive(Clone, Copy)]
+enum Call {
+    AsBuffer,
+    Append(i128),
+    BorrowBuf,
+    Clear,
+    Compare(CompareOp, &'static [u8]),
+    Contains(i128),
+    Copy,
+    DelItem(i128),
+    Exports,
+    Extend(&'static [u8]),
+    GetItem(i128),
+    Hash,
+    InPlaceAdd(&'static [u8]),
+    InPlaceMul(i128),
+    Init(&'static [u8]),
+    Insert(i128, i128),
+    Iter,
+    Len,
+    LengthHint,
+    Mul(i128),
+    Next,
+    Number(usize),
+    Pop,
+    Range(i128, i128),
+    Remove(i128),
+    Repr,
+    Reverse,
+    SetItem(i128, i128),
+    SetSlice(i128, i128, &'static [u8]),
+    SetState(i128),
+    ToBytes,
+    TurnRound,
+    AddByGuard(u8),
+    EmptyByGuard,
+    Release(usize),
 }
 
 fn part(start: i128, stop: i128) -> Value {
@@ -129,101 +60,6 @@ fn part(start: i128, stop: i128) -> Value {
         stop: Scalar::Int(stop),
         step: Scalar::None,
     })
-}
-
-fn array_setslice(
-    object: &mut PyByteArray,
-    alloc: Global,
-    value: Value,
-    told: &mut Vec<u8>,
-) -> Made<()> {
-    tell(
-        told,
-        object.setitem(part(1, 3), value, LoanList::new(alloc))?,
-    )
-}
-
-fn array_delitem(
-    object: &mut PyByteArray,
-    alloc: Global,
-    index: i128,
-    told: &mut Vec<u8>,
-) -> Made<()> {
-    tell(told, object.delitem(number(index), LoanList::new(alloc))?)
-}
-
-fn array_getitem(
-    object: &mut PyByteArray,
-    alloc: Global,
-    index: i128,
-    told: &mut Vec<u8>,
-) -> Made<()> {
-    tell(told, object.getitem(number(index), LoanList::new(alloc))?)
-}
-
-fn array_len(object: &mut PyByteArray, alloc: Global, told: &mut Vec<u8>) -> Made<()> {
-    tell(told, object.len(LoanList::new(alloc))?)
-}
-
-fn array_tobytes(object: &mut PyByteArray, alloc: Global, told: &mut Vec<u8>) -> Made<()> {
-    tell(told, object.tobytes(LoanList::new(alloc))?)
-}
-
-fn array_copy(object: &mut PyByteArray, alloc: Global, told: &mut Vec<u8>) -> Made<()> {
-    tell(told, object.copy(LoanList::new(alloc))?)
-}
-
-fn array_range(
-    object: &mut PyByteArray,
-    alloc: Global,
-    from: i128,
-    to: i128,
-    told: &mut Vec<u8>,
-) -> Made<()> {
-    tell(
-        told,
-        object.range(number(from), number(to), LoanList::new(alloc))?,
-    )
-}
-
-fn array_as_buffer(object: &mut PyByteArray, alloc: Global, told: &mut Vec<u8>) -> Made<()> {
-    tell(told, object.as_buffer(LoanList::new(alloc))?)
-}
-
-fn array_exports(object: &mut PyByteArray, alloc: Global, told: &mut Vec<u8>) -> Made<()> {
-    tell(told, object.exports(LoanList::new(alloc))?)
-}
-
-fn write(object: &mut PyByteArray, alloc: Global, told: &mut Vec<u8>) -> Made<()> {
-    array_setitem(object, alloc, 0, 65, told)?;
-    array_setslice(object, alloc, bytes(alloc, b"xyz")?, told)?;
-    array_delitem(object, alloc, -1, told)?;
-    array_getitem(object, alloc, 4, told)?;
-    array_len(object, alloc, told)?;
-    array_tobytes(object, alloc, told)?;
-    array_copy(object, alloc, told)?;
-    array_range(object, alloc, 1, 3, told)?;
-    array_as_buffer(object, alloc, told)?;
-    array_exports(object, alloc, told)
-}
-
-/// As `b = bytearray(b'edcb!?')` of Python 3, with `b[0] = 65`, `b[1:3] = b'xyz'`, `del b[-1]`, `b[4]`, `len(b)`,
-/// `bytes(b)` and `b.copy()`.
-#[test]
-fn a_bytearray_is_read_and_written(rt: HostRuntime) -> Result<(), Fail> {
-    let alloc = rt.alloc();
-    let mut object = PyByteArray::new_ref(alloc, Vec::from_slice(alloc, b"edcb!?")?);
-    let mut told = Vec::new(alloc);
-    write(&mut object, alloc, &mut told)?;
-    assert_eq!(rt;
-        told.as_slice(),
-        b"None None None 98 6 b'Axyzb!' b'Axyzb!' v0 v1 2".as_slice()
-    );
-    Ok(())
-}
-
-fn array_clear(object: &mut PyByteArray, alloc: Global, told: &mut Vec<u8>) -> Made<()> {
-    tell(told, object.clear(LoanList::new(alloc))?)
 }
 
 /// What bytes are made of: a source alone.
@@ -235,44 +71,13 @@ fn source_alone(alloc: Global, source: &[u8]) -> Made<ByteInnerNewOptions> {
     })
 }
 
-fn array_init(
-    object: &mut PyByteArray,
-    alloc: Global,
-    options: ByteInnerNewOptions,
-    told: &mut Vec<u8>,
-) -> Made<()> {
-    tell(told, object.init(options, LoanList::new(alloc))?)
-}
-
-/// Turns the bytes round where they lie.
+/// Whether the bytes were turned round where they lie.
 fn is_turned(object: &mut PyByteArray) -> bool {
     if object.state().kind() != ExporterKind::ByteArray {
         return false;
     }
     object.borrow_buf_mut().reverse();
     true
-}
-
-fn fill(object: &mut PyByteArray, alloc: Global, told: &mut Vec<u8>) -> Made<()> {
-    array_clear(object, alloc, told)?;
-    tell_bytes(told, object.borrow_buf())?;
-    array_init(object, alloc, source_alone(alloc, b"hi")?, told)?;
-    tell_bytes(told, object.borrow_buf())?;
-    tell_truth(told, is_turned(object))?;
-    tell_bytes(told, object.borrow_buf())
-}
-
-#[test]
-fn a_bytearray_is_emptied_and_filled(rt: HostRuntime) -> Result<(), Fail> {
-    let alloc = rt.alloc();
-    let mut object = PyByteArray::new_ref(alloc, Vec::from_slice(alloc, b"abc")?);
-    let mut told = Vec::new(alloc);
-    fill(&mut object, alloc, &mut told)?;
-    assert_eq!(rt;
-        told.as_slice(),
-        b"None b'' None b'hi' True b'ih'".as_slice()
-    );
-    Ok(())
 }
 
 /// Adds a byte where that is possible.
@@ -317,155 +122,183 @@ fn is_cleared(object: &mut PyByteArray) -> bool {
     is_emptied(object)
 }
 
-fn release(object: &mut PyByteArray, view: usize, told: &mut Vec<u8>) -> Made<()> {
+fn release(object: &mut PyByteArray, view: usize) -> Made<LocalReply> {
     match object.state_mut().release_view(view) {
-        Ok(()) => Ok(()),
-        Err(fault) => tell_fault(told, fault),
+        Ok(()) => Ok(LocalReply::Ok),
+        Err(fault) => Ok(LocalReply::Refused(fault)),
     }
 }
 
-fn resize(object: &mut PyByteArray, alloc: Global, told: &mut Vec<u8>) -> Made<()> {
-    tell_truth(told, is_grown(object, 100)?)?;
-    array_as_buffer(object, alloc, told)?;
-    array_append(object, alloc, 101, told)?;
-    tell_truth(told, is_grown(object, 101)?)?;
-    tell_truth(told, is_cleared(object))?;
-    release(object, 0, told)?;
-    tell_bytes(told, object.borrow_buf())?;
-    tell_truth(told, is_cleared(object))?;
-    tell_bytes(told, object.borrow_buf())
+/// What a call answers of the object, or of its iterator 0.
+fn answer(object: &mut PyByteArray, alloc: Global, call: Call) -> Made<LocalReply> {
+    match call {
+        Call::AsBuffer => object.as_buffer(LoanList::new(alloc)),
+        Call::Append(byte) => object.append(number(byte), LoanList::new(alloc)),
+        Call::BorrowBuf => bytes_reply(alloc, object.borrow_buf()),
+        Call::Clear => object.clear(LoanList::new(alloc)),
+        Call::Compare(op, other) => object.cmp(op, bytes(alloc, other)?, LoanList::new(alloc)),
+        Call::Contains(byte) => object.contains(number(byte), LoanList::new(alloc)),
+        Call::Copy => object.copy(LoanList::new(alloc)),
+        Call::DelItem(index) => object.delitem(number(index), LoanList::new(alloc)),
+        Call::Exports => object.exports(LoanList::new(alloc)),
+        Call::Extend(source) => object.extend(bytes(alloc, source)?, LoanList::new(alloc)),
+        Call::GetItem(index) => object.getitem(number(index), LoanList::new(alloc)),
+        Call::Hash => object.hash(LoanList::new(alloc)),
+        Call::InPlaceAdd(source) => object.iadd(bytes(alloc, source)?, LoanList::new(alloc)),
+        Call::InPlaceMul(count) => object.imul(number(count), LoanList::new(alloc)),
+        Call::Init(source) => object.init(source_alone(alloc, source)?, LoanList::new(alloc)),
+        Call::Insert(index, byte) => {
+            object.insert(number(index), number(byte), LoanList::new(alloc))
+        }
+        Call::Iter => object.iter(LoanList::new(alloc)),
+        Call::Len => object.len(LoanList::new(alloc)),
+        Call::LengthHint => PyByteArrayIterator::of(0).length_hint(alloc, object.state_mut()),
+        Call::Mul(count) => {
+            let method = call_of(alloc, MethodName::Mul, number(count))?;
+            object.call(method, LoanList::new(alloc))
+        }
+        Call::Next => PyByteArrayIterator::of(0).next(alloc, object.state_mut()),
+        Call::Number(iterator) => count_reply(PyByteArrayIterator::of(iterator).number()),
+        Call::Pop => object.pop(None, LoanList::new(alloc)),
+        Call::Range(from, to) => object.range(number(from), number(to), LoanList::new(alloc)),
+        Call::Remove(byte) => object.remove(number(byte), LoanList::new(alloc)),
+        Call::Repr => object.repr_str(LoanList::new(alloc)),
+        Call::Reverse => object.reverse(LoanList::new(alloc)),
+        Call::SetItem(index, byte) => {
+            object.setitem(number(index), number(byte), LoanList::new(alloc))
+        }
+        Call::SetSlice(start, stop, source) => {
+            let source = bytes(alloc, source)?;
+            object.setitem(part(start, stop), source, LoanList::new(alloc))
+        }
+        Call::SetState(place) => {
+            let iterator = PyByteArrayIterator::of(0);
+            iterator.setstate(object.state_mut(), number(place), LoanList::new(alloc))
+        }
+        Call::ToBytes => object.tobytes(LoanList::new(alloc)),
+        Call::TurnRound => truth_reply(is_turned(object)),
+        Call::AddByGuard(byte) => truth_reply(is_grown(object, byte)?),
+        Call::EmptyByGuard => truth_reply(is_cleared(object)),
+        Call::Release(view) => release(object, view),
+    }
 }
 
-/// As a `bytearray` of Python 3 refuses to be resized while a view of it is unreleased, and no longer.
+/// Tells what the calls answer, and what they should.
+fn carry_out(
+    object: &mut PyByteArray,
+    alloc: Global,
+    rows: &[(Call, &str)],
+    told: &mut Vec<u8>,
+    wanted: &mut Vec<u8>,
+) -> Made<()> {
+    for (call, word) in rows {
+        tell(told, answer(object, alloc, *call)?)?;
+        tell_word(wanted, word.as_bytes())?;
+    }
+    Ok(())
+}
+
+/// As `b = bytearray(b'abc')` of Python 3. What changes it answers None.
+const EDITS: [(Call, &str); 20] = [
+    (Call::Append(100), "None"),
+    (Call::Extend(b"ef"), "None"),
+    (Call::Insert(0, 33), "None"),
+    (Call::BorrowBuf, "b'!abcdef'"),
+    (Call::Pop, "102"),
+    (Call::Remove(97), "None"),
+    (Call::Reverse, "None"),
+    (Call::BorrowBuf, "b'edcb!'"),
+    (Call::InPlaceAdd(b"?"), "None"),
+    (Call::SetItem(0, 65), "None"),
+    (Call::SetSlice(1, 3, b"xyz"), "None"),
+    (Call::DelItem(-1), "None"),
+    (Call::BorrowBuf, "b'Axyzb!'"),
+    (Call::InPlaceMul(2), "None"),
+    (Call::BorrowBuf, "b'Axyzb!Axyzb!'"),
+    (Call::Clear, "None"),
+    (Call::BorrowBuf, "b''"),
+    (Call::Init(b"hi"), "None"),
+    (Call::TurnRound, "True"),
+    (Call::BorrowBuf, "b'ih'"),
+];
+
+#[test]
+fn a_bytearray_is_edited(rt: HostRuntime) -> Result<(), Fail> {
+    let alloc = rt.alloc();
+    let mut object = PyByteArray::new_ref(alloc, Vec::from_slice(alloc, b"abc")?);
+    let (mut told, mut wanted) = (Vec::new(alloc), Vec::new(alloc));
+    carry_out(&mut object, alloc, &EDITS, &mut told, &mut wanted)?;
+    assert_eq!(rt; told.as_slice(), wanted.as_slice());
+    Ok(())
+}
+
+/// As `b = bytearray(b'abcab')` of Python 3. A view is told by its number, and a copy by its bytes.
+const ANSWERED: [(Call, &str); 12] = [
+    (Call::GetItem(-1), "98"),
+    (Call::Len, "5"),
+    (Call::ToBytes, "b'abcab'"),
+    (Call::Copy, "b'abcab'"),
+    (Call::Compare(CompareOp::Ne, b"abcab"), "False"),
+    (Call::Hash, "TypeError"),
+    (Call::Repr, "bytearray(b'abcab')"),
+    (Call::Contains(99), "True"),
+    (Call::Mul(2), "b'abcababcab'"),
+    (Call::Range(1, 3), "v0"),
+    (Call::AsBuffer, "v1"),
+    (Call::Exports, "2"),
+];
+
+#[test]
+fn a_bytearray_is_read_compared_and_searched(rt: HostRuntime) -> Result<(), Fail> {
+    let alloc = rt.alloc();
+    let mut object = PyByteArray::new_ref(alloc, Vec::from_slice(alloc, b"abcab")?);
+    let (mut told, mut wanted) = (Vec::new(alloc), Vec::new(alloc));
+    carry_out(&mut object, alloc, &ANSWERED, &mut told, &mut wanted)?;
+    assert_eq!(rt; told.as_slice(), wanted.as_slice());
+    Ok(())
+}
+
+/// As `b = bytearray(b'abc')` of Python 3, which isn't resized while a view of it is unreleased.
+const RESIZED: [(Call, &str); 9] = [
+    (Call::AddByGuard(100), "True"),
+    (Call::AsBuffer, "v0"),
+    (Call::Append(101), "BufferError"),
+    (Call::AddByGuard(101), "False"),
+    (Call::EmptyByGuard, "False"),
+    (Call::Release(0), "None"),
+    (Call::BorrowBuf, "b'abcd'"),
+    (Call::EmptyByGuard, "True"),
+    (Call::BorrowBuf, "b''"),
+];
+
 #[test]
 fn a_bytearray_is_resized_once_its_views_are_released(rt: HostRuntime) -> Result<(), Fail> {
     let alloc = rt.alloc();
     let mut object = PyByteArray::new_ref(alloc, Vec::from_slice(alloc, b"abc")?);
-    let mut told = Vec::new(alloc);
-    resize(&mut object, alloc, &mut told)?;
-    assert_eq!(rt;
-        told.as_slice(),
-        b"True v0 BufferError False False b'abcd' True b''".as_slice()
-    );
+    let (mut told, mut wanted) = (Vec::new(alloc), Vec::new(alloc));
+    carry_out(&mut object, alloc, &RESIZED, &mut told, &mut wanted)?;
+    assert_eq!(rt; told.as_slice(), wanted.as_slice());
     Ok(())
 }
 
-fn array_cmp(
-    object: &mut PyByteArray,
-    alloc: Global,
-    op: CompareOp,
-    other: &[u8],
-    told: &mut Vec<u8>,
-) -> Made<()> {
-    tell(
-        told,
-        object.cmp(op, bytes(alloc, other)?, LoanList::new(alloc))?,
-    )
-}
-
-fn array_hash(object: &mut PyByteArray, alloc: Global, told: &mut Vec<u8>) -> Made<()> {
-    tell(told, object.hash(LoanList::new(alloc))?)
-}
-
-fn array_repr(object: &mut PyByteArray, alloc: Global, told: &mut Vec<u8>) -> Made<()> {
-    tell(told, object.repr_str(LoanList::new(alloc))?)
-}
-
-fn array_contains(
-    object: &mut PyByteArray,
-    alloc: Global,
-    byte: i128,
-    told: &mut Vec<u8>,
-) -> Made<()> {
-    tell(told, object.contains(number(byte), LoanList::new(alloc))?)
-}
-
-/// A call of a method with one argument.
-fn call_of(alloc: Global, name: MethodName, value: Value) -> Made<MethodCall> {
-    let mut args = ValueList::new(alloc);
-    args.push(value)?;
-    Ok(MethodCall { name, args })
-}
-
-fn array_mul(object: &mut PyByteArray, alloc: Global, count: i128, told: &mut Vec<u8>) -> Made<()> {
-    let method = call_of(alloc, MethodName::Mul, number(count))?;
-    tell(told, object.call(method, LoanList::new(alloc))?)
-}
-
-fn ask(object: &mut PyByteArray, alloc: Global, told: &mut Vec<u8>) -> Made<()> {
-    array_cmp(object, alloc, CompareOp::Ne, b"abcab", told)?;
-    array_hash(object, alloc, told)?;
-    array_repr(object, alloc, told)?;
-    array_contains(object, alloc, 99, told)?;
-    array_mul(object, alloc, 2, told)
-}
-
-/// As `b = bytearray(b'abcab')` of Python 3: `b != b'abcab'`, `hash(b)`, `repr(b)`, `99 in b` and the bytes of
-/// `b * 2`.
-#[test]
-fn a_bytearray_is_compared_shown_and_searched(rt: HostRuntime) -> Result<(), Fail> {
-    let alloc = rt.alloc();
-    let mut object = PyByteArray::new_ref(alloc, Vec::from_slice(alloc, b"abcab")?);
-    let mut told = Vec::new(alloc);
-    ask(&mut object, alloc, &mut told)?;
-    assert_eq!(rt;
-        told.as_slice(),
-        b"False TypeError bytearray(b'abcab') True b'abcababcab'".as_slice()
-    );
-    Ok(())
-}
-
-fn array_iter(object: &mut PyByteArray, alloc: Global, told: &mut Vec<u8>) -> Made<()> {
-    tell(told, object.iter(LoanList::new(alloc))?)
-}
-
-fn array_next(object: &mut PyByteArray, alloc: Global, told: &mut Vec<u8>) -> Made<()> {
-    tell(
-        told,
-        PyByteArrayIterator::of(0).next(alloc, object.state_mut())?,
-    )
-}
-
-fn array_hint(object: &mut PyByteArray, alloc: Global, told: &mut Vec<u8>) -> Made<()> {
-    tell(
-        told,
-        PyByteArrayIterator::of(0).length_hint(alloc, object.state_mut())?,
-    )
-}
-
-fn array_setstate(
-    object: &mut PyByteArray,
-    alloc: Global,
-    place: i128,
-    told: &mut Vec<u8>,
-) -> Made<()> {
-    let iterator = PyByteArrayIterator::of(0);
-    tell(
-        told,
-        iterator.setstate(object.state_mut(), number(place), LoanList::new(alloc))?,
-    )
-}
-
-fn iterate(object: &mut PyByteArray, alloc: Global, told: &mut Vec<u8>) -> Made<()> {
-    array_iter(object, alloc, told)?;
-    array_setstate(object, alloc, 1, told)?;
-    array_append(object, alloc, 99, told)?;
-    array_hint(object, alloc, told)?;
-    array_next(object, alloc, told)?;
-    array_next(object, alloc, told)?;
-    array_next(object, alloc, told)?;
-    tell_count(told, PyByteArrayIterator::of(3).number())
-}
+/// As `i = iter(b)` of Python 3, where `b = bytearray(b'ab')` grows between two items.
+const ITEMS: [(Call, &str); 8] = [
+    (Call::Iter, "i0"),
+    (Call::SetState(1), "None"),
+    (Call::Append(99), "None"),
+    (Call::LengthHint, "2"),
+    (Call::Next, "98"),
+    (Call::Next, "99"),
+    (Call::Next, "StopIteration"),
+    (Call::Number(3), "3"),
+];
 
 #[test]
 fn a_bytearray_is_iterated_while_it_grows(rt: HostRuntime) -> Result<(), Fail> {
     let alloc = rt.alloc();
     let mut object = PyByteArray::new_ref(alloc, Vec::from_slice(alloc, b"ab")?);
-    let mut told = Vec::new(alloc);
-    iterate(&mut object, alloc, &mut told)?;
-    assert_eq!(rt;
-        told.as_slice(),
-        b"i0 None None 2 98 99 StopIteration 3".as_slice()
-    );
+    let (mut told, mut wanted) = (Vec::new(alloc), Vec::new(alloc));
+    carry_out(&mut object, alloc, &ITEMS, &mut told, &mut wanted)?;
+    assert_eq!(rt; told.as_slice(), wanted.as_slice());
     Ok(())
 }

@@ -1,4 +1,5 @@
-//! The calls of `VecBuffer`: a line of the program makes an exporter of a vector, and takes no vector back.
+//! The calls of `VecBuffer`: a line of the program makes a vector and takes its bytes by commands on a world, and none
+//! calls these.
 use crate::answers::{tell_bytes, tell_count, tell_fault, tell_numbered, tell_word};
 use pybuf_buffer::PyBuffer;
 use pybuf_command::ExporterKind;

@@ -1,6 +1,8 @@
 //! The calls of a world that no line of the program makes: `run`, `release`, `handle_count` and `exporters`. The
 //! program carries out a command at a time.
-use crate::answers::{bytes, tell_bytes, tell_count, tell_fault, tell_scalar, tell_word};
+use crate::answers::{
+    bytes, tell_bytes, tell_count, tell_fault, tell_number, tell_scalar, tell_word,
+};
 use pybuf_bytes::ByteInnerNewOptions;
 use pybuf_command::{ExporterKind, Verb};
 use pybuf_value::{Fault, Items, Made, Scalar, Value};
@@ -63,12 +65,20 @@ fn run(world: &mut World, commands: &[Command], alloc: Global, told: &mut Vec<u8
     done
 }
 
+fn push_and_run(
+    world: &mut World,
+    commands: &mut Items<Command>,
+    alloc: Global,
+    told: &mut Vec<u8>,
+) -> Made<()> {
+    push_commands(commands, alloc)?;
+    run(world, commands.as_slice(), alloc, told)
+}
+
 fn run_commands(world: &mut World, alloc: Global, told: &mut Vec<u8>) -> Made<()> {
     let mut commands = Items::new(alloc);
-    let pushed = push_commands(&mut commands, alloc);
-    let done = run(world, commands.as_slice(), alloc, told);
+    let done = push_and_run(world, &mut commands, alloc, told);
     drop(commands);
-    pushed?;
     done
 }
 
@@ -100,6 +110,7 @@ fn look(world: &World, told: &mut Vec<u8>) -> Made<()> {
 
 fn run_and_release(world: &mut World, alloc: Global, told: &mut Vec<u8>) -> Made<()> {
     run_commands(world, alloc, told)?;
+    tell_number(told, world.handle_count() as i128)?;
     look(world, told)?;
     release(world, told)?;
     look(world, told)
@@ -113,8 +124,7 @@ fn a_world_runs_and_releases(rt: HostRuntime) -> Result<(), Fail> {
     run_and_release(&mut world, alloc, &mut told)?;
     assert_eq!(rt;
         told.as_slice(),
-        b"h0 h1 UnknownName BufferError h2 1 b'abc' 2 UnknownName None None UnknownName 1 b'abc' 1".as_slice()
+        b"h0 h1 UnknownName BufferError h2 3 1 b'abc' 2 UnknownName None None UnknownName 1 b'abc' 1".as_slice()
     );
-    assert_eq!(rt; world.handle_count(), 3);
     Ok(())
 }
