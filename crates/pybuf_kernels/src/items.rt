@@ -1,6 +1,6 @@
 //! Items one by one: of views, by their formats, and of a bytearray that grows and shrinks.
 
-use crate::answers::{Answer, mark_of_bytes};
+use crate::answers::Answer;
 use crate::data::drawn;
 use crate::kernel::Kernel;
 use crate::keys::number;
@@ -72,13 +72,6 @@ impl Form {
     }
 }
 
-/// `view[k]` for each item.
-#[derive(Drop)]
-pub struct GetItems {
-    viewed: Viewed,
-    count: usize,
-}
-
 /// What one item counts.
 fn get(alloc: Global, viewed: &mut Viewed, place: usize) -> Made<i128> {
     let state = viewed.object.state_mut();
@@ -87,31 +80,13 @@ fn get(alloc: Global, viewed: &mut Viewed, place: usize) -> Made<i128> {
     Ok(count_of_item(&reply))
 }
 
-impl GetItems {
-    /// Of drawn items.
-    pub fn of(alloc: Global, plan: Plan, form: Form) -> Made<GetItems> {
-        let viewed = form.viewed(alloc, plan)?;
-        let count = plan.count;
-        Ok(GetItems { viewed, count })
+/// `view[k]` for each item.
+pub fn get_all(alloc: Global, viewed: &mut Viewed, count: usize) -> Made<Answer> {
+    let mut sum = 0i128;
+    for place in 0..count {
+        sum = sum.wrapping_add(get(alloc, viewed, place)?);
     }
-}
-
-impl Kernel for GetItems {
-    fn call(&mut self, alloc: Global) -> Made<Answer> {
-        let mut sum = 0i128;
-        for place in 0..self.count {
-            sum = sum.wrapping_add(get(alloc, &mut self.viewed, place)?);
-        }
-        Ok(Answer::Number(sum))
-    }
-}
-
-/// `view[k] = k % limit` for each item.
-#[derive(Drop)]
-pub struct SetItems {
-    viewed: Viewed,
-    limit: usize,
-    count: usize,
+    Ok(Answer::Number(sum))
 }
 
 /// Writes one item. The answer is whether it wasn't refused.
@@ -123,36 +98,14 @@ fn set(alloc: Global, viewed: &mut Viewed, place: usize, limit: usize) -> Made<b
     Ok(matches!(reply, LocalReply::Ok))
 }
 
-impl SetItems {
-    /// Over drawn items.
-    pub fn of(alloc: Global, plan: Plan, form: Form) -> Made<SetItems> {
-        let limit = match form {
-            Form::Byte => 251,
-            _ => 1_000_003,
-        };
-        let viewed = form.viewed(alloc, plan)?;
-        let count = plan.count;
-        Ok(SetItems {
-            viewed,
-            limit,
-            count,
-        })
-    }
-}
-
-impl Kernel for SetItems {
-    fn call(&mut self, alloc: Global) -> Made<Answer> {
-        for place in 0..self.count {
-            if !set(alloc, &mut self.viewed, place, self.limit)? {
-                return Ok(Answer::Refused);
-            }
+/// `view[k] = k % limit` for each item.
+pub fn set_all(alloc: Global, viewed: &mut Viewed, count: usize, limit: usize) -> Made<Answer> {
+    for place in 0..count {
+        if !set(alloc, viewed, place, limit)? {
+            return Ok(Answer::Refused);
         }
-        Ok(Answer::Nothing)
     }
-
-    fn written(&self) -> i128 {
-        mark_of_bytes(self.viewed.object.borrow_buf())
-    }
+    Ok(Answer::Nothing)
 }
 
 /// So many bytes appended to an empty bytearray, and popped again.

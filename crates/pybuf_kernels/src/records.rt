@@ -16,7 +16,7 @@ const RECORD: usize = 16;
 
 /// What is done with each record.
 #[derive(Clone, Copy)]
-pub enum Doing {
+pub enum Packing {
     /// `struct.unpack`.
     Unpack,
     /// `struct.pack_into`, over bytes that are lent once.
@@ -31,7 +31,7 @@ pub struct Records {
     format: Option<FormatSpec>,
     viewed: Viewed,
     count: usize,
-    doing: Doing,
+    packing: Packing,
 }
 
 /// The values of the record of a number.
@@ -127,7 +127,7 @@ fn set_all(
 
 impl Records {
     /// So many drawn records.
-    pub fn of(alloc: Global, plan: Plan, doing: Doing) -> Made<Records> {
+    pub fn of(alloc: Global, plan: Plan, packing: Packing) -> Made<Records> {
         let format = match FormatSpec::parse(alloc, b"<4sHHII")? {
             Outcome::Done(format) => Some(format),
             Outcome::Refused(_) => None,
@@ -136,7 +136,7 @@ impl Records {
             format,
             viewed: Form::Record.viewed(alloc, plan)?,
             count: plan.count,
-            doing,
+            packing,
         })
     }
 }
@@ -148,13 +148,13 @@ impl Kernel for Records {
         };
         let buffer = PyBuffer::of(self.viewed.view.number());
         let object = &mut self.viewed.object;
-        match self.doing {
-            Doing::Unpack => unpack_all(alloc, format, object.borrow_buf()),
-            Doing::PackInto => match bytes_of(object.state_mut(), &buffer) {
+        match self.packing {
+            Packing::Unpack => unpack_all(alloc, format, object.borrow_buf()),
+            Packing::PackInto => match bytes_of(object.state_mut(), &buffer) {
                 Some(bytes) => pack_all(alloc, format, bytes),
                 None => Ok(Answer::Refused),
             },
-            Doing::Set => set_all(alloc, object.state_mut(), &buffer, format, self.count),
+            Packing::Set => set_all(alloc, object.state_mut(), &buffer, format, self.count),
         }
     }
 

@@ -13,22 +13,9 @@ use pybuf_bytes::{
 use pybuf_value::{ByteList, ByteLists, Made, Outcome, Scalar, SnapList, Value};
 use std::alloc::Global;
 
-/// A method that is called on the bytes alone.
-#[derive(Clone, Copy)]
-pub enum Bare {
-    SplitAtCommas,
-    SplitAtBlanks,
-    SplitLines,
-    Upper,
-    Strip,
-    Hex,
-    FromHex,
-}
-
 /// A method, and what it is called with.
 #[derive(Clone, Copy)]
 pub enum Method {
-    Bare(Bare),
     Find(&'static [u8]),
     /// `find` of the last 1,000 bytes.
     FindEnd,
@@ -39,12 +26,19 @@ pub enum Method {
     Replace(&'static [u8]),
     /// `translate` by the table that maps each byte to what is missing of it to 255.
     Translate,
+    SplitAtCommas,
+    SplitAtBlanks,
+    SplitLines,
+    Upper,
+    Strip,
+    Hex,
+    FromHex,
 }
 
 /// A method with all that it is called with beside the bytes.
 #[derive(Drop)]
 enum Ready {
-    Bare(Bare),
+    Bare(Method),
     Find(PyBytesInner),
     Count(PyBytesInner),
     Join(PyBytesInner, ByteLists),
@@ -151,9 +145,9 @@ fn drawn_digits(alloc: Global, plan: Plan) -> Made<Vec<u8>> {
 /// The bytes that a method is called on: a drawn text, drawn bytes, their digits, or bytes between blanks.
 fn bytes_for(alloc: Global, plan: Plan, method: Method) -> Made<Vec<u8>> {
     match method {
-        Method::Bare(Bare::Strip) => padded(alloc, plan.size),
-        Method::Bare(Bare::Hex) => drawn(alloc, plan.seed, plan.size),
-        Method::Bare(Bare::FromHex) => drawn_digits(alloc, plan),
+        Method::Strip => padded(alloc, plan.size),
+        Method::Hex => drawn(alloc, plan.seed, plan.size),
+        Method::FromHex => drawn_digits(alloc, plan),
         _ => drawn_text(alloc, plan.seed, plan.size),
     }
 }
@@ -162,7 +156,6 @@ impl Ready {
     /// A method with what it is called with beside a text.
     fn of(alloc: Global, method: Method, text: &PyBytesInner) -> Made<Ready> {
         match method {
-            Method::Bare(bare) => Ok(Ready::Bare(bare)),
             Method::Find(needle) => Ok(Ready::Find(inner(alloc, needle)?)),
             Method::FindEnd => Ok(Ready::Find(end_of(alloc, text)?)),
             Method::Count(needle) => Ok(Ready::Count(inner(alloc, needle)?)),
@@ -175,6 +168,7 @@ impl Ready {
                 Ok(Ready::Replace(from, inner(alloc, to)?))
             }
             Method::Translate => Ok(Ready::Translate(table(alloc)?)),
+            bare => Ok(Ready::Bare(bare)),
         }
     }
 }
@@ -188,19 +182,20 @@ impl Call {
     }
 }
 
-/// Calls a method on the bytes alone.
-fn call_bare(alloc: Global, method: Bare, text: &PyBytesInner) -> Made<Answer> {
+/// Calls a method on the bytes alone. Those that are called with more are no such methods.
+fn call_bare(alloc: Global, method: Method, text: &PyBytesInner) -> Made<Answer> {
     match method {
-        Bare::SplitAtCommas => split(alloc, text, Some(inner(alloc, b",")?)),
-        Bare::SplitAtBlanks => split(alloc, text, None),
-        Bare::SplitLines => {
+        Method::SplitAtCommas => split(alloc, text, Some(inner(alloc, b",")?)),
+        Method::SplitAtBlanks => split(alloc, text, None),
+        Method::SplitLines => {
             let lines = text.splitlines(alloc, SplitLinesArgs { keepends: false })?;
             Ok(Answer::Parts(lines))
         }
-        Bare::Upper => Ok(Answer::Bytes(text.upper(alloc)?)),
-        Bare::Strip => Ok(Answer::Bytes(text.strip(alloc, None)?)),
-        Bare::Hex => hex(alloc, text),
-        Bare::FromHex => Answer::of_bytes(PyBytesInner::fromhex(alloc, text.as_bytes())),
+        Method::Upper => Ok(Answer::Bytes(text.upper(alloc)?)),
+        Method::Strip => Ok(Answer::Bytes(text.strip(alloc, None)?)),
+        Method::Hex => hex(alloc, text),
+        Method::FromHex => Answer::of_bytes(PyBytesInner::fromhex(alloc, text.as_bytes())),
+        _ => Ok(Answer::Refused),
     }
 }
 

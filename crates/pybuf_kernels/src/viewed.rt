@@ -26,6 +26,26 @@ pub enum Part {
     Planes,
 }
 
+impl Part {
+    /// The size of a bytearray of which the view has as many bytes as the plan says.
+    pub fn source_size(self, plan: Plan) -> usize {
+        match self {
+            Part::Whole | Part::Backwards => plan.size,
+            Part::EveryOther | Part::Planes => plan.size.saturating_mul(2),
+        }
+    }
+
+    /// The slice that makes the view, of all bytes or of all planes.
+    pub fn key(self) -> Value {
+        let step = match self {
+            Part::Whole => 1,
+            Part::Backwards => -1,
+            Part::EveryOther | Part::Planes => 2,
+        };
+        slice(None, None, Some(step))
+    }
+}
+
 /// A bytearray, and one of its views.
 #[derive(Drop)]
 pub struct Viewed {
@@ -91,17 +111,12 @@ impl Viewed {
 
     /// A part of drawn bytes that has so many as the plan says.
     pub fn part(alloc: Global, plan: Plan, part: Part) -> Made<Viewed> {
-        let (times, step) = match part {
-            Part::Whole => (1, 1),
-            Part::Backwards => (1, -1),
-            Part::EveryOther | Part::Planes => (2, 2),
-        };
-        let size = plan.size.saturating_mul(times);
+        let size = part.source_size(plan);
         let mut viewed = Viewed::whole(alloc, drawn(alloc, plan.seed, size)?)?;
         if let Part::Planes = part {
             viewed.cast_to_planes(alloc, size)?;
         }
-        viewed.view = viewed.sliced(alloc, slice(None, None, Some(step)))?;
+        viewed.view = viewed.sliced(alloc, part.key())?;
         Ok(viewed)
     }
 }

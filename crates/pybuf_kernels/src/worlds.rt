@@ -5,25 +5,18 @@ use crate::data::{drawn, drawn_text};
 use crate::kernel::Kernel;
 use crate::keys::{handle, number, slice, text};
 use crate::plan::Plan;
-use crate::viewed::planes_of;
+use crate::viewed::{Part, planes_of};
 use pybuf_bytes::{ByteInnerNewOptions, MethodCall, MethodName};
 use pybuf_command::{ExporterKind, Verb};
 use pybuf_value::{ByteList, CompareOp, Item, Made, Scalar, Value, ValueList};
 use pybuf_world::{Command, Reply, World};
 use std::alloc::Global;
 
-/// What is asked of two bytearrays, or of their views. A slice of a view takes one dimension alone, so planes
-/// are assigned to a slice of a bytearray.
+/// What is asked of two bytearrays, or of their views.
 #[derive(Clone, Copy)]
 pub enum Question {
-    /// A slice of the first, set to all bytes of the second.
-    SetWhole,
-    /// Every other byte, set to every other.
-    SetEveryOther,
-    /// A slice, set to all bytes from the last on.
-    SetBackwards,
-    /// A slice, set to every other plane.
-    SetPlanes,
+    /// A slice of the first, set to a part of the second.
+    Set(Part),
     /// Whether a view of the first equals a view of the second.
     Compare,
     /// Where the bytes of the second stand in the first.
@@ -86,29 +79,8 @@ fn call(alloc: Global, name: MethodName) -> Made<Command> {
     Ok(ask(0, Verb::Call { method }))
 }
 
-/// The bytes of the first bytearray.
-fn first_bytes(alloc: Global, plan: Plan, question: Question) -> Made<Vec<u8>> {
-    let size = match question {
-        Question::SetWhole | Question::SetBackwards | Question::SetPlanes => plan.size,
-        Question::SetEveryOther => plan.size.saturating_mul(2),
-        _ => return drawn_text(alloc, plan.seed, plan.size),
-    };
-    Ok(vec![in alloc; 0u8; size]?)
-}
-
-/// The bytes of the second, which are those of the first where nothing is assigned.
-fn second_bytes(alloc: Global, plan: Plan, question: Question) -> Made<Vec<u8>> {
-    let size = match question {
-        Question::SetWhole | Question::SetBackwards => plan.size,
-        Question::SetEveryOther | Question::SetPlanes => plan.size.saturating_mul(2),
-        _ => return drawn_text(alloc, plan.seed, plan.size),
-    };
-    drawn(alloc, plan.seed, size)
-}
-
-/// Makes a handle of the items that `::step` picks of what a handle names.
-fn pick(world: &mut World, subject: u64, step: i128) -> Made<()> {
-    let key = slice(None, None, Some(step));
+/// Makes a handle of the items that a slice picks of what a handle names.
+fn pick(world: &mut World, subject: u64, key: Value) -> Made<()> {
     prepare(world, ask(subject, Verb::Get { key }))
 }
 
@@ -119,40 +91,55 @@ fn cast_to_planes(alloc: Global, world: &mut World, size: usize) -> Made<()> {
     prepare(world, ask(3, Verb::Cast { format, shape }))
 }
 
-/// Makes handle 4, and 5 for planes, of what is to be assigned.
-fn make_source(alloc: Global, world: &mut World, plan: Plan, question: Question) -> Made<()> {
-    match question {
-        Question::SetEveryOther => pick(world, 3, 2),
-        Question::SetBackwards => pick(world, 3, -1),
-        Question::SetPlanes => {
-            cast_to_planes(alloc, world, plan.size.saturating_mul(2))?;
-            pick(world, 4, 2)
+/// Makes the part of handle 3 that is assigned: handle 4, or 5 where it is one of planes.
+fn make_part(alloc: Global, world: &mut World, plan: Plan, part: Part) -> Made<()> {
+    match part {
+        Part::Whole => Ok(()),
+        Part::EveryOther | Part::Backwards => pick(world, 3, part.key()),
+        Part::Planes => {
+            cast_to_planes(alloc, world, part.source_size(plan))?;
+            pick(world, 4, part.key())
         }
-        _ => Ok(()),
     }
 }
 
-/// Makes all handles.
+/// Makes all handles. What is assigned is drawn, and else the bytes of both are the same text.
 fn make_all(alloc: Global, world: &mut World, plan: Plan, question: Question) -> Made<()> {
-    make(world, 0, first_bytes(alloc, plan, question)?)?;
-    make(world, 2, second_bytes(alloc, plan, question)?)?;
-    make_source(alloc, world, plan, question)
+    if let Question::Set(part) = question {
+        let size = match part {
+            Part::EveryOther => part.source_size(plan),
+            _ => plan.size,
+        };
+        make(world, 0, vec![in alloc; 0u8; size]?)?;
+        make(world, 2, drawn(alloc, plan.seed, part.source_size(plan))?)?;
+        return make_part(alloc, world, plan, part);
+    }
+    make(world, 0, drawn_text(alloc, plan.seed, plan.size)?)?;
+    make(world, 2, drawn_text(alloc, plan.seed, plan.size)?)
+}
+
+/// The assignment of a part. A slice of a view takes one dimension alone, so planes are assigned to a slice of a
+/// bytearray.
+fn set_part(plan: Plan, part: Part) -> Command {
+    match part {
+        Part::Whole => set(1, part.key(), 3),
+        Part::EveryOther => set(1, part.key(), 4),
+        Part::Backwards => set(1, Part::Whole.key(), 4),
+        Part::Planes => set(0, slice(Some(0), Some(plan.size as i128), None), 5),
+    }
 }
 
 /// The command that asks.
 fn command_of(alloc: Global, plan: Plan, question: Question) -> Made<Command> {
     match question {
-        Question::SetWhole => Ok(set(1, slice(None, None, Some(1)), 3)),
-        Question::SetEveryOther => Ok(set(1, slice(None, None, Some(2)), 4)),
-        Question::SetBackwards => Ok(set(1, slice(None, None, Some(1)), 4)),
-        Question::SetPlanes => Ok(set(0, slice(Some(0), Some(plan.size as i128), None), 5)),
+        Question::Set(part) => Ok(set_part(plan, part)),
+        Question::Find => call(alloc, MethodName::Find),
+        Question::Add => call(alloc, MethodName::Add),
         Question::Compare => {
             let other = handle(3);
             let op = CompareOp::Eq;
             Ok(ask(1, Verb::Compare { op, other }))
         }
-        Question::Find => call(alloc, MethodName::Find),
-        Question::Add => call(alloc, MethodName::Add),
         Question::Contains => {
             let value = number(b'z' as usize);
             Ok(ask(0, Verb::Contains { value }))
