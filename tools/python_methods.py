@@ -13,6 +13,7 @@ At the end stand the answers that differ from Python's by choice, by name. They 
 and this stops where Python's answer is no other.
 """
 import itertools
+import operator
 
 BOUNDS = [None, *range(-7, 8)]
 NUMBERS = range(-2, 5)
@@ -70,6 +71,7 @@ def of_needle(words, needle):
     each = [(word, needle) for word in words]
     line("contains", name, bytes.__contains__, each)
     line("add", name, bytes.__add__, each)
+    line("concat", name, operator.concat, each)
     line("join", name, lambda word, needle: needle.join([bytes([it]) for it in word]), each)
     for method in "strip lstrip rstrip removeprefix removesuffix partition rpartition".split():
         line(method, name, getattr(bytes, method), each)

@@ -3,42 +3,25 @@
 use pybuf_value::Made;
 use std::alloc::Global;
 
-/// A generator of numbers, by the shifts of Marsaglia's xorshift.
-#[derive(Drop)]
-struct Draw {
-    state: u64,
+/// The number after another, by the shifts of Marsaglia's xorshift. None of them leaves 0.
+fn next(number: u64) -> u64 {
+    let mut state = number;
+    state ^= state << 13;
+    state ^= state >> 7;
+    state ^= state << 17;
+    state
 }
 
-impl Draw {
-    /// The generator of a seed. Its state is never 0, which the shifts would not leave.
-    fn new(seed: u64) -> Draw {
-        let state = seed.wrapping_mul(0x9E37_79B9_7F4A_7C15) | 1;
-        Draw { state }
-    }
-
-    /// The next number.
-    fn next(&mut self) -> u64 {
-        let mut state = self.state;
-        state ^= state << 13;
-        state ^= state >> 7;
-        state ^= state << 17;
-        self.state = state;
-        state
-    }
-}
-
-/// So many drawn bytes: each number gives eight, the lowest first.
+/// So many drawn bytes: each number gives eight, the lowest first. The first number is none that is drawn, and
+/// never 0.
 pub fn drawn(alloc: Global, seed: u64, size: usize) -> Made<Vec<u8>> {
-    let mut draw = Draw::new(seed);
+    let mut number = seed.wrapping_mul(0x9E37_79B9_7F4A_7C15) | 1;
     let mut bytes = Vec::with_capacity(alloc, size)?;
     for _ in 0..size / 8 {
-        for byte in draw.next().to_le_bytes() {
-            bytes.push(byte)?;
-        }
+        number = next(number);
+        bytes.extend_from_slice(&number.to_le_bytes())?;
     }
-    for _ in 0..size % 8 {
-        bytes.push(0)?;
-    }
+    bytes.resize(size, 0)?;
     Ok(bytes)
 }
 
@@ -56,16 +39,13 @@ fn letter_of(drawn: u8) -> u8 {
 
 /// A drawn text of so many bytes. `z` and `cba` stand nowhere in it.
 pub fn drawn_text(alloc: Global, seed: u64, size: usize) -> Made<Vec<u8>> {
-    let bytes = drawn(alloc, seed, size)?;
-    let mut text = Vec::with_capacity(alloc, size)?;
+    let mut text = drawn(alloc, seed, size)?;
     let mut before = (b' ', b' ');
-    for byte in bytes.as_slice() {
-        let mut letter = letter_of(*byte);
-        if before == (b'c', b'b') && letter == b'a' {
-            letter = b'd';
-        }
-        text.push(letter)?;
-        before = (before.1, letter);
+    for byte in text.iter_mut() {
+        let letter = letter_of(*byte);
+        let is_third = before == (b'c', b'b') && letter == b'a';
+        *byte = if is_third { b'd' } else { letter };
+        before = (before.1, *byte);
     }
     Ok(text)
 }

@@ -1,12 +1,13 @@
-//! Items of views, one by one, by their formats.
+//! Items one by one: of views, by their formats, and of a bytearray that grows and shrinks.
 
-use crate::answers::{Answer, mark_of_bytes};
+use crate::answers::Answer;
 use crate::data::drawn;
 use crate::kernel::Kernel;
 use crate::keys::number;
 use crate::plan::Plan;
 use crate::viewed::Viewed;
 use pybuf_command::{LoanList, LocalReply};
+use pybuf_object::PyByteArray;
 use pybuf_value::{Item, Made, Scalar};
 use std::alloc::Global;
 
@@ -48,7 +49,7 @@ pub fn count_of_values(values: &[Scalar]) -> i128 {
 }
 
 /// What an item counts.
-pub fn count_of_item(reply: &LocalReply) -> i128 {
+fn count_of_item(reply: &LocalReply) -> i128 {
     match reply {
         LocalReply::Item(Item::One(value)) => count_of(value),
         LocalReply::Item(Item::Many(values)) => count_of_values(values.as_slice()),
@@ -65,54 +66,76 @@ impl Form {
             Form::Record => ("<4sHHII", 16),
         };
         let bytes = drawn(alloc, plan.seed, plan.count.saturating_mul(size))?;
-        Viewed::whole(alloc, bytes)?.cast(alloc, format, None)
+        let mut viewed = Viewed::whole(alloc, bytes)?;
+        viewed.cast(alloc, format, None)?;
+        Ok(viewed)
     }
+}
+
+/// What one item counts.
+fn get(alloc: Global, viewed: &mut Viewed, place: usize) -> Made<i128> {
+    let state = viewed.object.state_mut();
+    let loans = LoanList::new(alloc);
+    let reply = viewed.view.getitem(state, number(place), loans)?;
+    Ok(count_of_item(&reply))
 }
 
 /// `view[k]` for each item.
-#[derive(Drop)]
-pub struct GetItems {
-    pub viewed: Viewed,
-    pub count: usize,
+pub fn get_all(alloc: Global, viewed: &mut Viewed, count: usize) -> Made<Answer> {
+    let mut sum = 0i128;
+    for place in 0..count {
+        sum = sum.wrapping_add(get(alloc, viewed, place)?);
+    }
+    Ok(Answer::Number(sum))
 }
 
-impl Kernel for GetItems {
-    fn call(&mut self, alloc: Global) -> Made<Answer> {
-        let mut sum = 0i128;
-        for place in 0..self.count {
-            let state = self.viewed.object.state_mut();
-            let loans = LoanList::new(alloc);
-            let reply = self.viewed.view.getitem(state, number(place), loans)?;
-            sum = sum.wrapping_add(count_of_item(&reply));
-        }
-        Ok(Answer::Number(sum))
-    }
+/// Writes one item. The answer is whether it wasn't refused.
+fn set(alloc: Global, viewed: &mut Viewed, place: usize, limit: usize) -> Made<bool> {
+    let value = number(place.checked_rem(limit).unwrap_or(0));
+    let state = viewed.object.state_mut();
+    let loans = LoanList::new(alloc);
+    let reply = viewed.view.setitem(state, number(place), value, loans)?;
+    Ok(matches!(reply, LocalReply::Ok))
 }
 
 /// `view[k] = k % limit` for each item.
-#[derive(Drop)]
-pub struct SetItems {
-    pub viewed: Viewed,
-    pub limit: usize,
+pub fn set_all(alloc: Global, viewed: &mut Viewed, count: usize, limit: usize) -> Made<Answer> {
+    for place in 0..count {
+        if !set(alloc, viewed, place, limit)? {
+            return Ok(Answer::Refused);
+        }
+    }
+    Ok(Answer::Nothing)
+}
+
+/// So many bytes appended to an empty bytearray, and popped again.
+#[derive(Clone, Copy)]
+pub struct AppendPop {
     pub count: usize,
 }
 
-impl Kernel for SetItems {
-    fn call(&mut self, alloc: Global) -> Made<Answer> {
-        for place in 0..self.count {
-            let value = number(place.checked_rem(self.limit).unwrap_or(0));
-            let state = self.viewed.object.state_mut();
-            let loans = LoanList::new(alloc);
-            let view = &self.viewed.view;
-            match view.setitem(state, number(place), value, loans)? {
-                LocalReply::Ok => {}
-                _ => return Ok(Answer::Refused),
-            }
-        }
-        Ok(Answer::Nothing)
+/// Appends so many bytes.
+fn append_all(alloc: Global, object: &mut PyByteArray, count: usize) -> Made<()> {
+    for place in 0..count {
+        object.append(number(place % 251), LoanList::new(alloc))?;
     }
+    Ok(())
+}
 
-    fn written(&self) -> i128 {
-        mark_of_bytes(self.viewed.object.borrow_buf())
+/// Pops so many bytes, and sums up what they count.
+fn pop_all(alloc: Global, object: &mut PyByteArray, count: usize) -> Made<Answer> {
+    let mut sum = 0i128;
+    for _ in 0..count {
+        let reply = object.pop(None, LoanList::new(alloc))?;
+        sum = sum.wrapping_add(count_of_item(&reply));
+    }
+    Ok(Answer::Number(sum))
+}
+
+impl Kernel for AppendPop {
+    fn call(&mut self, alloc: Global) -> Made<Answer> {
+        let mut object = PyByteArray::new_ref(alloc, Vec::new(alloc));
+        append_all(alloc, &mut object, self.count)?;
+        pop_all(alloc, &mut object, self.count)
     }
 }

@@ -63,15 +63,15 @@ fn time_now<R: CpuClock>(rt: &R, plan: Plan) -> io::Result<Duration> {
 }
 
 /// Calls a kernel once before the clock is read, and then as often as the plan says.
-pub fn measure<R: CpuClock + AllocGlobal, K: Kernel>(
+pub fn measure<R: CpuClock + AllocGlobal, K: Kernel + Drop>(
     rt: &R,
     plan: Plan,
-    kernel: &mut K,
+    mut kernel: K,
 ) -> Result<Measured, Stop> {
     let alloc = rt.alloc();
     let first = kernel.call(alloc)?;
     let start = time_now(rt, plan)?;
-    let last = call_all(alloc, kernel, plan.calls, first)?;
+    let last = call_all(alloc, &mut kernel, plan.calls, first)?;
     let end = time_now(rt, plan)?;
     Ok(Measured {
         mark: last.mark().wrapping_add(kernel.written()),

@@ -1,221 +1,103 @@
 //! The kernels by their names.
 
-use crate::copying::ToBytes;
-use crate::growing::AppendPop;
-use crate::items::{Form, GetItems, SetItems};
+use crate::items::{AppendPop, Form};
 use crate::kernel::{Measured, Stop, measure};
 use crate::making::{MakeViews, Making};
-use crate::own::Own;
 use crate::plan::Plan;
-use crate::records::Records;
-use crate::strings::Call;
-use crate::viewed::{Part, Viewed};
-use crate::worlds::Beside;
-use crate::{own, records};
+use crate::records::{Packing, Records};
+use crate::strings::{Call, Method};
+use crate::viewed::Part;
+use crate::views::{Doing, Views};
+use crate::worlds::{Beside, Question};
 use std::time::CpuClock;
 
-/// All names, in the order in which they are measured.
-pub const NAMES: [&str; 44] = [
-    "tobytes-contiguous",
-    "tobytes-stepped",
-    "tobytes-reversed",
-    "tobytes-planes",
-    "set-contiguous",
-    "set-stepped",
-    "set-reversed",
-    "set-planes",
-    "set-overlapping",
-    "set-itself",
-    "views",
-    "slices",
-    "slices-planes",
-    "casts",
-    "get-B",
-    "get-i",
-    "get-record",
-    "set-B",
-    "set-i",
-    "set-record",
-    "unpack",
-    "pack-into",
-    "append-pop",
-    "compare",
-    "compare-beside",
-    "find-byte",
-    "find-three",
-    "find-end",
-    "find-view",
-    "contains-byte",
-    "count-byte",
-    "count-three",
-    "split-comma",
-    "split-blanks",
-    "splitlines",
-    "join",
-    "add-view",
-    "replace-same",
-    "replace-longer",
-    "translate",
-    "upper",
-    "strip",
-    "hex",
-    "fromhex",
+/// What a kernel does.
+#[derive(Clone, Copy)]
+pub enum Work {
+    /// Something is done with views of one object.
+    Views(Doing),
+    /// Something is asked of an object, with another beside it.
+    Beside(Question),
+    /// Views are made and released.
+    Make(Making),
+    /// Records are read or written.
+    Records(Packing),
+    /// A bytearray grows and shrinks.
+    Grow,
+    /// A method of a string of bytes is called.
+    Call(Method),
+}
+
+/// All kernels, in the order in which they are measured. `z` and `cba` stand nowhere in a drawn text.
+pub const KERNELS: [(&str, Work); 44] = [
+    (
+        "tobytes-contiguous",
+        Work::Views(Doing::ToBytes(Part::Whole)),
+    ),
+    (
+        "tobytes-stepped",
+        Work::Views(Doing::ToBytes(Part::EveryOther)),
+    ),
+    (
+        "tobytes-reversed",
+        Work::Views(Doing::ToBytes(Part::Backwards)),
+    ),
+    ("tobytes-planes", Work::Views(Doing::ToBytes(Part::Planes))),
+    ("set-contiguous", Work::Beside(Question::Set(Part::Whole))),
+    ("set-stepped", Work::Beside(Question::Set(Part::EveryOther))),
+    ("set-reversed", Work::Beside(Question::Set(Part::Backwards))),
+    ("set-planes", Work::Beside(Question::Set(Part::Planes))),
+    ("set-overlapping", Work::Views(Doing::Shift)),
+    ("set-itself", Work::Views(Doing::Reverse)),
+    ("views", Work::Make(Making::View)),
+    ("slices", Work::Make(Making::Slice)),
+    ("slices-planes", Work::Make(Making::SliceOfPlanes)),
+    ("casts", Work::Make(Making::Cast)),
+    ("get-B", Work::Views(Doing::Get(Form::Byte))),
+    ("get-i", Work::Views(Doing::Get(Form::Number))),
+    ("get-record", Work::Views(Doing::Get(Form::Record))),
+    ("set-B", Work::Views(Doing::Set(Form::Byte, 251))),
+    ("set-i", Work::Views(Doing::Set(Form::Number, 1_000_003))),
+    ("set-record", Work::Records(Packing::Set)),
+    ("unpack", Work::Records(Packing::Unpack)),
+    ("pack-into", Work::Records(Packing::PackInto)),
+    ("append-pop", Work::Grow),
+    ("compare", Work::Views(Doing::Compare)),
+    ("compare-beside", Work::Beside(Question::Compare)),
+    ("find-byte", Work::Call(Method::Find(b"z"))),
+    ("find-three", Work::Call(Method::Find(b"cba"))),
+    ("find-end", Work::Call(Method::FindEnd)),
+    ("find-view", Work::Beside(Question::Find)),
+    ("contains-byte", Work::Beside(Question::Contains)),
+    ("count-byte", Work::Call(Method::Count(b"a"))),
+    ("count-three", Work::Call(Method::Count(b"abc"))),
+    ("split-comma", Work::Call(Method::SplitAtCommas)),
+    ("split-blanks", Work::Call(Method::SplitAtBlanks)),
+    ("splitlines", Work::Call(Method::SplitLines)),
+    ("join", Work::Call(Method::Join)),
+    ("add-view", Work::Beside(Question::Add)),
+    ("replace-same", Work::Call(Method::Replace(b"xy"))),
+    ("replace-longer", Work::Call(Method::Replace(b"wxyz"))),
+    ("translate", Work::Call(Method::Translate)),
+    ("upper", Work::Call(Method::Upper)),
+    ("strip", Work::Call(Method::Strip)),
+    ("hex", Work::Call(Method::Hex)),
+    ("fromhex", Work::Call(Method::FromHex)),
 ];
 
-/// Measures a kernel over views; none where no such kernel has the name.
-fn measure_views<R: CpuClock + AllocGlobal>(
+/// Measures a kernel.
+pub fn measure_work<R: CpuClock + AllocGlobal>(
     rt: &R,
     plan: Plan,
-    name: &str,
-) -> Result<Option<Measured>, Stop> {
-    let part = match name {
-        "tobytes-contiguous" => Part::Whole,
-        "tobytes-stepped" => Part::EveryOther,
-        "tobytes-reversed" => Part::Backwards,
-        "tobytes-planes" => Part::Planes,
-        _ => return Ok(None),
-    };
-    let viewed = Viewed::part(rt.alloc(), plan, part)?;
-    Ok(Some(measure(rt, plan, &mut ToBytes { viewed })?))
-}
-
-/// Measures a kernel over two views of one object.
-fn measure_own<R: CpuClock + AllocGlobal>(
-    rt: &R,
-    plan: Plan,
-    name: &str,
-) -> Result<Option<Measured>, Stop> {
-    let doing = match name {
-        "set-overlapping" => own::Doing::Shift,
-        "set-itself" => own::Doing::Reverse,
-        "compare" => own::Doing::Compare,
-        _ => return Ok(None),
-    };
-    let mut kernel = Own::of(rt.alloc(), plan, doing)?;
-    Ok(Some(measure(rt, plan, &mut kernel)?))
-}
-
-/// Measures a kernel that makes views.
-fn measure_making<R: CpuClock + AllocGlobal>(
-    rt: &R,
-    plan: Plan,
-    name: &str,
-) -> Result<Option<Measured>, Stop> {
-    let making = match name {
-        "views" => Making::View,
-        "slices" => Making::Slice,
-        "slices-planes" => Making::SliceOfPlanes,
-        "casts" => Making::Cast,
-        _ => return Ok(None),
-    };
-    Ok(Some(measure(rt, plan, &mut MakeViews { making, plan })?))
-}
-
-/// Measures a kernel that reads items, or writes them.
-fn measure_items<R: CpuClock + AllocGlobal>(
-    rt: &R,
-    plan: Plan,
-    name: &str,
-) -> Result<Option<Measured>, Stop> {
-    let (form, limit) = match name {
-        "get-B" => (Form::Byte, 0),
-        "get-i" => (Form::Number, 0),
-        "get-record" => (Form::Record, 0),
-        "set-B" => (Form::Byte, 251),
-        "set-i" => (Form::Number, 1_000_003),
-        _ => return Ok(None),
-    };
-    let viewed = form.viewed(rt.alloc(), plan)?;
-    let count = plan.count;
-    let measured = if limit == 0 {
-        measure(rt, plan, &mut GetItems { viewed, count })?
-    } else {
-        let mut kernel = SetItems {
-            viewed,
-            limit,
-            count,
-        };
-        measure(rt, plan, &mut kernel)?
-    };
-    Ok(Some(measured))
-}
-
-/// Measures a kernel over records.
-fn measure_records<R: CpuClock + AllocGlobal>(
-    rt: &R,
-    plan: Plan,
-    name: &str,
-) -> Result<Option<Measured>, Stop> {
-    let doing = match name {
-        "set-record" => records::Doing::Set,
-        "unpack" => records::Doing::Unpack,
-        "pack-into" => records::Doing::PackInto,
-        _ => return Ok(None),
-    };
-    let mut kernel = Records::of(rt.alloc(), plan, doing)?;
-    Ok(Some(measure(rt, plan, &mut kernel)?))
-}
-
-/// Measures a kernel over two objects beside each other.
-fn measure_beside<R: CpuClock + AllocGlobal>(
-    rt: &R,
-    plan: Plan,
-    name: &str,
-) -> Result<Option<Measured>, Stop> {
+    work: Work,
+) -> Result<Measured, Stop> {
     let alloc = rt.alloc();
-    if let Some(mut kernel) = Beside::assign(alloc, plan, name)? {
-        return Ok(Some(measure(rt, plan, &mut kernel)?));
+    match work {
+        Work::Views(doing) => measure(rt, plan, Views::of(alloc, plan, doing)?),
+        Work::Beside(question) => measure(rt, plan, Beside::of(alloc, plan, question)?),
+        Work::Make(making) => measure(rt, plan, MakeViews { making, plan }),
+        Work::Records(packing) => measure(rt, plan, Records::of(alloc, plan, packing)?),
+        Work::Grow => measure(rt, plan, AppendPop { count: plan.count }),
+        Work::Call(method) => measure(rt, plan, Call::of(alloc, plan, method)?),
     }
-    match Beside::ask(alloc, plan, name)? {
-        Some(mut kernel) => Ok(Some(measure(rt, plan, &mut kernel)?)),
-        None => Ok(None),
-    }
-}
-
-/// Measures a method of strings of bytes, or a bytearray that grows.
-fn measure_strings<R: CpuClock + AllocGlobal>(
-    rt: &R,
-    plan: Plan,
-    name: &str,
-) -> Result<Option<Measured>, Stop> {
-    let alloc = rt.alloc();
-    if name == "append-pop" {
-        let mut kernel = AppendPop { count: plan.count };
-        return Ok(Some(measure(rt, plan, &mut kernel)?));
-    }
-    if name == "join" {
-        let mut kernel = Call::join(alloc, plan)?;
-        return Ok(Some(measure(rt, plan, &mut kernel)?));
-    }
-    match Call::named(alloc, plan, name)? {
-        Some(mut kernel) => Ok(Some(measure(rt, plan, &mut kernel)?)),
-        None => Ok(None),
-    }
-}
-
-/// Measures the kernel of a name; none where there is no such kernel.
-pub fn measure_named<R: CpuClock + AllocGlobal>(
-    rt: &R,
-    plan: Plan,
-    name: &str,
-) -> Result<Option<Measured>, Stop> {
-    if let Some(measured) = measure_views(rt, plan, name)? {
-        return Ok(Some(measured));
-    }
-    if let Some(measured) = measure_own(rt, plan, name)? {
-        return Ok(Some(measured));
-    }
-    if let Some(measured) = measure_making(rt, plan, name)? {
-        return Ok(Some(measured));
-    }
-    if let Some(measured) = measure_items(rt, plan, name)? {
-        return Ok(Some(measured));
-    }
-    if let Some(measured) = measure_records(rt, plan, name)? {
-        return Ok(Some(measured));
-    }
-    if let Some(measured) = measure_beside(rt, plan, name)? {
-        return Ok(Some(measured));
-    }
-    measure_strings(rt, plan, name)
 }

@@ -7,29 +7,25 @@
 #![tactic(auto)]
 
 mod answers;
-mod copying;
 mod data;
-mod growing;
 mod items;
 mod kernel;
 mod kernels;
 mod keys;
 mod making;
-mod own;
 mod plan;
 mod records;
 mod strings;
 mod viewed;
-mod words;
+mod views;
 mod worlds;
 
 use kernel::{Measured, Stop};
-use kernels::{NAMES, measure_named};
-use plan::Plan;
+use kernels::{KERNELS, measure_work};
+use plan::{Plan, name_of, plan_of, words_of};
 use std::io;
 use std::process::ExitCode;
 use std::time::CpuClock;
-use words::{name_of, plan_of, words_of};
 
 /// Prints what a kernel says, and how long it took where that is asked for.
 fn tell<R: Print>(rt: &R, plan: Plan, name: &str, measured: Measured) -> io::Result<()> {
@@ -43,11 +39,10 @@ fn tell<R: Print>(rt: &R, plan: Plan, name: &str, measured: Measured) -> io::Res
 
 /// Measures the kernel of a name, or all of them.
 fn run<R: CpuClock + AllocGlobal + Print>(rt: &R, plan: Plan, word: &str) -> Result<(), Stop> {
-    for name in NAMES {
-        if word == "all" || word == name {
-            if let Some(measured) = measure_named(rt, plan, name)? {
-                tell(rt, plan, name, measured)?;
-            }
+    for (name, work) in &KERNELS {
+        if word == "all" || word == *name {
+            let measured = measure_work(rt, plan, *work)?;
+            tell(rt, plan, name, measured)?;
         }
     }
     Ok(())

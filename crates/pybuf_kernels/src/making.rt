@@ -5,7 +5,7 @@ use crate::data::drawn;
 use crate::kernel::Kernel;
 use crate::keys::{slice, text};
 use crate::plan::Plan;
-use crate::viewed::{PLANE, Viewed, planes_of, view_of};
+use crate::viewed::{PLANE, Viewed, view_of};
 use pybuf_command::{LoanList, LocalReply};
 use pybuf_value::Made;
 use std::alloc::Global;
@@ -33,14 +33,11 @@ pub struct MakeViews {
 impl Making {
     /// What the views are made of.
     fn start(self, alloc: Global, seed: u64) -> Made<Viewed> {
-        let whole = Viewed::whole(alloc, drawn(alloc, seed, PLANE)?)?;
-        match self {
-            Making::SliceOfPlanes => {
-                let shape = Some(planes_of(alloc, PLANE)?);
-                whole.cast(alloc, "B", shape)
-            }
-            _ => Ok(whole),
+        let mut viewed = Viewed::whole(alloc, drawn(alloc, seed, PLANE)?)?;
+        if let Making::SliceOfPlanes = self {
+            viewed.cast_to_planes(alloc, PLANE)?;
         }
+        Ok(viewed)
     }
 
     /// One more view.
@@ -54,24 +51,33 @@ impl Making {
             }
             Making::Cast => {
                 let format = text(alloc, "H")?;
-                viewed
-                    .view
-                    .cast(viewed.object.state_mut(), format, None, loans)
+                let state = viewed.object.state_mut();
+                viewed.view.cast(state, format, None, loans)
             }
         }
+    }
+
+    /// One more view, which is released.
+    fn make_and_release(self, alloc: Global, viewed: &mut Viewed) -> Made<()> {
+        let made = view_of(&self.make(alloc, viewed)?);
+        made.exit(viewed.object.state_mut(), LoanList::new(alloc))?;
+        Ok(())
+    }
+
+    /// So many views, and how many there were.
+    fn make_all(self, alloc: Global, viewed: &mut Viewed, count: usize) -> Made<Answer> {
+        let before = viewed.object.state().view_count();
+        for _ in 0..count {
+            self.make_and_release(alloc, viewed)?;
+        }
+        let made = viewed.object.state().view_count().saturating_sub(before);
+        Ok(Answer::Number(made as i128))
     }
 }
 
 impl Kernel for MakeViews {
     fn call(&mut self, alloc: Global) -> Made<Answer> {
         let mut viewed = self.making.start(alloc, self.plan.seed)?;
-        let before = viewed.object.state().view_count();
-        for _ in 0..self.plan.count {
-            let reply = self.making.make(alloc, &mut viewed)?;
-            let made = view_of(&reply);
-            made.exit(viewed.object.state_mut(), LoanList::new(alloc))?;
-        }
-        let made = viewed.object.state().view_count().saturating_sub(before);
-        Ok(Answer::Number(made as i128))
+        self.making.make_all(alloc, &mut viewed, self.plan.count)
     }
 }

@@ -16,7 +16,7 @@ const RECORD: usize = 16;
 
 /// What is done with each record.
 #[derive(Clone, Copy)]
-pub enum Doing {
+pub enum Packing {
     /// `struct.unpack`.
     Unpack,
     /// `struct.pack_into`, over bytes that are lent once.
@@ -31,7 +31,7 @@ pub struct Records {
     format: Option<FormatSpec>,
     viewed: Viewed,
     count: usize,
-    doing: Doing,
+    packing: Packing,
 }
 
 /// The values of the record of a number.
@@ -39,10 +39,11 @@ fn record_of(alloc: Global, number: usize) -> Made<ScalarList> {
     let mut values = ScalarList::new(alloc);
     let tag = ByteList::from_vec(Vec::from_slice(alloc, b"tags")?);
     values.push(Scalar::Bytes(tag))?;
-    values.push(Scalar::Int((number % 65_536) as i128))?;
-    values.push(Scalar::Int(7))?;
-    values.push(Scalar::Int((number % 1_000_003) as i128))?;
-    values.push(Scalar::Int(4_000_000_000))?;
+    let first = (number % 65_536) as i128;
+    let second = (number % 1_000_003) as i128;
+    for value in [first, 7, second, 4_000_000_000] {
+        values.push(Scalar::Int(value))?;
+    }
     Ok(values)
 }
 
@@ -88,7 +89,8 @@ fn pack_all(alloc: Global, format: &FormatSpec, bytes: &mut [u8]) -> Made<Answer
     Ok(Answer::Nothing)
 }
 
-/// Writes the record of a number among the bytes of a buffer. The answer is whether it wasn't refused.
+/// Writes the record of a number among the bytes of a buffer, which are lent anew. The answer is whether it
+/// wasn't refused.
 fn set(
     alloc: Global,
     state: &mut ExporterState,
@@ -107,9 +109,25 @@ fn set(
     }
 }
 
+/// Writes so many records, each among bytes that are lent anew.
+fn set_all(
+    alloc: Global,
+    state: &mut ExporterState,
+    buffer: &PyBuffer,
+    format: &FormatSpec,
+    count: usize,
+) -> Made<Answer> {
+    for number in 0..count {
+        if !set(alloc, state, buffer, format, number)? {
+            return Ok(Answer::Refused);
+        }
+    }
+    Ok(Answer::Nothing)
+}
+
 impl Records {
     /// So many drawn records.
-    pub fn of(alloc: Global, plan: Plan, doing: Doing) -> Made<Records> {
+    pub fn of(alloc: Global, plan: Plan, packing: Packing) -> Made<Records> {
         let format = match FormatSpec::parse(alloc, b"<4sHHII")? {
             Outcome::Done(format) => Some(format),
             Outcome::Refused(_) => None,
@@ -118,7 +136,7 @@ impl Records {
             format,
             viewed: Form::Record.viewed(alloc, plan)?,
             count: plan.count,
-            doing,
+            packing,
         })
     }
 }
@@ -129,21 +147,14 @@ impl Kernel for Records {
             return Ok(Answer::Refused);
         };
         let buffer = PyBuffer::of(self.viewed.view.number());
-        match self.doing {
-            Doing::Unpack => unpack_all(alloc, format, self.viewed.object.borrow_buf()),
-            Doing::PackInto => match bytes_of(self.viewed.object.state_mut(), &buffer) {
+        let object = &mut self.viewed.object;
+        match self.packing {
+            Packing::Unpack => unpack_all(alloc, format, object.borrow_buf()),
+            Packing::PackInto => match bytes_of(object.state_mut(), &buffer) {
                 Some(bytes) => pack_all(alloc, format, bytes),
                 None => Ok(Answer::Refused),
             },
-            Doing::Set => {
-                for number in 0..self.count {
-                    let state = self.viewed.object.state_mut();
-                    if !set(alloc, state, &buffer, format, number)? {
-                        return Ok(Answer::Refused);
-                    }
-                }
-                Ok(Answer::Nothing)
-            }
+            Packing::Set => set_all(alloc, object.state_mut(), &buffer, format, self.count),
         }
     }
 

@@ -13,28 +13,44 @@ use pybuf_bytes::{
 use pybuf_value::{ByteList, ByteLists, Made, Outcome, Scalar, SnapList, Value};
 use std::alloc::Global;
 
-/// A method, and what it is called with beside the bytes.
-#[derive(Drop)]
-enum Method {
-    Find(PyBytesInner),
-    Count(PyBytesInner),
-    SplitAtBlanks,
+/// A method, and what it is called with.
+#[derive(Clone, Copy)]
+pub enum Method {
+    Find(&'static [u8]),
+    /// `find` of the last 1,000 bytes.
+    FindEnd,
+    Count(&'static [u8]),
+    /// `join` of the parts between commas.
+    Join,
+    /// `replace` of `ab`.
+    Replace(&'static [u8]),
+    /// `translate` by the table that maps each byte to what is missing of it to 255.
+    Translate,
     SplitAtCommas,
+    SplitAtBlanks,
     SplitLines,
-    Join(ByteLists),
-    Replace(PyBytesInner, PyBytesInner),
-    Translate(ByteInnerTranslateOptions),
     Upper,
     Strip,
     Hex,
     FromHex,
 }
 
+/// A method with all that it is called with beside the bytes.
+#[derive(Drop)]
+enum Ready {
+    Bare(Method),
+    Find(PyBytesInner),
+    Count(PyBytesInner),
+    Join(PyBytesInner, ByteLists),
+    Replace(PyBytesInner, PyBytesInner),
+    Translate(ByteInnerTranslateOptions),
+}
+
 /// A method of a string of bytes.
 #[derive(Drop)]
 pub struct Call {
     text: PyBytesInner,
-    method: Method,
+    method: Ready,
 }
 
 /// A string of these bytes.
@@ -103,69 +119,83 @@ fn table(alloc: Global) -> Made<ByteInnerTranslateOptions> {
     })
 }
 
-impl Method {
-    /// The method of a name, with what it is called with; none where there is no such name. `z` and `cba`
-    /// stand nowhere in a drawn text.
-    fn named(alloc: Global, name: &str, text: &PyBytesInner) -> Made<Option<Method>> {
-        let method = match name {
-            "find-byte" => Method::Find(inner(alloc, b"z")?),
-            "find-three" => Method::Find(inner(alloc, b"cba")?),
-            "find-end" => {
-                let start = text.len().saturating_sub(1_000);
-                let end = text.as_bytes().get(start..).unwrap_or(b"");
-                Method::Find(inner(alloc, end)?)
+/// The last 1,000 bytes.
+fn end_of(alloc: Global, text: &PyBytesInner) -> Made<PyBytesInner> {
+    let start = text.len().saturating_sub(1_000);
+    inner(alloc, text.as_bytes().get(start..).unwrap_or(b""))
+}
+
+/// The parts between commas; none after a refusal.
+fn parts_of(alloc: Global, text: &PyBytesInner) -> Made<ByteLists> {
+    match split(alloc, text, Some(inner(alloc, b",")?))? {
+        Answer::Parts(parts) => Ok(parts),
+        _ => Ok(ByteLists::new(alloc)),
+    }
+}
+
+/// The digits of drawn bytes; none after a refusal.
+fn drawn_digits(alloc: Global, plan: Plan) -> Made<Vec<u8>> {
+    let bytes = PyBytesInner::from(drawn(alloc, plan.seed, plan.size)?);
+    match hex(alloc, &bytes)? {
+        Answer::Bytes(digits) => Ok(digits),
+        _ => Ok(Vec::new(alloc)),
+    }
+}
+
+/// The bytes that a method is called on: a drawn text, drawn bytes, their digits, or bytes between blanks.
+fn bytes_for(alloc: Global, plan: Plan, method: Method) -> Made<Vec<u8>> {
+    match method {
+        Method::Strip => padded(alloc, plan.size),
+        Method::Hex => drawn(alloc, plan.seed, plan.size),
+        Method::FromHex => drawn_digits(alloc, plan),
+        _ => drawn_text(alloc, plan.seed, plan.size),
+    }
+}
+
+impl Ready {
+    /// A method with what it is called with beside a text.
+    fn of(alloc: Global, method: Method, text: &PyBytesInner) -> Made<Ready> {
+        match method {
+            Method::Find(needle) => Ok(Ready::Find(inner(alloc, needle)?)),
+            Method::FindEnd => Ok(Ready::Find(end_of(alloc, text)?)),
+            Method::Count(needle) => Ok(Ready::Count(inner(alloc, needle)?)),
+            Method::Join => {
+                let between = inner(alloc, b", ")?;
+                Ok(Ready::Join(between, parts_of(alloc, text)?))
             }
-            "count-byte" => Method::Count(inner(alloc, b"a")?),
-            "count-three" => Method::Count(inner(alloc, b"abc")?),
-            "split-comma" => Method::SplitAtCommas,
-            "split-blanks" => Method::SplitAtBlanks,
-            "splitlines" => Method::SplitLines,
-            "replace-same" => Method::Replace(inner(alloc, b"ab")?, inner(alloc, b"xy")?),
-            "replace-longer" => Method::Replace(inner(alloc, b"ab")?, inner(alloc, b"wxyz")?),
-            "translate" => Method::Translate(table(alloc)?),
-            "upper" => Method::Upper,
-            "strip" => Method::Strip,
-            "hex" => Method::Hex,
-            "fromhex" => Method::FromHex,
-            _ => return Ok(None),
-        };
-        Ok(Some(method))
+            Method::Replace(to) => {
+                let from = inner(alloc, b"ab")?;
+                Ok(Ready::Replace(from, inner(alloc, to)?))
+            }
+            Method::Translate => Ok(Ready::Translate(table(alloc)?)),
+            bare => Ok(Ready::Bare(bare)),
+        }
     }
 }
 
 impl Call {
-    /// `join` of the parts of a drawn text between commas.
-    pub fn join(alloc: Global, plan: Plan) -> Made<Call> {
-        let text = PyBytesInner::from(drawn_text(alloc, plan.seed, plan.size)?);
-        let parts = match split(alloc, &text, Some(inner(alloc, b",")?))? {
-            Answer::Parts(parts) => parts,
-            _ => ByteLists::new(alloc),
-        };
-        Ok(Call {
-            text: inner(alloc, b", ")?,
-            method: Method::Join(parts),
-        })
+    /// A method, on what it is called on.
+    pub fn of(alloc: Global, plan: Plan, method: Method) -> Made<Call> {
+        let text = PyBytesInner::from(bytes_for(alloc, plan, method)?);
+        let method = Ready::of(alloc, method, &text)?;
+        Ok(Call { text, method })
     }
+}
 
-    /// The method of a name, on a drawn text, on drawn bytes or their digits, or on bytes between blanks.
-    pub fn named(alloc: Global, plan: Plan, name: &str) -> Made<Option<Call>> {
-        let bytes = match name {
-            "strip" => padded(alloc, plan.size)?,
-            "hex" => drawn(alloc, plan.seed, plan.size)?,
-            "fromhex" => {
-                let bytes = PyBytesInner::from(drawn(alloc, plan.seed, plan.size)?);
-                match hex(alloc, &bytes)? {
-                    Answer::Bytes(digits) => digits,
-                    _ => Vec::new(alloc),
-                }
-            }
-            _ => drawn_text(alloc, plan.seed, plan.size)?,
-        };
-        let text = PyBytesInner::from(bytes);
-        match Method::named(alloc, name, &text)? {
-            Some(method) => Ok(Some(Call { text, method })),
-            None => Ok(None),
+/// Calls a method on the bytes alone. Those that are called with more are no such methods.
+fn call_bare(alloc: Global, method: Method, text: &PyBytesInner) -> Made<Answer> {
+    match method {
+        Method::SplitAtCommas => split(alloc, text, Some(inner(alloc, b",")?)),
+        Method::SplitAtBlanks => split(alloc, text, None),
+        Method::SplitLines => {
+            let lines = text.splitlines(alloc, SplitLinesArgs { keepends: false })?;
+            Ok(Answer::Parts(lines))
         }
+        Method::Upper => Ok(Answer::Bytes(text.upper(alloc)?)),
+        Method::Strip => Ok(Answer::Bytes(text.strip(alloc, None)?)),
+        Method::Hex => hex(alloc, text),
+        Method::FromHex => Answer::of_bytes(PyBytesInner::fromhex(alloc, text.as_bytes())),
+        _ => Ok(Answer::Refused),
     }
 }
 
@@ -173,23 +203,14 @@ impl Kernel for Call {
     fn call(&mut self, alloc: Global) -> Made<Answer> {
         let text = &self.text;
         match &self.method {
-            Method::Find(needle) => find(alloc, text, needle),
-            Method::Count(needle) => count(alloc, text, needle),
-            Method::SplitAtCommas => split(alloc, text, Some(inner(alloc, b",")?)),
-            Method::SplitAtBlanks => split(alloc, text, None),
-            Method::SplitLines => {
-                let lines = text.splitlines(alloc, SplitLinesArgs { keepends: false })?;
-                Ok(Answer::Parts(lines))
-            }
-            Method::Join(parts) => Answer::of_bytes(text.join(alloc, parts)),
-            Method::Replace(from, to) => Answer::of_bytes(text.replace(alloc, from, to, None)),
-            Method::Translate(options) => {
+            Ready::Bare(bare) => call_bare(alloc, *bare, text),
+            Ready::Find(needle) => find(alloc, text, needle),
+            Ready::Count(needle) => count(alloc, text, needle),
+            Ready::Join(between, parts) => Answer::of_bytes(between.join(alloc, parts)),
+            Ready::Replace(from, to) => Answer::of_bytes(text.replace(alloc, from, to, None)),
+            Ready::Translate(options) => {
                 Answer::of_bytes(text.translate(alloc, options, &SnapList::new(alloc)))
             }
-            Method::Upper => Ok(Answer::Bytes(text.upper(alloc)?)),
-            Method::Strip => Ok(Answer::Bytes(text.strip(alloc, None)?)),
-            Method::Hex => hex(alloc, text),
-            Method::FromHex => Answer::of_bytes(PyBytesInner::fromhex(alloc, text.as_bytes())),
         }
     }
 }

@@ -26,6 +26,26 @@ pub enum Part {
     Planes,
 }
 
+impl Part {
+    /// The size of a bytearray of which the view has as many bytes as the plan says.
+    pub fn source_size(self, plan: Plan) -> usize {
+        match self {
+            Part::Whole | Part::Backwards => plan.size,
+            Part::EveryOther | Part::Planes => plan.size.saturating_mul(2),
+        }
+    }
+
+    /// The slice that makes the view, of all bytes or of all planes.
+    pub fn key(self) -> Value {
+        let step = match self {
+            Part::Whole => 1,
+            Part::Backwards => -1,
+            Part::EveryOther | Part::Planes => 2,
+        };
+        slice(None, None, Some(step))
+    }
+}
+
 /// A bytearray, and one of its views.
 #[derive(Drop)]
 pub struct Viewed {
@@ -44,9 +64,9 @@ pub fn view_of(reply: &LocalReply) -> PyMemoryView {
 /// The shape of so many bytes in planes.
 pub fn planes_of(alloc: Global, size: usize) -> Made<Value> {
     let mut shape = ScalarList::new(alloc);
-    shape.push(Scalar::Int((size / PLANE) as i128))?;
-    shape.push(Scalar::Int(256))?;
-    shape.push(Scalar::Int(16))?;
+    for length in [(size / PLANE) as i128, 256, 16] {
+        shape.push(Scalar::Int(length))?;
+    }
     Ok(Value::Tuple(shape))
 }
 
@@ -74,31 +94,29 @@ impl Viewed {
         Ok(view_of(&reply))
     }
 
-    /// The view with items of another format, or in a shape.
-    pub fn cast(self, alloc: Global, format: &str, shape: Option<Value>) -> Made<Viewed> {
-        let Viewed { mut object, view } = self;
+    /// Goes on with the view with items of another format, or in a shape.
+    pub fn cast(&mut self, alloc: Global, format: &str, shape: Option<Value>) -> Made<()> {
         let format = text(alloc, format)?;
-        let loans = LoanList::new(alloc);
-        let reply = view.cast(object.state_mut(), format, shape, loans)?;
-        let view = view_of(&reply);
-        Ok(Viewed { object, view })
+        let state = self.object.state_mut();
+        let reply = self.view.cast(state, format, shape, LoanList::new(alloc))?;
+        self.view = view_of(&reply);
+        Ok(())
+    }
+
+    /// Goes on with the view in planes of so many bytes.
+    pub fn cast_to_planes(&mut self, alloc: Global, size: usize) -> Made<()> {
+        let shape = planes_of(alloc, size)?;
+        self.cast(alloc, "B", Some(shape))
     }
 
     /// A part of drawn bytes that has so many as the plan says.
     pub fn part(alloc: Global, plan: Plan, part: Part) -> Made<Viewed> {
-        let twice = plan.size.saturating_mul(2);
-        let (size, step) = match part {
-            Part::Whole => (plan.size, 1),
-            Part::EveryOther => (twice, 2),
-            Part::Backwards => (plan.size, -1),
-            Part::Planes => (twice, 2),
-        };
+        let size = part.source_size(plan);
         let mut viewed = Viewed::whole(alloc, drawn(alloc, plan.seed, size)?)?;
         if let Part::Planes = part {
-            let shape = Some(planes_of(alloc, size)?);
-            viewed = viewed.cast(alloc, "B", shape)?;
+            viewed.cast_to_planes(alloc, size)?;
         }
-        viewed.view = viewed.sliced(alloc, slice(None, None, Some(step)))?;
+        viewed.view = viewed.sliced(alloc, part.key())?;
         Ok(viewed)
     }
 }

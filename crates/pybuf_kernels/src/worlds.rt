@@ -5,12 +5,27 @@ use crate::data::{drawn, drawn_text};
 use crate::kernel::Kernel;
 use crate::keys::{handle, number, slice, text};
 use crate::plan::Plan;
-use crate::viewed::planes_of;
+use crate::viewed::{Part, planes_of};
 use pybuf_bytes::{ByteInnerNewOptions, MethodCall, MethodName};
 use pybuf_command::{ExporterKind, Verb};
 use pybuf_value::{ByteList, CompareOp, Item, Made, Scalar, Value, ValueList};
 use pybuf_world::{Command, Reply, World};
 use std::alloc::Global;
+
+/// What is asked of two bytearrays, or of their views.
+#[derive(Clone, Copy)]
+pub enum Question {
+    /// A slice of the first, set to a part of the second.
+    Set(Part),
+    /// Whether a view of the first equals a view of the second.
+    Compare,
+    /// Where the bytes of the second stand in the first.
+    Find,
+    /// The bytes of both, added.
+    Add,
+    /// Whether a byte stands in the first.
+    Contains,
+}
 
 /// A command that is carried out again and again in a world of two bytearrays. Handle 0 names the first,
 /// handle 1 a view of it, handle 2 the second, and handle 3 a view of that.
@@ -44,14 +59,10 @@ fn prepare(world: &mut World, command: Command) -> Made<()> {
     Ok(())
 }
 
-/// The world of two bytearrays and a view of each.
-fn world_of(alloc: Global, first: Vec<u8>, second: Vec<u8>) -> Made<World> {
-    let mut world = World::new(alloc);
-    prepare(&mut world, new_bytearray(first))?;
-    prepare(&mut world, ask(0, Verb::View))?;
-    prepare(&mut world, new_bytearray(second))?;
-    prepare(&mut world, ask(2, Verb::View))?;
-    Ok(world)
+/// Makes a bytearray, which is given a handle, and a view of it, which is given the next.
+fn make(world: &mut World, subject: u64, bytes: Vec<u8>) -> Made<()> {
+    prepare(world, new_bytearray(bytes))?;
+    prepare(world, ask(subject, Verb::View))
 }
 
 /// A slice of what a handle names, set to what another names.
@@ -68,74 +79,81 @@ fn call(alloc: Global, name: MethodName) -> Made<Command> {
     Ok(ask(0, Verb::Call { method }))
 }
 
-/// Makes handle 4: the items of handle 3 that `::step` picks.
-fn pick(world: &mut World, step: i128) -> Made<()> {
-    let key = slice(None, None, Some(step));
-    prepare(world, ask(3, Verb::Get { key }))
+/// Makes a handle of the items that a slice picks of what a handle names.
+fn pick(world: &mut World, subject: u64, key: Value) -> Made<()> {
+    prepare(world, ask(subject, Verb::Get { key }))
 }
 
-/// Makes handle 4, which is handle 3 in planes of so many bytes, and of it handle 5, every other plane.
-fn pick_planes(alloc: Global, world: &mut World, size: usize) -> Made<()> {
+/// Makes handle 4, which is handle 3 in planes of so many bytes.
+fn cast_to_planes(alloc: Global, world: &mut World, size: usize) -> Made<()> {
     let format = text(alloc, "B")?;
     let shape = Some(planes_of(alloc, size)?);
-    prepare(world, ask(3, Verb::Cast { format, shape }))?;
-    let key = slice(None, None, Some(2));
-    prepare(world, ask(4, Verb::Get { key }))
+    prepare(world, ask(3, Verb::Cast { format, shape }))
+}
+
+/// Makes the part of handle 3 that is assigned: handle 4, or 5 where it is one of planes.
+fn make_part(alloc: Global, world: &mut World, plan: Plan, part: Part) -> Made<()> {
+    match part {
+        Part::Whole => Ok(()),
+        Part::EveryOther | Part::Backwards => pick(world, 3, part.key()),
+        Part::Planes => {
+            cast_to_planes(alloc, world, part.source_size(plan))?;
+            pick(world, 4, part.key())
+        }
+    }
+}
+
+/// Makes all handles. What is assigned is drawn, and else the bytes of both are the same text.
+fn make_all(alloc: Global, world: &mut World, plan: Plan, question: Question) -> Made<()> {
+    if let Question::Set(part) = question {
+        let size = match part {
+            Part::EveryOther => part.source_size(plan),
+            _ => plan.size,
+        };
+        make(world, 0, vec![in alloc; 0u8; size]?)?;
+        make(world, 2, drawn(alloc, plan.seed, part.source_size(plan))?)?;
+        return make_part(alloc, world, plan, part);
+    }
+    make(world, 0, drawn_text(alloc, plan.seed, plan.size)?)?;
+    make(world, 2, drawn_text(alloc, plan.seed, plan.size)?)
+}
+
+/// The assignment of a part. A slice of a view takes one dimension alone, so planes are assigned to a slice of a
+/// bytearray.
+fn set_part(plan: Plan, part: Part) -> Command {
+    match part {
+        Part::Whole => set(1, part.key(), 3),
+        Part::EveryOther => set(1, part.key(), 4),
+        Part::Backwards => set(1, Part::Whole.key(), 4),
+        Part::Planes => set(0, slice(Some(0), Some(plan.size as i128), None), 5),
+    }
+}
+
+/// The command that asks.
+fn command_of(alloc: Global, plan: Plan, question: Question) -> Made<Command> {
+    match question {
+        Question::Set(part) => Ok(set_part(plan, part)),
+        Question::Find => call(alloc, MethodName::Find),
+        Question::Add => call(alloc, MethodName::Add),
+        Question::Compare => {
+            let other = handle(3);
+            let op = CompareOp::Eq;
+            Ok(ask(1, Verb::Compare { op, other }))
+        }
+        Question::Contains => {
+            let value = number(b'z' as usize);
+            Ok(ask(0, Verb::Contains { value }))
+        }
+    }
 }
 
 impl Beside {
-    /// An assignment to a slice; none where no such one has the name. A slice of a view takes one dimension
-    /// alone, so planes are assigned to a slice of a bytearray.
-    pub fn assign(alloc: Global, plan: Plan, name: &str) -> Made<Option<Beside>> {
-        let twice = plan.size.saturating_mul(2);
-        let (target, source) = match name {
-            "set-contiguous" | "set-reversed" => (plan.size, plan.size),
-            "set-stepped" => (twice, twice),
-            "set-planes" => (plan.size, twice),
-            _ => return Ok(None),
-        };
-        let first = vec![in alloc; 0u8; target]?;
-        let mut world = world_of(alloc, first, drawn(alloc, plan.seed, source)?)?;
-        let all = slice(None, None, Some(1));
-        let command = match name {
-            "set-stepped" => {
-                pick(&mut world, 2)?;
-                set(1, slice(None, None, Some(2)), 4)
-            }
-            "set-reversed" => {
-                pick(&mut world, -1)?;
-                set(1, all, 4)
-            }
-            "set-planes" => {
-                pick_planes(alloc, &mut world, source)?;
-                set(0, slice(Some(0), Some(plan.size as i128), None), 5)
-            }
-            _ => set(1, all, 3),
-        };
-        Ok(Some(Beside { world, command }))
-    }
-
-    /// Something that is asked of one bytearray, or of its view, with another of the same bytes, or with a
-    /// view of that; none where no such one has the name.
-    pub fn ask(alloc: Global, plan: Plan, name: &str) -> Made<Option<Beside>> {
-        let command = match name {
-            "compare-beside" => {
-                let other = handle(3);
-                let op = CompareOp::Eq;
-                ask(1, Verb::Compare { op, other })
-            }
-            "find-view" => call(alloc, MethodName::Find)?,
-            "add-view" => call(alloc, MethodName::Add)?,
-            "contains-byte" => {
-                let value = number(b'z' as usize);
-                ask(0, Verb::Contains { value })
-            }
-            _ => return Ok(None),
-        };
-        let first = drawn_text(alloc, plan.seed, plan.size)?;
-        let second = drawn_text(alloc, plan.seed, plan.size)?;
-        let world = world_of(alloc, first, second)?;
-        Ok(Some(Beside { world, command }))
+    /// A world for a question, and its command.
+    pub fn of(alloc: Global, plan: Plan, question: Question) -> Made<Beside> {
+        let command = command_of(alloc, plan, question)?;
+        let mut world = World::new(alloc);
+        make_all(alloc, &mut world, plan, question)?;
+        Ok(Beside { world, command })
     }
 }
 

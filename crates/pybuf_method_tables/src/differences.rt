@@ -1,55 +1,19 @@
 //! Where the methods differ from those of Python's `bytes` by choice, so that no table has them.
 
+use crate::needles::found;
+use crate::report::Report;
 use crate::texts::string;
 use pybuf_bytes::{
     ByteInnerTranslateOptions, ExpandTabsArgs, Needle, PyBytesInner, StartsEndsWithArgs, startswith,
 };
 use pybuf_value::{
     ByteList, CountList, Fault, Made, Outcome, Scalar, ScalarList, Snap, SnapKind, SnapList, Text,
-    Value,
+    Tried, Value,
 };
 use std::alloc::Global;
 
-/// An answer that is true or false, or its refusal.
-fn shown_truth(truth: &Outcome<bool>) -> &'static str {
-    match truth {
-        Outcome::Done(true) => "True",
-        Outcome::Done(false) => "False",
-        Outcome::Refused(fault) => fault.python_name(),
-    }
-}
-
-/// Bytes in hexadecimal digits after an `x`, or their refusal.
-fn shown_bytes(alloc: Global, bytes: &Outcome<Vec<u8>>) -> Made<String> {
-    match bytes {
-        Outcome::Done(bytes) => {
-            let digits = hex::encode(alloc, bytes.as_slice())?;
-            Ok(format!(in alloc; "x{digits}")?)
-        }
-        Outcome::Refused(fault) => Ok(String::from_str(alloc, fault.python_name())?),
-    }
-}
-
-/// A text between quotes, or its refusal.
-fn shown_text(alloc: Global, text: &Outcome<Text>) -> Made<String> {
-    match text {
-        Outcome::Done(text) => {
-            let text = text.as_str();
-            Ok(format!(in alloc; "'{text}'")?)
-        }
-        Outcome::Refused(fault) => Ok(String::from_str(alloc, fault.python_name())?),
-    }
-}
-
-/// Adds the line of a difference.
-fn push_row(alloc: Global, out: &mut String, name: &str, ours: &str) -> Made<()> {
-    let line = format!(in alloc; "difference {name} {ours}\n")?;
-    out.push_str(line.as_str())?;
-    Ok(())
-}
-
 /// What the table of `aa` and `xy` has for `a`.
-fn first_mapped(alloc: Global) -> Made<Outcome<Vec<u8>>> {
+fn first_mapped(alloc: Global) -> Tried<Vec<u8>> {
     let from = string(alloc, b"aa")?;
     let to = string(alloc, b"xy")?;
     let Outcome::Done(table) = PyBytesInner::maketrans(alloc, &from, &to)? else {
@@ -63,7 +27,7 @@ fn first_mapped(alloc: Global) -> Made<Outcome<Vec<u8>>> {
 }
 
 /// `a` by a table that is a number.
-fn by_number(alloc: Global) -> Made<Outcome<Vec<u8>>> {
+fn by_number(alloc: Global) -> Tried<Vec<u8>> {
     let options = ByteInnerTranslateOptions {
         table: Some(Value::One(Scalar::Int(5))),
         delete: None,
@@ -73,7 +37,7 @@ fn by_number(alloc: Global) -> Made<Outcome<Vec<u8>>> {
 }
 
 /// `a` with tabs of a size past 32 bits.
-fn wide_tabs(alloc: Global) -> Made<Outcome<Vec<u8>>> {
+fn wide_tabs(alloc: Global) -> Tried<Vec<u8>> {
     let text = string(alloc, b"a")?;
     let options = ExpandTabsArgs {
         tabsize: 4_294_967_296,
@@ -81,13 +45,14 @@ fn wide_tabs(alloc: Global) -> Made<Outcome<Vec<u8>>> {
     text.expandtabs(alloc, options)
 }
 
-fn digits(alloc: Global, bytes: &[u8], sep: &[u8], group: isize) -> Made<Outcome<Text>> {
+/// The digits of bytes, with a separator between groups.
+fn digits(alloc: Global, bytes: &[u8], sep: &[u8], group: isize) -> Tried<Text> {
     let text = string(alloc, bytes)?;
     text.hex(alloc, Some(sep), Some(group))
 }
 
 /// Whether `a` starts with an affix.
-fn starts(alloc: Global, affix: Value, start: Option<i128>) -> Made<Outcome<bool>> {
+fn starts(alloc: Global, affix: Value, start: Option<i128>) -> Tried<bool> {
     let args = StartsEndsWithArgs {
         affix,
         start,
@@ -104,14 +69,11 @@ fn number_list(alloc: Global) -> Made<Value> {
 }
 
 /// Whether a value stands in `ba`.
-fn stands(alloc: Global, value: &Value, lender: &SnapList) -> Made<Outcome<bool>> {
+fn stands(alloc: Global, value: &Value, lender: &SnapList) -> Tried<bool> {
     let text = string(alloc, b"ba")?;
     match Needle::try_from_value(alloc, value, lender)? {
         Outcome::Refused(fault) => Ok(Outcome::Refused(fault)),
-        Outcome::Done(needle) => match text.contains(&needle) {
-            Ok(truth) => Ok(Outcome::Done(truth)),
-            Err(fault) => Ok(Outcome::Refused(fault)),
-        },
+        Outcome::Done(needle) => Ok(found(&text, &needle)),
     }
 }
 
@@ -132,41 +94,38 @@ fn apart(alloc: Global) -> Made<SnapList> {
     Ok(lender)
 }
 
-/// Adds the lines about tables and tabs.
-fn push_shapes(alloc: Global, out: &mut String) -> Made<()> {
-    let shown = shown_bytes(alloc, &first_mapped(alloc)?)?;
-    push_row(alloc, out, "maketrans-of-repeated-bytes", shown.as_str())?;
-    let shown = shown_bytes(alloc, &by_number(alloc)?)?;
-    push_row(alloc, out, "translate-by-a-number", shown.as_str())?;
-    let shown = shown_bytes(alloc, &wide_tabs(alloc)?)?;
-    push_row(alloc, out, "expandtabs-of-a-wide-tab", shown.as_str())
-}
-
-/// Adds the lines about digits.
-fn push_digits(alloc: Global, out: &mut String) -> Made<()> {
-    let shown = shown_text(alloc, &digits(alloc, b"a", b":", 4_294_967_296)?)?;
-    push_row(alloc, out, "hex-in-wide-groups", shown.as_str())?;
-    let shown = shown_text(alloc, &digits(alloc, b"", b"::", 1)?)?;
-    push_row(alloc, out, "hex-of-nothing", shown.as_str())?;
-    let shown = shown_text(alloc, &digits(alloc, b"a", b"::", 0)?)?;
-    push_row(alloc, out, "hex-without-groups", shown.as_str())
-}
-
-/// Adds the lines about affixes and needles.
-fn push_searches(alloc: Global, out: &mut String) -> Made<()> {
-    let early = starts(alloc, Value::One(Scalar::Int(5)), Some(2))?;
-    push_row(alloc, out, "startswith-in-no-range", shown_truth(&early))?;
-    let listed = starts(alloc, number_list(alloc)?, None)?;
-    push_row(alloc, out, "startswith-of-a-list", shown_truth(&listed))?;
-    let listed = stands(alloc, &number_list(alloc)?, &SnapList::new(alloc))?;
-    push_row(alloc, out, "contains-of-a-list", shown_truth(&listed))?;
-    let viewed = stands(alloc, &Value::One(Scalar::Handle(0)), &apart(alloc)?)?;
-    push_row(alloc, out, "contains-of-a-view-apart", shown_truth(&viewed))
+/// Adds the lines about needles.
+fn push_needles(alloc: Global, report: &mut Report) -> Made<()> {
+    let list = number_list(alloc)?;
+    report.truth(
+        "contains-of-a-list",
+        stands(alloc, &list, &SnapList::new(alloc)),
+    )?;
+    let handle = Value::One(Scalar::Handle(0));
+    report.truth(
+        "contains-of-a-view-apart",
+        stands(alloc, &handle, &apart(alloc)?),
+    )
 }
 
 /// Adds a line for each difference.
-pub fn push_differences(alloc: Global, out: &mut String) -> Made<()> {
-    push_shapes(alloc, out)?;
-    push_digits(alloc, out)?;
-    push_searches(alloc, out)
+pub fn push_differences(alloc: Global, report: &mut Report) -> Made<()> {
+    report.bytes("maketrans-of-repeated-bytes", first_mapped(alloc))?;
+    report.bytes("translate-by-a-number", by_number(alloc))?;
+    report.bytes("expandtabs-of-a-wide-tab", wide_tabs(alloc))?;
+    report.text(
+        "hex-in-wide-groups",
+        digits(alloc, b"a", b":", 4_294_967_296),
+    )?;
+    report.text("hex-of-nothing", digits(alloc, b"", b"::", 1))?;
+    report.text("hex-without-groups", digits(alloc, b"a", b"::", 0))?;
+    report.truth(
+        "startswith-in-no-range",
+        starts(alloc, Value::One(Scalar::Int(5)), Some(2)),
+    )?;
+    report.truth(
+        "startswith-of-a-list",
+        starts(alloc, number_list(alloc)?, None),
+    )?;
+    push_needles(alloc, report)
 }

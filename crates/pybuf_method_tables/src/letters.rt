@@ -1,8 +1,9 @@
 //! Methods that take no argument.
 
 use crate::tally::Tally;
+use crate::texts::Case;
 use pybuf_bytes::{PyBytesInner, SplitLinesArgs};
-use pybuf_value::Made;
+use pybuf_value::{ByteLists, Made};
 use std::alloc::Global;
 
 /// Methods without an argument; of `splitlines` both forms.
@@ -26,65 +27,36 @@ pub enum Bare {
     RightStrip,
     Lines,
     WholeLines,
+    FromHex,
 }
 
-pub const BARE: [(&str, Bare); 18] = [
-    ("isalnum", Bare::IsAlnum),
-    ("isalpha", Bare::IsAlpha),
-    ("isascii", Bare::IsAscii),
-    ("isdigit", Bare::IsDigit),
-    ("islower", Bare::IsLower),
-    ("isspace", Bare::IsSpace),
-    ("istitle", Bare::IsTitle),
-    ("isupper", Bare::IsUpper),
-    ("lower", Bare::Lower),
-    ("upper", Bare::Upper),
-    ("swapcase", Bare::SwapCase),
-    ("capitalize", Bare::Capitalize),
-    ("title", Bare::Title),
-    ("strip", Bare::Strip),
-    ("lstrip", Bare::LeftStrip),
-    ("rstrip", Bare::RightStrip),
-    ("splitlines", Bare::Lines),
-    ("splitlines-keepends", Bare::WholeLines),
-];
-
-fn push_lines(alloc: Global, text: &PyBytesInner, keepends: bool, tally: &mut Tally) -> Made<()> {
-    let lines = text.splitlines(alloc, SplitLinesArgs { keepends })?;
-    tally.lists(&lines);
-    Ok(())
+/// The lines of a text, with their ends or without.
+fn lines(alloc: Global, text: &PyBytesInner, keepends: bool) -> Made<ByteLists> {
+    text.splitlines(alloc, SplitLinesArgs { keepends })
 }
 
 /// The answer of one call.
-fn call(alloc: Global, method: Bare, text: &PyBytesInner, tally: &mut Tally) -> Made<()> {
+pub fn add_bare(case: &Case, method: Bare, tally: &mut Tally) -> Made<()> {
+    let (alloc, text) = (case.alloc, case.text);
     match method {
-        Bare::IsAlnum => tally.truth(text.isalnum()),
-        Bare::IsAlpha => tally.truth(text.isalpha()),
-        Bare::IsAscii => tally.truth(text.isascii()),
-        Bare::IsDigit => tally.truth(text.isdigit()),
-        Bare::IsLower => tally.truth(text.islower()),
-        Bare::IsSpace => tally.truth(text.isspace()),
-        Bare::IsTitle => tally.truth(text.istitle()),
-        Bare::IsUpper => tally.truth(text.isupper()),
-        Bare::Lower => tally.bytes(text.lower(alloc)?.as_slice()),
-        Bare::Upper => tally.bytes(text.upper(alloc)?.as_slice()),
-        Bare::SwapCase => tally.bytes(text.swapcase(alloc)?.as_slice()),
-        Bare::Capitalize => tally.bytes(text.capitalize(alloc)?.as_slice()),
-        Bare::Title => tally.bytes(text.title(alloc)?.as_slice()),
-        Bare::Strip => tally.bytes(text.strip(alloc, None)?.as_slice()),
-        Bare::LeftStrip => tally.bytes(text.lstrip(None)),
-        Bare::RightStrip => tally.bytes(text.rstrip(None)),
-        Bare::Lines => push_lines(alloc, text, false, tally)?,
-        Bare::WholeLines => push_lines(alloc, text, true, tally)?,
+        Bare::IsAlnum => tally.add(Ok(text.isalnum())),
+        Bare::IsAlpha => tally.add(Ok(text.isalpha())),
+        Bare::IsAscii => tally.add(Ok(text.isascii())),
+        Bare::IsDigit => tally.add(Ok(text.isdigit())),
+        Bare::IsLower => tally.add(Ok(text.islower())),
+        Bare::IsSpace => tally.add(Ok(text.isspace())),
+        Bare::IsTitle => tally.add(Ok(text.istitle())),
+        Bare::IsUpper => tally.add(Ok(text.isupper())),
+        Bare::Lower => tally.add(text.lower(alloc)),
+        Bare::Upper => tally.add(text.upper(alloc)),
+        Bare::SwapCase => tally.add(text.swapcase(alloc)),
+        Bare::Capitalize => tally.add(text.capitalize(alloc)),
+        Bare::Title => tally.add(text.title(alloc)),
+        Bare::Strip => tally.add(text.strip(alloc, None)),
+        Bare::LeftStrip => tally.add(Ok(text.lstrip(None))),
+        Bare::RightStrip => tally.add(Ok(text.rstrip(None))),
+        Bare::Lines => tally.add(lines(alloc, text, false)),
+        Bare::WholeLines => tally.add(lines(alloc, text, true)),
+        Bare::FromHex => tally.add(PyBytesInner::fromhex(alloc, text.as_bytes())),
     }
-    Ok(())
-}
-
-/// The answers of a method on each text.
-pub fn tally_bare(alloc: Global, method: Bare, texts: &[PyBytesInner]) -> Made<Tally> {
-    let mut tally = Tally::new();
-    for text in texts {
-        call(alloc, method, text, &mut tally)?;
-    }
-    Ok(tally)
 }

@@ -6,128 +6,106 @@
 
 mod differences;
 mod letters;
-mod searches;
+mod methods;
+mod needles;
+mod report;
 mod shapes;
 mod tally;
 mod texts;
 
 use differences::push_differences;
-use letters::{BARE, tally_bare};
+use methods::{Method, OF_LETTERS, OF_NEEDLES, OF_SHAPES, tally_of};
 use pybuf_bytes::PyBytesInner;
 use pybuf_value::Made;
-use searches::{BOUNDED, PLAIN, tally_bounded, tally_plain, tally_repeats, tally_splits};
-use shapes::{
-    PADDING, tally_expanded, tally_from_hex, tally_hex, tally_padded, tally_replaced, tally_tables,
-    tally_translated,
-};
+use report::Report;
+use shapes::tally_tables;
 use std::alloc::Global;
 use std::process::ExitCode;
-use tally::Tally;
-use texts::{single_bytes, texts};
+use texts::{single_bytes, string, texts};
 
-/// Adds the line of a method and its argument.
-fn push_line(
-    alloc: Global,
-    out: &mut String,
-    method: &str,
+/// Adds the lines of methods on texts, for a needle where they take one.
+fn push_methods(
+    report: &mut Report,
+    methods: &[(&str, Method)],
     argument: &str,
-    tally: &Tally,
+    texts: &[PyBytesInner],
+    needle: &PyBytesInner,
 ) -> Made<()> {
-    let (count, hash) = (tally.count, tally.hash);
-    let line = format!(in alloc; "{method} {argument} {count} {hash:016x}\n")?;
-    out.push_str(line.as_str())?;
+    for (name, method) in methods {
+        let tally = tally_of(report.alloc, *method, texts, needle)?;
+        report.tally(name, argument, &tally)?;
+    }
     Ok(())
 }
 
 /// Adds the lines of a needle.
-fn push_needle(
-    alloc: Global,
-    out: &mut String,
-    words: &[PyBytesInner],
-    needle: &PyBytesInner,
-) -> Made<()> {
-    let digits = hex::encode(alloc, needle.as_bytes())?;
-    let shown = format!(in alloc; "x{digits}")?;
-    for (name, method) in &BOUNDED {
-        let tally = tally_bounded(alloc, *method, words, needle.as_bytes())?;
-        push_line(alloc, out, name, shown.as_str(), &tally)?;
-    }
-    for (name, method) in &PLAIN {
-        let tally = tally_plain(alloc, *method, words, needle)?;
-        push_line(alloc, out, name, shown.as_str(), &tally)?;
-    }
-    let tally = tally_splits(alloc, words, Some(needle), false)?;
-    push_line(alloc, out, "split", shown.as_str(), &tally)?;
-    let tally = tally_splits(alloc, words, Some(needle), true)?;
-    push_line(alloc, out, "rsplit", shown.as_str(), &tally)?;
-    let tally = tally_replaced(alloc, words, needle)?;
-    push_line(alloc, out, "replace", shown.as_str(), &tally)?;
-    let tally = tally_translated(alloc, words, needle)?;
-    push_line(alloc, out, "translate", shown.as_str(), &tally)?;
-    Ok(())
+fn push_needle(report: &mut Report, words: &[PyBytesInner], needle: &PyBytesInner) -> Made<()> {
+    let digits = hex::encode(report.alloc, needle.as_bytes())?;
+    let shown = format!(in report.alloc; "x{digits}")?;
+    push_methods(report, &OF_NEEDLES, shown.as_str(), words, needle)
 }
 
-/// Adds the lines of the methods without an argument, on texts that have a name.
-fn push_bare(alloc: Global, out: &mut String, name: &str, texts: &[PyBytesInner]) -> Made<()> {
-    for (method, bare) in &BARE {
-        let tally = tally_bare(alloc, *bare, texts)?;
-        push_line(alloc, out, method, name, &tally)?;
-    }
-    let tally = tally_splits(alloc, texts, None, false)?;
-    push_line(alloc, out, "split", name, &tally)?;
-    let tally = tally_splits(alloc, texts, None, true)?;
-    push_line(alloc, out, "rsplit", name, &tally)?;
-    let tally = tally_repeats(alloc, texts)?;
-    push_line(alloc, out, "mul", name, &tally)?;
-    Ok(())
-}
-
-/// Adds the lines of the methods that pad, write or read texts that have a name.
-fn push_shapes(alloc: Global, out: &mut String, name: &str, texts: &[PyBytesInner]) -> Made<()> {
-    for (method, padding) in &PADDING {
-        let tally = tally_padded(alloc, *padding, texts)?;
-        push_line(alloc, out, method, name, &tally)?;
-    }
-    let tally = tally_expanded(alloc, texts)?;
-    push_line(alloc, out, "expandtabs", name, &tally)?;
-    let tally = tally_hex(alloc, texts)?;
-    push_line(alloc, out, "hex", name, &tally)?;
-    let tally = tally_from_hex(alloc, texts)?;
-    push_line(alloc, out, "fromhex", name, &tally)?;
-    Ok(())
-}
-
-/// All lines.
-fn report(alloc: Global) -> Made<String> {
-    let mut out = String::new(alloc);
+/// Adds the lines of each needle.
+fn push_needles(alloc: Global, report: &mut Report) -> Made<()> {
     let words = texts(alloc, b"ab", 6)?;
     let needles = texts(alloc, b"ab", 3)?;
     for needle in needles.as_slice() {
-        push_needle(alloc, &mut out, words.as_slice(), needle)?;
+        push_needle(report, words.as_slice(), needle)?;
     }
-    let letters = texts(alloc, b"aB1 ", 5)?;
-    push_bare(alloc, &mut out, "letters", letters.as_slice())?;
-    let blanks = texts(alloc, b"a \x0b\x1c", 5)?;
-    push_bare(alloc, &mut out, "blanks", blanks.as_slice())?;
-    let breaks = texts(alloc, b"a\n\r", 6)?;
-    push_bare(alloc, &mut out, "breaks", breaks.as_slice())?;
-    let bytes = single_bytes(alloc)?;
-    push_bare(alloc, &mut out, "bytes", bytes.as_slice())?;
-    let signs = texts(alloc, b"+-1a", 4)?;
-    push_shapes(alloc, &mut out, "signs", signs.as_slice())?;
-    let tabs = texts(alloc, b"a\t\n\r", 5)?;
-    push_shapes(alloc, &mut out, "tabs", tabs.as_slice())?;
-    let digits = texts(alloc, b"1aF g", 5)?;
-    push_shapes(alloc, &mut out, "digits", digits.as_slice())?;
-    let tally = tally_tables(alloc)?;
-    push_line(alloc, &mut out, "maketrans", "ab", &tally)?;
-    push_differences(alloc, &mut out)?;
-    Ok(out)
+    Ok(())
+}
+
+/// Texts that have a name: all over an alphabet up to a length.
+const LETTERS: [(&str, &[u8], usize); 3] = [
+    ("letters", b"aB1 ", 5),
+    ("blanks", b"a \x0b\x1c", 5),
+    ("breaks", b"a\n\r", 6),
+];
+
+/// The same, for the methods that pad, write or read.
+const SHAPES: [(&str, &[u8], usize); 3] = [
+    ("signs", b"+-1a", 4),
+    ("tabs", b"a\t\n\r", 5),
+    ("digits", b"1aF g", 5),
+];
+
+/// Adds the lines of methods without a needle on texts that have a name.
+fn push_named(
+    report: &mut Report,
+    methods: &[(&str, Method)],
+    name: &str,
+    texts: Made<Vec<PyBytesInner>>,
+) -> Made<()> {
+    let texts = texts?;
+    let needle = string(report.alloc, b"")?;
+    push_methods(report, methods, name, texts.as_slice(), &needle)
+}
+
+/// Adds all lines.
+fn push_all(alloc: Global, report: &mut Report) -> Made<()> {
+    push_needles(alloc, report)?;
+    for (name, letters, longest) in &LETTERS {
+        push_named(report, &OF_LETTERS, name, texts(alloc, letters, *longest))?;
+    }
+    push_named(report, &OF_LETTERS, "bytes", single_bytes(alloc))?;
+    for (name, letters, longest) in &SHAPES {
+        push_named(report, &OF_SHAPES, name, texts(alloc, letters, *longest))?;
+    }
+    report.tally("maketrans", "ab", &tally_tables(alloc)?)?;
+    push_differences(alloc, report)
+}
+
+/// All lines.
+fn all(alloc: Global) -> Made<Report> {
+    let text = String::new(alloc);
+    let mut report = Report { alloc, text };
+    push_all(alloc, &mut report)?;
+    Ok(report)
 }
 
 fn main(rt: HostRuntime) -> ExitCode {
-    match report(rt.alloc()) {
-        Ok(text) => match print!(rt; "{text}") {
+    match all(rt.alloc()) {
+        Ok(Report { text, .. }) => match print!(rt; "{text}") {
             Ok(()) => ExitCode::from(0),
             Err(_) => ExitCode::from(5),
         },

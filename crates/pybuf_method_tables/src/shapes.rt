@@ -1,81 +1,116 @@
-//! Methods that change the shape of texts.
+//! Methods that are tried with several numbers, fill bytes or tables.
 
-use crate::searches::{NUMBERS, push_bytes};
 use crate::tally::Tally;
-use crate::texts::string;
+use crate::texts::{Case, string, value};
 use pybuf_bytes::{
-    ByteInnerPaddingOptions, ByteInnerTranslateOptions, ExpandTabsArgs, PyBytesInner,
+    ByteInnerPaddingOptions, ByteInnerSplitOptions, ByteInnerTranslateOptions, ExpandTabsArgs,
+    PyBytesInner, SplitArgs,
 };
-use pybuf_value::{ByteList, Made, Outcome, Scalar, SnapList, Text, Value};
+use pybuf_value::{Made, Outcome, SnapList, Tried, Value};
 use std::alloc::Global;
 
-/// The bytes as a value.
-fn value(alloc: Global, bytes: &[u8]) -> Made<Value> {
-    let list = ByteList::from_vec(Vec::from_slice(alloc, bytes)?);
-    Ok(Value::One(Scalar::Bytes(list)))
+/// Methods that take a number: a greatest number of cuts, a number of repeats, or the size of a tab or of a group.
+#[derive(Clone, Copy)]
+pub enum Numbered {
+    Split,
+    RightSplit,
+    SplitAtBlanks,
+    RightSplitAtBlanks,
+    Repeat,
+    ExpandTabs,
+    Hex,
+}
+
+/// The numbers that are tried.
+const NUMBERS: [isize; 7] = [-2, -1, 0, 1, 2, 3, 4];
+
+/// At the needle.
+fn at_needle(case: &Case, maxsplit: isize) -> Made<ByteInnerSplitOptions> {
+    let sep = Some(string(case.alloc, case.needle.as_bytes())?);
+    Ok(SplitArgs { sep, maxsplit })
+}
+
+/// At runs of blanks.
+fn at_blanks(maxsplit: isize) -> ByteInnerSplitOptions {
+    let sep = None;
+    SplitArgs { sep, maxsplit }
+}
+
+/// The answer of one call.
+fn add_number(case: &Case, method: Numbered, number: isize, tally: &mut Tally) -> Made<()> {
+    let (alloc, text) = (case.alloc, case.text);
+    match method {
+        Numbered::Split => tally.add(text.split(alloc, at_needle(case, number)?)),
+        Numbered::RightSplit => tally.add(text.rsplit(alloc, at_needle(case, number)?)),
+        Numbered::SplitAtBlanks => tally.add(text.split(alloc, at_blanks(number))),
+        Numbered::RightSplitAtBlanks => tally.add(text.rsplit(alloc, at_blanks(number))),
+        Numbered::Repeat => tally.add(text.mul(alloc, number)),
+        Numbered::ExpandTabs => {
+            tally.add(text.expandtabs(alloc, ExpandTabsArgs { tabsize: number }))
+        }
+        Numbered::Hex => tally.add(text.hex(alloc, Some(b":"), Some(number))),
+    }
+}
+
+/// The answers by each number.
+pub fn add_numbered(case: &Case, method: Numbered, tally: &mut Tally) -> Made<()> {
+    if let Numbered::Hex = method {
+        tally.add(case.text.hex(case.alloc, None, None))?;
+    }
+    for number in &NUMBERS {
+        add_number(case, method, *number, tally)?;
+    }
+    Ok(())
 }
 
 /// What stands in place of a match.
 const REPLACEMENTS: [&[u8]; 3] = [b"", b"a", b"bb"];
 
-/// The answers of `replace` of a needle in each text, by each replacement and greatest number.
-pub fn tally_replaced(alloc: Global, texts: &[PyBytesInner], needle: &PyBytesInner) -> Made<Tally> {
-    let mut tally = Tally::new();
-    for text in texts {
-        for to in &REPLACEMENTS {
-            let to = string(alloc, to)?;
-            for count in &NUMBERS {
-                let made = text.replace(alloc, needle, &to, Some(*count))?;
-                push_bytes(&mut tally, made);
-            }
-        }
+/// The answers of `replace` by one replacement and by each greatest number.
+fn add_replacement(case: &Case, to: &PyBytesInner, tally: &mut Tally) -> Made<()> {
+    for count in &NUMBERS {
+        tally.add(case.text.replace(case.alloc, case.needle, to, Some(*count)))?;
     }
-    Ok(tally)
+    Ok(())
 }
 
-/// The answer of one `translate`, by no table or by one.
-fn translated(
-    alloc: Global,
-    text: &PyBytesInner,
-    table: Option<&[u8]>,
-    delete: &PyBytesInner,
-) -> Made<Outcome<Vec<u8>>> {
-    let table = match table {
-        None => None,
-        Some(table) => Some(value(alloc, table)?),
-    };
-    let delete = Some(value(alloc, delete.as_bytes())?);
+/// The answers of `replace` of the needle, by each replacement.
+pub fn add_replaced(case: &Case, tally: &mut Tally) -> Made<()> {
+    for to in &REPLACEMENTS {
+        let to = string(case.alloc, to)?;
+        add_replacement(case, &to, tally)?;
+    }
+    Ok(())
+}
+
+/// The answer of one `translate`, by a table or by none, without the bytes of the needle.
+fn translated(case: &Case, table: Option<Value>) -> Tried<Vec<u8>> {
+    let delete = Some(value(case.alloc, case.needle.as_bytes())?);
     let options = ByteInnerTranslateOptions { table, delete };
-    text.translate(alloc, &options, &SnapList::new(alloc))
+    case.text
+        .translate(case.alloc, &options, &SnapList::new(case.alloc))
 }
 
 /// The table that has each byte of one text in place of that of the other.
-fn table_of(alloc: Global, from: &[u8], to: &[u8]) -> Made<Outcome<Vec<u8>>> {
+fn table_of(alloc: Global, from: &[u8], to: &[u8]) -> Tried<Vec<u8>> {
     let from = string(alloc, from)?;
     let to = string(alloc, to)?;
     PyBytesInner::maketrans(alloc, &from, &to)
 }
 
-/// The answers of `translate` of each text, without the bytes of a needle: by the table that swaps `a`
-/// and `b`, and by that table without its last byte, which is none.
-pub fn tally_translated(
-    alloc: Global,
-    texts: &[PyBytesInner],
-    delete: &PyBytesInner,
-) -> Made<Tally> {
-    let mut tally = Tally::new();
-    let Outcome::Done(table) = table_of(alloc, b"ab", b"ba")? else {
-        return Ok(tally);
-    };
-    for text in texts {
-        push_bytes(&mut tally, translated(alloc, text, None, delete)?);
-        push_bytes(
-            &mut tally,
-            translated(alloc, text, Some(table.as_slice()), delete)?,
-        );
-        push_bytes(&mut tally, translated(alloc, text, Some(b"ab"), delete)?);
+/// The table that swaps `a` and `b`, as a value; none where it is refused.
+fn swapping(alloc: Global) -> Made<Option<Value>> {
+    match table_of(alloc, b"ab", b"ba")? {
+        Outcome::Done(table) => Ok(Some(value(alloc, table.as_slice())?)),
+        Outcome::Refused(_) => Ok(None),
     }
-    Ok(tally)
+}
+
+/// The answers of `translate` by no table, by one, and by two bytes, which are none.
+pub fn add_translated(case: &Case, tally: &mut Tally) -> Made<()> {
+    tally.add(translated(case, None))?;
+    tally.add(translated(case, swapping(case.alloc)?))?;
+    tally.add(translated(case, Some(value(case.alloc, b"ab")?)))
 }
 
 /// Bytes that differ from each other, and bytes that stand for them.
@@ -86,36 +121,8 @@ pub fn tally_tables(alloc: Global) -> Made<Tally> {
     let mut tally = Tally::new();
     for from in &MAPPED {
         for to in &MAPPED {
-            push_bytes(&mut tally, table_of(alloc, from, to)?);
+            tally.add(table_of(alloc, from, to))?;
         }
-    }
-    Ok(tally)
-}
-
-fn push_text(tally: &mut Tally, text: Outcome<Text>) {
-    match text {
-        Outcome::Done(text) => tally.bytes(text.as_slice()),
-        Outcome::Refused(fault) => tally.refused(fault),
-    }
-}
-
-/// The answers of `hex` of each text with a separator, by each size of groups.
-pub fn tally_hex(alloc: Global, texts: &[PyBytesInner]) -> Made<Tally> {
-    let mut tally = Tally::new();
-    for text in texts {
-        push_text(&mut tally, text.hex(alloc, None, None)?);
-        for group in &NUMBERS {
-            push_text(&mut tally, text.hex(alloc, Some(b":"), Some(*group))?);
-        }
-    }
-    Ok(tally)
-}
-
-/// The answers of `fromhex` of each text.
-pub fn tally_from_hex(alloc: Global, texts: &[PyBytesInner]) -> Made<Tally> {
-    let mut tally = Tally::new();
-    for text in texts {
-        push_bytes(&mut tally, PyBytesInner::fromhex(alloc, text.as_bytes())?);
     }
     Ok(tally)
 }
@@ -129,62 +136,42 @@ pub enum Padding {
     ZeroFill,
 }
 
-pub const PADDING: [(&str, Padding); 4] = [
-    ("center", Padding::Center),
-    ("ljust", Padding::LeftJustify),
-    ("rjust", Padding::RightJustify),
-    ("zfill", Padding::ZeroFill),
-];
+/// The widths that are tried.
+const WIDTHS: [isize; 10] = [-1, 0, 1, 2, 3, 4, 5, 6, 7, 8];
 
-/// The answer of one call, with blanks or with stars.
-fn call_padding(
-    alloc: Global,
-    method: Padding,
-    text: &PyBytesInner,
-    width: isize,
-    starred: bool,
-) -> Made<Outcome<Vec<u8>>> {
+/// To a width, with stars or with blanks.
+fn options_for(alloc: Global, width: isize, starred: bool) -> Made<ByteInnerPaddingOptions> {
     let fillchar = if starred {
         Some(value(alloc, b"*")?)
     } else {
         None
     };
-    let options = ByteInnerPaddingOptions { width, fillchar };
-    let lender = SnapList::new(alloc);
+    Ok(ByteInnerPaddingOptions { width, fillchar })
+}
+
+/// The answer of one call, with a fill byte or, without one, with blanks.
+fn add_width(
+    case: &Case,
+    method: Padding,
+    options: &ByteInnerPaddingOptions,
+    tally: &mut Tally,
+) -> Made<()> {
+    let (alloc, text, lender) = (case.alloc, case.text, SnapList::new(case.alloc));
     match method {
-        Padding::Center => text.center(alloc, &options, &lender),
-        Padding::LeftJustify => text.ljust(alloc, &options, &lender),
-        Padding::RightJustify => text.rjust(alloc, &options, &lender),
-        Padding::ZeroFill => Ok(Outcome::Done(text.zfill(alloc, width)?)),
+        Padding::Center => tally.add(text.center(alloc, options, &lender)),
+        Padding::LeftJustify => tally.add(text.ljust(alloc, options, &lender)),
+        Padding::RightJustify => tally.add(text.rjust(alloc, options, &lender)),
+        Padding::ZeroFill => tally.add(text.zfill(alloc, options.width)),
     }
 }
 
-/// The widths that are tried.
-const WIDTHS: [isize; 10] = [-1, 0, 1, 2, 3, 4, 5, 6, 7, 8];
-
-/// The answers of a method that pads, on each text, by each width.
-pub fn tally_padded(alloc: Global, method: Padding, texts: &[PyBytesInner]) -> Made<Tally> {
-    let mut tally = Tally::new();
-    for text in texts {
-        for width in &WIDTHS {
-            push_bytes(
-                &mut tally,
-                call_padding(alloc, method, text, *width, false)?,
-            );
-            push_bytes(&mut tally, call_padding(alloc, method, text, *width, true)?);
+/// The answers of a method that pads, by each width, with blanks and with stars.
+pub fn add_padded(case: &Case, method: Padding, tally: &mut Tally) -> Made<()> {
+    for width in &WIDTHS {
+        for starred in [false, true] {
+            let options = options_for(case.alloc, *width, starred)?;
+            add_width(case, method, &options, tally)?;
         }
     }
-    Ok(tally)
-}
-
-/// The answers of `expandtabs` of each text, by each size of a tab.
-pub fn tally_expanded(alloc: Global, texts: &[PyBytesInner]) -> Made<Tally> {
-    let mut tally = Tally::new();
-    for text in texts {
-        for tabsize in &NUMBERS {
-            let options = ExpandTabsArgs { tabsize: *tabsize };
-            push_bytes(&mut tally, text.expandtabs(alloc, options)?);
-        }
-    }
-    Ok(tally)
+    Ok(())
 }

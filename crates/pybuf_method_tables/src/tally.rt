@@ -1,7 +1,7 @@
 //! Answers counted and hashed.
 
 use itoa::Buffer;
-use pybuf_value::{ByteLists, Fault};
+use pybuf_value::{ByteLists, Made, Outcome, Text};
 
 /// How many answers there were, and the FNV-1a hash, of 64 bits, of their texts, each of which ends
 /// with a line feed.
@@ -9,6 +9,12 @@ use pybuf_value::{ByteLists, Fault};
 pub struct Tally {
     pub count: u64,
     pub hash: u64,
+}
+
+/// What a method answers.
+pub trait Answer {
+    /// Goes on with the hash of its text.
+    fn write(&self, tally: &mut Tally);
 }
 
 impl Tally {
@@ -38,62 +44,87 @@ impl Tally {
         }
     }
 
-    fn end(&mut self) {
+    /// Adds an answer.
+    pub fn add<A: Answer + Drop>(&mut self, answer: Made<A>) -> Made<()> {
+        let answer = answer?;
+        answer.write(self);
         self.byte(b'\n');
         self.count = self.count.wrapping_add(1);
+        Ok(())
     }
+}
 
-    /// An answer that is true or false: `1` or `0`.
-    pub fn truth(&mut self, truth: bool) {
-        self.byte(if truth { b'1' } else { b'0' });
-        self.end();
+/// `1` or `0`.
+impl Answer for bool {
+    fn write(&self, tally: &mut Tally) {
+        tally.byte(if *self { b'1' } else { b'0' });
     }
+}
 
-    /// An answer that is a number, in decimal digits.
-    pub fn number(&mut self, number: usize) {
+/// Decimal digits.
+impl Answer for usize {
+    fn write(&self, tally: &mut Tally) {
         let mut buffer = Buffer::new();
-        self.text(buffer.format(number).as_bytes());
-        self.end();
+        tally.text(buffer.format(*self).as_bytes());
     }
+}
 
-    /// A place, or `-1` where there is none.
-    pub fn place(&mut self, place: Option<usize>) {
-        match place {
-            Some(place) => self.number(place),
-            None => {
-                self.text(b"-1");
-                self.end();
-            }
+/// A place, or `-1` where there is none.
+impl Answer for Option<usize> {
+    fn write(&self, tally: &mut Tally) {
+        match self {
+            Some(place) => place.write(tally),
+            None => tally.text(b"-1"),
         }
     }
+}
 
-    /// Bytes, in hexadecimal digits.
-    pub fn bytes(&mut self, bytes: &[u8]) {
-        self.hex(bytes);
-        self.end();
+/// Hexadecimal digits.
+impl Answer for &[u8] {
+    fn write(&self, tally: &mut Tally) {
+        tally.hex(self);
     }
+}
 
-    /// Lists of bytes, each with a comma behind it.
-    pub fn lists(&mut self, lists: &ByteLists) {
-        for list in lists.as_slice() {
-            self.hex(list.as_slice());
-            self.byte(b',');
+impl Answer for Vec<u8> {
+    fn write(&self, tally: &mut Tally) {
+        tally.hex(self.as_slice());
+    }
+}
+
+impl Answer for Text {
+    fn write(&self, tally: &mut Tally) {
+        tally.hex(self.as_slice());
+    }
+}
+
+/// Each list with a comma behind it.
+impl Answer for ByteLists {
+    fn write(&self, tally: &mut Tally) {
+        for list in self.as_slice() {
+            tally.hex(list.as_slice());
+            tally.byte(b',');
         }
-        self.end();
     }
+}
 
-    /// The three parts of a partition, each with a comma behind it.
-    pub fn parts(&mut self, first: &[u8], found: bool, last: &[u8]) {
-        self.hex(first);
-        self.text(if found { b",1," } else { b",0," });
-        self.hex(last);
-        self.byte(b',');
-        self.end();
+/// The three parts of a partition, each with a comma behind it.
+impl Answer for (Vec<u8>, bool, Vec<u8>) {
+    fn write(&self, tally: &mut Tally) {
+        let (first, found, last) = self;
+        tally.hex(first.as_slice());
+        tally.text(if *found { b",1," } else { b",0," });
+        tally.hex(last.as_slice());
+        tally.byte(b',');
     }
+}
 
-    /// A refusal, by the name of Python's exception.
-    pub fn refused(&mut self, fault: Fault) {
-        self.text(fault.python_name().as_bytes());
-        self.end();
+/// A refusal is the name of Python's exception.
+impl<A: Answer> Answer for Outcome<A> {
+    fn write(&self, tally: &mut Tally) {
+        match self {
+            Outcome::Done(answer) => answer.write(tally),
+            Outcome::Refused(fault) => tally.text(fault.python_name().as_bytes()),
+        }
     }
 }

@@ -1,12 +1,36 @@
 //! The texts that the methods are tried on.
 
 use pybuf_bytes::PyBytesInner;
-use pybuf_value::Made;
+use pybuf_value::{ByteList, Made, Scalar, Value};
 use std::alloc::Global;
+
+/// What a method is tried on: a text, and a needle where the method takes one.
+#[derive(Clone, Copy)]
+pub struct Case<'a> {
+    pub alloc: Global,
+    pub text: &'a PyBytesInner,
+    pub needle: &'a PyBytesInner,
+}
 
 /// A string of these bytes.
 pub fn string(alloc: Global, bytes: &[u8]) -> Made<PyBytesInner> {
     Ok(PyBytesInner::from(Vec::from_slice(alloc, bytes)?))
+}
+
+/// The bytes as a value.
+pub fn value(alloc: Global, bytes: &[u8]) -> Made<Value> {
+    let list = ByteList::from_vec(Vec::from_slice(alloc, bytes)?);
+    Ok(Value::One(Scalar::Bytes(list)))
+}
+
+/// A text and a letter behind it; none behind no text.
+fn longer(alloc: Global, text: Option<&PyBytesInner>, letter: u8) -> Made<PyBytesInner> {
+    let Some(text) = text else {
+        return string(alloc, b"");
+    };
+    let mut longer = Vec::from_slice(alloc, text.as_bytes())?;
+    longer.push(letter)?;
+    Ok(PyBytesInner::from(longer))
 }
 
 /// All texts over an alphabet up to a length, the shorter ones first.
@@ -18,15 +42,8 @@ pub fn texts(alloc: Global, alphabet: &[u8], longest: usize) -> Made<Vec<PyBytes
         let end = texts.len();
         for place in first..end {
             for letter in alphabet {
-                let longer = match texts.get(place) {
-                    None => Vec::new(alloc),
-                    Some(text) => {
-                        let mut longer = Vec::from_slice(alloc, text.as_bytes())?;
-                        longer.push(*letter)?;
-                        longer
-                    }
-                };
-                texts.push(PyBytesInner::from(longer))?;
+                let text = longer(alloc, texts.get(place), *letter)?;
+                texts.push(text)?;
             }
         }
         first = end;
@@ -34,18 +51,20 @@ pub fn texts(alloc: Global, alphabet: &[u8], longest: usize) -> Made<Vec<PyBytes
     Ok(texts)
 }
 
+fn push(alloc: Global, texts: &mut Vec<PyBytesInner>, bytes: &[u8]) -> Made<()> {
+    let text = string(alloc, bytes)?;
+    texts.push(text)?;
+    Ok(())
+}
+
 /// Each byte alone, before an `a`, after one, and between two.
 pub fn single_bytes(alloc: Global) -> Made<Vec<PyBytesInner>> {
     let mut texts = Vec::new(alloc);
     for byte in 0..=255u8 {
-        let alone = string(alloc, &[byte])?;
-        texts.push(alone)?;
-        let before = string(alloc, &[byte, b'a'])?;
-        texts.push(before)?;
-        let after = string(alloc, &[b'a', byte])?;
-        texts.push(after)?;
-        let between = string(alloc, &[b'a', byte, b'a'])?;
-        texts.push(between)?;
+        push(alloc, &mut texts, &[byte])?;
+        push(alloc, &mut texts, &[byte, b'a'])?;
+        push(alloc, &mut texts, &[b'a', byte])?;
+        push(alloc, &mut texts, &[b'a', byte, b'a'])?;
     }
     Ok(texts)
 }
