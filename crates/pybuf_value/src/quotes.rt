@@ -5,6 +5,7 @@ ghost use Rattle.hex.specs.Hex.{lower_digits};
 ghost use Rattle.pybuf_value.specs.Quotes.{quote_of, is_plain, escaped_byte, quoted_text};
 
 use crate::list::ByteList;
+use bstr::ByteSlice;
 use pybuf_copy::{Made, NoMemory};
 use std::alloc::Global;
 use std::mem;
@@ -13,7 +14,7 @@ use std::mem;
 fn holds(bytes: &[u8], byte: u8) -> bool
     ensures { result ≡ list_any (λ b. b == byte) bytes.now }
 {
-    bytes.iter().any(|b| *b == byte)
+    bytes.find_byte(byte).is_some()
 }
 
 /// The quote that Python's `repr` writes round the bytes: a double one where they hold a single
