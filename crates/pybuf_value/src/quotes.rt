@@ -1,10 +1,11 @@
 //! Bytes between quotes, as Python's `repr` writes them.
-ghost use Rattle.std.specs.Prelude.{◌≡◌, ◌<◌, ◌==◌, ◌++◌, ◌+◌, ◌*◌, ◌≤◌, OnOk, OnErr, length, take, slice_index};
+ghost use Rattle.std.specs.Prelude.{◌≡◌, ◌==◌, ◌++◌, ◌∷◌, [], ◌+◌, ◌*◌, ◌≤◌, OnOk, OnErr, codes, length, take};
 ghost use Rattle.std.specs.List.{flat_map, list_any};
-ghost use Rattle.hex.specs.Hex.{lower_digits};
+ghost use Rattle.hex.specs.Hex.{encode_lower};
 ghost use Rattle.pybuf_value.specs.Quotes.{quote_of, is_plain, escaped_byte, quoted_text};
 
 use crate::list::ByteList;
+use bstr::ByteSlice;
 use pybuf_copy::{Made, NoMemory};
 use std::alloc::Global;
 use std::mem;
@@ -13,7 +14,7 @@ use std::mem;
 fn holds(bytes: &[u8], byte: u8) -> bool
     ensures { result ≡ list_any (λ b. b == byte) bytes.now }
 {
-    bytes.iter().any(|b| *b == byte)
+    bytes.find_byte(byte).is_some()
 }
 
 /// The quote that Python's `repr` writes round the bytes: a double one where they hold a single
@@ -29,18 +30,23 @@ pub fn quote(bytes: &[u8]) -> u8
     b'\''
 }
 
-/// The hexadecimal digit of a value.
-fn hex_digit(value: u8) -> u8
-    requires { value < 16 }
-    ensures { result ≡ slice_index lower_digits value }
+/// Adds a byte as `\x` and two hexadecimal digits.
+fn push_hexadecimal(out: &mut Vec<u8>, byte: u8) -> Made<()>
+    ensures ok { OnOk result (out.new.items ≡ out.old.items ++ codes "\\x" ++ encode_lower (byte ∷ [])) }
+    ensures err { OnErr result (out.new.items ≡ out.old.items) }
 {
-    b"0123456789abcdef"[value as usize]
+    let mut digits = [0; 2];
+    // the room takes the two digits of a byte, so this is no refusal
+    let _ = hex::encode_to_slice([byte], &mut digits);
+    out.extend_from_slice(&[b'\\', b'x', digits[0], digits[1]])?;
+    Ok(())
 }
 
 /// Adds a byte as it stands between such quotes: with a backslash before the quote and before a
 /// backslash, `\t`, `\n` and `\r` for these three, and `\x` with two digits for any other byte that
 /// isn't printed of ASCII.
 /// Where memory runs out, nothing is added.
+#[tactic(auto, unfolding(hex::specs::Hex::encode_with))]
 pub fn push_escaped(out: &mut Vec<u8>, quote: u8, byte: u8) -> Made<()>
     ensures ok { OnOk result (out.new.items ≡ out.old.items ++ escaped_byte quote byte) }
     ensures err { OnErr result (out.new.items ≡ out.old.items) }
@@ -71,7 +77,7 @@ pub fn push_escaped(out: &mut Vec<u8>, quote: u8, byte: u8) -> Made<()>
             return Ok(());
         }
     }
-    out.extend_from_slice(&[b'\\', b'x', hex_digit(byte / 16), hex_digit(byte % 16)])?;
+    push_hexadecimal(out, byte)?;
     Ok(())
 }
 
