@@ -37,10 +37,11 @@ impl Tally {
 
     /// Two hexadecimal digits for each byte.
     fn hex(&mut self, bytes: &[u8]) {
-        let digits = b"0123456789abcdef";
         for byte in bytes {
-            self.byte(digits[(*byte >> 4) as usize]);
-            self.byte(digits[(*byte & 15) as usize]);
+            let mut digits = [0u8; 2];
+            // the room takes the two digits of a byte, so this is no refusal
+            let _ = hex::encode_to_slice([*byte], &mut digits);
+            self.text(digits.as_slice());
         }
     }
 

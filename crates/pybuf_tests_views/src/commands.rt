@@ -143,53 +143,81 @@ fn loans_fit_by_their_format(rt: HostRuntime) -> Result<(), Fail> {
     Ok(())
 }
 
-/// A view's item set to what handle 7 names, at a key that handle 5 names.
-fn command(alloc: Global) -> Made<LocalCommand> {
-    let verb = Verb::Set {
-        key: Value::One(Scalar::Handle(5)),
-        value: Value::One(Scalar::Handle(7)),
-    };
-    Ok(LocalCommand {
+/// A view's item set to what handle 7 names, at a key that handle 5 names. What is lent comes first, so that no verb is
+/// dropped where there is no memory for it.
+fn command_with(loans: LoanList) -> LocalCommand {
+    LocalCommand {
         subject: Subject::View(2),
-        verb,
-        loans: loans_with(alloc, SnapKind::ByteArray, 'B')?,
-    })
+        verb: Verb::Set {
+            key: Value::One(Scalar::Handle(5)),
+            value: Value::One(Scalar::Handle(7)),
+        },
+        loans,
+    }
 }
 
-/// The number of loans of the copy of a command, and whether handles 8 and 9 are among them.
-fn loans_of_copy(alloc: Global) -> Made<(usize, bool, bool)> {
-    let twin = command(alloc)?.copy(alloc)?;
-    let loans = twin.loans.copy(alloc)?;
+fn command(alloc: Global) -> Made<LocalCommand> {
+    let loans = loans_with(alloc, SnapKind::ByteArray, 'B')?;
+    Ok(command_with(loans))
+}
+
+/// The number of loans, and whether handles 8 and 9 are among them.
+fn told_of_loans(loans: &LoanList) -> (usize, bool, bool) {
+    let eight = loan_of(loans.as_slice(), 8).is_some();
+    let nine = loan_of(loans.as_slice(), 9).is_some();
+    (loans.len(), eight, nine)
+}
+
+/// The same of the loans of the copy of a command.
+fn told_of_twin(alloc: Global, command: &LocalCommand) -> Made<(usize, bool, bool)> {
+    let twin = command.copy(alloc)?;
+    let answer = told_of_loans(&twin.loans);
     drop(twin);
-    let (eight, nine) = (
-        loan_of(loans.as_slice(), 8).is_some(),
-        loan_of(loans.as_slice(), 9).is_some(),
-    );
-    Ok((loans.len(), eight, nine))
+    Ok(answer)
+}
+
+fn loans_of_copy(alloc: Global) -> Made<(usize, bool, bool)> {
+    let command = command(alloc)?;
+    let answer = told_of_twin(alloc, &command);
+    drop(command);
+    answer
+}
+
+/// The same of the copy of loans.
+fn copied_loans(alloc: Global) -> Made<(usize, bool, bool)> {
+    let loans = loans_with(alloc, SnapKind::ByteArray, 'B')?;
+    let twin = loans.copy(alloc)?;
+    Ok(told_of_loans(&twin))
 }
 
 #[test]
 fn a_command_is_copied_with_its_loans(rt: HostRuntime) -> Result<(), Fail> {
     assert!(rt; loans_of_copy(rt.alloc())? == (3, true, false));
+    assert!(rt; copied_loans(rt.alloc())? == (3, true, false));
     Ok(())
 }
 
-/// The handles that a verb names, and those that its row reads of a view and of the exporter itself.
-fn handles(alloc: Global, verb: &Verb) -> Made<(Vec<u64>, Vec<u64>, Vec<u64>)> {
-    let named = handles_of(alloc, verb)?;
-    let of_view = handles_read(alloc, Subject::View(2), verb)?;
-    let of_own = handles_read(alloc, Subject::Own, verb)?;
-    Ok((named, of_view, of_own))
+/// The handles that the command's verb names.
+fn named(alloc: Global) -> Made<Vec<u64>> {
+    let command = command(alloc)?;
+    let handles = handles_of(alloc, &command.verb);
+    drop(command);
+    handles
+}
+
+/// The handles that its row reads of a subject.
+fn read(alloc: Global, subject: Subject) -> Made<Vec<u64>> {
+    let command = command(alloc)?;
+    let handles = handles_read(alloc, subject, &command.verb);
+    drop(command);
+    handles
 }
 
 #[test]
 fn a_command_names_handles(rt: HostRuntime) -> Result<(), Fail> {
-    let command = command(rt.alloc())?;
-    let (named, of_view, of_own) = handles(rt.alloc(), &command.verb)?;
-    drop(command);
-    assert!(rt; named.as_slice() == [5u64, 7].as_slice());
-    assert!(rt; of_view.as_slice() == [7u64].as_slice());
-    assert!(rt; of_own.is_empty());
+    assert!(rt; named(rt.alloc())?.as_slice() == [5u64, 7].as_slice());
+    assert!(rt; read(rt.alloc(), Subject::View(2))?.as_slice() == [7u64].as_slice());
+    assert!(rt; read(rt.alloc(), Subject::Own)?.is_empty());
     Ok(())
 }
 
