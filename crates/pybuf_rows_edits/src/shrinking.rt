@@ -6,6 +6,7 @@ ghost use Rattle.pybuf_state.specs.Answers.{exporter_of, IsWhole, Answers};
 ghost use Rattle.pybuf_rows_edits.specs.Shrinking as spec;
 
 use crate::counts::count_in;
+use bstr::ByteSlice;
 use pybuf_command::{ExporterKind, LocalReply};
 use pybuf_memoryview::{byte_item, entry_in, index_in};
 use pybuf_slice::{SaturatedSlice, close_up};
@@ -49,10 +50,11 @@ pub fn pop(parts: &mut Parts, index: &Option<Value>) -> Result<LocalReply, Halt>
 }
 
 /// The place of the first byte of a value. None exactly where there is no such byte.
+#[tactic(auto, using(crate::proofs::FirstByte::position_of_byte))]
 fn place_of(bytes: &[u8], byte: u8) -> Option<usize>
     ensures { result ≡ (if nat_lt (position_or_len (λ b. b == byte) bytes.now) (length bytes.now) then Some (position_or_len (λ b. b == byte) bytes.now) else None) }
 {
-    bytes.iter().position(|b| *b == byte)
+    bytes.find_byte(byte)
 }
 
 fn remove_byte(parts: &mut Parts, value: &Value) -> Result<LocalReply, Halt>

@@ -1,10 +1,10 @@
 //! Where a needle stands in bytes. Nothing here takes memory.
 ghost use Rattle.std.specs.Prelude.{◌≡◌, ◌+◌, ◌≤◌, length, IfSome};
-ghost use Rattle.memchr.specs.Find.{FindsNeedle};
+ghost use Rattle.bstr.specs.Find.{FindsNeedle};
 ghost use Rattle.pybuf_search.specs.Places as spec;
 
 use bstr::ByteSlice;
-use memchr::{memchr_iter, memmem};
+use memchr::memchr_iter;
 
 /// The first place of a needle that is as long as the bytes, where it can stand at 0 alone: to compare them
 /// costs less than a search.
@@ -57,7 +57,7 @@ pub fn number_of_matches(bytes: &[u8], needle: &[u8]) -> usize
         return memchr_iter(needle[0], bytes).count();
     }
     let mut number = 0;
-    let mut places = memmem::find_iter(bytes, needle);
+    let mut places = bytes.find_iter(needle);
     'places: while let Some(_place) = places.next() {
         number += 1;
     }

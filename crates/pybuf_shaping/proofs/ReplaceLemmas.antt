@@ -7,7 +7,7 @@ use Rattle.bstr.specs.Owned.{joined}
 use Rattle.bstr.specs.Text.{part, split_at, replaced_at, MatchList}
 use Rattle.bstr.proofs.lemmas.LengthLemmas.{length-all_matches}
 use Rattle.bstr.proofs.lemmas.MatchListLemmas.{matches-list, MatchList-head}
-use Rattle.memchr.specs.Find.{matches}
+use Rattle.bstr.specs.Find.{matches}
 use Rattle.pybuf_search.specs.Matches.{matches_from_left}
 use Rattle.pybuf_search.specs.Parts.{cuts}
 use Rattle.pybuf_shaping.specs.Replacing.{replaced, limit_of}

@@ -7,7 +7,6 @@ ghost use Rattle.pybuf_value.specs.Halting.{Gives, outcome_of};
 ghost use Rattle.pybuf_shaping.specs.Replacing as spec;
 
 use bstr::ByteSlice;
-use memchr::memmem;
 use pybuf_value::{ByteList, Fault, Halt, Made, Tried, tried};
 use std::alloc::Global;
 
@@ -36,7 +35,7 @@ fn places_of(alloc: Global, bytes: &[u8], old: &[u8], limit: usize) -> Made<Vec<
     ensures { IfOk result (λ places. places.items ≡ take limit (matches_from_left bytes.now old.now)) }
 {
     let mut places = Vec::new(alloc);
-    let mut matches = memmem::find_iter(bytes, old);
+    let mut matches = bytes.find_iter(old);
     for _match in 0..limit {
         let Some(place) = matches.next() else {
             return Ok(places);
