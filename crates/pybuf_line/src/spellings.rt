@@ -1,8 +1,7 @@
 //! Values as they are spelled on a line.
-ghost use Rattle.std.specs.Prelude.{◌≡◌, ◌==◌, ◌∷◌, [], map, MatchOption, Some, pos};
+ghost use Rattle.std.specs.Prelude.{◌≡◌, ◌∷◌, [], map, MatchOption, Some, pos};
 ghost use Rattle.pybuf_value.specs.declared.values.Scalar.TheVariants as scalars_of_values;
 ghost use Rattle.pybuf_value.specs.declared.values.Value.TheVariants as values;
-ghost use Rattle.std.specs.List.{position};
 ghost use Rattle.pybuf_value.specs.Choosing.{◌or_else◌};
 ghost use Rattle.pybuf_line.specs.Parts.{parts_at, each};
 ghost use Rattle.pybuf_line.specs.Scalars.{scalar_in, handle_in};
@@ -12,21 +11,15 @@ ghost use Rattle.pybuf_line.specs.Reading.{Reads};
 use crate::scalars::{between, plain, scalar, word_number};
 use crate::splitting::parts_outside;
 use crate::unread::Unread;
+use bstr::ByteSlice;
 use pybuf_value::{PySlice, Scalar, ScalarList, SliceList, Value};
 use std::alloc::Global;
-
-/// The place of the first colon.
-fn first_colon(text: &[u8]) -> Option<usize>
-    ensures { result ≡ position (λ b. b == 58) text.now }
-{
-    text.iter().position(|b| *b == b':')
-}
 
 /// What stands before the first colon, and what after it.
 fn around_colon(text: &[u8]) -> Option<(&[u8], &[u8])>
     ensures { MatchOption result (parts_at 58 text.now ≡ text.now ∷ []) (λ halves. parts_at 58 text.now ≡ halves.0.now ∷ parts_at 58 halves.1.now) }
 {
-    match first_colon(text) {
+    match text.find_byte(b':') {
         Some(at) => Some((&text[..at], &text[at + 1..])),
         None => None,
     }

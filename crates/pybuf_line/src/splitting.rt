@@ -5,7 +5,7 @@ ghost use Rattle.pybuf_line.specs.Parts.{parts_outside_quotes};
 ghost use Rattle.pybuf_line.specs.Words.{words};
 ghost use Rattle.pybuf_line.specs.Lines.{lines};
 
-use memchr::memchr;
+use bstr::ByteSlice;
 use std::alloc::{AllocError, Global};
 
 /// The first line of an input, and what is left behind it. An input that is empty has none.
@@ -15,7 +15,7 @@ pub fn next_line<'a>(rest: &'a [u8]) -> Option<(&'a [u8], &'a [u8])>
     if rest.is_empty() {
         return None;
     }
-    match memchr(b'\n', rest) {
+    match rest.find_byte(b'\n') {
         Some(at) => Some((&rest[..at], &rest[at + 1..])),
         None => Some((rest, &rest[rest.len()..])),
     }

@@ -1,6 +1,7 @@
 mod NumberLemmas
 mod OutLemmas
 mod DigitLemmas
+mod FirstByte
 mod PlaceLemmas
 mod SpanLemmas
 mod RoomLemmas

@@ -4,6 +4,7 @@ ghost use Rattle.pybuf_uses.specs.Lines.{IsSpanned, line_len_of, answer_of, over
 ghost use Rattle.std.specs.Borrow.{sem};
 ghost use Rattle.pybuf_exporter.specs.Lending.{LendsBytes};
 
+use bstr::ByteSlice;
 use pybuf_object::PyByteArray;
 use pybuf_value::Made;
 use pybuf_view::{ExporterState, LoanList, LocalReply};
@@ -35,10 +36,11 @@ impl Model for LineBuffer {
 }
 
 /// The number of bytes before the first line feed; None exactly where there is none.
+#[tactic(auto, using(crate::proofs::FirstByte::position_of_byte))]
 fn line_len(bytes: &[u8]) -> Option<usize>
     ensures { result ≡ line_len_of bytes.now }
 {
-    bytes.iter().position(|byte| *byte == b'\n')
+    bytes.find_byte(b'\n')
 }
 
 /// The bytes of a view that spans all of them, lent to be written.
