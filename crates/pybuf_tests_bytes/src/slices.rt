@@ -623,21 +623,3 @@ fn texts_are_repeated(rt: HostRuntime) -> Result<(), Fail> {
     assert_eq!(rt; list.as_slice().len(), 1);
     Ok(())
 }
-
-/// Five numbers, of which those that a slice of three picks are set to others.
-fn set_by_indexes(alloc: Global, slice: SaturatedSlice) -> Result<Vec<u8>, Fail> {
-    let mut list = vec![in alloc; 10u8, 20, 30, 40, 50]?;
-    let indexes = slice.iter(5);
-    if indexes.len() != 3 {
-        return Err(Fail::from("three items"));
-    }
-    list.do_set_indexes(alloc, indexes, [1u8, 2, 3].as_slice())?;
-    Ok(list)
-}
-
-#[test]
-fn numbers_are_set_at_indices(rt: HostRuntime) -> Result<(), Fail> {
-    let list = set_by_indexes(rt.alloc(), slice_by(NONE, NONE, -2)?)?;
-    assert_eq!(rt; list.as_slice(), [3u8, 20, 2, 40, 1].as_slice());
-    Ok(())
-}
