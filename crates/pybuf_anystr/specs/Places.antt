@@ -2,7 +2,7 @@
 use Rattle.std.specs.Prelude.{◌≡◌, ℕ, Bool, List, Option}
 use Rattle.std.specs.Borrow.{Bor}
 use Rattle.std.specs.declared.ops.Range.{Range}
-use Rattle.pybuf_arguments.specs.Bounds.{in_range}
+use Rattle.pybuf_search.specs.Bounds.{in_range}
 use Rattle.pybuf_search.specs.Places.{first_place}
 use Rattle.pybuf_bytes.specs.Searching.{place_in, number_in}
 

@@ -9,7 +9,7 @@ ghost use Rattle.pybuf_letters.specs.Blanks.{blank_parts, blank_parts_from_last}
 ghost use Rattle.pybuf_letters.specs.Classes.{all_in_case};
 ghost use Rattle.pybuf_letters.specs.Lines.{split_lines};
 ghost use Rattle.pybuf_letters.specs.Strips.{stripped, goes};
-ghost use Rattle.pybuf_arguments.specs.Affixes.{single_or_any_of};
+ghost use Rattle.pybuf_search.specs.Affixes.{single_or_any_of};
 ghost use Rattle.pybuf_shaping.specs.Arguments.{filled};
 ghost use Rattle.pybuf_shaping.specs.Padding.{padded, centered, justified_left, justified_right, zero_filled};
 ghost use Rattle.pybuf_bytes.specs.Searching.{split_of, partition_by, parts_answered};

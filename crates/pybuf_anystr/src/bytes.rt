@@ -7,8 +7,8 @@ ghost use Rattle.pybuf_letters.specs.Classes as letters;
 ghost use Rattle.pybuf_anystr.specs.Cases.{IsTestOfByte};
 
 use crate::any_str::{AnyStr, AnyStrContainer};
-use pybuf_arguments::{AnyStrWrapper, StringRange, single_or_tuple_any};
 use pybuf_bytes::{ByteInnerSplitOptions, PyBytesInner, SplitLinesArgs, partition_at, split_at};
+use pybuf_search::{AnyStrWrapper, StringRange, single_or_tuple_any};
 use pybuf_shaping::ByteInnerPaddingOptions;
 use pybuf_value::{ByteList, ByteLists, Fault, Lender, Made, Outcome, Text, Tried, Value};
 use std::alloc::{AllocError, Global};

@@ -19,7 +19,7 @@ use Rattle.pybuf_search.specs.Joins.{fitted, times}
 use Rattle.pybuf_search.specs.Parts.{split_parts, rsplit_parts, partition_of, rpartition_of}
 use Rattle.pybuf_letters.specs.Blanks.{blank_parts, blank_rparts}
 use Rattle.pybuf_bytes.specs.declared.needles.Needle.{Needle}
-use Rattle.pybuf_arguments.specs.Bounds.{adjusted, in_range}
+use Rattle.pybuf_search.specs.Bounds.{adjusted, in_range}
 use Rattle.pybuf_bytes.specs.Needles.{needle_bytes}
 
 -- ---- searches

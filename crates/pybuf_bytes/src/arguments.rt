@@ -5,7 +5,7 @@ ghost use Rattle.pybuf_bytes.specs.Searching.{search_of, search_answered};
 
 use crate::inner::PyBytesInner;
 use crate::needles::{Needle, needle_bytes};
-use pybuf_arguments::{AnyStrWrapper, SplitArgs, adjust_indices};
+use pybuf_search::{AnyStrWrapper, SplitArgs, adjust_indices};
 use pybuf_value::{Halt, Outcome, Tried, tried};
 use std::alloc::Global;
 use std::ops::Range;

@@ -19,11 +19,11 @@ pub use letters::SplitLinesArgs;
 pub use methods::{MethodCall, MethodName, MethodReply};
 pub use needles::Needle;
 pub use options::ByteInnerNewOptions;
-pub use pybuf_arguments::{
+pub use pybuf_letters::is_py_ascii_whitespace;
+pub use pybuf_search::{
     AnyStrWrapper, SplitArgs, StartsEndsWithArgs, StringRange, adjust_indices, bytes_lent,
     endswith, single_or_tuple_any, startswith,
 };
-pub use pybuf_letters::is_py_ascii_whitespace;
 pub use pybuf_shaping::{ByteInnerPaddingOptions, ByteInnerTranslateOptions, ExpandTabsArgs};
 pub use searching::{
     concat_with, contains_needle, count_between, find_between, partition_at, rpartition_at,

@@ -8,9 +8,10 @@ ghost use Rattle.pybuf_bytes.specs.Searching.{IsSearch};
 
 use crate::arguments::{ByteInnerFindOptions, ByteInnerSplitOptions};
 use crate::needles::Needle;
-use pybuf_arguments::{StringRange, bytes_lent};
 use pybuf_letters::{rsplit_at_blanks, split_at_blanks};
-use pybuf_search::{added, holds_needle, number_of_matches, partition, rpartition};
+use pybuf_search::{
+    StringRange, added, bytes_lent, holds_needle, number_of_matches, partition, rpartition,
+};
 use pybuf_value::{ByteLists, ByteOr, Fault, Lender, Made, Outcome, Tried, Value};
 use std::alloc::Global;
 

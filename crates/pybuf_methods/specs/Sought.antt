@@ -9,8 +9,8 @@ use Rattle.pybuf_value.specs.Refusing.{◌>>=◌}
 use Rattle.pybuf_value.specs.Numbers.{number_of, byte_of}
 use Rattle.pybuf_value.specs.Snaps.{bytes_in}
 use Rattle.pybuf_search.specs.Places.{holds_needle}
-use Rattle.pybuf_arguments.specs.Affixes.{startswith_of, endswith_of}
-use Rattle.pybuf_arguments.specs.Bounds.{adjusted, in_range}
+use Rattle.pybuf_search.specs.Affixes.{startswith_of, endswith_of}
+use Rattle.pybuf_search.specs.Bounds.{adjusted, in_range}
 use Rattle.pybuf_bytes.specs.Searching.{place_in, number_in}
 use Rattle.pybuf_bytes.specs.declared.methods.MethodReply.{MethodReply}
 use Rattle.pybuf_bytes.specs.declared.methods.MethodReply.TheVariants as reply

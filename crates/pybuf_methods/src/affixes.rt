@@ -2,13 +2,12 @@
 ghost use Rattle.std.specs.Prelude.{◌≡◌};
 ghost use Rattle.std.specs.Option.{option_copied};
 ghost use Rattle.pybuf_value.specs.Halting.{Gives};
-ghost use Rattle.pybuf_arguments.specs.Affixes.{any_of, single_or_any_of, test_in};
-ghost use Rattle.pybuf_arguments.specs.Bounds.{between_bounds};
+ghost use Rattle.pybuf_search.specs.Affixes.{any_of, single_or_any_of, test_in};
+ghost use Rattle.pybuf_search.specs.Bounds.{between_bounds};
 ghost use Rattle.pybuf_methods.specs.Affixes as spec;
 
 use crate::lent::{Names, bytes_of, part_of};
-use pybuf_arguments::{StringRange, adjust_indices};
-use pybuf_search::{begins_with, ends_with};
+use pybuf_search::{StringRange, adjust_indices, begins_with, ends_with};
 use pybuf_value::{Halt, Scalar, Value};
 use std::alloc::Global;
 

@@ -1,7 +1,7 @@
 //! Methods that search.
 ghost use Rattle.std.specs.Prelude.{◌≡◌, ◌∷◌, [], length, Ok, Err, MatchResult};
 ghost use Rattle.pybuf_value.specs.Halting.{Gives};
-ghost use Rattle.pybuf_arguments.specs.Bounds.{adjusted, in_range};
+ghost use Rattle.pybuf_search.specs.Bounds.{adjusted, in_range};
 ghost use Rattle.pybuf_bytes.specs.Searching.{place_in, number_in};
 ghost use Rattle.pybuf_search.specs.Places as places;
 ghost use Rattle.pybuf_methods.specs.Lent.{Lends};
@@ -10,9 +10,10 @@ ghost use Rattle.pybuf_methods.specs.Sought as spec;
 use crate::affixes::{End, stands_between};
 use crate::given::{bound_given, one_to_three};
 use crate::lent::{Lent, Names, bytes_of};
-use pybuf_arguments::{StringRange, adjust_indices};
 use pybuf_bytes::MethodReply;
-use pybuf_search::{first_place, holds_needle, last_place, number_of_matches};
+use pybuf_search::{
+    StringRange, adjust_indices, first_place, holds_needle, last_place, number_of_matches,
+};
 use pybuf_value::{ByteOr, Fault, Halt, Value, index_of};
 use std::alloc::Global;
 

@@ -4,3 +4,4 @@ pub mod JoinLaws
 pub mod RepeatLemmas
 pub mod OneByte
 pub mod PlaceLemmas
+pub mod AffixLemmas

@@ -4,3 +4,6 @@ pub mod Parts
 pub mod Ends
 pub mod Joins
 pub mod Laws
+pub mod Bounds
+pub mod Separators
+pub mod Affixes

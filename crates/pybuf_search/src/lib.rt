@@ -1,12 +1,17 @@
-//! Searching bytes for bytes, and cutting them at what is found.
+//! Searching bytes for bytes, cutting them at what is found, and the arguments of both.
 #![tactic(auto)]
 
+mod affixes;
+mod bounds;
 mod ends;
 mod joins;
 mod laws;
 mod parts;
 mod places;
+mod separators;
 
+pub use affixes::{StartsEndsWithArgs, bytes_lent, endswith, single_or_tuple_any, startswith};
+pub use bounds::{StringRange, adjust_indices};
 pub use ends::{begins_with, ends_with, without_prefix, without_suffix};
 pub use joins::{added, joined, repeated};
 pub use laws::{
@@ -15,3 +20,4 @@ pub use laws::{
 };
 pub use parts::{partition, rpartition, rsplit, split};
 pub use places::{first_place, holds_needle, last_place, number_of_matches};
+pub use separators::{AnyStrWrapper, SplitArgs};

@@ -1,5 +1,5 @@
 use Rattle.std.proofs.Common.{◌≡◌, drop}
-use Rattle.pybuf_arguments.specs.Affixes.{any_of}
+use Rattle.pybuf_search.specs.Affixes.{any_of}
 use Rattle.pybuf_methods.specs.Affixes.{stands_at}
 use Rattle.pybuf_methods.proofs.affixes.any_stands.Given as goal
 

@@ -3,12 +3,12 @@ ghost use Rattle.std.specs.Prelude.{◌≡◌, ℕ, Bool, List, Option, Some, No
 ghost use Rattle.pybuf_value.specs.declared.values.Value.TheVariants as values;
 ghost use Rattle.pybuf_value.specs.Halting.{Gives, outcome_of};
 ghost use Rattle.pybuf_value.specs.Snaps.{bytes_in, content_read};
-ghost use Rattle.pybuf_arguments.specs.Bounds.{range_if_any, between_bounds};
-ghost use Rattle.pybuf_arguments.specs.Affixes as spec;
-ghost use Rattle.pybuf_arguments.specs.Affixes.{IsTested};
+ghost use Rattle.pybuf_search.specs.Bounds.{range_if_any, between_bounds};
+ghost use Rattle.pybuf_search.specs.Affixes as spec;
+ghost use Rattle.pybuf_search.specs.Affixes.{IsTested};
 
 use crate::bounds::{StringRange, adjust_indices};
-use pybuf_search::{begins_with, ends_with};
+use crate::ends::{begins_with, ends_with};
 use pybuf_value::{
     Fault, Halt, Lender, Outcome, Scalar, Snap, SnapKind, Tried, Value, bytes_from_object, tried,
 };

@@ -1,6 +1,6 @@
 use Rattle.std.proofs.Common.{◌≡◌, ℕ, Bool, List, drop}
-use Rattle.pybuf_arguments.specs.Affixes.{any_of, IsTested}
-use Rattle.pybuf_arguments.proofs.affixes.any_of.Given as goal
+use Rattle.pybuf_search.specs.Affixes.{any_of, IsTested}
+use Rattle.pybuf_search.proofs.affixes.any_of.Given as goal
 
 abbrev pub invariant-loop-part : goal.invariant-loop-part
 invariant-loop-part g l =

@@ -1,7 +1,7 @@
 use Rattle.std.proofs.Common.{rules}
 use Rattle.pybuf_search.specs.Ends.{begins_with}
-use Rattle.pybuf_arguments.proofs.AffixLemmas.{affix_decides}
-use Rattle.pybuf_arguments.proofs.affixes.startswith.Goals as goal
+use Rattle.pybuf_search.proofs.AffixLemmas.{affix_decides}
+use Rattle.pybuf_search.proofs.affixes.startswith.Goals as goal
 
 pub returns-in-Some : goal.returns-in-Some
 returns-in-Some g c =

@@ -5,7 +5,7 @@ use Rattle.pybuf_value.specs.declared.faults.Outcome.{Outcome}
 use Rattle.pybuf_value.specs.declared.snaps.Snap.{Snap}
 use Rattle.pybuf_value.specs.declared.values.Value.{Value}
 use Rattle.pybuf_value.specs.Halting.{outcome_of}
-use Rattle.pybuf_arguments.specs.Affixes.{single_or_any_of, test_in}
+use Rattle.pybuf_search.specs.Affixes.{single_or_any_of, test_in}
 
 pub affix_decides : {E : Type 0} (test : List ℕ → List ℕ → Bool) (pairs : List (ℕ × Snap)) (affix asked : Value) (part : List ℕ) (cut : Option (List ℕ)) (result : Result (Outcome Bool) E)
     → affix ≡ asked → cut ≡ Some part

@@ -9,7 +9,7 @@ use Rattle.pybuf_value.specs.declared.values.Value.TheVariants as value
 use Rattle.pybuf_value.specs.Refusing.{◌>>=◌}
 use Rattle.pybuf_value.specs.Snaps.{bytes_in}
 use Rattle.pybuf_search.specs.Ends.{begins_with, ends_with}
-use Rattle.pybuf_arguments.specs.Bounds.{between_bounds}
+use Rattle.pybuf_search.specs.Bounds.{between_bounds}
 
 -- whether one of some values satisfies a test: the first that does, or that is refused, decides
 abbrev pub any_of : (List ℕ → Bool) → List (ℕ × Snap) → List Scalar → Result Bool Fault

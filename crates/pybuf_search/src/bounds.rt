@@ -1,6 +1,6 @@
 //! The bounds between which bytes are looked at; each may be absent.
 ghost use Rattle.std.specs.Prelude.{◌≡◌, Bool, Some};
-ghost use Rattle.pybuf_arguments.specs.Bounds as spec;
+ghost use Rattle.pybuf_search.specs.Bounds as spec;
 
 use pybuf_value::saturate;
 use std::ops::Range;

@@ -1,6 +1,6 @@
 //! What bytes can be read from, and a separator with a greatest number of cuts.
 ghost use Rattle.std.specs.Prelude.{◌≡◌, ℕ, List};
-ghost use Rattle.pybuf_arguments.specs.Separators as spec;
+ghost use Rattle.pybuf_search.specs.Separators as spec;
 
 use pybuf_value::Fault;
 
