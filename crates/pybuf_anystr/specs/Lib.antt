@@ -1,3 +1,3 @@
 pub mod Texts
-pub mod Places
+pub mod Pairs
 pub mod Cases

@@ -5,6 +5,8 @@ ghost use Rattle.bstr.specs.Owned.{joined};
 ghost use Rattle.pybuf_value.specs.Halting.{outcome_of};
 ghost use Rattle.pybuf_search.specs.Joins.{fitted, items_of};
 ghost use Rattle.pybuf_search.specs.Ends.{without_prefix, without_suffix};
+ghost use Rattle.pybuf_search.specs.Places.{first_place};
+ghost use Rattle.pybuf_search.specs.Ranges.{place_in_range, number_in_range};
 ghost use Rattle.pybuf_letters.specs.Blanks.{blank_parts, blank_parts_from_last};
 ghost use Rattle.pybuf_letters.specs.Classes.{all_in_case};
 ghost use Rattle.pybuf_letters.specs.Lines.{split_lines};
@@ -15,7 +17,7 @@ ghost use Rattle.pybuf_shaping.specs.Padding.{padded, centered, justified_left, 
 ghost use Rattle.pybuf_bytes.specs.Searching.{split_of, partition_by, parts_answered};
 ghost use Rattle.pybuf_anystr.specs.Cases.{IsTestOfByte};
 ghost use Rattle.pybuf_anystr.specs.Texts.{IsTextOf, AreCharactersOf};
-ghost use Rattle.pybuf_anystr.specs.Places.{first_place_in, number_of_matches_in, IsTestOfTwo};
+ghost use Rattle.pybuf_anystr.specs.Pairs.{IsTestOfTwo};
 
 use crate::bytes::Bytes;
 use pybuf_bytes::{ByteInnerSplitOptions, PyBytesInner, SplitLinesArgs};
@@ -156,13 +158,13 @@ pub trait AnyStr {
     /// the range's start passes its end.
     fn py_find(&self, needle: &[u8], range: Range<usize>) -> Option<usize>
         requires { range.end ≤ length (bytes self.now) }
-        ensures { result ≡ first_place_in (bytes self.now) needle.now range };
+        ensures { result ≡ place_in_range first_place (bytes self.now) needle.now range };
 
     /// The number of matches of the needle in a range, of which no two overlap; 0 where the range's
     /// start passes its end.
     fn py_count(&self, needle: &[u8], range: Range<usize>) -> usize
         requires { range.end ≤ length (bytes self.now) }
-        ensures { result ≡ number_of_matches_in (bytes self.now) needle.now range };
+        ensures { result ≡ number_in_range (bytes self.now) needle.now range };
 
     /// What stands before the first match of a separator, whether there is one, and what stands
     /// behind it; without a match all the bytes are the front.

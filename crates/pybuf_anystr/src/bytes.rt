@@ -8,7 +8,7 @@ ghost use Rattle.pybuf_anystr.specs.Cases.{IsTestOfByte};
 
 use crate::any_str::{AnyStr, AnyStrContainer};
 use pybuf_bytes::{ByteInnerSplitOptions, PyBytesInner, SplitLinesArgs, partition_at, split_at};
-use pybuf_search::{AnyStrWrapper, StringRange, single_or_tuple_any};
+use pybuf_search::{AnyStrWrapper, first_place_in_range, number_in_range, single_or_tuple_any};
 use pybuf_shaping::ByteInnerPaddingOptions;
 use pybuf_value::{ByteList, ByteLists, Fault, Lender, Made, Outcome, Text, Tried, Value};
 use std::alloc::{AllocError, Global};
@@ -177,21 +177,11 @@ impl AnyStr for Bytes {
     }
 
     fn py_find(&self, needle: &[u8], range: Range<usize>) -> Option<usize> {
-        if !range.is_normal() {
-            return None;
-        }
-        let start = range.start;
-        match pybuf_search::first_place(&self.bytes[range], needle) {
-            None => None,
-            Some(place) => Some(start + place),
-        }
+        first_place_in_range(self.bytes.as_slice(), needle, range)
     }
 
     fn py_count(&self, needle: &[u8], range: Range<usize>) -> usize {
-        if !range.is_normal() {
-            return 0;
-        }
-        pybuf_search::number_of_matches(&self.bytes[range], needle)
+        number_in_range(self.bytes.as_slice(), needle, range)
     }
 
     fn py_partition(&self, alloc: Global, sub: &PyBytesInner) -> Tried<(Vec<u8>, bool, Vec<u8>)> {

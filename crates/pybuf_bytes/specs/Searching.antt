@@ -1,7 +1,5 @@
 -- Searches and cuts by arguments.
-use Rattle.std.specs.Prelude.{◌≡◌, ℕ, ℤ, ◌+◌, ◌++◌, ◌==◌, Bool, true, false, List, [], ◌∷◌, length, Option, None, Some, Result, Ok, Err, if◌then◌else◌, slice_range}
-use Rattle.std.specs.Option.{option_map}
-use Rattle.std.specs.Borrow.{Bor}
+use Rattle.std.specs.Prelude.{ℕ, ℤ, ◌++◌, ◌==◌, Bool, List, length, Option, None, Some, Result, Ok, Err, if◌then◌else◌}
 use Rattle.std.specs.Global.{Vec}
 use Rattle.std.specs.declared.ops.Range.{Range}
 use Rattle.pybuf_value.specs.declared.faults.Fault.{Fault}
@@ -13,13 +11,14 @@ use Rattle.pybuf_value.specs.declared.values.Value.{Value}
 use Rattle.pybuf_value.specs.declared.values.Value.TheVariants as value
 use Rattle.pybuf_value.specs.Refusing.{◌>>=◌}
 use Rattle.pybuf_value.specs.Snaps.{bytes_in}
-use Rattle.pybuf_search.specs.Places.{holds_needle, number_of_matches}
+use Rattle.pybuf_search.specs.Places.{holds_needle}
 use Rattle.bstr.specs.Text.{repeated}
 use Rattle.pybuf_search.specs.Joins.{fitted, times}
 use Rattle.pybuf_search.specs.Parts.{split_parts, rsplit_parts, partition_of, rpartition_of}
 use Rattle.pybuf_letters.specs.Blanks.{blank_parts, blank_rparts}
 use Rattle.pybuf_bytes.specs.declared.needles.Needle.{Needle}
-use Rattle.pybuf_search.specs.Bounds.{adjusted, in_range}
+use Rattle.pybuf_search.specs.Bounds.{adjusted}
+use Rattle.pybuf_search.specs.Ranges.{place_in_range, number_in_range}
 use Rattle.pybuf_bytes.specs.Needles.{needle_bytes}
 
 -- ---- searches
@@ -30,30 +29,17 @@ contains_of sub bytes = do
   needle ← needle_bytes sub
   Ok (holds_needle bytes needle)
 
--- the number of matches in a range; none where its start passes its end
-abbrev pub number_in : List ℕ → Option (List ℕ) → ℕ
-number_in needle None = 0
-number_in needle (Some part) = number_of_matches part needle
-
+-- the number of matches between two bounds
 abbrev pub count_of : Needle → Option ℤ → Option ℤ → List ℕ → Result ℕ Fault
 count_of sub start end bytes = do
   needle ← needle_bytes sub
-  Ok (number_in needle (in_range bytes (adjusted start end (length bytes))))
+  Ok (number_in_range bytes needle (adjusted start end (length bytes)))
 
--- the place that a search finds in a range, from the front of the bytes
-abbrev pub place_in : (List ℕ → List ℕ → Option ℕ) → List ℕ → ℕ → Option (List ℕ) → Option ℕ
-place_in search needle start None = None
-place_in search needle start (Some part) = option_map (λ place. start + place) (search part needle)
-
+-- the place that a search finds between two bounds
 abbrev pub find_of : (List ℕ → List ℕ → Option ℕ) → Needle → Option ℤ → Option ℤ → List ℕ → Result (Option ℕ) Fault
 find_of search sub start end bytes = do
   needle ← needle_bytes sub
-  Ok (place_in search needle (adjusted start end (length bytes)).start (in_range bytes (adjusted start end (length bytes))))
-
--- a search that a closure makes in bytes that it is lent, for a needle that it is lent
-abbrev pub IsSearch : (Bor (List ℕ) → Bor (List ℕ) → Option ℕ → Type 0) → (List ℕ → List ℕ → Option ℕ) → Type 0
-IsSearch post search =
-    (part needle : Bor (List ℕ)) (answer : Option ℕ) → post part needle answer → answer ≡ search part.now needle.now
+  Ok (place_in_range search bytes needle (adjusted start end (length bytes)))
 
 -- the needle and the range of a search
 abbrev pub search_of : Needle → Option ℤ → Option ℤ → ℕ → Result (List ℕ × Range ℕ) Fault

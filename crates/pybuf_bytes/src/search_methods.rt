@@ -5,6 +5,7 @@ ghost use Rattle.bstr.specs.Owned.{joined};
 ghost use Rattle.pybuf_value.specs.Halting.{outcome_of};
 ghost use Rattle.pybuf_search.specs.Joins.{fitted, items_of};
 ghost use Rattle.pybuf_search.specs.Ends.{without_prefix, without_suffix};
+ghost use Rattle.pybuf_search.specs.Ranges.{IsSearch};
 ghost use Rattle.pybuf_bytes.specs.Searching as spec;
 
 use crate::arguments::{ByteInnerFindOptions, ByteInnerSplitOptions};
@@ -107,7 +108,7 @@ impl PyBytesInner {
     ) -> Tried<Option<usize>>
         requires callable { F.IsAlwaysCallable find }
         requires inside { (part : Bor (List ℕ)) (needle : Bor (List ℕ)) (place : ℕ) → F.post find part needle (Some place) → place ≤ length part.now }
-        ensures { (search : List ℕ → List ℕ → Option ℕ) → spec.IsSearch (F.post find) search → IfOk result (λ outcome. outcome ≡ outcome_of (spec.find_of search options.sub options.start options.end self.now)) }
+        ensures { (search : List ℕ → List ℕ → Option ℕ) → IsSearch (F.post find) search → IfOk result (λ outcome. outcome ≡ outcome_of (spec.find_of search options.sub options.start options.end self.now)) }
     {
         find_between(alloc, self.as_bytes(), options, find)
     }

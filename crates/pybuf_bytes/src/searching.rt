@@ -3,14 +3,14 @@ ghost use Rattle.std.specs.Prelude.{◌≡◌, ◌≤◌, ℕ, List, Option, Som
 ghost use Rattle.std.specs.Borrow.{Bor};
 ghost use Rattle.pybuf_value.specs.Halting.{outcome_of};
 ghost use Rattle.pybuf_search.specs.Joins.{items_of};
+ghost use Rattle.pybuf_search.specs.Ranges.{IsSearch};
 ghost use Rattle.pybuf_bytes.specs.Searching as spec;
-ghost use Rattle.pybuf_bytes.specs.Searching.{IsSearch};
 
 use crate::arguments::{ByteInnerFindOptions, ByteInnerSplitOptions};
 use crate::needles::Needle;
 use pybuf_letters::{rsplit_at_blanks, split_at_blanks};
 use pybuf_search::{
-    StringRange, added, bytes_lent, holds_needle, number_of_matches, partition, rpartition,
+    added, bytes_lent, holds_needle, number_in_range, partition, place_in_range, rpartition,
 };
 use pybuf_value::{ByteLists, ByteOr, Fault, Lender, Made, Outcome, Tried, Value};
 use std::alloc::Global;
@@ -41,10 +41,7 @@ pub fn count_between(alloc: Global, bytes: &[u8], options: ByteInnerFindOptions)
     match options.get_value(alloc, bytes.len())? {
         Outcome::Refused(fault) => Ok(Outcome::Refused(fault)),
         Outcome::Done((needle, range)) => {
-            if !range.is_normal() {
-                return Ok(Outcome::Done(0));
-            }
-            Ok(Outcome::Done(number_of_matches(&bytes[range], needle.as_slice())))
+            Ok(Outcome::Done(number_in_range(bytes, needle.as_slice(), range)))
         }
     }
 }
@@ -67,14 +64,7 @@ pub fn find_between<F: Fn(&[u8], &[u8]) -> Option<usize>>(
     match options.get_value(alloc, bytes.len())? {
         Outcome::Refused(fault) => Ok(Outcome::Refused(fault)),
         Outcome::Done((needle, range)) => {
-            if !range.is_normal() {
-                return Ok(Outcome::Done(None));
-            }
-            let start = range.start;
-            match find(&bytes[range], needle.as_slice()) {
-                None => Ok(Outcome::Done(None)),
-                Some(place) => Ok(Outcome::Done(Some(start + place))),
-            }
+            Ok(Outcome::Done(place_in_range(bytes, needle.as_slice(), range, find)))
         }
     }
 }

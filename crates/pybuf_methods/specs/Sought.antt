@@ -1,6 +1,5 @@
 -- Methods that search.
 use Rattle.std.specs.Prelude.{ℕ, ℤ, pos, negsuc, Bool, List, [], ◌∷◌, length, Option, Some, None, Result, Ok, Err}
-use Rattle.std.specs.declared.ops.Range.{Range}
 use Rattle.pybuf_value.specs.declared.faults.Fault.{Fault}
 use Rattle.pybuf_value.specs.declared.faults.Fault.TheVariants as fault
 use Rattle.pybuf_value.specs.declared.snaps.Snap.{Snap}
@@ -10,8 +9,8 @@ use Rattle.pybuf_value.specs.Numbers.{number_of, byte_of}
 use Rattle.pybuf_value.specs.Snaps.{bytes_in}
 use Rattle.pybuf_search.specs.Places.{holds_needle}
 use Rattle.pybuf_search.specs.Affixes.{startswith_of, endswith_of}
-use Rattle.pybuf_search.specs.Bounds.{adjusted, in_range}
-use Rattle.pybuf_bytes.specs.Searching.{place_in, number_in}
+use Rattle.pybuf_search.specs.Bounds.{adjusted}
+use Rattle.pybuf_search.specs.Ranges.{place_in_range, number_in_range}
 use Rattle.pybuf_bytes.specs.declared.methods.MethodReply.{MethodReply}
 use Rattle.pybuf_bytes.specs.declared.methods.MethodReply.TheVariants as reply
 use Rattle.pybuf_methods.specs.Given.{one_to_three, bound_given}
@@ -32,10 +31,6 @@ contains_in pairs bytes v = do
   needle ← sought_in pairs v
   Ok (holds_needle bytes needle)
 
--- the bytes between two bounds, and where they start
-abbrev pub place_between : (List ℕ → List ℕ → Option ℕ) → List ℕ → Range ℕ → List ℕ → Option ℕ
-place_between search needle range bytes = place_in search needle range.start (in_range bytes range)
-
 -- the place that a search finds between the bounds
 abbrev pub place : (List ℕ → List ℕ → Option ℕ) → List (ℕ × Snap) → List ℕ → List Value → Result (Option ℕ) Fault
 place search pairs bytes args = do
@@ -43,7 +38,7 @@ place search pairs bytes args = do
   needle ← sought_in pairs given.0
   start ← bound_given given.1
   end ← bound_given given.2
-  Ok (place_between search needle (adjusted start end (length bytes)) bytes)
+  Ok (place_in_range search bytes needle (adjusted start end (length bytes)))
 
 -- a place as a number: -1 where nothing was found
 abbrev pub number_of_place : Option ℕ → ℤ
@@ -71,7 +66,7 @@ count pairs bytes args = do
   needle ← sought_in pairs given.0
   start ← bound_given given.1
   end ← bound_given given.2
-  Ok (reply.Number (pos (number_in needle (in_range bytes (adjusted start end (length bytes))))))
+  Ok (reply.Number (pos (number_in_range bytes needle (adjusted start end (length bytes)))))
 
 -- an affix, which isn't read yet, and two bounds
 abbrev pub affix_given : List Value → Result (Value × Option ℤ × Option ℤ) Fault

@@ -1,13 +1,12 @@
 //! What bytes begin and end with, from where each affix lies.
 ghost use Rattle.std.specs.Prelude.{◌≡◌};
-ghost use Rattle.std.specs.Option.{option_copied};
 ghost use Rattle.pybuf_value.specs.Halting.{Gives};
 ghost use Rattle.pybuf_search.specs.Affixes.{any_of, single_or_any_of, test_in};
 ghost use Rattle.pybuf_search.specs.Bounds.{between_bounds};
 ghost use Rattle.pybuf_methods.specs.Affixes as spec;
 
 use crate::lent::{Names, bytes_of, part_of};
-use pybuf_search::{StringRange, adjust_indices, begins_with, ends_with};
+use pybuf_search::{begins_with, between, ends_with};
 use pybuf_value::{Halt, Scalar, Value};
 use std::alloc::Global;
 
@@ -26,20 +25,6 @@ fn stands_at(end: End, bytes: &[u8], affix: &[u8]) -> bool
         End::Front => begins_with(bytes, affix),
         End::Back => ends_with(bytes, affix),
     }
-}
-
-/// The bytes between two bounds; none where the start passes the end.
-fn between(bytes: &[u8], start: Option<i128>, end: Option<i128>) -> Option<&[u8]>
-    ensures { option_copied result ≡ between_bounds start end bytes.now }
-{
-    if start.is_none() && end.is_none() {
-        return Some(bytes);
-    }
-    let range = adjust_indices(start, end, bytes.len());
-    if !range.is_normal() {
-        return None;
-    }
-    Some(&bytes[range])
 }
 
 /// Whether one of some affixes stands at an end. They are looked at in order, up to the first that does.

@@ -1,8 +1,8 @@
 //! Methods that search.
 ghost use Rattle.std.specs.Prelude.{◌≡◌, ◌∷◌, [], length, Ok, Err, MatchResult};
 ghost use Rattle.pybuf_value.specs.Halting.{Gives};
-ghost use Rattle.pybuf_search.specs.Bounds.{adjusted, in_range};
-ghost use Rattle.pybuf_bytes.specs.Searching.{place_in, number_in};
+ghost use Rattle.pybuf_search.specs.Bounds.{adjusted};
+ghost use Rattle.pybuf_search.specs.Ranges.{place_in_range, number_in_range};
 ghost use Rattle.pybuf_search.specs.Places as places;
 ghost use Rattle.pybuf_methods.specs.Lent.{Lends};
 ghost use Rattle.pybuf_methods.specs.Sought as spec;
@@ -12,7 +12,7 @@ use crate::given::{bound_given, one_to_three};
 use crate::lent::{Lent, Names, bytes_of};
 use pybuf_bytes::MethodReply;
 use pybuf_search::{
-    StringRange, adjust_indices, first_place, holds_needle, last_place, number_of_matches,
+    adjust_indices, first_place_in_range, holds_needle, last_place_in_range, number_in_range,
 };
 use pybuf_value::{ByteOr, Fault, Halt, Value, index_of};
 use std::alloc::Global;
@@ -60,17 +60,9 @@ fn first_between(
     start: Option<i128>,
     end: Option<i128>,
 ) -> Option<usize>
-    ensures { result ≡ place_in places.first_place needle.now (adjusted start end (length bytes.now)).start (in_range bytes.now (adjusted start end (length bytes.now))) }
+    ensures { result ≡ place_in_range places.first_place bytes.now needle.now (adjusted start end (length bytes.now)) }
 {
-    let range = adjust_indices(start, end, bytes.len());
-    if !range.is_normal() {
-        return None;
-    }
-    let front = range.start;
-    match first_place(&bytes[range], needle) {
-        None => None,
-        Some(place) => Some(front + place),
-    }
+    first_place_in_range(bytes, needle, adjust_indices(start, end, bytes.len()))
 }
 
 /// The last place between bounds, from the front of the bytes.
@@ -80,28 +72,16 @@ fn last_between(
     start: Option<i128>,
     end: Option<i128>,
 ) -> Option<usize>
-    ensures { result ≡ place_in places.last_place needle.now (adjusted start end (length bytes.now)).start (in_range bytes.now (adjusted start end (length bytes.now))) }
+    ensures { result ≡ place_in_range places.last_place bytes.now needle.now (adjusted start end (length bytes.now)) }
 {
-    let range = adjust_indices(start, end, bytes.len());
-    if !range.is_normal() {
-        return None;
-    }
-    let front = range.start;
-    match last_place(&bytes[range], needle) {
-        None => None,
-        Some(place) => Some(front + place),
-    }
+    last_place_in_range(bytes, needle, adjust_indices(start, end, bytes.len()))
 }
 
 /// The number of matches between bounds, of which no two overlap.
 fn matches_between(bytes: &[u8], needle: &[u8], start: Option<i128>, end: Option<i128>) -> usize
-    ensures { result ≡ number_in needle.now (in_range bytes.now (adjusted start end (length bytes.now))) }
+    ensures { result ≡ number_in_range bytes.now needle.now (adjusted start end (length bytes.now)) }
 {
-    let range = adjust_indices(start, end, bytes.len());
-    if !range.is_normal() {
-        return 0;
-    }
-    number_of_matches(&bytes[range], needle)
+    number_in_range(bytes, needle, adjust_indices(start, end, bytes.len()))
 }
 
 /// The first place between the bounds.

@@ -5,5 +5,6 @@ pub mod Ends
 pub mod Joins
 pub mod Laws
 pub mod Bounds
+pub mod Ranges
 pub mod Separators
 pub mod Affixes

@@ -7,7 +7,7 @@ ghost use Rattle.pybuf_search.specs.Bounds.{range_if_any, between_bounds};
 ghost use Rattle.pybuf_search.specs.Affixes as spec;
 ghost use Rattle.pybuf_search.specs.Affixes.{IsTested};
 
-use crate::bounds::{StringRange, adjust_indices};
+use crate::bounds::{adjust_indices, between};
 use crate::ends::{begins_with, ends_with};
 use pybuf_value::{
     Fault, Halt, Lender, Outcome, Scalar, Snap, SnapKind, Tried, Value, bytes_from_object, tried,
@@ -42,15 +42,9 @@ impl StartsEndsWithArgs {
     pub fn prepare<'a>(&'a self, bytes: &'a [u8]) -> Option<(&'a Value, &'a [u8])>
         ensures { MatchOption result (between_bounds self.now.start self.now.end bytes.now ≡ None) (λ pair. (pair.0.now ≡ self.now.affix) × (between_bounds self.now.start self.now.end bytes.now ≡ Some pair.1.now)) }
     {
-        let (affix, range) = self.get_value(bytes.len());
-        match range {
-            None => Some((affix, bytes)),
-            Some(range) => {
-                if !range.is_normal() {
-                    return None;
-                }
-                Some((affix, &bytes[range]))
-            }
+        match between(bytes, self.start, self.end) {
+            None => None,
+            Some(part) => Some((&self.affix, part)),
         }
     }
 }

@@ -1,5 +1,6 @@
 //! The bounds between which bytes are looked at; each may be absent.
 ghost use Rattle.std.specs.Prelude.{◌≡◌, Bool, Some};
+ghost use Rattle.std.specs.Option.{option_copied};
 ghost use Rattle.pybuf_search.specs.Bounds as spec;
 
 use pybuf_value::saturate;
@@ -52,4 +53,19 @@ impl StringRange for Range<usize> {
     fn is_normal(&self) -> bool {
         self.start <= self.end
     }
+}
+
+/// The bytes between two bounds: all of them where neither is there, and none where the start passes the
+/// end. They are lent.
+pub fn between(bytes: &[u8], start: Option<i128>, end: Option<i128>) -> Option<&[u8]>
+    ensures { option_copied result ≡ spec.between_bounds start end bytes.now }
+{
+    if start.is_none() && end.is_none() {
+        return Some(bytes);
+    }
+    let range = adjust_indices(start, end, bytes.len());
+    if !range.is_normal() {
+        return None;
+    }
+    Some(&bytes[range])
 }

@@ -8,10 +8,11 @@ mod joins;
 mod laws;
 mod parts;
 mod places;
+mod ranges;
 mod separators;
 
 pub use affixes::{StartsEndsWithArgs, bytes_lent, endswith, single_or_tuple_any, startswith};
-pub use bounds::{StringRange, adjust_indices};
+pub use bounds::{StringRange, adjust_indices, between};
 pub use ends::{begins_with, ends_with, without_prefix, without_suffix};
 pub use joins::{added, joined, repeated};
 pub use laws::{
@@ -20,4 +21,5 @@ pub use laws::{
 };
 pub use parts::{partition, rpartition, rsplit, split};
 pub use places::{first_place, holds_needle, last_place, number_of_matches};
+pub use ranges::{first_place_in_range, last_place_in_range, number_in_range, place_in_range};
 pub use separators::{AnyStrWrapper, SplitArgs};
