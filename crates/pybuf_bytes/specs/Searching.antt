@@ -1,5 +1,5 @@
 -- Searches and cuts by arguments.
-use Rattle.std.specs.Prelude.{ℕ, ℤ, ◌++◌, ◌==◌, Bool, List, length, Option, None, Some, Result, Ok, Err, if◌then◌else◌}
+use Rattle.std.specs.Prelude.{ℕ, ℤ, ◌++◌, Bool, List, length, Option, None, Some, Result, Ok, Err}
 use Rattle.std.specs.Global.{Vec}
 use Rattle.std.specs.declared.ops.Range.{Range}
 use Rattle.pybuf_value.specs.declared.faults.Fault.{Fault}
@@ -19,6 +19,7 @@ use Rattle.pybuf_letters.specs.Blanks.{blank_parts, blank_rparts}
 use Rattle.pybuf_bytes.specs.declared.needles.Needle.{Needle}
 use Rattle.pybuf_search.specs.Bounds.{adjusted}
 use Rattle.pybuf_search.specs.Ranges.{place_in_range, number_in_range}
+use Rattle.pybuf_search.specs.Separators.{by_separator}
 use Rattle.pybuf_bytes.specs.Needles.{needle_bytes}
 
 -- ---- searches
@@ -57,21 +58,19 @@ search_answered (outcome.Refused f) = outcome.Refused f
 -- the parts at the matches of a separator, or without one at the blanks; an empty separator is refused
 abbrev pub split_of : Option (List ℕ) → ℤ → List ℕ → Result (List (List ℕ)) Fault
 split_of None most bytes = Ok (blank_parts most bytes)
-split_of (Some separator) most bytes =
-    if length separator == 0 then Err fault.Value else Ok (split_parts most separator bytes)
+split_of (Some separator) most bytes = by_separator separator (split_parts most separator bytes)
 
 -- the same with cuts from the right
 abbrev pub rsplit_of : Option (List ℕ) → ℤ → List ℕ → Result (List (List ℕ)) Fault
 rsplit_of None most bytes = Ok (blank_rparts most bytes)
-rsplit_of (Some separator) most bytes =
-    if length separator == 0 then Err fault.Value else Ok (rsplit_parts most separator bytes)
+rsplit_of (Some separator) most bytes = by_separator separator (rsplit_parts most separator bytes)
 
--- the three parts of a partition; an empty separator is refused
+-- what stands before a match, whether there is one, and what stands behind it; an empty separator is refused
 abbrev pub partition_by : List ℕ → List ℕ → Result (List ℕ × Bool × List ℕ) Fault
-partition_by separator bytes = if length separator == 0 then Err fault.Value else Ok (partition_of separator bytes)
+partition_by separator bytes = by_separator separator (partition_of separator bytes)
 
 abbrev pub rpartition_by : List ℕ → List ℕ → Result (List ℕ × Bool × List ℕ) Fault
-rpartition_by separator bytes = if length separator == 0 then Err fault.Value else Ok (rpartition_of separator bytes)
+rpartition_by separator bytes = by_separator separator (rpartition_of separator bytes)
 
 -- what was answered, with the bytes of the vectors as lists
 abbrev pub parts_answered : Outcome (Vec ℕ × Bool × Vec ℕ) → Outcome (List ℕ × Bool × List ℕ)

@@ -1,14 +1,14 @@
 -- Methods that cut.
-use Rattle.std.specs.Prelude.{ℕ, ℤ, negsuc, Bool, List, [], ◌∷◌, Option, Result, Ok}
+use Rattle.std.specs.Prelude.{ℕ, ℤ, negsuc, Bool, List, Option, Result, Ok}
 use Rattle.pybuf_value.specs.declared.faults.Fault.{Fault}
 use Rattle.pybuf_value.specs.declared.snaps.Snap.{Snap}
 use Rattle.pybuf_value.specs.declared.values.Value.{Value}
 use Rattle.pybuf_value.specs.Refusing.{◌>>=◌}
 use Rattle.pybuf_value.specs.Snaps.{bytes_in}
-use Rattle.pybuf_search.specs.Parts.{middle}
+use Rattle.pybuf_search.specs.Parts.{partition_parts, rpartition_parts}
+use Rattle.pybuf_search.specs.Separators.{by_separator}
 use Rattle.pybuf_letters.specs.Strips.{goes}
 use Rattle.pybuf_letters.specs.Lines.{split_lines}
-use Rattle.pybuf_bytes.specs.Searching.{partition_by, rpartition_by}
 use Rattle.pybuf_bytes.specs.declared.methods.MethodReply.{MethodReply}
 use Rattle.pybuf_bytes.specs.declared.methods.MethodReply.TheVariants as reply
 use Rattle.pybuf_methods.specs.Given.{one, at_most_one, at_most_two, count_or, flag_given, bytes_given}
@@ -36,20 +36,20 @@ split parts_by pairs bytes args = do
   parts ← parts_by separator most bytes
   Ok (reply.ByteLists parts)
 
--- the three parts in order
+-- the three parts in order; an empty separator is refused
 abbrev pub partition : List (ℕ × Snap) → List ℕ → List Value → Result MethodReply Fault
 partition pairs bytes args = do
   given ← one args
   separator ← bytes_in pairs given
-  parts ← partition_by separator bytes
-  Ok (reply.ByteLists (parts.0 ∷ middle separator parts.1 ∷ parts.2 ∷ []))
+  parts ← by_separator separator (partition_parts separator bytes)
+  Ok (reply.ByteLists parts)
 
 abbrev pub rpartition : List (ℕ × Snap) → List ℕ → List Value → Result MethodReply Fault
 rpartition pairs bytes args = do
   given ← one args
   separator ← bytes_in pairs given
-  parts ← rpartition_by separator bytes
-  Ok (reply.ByteLists (parts.2 ∷ middle separator parts.1 ∷ parts.0 ∷ []))
+  parts ← by_separator separator (rpartition_parts separator bytes)
+  Ok (reply.ByteLists parts)
 
 abbrev pub splitlines : List ℕ → List Value → Result MethodReply Fault
 splitlines bytes args = do
