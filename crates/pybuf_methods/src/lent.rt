@@ -9,6 +9,7 @@ ghost use Rattle.pybuf_shaping.specs.Arguments as fills;
 ghost use Rattle.pybuf_methods.specs.Given as spec;
 ghost use Rattle.pybuf_methods.specs.Lent.{lent_bytes, Lends, LendsSome, Reads, kind_of_named, string_named};
 
+use pybuf_search::AnyStrWrapper;
 use pybuf_value::{
     Fault, Halt, Lender, Outcome, Scalar, Snap, SnapKind, SnapList, Value, bytes_from_object,
 };
@@ -32,6 +33,14 @@ impl<'a> Lent<'a> {
             Lent::Lies(bytes) => bytes,
             Lent::Gathered(bytes) => bytes.as_slice(),
         }
+    }
+}
+
+impl<'a> AnyStrWrapper for Lent<'a> {
+    ghost bytes = { lent_bytes };
+
+    fn as_ref(&self) -> &[u8] {
+        self.as_slice()
     }
 }
 

@@ -5,7 +5,7 @@ ghost use Rattle.pybuf_letters.specs.Cases as cases;
 ghost use Rattle.pybuf_methods.specs.Plain as spec;
 
 use crate::given::{count_in, done, none, one};
-use crate::join;
+use crate::join::lists_in;
 use crate::lent::{Names, like_in, part_of};
 use pybuf_bytes::MethodReply;
 use pybuf_value::{ByteList, Fault, Halt, Value};
@@ -116,7 +116,7 @@ pub(crate) fn join<N: Names>(
     ensures { Gives (spec.join (N.pairs names.now) bytes.now args.now) result }
 {
     let list = one(args)?;
-    let parts = join::lists_in(alloc, list, names)?;
-    let whole = join::joined(alloc, bytes, parts.as_slice())?;
+    let parts = lists_in(alloc, list, names)?;
+    let whole = done(pybuf_search::joined_parts(alloc, bytes, parts.as_slice()))?;
     Ok(MethodReply::Bytes(ByteList::from_vec(whole)))
 }

@@ -1,11 +1,12 @@
 //! Bytes put together. Room for all of them is taken once, and only where they are few enough.
-ghost use Rattle.std.specs.Prelude.{◌≡◌, ◌++◌, ◌*◌, ◌+◌, ◌<◌, ◌≤◌, ◌^◌, length, IfOk, OnOk};
+ghost use Rattle.std.specs.Prelude.{◌≡◌, ◌++◌, ◌*◌, ◌+◌, ◌<◌, ◌≤◌, ◌^◌, length, map, IfOk, OnOk};
 ghost use Rattle.bstr.specs.Owned as owned;
 ghost use Rattle.bstr.specs.Text as text;
 ghost use Rattle.pybuf_value.specs.Halting.{outcome_of};
 ghost use Rattle.pybuf_search.specs.Joins.{fitted, items_of, times, further};
 ghost use Rattle.pybuf_search.specs.Joins as spec;
 
+use crate::separators::AnyStrWrapper;
 use pybuf_value::{ByteList, Fault, Made, Outcome, Tried};
 use std::alloc::Global;
 
@@ -36,24 +37,24 @@ pub fn added(alloc: Global, front: &[u8], back: &[u8]) -> Tried<Vec<u8>>
 }
 
 /// The bytes of each further part after the separator, counted.
-fn length_of_further(separator: &[u8], parts: &[ByteList]) -> u128
-    ensures value { result ≡ length (further separator.now parts.now) }
+fn length_of_further<T: AnyStrWrapper>(separator: &[u8], parts: &[T]) -> u128
+    ensures value { result ≡ length (further separator.now (map T.bytes parts.now)) }
     ensures bound { result ≤ 2 ^ 64 * length parts.now }
 {
     let mut total: u128 = 0;
     for part in parts {
-        total += separator.len() as u128 + part.len() as u128;
+        total += separator.len() as u128 + part.as_ref().len() as u128;
     }
     total
 }
 
 /// Adds each further part after the separator.
-fn push_further(whole: &mut Vec<u8>, separator: &[u8], parts: &[ByteList]) -> Made<()>
-    ensures { OnOk result (whole.new.items ≡ whole.old.items ++ further separator.now parts.now) }
+fn push_further<T: AnyStrWrapper>(whole: &mut Vec<u8>, separator: &[u8], parts: &[T]) -> Made<()>
+    ensures { OnOk result (whole.new.items ≡ whole.old.items ++ further separator.now (map T.bytes parts.now)) }
 {
     for part in parts {
         whole.extend_from_slice(separator)?;
-        whole.extend_from_slice(part.as_slice())?;
+        whole.extend_from_slice(part.as_ref())?;
     }
     Ok(())
 }
@@ -65,15 +66,27 @@ fn push_further(whole: &mut Vec<u8>, separator: &[u8], parts: &[ByteList]) -> Ma
 pub fn joined(alloc: Global, separator: &[u8], parts: &[ByteList]) -> Tried<Vec<u8>>
     ensures { IfOk result (λ outcome. items_of outcome ≡ outcome_of (fitted (owned.joined separator.now parts.now))) }
 {
+    joined_parts(alloc, separator, parts)
+}
+
+/// The same of parts of any kind that bytes can be read from. Nothing is copied but into the answer.
+pub fn joined_parts<T: AnyStrWrapper>(
+    alloc: Global,
+    separator: &[u8],
+    parts: &[T],
+) -> Tried<Vec<u8>>
+    ensures { IfOk result (λ outcome. items_of outcome ≡ outcome_of (fitted (owned.joined separator.now (map T.bytes parts.now)))) }
+{
     let Some((first, rest)) = parts.split_first() else {
         return Ok(Outcome::Done(Vec::new(alloc)));
     };
+    let first = first.as_ref();
     let further = length_of_further(separator, rest);
     let Some(length) = fitted_length(first.len() as u128 + further) else {
         return Ok(Outcome::Refused(Fault::Overflow));
     };
     let mut whole = Vec::with_capacity(alloc, length)?;
-    whole.extend_from_slice(first.as_slice())?;
+    whole.extend_from_slice(first)?;
     push_further(&mut whole, separator, rest)?;
     Ok(Outcome::Done(whole))
 }

@@ -2,7 +2,7 @@
 ghost use Rattle.std.specs.Prelude.{◌≡◌, ℕ, List};
 ghost use Rattle.pybuf_search.specs.Separators as spec;
 
-use pybuf_value::Fault;
+use pybuf_value::{ByteList, Fault};
 
 /// What bytes can be read from.
 pub trait AnyStrWrapper {
@@ -12,6 +12,14 @@ pub trait AnyStrWrapper {
     /// The bytes, lent.
     fn as_ref(&self) -> &[u8]
         ensures { result.now ≡ bytes self.now };
+}
+
+impl AnyStrWrapper for ByteList {
+    ghost bytes = { λ list. list };
+
+    fn as_ref(&self) -> &[u8] {
+        self.as_slice()
+    }
 }
 
 /// A separator, where there is one, and the greatest number of cuts; a negative number is no bound.

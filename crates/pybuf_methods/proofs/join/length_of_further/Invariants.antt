@@ -1,7 +1,0 @@
-use Rattle.std.proofs.Common.{◌≡◌, ◌*◌, ◌^◌, ◌≤◌, length, take, map}
-use Rattle.pybuf_search.specs.Joins.{further}
-use Rattle.pybuf_methods.specs.Lent.{lent_bytes}
-use Rattle.pybuf_methods.proofs.join.length_of_further.Given as goal
-
-abbrev pub invariant-loop-part : goal.invariant-loop-part
-invariant-loop-part l = (l.total ≡ length (further l.separator (map lent_bytes (take l.part-index l.parts)))) × (l.total ≤ 2 ^ 64 * l.part-index)
