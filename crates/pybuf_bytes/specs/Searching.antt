@@ -24,11 +24,15 @@ use Rattle.pybuf_bytes.specs.Needles.{needle_bytes}
 
 -- ---- searches
 
--- whether the needle stands anywhere
-abbrev pub contains_of : Needle → List ℕ → Result Bool Fault
-contains_of sub bytes = do
-  needle ← needle_bytes sub
+-- whether the bytes that are searched for stand anywhere, unless they are refused
+abbrev pub contains_by : Result (List ℕ) Fault → List ℕ → Result Bool Fault
+contains_by sought bytes = do
+  needle ← sought
   Ok (holds_needle bytes needle)
+
+-- the same of a needle
+abbrev pub contains_of : Needle → List ℕ → Result Bool Fault
+contains_of sub bytes = contains_by (needle_bytes sub) bytes
 
 -- the number of matches between two bounds
 abbrev pub count_of : Needle → Option ℤ → Option ℤ → List ℕ → Result ℕ Fault

@@ -1,35 +1,28 @@
 -- Methods that search.
-use Rattle.std.specs.Prelude.{ℕ, ℤ, pos, negsuc, Bool, List, [], ◌∷◌, length, Option, Some, None, Result, Ok, Err}
+use Rattle.std.specs.Prelude.{ℕ, ℤ, pos, negsuc, Bool, List, length, Option, Some, None, Result, Ok, Err}
 use Rattle.pybuf_value.specs.declared.faults.Fault.{Fault}
 use Rattle.pybuf_value.specs.declared.faults.Fault.TheVariants as fault
 use Rattle.pybuf_value.specs.declared.snaps.Snap.{Snap}
 use Rattle.pybuf_value.specs.declared.values.Value.{Value}
 use Rattle.pybuf_value.specs.Refusing.{◌>>=◌}
-use Rattle.pybuf_value.specs.Numbers.{number_of, byte_of}
-use Rattle.pybuf_value.specs.Snaps.{bytes_in}
-use Rattle.pybuf_search.specs.Places.{holds_needle}
 use Rattle.pybuf_search.specs.Affixes.{startswith_of, endswith_of}
 use Rattle.pybuf_search.specs.Bounds.{adjusted}
 use Rattle.pybuf_search.specs.Ranges.{place_in_range, number_in_range}
+use Rattle.pybuf_bytes.specs.Needles.{needle_in, needle_bytes}
+use Rattle.pybuf_bytes.specs.Searching.{contains_by}
 use Rattle.pybuf_bytes.specs.declared.methods.MethodReply.{MethodReply}
 use Rattle.pybuf_bytes.specs.declared.methods.MethodReply.TheVariants as reply
 use Rattle.pybuf_methods.specs.Given.{one_to_three, bound_given}
 
--- what is searched for: a number is one byte, and any other value is read as bytes
-abbrev pub sought_by : List (ℕ × Snap) → Value → Result ℤ Fault → Result (List ℕ) Fault
-sought_by pairs v (Ok n) = do
-  byte ← byte_of n
-  Ok (byte ∷ [])
-sought_by pairs v (Err _) = bytes_in pairs v
-
+-- what is searched for: the bytes of the needle that a value is
 abbrev pub sought_in : List (ℕ × Snap) → Value → Result (List ℕ) Fault
-sought_in pairs v = sought_by pairs v (number_of v)
+sought_in pairs v = do
+  sub ← needle_in pairs v
+  needle_bytes sub
 
 -- whether it stands anywhere in bytes
 abbrev pub contains_in : List (ℕ × Snap) → List ℕ → Value → Result Bool Fault
-contains_in pairs bytes v = do
-  needle ← sought_in pairs v
-  Ok (holds_needle bytes needle)
+contains_in pairs bytes v = contains_by (sought_in pairs v) bytes
 
 -- the place that a search finds between the bounds
 abbrev pub place : (List ℕ → List ℕ → Option ℕ) → List (ℕ × Snap) → List ℕ → List Value → Result (Option ℕ) Fault
