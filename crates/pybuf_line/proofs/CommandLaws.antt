@@ -18,7 +18,7 @@ use Rattle.pybuf_bytes.specs.declared.options.ByteInnerNewOptions.{ByteInnerNewO
 use Rattle.pybuf_bytes.specs.declared.methods.MethodName.{MethodName}
 use Rattle.pybuf_bytes.specs.declared.methods.MethodName.TheVariants as name
 use Rattle.pybuf_bytes.specs.declared.methods.MethodCall.{MethodCall}
-use Rattle.pybuf_world.specs.declared.commands.Command.TheVariants as command
+use Rattle.pybuf_command.specs.declared.worlds.Command.TheVariants as command
 use Rattle.pybuf_line.specs.declared.words.Word.TheVariants as word
 use Rattle.pybuf_line.specs.Parts.{parts_at}
 use Rattle.pybuf_line.specs.Words.{words, word_in, written_word, written_kind, written_operator, written_name}

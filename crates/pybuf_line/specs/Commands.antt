@@ -10,8 +10,8 @@ use Rattle.pybuf_methods.specs.Arity.{takes}
 use Rattle.pybuf_command.specs.declared.kinds.ExporterKind.{ExporterKind}
 use Rattle.pybuf_command.specs.declared.commands.Verb.{Verb}
 use Rattle.pybuf_command.specs.declared.commands.Verb.TheVariants as verb
-use Rattle.pybuf_world.specs.declared.commands.Command.{Command}
-use Rattle.pybuf_world.specs.declared.commands.Command.TheVariants as command
+use Rattle.pybuf_command.specs.declared.worlds.Command.{Command}
+use Rattle.pybuf_command.specs.declared.worlds.Command.TheVariants as command
 use Rattle.pybuf_line.specs.declared.words.Word.{Word}
 use Rattle.pybuf_line.specs.declared.words.Word.TheVariants as word
 use Rattle.pybuf_line.specs.Words.{words, word_in, written_word, kind_in, written_kind, operator_in, written_operator, property_in, written_name}

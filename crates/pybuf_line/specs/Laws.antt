@@ -7,11 +7,10 @@ use Rattle.pybuf_command.specs.declared.commands.Verb.TheVariants as verb
 use Rattle.pybuf_bytes.specs.declared.options.ByteInnerNewOptions.{ByteInnerNewOptions}
 use Rattle.pybuf_bytes.specs.declared.methods.MethodCall.{MethodCall}
 use Rattle.pybuf_methods.specs.Arity.{takes}
-use Rattle.pybuf_world.specs.declared.commands.Command.{Command}
-use Rattle.pybuf_world.specs.declared.commands.Command.TheVariants as command
-use Rattle.pybuf_world.specs.declared.commands.Reply.{Reply}
-use Rattle.pybuf_world.specs.declared.commands.Reply.TheVariants as reply
-use Rattle.pybuf_world.specs.World.{World, replies_of}
+use Rattle.pybuf_command.specs.declared.worlds.Command.{Command}
+use Rattle.pybuf_command.specs.declared.worlds.Command.TheVariants as command
+use Rattle.pybuf_command.specs.declared.worlds.Reply.{Reply}
+use Rattle.pybuf_command.specs.declared.worlds.Reply.TheVariants as reply
 use Rattle.pybuf_value.specs.declared.values.Scalar.{Scalar}
 use Rattle.pybuf_value.specs.declared.values.Scalar.TheVariants as scalar
 use Rattle.pybuf_value.specs.declared.values.PySlice.{PySlice}
@@ -60,8 +59,7 @@ BadLineIsFirst = (name_in : List ℕ → Option ℕ) (input : List ℕ) (n : ℕ
 
 -- what a reply shows as it is, where it does, is one line
 abbrev pub ShowsOneLine : Reply → Type 0
-ShowsOneLine (reply.Shown text) = IsOneLine text
-ShowsOneLine r = Unit {0}
+ShowsOneLine r = (text : List ℕ) → r ≡ reply.Shown text → IsOneLine text
 
 -- the text of a reply holds no line feed
 abbrev pub RepliesAreSingle : (ℕ → List ℕ) → Type 0
@@ -70,11 +68,6 @@ RepliesAreSingle name = (r : Reply) → ShowsOneLine r → IsOneLine (reply_text
 -- whatever the names of handles are, if each is one line
 abbrev pub NamesStaySingle : Type 0
 NamesStaySingle = (name : ℕ → List ℕ) → ((n : ℕ) → IsOneLine (name n)) → RepliesAreSingle name
-
--- so does the text of each reply of a run, of whatever commands in whatever world, so there is one line for each
-abbrev pub RunsStaySingle : Type 0
-RunsStaySingle = (name : ℕ → List ℕ) → ((n : ℕ) → IsOneLine (name n)) → (w : World) (commands : List Command) →
-    AllByRecursion (λ r. IsOneLine (reply_text name r)) (replies_of w commands)
 
 -- The parts between commas, with a comma between each two, are the text.
 abbrev pub PartsJoin : Type 0

@@ -6,7 +6,7 @@ ghost use Rattle.pybuf_line.specs.Reading.{Reads};
 
 use crate::spellings::value;
 use crate::unread::Unread;
-use pybuf_view::ByteInnerNewOptions;
+use pybuf_bytes::ByteInnerNewOptions;
 use std::alloc::Global;
 
 /// The options of a source alone.

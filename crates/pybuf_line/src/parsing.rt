@@ -10,7 +10,8 @@ use crate::splitting::fill_words;
 use crate::unread::Unread;
 use crate::verbs::{no_command, verb_of};
 use crate::words::{Word, first_word, kind_named};
-use pybuf_view::{ByteInnerNewOptions, Command, ExporterKind};
+use pybuf_bytes::ByteInnerNewOptions;
+use pybuf_command::{Command, ExporterKind};
 use std::alloc::Global;
 
 /// `new` without a source.

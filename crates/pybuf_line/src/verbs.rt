@@ -12,10 +12,10 @@ use crate::options::options_of;
 use crate::spellings::value;
 use crate::unread::Unread;
 use crate::words::{Word, operator_named, property_named};
-use pybuf_bytes::MethodCall;
+use pybuf_bytes::{ByteInnerNewOptions, MethodCall};
+use pybuf_command::{Command, Verb};
 use pybuf_methods::takes;
 use pybuf_value::ValueList;
-use pybuf_view::{ByteInnerNewOptions, Command, Verb};
 use std::alloc::Global;
 
 /// The answer to words that are no command.
