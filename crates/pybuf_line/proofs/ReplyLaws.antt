@@ -116,13 +116,7 @@ nested_single text single (n ∷ m ∷ more) items =
 
 name_single : (f : Fault) → IsOneLine (python_name_of f)
 name_single fault.Index = refl
-name_single fault.Value = refl
-name_single fault.Kind = refl
-name_single fault.Buffer = refl
-name_single fault.Struct = refl
-name_single fault.Overflow = refl
-name_single fault.NotImplemented = refl
-name_single fault.UnknownName = refl
+name_single _ = refl
 
 pub reply_single : NamesStaySingle
 reply_single name single reply.Ok h = refl

@@ -23,7 +23,7 @@ use Rattle.pybuf_line.specs.Methods.{written_method, method_in}
 use Rattle.pybuf_value.specs.Spelling.{handle_text}
 use Rattle.pybuf_line.specs.Scalars.{enclosed_text, is_text, scalar_in, handle_in, written_scalar}
 use Rattle.pybuf_line.specs.Spellings.{value_in, written_value}
-use Rattle.pybuf_line.specs.Commands.{command_in, written_command}
+use Rattle.pybuf_line.specs.Commands.{values_of, command_in, written_command}
 use Rattle.pybuf_line.specs.Lines.{lines, commands_in}
 use Rattle.pybuf_line.specs.Replies.{reply_text}
 
@@ -162,30 +162,13 @@ AreSpelledOptions options = AreSpelledValues options.source options.encoding opt
 abbrev pub IsSpelledCall : MethodCall → Type 0
 IsSpelledCall method = IsTrue (takes method.name (length method.args)) × AllByRecursion IsSpelledValue method.args
 
--- the verbs that lines spell
+-- the verbs that lines spell: those that lines spell the values of, where none stands behind one that is left out
 abbrev pub IsSpelledVerb : Verb → Type 0
-IsSpelledVerb (verb.Get key) = IsSpelledValue key
-IsSpelledVerb (verb.Set key item) = IsSpelledValue key × IsSpelledValue item
-IsSpelledVerb (verb.Cast format None) = IsSpelledValue format
-IsSpelledVerb (verb.Cast format (Some shape)) = IsSpelledValue format × IsSpelledValue shape
-IsSpelledVerb (verb.Range from to) = IsSpelledValue from × IsSpelledValue to
 IsSpelledVerb (verb.Compare operator other) = IsSpelledValue other
-IsSpelledVerb (verb.Del key) = IsSpelledValue key
-IsSpelledVerb (verb.Append item) = IsSpelledValue item
-IsSpelledVerb (verb.Extend item) = IsSpelledValue item
-IsSpelledVerb (verb.Insert index item) = IsSpelledValue index × IsSpelledValue item
-IsSpelledVerb (verb.Pop (Some index)) = IsSpelledValue index
-IsSpelledVerb (verb.Remove item) = IsSpelledValue item
-IsSpelledVerb (verb.IAdd item) = IsSpelledValue item
-IsSpelledVerb (verb.IMul count) = IsSpelledValue count
-IsSpelledVerb (verb.SetState state) = IsSpelledValue state
-IsSpelledVerb (verb.Contains item) = IsSpelledValue item
 IsSpelledVerb (verb.Hex None (Some group)) = ⊥
-IsSpelledVerb (verb.Hex (Some sep) None) = IsSpelledValue sep
-IsSpelledVerb (verb.Hex (Some sep) (Some group)) = IsSpelledValue sep × IsSpelledValue group
-IsSpelledVerb (verb.Call method) = IsSpelledCall method
 IsSpelledVerb (verb.Init options) = AreSpelledOptions options
-IsSpelledVerb _ = Unit {0}
+IsSpelledVerb (verb.Call method) = IsSpelledCall method
+IsSpelledVerb v = AllByRecursion IsSpelledValue (values_of v)
 
 -- the commands that lines spell
 abbrev pub IsSpelledCommand : Command → Type 0
