@@ -4,3 +4,4 @@ pub mod Served
 pub mod Sending
 pub mod Running
 pub mod OneForm
+pub mod ReplyLaws

@@ -1,8 +1,8 @@
 -- Runs, line by line: what was put and what waits is the front of what is due, and what the lines that are left reply is the rest.
 use Rattle.std.proofs.Common.{◌≡◌, ℕ, ◌+◌, List, [], ◌∷◌, ◌++◌, Option, Some, None, Result, Ok, Err, refl, sym, ◌∙◌, ap, subst}
 use Rattle.std.proofs.lemmas.List.{append_assoc, append-nil}
-use Rattle.pybuf_world.specs.declared.commands.Command.{Command}
-use Rattle.pybuf_world.specs.declared.commands.Reply.{Reply}
+use Rattle.pybuf_command.specs.declared.worlds.Command.{Command}
+use Rattle.pybuf_command.specs.declared.worlds.Reply.{Reply}
 use Rattle.pybuf_world.specs.World.{World, empty_world, wstep, replies_of}
 use Rattle.pybuf_value.specs.Spelling.{handle_text}
 use Rattle.pybuf_line.specs.Scalars.{handle_in}

@@ -1,7 +1,7 @@
 -- What was read and put, where the source tells its bytes.
 use Rattle.std.proofs.Common.{◌≡◌, ℕ, ◌≤◌, List, [], ◌++◌, length, take, drop, Option, Some, Ok, Err, refl, sym, ◌∙◌, ap, arith}
 use Rattle.std.proofs.lemmas.List.{append-nil, nil_from_length, length-append, drop_at}
-use Rattle.pybuf_world.specs.declared.commands.Command.{Command}
+use Rattle.pybuf_command.specs.declared.worlds.Command.{Command}
 use Rattle.pybuf_world.specs.World.{empty_world}
 use Rattle.pybuf_world.specs.Sound.{StaysSound}
 use Rattle.pybuf_cli.specs.declared.forms.Form.{Form}

@@ -2,3 +2,4 @@ pub mod Devices
 pub mod Endings
 pub mod Program
 pub mod Running
+pub mod Laws

@@ -1,7 +1,7 @@
 -- What the program does with its words and its input.
 use Rattle.std.specs.Prelude.{◌≡◌, ◌≢◌, ◌↔◌, ◌⊎◌, ℕ, ◌<◌, ◌≤◌, suc, List, [], ◌∷◌, length, drop, codes, nat_lt, Option, Some, None, Result, Ok, Err, if◌then◌else◌}
 use Rattle.std.specs.Str.{bytes_eq}
-use Rattle.pybuf_world.specs.declared.commands.Command.{Command}
+use Rattle.pybuf_command.specs.declared.worlds.Command.{Command}
 use Rattle.pybuf_world.specs.World.{empty_world, replies_of}
 use Rattle.pybuf_world.specs.Sound.{StaysSound}
 use Rattle.pybuf_cli.specs.declared.forms.Form.{Form}

@@ -1,6 +1,6 @@
 -- What one line does to a world and to the text that is written.
 use Rattle.std.specs.Prelude.{◌≡◌, ℕ, List, ◌++◌, Some, Ok}
-use Rattle.pybuf_world.specs.declared.commands.Command.{Command}
+use Rattle.pybuf_command.specs.declared.worlds.Command.{Command}
 use Rattle.pybuf_world.specs.World.{World, wstep}
 use Rattle.pybuf_value.specs.Spelling.{handle_text}
 use Rattle.pybuf_line.specs.Scalars.{handle_in}

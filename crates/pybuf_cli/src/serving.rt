@@ -1,6 +1,6 @@
 //! The top call: from the words and the input to the output and the status.
 ghost use Rattle.std.specs.Prelude.{◌≡◌, ◌≢◌, ◌≤◌, ◌⊎◌, ◌^◌, List, [], ℕ, ◌↔◌, IfOk, Some, None, Ok, Err, length, take};
-ghost use Rattle.pybuf_world.specs.declared.commands.Command.{Command};
+ghost use Rattle.pybuf_command.specs.declared.worlds.Command.{Command};
 ghost use Rattle.pybuf_world.specs.World.{empty_world};
 ghost use Rattle.pybuf_world.specs.Sound.{StaysSound};
 ghost use Rattle.pybuf_cli.specs.Devices.{Put, PutPrefix, Rose};
@@ -19,7 +19,7 @@ use crate::status::Status;
 use crate::writing::run_lines;
 use pybuf_line::{Misread, check_lines, push_bad_line};
 use pybuf_value::{ByteList, Made, Text};
-use pybuf_view::runs_stay_sound;
+use pybuf_world::runs_stay_sound;
 use std::alloc::Global;
 use std::sync::Wait;
 use std::thread::Threads;

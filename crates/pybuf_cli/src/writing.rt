@@ -9,9 +9,10 @@ ghost use Rattle.pybuf_cli.specs.declared.devices.PutFault.{PutFault};
 
 use crate::devices::{PutFault, Sink};
 use crate::loops::{PIECE, write_all};
+use pybuf_command::Command;
 use pybuf_line::{Unread, command_of_line, let_go, next_line, push_reply_line};
 use pybuf_value::{Made, NoMemory};
-use pybuf_view::{Command, World};
+use pybuf_world::World;
 use std::alloc::Global;
 
 /// Puts the text once it is as long as a piece, and leaves what waits.

@@ -1,11 +1,12 @@
-//! The words that are spoken to an exporter: kinds and subjects, commands and replies, and what the
-//! handles of a command are lent as.
+//! The words that are spoken to an exporter and to a world of exporters: kinds and subjects, commands
+//! and replies, and what the handles of a command are lent as.
 #![tactic(auto)]
 
 mod commands;
 mod handles;
 mod kinds;
 mod loans;
+mod worlds;
 
 pub use commands::{LocalCommand, LocalReply, PropertyName, Verb};
 pub use handles::{
@@ -14,3 +15,4 @@ pub use handles::{
 };
 pub use kinds::{ExporterKind, Subject};
 pub use loans::{Loan, LoanList, is_byte_format};
+pub use worlds::{Command, Reply, ReplyList};

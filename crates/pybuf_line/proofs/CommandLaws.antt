@@ -18,15 +18,17 @@ use Rattle.pybuf_bytes.specs.declared.options.ByteInnerNewOptions.{ByteInnerNewO
 use Rattle.pybuf_bytes.specs.declared.methods.MethodName.{MethodName}
 use Rattle.pybuf_bytes.specs.declared.methods.MethodName.TheVariants as name
 use Rattle.pybuf_bytes.specs.declared.methods.MethodCall.{MethodCall}
-use Rattle.pybuf_world.specs.declared.commands.Command.TheVariants as command
+use Rattle.pybuf_command.specs.declared.worlds.Command.TheVariants as command
+use Rattle.pybuf_line.specs.declared.words.Word.{Word}
 use Rattle.pybuf_line.specs.declared.words.Word.TheVariants as word
 use Rattle.pybuf_line.specs.Parts.{parts_at}
 use Rattle.pybuf_line.specs.Words.{words, word_in, written_word, written_kind, written_operator, written_name}
 use Rattle.pybuf_line.specs.Methods.{written_method}
 use Rattle.pybuf_value.specs.Spelling.{handle_text}
+use Rattle.pybuf_value.specs.Choosing.{◌>>=◌}
 use Rattle.pybuf_line.specs.Scalars.{handle_in, is_text_byte, written_scalar}
 use Rattle.pybuf_line.specs.Spellings.{written_slice, written_parts, written_value}
-use Rattle.pybuf_line.specs.Commands.{options_in, verb_in, word_of, written_values, written_options, values_in, call_in, written_call, written_arguments, command_of_words, command_in, written_words}
+use Rattle.pybuf_line.specs.Commands.{options_in, verb_alone, verb_of_one, verb_of_two, verb_by_values, verb_in, word_of, written_values, written_options, values_in, call_in, written_call, values_of, written_arguments, asked, command_of_words, command_in, written_words}
 use Rattle.pybuf_line.specs.Laws.{IsSpelled, IsSpelledSlice, IsSpelledValue, AreSpelledValues, AreSpelledOptions, IsSpelledCall, IsSpelledVerb, CommandsReadBack}
 use Rattle.pybuf_line.proofs.NameLaws.{kinds_read, operators_read, properties_read, methods_read}
 use Rattle.pybuf_line.proofs.SpellingLaws.{handle_read}
@@ -119,26 +121,15 @@ value_unbroken (value.Slices slices) h =
 
 name_unbroken : (p : PropertyName) → IsUnbroken (written_name p)
 name_unbroken property.Exports = refl
-name_unbroken property.Obj = refl
-name_unbroken property.Nbytes = refl
-name_unbroken property.Readonly = refl
-name_unbroken property.Itemsize = refl
-name_unbroken property.Ndim = refl
-name_unbroken property.Shape = refl
-name_unbroken property.Strides = refl
-name_unbroken property.Suboffsets = refl
-name_unbroken property.Format = refl
-name_unbroken property.Contiguous = refl
-name_unbroken property.CContiguous = refl
-name_unbroken property.FContiguous = refl
+name_unbroken _ = refl
 
 operator_unbroken : (o : CompareOp) → IsUnbroken (written_operator o)
 operator_unbroken op.Eq = refl
-operator_unbroken op.Ne = refl
-operator_unbroken op.Lt = refl
-operator_unbroken op.Le = refl
-operator_unbroken op.Gt = refl
-operator_unbroken op.Ge = refl
+operator_unbroken _ = refl
+
+word_unbroken : (w : Word) → IsUnbroken (written_word w)
+word_unbroken word.New = refl
+word_unbroken _ = refl
 
 -- options
 options_unbroken : (source encoding errors : Option Value) → AreSpelledValues source encoding errors → AllByRecursion IsUnbroken (written_values handle_text source encoding errors)
@@ -163,50 +154,7 @@ options_read (Some source) None (Some errors) h = absurd h
 -- a call of a method
 method_unbroken : (m : MethodName) → IsUnbroken (written_method m)
 method_unbroken name.Add = refl
-method_unbroken name.Concat = refl
-method_unbroken name.Mul = refl
-method_unbroken name.IsAlnum = refl
-method_unbroken name.IsAlpha = refl
-method_unbroken name.IsAscii = refl
-method_unbroken name.IsDigit = refl
-method_unbroken name.IsLower = refl
-method_unbroken name.IsSpace = refl
-method_unbroken name.IsTitle = refl
-method_unbroken name.IsUpper = refl
-method_unbroken name.Lower = refl
-method_unbroken name.Upper = refl
-method_unbroken name.SwapCase = refl
-method_unbroken name.Capitalize = refl
-method_unbroken name.Title = refl
-method_unbroken name.Hex = refl
-method_unbroken name.FromHex = refl
-method_unbroken name.Center = refl
-method_unbroken name.LJust = refl
-method_unbroken name.RJust = refl
-method_unbroken name.Find = refl
-method_unbroken name.RFind = refl
-method_unbroken name.Index = refl
-method_unbroken name.RIndex = refl
-method_unbroken name.Count = refl
-method_unbroken name.StartsWith = refl
-method_unbroken name.EndsWith = refl
-method_unbroken name.Join = refl
-method_unbroken name.MakeTrans = refl
-method_unbroken name.Translate = refl
-method_unbroken name.Strip = refl
-method_unbroken name.LStrip = refl
-method_unbroken name.RStrip = refl
-method_unbroken name.RemovePrefix = refl
-method_unbroken name.RemoveSuffix = refl
-method_unbroken name.Split = refl
-method_unbroken name.RSplit = refl
-method_unbroken name.Partition = refl
-method_unbroken name.RPartition = refl
-method_unbroken name.ExpandTabs = refl
-method_unbroken name.SplitLines = refl
-method_unbroken name.ZFill = refl
-method_unbroken name.Replace = refl
-method_unbroken name.Decode = refl
+method_unbroken _ = refl
 
 values_unbroken : (values : List Value) → AllByRecursion IsSpelledValue values → AllByRecursion IsUnbroken (map (written_value handle_text) values)
 values_unbroken [] h = tt
@@ -221,180 +169,54 @@ call_read c h = rw (methods_read.read c.name tt, each_value_read c.args h.1, h.0
 
 -- a command of a handle
 arguments_unbroken : (v : Verb) → IsSpelledVerb v → AllByRecursion IsUnbroken (written_arguments handle_text v)
-arguments_unbroken verb.View h = tt
-arguments_unbroken (verb.Get key) h = (value_unbroken key h, tt)
-arguments_unbroken (verb.Set key item) h = (value_unbroken key h.0, (value_unbroken item h.1, tt))
-arguments_unbroken (verb.Cast format None) h = (value_unbroken format h, tt)
-arguments_unbroken (verb.Cast format (Some shape)) h = (value_unbroken format h.0, (value_unbroken shape h.1, tt))
-arguments_unbroken verb.ToBytes h = tt
-arguments_unbroken verb.Release h = tt
-arguments_unbroken verb.Len h = tt
 arguments_unbroken (verb.Property name) h = (name_unbroken name, tt)
-arguments_unbroken verb.ToReadonly h = tt
-arguments_unbroken (verb.Range from to) h = (value_unbroken from h.0, (value_unbroken to h.1, tt))
-arguments_unbroken verb.Enter h = tt
-arguments_unbroken verb.Exit h = tt
-arguments_unbroken verb.ToContiguous h = tt
-arguments_unbroken verb.ToList h = tt
 arguments_unbroken (verb.Compare operator other) h = (operator_unbroken operator, (value_unbroken other h, tt))
-arguments_unbroken verb.Hash h = tt
-arguments_unbroken verb.Repr h = tt
-arguments_unbroken verb.Iter h = tt
-arguments_unbroken verb.Next h = tt
-arguments_unbroken verb.LengthHint h = tt
-arguments_unbroken (verb.SetState state) h = (value_unbroken state h, tt)
-arguments_unbroken (verb.Contains item) h = (value_unbroken item h, tt)
-arguments_unbroken (verb.Hex None None) h = tt
 arguments_unbroken (verb.Hex None (Some group)) h = absurd h
-arguments_unbroken (verb.Hex (Some sep) None) h = (value_unbroken sep h, tt)
-arguments_unbroken (verb.Hex (Some sep) (Some group)) h = (value_unbroken sep h.0, (value_unbroken group h.1, tt))
-arguments_unbroken (verb.Call method) h = (method_unbroken method.name, values_unbroken method.args h.1)
-arguments_unbroken (verb.Del key) h = (value_unbroken key h, tt)
-arguments_unbroken (verb.Append item) h = (value_unbroken item h, tt)
-arguments_unbroken (verb.Extend item) h = (value_unbroken item h, tt)
-arguments_unbroken (verb.Remove item) h = (value_unbroken item h, tt)
-arguments_unbroken (verb.IAdd item) h = (value_unbroken item h, tt)
-arguments_unbroken (verb.IMul count) h = (value_unbroken count h, tt)
-arguments_unbroken (verb.Insert index item) h = (value_unbroken index h.0, (value_unbroken item h.1, tt))
-arguments_unbroken (verb.Pop None) h = tt
-arguments_unbroken (verb.Pop (Some index)) h = (value_unbroken index h, tt)
-arguments_unbroken verb.Clear h = tt
-arguments_unbroken verb.Reverse h = tt
 arguments_unbroken (verb.Init options) h = options_unbroken options.source options.encoding options.errors h
-arguments_unbroken verb.Take h = tt
-arguments_unbroken verb.Copy h = tt
-
-word_unbroken : (v : Verb) → IsUnbroken (written_word (word_of v))
-word_unbroken verb.View = refl
-word_unbroken (verb.Get key) = refl
-word_unbroken (verb.Set key item) = refl
-word_unbroken (verb.Cast format shape) = refl
-word_unbroken verb.ToBytes = refl
-word_unbroken verb.Release = refl
-word_unbroken verb.Len = refl
-word_unbroken (verb.Property name) = refl
-word_unbroken verb.ToReadonly = refl
-word_unbroken (verb.Range from to) = refl
-word_unbroken verb.Enter = refl
-word_unbroken verb.Exit = refl
-word_unbroken verb.ToContiguous = refl
-word_unbroken verb.ToList = refl
-word_unbroken (verb.Compare operator other) = refl
-word_unbroken verb.Hash = refl
-word_unbroken verb.Repr = refl
-word_unbroken verb.Iter = refl
-word_unbroken verb.Next = refl
-word_unbroken verb.LengthHint = refl
-word_unbroken (verb.SetState state) = refl
-word_unbroken (verb.Contains item) = refl
-word_unbroken (verb.Hex sep group) = refl
-word_unbroken (verb.Call method) = refl
-word_unbroken (verb.Del key) = refl
-word_unbroken (verb.Append item) = refl
-word_unbroken (verb.Extend item) = refl
-word_unbroken (verb.Remove item) = refl
-word_unbroken (verb.IAdd item) = refl
-word_unbroken (verb.IMul count) = refl
-word_unbroken (verb.Insert index item) = refl
-word_unbroken (verb.Pop index) = refl
-word_unbroken verb.Clear = refl
-word_unbroken verb.Reverse = refl
-word_unbroken (verb.Init options) = refl
-word_unbroken verb.Take = refl
-word_unbroken verb.Copy = refl
+arguments_unbroken (verb.Call method) h = (method_unbroken method.name, values_unbroken method.args h.1)
+arguments_unbroken v h = values_unbroken (values_of v) h
 
 handle_unbroken : (n : ℕ) → n < 2 ^ 64 → IsUnbroken (handle_text n)
 handle_unbroken n h = free (handle_text n) (part_free (scalar.Handle n) h)
 
+-- the verb of a word and of values
+abbrev verb_with : Word → List Value → Option Verb
+verb_with w [] = verb_alone w
+verb_with w (first ∷ []) = verb_of_one w first
+verb_with w (first ∷ second ∷ []) = verb_of_two w first second
+verb_with w (first ∷ second ∷ third ∷ more) = None
+
+by_values_read : (w : Word) (values : List Value) → AllByRecursion IsSpelledValue values →
+    verb_by_values handle_in w (map (written_value handle_text) values) ≡ verb_with w values
+by_values_read w [] h = refl
+by_values_read w (first ∷ []) h = rw (values_read first h.0) refl
+by_values_read w (first ∷ second ∷ []) h = rw (values_read first h.0, values_read second h.1.0) refl
+by_values_read w (first ∷ second ∷ third ∷ more) h = refl
+
 verb_read : (v : Verb) → IsSpelledVerb v → verb_in handle_in (word_of v) (written_arguments handle_text v) ≡ Some v
-verb_read verb.View h = refl
-verb_read (verb.Get key) h = rw (values_read key h) refl
-verb_read (verb.Set key item) h = rw (values_read key h.0, values_read item h.1) refl
-verb_read (verb.Cast format None) h = rw (values_read format h) refl
-verb_read (verb.Cast format (Some shape)) h = rw (values_read format h.0, values_read shape h.1) refl
-verb_read verb.ToBytes h = refl
-verb_read verb.Release h = refl
-verb_read verb.Len h = refl
 verb_read (verb.Property name) h = rw (properties_read.read name tt) refl
-verb_read verb.ToReadonly h = refl
-verb_read (verb.Range from to) h = rw (values_read from h.0, values_read to h.1) refl
-verb_read verb.Enter h = refl
-verb_read verb.Exit h = refl
-verb_read verb.ToContiguous h = refl
-verb_read verb.ToList h = refl
 verb_read (verb.Compare operator other) h = rw (operators_read.read operator tt, values_read other h) refl
-verb_read verb.Hash h = refl
-verb_read verb.Repr h = refl
-verb_read verb.Iter h = refl
-verb_read verb.Next h = refl
-verb_read verb.LengthHint h = refl
-verb_read (verb.SetState state) h = rw (values_read state h) refl
-verb_read (verb.Contains item) h = rw (values_read item h) refl
-verb_read (verb.Hex None None) h = refl
-verb_read (verb.Hex None (Some group)) h = absurd h
-verb_read (verb.Hex (Some sep) None) h = rw (values_read sep h) refl
-verb_read (verb.Hex (Some sep) (Some group)) h = rw (values_read sep h.0, values_read group h.1) refl
-verb_read (verb.Call method) h = call_read method h
-verb_read (verb.Del key) h = rw (values_read key h) refl
-verb_read (verb.Append item) h = rw (values_read item h) refl
-verb_read (verb.Extend item) h = rw (values_read item h) refl
-verb_read (verb.Remove item) h = rw (values_read item h) refl
-verb_read (verb.IAdd item) h = rw (values_read item h) refl
-verb_read (verb.IMul count) h = rw (values_read count h) refl
-verb_read (verb.Insert index item) h = rw (values_read index h.0, values_read item h.1) refl
-verb_read (verb.Pop None) h = refl
-verb_read (verb.Pop (Some index)) h = rw (values_read index h) refl
-verb_read verb.Clear h = refl
-verb_read verb.Reverse h = refl
 verb_read (verb.Init options) h = rw (options_read options.source options.encoding options.errors h) refl
-verb_read verb.Take h = refl
-verb_read verb.Copy h = refl
+verb_read (verb.Call method) h = call_read method h
+verb_read (verb.Cast format None) h = by_values_read word.Cast (format ∷ []) h
+verb_read (verb.Pop None) h = by_values_read word.Pop [] h
+verb_read (verb.Hex None None) h = by_values_read word.Hex [] h
+verb_read (verb.Hex None (Some group)) h = absurd h
+verb_read (verb.Hex (Some sep) None) h = by_values_read word.Hex (sep ∷ []) h
+verb_read v h = by_values_read (word_of v) (values_of v) h
+
+-- what is asked of a handle that was read
+asked_of : (handle : Option ℕ) (asks : Option Verb) (n : ℕ) (v : Verb) → handle ≡ Some n → asks ≡ Some v →
+    (handle >>= λ subject. asked subject asks) ≡ Some (command.Do n v)
+asked_of handle asks n v h k = rw (h, k) refl
 
 do_read : (n : ℕ) (v : Verb) → n < 2 ^ 64 → IsSpelledVerb v →
     command_of_words handle_in (written_words handle_text (command.Do n v)) ≡ Some (command.Do n v)
 unfolding word_in
-do_read n verb.View h k = rw (handle_read n h) refl
-do_read n (verb.Get key) h k = rw (handle_read n h, verb_read (verb.Get key) k) refl
-do_read n (verb.Set key item) h k = rw (handle_read n h, verb_read (verb.Set key item) k) refl
-do_read n (verb.Cast format None) h k = rw (handle_read n h, verb_read (verb.Cast format None) k) refl
-do_read n (verb.Cast format (Some shape)) h k = rw (handle_read n h, verb_read (verb.Cast format (Some shape)) k) refl
-do_read n verb.ToBytes h k = rw (handle_read n h) refl
-do_read n verb.Release h k = rw (handle_read n h) refl
-do_read n verb.Len h k = rw (handle_read n h) refl
-do_read n (verb.Property name) h k = rw (handle_read n h, verb_read (verb.Property name) k) refl
-do_read n verb.ToReadonly h k = rw (handle_read n h) refl
-do_read n (verb.Range from to) h k = rw (handle_read n h, verb_read (verb.Range from to) k) refl
-do_read n verb.Enter h k = rw (handle_read n h) refl
-do_read n verb.Exit h k = rw (handle_read n h) refl
-do_read n verb.ToContiguous h k = rw (handle_read n h) refl
-do_read n verb.ToList h k = rw (handle_read n h) refl
-do_read n (verb.Compare operator other) h k = rw (handle_read n h, verb_read (verb.Compare operator other) k) refl
-do_read n verb.Hash h k = rw (handle_read n h) refl
-do_read n verb.Repr h k = rw (handle_read n h) refl
-do_read n verb.Iter h k = rw (handle_read n h) refl
-do_read n verb.Next h k = rw (handle_read n h) refl
-do_read n verb.LengthHint h k = rw (handle_read n h) refl
-do_read n (verb.SetState state) h k = rw (handle_read n h, verb_read (verb.SetState state) k) refl
-do_read n (verb.Contains item) h k = rw (handle_read n h, verb_read (verb.Contains item) k) refl
-do_read n (verb.Hex None None) h k = rw (handle_read n h) refl
-do_read n (verb.Hex None (Some group)) h k = absurd k
-do_read n (verb.Hex (Some sep) None) h k = rw (handle_read n h, verb_read (verb.Hex (Some sep) None) k) refl
-do_read n (verb.Hex (Some sep) (Some group)) h k = rw (handle_read n h, verb_read (verb.Hex (Some sep) (Some group)) k) refl
-do_read n (verb.Call method) h k = rw (handle_read n h, verb_read (verb.Call method) k) refl
-do_read n (verb.Del key) h k = rw (handle_read n h, verb_read (verb.Del key) k) refl
-do_read n (verb.Append item) h k = rw (handle_read n h, verb_read (verb.Append item) k) refl
-do_read n (verb.Extend item) h k = rw (handle_read n h, verb_read (verb.Extend item) k) refl
-do_read n (verb.Remove item) h k = rw (handle_read n h, verb_read (verb.Remove item) k) refl
-do_read n (verb.IAdd item) h k = rw (handle_read n h, verb_read (verb.IAdd item) k) refl
-do_read n (verb.IMul count) h k = rw (handle_read n h, verb_read (verb.IMul count) k) refl
-do_read n (verb.Insert index item) h k = rw (handle_read n h, verb_read (verb.Insert index item) k) refl
-do_read n (verb.Pop None) h k = rw (handle_read n h) refl
-do_read n (verb.Pop (Some index)) h k = rw (handle_read n h, verb_read (verb.Pop (Some index)) k) refl
-do_read n verb.Clear h k = rw (handle_read n h) refl
-do_read n verb.Reverse h k = rw (handle_read n h) refl
-do_read n (verb.Init options) h k = rw (handle_read n h, verb_read (verb.Init options) k) refl
-do_read n verb.Take h k = rw (handle_read n h) refl
-do_read n verb.Copy h k = rw (handle_read n h) refl
+do_read n verb.View h k =
+    asked_of (handle_in (handle_text n)) (verb_in handle_in (word_of verb.View) (written_arguments handle_text verb.View)) n verb.View (handle_read n h) (verb_read verb.View k)
+do_read n v h k =
+    asked_of (handle_in (handle_text n)) (verb_in handle_in (word_of v) (written_arguments handle_text v)) n v (handle_read n h) (verb_read v k)
 
 -- a new exporter
 new_read : (k : ExporterKind) (options : ByteInnerNewOptions) → AreSpelledOptions options →
@@ -418,5 +240,5 @@ commands_read (command.New k options) h =
 commands_read (command.Do n v) h =
     ap (command_of_words handle_in)
     (words_of (written_word (word_of v)) (handle_text n ∷ written_arguments handle_text v)
-    (word_unbroken v, (handle_unbroken n h.0, arguments_unbroken v h.1)))
+    (word_unbroken (word_of v), (handle_unbroken n h.0, arguments_unbroken v h.1)))
     ∙ do_read n v h.0 h.1

@@ -3,7 +3,7 @@ use Rattle.std.proofs.Common.{◌≡◌, ℕ, ◌+◌, ◌≤◌, List, [], ◌�
 use Rattle.std.proofs.lemmas.List.{append_assoc}
 use Rattle.std.proofs.lemmas.List.Splits.{length-slice_split}
 use Rattle.std.proofs.lemmas.List.Sums.{count_by-le-length}
-use Rattle.pybuf_world.specs.declared.commands.Command.{Command}
+use Rattle.pybuf_command.specs.declared.worlds.Command.{Command}
 use Rattle.pybuf_line.specs.Scalars.{handle_in}
 use Rattle.pybuf_line.specs.Commands.{command_in}
 use Rattle.pybuf_line.specs.Lines.{lines, without_empty_last, commands_from, before}

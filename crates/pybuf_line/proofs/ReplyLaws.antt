@@ -11,15 +11,11 @@ use Rattle.pybuf_value.specs.declared.values.Scalar.{Scalar}
 use Rattle.pybuf_value.specs.declared.values.Scalar.TheVariants as scalar
 use Rattle.pybuf_value.specs.declared.values.Item.{Item}
 use Rattle.pybuf_value.specs.declared.values.Item.TheVariants as item
-use Rattle.pybuf_world.specs.declared.commands.Command.{Command}
-use Rattle.pybuf_world.specs.declared.commands.Reply.{Reply}
-use Rattle.pybuf_world.specs.declared.commands.Reply.TheVariants as reply
-use Rattle.pybuf_world.specs.World.{World, wstep}
-use Rattle.pybuf_world.specs.Laws.{WorldShownTextsAreOneLine}
+use Rattle.pybuf_command.specs.declared.worlds.Reply.TheVariants as reply
 use Rattle.pybuf_value.specs.Quotes.{quote_of, escaped_byte, quoted_text}
 use Rattle.pybuf_value.specs.Spelling.{bytes_text, truth_text, handle_text, scalar_text}
 use Rattle.pybuf_line.specs.Replies.{next_part_text, tuple_text, item_text, list_text, blocks, nested_text}
-use Rattle.pybuf_line.specs.Laws.{IsOneLine, ShowsOneLine, RepliesAreSingle, NamesStaySingle, RunsStaySingle}
+use Rattle.pybuf_line.specs.Laws.{IsOneLine, ShowsOneLine, RepliesAreSingle, NamesStaySingle}
 
 both : (xs ys : List ℕ) → IsOneLine xs → IsOneLine ys → IsOneLine (xs ++ ys)
 both xs ys h k = list_any-append (λ b. b == 10) xs ys ∙ (ap (λ b. b || list_any (λ c. c == 10) ys) h ∙ k)
@@ -120,13 +116,7 @@ nested_single text single (n ∷ m ∷ more) items =
 
 name_single : (f : Fault) → IsOneLine (python_name_of f)
 name_single fault.Index = refl
-name_single fault.Value = refl
-name_single fault.Kind = refl
-name_single fault.Buffer = refl
-name_single fault.Struct = refl
-name_single fault.Overflow = refl
-name_single fault.NotImplemented = refl
-name_single fault.UnknownName = refl
+name_single _ = refl
 
 pub reply_single : NamesStaySingle
 reply_single name single reply.Ok h = refl
@@ -138,7 +128,7 @@ reply_single name single (reply.Item shown) h = item_single name single shown
 reply_single name single (reply.Bytes bytes) h = quoted_single bytes
 reply_single name single (reply.ByteLists lists) h = list_single bytes_text quoted_single lists
 reply_single name single (reply.Text text) h = quoted_single text
-reply_single name single (reply.Shown text) h = h
+reply_single name single (reply.Shown text) h = h text refl
 reply_single name single (reply.Truth truth) h = truth_single truth
 reply_single name single reply.NotImplementedReply h = refl
 reply_single name single reply.Stop h = refl
@@ -147,29 +137,3 @@ reply_single name single (reply.Refused f) h = name_single f
 
 pub handle_single : RepliesAreSingle handle_text
 handle_single r h = reply_single handle_text decimal_single r h
-
--- runs, given what a command shows
-not_broken : (broken : Bool) → not broken ≡ true → broken ≡ false
-not_broken false h = refl
-not_broken true h = cc
-
-shows_line : WorldShownTextsAreOneLine → (w : World) (c : Command) (r : Reply) → (wstep w c).1 ≡ r → ShowsOneLine r
-shows_line shown w c (reply.Shown text) h = not_broken (list_any (λ b. b == 10) text) (shown w c text h)
-shows_line shown w c reply.Ok h = tt
-shows_line shown w c (reply.Handle handle) h = tt
-shows_line shown w c (reply.Pair exporter view) h = tt
-shows_line shown w c (reply.Items shape items) h = tt
-shows_line shown w c (reply.Item item) h = tt
-shows_line shown w c (reply.Bytes bytes) h = tt
-shows_line shown w c (reply.ByteLists lists) h = tt
-shows_line shown w c (reply.Text text) h = tt
-shows_line shown w c (reply.Truth truth) h = tt
-shows_line shown w c reply.NotImplementedReply h = tt
-shows_line shown w c reply.Stop h = tt
-shows_line shown w c (reply.Numbers numbers) h = tt
-shows_line shown w c (reply.Refused f) h = tt
-
-pub runs_single : WorldShownTextsAreOneLine → RunsStaySingle
-runs_single shown name single w [] = tt
-runs_single shown name single w (c ∷ cs) =
-    (reply_single name single (wstep w c).1 (shows_line shown w c (wstep w c).1 refl), runs_single shown name single (wstep w c).0 cs)

@@ -10,8 +10,8 @@ use Rattle.pybuf_methods.specs.Arity.{takes}
 use Rattle.pybuf_command.specs.declared.kinds.ExporterKind.{ExporterKind}
 use Rattle.pybuf_command.specs.declared.commands.Verb.{Verb}
 use Rattle.pybuf_command.specs.declared.commands.Verb.TheVariants as verb
-use Rattle.pybuf_world.specs.declared.commands.Command.{Command}
-use Rattle.pybuf_world.specs.declared.commands.Command.TheVariants as command
+use Rattle.pybuf_command.specs.declared.worlds.Command.{Command}
+use Rattle.pybuf_command.specs.declared.worlds.Command.TheVariants as command
 use Rattle.pybuf_line.specs.declared.words.Word.{Word}
 use Rattle.pybuf_line.specs.declared.words.Word.TheVariants as word
 use Rattle.pybuf_line.specs.Words.{words, word_in, written_word, kind_in, written_kind, operator_in, written_operator, property_in, written_name}
@@ -36,42 +36,92 @@ options_in name_in (source ∷ encoding ∷ errors ∷ []) = do
   Some (record { source = Some s; encoding = Some e; errors = Some h })
 options_in name_in _ = None
 
--- an edit by its word and its arguments
-abbrev pub edit_in : (List ℕ → Option ℕ) → Word → List (List ℕ) → Option Verb
-edit_in name_in word.Del (key ∷ []) = do
-  k ← value_in name_in key
-  Some (verb.Del k)
-edit_in name_in word.Append (item ∷ []) = do
-  v ← value_in name_in item
-  Some (verb.Append v)
-edit_in name_in word.Extend (item ∷ []) = do
-  v ← value_in name_in item
-  Some (verb.Extend v)
-edit_in name_in word.Insert (index ∷ item ∷ []) = do
-  i ← value_in name_in index
-  v ← value_in name_in item
-  Some (verb.Insert i v)
-edit_in name_in word.Pop [] = Some (verb.Pop None)
-edit_in name_in word.Pop (index ∷ []) = do
-  i ← value_in name_in index
-  Some (verb.Pop (Some i))
-edit_in name_in word.Remove (item ∷ []) = do
-  v ← value_in name_in item
-  Some (verb.Remove v)
-edit_in name_in word.Clear [] = Some verb.Clear
-edit_in name_in word.Reverse [] = Some verb.Reverse
-edit_in name_in word.IAdd (item ∷ []) = do
-  v ← value_in name_in item
-  Some (verb.IAdd v)
-edit_in name_in word.IMul (count ∷ []) = do
-  n ← value_in name_in count
-  Some (verb.IMul n)
-edit_in name_in word.Init arguments = do
+-- ---- the table of verbs, by how many values stand after the subject: a verb of values has a line here for each number of
+-- them that it takes. Those of other arguments are the four below, in `verb_in`.
+
+-- the verbs of no argument
+abbrev pub verb_alone : Word → Option Verb
+verb_alone word.View = Some verb.View
+verb_alone word.ToBytes = Some verb.ToBytes
+verb_alone word.Release = Some verb.Release
+verb_alone word.Len = Some verb.Len
+verb_alone word.ToReadonly = Some verb.ToReadonly
+verb_alone word.Enter = Some verb.Enter
+verb_alone word.Exit = Some verb.Exit
+verb_alone word.ToContiguous = Some verb.ToContiguous
+verb_alone word.ToList = Some verb.ToList
+verb_alone word.Hash = Some verb.Hash
+verb_alone word.Repr = Some verb.Repr
+verb_alone word.Iter = Some verb.Iter
+verb_alone word.Next = Some verb.Next
+verb_alone word.LengthHint = Some verb.LengthHint
+verb_alone word.Hex = Some (verb.Hex None None)
+verb_alone word.Pop = Some (verb.Pop None)
+verb_alone word.Clear = Some verb.Clear
+verb_alone word.Reverse = Some verb.Reverse
+verb_alone word.Take = Some verb.Take
+verb_alone word.Copy = Some verb.Copy
+verb_alone _ = None
+
+-- those of one value
+abbrev pub verb_of_one : Word → Value → Option Verb
+verb_of_one word.Get key = Some (verb.Get key)
+verb_of_one word.Cast format = Some (verb.Cast format None)
+verb_of_one word.SetState state = Some (verb.SetState state)
+verb_of_one word.Contains item = Some (verb.Contains item)
+verb_of_one word.Hex sep = Some (verb.Hex (Some sep) None)
+verb_of_one word.Del key = Some (verb.Del key)
+verb_of_one word.Append item = Some (verb.Append item)
+verb_of_one word.Extend item = Some (verb.Extend item)
+verb_of_one word.Pop index = Some (verb.Pop (Some index))
+verb_of_one word.Remove item = Some (verb.Remove item)
+verb_of_one word.IAdd item = Some (verb.IAdd item)
+verb_of_one word.IMul count = Some (verb.IMul count)
+verb_of_one _ _ = None
+
+-- those of two values
+abbrev pub verb_of_two : Word → Value → Value → Option Verb
+verb_of_two word.Set key item = Some (verb.Set key item)
+verb_of_two word.Cast format shape = Some (verb.Cast format (Some shape))
+verb_of_two word.Range from to = Some (verb.Range from to)
+verb_of_two word.Hex sep group = Some (verb.Hex (Some sep) (Some group))
+verb_of_two word.Insert index item = Some (verb.Insert index item)
+verb_of_two _ _ _ = None
+
+-- a verb of values, by its word and the words of these
+abbrev pub verb_by_values : (List ℕ → Option ℕ) → Word → List (List ℕ) → Option Verb
+verb_by_values name_in w [] = verb_alone w
+verb_by_values name_in w (first ∷ []) = do
+  a ← value_in name_in first
+  verb_of_one w a
+verb_by_values name_in w (first ∷ second ∷ []) = do
+  a ← value_in name_in first
+  b ← value_in name_in second
+  verb_of_two w a b
+verb_by_values _ _ _ = None
+
+-- ---- verbs of other arguments
+
+-- a property by its name
+abbrev pub property_asked : List (List ℕ) → Option Verb
+property_asked (name ∷ []) = do
+  n ← property_in name
+  Some (verb.Property n)
+property_asked _ = None
+
+-- a comparison by its operator and the other side
+abbrev pub comparison_in : (List ℕ → Option ℕ) → List (List ℕ) → Option Verb
+comparison_in name_in (operator ∷ other ∷ []) = do
+  o ← operator_in operator
+  v ← value_in name_in other
+  Some (verb.Compare o v)
+comparison_in _ _ = None
+
+-- new bytes by their options
+abbrev pub init_in : (List ℕ → Option ℕ) → List (List ℕ) → Option Verb
+init_in name_in arguments = do
   options ← options_in name_in arguments
   Some (verb.Init options)
-edit_in name_in word.Take [] = Some verb.Take
-edit_in name_in word.Copy [] = Some verb.Copy
-edit_in _ _ _ = None
 
 -- as many values as there are words, one each
 abbrev pub values_in : (List ℕ → Option ℕ) → List (List ℕ) → Option (List Value)
@@ -89,63 +139,13 @@ call_in name_in (name ∷ arguments) = do
   args ← values_in name_in arguments
   call_of method args
 
--- A line `WORD hN ARGS` by its word and its arguments: the place where a new verb goes.
+-- A line `WORD hN ARGS` by its word and its arguments.
 abbrev pub verb_in : (List ℕ → Option ℕ) → Word → List (List ℕ) → Option Verb
-verb_in name_in word.View [] = Some verb.View
-verb_in name_in word.Get (key ∷ []) = do
-  k ← value_in name_in key
-  Some (verb.Get k)
-verb_in name_in word.Set (key ∷ item ∷ []) = do
-  k ← value_in name_in key
-  v ← value_in name_in item
-  Some (verb.Set k v)
-verb_in name_in word.ToBytes [] = Some verb.ToBytes
-verb_in name_in word.Release [] = Some verb.Release
-verb_in name_in word.Len [] = Some verb.Len
-verb_in name_in word.Cast (format ∷ []) = do
-  f ← value_in name_in format
-  Some (verb.Cast f None)
-verb_in name_in word.Cast (format ∷ shape ∷ []) = do
-  f ← value_in name_in format
-  s ← value_in name_in shape
-  Some (verb.Cast f (Some s))
-verb_in name_in word.Property (name ∷ []) = do
-  n ← property_in name
-  Some (verb.Property n)
-verb_in name_in word.ToReadonly [] = Some verb.ToReadonly
-verb_in name_in word.Range (from ∷ to ∷ []) = do
-  f ← value_in name_in from
-  t ← value_in name_in to
-  Some (verb.Range f t)
-verb_in name_in word.Enter [] = Some verb.Enter
-verb_in name_in word.Exit [] = Some verb.Exit
-verb_in name_in word.ToContiguous [] = Some verb.ToContiguous
-verb_in name_in word.ToList [] = Some verb.ToList
-verb_in name_in word.Compare (operator ∷ other ∷ []) = do
-  o ← operator_in operator
-  v ← value_in name_in other
-  Some (verb.Compare o v)
-verb_in name_in word.Hash [] = Some verb.Hash
-verb_in name_in word.Repr [] = Some verb.Repr
-verb_in name_in word.Iter [] = Some verb.Iter
-verb_in name_in word.Next [] = Some verb.Next
-verb_in name_in word.LengthHint [] = Some verb.LengthHint
-verb_in name_in word.SetState (state ∷ []) = do
-  s ← value_in name_in state
-  Some (verb.SetState s)
-verb_in name_in word.Contains (item ∷ []) = do
-  v ← value_in name_in item
-  Some (verb.Contains v)
-verb_in name_in word.Hex [] = Some (verb.Hex None None)
-verb_in name_in word.Hex (sep ∷ []) = do
-  s ← value_in name_in sep
-  Some (verb.Hex (Some s) None)
-verb_in name_in word.Hex (sep ∷ group ∷ []) = do
-  s ← value_in name_in sep
-  g ← value_in name_in group
-  Some (verb.Hex (Some s) (Some g))
+verb_in name_in word.Property arguments = property_asked arguments
+verb_in name_in word.Compare arguments = comparison_in name_in arguments
+verb_in name_in word.Init arguments = init_in name_in arguments
 verb_in name_in word.Call arguments = call_in name_in arguments
-verb_in name_in w arguments = edit_in name_in w arguments
+verb_in name_in w arguments = verb_by_values name_in w arguments
 
 -- the word that a verb is written with
 abbrev pub word_of : Verb → Word
@@ -201,42 +201,40 @@ written_options name options = written_values name options.source options.encodi
 abbrev pub written_call : (ℕ → List ℕ) → MethodCall → List (List ℕ)
 written_call name method = written_method method.name ∷ map (written_value name) method.args
 
+-- the values of a verb that has no other arguments
+abbrev pub values_of : Verb → List Value
+values_of (verb.Get key) = key ∷ []
+values_of (verb.Set key item) = key ∷ item ∷ []
+values_of (verb.Cast format None) = format ∷ []
+values_of (verb.Cast format (Some shape)) = format ∷ shape ∷ []
+values_of (verb.Range from to) = from ∷ to ∷ []
+values_of (verb.SetState state) = state ∷ []
+values_of (verb.Contains item) = item ∷ []
+values_of (verb.Hex (Some sep) None) = sep ∷ []
+values_of (verb.Hex (Some sep) (Some group)) = sep ∷ group ∷ []
+values_of (verb.Del key) = key ∷ []
+values_of (verb.Append item) = item ∷ []
+values_of (verb.Extend item) = item ∷ []
+values_of (verb.Insert index item) = index ∷ item ∷ []
+values_of (verb.Pop (Some index)) = index ∷ []
+values_of (verb.Remove item) = item ∷ []
+values_of (verb.IAdd item) = item ∷ []
+values_of (verb.IMul count) = count ∷ []
+values_of _ = []
+
 -- the words after the subject that a verb is written with
 abbrev pub written_arguments : (ℕ → List ℕ) → Verb → List (List ℕ)
-written_arguments name (verb.Get key) = written_value name key ∷ []
-written_arguments name (verb.Set key item) = written_value name key ∷ written_value name item ∷ []
-written_arguments name (verb.Cast format None) = written_value name format ∷ []
-written_arguments name (verb.Cast format (Some shape)) = written_value name format ∷ written_value name shape ∷ []
-written_arguments name (verb.Range from to) = written_value name from ∷ written_value name to ∷ []
 written_arguments name (verb.Property property) = written_name property ∷ []
 written_arguments name (verb.Compare operator other) = written_operator operator ∷ written_value name other ∷ []
-written_arguments name (verb.Del key) = written_value name key ∷ []
-written_arguments name (verb.Append item) = written_value name item ∷ []
-written_arguments name (verb.Extend item) = written_value name item ∷ []
-written_arguments name (verb.Insert index item) = written_value name index ∷ written_value name item ∷ []
-written_arguments name (verb.Pop (Some index)) = written_value name index ∷ []
-written_arguments name (verb.Remove item) = written_value name item ∷ []
-written_arguments name (verb.IAdd item) = written_value name item ∷ []
-written_arguments name (verb.IMul count) = written_value name count ∷ []
 written_arguments name (verb.Init options) = written_options name options
-written_arguments name (verb.SetState state) = written_value name state ∷ []
-written_arguments name (verb.Contains item) = written_value name item ∷ []
-written_arguments name (verb.Hex (Some sep) None) = written_value name sep ∷ []
-written_arguments name (verb.Hex (Some sep) (Some group)) = written_value name sep ∷ written_value name group ∷ []
 written_arguments name (verb.Call method) = written_call name method
-written_arguments name _ = []
+written_arguments name v = map (written_value name) (values_of v)
 
 -- what is asked of a handle
 abbrev pub asked : ℕ → Option Verb → Option Command
 asked subject asks = do
   v ← asks
   Some (command.Do subject v)
-
--- what makes a new exporter
-abbrev pub made : ExporterKind → Option ByteInnerNewOptions → Option Command
-made kind given = do
-  options ← given
-  Some (command.New kind options)
 
 -- `new KIND` and the options
 abbrev pub new_in : (List ℕ → Option ℕ) → List (List ℕ) → Option Command

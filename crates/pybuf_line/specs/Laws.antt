@@ -7,11 +7,10 @@ use Rattle.pybuf_command.specs.declared.commands.Verb.TheVariants as verb
 use Rattle.pybuf_bytes.specs.declared.options.ByteInnerNewOptions.{ByteInnerNewOptions}
 use Rattle.pybuf_bytes.specs.declared.methods.MethodCall.{MethodCall}
 use Rattle.pybuf_methods.specs.Arity.{takes}
-use Rattle.pybuf_world.specs.declared.commands.Command.{Command}
-use Rattle.pybuf_world.specs.declared.commands.Command.TheVariants as command
-use Rattle.pybuf_world.specs.declared.commands.Reply.{Reply}
-use Rattle.pybuf_world.specs.declared.commands.Reply.TheVariants as reply
-use Rattle.pybuf_world.specs.World.{World, replies_of}
+use Rattle.pybuf_command.specs.declared.worlds.Command.{Command}
+use Rattle.pybuf_command.specs.declared.worlds.Command.TheVariants as command
+use Rattle.pybuf_command.specs.declared.worlds.Reply.{Reply}
+use Rattle.pybuf_command.specs.declared.worlds.Reply.TheVariants as reply
 use Rattle.pybuf_value.specs.declared.values.Scalar.{Scalar}
 use Rattle.pybuf_value.specs.declared.values.Scalar.TheVariants as scalar
 use Rattle.pybuf_value.specs.declared.values.PySlice.{PySlice}
@@ -24,7 +23,7 @@ use Rattle.pybuf_line.specs.Methods.{written_method, method_in}
 use Rattle.pybuf_value.specs.Spelling.{handle_text}
 use Rattle.pybuf_line.specs.Scalars.{enclosed_text, is_text, scalar_in, handle_in, written_scalar}
 use Rattle.pybuf_line.specs.Spellings.{value_in, written_value}
-use Rattle.pybuf_line.specs.Commands.{command_in, written_command}
+use Rattle.pybuf_line.specs.Commands.{values_of, command_in, written_command}
 use Rattle.pybuf_line.specs.Lines.{lines, commands_in}
 use Rattle.pybuf_line.specs.Replies.{reply_text}
 
@@ -60,8 +59,7 @@ BadLineIsFirst = (name_in : List ℕ → Option ℕ) (input : List ℕ) (n : ℕ
 
 -- what a reply shows as it is, where it does, is one line
 abbrev pub ShowsOneLine : Reply → Type 0
-ShowsOneLine (reply.Shown text) = IsOneLine text
-ShowsOneLine r = Unit {0}
+ShowsOneLine r = (text : List ℕ) → r ≡ reply.Shown text → IsOneLine text
 
 -- the text of a reply holds no line feed
 abbrev pub RepliesAreSingle : (ℕ → List ℕ) → Type 0
@@ -70,11 +68,6 @@ RepliesAreSingle name = (r : Reply) → ShowsOneLine r → IsOneLine (reply_text
 -- whatever the names of handles are, if each is one line
 abbrev pub NamesStaySingle : Type 0
 NamesStaySingle = (name : ℕ → List ℕ) → ((n : ℕ) → IsOneLine (name n)) → RepliesAreSingle name
-
--- so does the text of each reply of a run, of whatever commands in whatever world, so there is one line for each
-abbrev pub RunsStaySingle : Type 0
-RunsStaySingle = (name : ℕ → List ℕ) → ((n : ℕ) → IsOneLine (name n)) → (w : World) (commands : List Command) →
-    AllByRecursion (λ r. IsOneLine (reply_text name r)) (replies_of w commands)
 
 -- The parts between commas, with a comma between each two, are the text.
 abbrev pub PartsJoin : Type 0
@@ -169,30 +162,13 @@ AreSpelledOptions options = AreSpelledValues options.source options.encoding opt
 abbrev pub IsSpelledCall : MethodCall → Type 0
 IsSpelledCall method = IsTrue (takes method.name (length method.args)) × AllByRecursion IsSpelledValue method.args
 
--- the verbs that lines spell
+-- the verbs that lines spell: those that lines spell the values of, where none stands behind one that is left out
 abbrev pub IsSpelledVerb : Verb → Type 0
-IsSpelledVerb (verb.Get key) = IsSpelledValue key
-IsSpelledVerb (verb.Set key item) = IsSpelledValue key × IsSpelledValue item
-IsSpelledVerb (verb.Cast format None) = IsSpelledValue format
-IsSpelledVerb (verb.Cast format (Some shape)) = IsSpelledValue format × IsSpelledValue shape
-IsSpelledVerb (verb.Range from to) = IsSpelledValue from × IsSpelledValue to
 IsSpelledVerb (verb.Compare operator other) = IsSpelledValue other
-IsSpelledVerb (verb.Del key) = IsSpelledValue key
-IsSpelledVerb (verb.Append item) = IsSpelledValue item
-IsSpelledVerb (verb.Extend item) = IsSpelledValue item
-IsSpelledVerb (verb.Insert index item) = IsSpelledValue index × IsSpelledValue item
-IsSpelledVerb (verb.Pop (Some index)) = IsSpelledValue index
-IsSpelledVerb (verb.Remove item) = IsSpelledValue item
-IsSpelledVerb (verb.IAdd item) = IsSpelledValue item
-IsSpelledVerb (verb.IMul count) = IsSpelledValue count
-IsSpelledVerb (verb.SetState state) = IsSpelledValue state
-IsSpelledVerb (verb.Contains item) = IsSpelledValue item
 IsSpelledVerb (verb.Hex None (Some group)) = ⊥
-IsSpelledVerb (verb.Hex (Some sep) None) = IsSpelledValue sep
-IsSpelledVerb (verb.Hex (Some sep) (Some group)) = IsSpelledValue sep × IsSpelledValue group
-IsSpelledVerb (verb.Call method) = IsSpelledCall method
 IsSpelledVerb (verb.Init options) = AreSpelledOptions options
-IsSpelledVerb _ = Unit {0}
+IsSpelledVerb (verb.Call method) = IsSpelledCall method
+IsSpelledVerb v = AllByRecursion IsSpelledValue (values_of v)
 
 -- the commands that lines spell
 abbrev pub IsSpelledCommand : Command → Type 0

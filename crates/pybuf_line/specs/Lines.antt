@@ -1,6 +1,6 @@
 -- The lines of an input, and their commands.
 use Rattle.std.specs.Prelude.{ℕ, ◌+◌, List, [], ◌∷◌, length, ◌==◌, Option, Some, None, Result, Ok, Err, if◌then◌else◌}
-use Rattle.pybuf_world.specs.declared.commands.Command.{Command}
+use Rattle.pybuf_command.specs.declared.worlds.Command.{Command}
 use Rattle.pybuf_line.specs.Parts.{parts_at}
 use Rattle.pybuf_line.specs.Commands.{command_in}
 

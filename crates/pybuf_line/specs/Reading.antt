@@ -1,6 +1,6 @@
 -- What a function that reads a line says of the definition that it reads by.
 use Rattle.std.specs.Prelude.{◌≡◌, ℕ, List, Option, Some, None, Result, Ok, Err}
-use Rattle.pybuf_world.specs.declared.commands.Command.{Command}
+use Rattle.pybuf_command.specs.declared.worlds.Command.{Command}
 use Rattle.pybuf_line.specs.declared.unread.Unread.{Unread}
 use Rattle.pybuf_line.specs.declared.unread.Unread.TheVariants as unread
 use Rattle.pybuf_line.specs.declared.unread.Misread.{Misread}

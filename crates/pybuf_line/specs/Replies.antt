@@ -8,8 +8,8 @@ use Rattle.pybuf_value.specs.Quotes.{quoted_text}
 use Rattle.pybuf_value.specs.Spelling.{bytes_text, truth_text, scalar_text}
 use Rattle.pybuf_value.specs.declared.values.Item.{Item}
 use Rattle.pybuf_value.specs.declared.values.Item.TheVariants as item
-use Rattle.pybuf_world.specs.declared.commands.Reply.{Reply}
-use Rattle.pybuf_world.specs.declared.commands.Reply.TheVariants as reply
+use Rattle.pybuf_command.specs.declared.worlds.Reply.{Reply}
+use Rattle.pybuf_command.specs.declared.worlds.Reply.TheVariants as reply
 
 -- a part of a tuple after the first, by the text of a part
 abbrev pub next_part_text : {A : Type 0} → (A → List ℕ) → A → List ℕ

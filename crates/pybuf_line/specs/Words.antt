@@ -62,17 +62,13 @@ written_word word.Init = codes "init"
 written_word word.Take = codes "take"
 written_word word.Copy = codes "copy"
 
-abbrev pub every_edit : List Word
-every_edit =
-    word.Del ∷ word.Append ∷ word.Extend ∷ word.Insert ∷ word.Pop ∷ word.Remove ∷ word.Clear ∷ word.Reverse ∷ word.IAdd
-    ∷ word.IMul ∷ word.Init ∷ word.Take ∷ word.Copy ∷ []
-
 abbrev pub every_word : List Word
 every_word =
     word.New ∷ word.View ∷ word.Get ∷ word.Set ∷ word.ToBytes ∷ word.Release ∷ word.Len ∷ word.Cast ∷ word.Property
     ∷ word.ToReadonly ∷ word.Range ∷ word.Enter ∷ word.Exit ∷ word.ToContiguous ∷ word.ToList
     ∷ word.Compare ∷ word.Hash ∷ word.Repr ∷ word.Iter ∷ word.Next ∷ word.LengthHint ∷ word.SetState
-    ∷ word.Contains ∷ word.Hex ∷ word.Call ∷ every_edit
+    ∷ word.Contains ∷ word.Hex ∷ word.Call ∷ word.Del ∷ word.Append ∷ word.Extend ∷ word.Insert ∷ word.Pop
+    ∷ word.Remove ∷ word.Clear ∷ word.Reverse ∷ word.IAdd ∷ word.IMul ∷ word.Init ∷ word.Take ∷ word.Copy ∷ []
 
 -- those of a table whose texts have so many bytes, by what is written for each
 abbrev pub of_length : {A : Type 0} → ℕ → (A → List ℕ) → List A → List A

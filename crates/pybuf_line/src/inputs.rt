@@ -7,7 +7,7 @@ ghost use Rattle.pybuf_line.specs.Reading.{Tells, ChecksAll};
 use crate::parsing::command_of_line;
 use crate::splitting::next_line;
 use crate::unread::{Misread, Unread};
-use pybuf_view::Command;
+use pybuf_command::Command;
 use std::alloc::Global;
 
 /// Lets go of a command that was read.

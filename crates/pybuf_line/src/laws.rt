@@ -1,9 +1,7 @@
 //! Laws of the definitions that the contracts cite. Each stands on a function with an empty body.
 ghost use Rattle.pybuf_value.specs.Spelling.{handle_text};
 ghost use Rattle.pybuf_line.specs.Nesting.{NestingIsTheShape, ItemsStandInOrder};
-ghost use Rattle.pybuf_line.specs.Laws.{LinesJoin, LinesAreSingle, WordsJoin, CommandsAreOfLines, BadLineIsFirst, RepliesAreSingle, NamesStaySingle, RunsStaySingle, PartsJoin, PartsAreSingle, EnclosedIsBetween, BetweenIsEnclosed, ScalarsReadBack, ValuesReadBack, WordsReadBack, KindsReadBack, OperatorsReadBack, PropertiesReadBack, MethodsReadBack, CommandsReadBack};
-
-use pybuf_world::world_shown_texts_are_one_line;
+ghost use Rattle.pybuf_line.specs.Laws.{LinesJoin, LinesAreSingle, WordsJoin, CommandsAreOfLines, BadLineIsFirst, RepliesAreSingle, NamesStaySingle, PartsJoin, PartsAreSingle, EnclosedIsBetween, BetweenIsEnclosed, ScalarsReadBack, ValuesReadBack, WordsReadBack, KindsReadBack, OperatorsReadBack, PropertiesReadBack, MethodsReadBack, CommandsReadBack};
 
 /// The lines of an input, each with its line feed, are the input, which may lack the last one. No
 /// line holds a line feed.
@@ -25,14 +23,11 @@ pub fn commands_are_of_lines()
 {}
 
 /// The text of a reply is one line, where what it shows as it is, if it does, is one: with handles as
-/// they are written and with every other names that are one line each. Each reply of a run is one line.
+/// they are written and with every other names that are one line each.
 pub fn replies_are_single_lines()
     ensures handles { RepliesAreSingle handle_text }
     ensures names { NamesStaySingle }
-    ensures runs { RunsStaySingle }
-{
-    world_shown_texts_are_one_line();
-}
+{}
 
 /// The text of items is nested by their shape: its blocks are those of the first dimension, each
 /// nested by the dimensions that are left, and put end to end they are the items.

@@ -1,7 +1,7 @@
 //! The commands that lines spell.
-ghost use Rattle.std.specs.Prelude.{◌≡◌, ◌∷◌, [], map};
+ghost use Rattle.std.specs.Prelude.{map};
 ghost use Rattle.pybuf_line.specs.Scalars.{handle_in};
-ghost use Rattle.pybuf_line.specs.Commands.{options_in, made, new_in, do_in, command_of_words, command_in};
+ghost use Rattle.pybuf_line.specs.Commands.{new_in, do_in, command_of_words, command_in};
 ghost use Rattle.pybuf_line.specs.Reading.{Reads};
 
 use crate::options::options_of;
@@ -10,49 +10,23 @@ use crate::splitting::fill_words;
 use crate::unread::Unread;
 use crate::verbs::{no_command, verb_of};
 use crate::words::{Word, first_word, kind_named};
-use pybuf_view::{ByteInnerNewOptions, Command, ExporterKind};
+use pybuf_command::Command;
 use std::alloc::Global;
 
-/// `new` without a source.
-#[inline(never)]
-fn new_empty(kind: ExporterKind) -> Result<Command, Unread>
-    ensures { Reads result (made kind (options_in handle_in [])) }
-{
-    let options = ByteInnerNewOptions {
-        source: None,
-        encoding: None,
-        errors: None,
-    };
-    Ok(Command::New { kind, options })
-}
-
-/// `new` with its options.
-#[inline(never)]
-fn new_with(
-    alloc: Global,
-    kind: ExporterKind,
-    source: &[u8],
-    more: &[&[u8]],
-) -> Result<Command, Unread>
-    ensures { Reads result (made kind (options_in handle_in (source.now ∷ map (λ word. word.now) more.now))) }
-{
-    let options = options_of(alloc, source, more)?;
-    Ok(Command::New { kind, options })
-}
-
 /// `new`, by the words after it.
+#[inline(never)]
 fn new_of(alloc: Global, rest: &[&[u8]]) -> Result<Command, Unread>
     ensures { Reads result (new_in handle_in (map (λ word. word.now) rest.now)) }
 {
     match rest {
         [kind, arguments @ ..] => match kind_named(kind) {
-            Some(kind) => match arguments {
-                [] => new_empty(kind),
-                [source, more @ ..] => new_with(alloc, kind, source, more),
-            },
-            None => no_command(),
+            Some(kind) => {
+                let options = options_of(alloc, arguments)?;
+                Ok(Command::New { kind, options })
+            }
+            None => Err(Unread::NoCommand),
         },
-        [] => no_command(),
+        [] => Err(Unread::NoCommand),
     }
 }
 

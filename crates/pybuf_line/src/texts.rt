@@ -7,8 +7,8 @@ ghost use Rattle.pybuf_value.specs.Spelling.{bytes_text, truth_text, handle_text
 ghost use Rattle.pybuf_line.specs.Replies.{next_part_text, tuple_text, item_text, list_text, nested_text, reply_text, reply_line, bad_line_text};
 
 use itoa::Buffer;
+use pybuf_command::Reply;
 use pybuf_value::{ByteList, Item, Made, Scalar, push_quoted, push_scalar};
-use pybuf_view::Reply;
 
 /// Adds a decimal number.
 fn push_decimal(out: &mut Vec<u8>, number: u64) -> Made<()>

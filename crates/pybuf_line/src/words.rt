@@ -3,8 +3,8 @@ ghost use Rattle.std.specs.Prelude.{◌≡◌};
 ghost use Rattle.std.specs.Str.{bytes_eq};
 ghost use Rattle.pybuf_line.specs.Words.{named_in, written_word, words_of_length, word_in, kind_in, operator_in, property_in};
 
+use pybuf_command::{ExporterKind, PropertyName};
 use pybuf_value::CompareOp;
-use pybuf_view::{ExporterKind, PropertyName};
 
 /// The first word of a line.
 #[derive(Clone, Copy, Debug, PartialEq, Eq)]

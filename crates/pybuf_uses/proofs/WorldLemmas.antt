@@ -2,10 +2,10 @@
 use Rattle.std.proofs.Common.{◌≡◌, ℕ, suc, ◌<◌, List, [], ◌∷◌, ◌++◌, length, take, refl, ap, sym, subst, ◌∙◌, slice_get}
 use Rattle.std.specs.Prelude.{Result, Ok, Err, IfOk, OnErr}
 use Rattle.std.proofs.Math.Seq.{take-length}
-use Rattle.pybuf_world.specs.declared.commands.Command.{Command}
+use Rattle.pybuf_command.specs.declared.worlds.Command.{Command}
 use Rattle.pybuf_value.specs.declared.faults.Fault.{Fault}
-use Rattle.pybuf_world.specs.declared.commands.Reply.{Reply}
-use Rattle.pybuf_world.specs.declared.commands.Reply.TheVariants as replies
+use Rattle.pybuf_command.specs.declared.worlds.Reply.{Reply}
+use Rattle.pybuf_command.specs.declared.worlds.Reply.TheVariants as replies
 use Rattle.pybuf_world.specs.World.{World, empty_world, wstep, world_after_all, replies_of}
 use Rattle.pybuf_world.specs.Sound.{IsSoundWorld, StaysSound}
 use Rattle.pybuf_world.specs.Laws.{HandlesStay, RefusalsChangeNothing, RunsStaySound}

@@ -5,8 +5,8 @@ use Rattle.pybuf_value.specs.declared.values.Value.{Value}
 use Rattle.pybuf_value.specs.declared.values.Value.TheVariants as value
 use Rattle.pybuf_command.specs.declared.kinds.ExporterKind.TheVariants as kinds
 use Rattle.pybuf_command.specs.declared.commands.Verb.TheVariants as verb
-use Rattle.pybuf_world.specs.declared.commands.Command.{Command}
-use Rattle.pybuf_world.specs.declared.commands.Command.TheVariants as command
+use Rattle.pybuf_command.specs.declared.worlds.Command.{Command}
+use Rattle.pybuf_command.specs.declared.worlds.Command.TheVariants as command
 use Rattle.pybuf_world.specs.World.{World, empty_world, world_after_all}
 use Rattle.pybuf_uses.specs.declared.interpreter.Statement.{Statement}
 use Rattle.pybuf_uses.specs.declared.interpreter.Statement.TheVariants as statement

@@ -1,6 +1,6 @@
 //! A small interpreter's objects of bytes, over a world.
 ghost use Rattle.std.specs.Prelude.{◌≡◌, ◌<◌, ℕ, map, take, length, slice_get, IfOk, OnOk, OnErr};
-ghost use Rattle.pybuf_world.specs.declared.commands.Reply.TheVariants as replies;
+ghost use Rattle.pybuf_command.specs.declared.worlds.Reply.TheVariants as replies;
 ghost use Rattle.pybuf_value.specs.declared.faults.Fault as faults;
 ghost use Rattle.pybuf_uses.specs.Program.{command_of, number_value};
 

@@ -22,8 +22,8 @@ use Rattle.pybuf_exporter.specs.Laws.{FreshRepliesAreCopies}
 use Rattle.pybuf_world.specs.declared.named.Named.{Named}
 use Rattle.pybuf_world.specs.declared.named.Named.TheVariants as named
 use Rattle.pybuf_world.specs.declared.named.Target.{Target}
-use Rattle.pybuf_world.specs.declared.commands.Command.TheVariants as command
-use Rattle.pybuf_world.specs.declared.commands.Reply.TheVariants as reply
+use Rattle.pybuf_command.specs.declared.worlds.Command.TheVariants as command
+use Rattle.pybuf_command.specs.declared.worlds.Reply.TheVariants as reply
 use Rattle.pybuf_command.specs.Handles.{handles_of_options}
 use Rattle.pybuf_world.specs.World.{World, bytes_of_new, world_with_bytes, are_given, loans_of, has_view, handles_with_copy, reply_with_copy, reply_after, world_after, step_with_loans, target_of, step_of_handle}
 use Rattle.pybuf_world.specs.Sound.{IsSoundWorld}

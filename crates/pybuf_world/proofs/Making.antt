@@ -16,7 +16,7 @@ use Rattle.pybuf_bytes.specs.declared.options.ByteInnerNewOptions.{ByteInnerNewO
 use Rattle.pybuf_bytes.specs.Options.{bytes_of_source, text_given, bytes_by, bytes_of_options}
 use Rattle.pybuf_command.specs.declared.kinds.ExporterKind.{ExporterKind}
 use Rattle.pybuf_command.specs.Handles.{handles_in_option, handles_of_options}
-use Rattle.pybuf_world.specs.declared.commands.Reply.TheVariants as reply
+use Rattle.pybuf_command.specs.declared.worlds.Reply.TheVariants as reply
 use Rattle.pybuf_rows_methods.specs.Names.{paired}
 use Rattle.pybuf_world.specs.World.{World, snap_for, pairs_of, bytes_of_new, world_with_bytes, are_given}
 use Rattle.pybuf_world.specs.Making.{handle_by, handle_alone}

@@ -1,8 +1,8 @@
 -- Runs: one command more.
 use Rattle.std.proofs.Common.{◌≡◌, ℕ, ◌+◌, ◌<◌, List, [], ◌∷◌, ◌++◌, length, take, get_or, ap, sym, ◌∙◌, refl, append_assoc}
 use Rattle.std.proofs.lemmas.List.{take_more}
-use Rattle.pybuf_world.specs.declared.commands.Command.{Command}
-use Rattle.pybuf_world.specs.declared.commands.Reply.{Reply}
+use Rattle.pybuf_command.specs.declared.worlds.Command.{Command}
+use Rattle.pybuf_command.specs.declared.worlds.Reply.{Reply}
 use Rattle.pybuf_world.specs.World.{World, wstep, world_after_all, replies_of}
 
 -- the world and the replies are those of the commands so far

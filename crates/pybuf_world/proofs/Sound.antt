@@ -24,10 +24,10 @@ use Rattle.pybuf_world.specs.declared.named.Named.{Named}
 use Rattle.pybuf_world.specs.declared.named.Named.TheVariants as named
 use Rattle.pybuf_world.specs.declared.named.Target.{Target}
 use Rattle.pybuf_bytes.specs.declared.options.ByteInnerNewOptions.{ByteInnerNewOptions}
-use Rattle.pybuf_world.specs.declared.commands.Command.{Command}
-use Rattle.pybuf_world.specs.declared.commands.Command.TheVariants as command
-use Rattle.pybuf_world.specs.declared.commands.Reply.{Reply}
-use Rattle.pybuf_world.specs.declared.commands.Reply.TheVariants as reply
+use Rattle.pybuf_command.specs.declared.worlds.Command.{Command}
+use Rattle.pybuf_command.specs.declared.worlds.Command.TheVariants as command
+use Rattle.pybuf_command.specs.declared.worlds.Reply.{Reply}
+use Rattle.pybuf_command.specs.declared.worlds.Reply.TheVariants as reply
 use Rattle.pybuf_command.specs.Handles.{handles_of_options}
 use Rattle.pybuf_world.specs.World.{World, empty_world, exporter_of, with_exporter, bytes_of_new, world_with_bytes, are_given, step_of_new, loans_of, has_view, handles_with_copy, world_after, step_with_loans, target_of, step_of_handle, wstep, world_after_all, world_with_released, released_in_exporter, released_by_name, released_by}
 use Rattle.pybuf_world.specs.Sound.{IsSoundWorld, StaysSound}

@@ -15,7 +15,7 @@ use Rattle.pybuf_exporter.specs.Step.{estep}
 use Rattle.pybuf_exporter.specs.Laws.{FreshRepliesAreCopies}
 use Rattle.pybuf_world.specs.declared.named.Named.{Named}
 use Rattle.pybuf_world.specs.declared.named.Target.{Target}
-use Rattle.pybuf_world.specs.declared.commands.Reply.{Reply}
+use Rattle.pybuf_command.specs.declared.worlds.Reply.{Reply}
 use Rattle.pybuf_world.specs.World.{World, has_view, handles_with_copy, reply_with_copy, world_after, step_with_loans}
 use Rattle.pybuf_world.specs.Beside.{local_step, loans_beside}
 use Rattle.pybuf_world.specs.Tables.{owners_after, IsCopyAt, IsFresh, IfFresh, with_made, with_copy, answered}

@@ -3,8 +3,8 @@ use Rattle.std.specs.Prelude.{◌≡◌, ℕ, ◌<◌, ◌++◌, List, take, len
 use Rattle.std.specs.List.{All}
 use Rattle.pybuf_state.specs.Sound.{IsSoundExporter}
 use Rattle.pybuf_world.specs.declared.named.Named.TheVariants as named
-use Rattle.pybuf_world.specs.declared.commands.Command.{Command}
-use Rattle.pybuf_world.specs.declared.commands.Reply.{Reply}
+use Rattle.pybuf_command.specs.declared.worlds.Command.{Command}
+use Rattle.pybuf_command.specs.declared.worlds.Reply.{Reply}
 use Rattle.pybuf_world.specs.World.{World, exporter_of, handle_of, world_after_all, replies_of}
 
 -- Each exporter is sound, each handle names an exporter that is there or a view of one, and each

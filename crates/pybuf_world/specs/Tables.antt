@@ -5,8 +5,8 @@ use Rattle.pybuf_value.specs.declared.snaps.Snap.{Snap}
 use Rattle.pybuf_command.specs.declared.kinds.Subject.{Subject}
 use Rattle.pybuf_state.specs.Exporter.{Exporter}
 use Rattle.pybuf_state.specs.Fresh.{IsCopyOf, is_readonly_subject, made_of}
-use Rattle.pybuf_world.specs.declared.commands.Reply.{Reply}
-use Rattle.pybuf_world.specs.declared.commands.Reply.TheVariants as reply
+use Rattle.pybuf_command.specs.declared.worlds.Reply.{Reply}
+use Rattle.pybuf_command.specs.declared.worlds.Reply.TheVariants as reply
 use Rattle.pybuf_world.specs.declared.tables.Tables.{Tables}
 use Rattle.pybuf_command.specs.declared.commands.LocalReply.{LocalReply}
 use Rattle.pybuf_command.specs.declared.commands.LocalReply.TheVariants as local

@@ -1,14 +1,12 @@
 //! Worlds of exporters and of views of them.
 #![tactic(auto)]
 
-mod commands;
 mod in_place;
 mod laws;
 mod named;
 mod tables;
 mod world;
 
-pub use commands::{Command, Reply, ReplyList};
 pub use laws::{
     copies_are_exporters_of_their_own, handles_stay, new_exporters_stand_behind,
     refusals_change_nothing, releasing_twice_is_once, runs_stay_sound, unknown_sources_are_refused,
@@ -16,4 +14,5 @@ pub use laws::{
     world_shown_texts_are_one_line,
 };
 pub use named::{Named, Target};
+pub use pybuf_command::{Command, Reply, ReplyList};
 pub use world::World;

@@ -15,13 +15,12 @@ ghost use Rattle.std.specs.List.{list_all};
 ghost use Rattle.pybuf_exporter.specs.Step.{reads_in_place};
 ghost use Rattle.pybuf_world.specs.InPlace.{is_named_in};
 
-use crate::commands::{Command, Reply, ReplyList};
 use crate::in_place::{InPlace, is_named};
 use crate::named::{Named, Target};
 use pybuf_bytes::ByteInnerNewOptions;
 use pybuf_command::{
-    ExporterKind, Loan, LoanList, LocalReply, Subject, Verb, handles_of, handles_of_options,
-    handles_read,
+    Command, ExporterKind, Loan, LoanList, LocalReply, Reply, ReplyList, Subject, Verb, handles_of,
+    handles_of_options, handles_read,
 };
 use pybuf_exporter::{
     ExporterState, commands_keep_sound, copies_are_faithful, fresh_replies_are_copies,

@@ -1,8 +1,8 @@
 //! Worlds of exporters, and the handles that name them and their views.
 ghost use Rattle.std.specs.Prelude.{◌≡◌, ◌++◌, length, IfOk, OnOk, OnErr, MatchResult};
 
-use crate::commands::{Command, Reply, ReplyList};
 use crate::tables::Tables;
+use pybuf_command::{Command, Reply, ReplyList};
 use pybuf_exporter::{
     ExporterState, commands_keep_sound, copies_are_faithful, fresh_replies_are_copies,
 };

@@ -1,5 +1,5 @@
 use Rattle.std.proofs.Common.{◌≡◌, ◌+◌, List, length}
-use Rattle.pybuf_world.specs.declared.commands.Command.{Command}
+use Rattle.pybuf_command.specs.declared.worlds.Command.{Command}
 use Rattle.pybuf_line.specs.Scalars.{handle_in}
 use Rattle.pybuf_line.specs.Lines.{lines, commands_in, commands_from}
 use Rattle.pybuf_line.proofs.Commands.{onto}

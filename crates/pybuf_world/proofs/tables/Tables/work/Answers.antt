@@ -1,7 +1,7 @@
 use Rattle.std.proofs.Common.{◌≡◌, ℕ, List, sym, ◌∙◌, refl, subst}
 use Rattle.std.specs.Prelude.{IfOk, slice_get}
 use Rattle.pybuf_command.specs.declared.loans.Loan.{Loan}
-use Rattle.pybuf_world.specs.declared.commands.Reply.{Reply}
+use Rattle.pybuf_command.specs.declared.worlds.Reply.{Reply}
 use Rattle.pybuf_world.specs.World.{World}
 use Rattle.pybuf_world.specs.Beside.{loans_beside, local_step}
 use Rattle.pybuf_world.specs.Tables.{world_of_tables, IsFresh}

@@ -3,7 +3,7 @@ use Rattle.std.specs.Prelude.{IfOk, slice_get}
 use Rattle.pybuf_command.specs.declared.loans.Loan.{Loan}
 use Rattle.pybuf_command.specs.declared.commands.LocalReply.{LocalReply}
 use Rattle.pybuf_world.specs.declared.named.Named.{Named}
-use Rattle.pybuf_world.specs.declared.commands.Reply.{Reply}
+use Rattle.pybuf_command.specs.declared.worlds.Reply.{Reply}
 use Rattle.pybuf_world.specs.World.{World, loans_of}
 use Rattle.pybuf_world.specs.Beside.{local_step}
 use Rattle.pybuf_world.specs.Tables.{world_of_tables, answered}

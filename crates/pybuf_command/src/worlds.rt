@@ -1,7 +1,8 @@
 //! Commands and replies of a world.
 
+use crate::commands::Verb;
+use crate::kinds::ExporterKind;
 use pybuf_bytes::ByteInnerNewOptions;
-use pybuf_command::{ExporterKind, Verb};
 use pybuf_value::{ByteList, ByteLists, CountList, Fault, Item, ItemList, Items, NumberList, Text};
 
 /// A command for a world.

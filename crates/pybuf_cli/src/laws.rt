@@ -1,0 +1,14 @@
+//! Laws of the definitions that the contracts cite. Each stands on a function that only calls other laws.
+ghost use Rattle.pybuf_cli.specs.Laws.{RunsStaySingle};
+
+use pybuf_line::replies_are_single_lines;
+use pybuf_world::world_shown_texts_are_one_line;
+
+/// The text of each reply of a run is one line, of whatever commands in whatever world and whatever the
+/// names of handles are, if each of these is one line.
+pub fn runs_reply_single_lines()
+    ensures { RunsStaySingle }
+{
+    replies_are_single_lines();
+    world_shown_texts_are_one_line();
+}
