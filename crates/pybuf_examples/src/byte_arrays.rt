@@ -1,5 +1,6 @@
 //! `PyByteArray`, as Python's `bytearray`.
-use super::{Told, bytes, int, part, tell};
+use crate::telling::{Told, tell};
+use crate::values::{bytes, int, part};
 use pybuf_object::PyByteArray;
 use pybuf_value::Fault;
 use pybuf_view::{ExporterKind, LoanList};

@@ -1,5 +1,6 @@
 //! Iterators of bytes, bytearrays and memoryviews.
-use super::{Told, int, tell};
+use crate::telling::{Told, tell};
+use crate::values::int;
 use pybuf_object::{PyByteArray, PyByteArrayIterator, PyMemoryView, PyMemoryViewIterator};
 use pybuf_value::Fault;
 use pybuf_view::LoanList;

@@ -1,5 +1,5 @@
 //! `World`: objects that are named by handles, and commands as values.
-use super::{int, text};
+use crate::values::{int, text};
 use pybuf_value::{ByteList, Fault, Item, Made, Scalar, Value};
 use pybuf_view::{ByteInnerNewOptions, Command, ExporterKind, Reply, ReplyList, Verb, World};
 use std::alloc::Global;

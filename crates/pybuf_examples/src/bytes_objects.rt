@@ -1,5 +1,6 @@
 //! `PyBytes`, as Python's `bytes`.
-use super::{Told, bytes, has, int, part, tell};
+use crate::telling::{Told, has, tell};
+use crate::values::{bytes, int, part};
 use pybuf_object::PyBytes;
 use pybuf_value::{CompareOp, Fault};
 use pybuf_view::LoanList;
