@@ -1,7 +1,8 @@
 //! Iterators of bytes, bytearrays and memoryviews.
 use crate::telling::{Told, tell};
 use crate::values::int;
-use pybuf_object::{PyByteArray, PyByteArrayIterator, PyMemoryView, PyMemoryViewIterator};
+use pybuf_memoryobject::{PyMemoryView, PyMemoryViewIterator};
+use pybuf_object::{PyByteArray, PyByteArrayIterator};
 use pybuf_value::Fault;
 use pybuf_view::LoanList;
 use std::test::Fail;

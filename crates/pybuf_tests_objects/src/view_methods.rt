@@ -3,7 +3,7 @@
 use crate::answers::{Asks, bytes, carry_out, count_reply, exporter_of, number, text};
 use pybuf_command::{LoanList, LocalReply, Subject};
 use pybuf_exporter::ExporterState;
-use pybuf_object::{PyMemoryView, PyMemoryViewIterator};
+use pybuf_memoryobject::{PyMemoryView, PyMemoryViewIterator};
 use pybuf_value::{CompareOp, Made, Outcome};
 use std::alloc::Global;
 use std::test::Fail;

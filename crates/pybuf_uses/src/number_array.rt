@@ -4,7 +4,8 @@ ghost use Rattle.pybuf_value.specs.declared.halt.Halt.{Halt};
 ghost use Rattle.pybuf_value.specs.declared.faults.Fault.{Fault};
 ghost use Rattle.pybuf_uses.specs.Numbers.{numbers_of};
 
-use pybuf_object::{PyByteArray, PyMemoryView};
+use pybuf_memoryobject::PyMemoryView;
+use pybuf_object::PyByteArray;
 use pybuf_value::{Fault, Halt, Made};
 use pybuf_view::{ExporterState, LoanList, LocalReply};
 use std::alloc::{AllocError, Global};
