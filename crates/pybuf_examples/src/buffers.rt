@@ -1,10 +1,8 @@
 //! `PyBuffer`, `VecBuffer`, and bytes that are borrowed for a call.
 use crate::values::{bytes, int};
-use pybuf_memoryobject::VecBuffer;
-use pybuf_object::PyByteArray;
-use pybuf_value::{Fault, SnapList};
 use pybuf_view::{
-    ArgBytesLike, ArgMemoryBuffer, ExporterKind, LoanList, PyBuffer, Subject, try_rw_bytes_like,
+    ArgBytesLike, ArgMemoryBuffer, ExporterKind, Fault, LoanList, PyBuffer, PyByteArray, SnapList,
+    Subject, VecBuffer, try_rw_bytes_like,
 };
 use std::alloc::Global;
 use std::test::Fail;

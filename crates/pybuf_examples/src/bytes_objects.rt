@@ -1,9 +1,7 @@
 //! `PyBytes`, as Python's `bytes`.
 use crate::telling::{Told, has, tell};
 use crate::values::{bytes, int, part};
-use pybuf_object::PyBytes;
-use pybuf_value::{CompareOp, Fault};
-use pybuf_view::LoanList;
+use pybuf_view::{CompareOp, Fault, LoanList, PyBytes};
 use std::test::Fail;
 
 #[test]

@@ -1,7 +1,6 @@
 //! `FormatSpec`, as Python's `struct`.
 use crate::telling::done;
-use pybuf_struct::FormatSpec;
-use pybuf_value::{Fault, Outcome, Scalar, ScalarList, SnapList};
+use pybuf_view::{Fault, FormatSpec, Outcome, Scalar, ScalarList, SnapList};
 use std::alloc::Global;
 use std::test::Fail;
 

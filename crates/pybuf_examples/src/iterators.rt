@@ -1,10 +1,9 @@
 //! Iterators of bytes, bytearrays and memoryviews.
 use crate::telling::{Told, tell};
 use crate::values::int;
-use pybuf_memoryobject::{PyMemoryView, PyMemoryViewIterator};
-use pybuf_object::{PyByteArray, PyByteArrayIterator};
-use pybuf_value::Fault;
-use pybuf_view::LoanList;
+use pybuf_view::{
+    Fault, LoanList, PyByteArray, PyByteArrayIterator, PyMemoryView, PyMemoryViewIterator,
+};
 use std::test::Fail;
 
 #[test]

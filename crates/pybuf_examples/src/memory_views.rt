@@ -1,10 +1,7 @@
 //! `PyMemoryView`, as Python's `memoryview`.
 use crate::telling::{Told, has, lists, tell};
 use crate::values::{bytes, every, int, part, text};
-use pybuf_memoryobject::PyMemoryView;
-use pybuf_object::PyByteArray;
-use pybuf_value::{Fault, Scalar, ScalarList, Value};
-use pybuf_view::LoanList;
+use pybuf_view::{Fault, LoanList, PyByteArray, PyMemoryView, Scalar, ScalarList, Value};
 use std::test::Fail;
 
 #[test]

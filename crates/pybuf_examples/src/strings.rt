@@ -1,9 +1,7 @@
 //! The methods of strings of bytes, by the type that has them and by their names.
 use crate::telling::{Told, done, has, tell};
 use crate::values::bytes;
-use pybuf_object::PyBytes;
-use pybuf_value::ValueList;
-use pybuf_view::{LoanList, MethodCall, MethodName, PyBytesInner};
+use pybuf_view::{LoanList, MethodCall, MethodName, PyBytes, PyBytesInner, ValueList};
 use std::alloc::Global;
 use std::test::Fail;
 

@@ -1,6 +1,5 @@
 //! What the examples read of a reply, or of an answer that may be refused.
-use pybuf_value::{Fault, Item, Outcome, Scalar, Tried};
-use pybuf_view::LocalReply;
+use pybuf_view::{Fault, Item, LocalReply, Outcome, Scalar, Tried};
 use std::test::Fail;
 
 /// What a call answers that isn't refused.

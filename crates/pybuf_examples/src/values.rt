@@ -1,5 +1,5 @@
 //! The values that the examples give to commands.
-use pybuf_value::{ByteList, Made, PySlice, Scalar, Text, Value};
+use pybuf_view::{ByteList, Made, PySlice, Scalar, Text, Value};
 use std::alloc::Global;
 
 /// A whole number as a value.
