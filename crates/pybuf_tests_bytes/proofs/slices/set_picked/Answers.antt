@@ -5,4 +5,5 @@ use Rattle.pybuf_tests_bytes.proofs.slices.set_picked.Goals as goal
 pub do_set_indexes-requires-clause-inside : goal.do_set_indexes-requires-clause-inside
 do_set_indexes-requires-clause-inside c =
     rw c.iter-indexes.ensures
-    (c.indices_of_a_slice.ensures (length c.args.list.now.items) c.args.slice.start c.args.slice.stop c.args.slice.step c.adjust_indices-count.ensures.saturated.moves).inside
+    (rw c.as_slice-length.ensures.value
+    (c.indices_of_a_slice.ensures (length c.args.list.now.items) c.args.slice.start c.args.slice.stop c.args.slice.step c.adjust_indices-count.ensures.saturated.moves).inside)
