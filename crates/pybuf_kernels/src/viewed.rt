@@ -6,7 +6,8 @@ use crate::data::drawn;
 use crate::keys::{slice, text};
 use crate::plan::Plan;
 use pybuf_command::{Loan, LoanList, LocalReply};
-use pybuf_object::{PyByteArray, PyMemoryView};
+use pybuf_memoryobject::PyMemoryView;
+use pybuf_object::PyByteArray;
 use pybuf_value::{Made, Scalar, ScalarList, Value};
 use std::alloc::Global;
 

@@ -8,7 +8,7 @@ use crate::keys::{handle, slice};
 use crate::plan::Plan;
 use crate::viewed::{Part, Viewed, lend_view};
 use pybuf_command::LoanList;
-use pybuf_object::PyMemoryView;
+use pybuf_memoryobject::PyMemoryView;
 use pybuf_value::{CompareOp, Made, Value};
 use std::alloc::Global;
 

@@ -4,7 +4,7 @@ ghost use Rattle.pybuf_command.specs.declared.kinds.Subject.TheVariants as subje
 ghost use Rattle.pybuf_command.specs.declared.commands.Verb.TheVariants as verbs;
 ghost use Rattle.pybuf_exporter.specs.Step.{estep};
 
-use crate::stepping::step_without_loans;
+use pybuf_buffer::step_without_loans;
 use pybuf_command::{LocalReply, Subject, Verb};
 use pybuf_exporter::ExporterState;
 use pybuf_value::Made;

@@ -4,12 +4,10 @@
 
 mod iterator;
 mod memory_view;
-mod stepping;
 mod vec_buffer;
 mod view_methods;
 mod views;
 
 pub use iterator::PyMemoryViewIterator;
 pub use memory_view::PyMemoryView;
-pub use stepping::{step_of, step_without_loans};
 pub use vec_buffer::VecBuffer;

@@ -7,7 +7,7 @@ ghost use Rattle.pybuf_command.specs.declared.commands.Verb.TheVariants as verbs
 ghost use Rattle.pybuf_exporter.specs.Step.{estep};
 
 use crate::memory_view::PyMemoryView;
-use crate::stepping::step_of;
+use pybuf_buffer::step_of;
 use pybuf_command::{LoanList, LocalReply, PropertyName, Subject, Verb};
 use pybuf_exporter::ExporterState;
 use pybuf_value::{CompareOp, Made, Value};

@@ -11,10 +11,10 @@ ghost use Rattle.pybuf_value.specs.declared.faults.Fault.{Fault};
 ghost use Rattle.pybuf_state.specs.Exporter.{new_exporter, exports_of};
 
 use crate::guard::BufferResizeGuard;
+use pybuf_buffer::step_of;
 use pybuf_bytes::{ByteInnerNewOptions, MethodCall};
 use pybuf_command::{ExporterKind, LoanList, LocalReply, PropertyName, Subject, Verb};
 use pybuf_exporter::ExporterState;
-use pybuf_memoryobject::step_of;
 use pybuf_value::{ByteList, CompareOp, Fault, Made, Value};
 use std::alloc::Global;
 use std::marker::Model;

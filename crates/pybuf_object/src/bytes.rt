@@ -9,10 +9,10 @@ ghost use Rattle.pybuf_command.specs.declared.commands.Verb.TheVariants as verbs
 ghost use Rattle.pybuf_exporter.specs.Step.{estep};
 ghost use Rattle.pybuf_state.specs.Exporter.{new_exporter};
 
+use pybuf_buffer::step_of;
 use pybuf_bytes::MethodCall;
 use pybuf_command::{ExporterKind, LoanList, LocalReply, PropertyName, Subject, Verb};
 use pybuf_exporter::ExporterState;
-use pybuf_memoryobject::step_of;
 use pybuf_value::{ByteList, CompareOp, Made, Value};
 use std::alloc::Global;
 use std::marker::Model;

@@ -5,9 +5,9 @@ ghost use Rattle.pybuf_command.specs.declared.kinds.Subject.TheVariants as subje
 ghost use Rattle.pybuf_command.specs.declared.commands.Verb.TheVariants as verbs;
 ghost use Rattle.pybuf_exporter.specs.Step.{estep};
 
+use pybuf_buffer::{step_of, step_without_loans};
 use pybuf_command::{LoanList, LocalReply, Subject, Verb};
 use pybuf_exporter::ExporterState;
-use pybuf_memoryobject::{step_of, step_without_loans};
 use pybuf_value::{Made, Value};
 use std::alloc::Global;
 use std::marker::Model;

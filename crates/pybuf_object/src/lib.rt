@@ -1,5 +1,5 @@
-//! Python's objects that are made of bytes, as values: `bytes`, `bytearray` and `memoryview`, with a method
-//! for each command that they have, their iterators, and vectors that lend their bytes.
+//! Python's objects that own their bytes, as values: `bytes` and `bytearray`, with a method for each command that
+//! they have, their iterators, and the guard of what is resized.
 #![tactic(auto)]
 
 mod byte_array;
@@ -11,4 +11,3 @@ pub use byte_array::PyByteArray;
 pub use bytes::PyBytes;
 pub use guard::BufferResizeGuard;
 pub use iterators::{PyByteArrayIterator, PyBytesIterator};
-pub use pybuf_memoryobject::{PyMemoryView, PyMemoryViewIterator, VecBuffer};

@@ -1,8 +1,7 @@
 //! The four users of the library (`pybuf_uses`): what no clause says, that their calls succeed with ample
 //! memory, and with which answers. What the documents show of them stands here word for word.
 use pybuf_uses::{Header, Interpreter, LineBuffer, NumberArray, Reading, Statement, WeatherLog};
-use pybuf_value::{ByteList, Fault, Halt, Item, Scalar, Text};
-use pybuf_view::{PyBuffer, Reply};
+use pybuf_view::{ByteList, Fault, Halt, Item, PyBuffer, Reply, Scalar, Text};
 use std::alloc::Global;
 use std::test::Fail;
 

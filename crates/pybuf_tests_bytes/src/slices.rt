@@ -1,7 +1,7 @@
 //! The slice rule against Python's own, and that the calls succeed with ample memory.
 use pybuf_slice::{
     SaturatedSlice, SequenceExt, SequenceIndexOp, SequenceMutExt, SliceIndices,
-    SliceableSequenceMutOp, SliceableSequenceOp,
+    SliceableSequenceMutOp, SliceableSequenceOp, indices_of_a_slice,
 };
 use pybuf_value::{Fault, Outcome, PySlice, Scalar};
 use std::alloc::Global;
@@ -621,5 +621,48 @@ fn texts_are_repeated(rt: HostRuntime) -> Result<(), Fail> {
     assert!(rt; list.is_empty());
     list.as_vec_mut().push(String::new(rt.alloc()))?;
     assert_eq!(rt; list.as_slice().len(), 1);
+    Ok(())
+}
+
+/// Sets the numbers at the indices of a slice to values, of which there have to be as many.
+fn set_picked(
+    alloc: Global,
+    list: &mut Vec<u8>,
+    slice: SaturatedSlice,
+    values: &[u8],
+) -> Result<(), Fail> {
+    indices_of_a_slice();
+    let length = list.as_slice().len();
+    let (_, _, count) = slice.adjust_indices(length);
+    if count != values.len() {
+        return Err(Fail::from("as many values as indices"));
+    }
+    let indexes = slice.iter(length);
+    list.do_set_indexes(alloc, indexes, values)?;
+    Ok(())
+}
+
+/// Start, stop, step, values, and what `for i, v in zip(range(5)[start:stop:step], values): a[i] = v` of Python 3 makes
+/// of `a = [10, 20, 30, 40, 50]`.
+const SET_AT: [(i128, i128, i128, &[u8], [u8; 5]); 5] = [
+    (NONE, NONE, -2, &[1, 2, 3], [3, 20, 2, 40, 1]),
+    (1, NONE, 2, &[7, 8], [10, 7, 30, 8, 50]),
+    (-2, 0, -1, &[1, 2, 3], [10, 3, 2, 1, 50]),
+    (-9, 9, 4, &[5, 6], [5, 20, 30, 40, 6]),
+    (4, 1, 1, &[], [10, 20, 30, 40, 50]),
+];
+
+#[test]
+fn numbers_are_set_at_indices(rt: HostRuntime) -> Result<(), Fail> {
+    for (start, stop, step, values, wanted) in SET_AT.iter() {
+        let mut list = vec![in rt.alloc(); 10u8, 20, 30, 40, 50]?;
+        set_picked(
+            rt.alloc(),
+            &mut list,
+            slice_by(*start, *stop, *step)?,
+            *values,
+        )?;
+        assert_eq!(rt; list.as_slice(), wanted.as_slice(), "step {step}");
+    }
     Ok(())
 }

@@ -150,3 +150,27 @@ pub(crate) fn tell(told: &mut Vec<u8>, reply: LocalReply) -> Made<()> {
     drop(reply);
     done
 }
+
+/// A call by its name and its arguments, or an attribute.
+pub(crate) trait Asks: Copy {
+    /// What it is asked of.
+    type Object;
+
+    /// What the object answers.
+    fn answer(self, object: &mut Self::Object, alloc: Global) -> Made<LocalReply>;
+}
+
+/// Tells what the object answers, and what it should.
+pub(crate) fn carry_out<C: Asks>(
+    object: &mut C::Object,
+    alloc: Global,
+    rows: &[(C, &str)],
+    told: &mut Vec<u8>,
+    wanted: &mut Vec<u8>,
+) -> Made<()> {
+    for (call, word) in rows {
+        tell(told, call.answer(object, alloc)?)?;
+        tell_word(wanted, word.as_bytes())?;
+    }
+    Ok(())
+}

@@ -9,7 +9,7 @@ use pybuf_borrow::{
 };
 use pybuf_command::{ExporterKind, LoanList, Subject};
 use pybuf_exporter::ExporterState;
-use pybuf_object::PyMemoryView;
+use pybuf_memoryobject::PyMemoryView;
 use pybuf_value::{
     ByteList, CountList, Fault, Made, Outcome, PySlice, Scalar, Snap, SnapKind, SnapList, Text,
     Value,

@@ -4,7 +4,7 @@ ghost use Rattle.std.specs.Prelude.{◌≡◌};
 ghost use Rattle.pybuf_command.specs.declared.kinds.ExporterKind.TheVariants as kinds;
 
 use crate::answers::{
-    bytes, bytes_reply, call_of, count_reply, number, tell, tell_word, truth_reply,
+    Asks, bytes, bytes_reply, call_of, carry_out, count_reply, number, truth_reply,
 };
 use pybuf_bytes::{ByteInnerNewOptions, MethodName};
 use pybuf_command::{ExporterKind, LoanList, LocalReply};
@@ -129,73 +129,62 @@ fn release(object: &mut PyByteArray, view: usize) -> Made<LocalReply> {
     }
 }
 
-/// What a call answers of the object, or of its iterator 0.
-fn answer(object: &mut PyByteArray, alloc: Global, call: Call) -> Made<LocalReply> {
-    match call {
-        Call::AsBuffer => object.as_buffer(LoanList::new(alloc)),
-        Call::Append(byte) => object.append(number(byte), LoanList::new(alloc)),
-        Call::BorrowBuf => bytes_reply(alloc, object.borrow_buf()),
-        Call::Clear => object.clear(LoanList::new(alloc)),
-        Call::Compare(op, other) => object.cmp(op, bytes(alloc, other)?, LoanList::new(alloc)),
-        Call::Contains(byte) => object.contains(number(byte), LoanList::new(alloc)),
-        Call::Copy => object.copy(LoanList::new(alloc)),
-        Call::DelItem(index) => object.delitem(number(index), LoanList::new(alloc)),
-        Call::Exports => object.exports(LoanList::new(alloc)),
-        Call::Extend(source) => object.extend(bytes(alloc, source)?, LoanList::new(alloc)),
-        Call::GetItem(index) => object.getitem(number(index), LoanList::new(alloc)),
-        Call::Hash => object.hash(LoanList::new(alloc)),
-        Call::InPlaceAdd(source) => object.iadd(bytes(alloc, source)?, LoanList::new(alloc)),
-        Call::InPlaceMul(count) => object.imul(number(count), LoanList::new(alloc)),
-        Call::Init(source) => object.init(source_alone(alloc, source)?, LoanList::new(alloc)),
-        Call::Insert(index, byte) => {
-            object.insert(number(index), number(byte), LoanList::new(alloc))
-        }
-        Call::Iter => object.iter(LoanList::new(alloc)),
-        Call::Len => object.len(LoanList::new(alloc)),
-        Call::LengthHint => PyByteArrayIterator::of(0).length_hint(alloc, object.state_mut()),
-        Call::Mul(count) => {
-            let method = call_of(alloc, MethodName::Mul, number(count))?;
-            object.call(method, LoanList::new(alloc))
-        }
-        Call::Next => PyByteArrayIterator::of(0).next(alloc, object.state_mut()),
-        Call::Number(iterator) => count_reply(PyByteArrayIterator::of(iterator).number()),
-        Call::Pop => object.pop(None, LoanList::new(alloc)),
-        Call::Range(from, to) => object.range(number(from), number(to), LoanList::new(alloc)),
-        Call::Remove(byte) => object.remove(number(byte), LoanList::new(alloc)),
-        Call::Repr => object.repr_str(LoanList::new(alloc)),
-        Call::Reverse => object.reverse(LoanList::new(alloc)),
-        Call::SetItem(index, byte) => {
-            object.setitem(number(index), number(byte), LoanList::new(alloc))
-        }
-        Call::SetSlice(start, stop, source) => {
-            let source = bytes(alloc, source)?;
-            object.setitem(part(start, stop), source, LoanList::new(alloc))
-        }
-        Call::SetState(place) => {
-            let iterator = PyByteArrayIterator::of(0);
-            iterator.setstate(object.state_mut(), number(place), LoanList::new(alloc))
-        }
-        Call::ToBytes => object.tobytes(LoanList::new(alloc)),
-        Call::TurnRound => truth_reply(is_turned(object)),
-        Call::AddByGuard(byte) => truth_reply(is_grown(object, byte)?),
-        Call::EmptyByGuard => truth_reply(is_cleared(object)),
-        Call::Release(view) => release(object, view),
-    }
-}
+impl Asks for Call {
+    type Object = PyByteArray;
 
-/// Tells what the calls answer, and what they should.
-fn carry_out(
-    object: &mut PyByteArray,
-    alloc: Global,
-    rows: &[(Call, &str)],
-    told: &mut Vec<u8>,
-    wanted: &mut Vec<u8>,
-) -> Made<()> {
-    for (call, word) in rows {
-        tell(told, answer(object, alloc, *call)?)?;
-        tell_word(wanted, word.as_bytes())?;
+    /// What a call answers of the object, or of its iterator 0.
+    fn answer(self, object: &mut PyByteArray, alloc: Global) -> Made<LocalReply> {
+        match self {
+            Call::AsBuffer => object.as_buffer(LoanList::new(alloc)),
+            Call::Append(byte) => object.append(number(byte), LoanList::new(alloc)),
+            Call::BorrowBuf => bytes_reply(alloc, object.borrow_buf()),
+            Call::Clear => object.clear(LoanList::new(alloc)),
+            Call::Compare(op, other) => object.cmp(op, bytes(alloc, other)?, LoanList::new(alloc)),
+            Call::Contains(byte) => object.contains(number(byte), LoanList::new(alloc)),
+            Call::Copy => object.copy(LoanList::new(alloc)),
+            Call::DelItem(index) => object.delitem(number(index), LoanList::new(alloc)),
+            Call::Exports => object.exports(LoanList::new(alloc)),
+            Call::Extend(source) => object.extend(bytes(alloc, source)?, LoanList::new(alloc)),
+            Call::GetItem(index) => object.getitem(number(index), LoanList::new(alloc)),
+            Call::Hash => object.hash(LoanList::new(alloc)),
+            Call::InPlaceAdd(source) => object.iadd(bytes(alloc, source)?, LoanList::new(alloc)),
+            Call::InPlaceMul(count) => object.imul(number(count), LoanList::new(alloc)),
+            Call::Init(source) => object.init(source_alone(alloc, source)?, LoanList::new(alloc)),
+            Call::Insert(index, byte) => {
+                object.insert(number(index), number(byte), LoanList::new(alloc))
+            }
+            Call::Iter => object.iter(LoanList::new(alloc)),
+            Call::Len => object.len(LoanList::new(alloc)),
+            Call::LengthHint => PyByteArrayIterator::of(0).length_hint(alloc, object.state_mut()),
+            Call::Mul(count) => {
+                let method = call_of(alloc, MethodName::Mul, number(count))?;
+                object.call(method, LoanList::new(alloc))
+            }
+            Call::Next => PyByteArrayIterator::of(0).next(alloc, object.state_mut()),
+            Call::Number(iterator) => count_reply(PyByteArrayIterator::of(iterator).number()),
+            Call::Pop => object.pop(None, LoanList::new(alloc)),
+            Call::Range(from, to) => object.range(number(from), number(to), LoanList::new(alloc)),
+            Call::Remove(byte) => object.remove(number(byte), LoanList::new(alloc)),
+            Call::Repr => object.repr_str(LoanList::new(alloc)),
+            Call::Reverse => object.reverse(LoanList::new(alloc)),
+            Call::SetItem(index, byte) => {
+                object.setitem(number(index), number(byte), LoanList::new(alloc))
+            }
+            Call::SetSlice(start, stop, source) => {
+                let source = bytes(alloc, source)?;
+                object.setitem(part(start, stop), source, LoanList::new(alloc))
+            }
+            Call::SetState(place) => {
+                let iterator = PyByteArrayIterator::of(0);
+                iterator.setstate(object.state_mut(), number(place), LoanList::new(alloc))
+            }
+            Call::ToBytes => object.tobytes(LoanList::new(alloc)),
+            Call::TurnRound => truth_reply(is_turned(object)),
+            Call::AddByGuard(byte) => truth_reply(is_grown(object, byte)?),
+            Call::EmptyByGuard => truth_reply(is_cleared(object)),
+            Call::Release(view) => release(object, view),
+        }
     }
-    Ok(())
 }
 
 /// As `b = bytearray(b'abc')` of Python 3. What changes it answers None.

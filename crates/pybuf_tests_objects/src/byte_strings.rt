@@ -1,7 +1,7 @@
 //! The methods of `PyBytes` and of its iterator, with Python's answers: a line of the program makes the same commands
 //! on a world, and none calls these.
 use crate::answers::{
-    bytes, bytes_reply, call_of, count_reply, number, tell, tell_word, truth_reply,
+    Asks, bytes, bytes_reply, call_of, carry_out, count_reply, number, truth_reply,
 };
 use pybuf_bytes::MethodName;
 use pybuf_command::{LoanList, LocalReply};
@@ -35,51 +35,40 @@ enum Call {
     ToBytes,
 }
 
-/// What a call answers of the object, or of its iterator 0.
-fn answer(object: &mut PyBytes, alloc: Global, call: Call) -> Made<LocalReply> {
-    match call {
-        Call::AsBuffer => object.as_buffer(LoanList::new(alloc)),
-        Call::AsBytes => bytes_reply(alloc, object.as_bytes()),
-        Call::Compare(op, other) => object.cmp(op, bytes(alloc, other)?, LoanList::new(alloc)),
-        Call::Contains(part) => object.contains(bytes(alloc, part)?, LoanList::new(alloc)),
-        Call::ContainsByte(byte) => object.contains(number(byte), LoanList::new(alloc)),
-        Call::Exports => object.exports(LoanList::new(alloc)),
-        Call::GetItem(index) => object.getitem(number(index), LoanList::new(alloc)),
-        Call::Hash => object.hash(LoanList::new(alloc)),
-        Call::IsEmpty => truth_reply(object.is_empty()),
-        Call::Iter => object.iter(LoanList::new(alloc)),
-        Call::Len => count_reply(object.len()),
-        Call::Next => PyBytesIterator::of(0).next(alloc, object.state_mut()),
-        Call::LengthHint => PyBytesIterator::of(0).length_hint(alloc, object.state_mut()),
-        Call::Range(from, to) => object.range(number(from), number(to), LoanList::new(alloc)),
-        Call::Repr => object.repr_str(LoanList::new(alloc)),
-        Call::RFind(part) => {
-            let method = call_of(alloc, MethodName::RFind, bytes(alloc, part)?)?;
-            object.call(method, LoanList::new(alloc))
-        }
-        Call::SetState(place) => {
-            let iterator = PyBytesIterator::of(0);
-            iterator.setstate(object.state_mut(), number(place), LoanList::new(alloc))
-        }
-        Call::Number(iterator) => count_reply(PyBytesIterator::of(iterator).number()),
-        Call::StateExports => count_reply(object.state().exports()),
-        Call::ToBytes => object.tobytes(LoanList::new(alloc)),
-    }
-}
+impl Asks for Call {
+    type Object = PyBytes;
 
-/// Tells what the calls answer, and what they should.
-fn carry_out(
-    object: &mut PyBytes,
-    alloc: Global,
-    rows: &[(Call, &str)],
-    told: &mut Vec<u8>,
-    wanted: &mut Vec<u8>,
-) -> Made<()> {
-    for (call, word) in rows {
-        tell(told, answer(object, alloc, *call)?)?;
-        tell_word(wanted, word.as_bytes())?;
+    /// What a call answers of the object, or of its iterator 0.
+    fn answer(self, object: &mut PyBytes, alloc: Global) -> Made<LocalReply> {
+        match self {
+            Call::AsBuffer => object.as_buffer(LoanList::new(alloc)),
+            Call::AsBytes => bytes_reply(alloc, object.as_bytes()),
+            Call::Compare(op, other) => object.cmp(op, bytes(alloc, other)?, LoanList::new(alloc)),
+            Call::Contains(part) => object.contains(bytes(alloc, part)?, LoanList::new(alloc)),
+            Call::ContainsByte(byte) => object.contains(number(byte), LoanList::new(alloc)),
+            Call::Exports => object.exports(LoanList::new(alloc)),
+            Call::GetItem(index) => object.getitem(number(index), LoanList::new(alloc)),
+            Call::Hash => object.hash(LoanList::new(alloc)),
+            Call::IsEmpty => truth_reply(object.is_empty()),
+            Call::Iter => object.iter(LoanList::new(alloc)),
+            Call::Len => count_reply(object.len()),
+            Call::Next => PyBytesIterator::of(0).next(alloc, object.state_mut()),
+            Call::LengthHint => PyBytesIterator::of(0).length_hint(alloc, object.state_mut()),
+            Call::Range(from, to) => object.range(number(from), number(to), LoanList::new(alloc)),
+            Call::Repr => object.repr_str(LoanList::new(alloc)),
+            Call::RFind(part) => {
+                let method = call_of(alloc, MethodName::RFind, bytes(alloc, part)?)?;
+                object.call(method, LoanList::new(alloc))
+            }
+            Call::SetState(place) => {
+                let iterator = PyBytesIterator::of(0);
+                iterator.setstate(object.state_mut(), number(place), LoanList::new(alloc))
+            }
+            Call::Number(iterator) => count_reply(PyBytesIterator::of(iterator).number()),
+            Call::StateExports => count_reply(object.state().exports()),
+            Call::ToBytes => object.tobytes(LoanList::new(alloc)),
+        }
     }
-    Ok(())
 }
 
 /// As `b = b'abcab'` of Python 3. A view is told by its number, and a hash by the bytes that it is of.

@@ -7,7 +7,7 @@ use crate::answers::{
 };
 use pybuf_command::{Loan, LoanList, LocalCommand, Subject, Verb};
 use pybuf_exporter::ExporterState;
-use pybuf_object::PyMemoryView;
+use pybuf_memoryobject::PyMemoryView;
 use pybuf_value::{Made, Outcome, PySlice, Scalar, Snap, Twin, Value};
 use std::alloc::Global;
 use std::test::Fail;

@@ -1,5 +1,4 @@
-//! Tests of the calls of objects, buffers, borrows, exporters and worlds that no line of the program makes, and
-//! the examples of docs/LIBRARY.md.
+//! Tests of the calls of objects, buffers, borrows, exporters and worlds that no line of the program makes.
 #![tactic(auto)]
 
 #[cfg(test)]
@@ -12,8 +11,6 @@ mod buffers;
 mod byte_arrays;
 #[cfg(test)]
 mod byte_strings;
-#[cfg(test)]
-mod examples;
 #[cfg(test)]
 mod exporters;
 #[cfg(test)]

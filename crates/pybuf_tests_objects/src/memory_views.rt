@@ -7,7 +7,7 @@ use pybuf_buffer::PyBuffer;
 use pybuf_command::Subject;
 use pybuf_desc::BufferDescriptor;
 use pybuf_exporter::ExporterState;
-use pybuf_object::PyMemoryView;
+use pybuf_memoryobject::PyMemoryView;
 use pybuf_value::{DimList, Made, Outcome, Text};
 use std::alloc::Global;
 use std::ops::Range;

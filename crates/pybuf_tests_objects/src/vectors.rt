@@ -4,7 +4,7 @@ use crate::answers::{tell_bytes, tell_count, tell_fault, tell_numbered, tell_wor
 use pybuf_buffer::PyBuffer;
 use pybuf_command::ExporterKind;
 use pybuf_desc::BufferDescriptor;
-use pybuf_object::VecBuffer;
+use pybuf_memoryobject::VecBuffer;
 use pybuf_value::{Made, Outcome};
 use std::alloc::Global;
 use std::test::Fail;

@@ -1,9 +1,9 @@
 //! The methods of `PyMemoryView` and of its iterator, with Python's answers: a line of the program makes the same
 //! commands on a world, and none calls these.
-use crate::answers::{bytes, count_reply, exporter_of, number, tell, tell_word, text};
+use crate::answers::{Asks, bytes, carry_out, count_reply, exporter_of, number, text};
 use pybuf_command::{LoanList, LocalReply, Subject};
 use pybuf_exporter::ExporterState;
-use pybuf_object::{PyMemoryView, PyMemoryViewIterator};
+use pybuf_memoryobject::{PyMemoryView, PyMemoryViewIterator};
 use pybuf_value::{CompareOp, Made, Outcome};
 use std::alloc::Global;
 use std::test::Fail;
@@ -60,89 +60,67 @@ fn view_whole(state: &mut ExporterState, alloc: Global) -> Made<LocalReply> {
     }
 }
 
-/// What a call answers of view 1, or of iterator 0.
-fn answer(state: &mut ExporterState, alloc: Global, call: Call) -> Made<LocalReply> {
-    let view = PyMemoryView::of(1);
-    match call {
-        Call::FromObject => view_whole(state, alloc),
-        Call::Cast(format) => {
-            let format = text(alloc, format)?;
-            PyMemoryView::of(0).cast(state, format, None, LoanList::new(alloc))
+impl Asks for Call {
+    type Object = ExporterState;
+
+    /// What a call answers of view 1, or of iterator 0.
+    fn answer(self, state: &mut ExporterState, alloc: Global) -> Made<LocalReply> {
+        let view = PyMemoryView::of(1);
+        match self {
+            Call::FromObject => view_whole(state, alloc),
+            Call::Cast(format) => {
+                let format = text(alloc, format)?;
+                PyMemoryView::of(0).cast(state, format, None, LoanList::new(alloc))
+            }
+            Call::AsBuffer => view.as_buffer(state, LoanList::new(alloc)),
+            Call::Compare(op, other) => {
+                view.cmp(state, op, bytes(alloc, other)?, LoanList::new(alloc))
+            }
+            Call::DelItem(index) => view.delitem(state, number(index), LoanList::new(alloc)),
+            Call::Enter => view.enter(state, LoanList::new(alloc)),
+            Call::Exit => view.exit(state, LoanList::new(alloc)),
+            Call::Exports => count_reply(state.exports()),
+            Call::GetItem(index) => view.getitem(state, number(index), LoanList::new(alloc)),
+            Call::Hash => view.hash(state, LoanList::new(alloc)),
+            Call::Hex(group) => view.hex(state, None, Some(number(group)), LoanList::new(alloc)),
+            Call::Iter => view.iter(state, LoanList::new(alloc)),
+            Call::IterCount => count_reply(state.iter_count()),
+            Call::Len => view.len(state, LoanList::new(alloc)),
+            Call::Next => PyMemoryViewIterator::of(0).next(alloc, state),
+            Call::Number(iterator) => count_reply(PyMemoryViewIterator::of(iterator).number()),
+            Call::Repr => view.repr_str(state, LoanList::new(alloc)),
+            Call::SetItem(index, value) => {
+                view.setitem(state, number(index), number(value), LoanList::new(alloc))
+            }
+            Call::ToBytes => view.tobytes(state, LoanList::new(alloc)),
+            Call::ToList => view.tolist(state, LoanList::new(alloc)),
+            Call::ToReadOnly => view.toreadonly(state, LoanList::new(alloc)),
         }
-        Call::AsBuffer => view.as_buffer(state, LoanList::new(alloc)),
-        Call::Compare(op, other) => {
-            view.cmp(state, op, bytes(alloc, other)?, LoanList::new(alloc))
-        }
-        Call::DelItem(index) => view.delitem(state, number(index), LoanList::new(alloc)),
-        Call::Enter => view.enter(state, LoanList::new(alloc)),
-        Call::Exit => view.exit(state, LoanList::new(alloc)),
-        Call::Exports => count_reply(state.exports()),
-        Call::GetItem(index) => view.getitem(state, number(index), LoanList::new(alloc)),
-        Call::Hash => view.hash(state, LoanList::new(alloc)),
-        Call::Hex(group) => view.hex(state, None, Some(number(group)), LoanList::new(alloc)),
-        Call::Iter => view.iter(state, LoanList::new(alloc)),
-        Call::IterCount => count_reply(state.iter_count()),
-        Call::Len => view.len(state, LoanList::new(alloc)),
-        Call::Next => PyMemoryViewIterator::of(0).next(alloc, state),
-        Call::Number(iterator) => count_reply(PyMemoryViewIterator::of(iterator).number()),
-        Call::Repr => view.repr_str(state, LoanList::new(alloc)),
-        Call::SetItem(index, value) => {
-            view.setitem(state, number(index), number(value), LoanList::new(alloc))
-        }
-        Call::ToBytes => view.tobytes(state, LoanList::new(alloc)),
-        Call::ToList => view.tolist(state, LoanList::new(alloc)),
-        Call::ToReadOnly => view.toreadonly(state, LoanList::new(alloc)),
     }
 }
 
-/// What an attribute of view 1 is.
-fn ask(state: &mut ExporterState, alloc: Global, attribute: Attribute) -> Made<LocalReply> {
-    let view = PyMemoryView::of(1);
-    let loans = LoanList::new(alloc);
-    match attribute {
-        Attribute::Obj => view.obj(state, loans),
-        Attribute::NBytes => view.nbytes(state, loans),
-        Attribute::ReadOnly => view.readonly(state, loans),
-        Attribute::ItemSize => view.itemsize(state, loans),
-        Attribute::NDim => view.ndim(state, loans),
-        Attribute::Format => view.format(state, loans),
-        Attribute::Shape => view.shape(state, loans),
-        Attribute::Strides => view.strides(state, loans),
-        Attribute::SubOffsets => view.suboffsets(state, loans),
-        Attribute::Contiguous => view.contiguous(state, loans),
-        Attribute::CContiguous => view.c_contiguous(state, loans),
-        Attribute::FContiguous => view.f_contiguous(state, loans),
-    }
-}
+impl Asks for Attribute {
+    type Object = ExporterState;
 
-/// Tells what the calls answer, and what they should.
-fn carry_out(
-    state: &mut ExporterState,
-    alloc: Global,
-    rows: &[(Call, &str)],
-    told: &mut Vec<u8>,
-    wanted: &mut Vec<u8>,
-) -> Made<()> {
-    for (call, word) in rows {
-        tell(told, answer(state, alloc, *call)?)?;
-        tell_word(wanted, word.as_bytes())?;
+    /// What an attribute of view 1 is.
+    fn answer(self, state: &mut ExporterState, alloc: Global) -> Made<LocalReply> {
+        let view = PyMemoryView::of(1);
+        let loans = LoanList::new(alloc);
+        match self {
+            Attribute::Obj => view.obj(state, loans),
+            Attribute::NBytes => view.nbytes(state, loans),
+            Attribute::ReadOnly => view.readonly(state, loans),
+            Attribute::ItemSize => view.itemsize(state, loans),
+            Attribute::NDim => view.ndim(state, loans),
+            Attribute::Format => view.format(state, loans),
+            Attribute::Shape => view.shape(state, loans),
+            Attribute::Strides => view.strides(state, loans),
+            Attribute::SubOffsets => view.suboffsets(state, loans),
+            Attribute::Contiguous => view.contiguous(state, loans),
+            Attribute::CContiguous => view.c_contiguous(state, loans),
+            Attribute::FContiguous => view.f_contiguous(state, loans),
+        }
     }
-    Ok(())
-}
-
-/// The same of attributes.
-fn ask_all(
-    state: &mut ExporterState,
-    alloc: Global,
-    rows: &[(Attribute, &str)],
-    told: &mut Vec<u8>,
-    wanted: &mut Vec<u8>,
-) -> Made<()> {
-    for (attribute, word) in rows {
-        tell(told, ask(state, alloc, *attribute)?)?;
-        tell_word(wanted, word.as_bytes())?;
-    }
-    Ok(())
 }
 
 /// Three numbers of two bytes: 1, 258 and 3.
@@ -230,7 +208,7 @@ fn a_memoryview_has_attributes(rt: HostRuntime) -> Result<(), Fail> {
     let mut state = exporter_of(alloc, NUMBERS)?;
     let (mut told, mut wanted) = (Vec::new(alloc), Vec::new(alloc));
     carry_out(&mut state, alloc, &MADE, &mut told, &mut wanted)?;
-    ask_all(&mut state, alloc, &ATTRIBUTES, &mut told, &mut wanted)?;
+    carry_out(&mut state, alloc, &ATTRIBUTES, &mut told, &mut wanted)?;
     assert_eq!(rt; told.as_slice(), wanted.as_slice());
     Ok(())
 }

@@ -4,10 +4,9 @@ ghost use Rattle.pybuf_command.specs.declared.worlds.Reply.TheVariants as replie
 ghost use Rattle.pybuf_value.specs.declared.faults.Fault as faults;
 ghost use Rattle.pybuf_uses.specs.Program.{command_of, number_value};
 
-use pybuf_value::{ByteList, Made, Scalar, Text, Value};
 use pybuf_view::{
-    ByteInnerNewOptions, Command, ExporterKind, Reply, ReplyList, Verb, World, handles_stay,
-    refusals_change_nothing, runs_stay_sound,
+    ByteInnerNewOptions, ByteList, Command, ExporterKind, Made, Reply, ReplyList, Scalar, Text,
+    Value, Verb, World, handles_stay, refusals_change_nothing, runs_stay_sound,
 };
 use std::alloc::Global;
 use std::marker::Model;

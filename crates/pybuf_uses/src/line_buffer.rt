@@ -5,9 +5,7 @@ ghost use Rattle.std.specs.Borrow.{sem};
 ghost use Rattle.pybuf_exporter.specs.Lending.{LendsBytes};
 
 use bstr::ByteSlice;
-use pybuf_object::PyByteArray;
-use pybuf_value::Made;
-use pybuf_view::{ExporterState, LoanList, LocalReply};
+use pybuf_view::{ExporterState, LoanList, LocalReply, Made, PyByteArray};
 use std::alloc::Global;
 use std::marker::Model;
 

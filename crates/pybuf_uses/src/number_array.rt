@@ -4,9 +4,9 @@ ghost use Rattle.pybuf_value.specs.declared.halt.Halt.{Halt};
 ghost use Rattle.pybuf_value.specs.declared.faults.Fault.{Fault};
 ghost use Rattle.pybuf_uses.specs.Numbers.{numbers_of};
 
-use pybuf_object::{PyByteArray, PyMemoryView};
-use pybuf_value::{Fault, Halt, Made};
-use pybuf_view::{ExporterState, LoanList, LocalReply};
+use pybuf_view::{
+    ExporterState, Fault, Halt, LoanList, LocalReply, Made, PyByteArray, PyMemoryView,
+};
 use std::alloc::{AllocError, Global};
 use std::marker::Model;
 

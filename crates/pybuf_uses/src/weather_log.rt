@@ -11,10 +11,10 @@ ghost use Rattle.pybuf_state.specs.Live.{is_live, layout_of};
 ghost use Rattle.pybuf_struct.specs.Singles.{values_by};
 ghost use Rattle.pybuf_uses.specs.Log.{bytes_and_two, three, header_of, reading_of, place_value};
 
-use pybuf_object::PyBytes;
-use pybuf_struct::FormatSpec;
-use pybuf_value::{Fault, Halt, Made, Outcome, Scalar, ScalarList, Value};
-use pybuf_view::{ExporterState, LoanList, LocalReply, PyBuffer};
+use pybuf_view::{
+    ExporterState, Fault, FormatSpec, Halt, LoanList, LocalReply, Made, Outcome, PyBuffer, PyBytes,
+    Scalar, ScalarList, Value,
+};
 use std::alloc::Global;
 use std::marker::Model;
 

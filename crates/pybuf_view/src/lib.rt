@@ -1,30 +1,148 @@
-//! Python's buffer world: exporters of bytes, views of them, and worlds of both that are told
-//! commands and reply. Everything that a caller needs is named here.
+//! Python's buffer world, all that a user imports: bytes, bytearrays and memoryviews as values, their
+//! iterators, buffers and borrows, formats and slices, and worlds that are told commands and reply; with
+//! the values that they take, what they answer, and the laws that hold of them.
 #![tactic(auto)]
 
-pub use pybuf_borrow::{
-    ArgAsciiBuffer, ArgBytesLike, ArgMemoryBuffer, ArgStrOrBytesLike,
-    borrows_change_the_lent_bytes_alone, try_bytes_like, try_rw_bytes_like,
-};
-pub use pybuf_buffer::{PyBuffer, Steps, range_counts_are_bounded, ranges_are_counted};
-pub use pybuf_bytes::{ByteInnerNewOptions, MethodCall, MethodName, PyBytesInner};
-pub use pybuf_command::{
-    ExporterKind, Loan, LoanList, LocalCommand, LocalReply, PropertyName, Subject, Verb,
-};
-pub use pybuf_exporter::{
-    ExporterState, assignments_are_by_value, casts_share_their_bytes, commands_keep_sound,
-    contiguity_is_of_strides, copies_are_faithful, equal_views_hash_alike,
-    fresh_replies_are_copies, items_are_read, iteration_changes_nothing_else,
-    iterators_give_the_bytes, iterators_stay, lengths_stay, lists_hold_the_items,
-    loans_alike_do_the_same, others_leave_iterators, reading_in_place_changes_nothing,
-    readonly_bytes_stay, reads_in_place, refused_commands_change_nothing,
-    resizing_is_refused_while_exported, shaped_casts_share_their_bytes, shown_texts_are_one_line,
-    slicing_back_twice_is_nothing, writes_are_seen,
-};
-pub use pybuf_methods::{Lent, Names, takes, wrong_numbers_are_refused};
-pub use pybuf_world::{
-    Command, Named, Reply, ReplyList, World, copies_are_exporters_of_their_own, handles_stay,
-    new_exporters_stand_behind, refusals_change_nothing, releasing_twice_is_once, runs_stay_sound,
-    unknown_sources_are_refused, world_iterators_stay, world_lengths_stay,
-    world_readonly_bytes_stay, world_shown_texts_are_one_line,
-};
+pub use pybuf_borrow::ArgAsciiBuffer;
+pub use pybuf_borrow::ArgBytesLike;
+pub use pybuf_borrow::ArgMemoryBuffer;
+pub use pybuf_borrow::ArgStrOrBytesLike;
+pub use pybuf_borrow::borrows_change_the_lent_bytes_alone;
+pub use pybuf_borrow::try_bytes_like;
+pub use pybuf_borrow::try_rw_bytes_like;
+pub use pybuf_buffer::PyBuffer;
+pub use pybuf_buffer::Steps;
+pub use pybuf_buffer::range_counts_are_bounded;
+pub use pybuf_buffer::ranges_are_counted;
+pub use pybuf_bytes::ByteInnerFindOptions;
+pub use pybuf_bytes::ByteInnerNewOptions;
+pub use pybuf_bytes::ByteInnerPaddingOptions;
+pub use pybuf_bytes::ByteInnerSplitOptions;
+pub use pybuf_bytes::ByteInnerTranslateOptions;
+pub use pybuf_bytes::DecodeArgs;
+pub use pybuf_bytes::ExpandTabsArgs;
+pub use pybuf_bytes::MethodCall;
+pub use pybuf_bytes::MethodName;
+pub use pybuf_bytes::MethodReply;
+pub use pybuf_bytes::Needle;
+pub use pybuf_bytes::PyBytesInner;
+pub use pybuf_bytes::SplitArgs;
+pub use pybuf_bytes::SplitLinesArgs;
+pub use pybuf_bytes::StartsEndsWithArgs;
+pub use pybuf_bytes::bytes_decode;
+pub use pybuf_command::ExporterKind;
+pub use pybuf_command::Loan;
+pub use pybuf_command::LoanList;
+pub use pybuf_command::LocalCommand;
+pub use pybuf_command::LocalReply;
+pub use pybuf_command::PropertyName;
+pub use pybuf_command::Subject;
+pub use pybuf_command::Verb;
+pub use pybuf_desc::BufferDescriptor;
+pub use pybuf_desc::slices_have_their_shape;
+pub use pybuf_desc::slices_stay_inside;
+pub use pybuf_exporter::ExporterState;
+pub use pybuf_exporter::assignments_are_by_value;
+pub use pybuf_exporter::casts_share_their_bytes;
+pub use pybuf_exporter::commands_keep_sound;
+pub use pybuf_exporter::contiguity_is_of_strides;
+pub use pybuf_exporter::copies_are_faithful;
+pub use pybuf_exporter::equal_views_hash_alike;
+pub use pybuf_exporter::fresh_replies_are_copies;
+pub use pybuf_exporter::items_are_read;
+pub use pybuf_exporter::iteration_changes_nothing_else;
+pub use pybuf_exporter::iterators_give_the_bytes;
+pub use pybuf_exporter::iterators_stay;
+pub use pybuf_exporter::lengths_stay;
+pub use pybuf_exporter::lists_hold_the_items;
+pub use pybuf_exporter::loans_alike_do_the_same;
+pub use pybuf_exporter::others_leave_iterators;
+pub use pybuf_exporter::reading_in_place_changes_nothing;
+pub use pybuf_exporter::readonly_bytes_stay;
+pub use pybuf_exporter::reads_in_place;
+pub use pybuf_exporter::refused_commands_change_nothing;
+pub use pybuf_exporter::resizing_is_refused_while_exported;
+pub use pybuf_exporter::shaped_casts_share_their_bytes;
+pub use pybuf_exporter::shown_texts_are_one_line;
+pub use pybuf_exporter::slicing_back_twice_is_nothing;
+pub use pybuf_exporter::writes_are_seen;
+pub use pybuf_memoryobject::PyMemoryView;
+pub use pybuf_memoryobject::PyMemoryViewIterator;
+pub use pybuf_memoryobject::VecBuffer;
+pub use pybuf_methods::Lent;
+pub use pybuf_methods::Names;
+pub use pybuf_methods::takes;
+pub use pybuf_methods::wrong_numbers_are_refused;
+pub use pybuf_object::BufferResizeGuard;
+pub use pybuf_object::PyByteArray;
+pub use pybuf_object::PyByteArrayIterator;
+pub use pybuf_object::PyBytes;
+pub use pybuf_object::PyBytesIterator;
+pub use pybuf_slice::OptionalRangeArgs;
+pub use pybuf_slice::SaturatedSlice;
+pub use pybuf_slice::SaturatedSliceIter;
+pub use pybuf_slice::SequenceExt;
+pub use pybuf_slice::SequenceIndex;
+pub use pybuf_slice::SequenceIndexOp;
+pub use pybuf_slice::SequenceMutExt;
+pub use pybuf_slice::SliceIndices;
+pub use pybuf_slice::SliceableSequenceMutOp;
+pub use pybuf_slice::SliceableSequenceOp;
+pub use pybuf_slice::as_many_keep_the_length;
+pub use pybuf_slice::clamping_changes_no_index;
+pub use pybuf_slice::indices_and_adjust_indices_agree;
+pub use pybuf_slice::indices_of_a_slice;
+pub use pybuf_slice::reading_and_deleting_part_a_list;
+pub use pybuf_struct::Endianness;
+pub use pybuf_struct::FormatCode;
+pub use pybuf_struct::FormatSpec;
+pub use pybuf_struct::FormatType;
+pub use pybuf_struct::bytes_of_the_size_are_read;
+pub use pybuf_struct::fields_lie_in_order;
+pub use pybuf_struct::formats_read_back;
+pub use pybuf_struct::packing_fills_the_format;
+pub use pybuf_struct::reads_what_was_written;
+pub use pybuf_struct::writes_what_was_read;
+pub use pybuf_value::ByteList;
+pub use pybuf_value::ByteLists;
+pub use pybuf_value::CompareOp;
+pub use pybuf_value::CountList;
+pub use pybuf_value::DimList;
+pub use pybuf_value::Fault;
+pub use pybuf_value::Halt;
+pub use pybuf_value::Item;
+pub use pybuf_value::ItemList;
+pub use pybuf_value::Items;
+pub use pybuf_value::Lender;
+pub use pybuf_value::Made;
+pub use pybuf_value::NoMemory;
+pub use pybuf_value::NumberList;
+pub use pybuf_value::Outcome;
+pub use pybuf_value::PySlice;
+pub use pybuf_value::Scalar;
+pub use pybuf_value::ScalarList;
+pub use pybuf_value::SliceList;
+pub use pybuf_value::Snap;
+pub use pybuf_value::SnapKind;
+pub use pybuf_value::SnapList;
+pub use pybuf_value::Text;
+pub use pybuf_value::Tried;
+pub use pybuf_value::Twin;
+pub use pybuf_value::Value;
+pub use pybuf_value::ValueList;
+pub use pybuf_world::Command;
+pub use pybuf_world::Named;
+pub use pybuf_world::Reply;
+pub use pybuf_world::ReplyList;
+pub use pybuf_world::World;
+pub use pybuf_world::copies_are_exporters_of_their_own;
+pub use pybuf_world::handles_stay;
+pub use pybuf_world::new_exporters_stand_behind;
+pub use pybuf_world::refusals_change_nothing;
+pub use pybuf_world::releasing_twice_is_once;
+pub use pybuf_world::runs_stay_sound;
+pub use pybuf_world::unknown_sources_are_refused;
+pub use pybuf_world::world_iterators_stay;
+pub use pybuf_world::world_lengths_stay;
+pub use pybuf_world::world_readonly_bytes_stay;
+pub use pybuf_world::world_shown_texts_are_one_line;

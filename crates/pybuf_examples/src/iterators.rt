@@ -1,8 +1,9 @@
 //! Iterators of bytes, bytearrays and memoryviews.
-use super::{Told, int, tell};
-use pybuf_object::{PyByteArray, PyByteArrayIterator, PyMemoryView, PyMemoryViewIterator};
-use pybuf_value::Fault;
-use pybuf_view::LoanList;
+use crate::telling::{Told, tell};
+use crate::values::int;
+use pybuf_view::{
+    Fault, LoanList, PyByteArray, PyByteArrayIterator, PyMemoryView, PyMemoryViewIterator,
+};
 use std::test::Fail;
 
 #[test]

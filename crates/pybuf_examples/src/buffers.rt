@@ -1,9 +1,8 @@
 //! `PyBuffer`, `VecBuffer`, and bytes that are borrowed for a call.
-use super::bytes;
-use pybuf_object::{PyByteArray, VecBuffer};
-use pybuf_value::{Fault, SnapList};
+use crate::values::{bytes, int};
 use pybuf_view::{
-    ArgBytesLike, ArgMemoryBuffer, ExporterKind, LoanList, PyBuffer, Subject, try_rw_bytes_like,
+    ArgBytesLike, ArgMemoryBuffer, ExporterKind, Fault, LoanList, PyBuffer, PyByteArray, SnapList,
+    Subject, VecBuffer, try_rw_bytes_like,
 };
 use std::alloc::Global;
 use std::test::Fail;
@@ -60,7 +59,7 @@ fn the_bytes_of_a_value_are_borrowed(rt: HostRuntime) -> Result<(), Fail> {
 fn the_bytes_of_a_view_are_borrowed_to_be_written(rt: HostRuntime) -> Result<(), Fail> {
     let alloc = rt.alloc();
     let mut array = PyByteArray::new_ref(alloc, Vec::from_slice(alloc, b"abcdef")?);
-    array.range(super::int(1), super::int(4), LoanList::new(alloc))?;
+    array.range(int(1), int(4), LoanList::new(alloc))?;
     let state = array.state_mut();
     let turned = try_rw_bytes_like(state, Subject::View(0), |bytes| bytes.reverse());
     assert!(rt; turned.is_ok());

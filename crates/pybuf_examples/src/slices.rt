@@ -1,6 +1,7 @@
 //! Slices, as Python's `slice`.
-use pybuf_slice::{SaturatedSlice, SliceableSequenceMutOp, SliceableSequenceOp};
-use pybuf_value::{Fault, PySlice, Scalar};
+use pybuf_view::{
+    Fault, PySlice, SaturatedSlice, Scalar, SliceableSequenceMutOp, SliceableSequenceOp,
+};
 use std::alloc::Global;
 use std::test::Fail;
 

@@ -1,7 +1,9 @@
 //! `World`: objects that are named by handles, and commands as values.
-use super::{int, text};
-use pybuf_value::{ByteList, Fault, Item, Made, Scalar, Value};
-use pybuf_view::{ByteInnerNewOptions, Command, ExporterKind, Reply, ReplyList, Verb, World};
+use crate::values::{int, text};
+use pybuf_view::{
+    ByteInnerNewOptions, ByteList, Command, ExporterKind, Fault, Item, Made, Reply, ReplyList,
+    Scalar, Value, Verb, World,
+};
 use std::alloc::Global;
 use std::test::Fail;
 

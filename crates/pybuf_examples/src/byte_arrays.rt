@@ -1,8 +1,7 @@
 //! `PyByteArray`, as Python's `bytearray`.
-use super::{Told, bytes, int, part, tell};
-use pybuf_object::PyByteArray;
-use pybuf_value::Fault;
-use pybuf_view::{ExporterKind, LoanList};
+use crate::telling::{Told, tell};
+use crate::values::{bytes, int, part};
+use pybuf_view::{ExporterKind, Fault, LoanList, PyByteArray};
 use std::test::Fail;
 
 #[test]

@@ -1,21 +1,12 @@
 //! The methods of strings of bytes, by the type that has them and by their names.
-use super::{Told, bytes, has, tell};
-use pybuf_object::PyBytes;
-use pybuf_value::{Outcome, Tried, ValueList};
-use pybuf_view::{LoanList, MethodCall, MethodName, PyBytesInner};
+use crate::telling::{Told, done, has, tell};
+use crate::values::bytes;
+use pybuf_view::{LoanList, MethodCall, MethodName, PyBytes, PyBytesInner, ValueList};
 use std::alloc::Global;
 use std::test::Fail;
 
 fn string(alloc: Global, bytes: &[u8]) -> Result<PyBytesInner, Fail> {
     Ok(PyBytesInner::from(Vec::from_slice(alloc, bytes)?))
-}
-
-/// What a call answers that isn't refused.
-fn done<T>(answer: Tried<T>) -> Result<T, Fail> {
-    match answer? {
-        Outcome::Done(value) => Ok(value),
-        Outcome::Refused(fault) => Err(Fail::new(fault)),
-    }
 }
 
 #[test]

@@ -1,8 +1,7 @@
 //! `PyBytes`, as Python's `bytes`.
-use super::{Told, bytes, has, int, part, tell};
-use pybuf_object::PyBytes;
-use pybuf_value::{CompareOp, Fault};
-use pybuf_view::LoanList;
+use crate::telling::{Told, has, tell};
+use crate::values::{bytes, int, part};
+use pybuf_view::{CompareOp, Fault, LoanList, PyBytes};
 use std::test::Fail;
 
 #[test]

@@ -1,8 +1,7 @@
 //! `PyMemoryView`, as Python's `memoryview`.
-use super::{Told, bytes, every, has, int, lists, part, tell, text};
-use pybuf_object::{PyByteArray, PyMemoryView};
-use pybuf_value::{Fault, Scalar, ScalarList, Value};
-use pybuf_view::LoanList;
+use crate::telling::{Told, has, lists, tell};
+use crate::values::{bytes, every, int, part, text};
+use pybuf_view::{Fault, LoanList, PyByteArray, PyMemoryView, Scalar, ScalarList, Value};
 use std::test::Fail;
 
 #[test]

@@ -1,16 +1,8 @@
 //! `FormatSpec`, as Python's `struct`.
-use pybuf_struct::FormatSpec;
-use pybuf_value::{Fault, Outcome, Scalar, ScalarList, SnapList, Tried};
+use crate::telling::done;
+use pybuf_view::{Fault, FormatSpec, Outcome, Scalar, ScalarList, SnapList};
 use std::alloc::Global;
 use std::test::Fail;
-
-/// What a call answers that isn't refused.
-fn done<T>(answer: Tried<T>) -> Result<T, Fail> {
-    match answer? {
-        Outcome::Done(value) => Ok(value),
-        Outcome::Refused(fault) => Err(Fail::new(fault)),
-    }
-}
 
 fn first_number(values: &ScalarList) -> Option<i128> {
     match values.as_slice() {

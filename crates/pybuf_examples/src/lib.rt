@@ -1,0 +1,26 @@
+//! The examples of docs/LIBRARY.md, a module for each of its parts. What is shown there stands here word for word,
+//! and is run as a test.
+#![tactic(auto)]
+
+#[cfg(test)]
+mod buffers;
+#[cfg(test)]
+mod byte_arrays;
+#[cfg(test)]
+mod bytes_objects;
+#[cfg(test)]
+mod formats;
+#[cfg(test)]
+mod iterators;
+#[cfg(test)]
+mod memory_views;
+#[cfg(test)]
+mod slices;
+#[cfg(test)]
+mod strings;
+#[cfg(test)]
+mod telling;
+#[cfg(test)]
+mod values;
+#[cfg(test)]
+mod worlds;
