@@ -35,6 +35,14 @@ handles_in_option None = []
 abbrev pub handles_of_options : ByteInnerNewOptions → List ℕ
 handles_of_options options = handles_in_option options.source ++ handles_in_option options.encoding ++ handles_in_option options.errors
 
+-- the handle that a source alone is, without an encoding: of no other are bytes read
+abbrev pub source_alone : Option Value → Option Value → Option Value → Option ℕ
+source_alone (Some (value.One (scalar.Handle h))) None None = Some h
+source_alone _ _ _ = None
+
+abbrev pub handle_alone : ByteInnerNewOptions → Option ℕ
+handle_alone options = source_alone options.source options.encoding options.errors
+
 -- the handles of all values of a command, in order
 abbrev pub handles_of : Verb → List ℕ
 handles_of (verb.Range from to) = handles_in from ++ handles_in to

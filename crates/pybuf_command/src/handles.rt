@@ -240,3 +240,14 @@ pub fn handles_of_options(alloc: Global, options: &ByteInnerNewOptions) -> Made<
     push_options(&mut handles, options)?;
     Ok(handles)
 }
+
+/// The handle that a source alone is, where neither an encoding nor a rule for errors is given. Of no other
+/// options are the bytes of a handle read.
+pub fn handle_alone(options: &ByteInnerNewOptions) -> Option<u64>
+    ensures { result ≡ spec.handle_alone options.now }
+{
+    match (&options.source, &options.encoding, &options.errors) {
+        (Some(Value::One(Scalar::Handle(handle))), None, None) => Some(*handle),
+        _ => None,
+    }
+}

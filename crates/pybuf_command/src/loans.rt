@@ -20,8 +20,6 @@ pub enum Loan {
     Iter(usize),
     /// Another exporter, or a view or an iterator of one, as it stands.
     Other(Snap),
-    /// Something that was given, whose bytes the command doesn't read.
-    Known,
     /// Nothing: the handle was never given.
     Missing,
 }
@@ -36,7 +34,6 @@ impl Twin for Loan {
                 let snap = snap.copy(alloc)?;
                 Ok(Loan::Other(snap))
             }
-            Loan::Known => Ok(Loan::Known),
             Loan::Missing => Ok(Loan::Missing),
         }
     }
@@ -75,7 +72,8 @@ pub fn is_byte_format(format: &[u8]) -> bool
     }
 }
 
-fn is_row_of(count: usize, shape: &[usize]) -> bool
+/// Whether a shape is one dimension of so many entries.
+pub fn is_row_of(count: usize, shape: &[usize]) -> bool
     ensures { result ≡ spec.is_row_of count shape.now }
 {
     match shape {

@@ -1,10 +1,12 @@
 -- Every command, by the laws of its row.
 use Rattle.std.proofs.Common.{◌≡◌, ℕ, ◌+◌, ◌≤◌, List, length, Bool, true, false, true≢false, ap, ap₂, sym, ◌∙◌, refl, subst, arith, inl}
-use Rattle.std.specs.Prelude.{◌==◌, ◌&&◌, nat_lt, slice_index, Result, Ok, Err, if◌then◌else◌}
+use Rattle.std.specs.Prelude.{◌==◌, ◌&&◌, nat_lt, slice_index, Option, Result, Ok, Err, if◌then◌else◌}
 use Rattle.std.proofs.lemmas.Bool.{eqb-true}
 use Rattle.std.proofs.lemmas.Grind.{common_steps}
 use Rattle.pybuf_value.specs.declared.faults.Fault.{Fault}
 use Rattle.pybuf_value.specs.declared.faults.Fault.TheVariants as fault
+use Rattle.pybuf_value.specs.declared.halt.Halt.{Halt}
+use Rattle.pybuf_value.specs.declared.halt.Halt.TheVariants as halt
 use Rattle.pybuf_value.specs.declared.values.Value.{Value}
 use Rattle.pybuf_value.specs.declared.values.Value.TheVariants as value
 use Rattle.pybuf_value.specs.Refusing.{◌>>=◌, IfDone}
@@ -23,7 +25,8 @@ use Rattle.pybuf_command.specs.declared.loans.Loan.{Loan}
 use Rattle.pybuf_command.specs.Handles.{handles_of, handles_read}
 use Rattle.pybuf_memoryview.specs.Items.{item_of_values}
 use Rattle.pybuf_state.specs.Exporter.{Exporter, Iterator}
-use Rattle.pybuf_state.specs.Loans.{Lent, are_known, lent_for_each, snaps_of}
+use Rattle.pybuf_state.specs.Answers.{Answers}
+use Rattle.pybuf_state.specs.Loans.{Lent, are_named, lents_by, names_of, snaps_of}
 use Rattle.pybuf_state.specs.Sound.{IsSoundExporter}
 use Rattle.pybuf_value.specs.declared.snaps.Snap.{Snap}
 use Rattle.pybuf_state.specs.Fresh.{IsCopyOf}
@@ -36,9 +39,9 @@ use Rattle.pybuf_rows_edits.specs.Laws.{EditsAreSafe, DeleteOfViewIsSafe}
 use Rattle.pybuf_rows_compare.specs.Laws.{CompareIsSafe, HashIsSafe, ReprIsSafe}
 use Rattle.pybuf_rows_methods.specs.Laws.{CallIsSafe, ContainsIsSafe, HexIsSafe}
 use Rattle.pybuf_rows_iters.specs.Laws.{IterIsSafe, IteratorsAreSafe}
-use Rattle.pybuf_exporter.specs.Step.{get_of_view, row, answer_of, settled_answer, estep, set_in_own, set_through_view}
-use Rattle.pybuf_exporter.specs.Rows.{RowsAreSafe, RowIsSafe}
-use Rattle.pybuf_exporter.specs.Laws.{CommandsKeepSound, LengthsStayUnderCommands, ReadOnlyBytesStayUnderCommands, IteratorsStayUnderCommands, is_of_iterators, OthersLeaveIterators, IterationChangesNothingElse, RefusedCommandsChangeNothing, LoansAlikeDoTheSame, ItemsAreRead, FreshRepliesAreCopies, ShownTextsAreOneLine}
+use Rattle.pybuf_exporter.specs.Step.{get_of_view, row, answer_by, answer_of, settled_answer, estep, set_in_own, set_through_view}
+use Rattle.pybuf_exporter.specs.Rows.{RowsAreSafe, RowIsSafe, StepsKeepSound}
+use Rattle.pybuf_exporter.specs.Laws.{CommandsKeepSound, LengthsStayUnderCommands, ReadOnlyBytesStayUnderCommands, IteratorsStayUnderCommands, is_of_iterators, OthersLeaveIterators, IterationChangesNothingElse, RefusedCommandsChangeNothing, NamesAlikeDoTheSame, ItemsAreRead, FreshRepliesAreCopies, ShownTextsAreOneLine}
 
 -- the laws of the rows
 pub record RowLaws : Type 0 where
@@ -359,10 +362,13 @@ chosen : (e : Exporter) (s : Subject) (v : Verb) (b : Bool) (r : Result (Exporte
 chosen e s v true r step = step
 chosen e s v false r step = tt
 
+answered_by : RowsAreSafe → ReadingKeeps → (e : Exporter) (s : Subject) (v : Verb) (named : ℕ → Option Loan) → IfDone (IsStep e s v) (answer_by e s v named)
+answered_by rows reading e s v named =
+    let lents = lents_by e named (handles_read s v) in
+    chosen e s v (are_named e named (handles_of v)) (row e s v lents) (row_step reading e s v (row e s v lents) (rows e s v lents))
+
 pub answered_step : RowsAreSafe → ReadingKeeps → (e : Exporter) (s : Subject) (v : Verb) (loans : List (ℕ × Loan)) → IfDone (IsStep e s v) (answer_of e s v loans)
-answered_step rows reading e s v loans =
-    let lents = lent_for_each e loans (handles_read s v) in
-    chosen e s v (are_known e loans (handles_of v)) (row e s v lents) (row_step reading e s v (row e s v lents) (rows e s v lents))
+answered_step rows reading e s v loans = answered_by rows reading e s v (names_of loans)
 
 settled_leaves : ReadingKeeps → (e : Exporter) (s : Subject) (v : Verb) (r : Result (Exporter × LocalReply) Fault) → IfDone (IsStep e s v) r → IsSoundExporter e → IsLeft e (settled_answer e r).0
 settled_leaves reading e s v (Ok after) step sound = step.leaves sound
@@ -370,6 +376,9 @@ settled_leaves reading e s v (Err f) step sound = left_so e e (reading e sound)
 
 step_leaves : RowsAreSafe → ReadingKeeps → (e : Exporter) (s : Subject) (v : Verb) (loans : List (ℕ × Loan)) → IsSoundExporter e → IsLeft e (estep e s v loans).0
 step_leaves rows reading e s v loans sound = settled_leaves reading e s v (answer_of e s v loans) (answered_step rows reading e s v loans) sound
+
+pub steps_keep : RowsAreSafe → ReadingKeeps → StepsKeepSound
+steps_keep rows reading e s v named sound = (settled_leaves reading e s v (answer_by e s v named) (answered_by rows reading e s v named) sound).sound
 
 pub sound_stays : RowsAreSafe → ReadingKeeps → CommandsKeepSound
 sound_stays rows reading e s v loans sound = (step_leaves rows reading e s v loans sound).sound
@@ -424,8 +433,8 @@ settled_shown e s v (Err g) text step is = absurd (cc)
 pub shown_are_one_line : RowsAreSafe → ReadingKeeps → ShownTextsAreOneLine
 shown_are_one_line rows reading e s v loans text is = settled_shown e s v (answer_of e s v loans) text (answered_step rows reading e s v loans) is
 
-pub alike_steps : LoansAlikeDoTheSame
-alike_steps e s v loans others alike =
+pub alike_steps : NamesAlikeDoTheSame
+alike_steps e s v named others alike =
     ap₂ (λ (known : Bool) (lents : List Lent). settled_answer e (if known then row e s v lents else Err fault.UnknownName)) alike.known alike.lent
 
 -- ---- items
@@ -456,6 +465,7 @@ each_item_is_read live reads e k layout i sound found below =
     )
 
 -- the exporter after an answer is sound
-pub answered_is_sound : CommandsKeepSound → (e new : Exporter) (s : Subject) (v : Verb) (loans : List (ℕ × Loan)) (r : LocalReply) → IsSoundExporter e → answer_of e s v loans ≡ Ok (new, r) → IsSoundExporter new
-answered_is_sound keeps e new s v loans r sound is =
-    subst (λ (x : Result (Exporter × LocalReply) Fault). IsSoundExporter (settled_answer e x).0) is (keeps e s v loans sound)
+pub closes_sound : (e new : Exporter) (r : Result LocalReply Halt) (answer : Result (Exporter × LocalReply) Fault) → Answers answer e r new → IsSoundExporter e → IsSoundExporter (settled_answer e answer).0 → IsSoundExporter new
+closes_sound e new (Ok r) answer is sound kept = subst (λ (x : Result (Exporter × LocalReply) Fault). IsSoundExporter (settled_answer e x).0) is kept
+closes_sound e new (Err (halt.Refused f)) answer is sound kept = subst IsSoundExporter (sym is.1) sound
+closes_sound e new (Err halt.NoMemory) answer is sound kept = subst IsSoundExporter (sym is) sound

@@ -1,6 +1,5 @@
 pub mod Every
 pub mod Described
-pub mod Beside
 pub mod Lent
 pub mod Refusing
 pub mod Iterating

@@ -1,5 +1,5 @@
 -- Laws over every command on one exporter.
-use Rattle.std.specs.Prelude.{◌≡◌, ◌⊎◌, ℕ, zero, suc, ◌+◌, ◌-◌, ◌<◌, ◌≤◌, Bool, true, false, List, [], ◌∷◌, ◌++◌, length, map, drop, replicate, slice_get, slice_index, Result, Ok, Err, Some}
+use Rattle.std.specs.Prelude.{◌≡◌, ◌⊎◌, ℕ, zero, suc, ◌+◌, ◌-◌, ◌<◌, ◌≤◌, Bool, true, false, List, [], ◌∷◌, ◌++◌, length, map, drop, replicate, slice_get, slice_index, Option, Result, Ok, Err, Some}
 use Rattle.pybuf_value.specs.declared.faults.Fault.{Fault}
 use Rattle.pybuf_value.specs.declared.faults.Fault.TheVariants as fault
 use Rattle.pybuf_value.specs.declared.snaps.Snap.{Snap}
@@ -17,14 +17,14 @@ use Rattle.pybuf_command.specs.declared.loans.Loan.{Loan}
 use Rattle.pybuf_command.specs.Handles.{handles_of, handles_read}
 use Rattle.pybuf_memoryview.specs.Items.{byte_item, item_by}
 use Rattle.pybuf_state.specs.Exporter.{Exporter, Iterator, live_layout}
-use Rattle.pybuf_state.specs.Loans.{are_known, lent_for_each}
+use Rattle.pybuf_state.specs.Loans.{are_known, are_named, lent_for_each, lents_by}
 use Rattle.pybuf_state.specs.Sound.{IsSoundExporter}
 use Rattle.pybuf_state.specs.Fresh.{IsCopyOf}
 use Rattle.pybuf_state.specs.Keeps.{LengthsStay, ReadOnlyBytesStay, IteratorsStay, is_one_line}
 use Rattle.pybuf_state.specs.Resizing.{has_exports}
 use Rattle.pybuf_rows_edits.specs.Edits.{is_edit}
 use Rattle.pybuf_rows_edits.specs.Asking.{asks}
-use Rattle.pybuf_exporter.specs.Step.{estep, reads_in_place}
+use Rattle.pybuf_exporter.specs.Step.{estep, estep_by, reads_in_place}
 
 -- each command leaves a sound exporter sound
 abbrev pub CommandsKeepSound : Type 0
@@ -93,15 +93,15 @@ abbrev pub ShownTextsAreOneLine : Type 0
 ShownTextsAreOneLine =
     (e : Exporter) (s : Subject) (v : Verb) (loans : List (ℕ × Loan)) (text : List ℕ) → (estep e s v loans).1 ≡ reply.Shown text → is_one_line text ≡ true
 
--- Two lists of loans know the same handles of a command, and lend the same for those whose bytes it
+-- By two kinds of names the same handles of a command are known, and the same is lent for those whose bytes it
 -- reads.
-pub record AreAlike (e : Exporter) (s : Subject) (v : Verb) (loans others : List (ℕ × Loan)) : Type 0 where
-  pub known : are_known e loans (handles_of v) ≡ are_known e others (handles_of v)
-  pub lent : lent_for_each e loans (handles_read s v) ≡ lent_for_each e others (handles_read s v)
+pub record AreAlike (e : Exporter) (s : Subject) (v : Verb) (named others : ℕ → Option Loan) : Type 0 where
+  pub known : are_named e named (handles_of v) ≡ are_named e others (handles_of v)
+  pub lent : lents_by e named (handles_read s v) ≡ lents_by e others (handles_read s v)
 
--- a command looks at nothing else of its loans
-abbrev pub LoansAlikeDoTheSame : Type 0
-LoansAlikeDoTheSame = (e : Exporter) (s : Subject) (v : Verb) (loans others : List (ℕ × Loan)) → AreAlike e s v loans others → estep e s v loans ≡ estep e s v others
+-- a command asks nothing else of what its handles name
+abbrev pub NamesAlikeDoTheSame : Type 0
+NamesAlikeDoTheSame = (e : Exporter) (s : Subject) (v : Verb) (named others : ℕ → Option Loan) → AreAlike e s v named others → estep_by e s v named ≡ estep_by e s v others
 
 -- Every item of an unreleased view is read as the values of its format's fields, whole.
 abbrev pub ItemsAreRead : Type 0

@@ -1,5 +1,5 @@
 -- What all rows owe to the laws over every command.
-use Rattle.std.specs.Prelude.{List, Result}
+use Rattle.std.specs.Prelude.{ℕ, List, Option, Result}
 use Rattle.pybuf_value.specs.declared.faults.Fault.{Fault}
 use Rattle.pybuf_value.specs.Refusing.{IfDone}
 use Rattle.pybuf_command.specs.declared.kinds.Subject.{Subject}
@@ -7,10 +7,12 @@ use Rattle.pybuf_command.specs.declared.kinds.Subject.TheVariants as subject
 use Rattle.pybuf_command.specs.declared.commands.Verb.{Verb}
 use Rattle.pybuf_command.specs.declared.commands.Verb.TheVariants as verb
 use Rattle.pybuf_command.specs.declared.commands.LocalReply.{LocalReply}
+use Rattle.pybuf_command.specs.declared.loans.Loan.{Loan}
 use Rattle.pybuf_state.specs.Exporter.{Exporter}
 use Rattle.pybuf_state.specs.Loans.{Lent}
 use Rattle.pybuf_state.specs.Keeps.{IsSafe, IsCopied, IsIterated}
-use Rattle.pybuf_exporter.specs.Step.{row}
+use Rattle.pybuf_state.specs.Sound.{IsSoundExporter}
+use Rattle.pybuf_exporter.specs.Step.{row, estep_by}
 
 -- `contig` of a view and `copy` of a bytearray reply a copy of it, `iter` and the rows of an iterator change
 -- iterators alone, and every other row is safe
@@ -23,3 +25,7 @@ RowIsSafe e s v after = IsSafe e after
 
 abbrev pub RowsAreSafe : Type 0
 RowsAreSafe = (e : Exporter) (s : Subject) (v : Verb) (lents : List Lent) → RowIsSafe e s v (row e s v lents)
+
+-- each command leaves a sound exporter sound, whatever its handles are lent as
+abbrev pub StepsKeepSound : Type 0
+StepsKeepSound = (e : Exporter) (s : Subject) (v : Verb) (named : ℕ → Option Loan) → IsSoundExporter e → IsSoundExporter (estep_by e s v named).0

@@ -1,10 +1,9 @@
 -- One command on one exporter: which row it has, and what stands after it.
-use Rattle.std.specs.Prelude.{ℕ, Bool, true, false, List, None, Result, Ok, Err, if◌then◌else◌, Option, Some}
+use Rattle.std.specs.Prelude.{ℕ, Bool, true, false, List, Result, Ok, Err, if◌then◌else◌, Option}
 use Rattle.pybuf_value.specs.declared.faults.Fault.{Fault}
 use Rattle.pybuf_value.specs.declared.faults.Fault.TheVariants as fault
 use Rattle.pybuf_value.specs.declared.values.Value.{Value}
 use Rattle.pybuf_value.specs.declared.values.Value.TheVariants as value
-use Rattle.pybuf_value.specs.declared.values.Scalar.TheVariants as scalar
 use Rattle.pybuf_command.specs.declared.kinds.Subject.{Subject}
 use Rattle.pybuf_command.specs.declared.kinds.Subject.TheVariants as subject
 use Rattle.pybuf_command.specs.declared.commands.Verb.{Verb}
@@ -14,7 +13,7 @@ use Rattle.pybuf_command.specs.declared.commands.LocalReply.TheVariants as reply
 use Rattle.pybuf_command.specs.declared.loans.Loan.{Loan}
 use Rattle.pybuf_command.specs.Handles.{handles_of, handles_read}
 use Rattle.pybuf_state.specs.Exporter.{Exporter}
-use Rattle.pybuf_state.specs.Loans.{Lent, are_known, lent_for_each, snaps_of}
+use Rattle.pybuf_state.specs.Loans.{Lent, are_named, lents_by, names_of, snaps_of}
 use Rattle.pybuf_rows_views.specs.View.{view_of_own, view_of_view}
 use Rattle.pybuf_rows_views.specs.Range.{range_of_own}
 use Rattle.pybuf_rows_views.specs.Slice.{slice_of_view}
@@ -52,14 +51,6 @@ set_through_view e k key v lents = set_of_view e k key v lents
 abbrev pub set_in_own : Exporter → Value → Value → List Lent → Result (Exporter × LocalReply) Fault
 set_in_own e (value.Slice slice) v lents = edit_of_own e (verb.Set (value.Slice slice) v) lents
 set_in_own e key v lents = set_of_own e key v
-
--- The handle whose bytes a command reads where they lie, also those of another exporter: the value that a
--- view is written by a slice, and one that a subject is compared with.
-abbrev pub source_in_place : Subject → Verb → Option ℕ
-source_in_place (subject.View k) (verb.Set (value.Slice slice) (value.One (scalar.Handle h))) = Some h
-source_in_place (subject.View k) (verb.Compare op (value.One (scalar.Handle h))) = Some h
-source_in_place subject.Own (verb.Compare op (value.One (scalar.Handle h))) = Some h
-source_in_place s v = None
 
 -- Whether a command reads what the handles among its values name, each from where it lies: a method, a search
 -- and the digits of a view. These change nothing.
@@ -116,17 +107,26 @@ row e subject.Own v lents = row_of_own e v lents
 row e (subject.View k) v lents = row_of_view e k v lents
 row e (subject.Iter k) v lents = row_of_iterator e k v
 
--- An unknown handle is refused before all else, also in a value that the row would not look at.
-abbrev pub answer_of : Exporter → Subject → Verb → List (ℕ × Loan) → Result (Exporter × LocalReply) Fault
-answer_of e s v loans =
-    if are_known e loans (handles_of v) then row e s v (lent_for_each e loans (handles_read s v))
+-- By what each handle is lent as. An unknown handle is refused before all else, also in a value that the row
+-- would not look at.
+abbrev pub answer_by : Exporter → Subject → Verb → (ℕ → Option Loan) → Result (Exporter × LocalReply) Fault
+answer_by e s v named =
+    if are_named e named (handles_of v) then row e s v (lents_by e named (handles_read s v))
     else Err fault.UnknownName
+
+-- the same by loans
+abbrev pub answer_of : Exporter → Subject → Verb → List (ℕ × Loan) → Result (Exporter × LocalReply) Fault
+answer_of e s v loans = answer_by e s v (names_of loans)
 
 -- a refusal leaves the exporter as it was
 abbrev pub settled_answer : Exporter → Result (Exporter × LocalReply) Fault → Exporter × LocalReply
 settled_answer e (Ok after) = after
 settled_answer e (Err f) = (e, reply.Refused f)
 
--- the exporter after a command, and its reply
+-- the exporter after a command, and its reply, by what each handle is lent as
+abbrev pub estep_by : Exporter → Subject → Verb → (ℕ → Option Loan) → Exporter × LocalReply
+estep_by e s v named = settled_answer e (answer_by e s v named)
+
+-- the same by loans
 abbrev pub estep : Exporter → Subject → Verb → List (ℕ × Loan) → Exporter × LocalReply
-estep e s v loans = settled_answer e (answer_of e s v loans)
+estep e s v loans = estep_by e s v (names_of loans)

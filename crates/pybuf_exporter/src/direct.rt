@@ -8,6 +8,7 @@ ghost use Rattle.pybuf_state.specs.Exporter.{exports_of};
 ghost use Rattle.pybuf_state.specs.Answers.{exporter_of, IsWhole, Answers};
 ghost use Rattle.pybuf_exporter.specs.Step as spec;
 
+use crate::closing::closed;
 use crate::pick;
 use pybuf_command::{
     LoanList, LocalReply, handles_in, handles_in_both, handles_in_option, handles_with_option,
@@ -16,7 +17,7 @@ use pybuf_rows_edits::{append as append_of_own, pop as pop_of_own};
 use pybuf_rows_reads::get;
 use pybuf_rows_views::{cast, release, view};
 use pybuf_state::{Parts, are_known};
-use pybuf_value::{Fault, Halt, Made, NoMemory, Value};
+use pybuf_value::{Fault, Halt, Made, Value};
 
 fn answered_view_of_own(parts: &mut Parts, _loans: &LoanList) -> Result<LocalReply, Halt>
     requires { IsWhole parts.old }
@@ -34,11 +35,7 @@ pub fn view_of_own(parts: &mut Parts, loans: &LoanList) -> Made<LocalReply>
     ensures whole { IsWhole parts.new }
 {
     crate::laws::commands_keep_sound();
-    match answered_view_of_own(parts, loans) {
-        Ok(reply) => Ok(reply),
-        Err(Halt::Refused(fault)) => Ok(LocalReply::Refused(fault)),
-        Err(Halt::NoMemory) => Err(NoMemory),
-    }
+    closed(answered_view_of_own(parts, loans))
 }
 
 fn answered_view_of_view(
@@ -61,11 +58,7 @@ pub fn view_of_view(parts: &mut Parts, view: usize, loans: &LoanList) -> Made<Lo
     ensures whole { IsWhole parts.new }
 {
     crate::laws::commands_keep_sound();
-    match answered_view_of_view(parts, view, loans) {
-        Ok(reply) => Ok(reply),
-        Err(Halt::Refused(fault)) => Ok(LocalReply::Refused(fault)),
-        Err(Halt::NoMemory) => Err(NoMemory),
-    }
+    closed(answered_view_of_view(parts, view, loans))
 }
 
 fn answered_exit_of_view(
@@ -88,11 +81,7 @@ pub fn exit_of_view(parts: &mut Parts, view: usize, loans: &LoanList) -> Made<Lo
     ensures whole { IsWhole parts.new }
 {
     crate::laws::commands_keep_sound();
-    match answered_exit_of_view(parts, view, loans) {
-        Ok(reply) => Ok(reply),
-        Err(Halt::Refused(fault)) => Ok(LocalReply::Refused(fault)),
-        Err(Halt::NoMemory) => Err(NoMemory),
-    }
+    closed(answered_exit_of_view(parts, view, loans))
 }
 
 fn answered_get_of_own(parts: &mut Parts, key: &Value, loans: &LoanList) -> Result<LocalReply, Halt>
@@ -101,7 +90,7 @@ fn answered_get_of_own(parts: &mut Parts, key: &Value, loans: &LoanList) -> Resu
     ensures counted { parts.new.exports ≡ exports_of (exporter_of parts.new) }
 {
     let handles = handles_in(parts.alloc, key)?;
-    if !are_known(parts, loans.as_slice(), handles.as_slice()) {
+    if !are_known(parts, loans, handles.as_slice()) {
         return Err(Halt::Refused(Fault::UnknownName));
     }
     get::of_own(parts, key)
@@ -115,11 +104,7 @@ pub fn get_of_own(parts: &mut Parts, key: &Value, loans: &LoanList) -> Made<Loca
     ensures whole { IsWhole parts.new }
 {
     crate::laws::commands_keep_sound();
-    match answered_get_of_own(parts, key, loans) {
-        Ok(reply) => Ok(reply),
-        Err(Halt::Refused(fault)) => Ok(LocalReply::Refused(fault)),
-        Err(Halt::NoMemory) => Err(NoMemory),
-    }
+    closed(answered_get_of_own(parts, key, loans))
 }
 
 fn answered_get_of_view(
@@ -133,7 +118,7 @@ fn answered_get_of_view(
     ensures counted { parts.new.exports ≡ exports_of (exporter_of parts.new) }
 {
     let handles = handles_in(parts.alloc, key)?;
-    if !are_known(parts, loans.as_slice(), handles.as_slice()) {
+    if !are_known(parts, loans, handles.as_slice()) {
         return Err(Halt::Refused(Fault::UnknownName));
     }
     pick::get_of_view(parts, view, key)
@@ -152,11 +137,7 @@ pub fn get_of_view(
     ensures whole { IsWhole parts.new }
 {
     crate::laws::commands_keep_sound();
-    match answered_get_of_view(parts, view, key, loans) {
-        Ok(reply) => Ok(reply),
-        Err(Halt::Refused(fault)) => Ok(LocalReply::Refused(fault)),
-        Err(Halt::NoMemory) => Err(NoMemory),
-    }
+    closed(answered_get_of_view(parts, view, key, loans))
 }
 
 fn answered_set_through_view(
@@ -172,7 +153,7 @@ fn answered_set_through_view(
     ensures counted { parts.new.exports ≡ exports_of (exporter_of parts.new) }
 {
     let handles = handles_in_both(parts.alloc, key, value)?;
-    if !are_known(parts, loans.as_slice(), handles.as_slice()) {
+    if !are_known(parts, loans, handles.as_slice()) {
         return Err(Halt::Refused(Fault::UnknownName));
     }
     pick::set_through_view(parts, view, key, value, loans)
@@ -193,11 +174,7 @@ pub fn set_through_view(
     ensures whole { IsWhole parts.new }
 {
     crate::laws::commands_keep_sound();
-    match answered_set_through_view(parts, view, key, value, loans) {
-        Ok(reply) => Ok(reply),
-        Err(Halt::Refused(fault)) => Ok(LocalReply::Refused(fault)),
-        Err(Halt::NoMemory) => Err(NoMemory),
-    }
+    closed(answered_set_through_view(parts, view, key, value, loans))
 }
 
 fn answered_cast_of_view(
@@ -212,7 +189,7 @@ fn answered_cast_of_view(
     ensures counted { parts.new.exports ≡ exports_of (exporter_of parts.new) }
 {
     let handles = handles_with_option(parts.alloc, format, shape)?;
-    if !are_known(parts, loans.as_slice(), handles.as_slice()) {
+    if !are_known(parts, loans, handles.as_slice()) {
         return Err(Halt::Refused(Fault::UnknownName));
     }
     cast::of_view(parts, view, format, shape)
@@ -232,11 +209,7 @@ pub fn cast_of_view(
     ensures whole { IsWhole parts.new }
 {
     crate::laws::commands_keep_sound();
-    match answered_cast_of_view(parts, view, format, shape, loans) {
-        Ok(reply) => Ok(reply),
-        Err(Halt::Refused(fault)) => Ok(LocalReply::Refused(fault)),
-        Err(Halt::NoMemory) => Err(NoMemory),
-    }
+    closed(answered_cast_of_view(parts, view, format, shape, loans))
 }
 
 fn answered_append(parts: &mut Parts, value: &Value, loans: &LoanList) -> Result<LocalReply, Halt>
@@ -245,7 +218,7 @@ fn answered_append(parts: &mut Parts, value: &Value, loans: &LoanList) -> Result
     ensures counted { parts.new.exports ≡ exports_of (exporter_of parts.new) }
 {
     let handles = handles_in(parts.alloc, value)?;
-    if !are_known(parts, loans.as_slice(), handles.as_slice()) {
+    if !are_known(parts, loans, handles.as_slice()) {
         return Err(Halt::Refused(Fault::UnknownName));
     }
     append_of_own(parts, value)
@@ -259,11 +232,7 @@ pub fn append(parts: &mut Parts, value: &Value, loans: &LoanList) -> Made<LocalR
     ensures whole { IsWhole parts.new }
 {
     crate::laws::commands_keep_sound();
-    match answered_append(parts, value, loans) {
-        Ok(reply) => Ok(reply),
-        Err(Halt::Refused(fault)) => Ok(LocalReply::Refused(fault)),
-        Err(Halt::NoMemory) => Err(NoMemory),
-    }
+    closed(answered_append(parts, value, loans))
 }
 
 fn answered_pop(
@@ -276,7 +245,7 @@ fn answered_pop(
     ensures counted { parts.new.exports ≡ exports_of (exporter_of parts.new) }
 {
     let handles = handles_in_option(parts.alloc, index)?;
-    if !are_known(parts, loans.as_slice(), handles.as_slice()) {
+    if !are_known(parts, loans, handles.as_slice()) {
         return Err(Halt::Refused(Fault::UnknownName));
     }
     pop_of_own(parts, index)
@@ -290,9 +259,5 @@ pub fn pop(parts: &mut Parts, index: &Option<Value>, loans: &LoanList) -> Made<L
     ensures whole { IsWhole parts.new }
 {
     crate::laws::commands_keep_sound();
-    match answered_pop(parts, index, loans) {
-        Ok(reply) => Ok(reply),
-        Err(Halt::Refused(fault)) => Ok(LocalReply::Refused(fault)),
-        Err(Halt::NoMemory) => Err(NoMemory),
-    }
+    closed(answered_pop(parts, index, loans))
 }

@@ -1,15 +1,18 @@
 //! One exporter with its views and iterators.
-ghost use Rattle.std.specs.Prelude.{◌≡◌, ◌<◌, ◌↔◌, [], ◌∷◌, Some, IfOk, IfSome, IsSome, IsSomeAnd, IsOk, IfErr, OnErr, MatchResult, MatchOption, true, false, length, slice_get};
+ghost use Rattle.std.specs.Prelude.{◌≡◌, ◌<◌, ◌↔◌, [], Some, IfOk, IfSome, IsSome, IsSomeAnd, IsOk, IfErr, OnErr, MatchResult, MatchOption, true, false, length, slice_get};
 
-use crate::{direct, pick, reading};
+use crate::{direct, pick};
 use pybuf_command::{ExporterKind, LoanList, LocalCommand, LocalReply, Subject, Verb};
 use pybuf_desc::BufferDescriptor;
 use pybuf_memoryview::KeptLayout;
-use pybuf_methods::{Lent, Names};
-use pybuf_rows_methods::{content_of_subject, kind_of_subject, run_of_subject};
 use pybuf_rows_views::release;
-use pybuf_state::{Parts, copies_are_faithful, exporter_of_copy, new_views_keep, snap_of_subject};
-use pybuf_value::{ByteList, Fault, Halt, Made, NoMemory, Snap, SnapKind, Twin, Value, copy_all};
+use pybuf_state::{
+    Names, Other, Parts, content_of_subject, copies_are_faithful, exporter_of_copy,
+    kind_of_subject, new_views_keep, run_of_subject, snap_of_subject,
+};
+use pybuf_value::{
+    ByteList, Fault, Halt, Lent, Made, NoMemory, Snap, SnapKind, Twin, Value, copy_all,
+};
 use std::alloc::Global;
 use std::marker::Model;
 
@@ -54,13 +57,11 @@ impl ExporterState {
     ghost use Rattle.pybuf_desc.specs.Places.{Stands};
     ghost use Rattle.pybuf_desc.specs.Valid.{IsValid};
     ghost use Rattle.pybuf_state.specs.Exporter.{new_exporter};
-    ghost use Rattle.std.specs.Prelude.{ℕ, List, Ok, Err};
+    ghost use Rattle.std.specs.Prelude.{Ok, Err};
     ghost use Rattle.pybuf_value.specs.Snaps.{content_of, content_of_named};
-    ghost use Rattle.pybuf_command.specs.declared.loans.Loan.{Loan};
-    ghost use Rattle.pybuf_command.specs.Handles.{handles_of, handles_read};
-    ghost use Rattle.pybuf_methods.specs.Lent.{Lends, kind_of_named};
-    ghost use Rattle.pybuf_exporter.specs.Step.{estep, reads_in_place, source_in_place};
-    ghost use Rattle.pybuf_state.specs.Loans.{are_known, lent_for_each, loan_of_snap, snaps_of};
+    ghost use Rattle.pybuf_value.specs.Lent.{Lends, kind_of_named};
+    ghost use Rattle.pybuf_exporter.specs.Step.{estep, estep_by};
+    ghost use Rattle.pybuf_state.specs.Names.{IsSoundOther, snap_of_other};
     ghost use Rattle.pybuf_command.specs.Fits.{LoansFit, fits_snap};
     ghost use Rattle.pybuf_state.specs.Snaps.{snap_of_subject};
     ghost use Rattle.pybuf_state.specs.Exporter.{released_in};
@@ -95,14 +96,20 @@ impl ExporterState {
         self.carry_out(command.subject, &command.verb, &command.loans)
     }
 
-    /// The same, of a verb and of loans that are lent by themselves.
-    pub fn carry_out(&mut self, subject: Subject, verb: &Verb, loans: &LoanList) -> Made<LocalReply>
-        requires { LoansFit loans.now }
-        ensures ok { IfOk result (λ r. estep self.old subject verb.now loans.now ≡ (self.new, r)) }
+    /// The same, of a verb by itself and of what its handles name, which is asked of any names: a list of loans, or a
+    /// world that lends the exporters beside this one.
+    pub fn carry_out<N: Names>(
+        &mut self,
+        subject: Subject,
+        verb: &Verb,
+        names: &N,
+    ) -> Made<LocalReply>
+        requires { N.fit names.now }
+        ensures ok { IfOk result (λ r. estep_by self.old subject verb.now (N.named names.now) ≡ (self.new, r)) }
         ensures err { OnErr result (self.new ≡ self.old) }
         ensures was_sound { IsSoundExporter self.old }
     {
-        pick::carry_out(&mut self.parts, subject, verb, loans)
+        pick::carry_out(&mut self.parts, subject, verb, names)
     }
 
     // The commands that are called very often follow, each with its values lent by themselves: no verb is made for
@@ -240,46 +247,15 @@ impl ExporterState {
         Ok(ExporterState { parts })
     }
 
-    /// The same of a command that reads the bytes of a handle where they lie, where another exporter or
-    /// a view of it is lent for this handle as it is. For this handle no loan is looked at.
-    pub fn carry_out_beside(
-        &mut self,
-        subject: Subject,
-        verb: &Verb,
-        loans: &LoanList,
-        handle: u64,
-        lender: &ExporterState,
-        lent: Subject,
-    ) -> Made<LocalReply>
-        requires { source_in_place subject verb.now ≡ Some handle }
-        ensures ok { IfOk result (λ r. estep self.old subject verb.now ((handle, loan_of_snap (snap_of_subject lender.now lent)) ∷ loans.now) ≡ (self.new, r)) }
-        ensures err { OnErr result (self.new ≡ self.old) }
-        ensures was_sound { IsSoundExporter self.old }
+    /// A subject of this exporter, as what another exporter's command is lent, from where it lies.
+    pub fn lent(&self, subject: Subject) -> Other<'_>
+        ensures value { snap_of_other result ≡ snap_of_subject self.now subject }
+        ensures sound { IsSoundOther result }
     {
-        pick::carry_out_beside(
-            &mut self.parts,
+        Other::Lies {
+            lender: &self.parts,
             subject,
-            verb,
-            loans,
-            handle,
-            &lender.parts,
-            lent,
-        )
-    }
-
-    /// The same of a command that reads what the handles among its values name, each from where it lies, as
-    /// `reads_in_place` tells. It changes nothing. The handles have to be known, and what they name is asked of
-    /// the names.
-    pub fn read_in_place<N: Names>(
-        &self,
-        subject: Subject,
-        verb: &Verb,
-        names: &N,
-    ) -> Made<LocalReply>
-        requires { reads_in_place subject verb.now ≡ true }
-        ensures { (loans : List (ℕ × Loan)) → are_known self.now loans (handles_of verb.now) ≡ true → snaps_of (lent_for_each self.now loans (handles_read subject verb.now)) ≡ N.pairs names.now → IfOk result (λ r. estep self.now subject verb.now loans ≡ (self.now, r)) }
-    {
-        reading::carry_out(&self.parts, subject, verb, names)
+        }
     }
 
     /// What kind of thing a subject is; `None` exactly where it was never given.

@@ -1,6 +1,6 @@
 //! Laws over every command, from the laws of the rows.
-ghost use Rattle.pybuf_exporter.specs.Laws.{CommandsKeepSound, LengthsStayUnderCommands, ReadOnlyBytesStayUnderCommands, IteratorsStayUnderCommands, OthersLeaveIterators, IterationChangesNothingElse, IteratorsGiveTheBytes, ReadingInPlaceChangesNothing, RefusedCommandsChangeNothing, FreshRepliesAreCopies, LoansAlikeDoTheSame, ItemsAreRead, ResizingIsRefusedWhileExported, ShownTextsAreOneLine};
-ghost use Rattle.pybuf_exporter.specs.Rows.{RowsAreSafe};
+ghost use Rattle.pybuf_exporter.specs.Laws.{CommandsKeepSound, LengthsStayUnderCommands, ReadOnlyBytesStayUnderCommands, IteratorsStayUnderCommands, OthersLeaveIterators, IterationChangesNothingElse, IteratorsGiveTheBytes, ReadingInPlaceChangesNothing, RefusedCommandsChangeNothing, FreshRepliesAreCopies, NamesAlikeDoTheSame, ItemsAreRead, ResizingIsRefusedWhileExported, ShownTextsAreOneLine};
+ghost use Rattle.pybuf_exporter.specs.Rows.{RowsAreSafe, StepsKeepSound};
 
 /// Each row keeps a sound exporter, or replies a copy.
 fn rows_are_safe()
@@ -31,6 +31,14 @@ fn rows_are_safe()
     pybuf_rows_methods::hex_is_safe();
     pybuf_rows_iters::iter_is_safe();
     pybuf_rows_iters::iterators_are_safe();
+}
+
+/// Every command leaves a sound exporter sound, whatever its handles are lent as.
+pub(crate) fn steps_keep_sound()
+    ensures { StepsKeepSound }
+{
+    rows_are_safe();
+    pybuf_state::reading_keeps();
 }
 
 /// Every command leaves a sound exporter sound.
@@ -119,10 +127,10 @@ pub fn shown_texts_are_one_line()
     pybuf_state::reading_keeps();
 }
 
-/// Of its loans a command looks at which handles are known, and at what is lent for those whose bytes
-/// it reads.
-pub fn loans_alike_do_the_same()
-    ensures { LoansAlikeDoTheSame }
+/// Of what its handles name a command asks which of them are known, and what is lent for those whose bytes it
+/// reads.
+pub fn names_alike_do_the_same()
+    ensures { NamesAlikeDoTheSame }
 {}
 
 /// Every item of an unreleased view of a sound exporter is read as the values of its format's fields:

@@ -1,6 +1,7 @@
 //! Exporters of bytes, the views of them, and the iterators over them.
 #![tactic(auto)]
 
+mod closing;
 mod direct;
 mod exporter;
 mod laws;
@@ -10,11 +11,10 @@ mod reading;
 pub use exporter::ExporterState;
 pub use laws::{
     commands_keep_sound, fresh_replies_are_copies, items_are_read, iteration_changes_nothing_else,
-    iterators_give_the_bytes, iterators_stay, lengths_stay, loans_alike_do_the_same,
+    iterators_give_the_bytes, iterators_stay, lengths_stay, names_alike_do_the_same,
     others_leave_iterators, reading_in_place_changes_nothing, readonly_bytes_stay,
     refused_commands_change_nothing, resizing_is_refused_while_exported, shown_texts_are_one_line,
 };
-pub use pick::source_in_place;
 pub use pybuf_command::{
     ExporterKind, Loan, LoanList, LocalCommand, LocalReply, PropertyName, Subject, Verb,
     handles_of, handles_read,
@@ -28,4 +28,3 @@ pub use pybuf_rows_methods::{lents_are_paired, names_are_found};
 pub use pybuf_rows_reads::lists_hold_the_items;
 pub use pybuf_rows_writes::{assignments_are_by_value, writes_are_seen};
 pub use pybuf_state::copies_are_faithful;
-pub use reading::reads_in_place;

@@ -1,41 +1,24 @@
--- Bytes that are lent from where they lie, or that were put together.
+-- Bytes of arguments that may be missing, of many, and in a vector.
 use Rattle.std.specs.Prelude.{◌≡◌, ℕ, List, map, Option, Some, None, Result, Ok, Err}
 use Rattle.pybuf_value.specs.declared.faults.Fault.{Fault}
 use Rattle.pybuf_value.specs.declared.faults.Fault.TheVariants as fault
 use Rattle.pybuf_value.specs.declared.halt.Halt.{Halt}
 use Rattle.pybuf_value.specs.declared.halt.Halt.TheVariants as halt
 use Rattle.pybuf_value.specs.declared.snaps.Snap.{Snap}
-use Rattle.pybuf_value.specs.declared.snaps.SnapKind.{SnapKind}
 use Rattle.pybuf_value.specs.Snaps.{string_of_named}
 use Rattle.std.specs.Global.{Vec}
-use Rattle.pybuf_methods.specs.declared.lent.Lent.{Lent}
-use Rattle.pybuf_methods.specs.declared.lent.Lent.TheVariants as lent
-
--- the bytes
-abbrev pub lent_bytes : Lent → List ℕ
-lent_bytes (lent.Lies bytes) = bytes.now
-lent_bytes (lent.Gathered bytes) = bytes.items
+use Rattle.pybuf_value.specs.declared.lent.Lent.{Lent}
+use Rattle.pybuf_value.specs.Lent.{lent_bytes}
 
 abbrev pub lent_option : Option Lent → Option (List ℕ)
 lent_option (Some l) = Some (lent_bytes l)
 lent_option None = None
 
--- a result is these bytes, or their refusal, unless memory runs out
-abbrev pub Lends : Result (List ℕ) Fault → Result Lent Halt → Type 0
-Lends wanted (Ok l) = wanted ≡ Ok (lent_bytes l)
-Lends wanted (Err (halt.Refused f)) = wanted ≡ Err f
-Lends wanted (Err halt.NoMemory) = Unit {0}
-
--- the same where there may be none
+-- a result is these bytes where any are wanted, or their refusal, unless memory runs out
 abbrev pub LendsSome : Result (Option (List ℕ)) Fault → Result (Option Lent) Halt → Type 0
 LendsSome wanted (Ok l) = wanted ≡ Ok (lent_option l)
 LendsSome wanted (Err (halt.Refused f)) = wanted ≡ Err f
 LendsSome wanted (Err halt.NoMemory) = Unit {0}
-
--- what kind of thing a handle names
-abbrev pub kind_of_named : Option Snap → Option SnapKind
-kind_of_named (Some snap) = Some snap.kind
-kind_of_named None = None
 
 -- the bytes of what is Python's `bytes` or `bytearray`; a handle that was never given is refused first
 abbrev pub string_or : Option (List ℕ) → Result (List ℕ) Fault

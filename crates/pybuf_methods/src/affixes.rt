@@ -5,7 +5,7 @@ ghost use Rattle.pybuf_search.specs.Affixes.{any_of, single_or_any_of, test_in};
 ghost use Rattle.pybuf_search.specs.Bounds.{between_bounds};
 ghost use Rattle.pybuf_methods.specs.Affixes as spec;
 
-use crate::lent::{Names, bytes_of, part_of};
+use crate::contents::{Contents, bytes_of, part_of};
 use pybuf_search::{begins_with, between, ends_with};
 use pybuf_value::{Halt, Scalar, Value};
 use std::alloc::Global;
@@ -28,7 +28,7 @@ fn stands_at(end: End, bytes: &[u8], affix: &[u8]) -> bool
 }
 
 /// Whether one of some affixes stands at an end. They are looked at in order, up to the first that does.
-fn any_stands<N: Names>(
+fn any_stands<N: Contents>(
     alloc: Global,
     end: End,
     bytes: &[u8],
@@ -47,7 +47,7 @@ fn any_stands<N: Names>(
 }
 
 /// The same of one value, or of a tuple of them.
-fn affix_stands<N: Names>(
+fn affix_stands<N: Contents>(
     alloc: Global,
     end: End,
     bytes: &[u8],
@@ -64,7 +64,7 @@ fn affix_stands<N: Names>(
 }
 
 /// The same between bounds; false where the start passes the end, whatever the affix is.
-pub(crate) fn stands_between<N: Names>(
+pub(crate) fn stands_between<N: Contents>(
     alloc: Global,
     end: End,
     bytes: &[u8],

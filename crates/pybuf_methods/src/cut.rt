@@ -10,12 +10,12 @@ ghost use Rattle.pybuf_bytes.specs.declared.methods.MethodReply.TheVariants as r
 ghost use Rattle.pybuf_methods.specs.Cut as spec;
 ghost use Rattle.pybuf_methods.specs.Lent.{lent_option};
 
+use crate::contents::{Contents, bytes_given, bytes_of};
 use crate::given::{at_most_one, at_most_two, count_or, flag_given, one};
-use crate::lent::{Lent, Names, bytes_given, bytes_of};
 use pybuf_bytes::MethodReply;
 use pybuf_letters::{rsplit_at_blanks, split_at_blanks, split_lines, strip_left, strip_right};
 use pybuf_search::{without_prefix, without_suffix};
-use pybuf_value::{ByteList, ByteLists, Fault, Halt, Made, Value};
+use pybuf_value::{ByteList, ByteLists, Fault, Halt, Lent, Made, Value};
 use std::alloc::Global;
 
 /// A copy of bytes.
@@ -36,7 +36,7 @@ fn slice_of<'a>(given: &'a Option<Lent<'a>>) -> Option<&'a [u8]>
 }
 
 /// Without the bytes of a set, or the blanks, at both ends.
-pub(crate) fn strip<N: Names>(
+pub(crate) fn strip<N: Contents>(
     alloc: Global,
     bytes: &[u8],
     args: &[Value],
@@ -51,7 +51,7 @@ pub(crate) fn strip<N: Names>(
 }
 
 /// The same on the left alone.
-pub(crate) fn lstrip<N: Names>(
+pub(crate) fn lstrip<N: Contents>(
     alloc: Global,
     bytes: &[u8],
     args: &[Value],
@@ -66,7 +66,7 @@ pub(crate) fn lstrip<N: Names>(
 }
 
 /// The same on the right alone.
-pub(crate) fn rstrip<N: Names>(
+pub(crate) fn rstrip<N: Contents>(
     alloc: Global,
     bytes: &[u8],
     args: &[Value],
@@ -81,7 +81,7 @@ pub(crate) fn rstrip<N: Names>(
 }
 
 /// Without a prefix.
-pub(crate) fn removeprefix<N: Names>(
+pub(crate) fn removeprefix<N: Contents>(
     alloc: Global,
     bytes: &[u8],
     args: &[Value],
@@ -96,7 +96,7 @@ pub(crate) fn removeprefix<N: Names>(
 }
 
 /// Without a suffix.
-pub(crate) fn removesuffix<N: Names>(
+pub(crate) fn removesuffix<N: Contents>(
     alloc: Global,
     bytes: &[u8],
     args: &[Value],
@@ -147,7 +147,7 @@ fn parts_from_right(
 }
 
 /// The parts between matches or runs of blanks, from the left.
-pub(crate) fn split<N: Names>(
+pub(crate) fn split<N: Contents>(
     alloc: Global,
     bytes: &[u8],
     args: &[Value],
@@ -163,7 +163,7 @@ pub(crate) fn split<N: Names>(
 }
 
 /// The same from the right.
-pub(crate) fn rsplit<N: Names>(
+pub(crate) fn rsplit<N: Contents>(
     alloc: Global,
     bytes: &[u8],
     args: &[Value],
@@ -209,7 +209,7 @@ fn three(
 }
 
 /// What stands before the first match, the separator, and what stands behind it.
-pub(crate) fn partition<N: Names>(
+pub(crate) fn partition<N: Contents>(
     alloc: Global,
     bytes: &[u8],
     args: &[Value],
@@ -228,7 +228,7 @@ pub(crate) fn partition<N: Names>(
 }
 
 /// What stands before the last match, the separator, and what stands behind it.
-pub(crate) fn rpartition<N: Names>(
+pub(crate) fn rpartition<N: Contents>(
     alloc: Global,
     bytes: &[u8],
     args: &[Value],

@@ -2,12 +2,12 @@
 ghost use Rattle.pybuf_methods.specs.Given as spec;
 ghost use Rattle.pybuf_methods.specs.Lent.{LendsEach};
 
-use crate::lent::{Lent, Names, part_of};
-use pybuf_value::{Fault, Halt, Scalar, Value};
+use crate::contents::{Contents, part_of};
+use pybuf_value::{Fault, Halt, Lent, Scalar, Value};
 use std::alloc::Global;
 
 /// The bytes of each part of a list or a tuple.
-fn each_in<'a, N: Names>(
+fn each_in<'a, N: Contents>(
     alloc: Global,
     parts: &'a [Scalar],
     names: &'a N,
@@ -23,7 +23,7 @@ fn each_in<'a, N: Names>(
 }
 
 /// The bytes of each part of a list or a tuple.
-pub(crate) fn lists_in<'a, N: Names>(
+pub(crate) fn lists_in<'a, N: Contents>(
     alloc: Global,
     value: &'a Value,
     names: &'a N,

@@ -3,17 +3,17 @@
 
 mod affixes;
 mod arity;
+mod contents;
 mod cut;
 mod given;
 mod join;
-mod lent;
 mod methods;
 mod plain;
 mod shaped;
 mod sought;
 
 pub use arity::{fewest, most, takes, wrong_numbers_are_refused};
-pub use lent::{ByLender, Lent, Names, content_of_snap, run_of_snap};
+pub use contents::{ByLender, Contents};
 pub use methods::{apply_method, reply_of};
 pub use shaped::hex_of;
 pub use sought::contains_in;

@@ -3,7 +3,7 @@ ghost use Rattle.std.specs.Prelude.{◌≡◌, IfOk};
 ghost use Rattle.pybuf_value.specs.Halting.{Gives, outcome_of};
 ghost use Rattle.pybuf_methods.specs.Methods.{method_reply};
 
-use crate::lent::{ByLender, Names};
+use crate::contents::{ByLender, Contents};
 use crate::{cut, plain, shaped, sought};
 use pybuf_bytes::{MethodCall, MethodName, MethodReply};
 use pybuf_letters::{
@@ -14,7 +14,7 @@ use std::alloc::Global;
 
 /// What a method of the bytes answers, by its name and arguments, as `apply_method` says it, where what
 /// handles name is read from where it lies.
-pub fn reply_of<N: Names>(
+pub fn reply_of<N: Contents>(
     alloc: Global,
     bytes: &[u8],
     name: MethodName,

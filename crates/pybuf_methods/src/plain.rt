@@ -4,9 +4,9 @@ ghost use Rattle.pybuf_value.specs.Halting.{Gives};
 ghost use Rattle.pybuf_letters.specs.Cases as cases;
 ghost use Rattle.pybuf_methods.specs.Plain as spec;
 
+use crate::contents::{Contents, like_in, part_of};
 use crate::given::{count_in, done, none, one};
 use crate::join::lists_in;
-use crate::lent::{Names, like_in, part_of};
 use pybuf_bytes::MethodReply;
 use pybuf_value::{ByteList, Fault, Halt, Value};
 use std::alloc::Global;
@@ -65,7 +65,7 @@ pub(crate) fn title(alloc: Global, bytes: &[u8], args: &[Value]) -> Result<Metho
 }
 
 /// The bytes, and others behind them.
-pub(crate) fn add<N: Names>(
+pub(crate) fn add<N: Contents>(
     alloc: Global,
     bytes: &[u8],
     args: &[Value],
@@ -80,7 +80,7 @@ pub(crate) fn add<N: Names>(
 }
 
 /// The same, where the others may be the bytes of any view.
-pub(crate) fn concat<N: Names>(
+pub(crate) fn concat<N: Contents>(
     alloc: Global,
     bytes: &[u8],
     args: &[Value],
@@ -107,7 +107,7 @@ pub(crate) fn mul(alloc: Global, bytes: &[u8], args: &[Value]) -> Result<MethodR
 }
 
 /// The parts of a list, with the bytes between each two.
-pub(crate) fn join<N: Names>(
+pub(crate) fn join<N: Contents>(
     alloc: Global,
     bytes: &[u8],
     args: &[Value],

@@ -8,16 +8,16 @@ ghost use Rattle.pybuf_shaping.specs.Arguments as arguments;
 ghost use Rattle.pybuf_shaping.specs.Digits.{hex_text, bytes_of_hex};
 ghost use Rattle.pybuf_shaping.specs.Padding.{centered, justified_left, justified_right};
 ghost use Rattle.pybuf_methods.specs.Shaped as spec;
-ghost use Rattle.pybuf_methods.specs.Lent.{lent_bytes, Lends};
+ghost use Rattle.pybuf_value.specs.Lent.{lent_bytes, Lends};
 
+use crate::contents::{Contents, bytes_of, fill_of, separator_given};
 use crate::given::{
     at_most_one, at_most_two, count_in, count_or, done, one, one_or_two, text_given, two,
     two_or_three,
 };
-use crate::lent::{Lent, Names, bytes_of, fill_of, separator_given};
 use pybuf_bytes::{MethodReply, decode_text};
 use pybuf_shaping::{identity_table, tab_size};
-use pybuf_value::{ByteList, Fault, Halt, Scalar, Text, Value, text_in};
+use pybuf_value::{ByteList, Fault, Halt, Lent, Scalar, Text, Value, text_in};
 use std::alloc::Global;
 
 /// Hexadecimal digits, or why not.
@@ -41,7 +41,11 @@ fn bytes_of_digits(alloc: Global, text: &Text) -> Result<ByteList, Halt>
 
 /// The table of 256 bytes that a value is read as; what can't be read is a wrong value. Python's `None` is
 /// the one by which each byte stays.
-fn table_in<'a, N: Names>(alloc: Global, value: &'a Value, names: &'a N) -> Result<Lent<'a>, Halt>
+fn table_in<'a, N: Contents>(
+    alloc: Global,
+    value: &'a Value,
+    names: &'a N,
+) -> Result<Lent<'a>, Halt>
     ensures table { Lends (arguments.table_in (N.pairs names.now) value.now) result }
     ensures full { IfOk result (λ table. length (lent_bytes table) ≡ 256) }
 {
@@ -62,7 +66,7 @@ fn table_in<'a, N: Names>(alloc: Global, value: &'a Value, names: &'a N) -> Resu
 }
 
 /// The bytes to be dropped: none where none are given.
-fn dropped_given<'a, N: Names>(
+fn dropped_given<'a, N: Contents>(
     alloc: Global,
     value: Option<&'a Value>,
     names: &'a N,
@@ -76,7 +80,7 @@ fn dropped_given<'a, N: Names>(
 }
 
 /// Bytes mapped by a table, or why not.
-fn mapped<N: Names>(
+fn mapped<N: Contents>(
     alloc: Global,
     bytes: &[u8],
     table: &Value,
@@ -110,7 +114,7 @@ fn text_of(
 /// it is neither a text nor bytes; then with `TypeError` and `OverflowError` by the size; then, where there
 /// are bytes and the size isn't 0, with `ValueError` for a separator that isn't one byte below 128, and with
 /// `OverflowError` where the text is longer than `isize::MAX`.
-pub fn hex_of<N: Names>(
+pub fn hex_of<N: Contents>(
     alloc: Global,
     bytes: &[u8],
     separator: Option<&Value>,
@@ -125,7 +129,7 @@ pub fn hex_of<N: Names>(
 }
 
 /// The method of this name.
-pub(crate) fn hex<N: Names>(
+pub(crate) fn hex<N: Contents>(
     alloc: Global,
     bytes: &[u8],
     args: &[Value],
@@ -149,7 +153,7 @@ pub(crate) fn fromhex(alloc: Global, args: &[Value]) -> Result<MethodReply, Halt
 }
 
 /// The width and the fill byte of padding.
-fn width_and_fill<N: Names>(args: &[Value], names: &N) -> Result<(isize, u8), Fault>
+fn width_and_fill<N: Contents>(args: &[Value], names: &N) -> Result<(isize, u8), Fault>
     ensures { result ≡ spec.width_and_fill (N.pairs names.now) args.now }
 {
     let (width, fill) = one_or_two(args)?;
@@ -159,7 +163,7 @@ fn width_and_fill<N: Names>(args: &[Value], names: &N) -> Result<(isize, u8), Fa
 }
 
 /// The bytes in the middle of a width.
-pub(crate) fn center<N: Names>(
+pub(crate) fn center<N: Contents>(
     alloc: Global,
     bytes: &[u8],
     args: &[Value],
@@ -173,7 +177,7 @@ pub(crate) fn center<N: Names>(
 }
 
 /// The bytes on the left of a width.
-pub(crate) fn ljust<N: Names>(
+pub(crate) fn ljust<N: Contents>(
     alloc: Global,
     bytes: &[u8],
     args: &[Value],
@@ -187,7 +191,7 @@ pub(crate) fn ljust<N: Names>(
 }
 
 /// The bytes on the right of a width.
-pub(crate) fn rjust<N: Names>(
+pub(crate) fn rjust<N: Contents>(
     alloc: Global,
     bytes: &[u8],
     args: &[Value],
@@ -221,7 +225,7 @@ pub(crate) fn expandtabs(alloc: Global, bytes: &[u8], args: &[Value]) -> Result<
 }
 
 /// A table of counterparts.
-pub(crate) fn maketrans<N: Names>(
+pub(crate) fn maketrans<N: Contents>(
     alloc: Global,
     args: &[Value],
     names: &N,
@@ -236,7 +240,7 @@ pub(crate) fn maketrans<N: Names>(
 }
 
 /// Bytes mapped by a table.
-pub(crate) fn translate<N: Names>(
+pub(crate) fn translate<N: Contents>(
     alloc: Global,
     bytes: &[u8],
     args: &[Value],
@@ -250,7 +254,7 @@ pub(crate) fn translate<N: Names>(
 }
 
 /// Others in place of matches, of all where no number is given.
-pub(crate) fn replace<N: Names>(
+pub(crate) fn replace<N: Contents>(
     alloc: Global,
     bytes: &[u8],
     args: &[Value],

@@ -4,17 +4,17 @@ ghost use Rattle.pybuf_value.specs.Halting.{Gives};
 ghost use Rattle.pybuf_search.specs.Bounds.{adjusted};
 ghost use Rattle.pybuf_search.specs.Ranges.{place_in_range, number_in_range};
 ghost use Rattle.pybuf_search.specs.Places as places;
-ghost use Rattle.pybuf_methods.specs.Lent.{Lends};
+ghost use Rattle.pybuf_value.specs.Lent.{Lends};
 ghost use Rattle.pybuf_methods.specs.Sought as spec;
 
 use crate::affixes::{End, stands_between};
+use crate::contents::{Contents, bytes_of};
 use crate::given::{bound_given, one_to_three};
-use crate::lent::{Lent, Names, bytes_of};
 use pybuf_bytes::MethodReply;
 use pybuf_search::{
     adjust_indices, first_place_in_range, holds_needle, last_place_in_range, number_in_range,
 };
-use pybuf_value::{ByteOr, Fault, Halt, Value, index_of};
+use pybuf_value::{ByteOr, Fault, Halt, Lent, Value, index_of};
 use std::alloc::Global;
 
 /// One byte.
@@ -25,7 +25,7 @@ fn one_byte<'a>(alloc: Global, byte: u8) -> Result<Lent<'a>, Halt>
 }
 
 /// What is searched for: a number as one byte, and any other value as the bytes that it is read as.
-fn sought<'a, N: Names>(alloc: Global, value: &'a Value, names: &'a N) -> Result<Lent<'a>, Halt>
+fn sought<'a, N: Contents>(alloc: Global, value: &'a Value, names: &'a N) -> Result<Lent<'a>, Halt>
     ensures { Lends (spec.sought_in (N.pairs names.now) value.now) result }
 {
     match index_of(value) {
@@ -41,7 +41,7 @@ fn sought<'a, N: Names>(alloc: Global, value: &'a Value, names: &'a N) -> Result
 /// truth value as 0 or 1, as one byte, and any other value as the bytes that it is read as.
 ///
 /// Refused with `ValueError` for a number outside `0..256`, and else as `bytes_from_object` refuses.
-pub fn contains_in<N: Names>(
+pub fn contains_in<N: Contents>(
     alloc: Global,
     bytes: &[u8],
     value: &Value,
@@ -85,7 +85,7 @@ fn matches_between(bytes: &[u8], needle: &[u8], start: Option<i128>, end: Option
 }
 
 /// The first place between the bounds.
-fn place<N: Names>(
+fn place<N: Contents>(
     alloc: Global,
     bytes: &[u8],
     args: &[Value],
@@ -101,7 +101,7 @@ fn place<N: Names>(
 }
 
 /// The last place between the bounds.
-fn rplace<N: Names>(
+fn rplace<N: Contents>(
     alloc: Global,
     bytes: &[u8],
     args: &[Value],
@@ -137,7 +137,7 @@ fn found_place(place: Option<usize>) -> Result<MethodReply, Fault>
 }
 
 /// The first place, or -1.
-pub(crate) fn find<N: Names>(
+pub(crate) fn find<N: Contents>(
     alloc: Global,
     bytes: &[u8],
     args: &[Value],
@@ -150,7 +150,7 @@ pub(crate) fn find<N: Names>(
 }
 
 /// The last place, or -1.
-pub(crate) fn rfind<N: Names>(
+pub(crate) fn rfind<N: Contents>(
     alloc: Global,
     bytes: &[u8],
     args: &[Value],
@@ -163,7 +163,7 @@ pub(crate) fn rfind<N: Names>(
 }
 
 /// The first place.
-pub(crate) fn index<N: Names>(
+pub(crate) fn index<N: Contents>(
     alloc: Global,
     bytes: &[u8],
     args: &[Value],
@@ -177,7 +177,7 @@ pub(crate) fn index<N: Names>(
 }
 
 /// The last place.
-pub(crate) fn rindex<N: Names>(
+pub(crate) fn rindex<N: Contents>(
     alloc: Global,
     bytes: &[u8],
     args: &[Value],
@@ -191,7 +191,7 @@ pub(crate) fn rindex<N: Names>(
 }
 
 /// The number of matches.
-pub(crate) fn count<N: Names>(
+pub(crate) fn count<N: Contents>(
     alloc: Global,
     bytes: &[u8],
     args: &[Value],
@@ -218,7 +218,7 @@ fn affix_given(args: &[Value]) -> Result<(&Value, Option<i128>, Option<i128>), F
 }
 
 /// Whether the bytes between the bounds begin with an affix.
-pub(crate) fn startswith<N: Names>(
+pub(crate) fn startswith<N: Contents>(
     alloc: Global,
     bytes: &[u8],
     args: &[Value],
@@ -232,7 +232,7 @@ pub(crate) fn startswith<N: Names>(
 }
 
 /// Whether they end with one.
-pub(crate) fn endswith<N: Names>(
+pub(crate) fn endswith<N: Contents>(
     alloc: Global,
     bytes: &[u8],
     args: &[Value],

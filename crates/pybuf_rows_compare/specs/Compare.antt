@@ -1,6 +1,6 @@
 -- `compare`: bytes and bytearrays by their bytes, a view by its items ("Value comparisons" of Python's
 -- language reference, and `memoryview.__eq__` of "Binary Sequence Types").
-use Rattle.std.specs.Prelude.{ℕ, ◌==◌, Bool, true, false, ◌&&◌, ◌||◌, not, List, [], ◌∷◌, Option, Some, None, Result, Ok, Err}
+use Rattle.std.specs.Prelude.{ℕ, ◌==◌, Bool, false, ◌&&◌, ◌||◌, not, List, [], ◌∷◌, Option, Some, None, Result, Ok, Err}
 use Rattle.pybuf_value.specs.declared.faults.Fault.{Fault}
 use Rattle.pybuf_value.specs.declared.faults.Fault.TheVariants as fault
 use Rattle.pybuf_value.specs.declared.values.Scalar.TheVariants as scalar
@@ -13,7 +13,7 @@ use Rattle.pybuf_value.specs.declared.snaps.SnapKind.{SnapKind}
 use Rattle.pybuf_value.specs.declared.snaps.SnapKind.TheVariants as snap_kind
 use Rattle.pybuf_value.specs.Refusing.{◌>>=◌, unless}
 use Rattle.pybuf_value.specs.Order.{order_of, answers, is_order}
-use Rattle.pybuf_value.specs.Snaps.{content_of}
+use Rattle.pybuf_value.specs.Snaps.{content_of, is_iterator}
 use Rattle.pybuf_command.specs.declared.kinds.ExporterKind.{ExporterKind}
 use Rattle.pybuf_command.specs.declared.kinds.ExporterKind.TheVariants as kind
 use Rattle.pybuf_command.specs.declared.kinds.Subject.{Subject}
@@ -83,14 +83,10 @@ abbrev pub is_same_view : ℕ → Value → List Lent → Bool
 is_same_view k (value.One (scalar.Handle h)) lents = is_lent_view k lents
 is_same_view k _ lents = false
 
-abbrev pub is_iterator_kind : SnapKind → Bool
-is_iterator_kind snap_kind.Iterator = true
-is_iterator_kind _ = false
-
 -- Two views are equal by their items. A released one is equal to none, and an exporter counts as its whole
 -- view.
 abbrev pub equals_snap : Snap → Option Snap → Bool
-equals_snap left (Some right) = not (left.released || right.released) && (not (is_iterator_kind right.kind) && same_view left right)
+equals_snap left (Some right) = not (left.released || right.released) && (not (is_iterator right.kind) && same_view left right)
 equals_snap left None = false
 
 -- the same view is equal to itself, also where it was released

@@ -1,46 +1,33 @@
 //! `compare`: bytes and bytearrays by their bytes, a view by its items. Nothing is copied for it.
-ghost use Rattle.std.specs.Prelude.{◌≡◌, ℕ, List, [], ◌∷◌, length, Option, Some, Ok, Err, true, false, IfOk, MatchResult, ◌||◌};
-ghost use Rattle.std.specs.Option.{option_copied, ForSome};
+ghost use Rattle.std.specs.Prelude.{◌≡◌, ℕ, length, Some, Ok, Err, true, false, IfOk, MatchResult};
 ghost use Rattle.pybuf_value.specs.declared.faults.Fault.TheVariants as faults;
 ghost use Rattle.pybuf_value.specs.declared.values.Scalar.TheVariants as scalars;
 ghost use Rattle.pybuf_value.specs.declared.values.Value.TheVariants as values;
 ghost use Rattle.pybuf_value.specs.Order as order;
 ghost use Rattle.pybuf_value.specs.Refusing.{unless};
-ghost use Rattle.pybuf_value.specs.Snaps as value_spec;
-ghost use Rattle.pybuf_desc.specs.Contiguous.{is_contiguous_layout};
-ghost use Rattle.pybuf_desc.specs.Items.{content_of_layout};
 ghost use Rattle.pybuf_desc.specs.Layouts.{LiesInside};
 ghost use Rattle.pybuf_command.specs.declared.kinds.ExporterKind.{ExporterKind};
-ghost use Rattle.pybuf_command.specs.declared.kinds.Subject.TheVariants as subjects;
-ghost use Rattle.pybuf_command.specs.declared.loans.Loan.{Loan};
+ghost use Rattle.pybuf_command.specs.declared.kinds.ExporterKind.TheVariants as kinds;
 ghost use Rattle.pybuf_command.specs.Handles.{handle_of_value};
-ghost use Rattle.pybuf_command.specs.Fits.{LoansFit, fits, fits_snap};
+ghost use Rattle.pybuf_command.specs.Fits.{fits_snap};
 ghost use Rattle.pybuf_state.specs.Exporter.{new_exporter, view_at};
-ghost use Rattle.pybuf_state.specs.Loans.{lent_as, lent_for_each, loan_of_snap, snap_in, subject_in};
-ghost use Rattle.pybuf_state.specs.Keeps as keeps;
+ghost use Rattle.pybuf_state.specs.Loans.{lent_as, lents_by, snap_in, subject_in};
+ghost use Rattle.pybuf_state.specs.Names as names_spec;
 ghost use Rattle.pybuf_state.specs.Snaps.{snap_of_exporter, snap_of_subject, snap_of_view};
 ghost use Rattle.pybuf_state.specs.Answers.{exporter_of, IsWhole, Reads};
 ghost use Rattle.pybuf_rows_compare.specs.Compare as spec;
 
-use pybuf_command::{ExporterKind, Loan, LoanList, LocalReply, Subject, loan_of};
+use pybuf_command::{ExporterKind, LocalReply, Subject};
 use pybuf_equality::{equal_to_bytes, equal_to_content, equal_views};
-use pybuf_state::{Parts, StoredView, bytes_in_a_row, given};
+use pybuf_state::{
+    Meaning, Names, Other, Parts, StoredView, given, kind_of_meaning, run_of_meaning,
+};
 use pybuf_value::{
     CompareOp, Fault, Halt, Made, Scalar, Snap, SnapKind, Value, compare_bytes, is_order,
 };
 use std::alloc::Global;
 
 // ---- bytes and bytearrays
-
-/// Refuses a vector, which isn't compared.
-fn check_string(kind: ExporterKind) -> Result<(), Fault>
-    ensures { MatchResult result (λ _. unless (keeps.is_vector kind) faults.UnknownName ≡ Ok true) (λ f. unless (keeps.is_vector kind) faults.UnknownName ≡ Err f) }
-{
-    match kind {
-        ExporterKind::Vector { readonly: _ } => Err(Fault::UnknownName),
-        _ => Ok(()),
-    }
-}
 
 /// Whether an operator asks for an order that Python's `bytes` hasn't: that with a view.
 fn has_no_order(kind: ExporterKind, op: CompareOp, other: SnapKind) -> bool
@@ -52,22 +39,14 @@ fn has_no_order(kind: ExporterKind, op: CompareOp, other: SnapKind) -> bool
     }
 }
 
-/// The bytes of what was lent of another exporter, where they lie together.
-fn content_in_a_row(snap: &Snap) -> Result<&[u8], Fault>
-    ensures { MatchResult result (λ row. value_spec.content_of (Some snap.now) ≡ Ok row.now) (λ fault. value_spec.content_of (Some snap.now) ≡ Err fault) }
+/// The same with what a handle names.
+#[tactic(auto, using(crate::proofs::Comparing::no_order_by_kind))]
+fn has_no_order_with(parts: &Parts, op: CompareOp, other: Meaning<'_>) -> bool
+    ensures { result ≡ spec.has_no_order_with parts.now.kind op (snap_in (exporter_of parts.now) (names_spec.meant other.entry)) }
 {
-    match snap.kind {
-        SnapKind::Iterator => Err(Fault::Kind),
-        SnapKind::View => {
-            if snap.released {
-                return Err(Fault::Value);
-            }
-            if !snap.contiguous {
-                return Err(Fault::Kind);
-            }
-            Ok(snap.content.as_slice())
-        }
-        _ => Ok(snap.content.as_slice()),
+    match kind_of_meaning(parts, other) {
+        Some(kind) => has_no_order(parts.kind, op, kind),
+        None => false,
     }
 }
 
@@ -81,89 +60,45 @@ fn bytes_compared(bytes: &[u8], op: CompareOp, other: Result<&[u8], Fault>) -> L
     }
 }
 
-/// A string of bytes beside all bytes of an exporter.
+/// A string of bytes beside bytes.
 fn string_and_bytes(parts: &Parts, op: CompareOp, bytes: &[u8]) -> Result<LocalReply, Halt>
-    ensures { (kind : ExporterKind) → Reads (spec.compare_string (exporter_of parts.now) op (Some (snap_of_exporter (new_exporter kind bytes.now)))) (exporter_of parts.now) result }
+    ensures { Reads (spec.compare_string (exporter_of parts.now) op (Some (snap_of_exporter (new_exporter kinds.Bytes bytes.now)))) (exporter_of parts.now) result }
 {
     Ok(bytes_compared(parts.bytes.as_slice(), op, Ok(bytes)))
 }
 
-/// A string of bytes beside a view of an exporter, from where its bytes lie.
-fn string_and_view(
+/// A string of bytes beside what a handle names, from where its bytes lie.
+fn string_and_named<N: Names>(
     parts: &Parts,
     op: CompareOp,
-    lender: &Parts,
-    view: usize,
+    handle: u64,
+    names: &N,
 ) -> Result<LocalReply, Halt>
-    requires lender_whole { IsWhole lender.now }
-    ensures { Reads (spec.compare_string (exporter_of parts.now) op (snap_of_subject (exporter_of lender.now) (subjects.View view))) (exporter_of parts.now) result }
-{
-    let Ok(view) = given(lender, view) else {
-        return Ok(LocalReply::NotImplementedReply);
-    };
-    if has_no_order(parts.kind, op, SnapKind::View) {
-        return Err(Halt::Refused(Fault::Kind));
-    }
-    let row = bytes_in_a_row(lender.bytes.as_slice(), view);
-    Ok(bytes_compared(parts.bytes.as_slice(), op, row))
-}
-
-/// A string of bytes beside what was lent of another exporter.
-fn string_and_snap(parts: &Parts, op: CompareOp, snap: &Snap) -> Result<LocalReply, Halt>
-    ensures { Reads (spec.compare_string (exporter_of parts.now) op (Some snap.now)) (exporter_of parts.now) result }
-{
-    if has_no_order(parts.kind, op, snap.kind) {
-        return Err(Halt::Refused(Fault::Kind));
-    }
-    let row = content_in_a_row(snap);
-    Ok(bytes_compared(parts.bytes.as_slice(), op, row))
-}
-
-/// A string of bytes beside a subject of an exporter, from where its bytes lie.
-fn string_and_subject(
-    parts: &Parts,
-    op: CompareOp,
-    lender: &Parts,
-    lent: Subject,
-) -> Result<LocalReply, Halt>
-    requires lender_whole { IsWhole lender.now }
-    ensures { Reads (spec.compare_string (exporter_of parts.now) op (snap_of_subject (exporter_of lender.now) lent)) (exporter_of parts.now) result }
-{
-    match lent {
-        Subject::Own => string_and_bytes(parts, op, lender.bytes.as_slice()),
-        Subject::View(view) => string_and_view(parts, op, lender, view),
-        Subject::Iter(_) => Ok(LocalReply::NotImplementedReply),
-    }
-}
-
-/// A string of bytes beside what a handle is lent as.
-fn string_and_loan(parts: &Parts, op: CompareOp, loan: Option<&Loan>) -> Result<LocalReply, Halt>
     requires whole { IsWhole parts.now }
-    ensures { Reads (spec.compare_string (exporter_of parts.now) op (snap_in (exporter_of parts.now) (option_copied loan.entry))) (exporter_of parts.now) result }
+    requires fit { N.fit names.now }
+    ensures { Reads (spec.compare_string (exporter_of parts.now) op (snap_in (exporter_of parts.now) (N.named names.now handle))) (exporter_of parts.now) result }
 {
-    match loan {
-        Some(Loan::Own) => string_and_subject(parts, op, parts, Subject::Own),
-        Some(Loan::View(view)) => string_and_subject(parts, op, parts, Subject::View(*view)),
-        Some(Loan::Other(snap)) => string_and_snap(parts, op, snap),
-        _ => Ok(LocalReply::NotImplementedReply),
+    if has_no_order_with(parts, op, names.meaning(handle)) {
+        return Err(Halt::Refused(Fault::Kind));
     }
+    let run = run_of_meaning(parts, names.meaning(handle));
+    Ok(bytes_compared(parts.bytes.as_slice(), op, run))
 }
 
 /// A string of bytes beside a value.
-fn string_and_value(
+fn string_and_value<N: Names>(
     parts: &Parts,
     op: CompareOp,
     other: &Value,
-    loans: &LoanList,
+    names: &N,
 ) -> Result<LocalReply, Halt>
     requires whole { IsWhole parts.now }
-    ensures { Reads (spec.compare_string (exporter_of parts.now) op (spec.other_in other.now (lent_for_each (exporter_of parts.now) loans.now (handle_of_value other.now)))) (exporter_of parts.now) result }
+    requires fit { N.fit names.now }
+    ensures { Reads (spec.compare_string (exporter_of parts.now) op (spec.other_in other.now (lents_by (exporter_of parts.now) (N.named names.now) (handle_of_value other.now)))) (exporter_of parts.now) result }
 {
     match other {
         Value::One(Scalar::Bytes(bytes)) => string_and_bytes(parts, op, bytes.as_slice()),
-        Value::One(Scalar::Handle(handle)) => {
-            string_and_loan(parts, op, loan_of(loans.as_slice(), *handle))
-        }
+        Value::One(Scalar::Handle(handle)) => string_and_named(parts, op, *handle, names),
         _ => Ok(LocalReply::NotImplementedReply),
     }
 }
@@ -174,34 +109,18 @@ fn string_and_value(
 ///
 /// Refused with `UnknownName` for a vector, and with `TypeError` for an order of Python's `bytes` with
 /// a view.
-pub fn of_own(
+pub fn of_own<N: Names>(
     parts: &Parts,
     op: CompareOp,
     other: &Value,
-    loans: &LoanList,
+    names: &N,
 ) -> Result<LocalReply, Halt>
     requires whole { IsWhole parts.now }
-    requires fit { LoansFit loans.now }
-    ensures { Reads (spec.compare_of_own (exporter_of parts.now) op other.now (lent_for_each (exporter_of parts.now) loans.now (handle_of_value other.now))) (exporter_of parts.now) result }
+    requires fit { N.fit names.now }
+    ensures { Reads (spec.compare_of_own (exporter_of parts.now) op other.now (lents_by (exporter_of parts.now) (N.named names.now) (handle_of_value other.now))) (exporter_of parts.now) result }
 {
-    check_string(parts.kind)?;
-    string_and_value(parts, op, other, loans)
-}
-
-/// The same with a handle for which another exporter lends itself or a view, from where its bytes lie.
-pub fn of_own_beside(
-    parts: &Parts,
-    op: CompareOp,
-    handle: u64,
-    lender: &Parts,
-    lent: Subject,
-) -> Result<LocalReply, Halt>
-    requires whole { IsWhole parts.now }
-    requires lender_whole { IsWhole lender.now }
-    ensures { (loans : List (ℕ × Loan)) → Reads (spec.compare_of_own (exporter_of parts.now) op (values.One (scalars.Handle handle)) (lent_for_each (exporter_of parts.now) ((handle, loan_of_snap (snap_of_subject (exporter_of lender.now) lent)) ∷ loans) (handle ∷ []))) (exporter_of parts.now) result }
-{
-    check_string(parts.kind)?;
-    string_and_subject(parts, op, lender, lent)
+    parts.check_string()?;
+    string_and_value(parts, op, other, names)
 }
 
 // ---- views
@@ -248,16 +167,6 @@ fn equals_view(
     equal_views(alloc, bytes, view.layout(), other, other_view.layout())
 }
 
-/// Whether a snap is of an iterator.
-fn is_iterator(kind: SnapKind) -> bool
-    ensures { result ≡ spec.is_iterator_kind kind }
-{
-    match kind {
-        SnapKind::Iterator => true,
-        _ => false,
-    }
-}
-
 /// Whether a view is equal to what was lent of another exporter, as it stood.
 fn equals_snap(alloc: Global, bytes: &[u8], view: &StoredView, snap: &Snap) -> Made<bool>
     requires inside { view.now.released ≡ false → LiesInside (length bytes.now) view.now.layout }
@@ -271,7 +180,7 @@ fn equals_snap(alloc: Global, bytes: &[u8], view: &StoredView, snap: &Snap) -> M
     if snap.released {
         return Ok(false);
     }
-    if is_iterator(snap.kind) {
+    if snap.kind.is_iterator() {
         return Ok(false);
     }
     equal_to_content(alloc, bytes, view.layout(), snap)
@@ -295,47 +204,59 @@ fn equals_subject(parts: &Parts, view: &StoredView, lender: &Parts, lent: Subjec
     }
 }
 
-/// Whether a view is, or is equal to, what a handle is lent as.
-fn equals_loan(parts: &Parts, number: usize, view: &StoredView, loan: Option<&Loan>) -> Made<bool>
-    requires whole { IsWhole parts.now }
-    requires inside { view.now.released ≡ false → LiesInside (length parts.now.bytes.items) view.now.layout }
-    requires given { view_at (exporter_of parts.now) number ≡ Ok view.now }
-    requires fits { ForSome (option_copied loan) (λ l. fits l ≡ true) }
-    ensures { (handle : ℕ) → IfOk result (λ equal. equal ≡ spec.equals_other number (snap_of_view parts.now.bytes.items view.now) (values.One (scalars.Handle handle)) (lent_as handle (subject_in (option_copied loan.entry)) (snap_in (exporter_of parts.now) (option_copied loan.entry)))) }
-{
-    match loan {
-        Some(Loan::Own) => equals_subject(parts, view, parts, Subject::Own),
-        Some(Loan::View(other)) => {
-            if *other == number {
-                return Ok(true);
-            }
-            equals_subject(parts, view, parts, Subject::View(*other))
-        }
-        Some(Loan::Other(snap)) => equals_snap(parts.alloc, parts.bytes.as_slice(), view, snap),
-        _ => Ok(false),
-    }
-}
-
-/// Whether a view is, or is equal to, what a value is or names.
-fn equals_value(
+/// Whether a view is, or is equal to, what a handle names.
+#[tactic(auto, using(crate::proofs::Comparing::equals_other_snap))]
+fn equals_meaning(
     parts: &Parts,
     number: usize,
     view: &StoredView,
-    other: &Value,
-    loans: &LoanList,
+    meaning: Meaning<'_>,
 ) -> Made<bool>
     requires whole { IsWhole parts.now }
     requires inside { view.now.released ≡ false → LiesInside (length parts.now.bytes.items) view.now.layout }
     requires given { view_at (exporter_of parts.now) number ≡ Ok view.now }
-    requires fit { LoansFit loans.now }
-    ensures { IfOk result (λ equal. equal ≡ spec.equals_other number (snap_of_view parts.now.bytes.items view.now) other.now (lent_for_each (exporter_of parts.now) loans.now (handle_of_value other.now))) }
+    requires sound { names_spec.IsSoundMeaning meaning }
+    ensures { (handle : ℕ) → IfOk result (λ equal. equal ≡ spec.equals_other number (snap_of_view parts.now.bytes.items view.now) (values.One (scalars.Handle handle)) (lent_as handle (subject_in (names_spec.meant meaning.entry)) (snap_in (exporter_of parts.now) (names_spec.meant meaning.entry)))) }
+{
+    match meaning {
+        Meaning::Own(Subject::Own) => equals_subject(parts, view, parts, Subject::Own),
+        Meaning::Own(Subject::View(other)) => {
+            if other == number {
+                return Ok(true);
+            }
+            equals_subject(parts, view, parts, Subject::View(other))
+        }
+        Meaning::Own(Subject::Iter(_)) => Ok(false),
+        Meaning::Other(Other::Snap(snap)) => {
+            equals_snap(parts.alloc, parts.bytes.as_slice(), view, snap)
+        }
+        Meaning::Other(Other::Lies { lender, subject }) => {
+            equals_subject(parts, view, lender, subject)
+        }
+        Meaning::Nothing => Ok(false),
+    }
+}
+
+/// Whether a view is, or is equal to, what a value is or names.
+fn equals_value<N: Names>(
+    parts: &Parts,
+    number: usize,
+    view: &StoredView,
+    other: &Value,
+    names: &N,
+) -> Made<bool>
+    requires whole { IsWhole parts.now }
+    requires inside { view.now.released ≡ false → LiesInside (length parts.now.bytes.items) view.now.layout }
+    requires given { view_at (exporter_of parts.now) number ≡ Ok view.now }
+    requires fit { N.fit names.now }
+    ensures { IfOk result (λ equal. equal ≡ spec.equals_other number (snap_of_view parts.now.bytes.items view.now) other.now (lents_by (exporter_of parts.now) (N.named names.now) (handle_of_value other.now))) }
 {
     match other {
         Value::One(Scalar::Bytes(bytes)) => {
             equals_bytes(parts.alloc, parts.bytes.as_slice(), view, bytes.as_slice())
         }
         Value::One(Scalar::Handle(handle)) => {
-            equals_loan(parts, number, view, loan_of(loans.as_slice(), *handle))
+            equals_meaning(parts, number, view, names.meaning(*handle))
         }
         _ => Ok(false),
     }
@@ -356,38 +277,19 @@ fn equality_answer(op: CompareOp, equal: bool) -> bool
 /// view is equal to itself, also where it was released; a released one is equal to nothing else.
 ///
 /// Refused with `UnknownName` where no such view was given, and with `TypeError` for an order.
-pub fn of_view(
+pub fn of_view<N: Names>(
     parts: &Parts,
     view: usize,
     op: CompareOp,
     other: &Value,
-    loans: &LoanList,
+    names: &N,
 ) -> Result<LocalReply, Halt>
     requires whole { IsWhole parts.now }
-    requires fit { LoansFit loans.now }
-    ensures { Reads (spec.compare_of_view (exporter_of parts.now) view op other.now (lent_for_each (exporter_of parts.now) loans.now (handle_of_value other.now))) (exporter_of parts.now) result }
+    requires fit { N.fit names.now }
+    ensures { Reads (spec.compare_of_view (exporter_of parts.now) view op other.now (lents_by (exporter_of parts.now) (N.named names.now) (handle_of_value other.now))) (exporter_of parts.now) result }
 {
     let stored = given(parts, view)?;
     check_equality(op)?;
-    let equal = equals_value(parts, view, stored, other, loans)?;
-    Ok(LocalReply::Truth(equality_answer(op, equal)))
-}
-
-/// The same with a handle for which another exporter lends itself or a view, from where its items lie.
-pub fn of_view_beside(
-    parts: &Parts,
-    view: usize,
-    op: CompareOp,
-    handle: u64,
-    lender: &Parts,
-    lent: Subject,
-) -> Result<LocalReply, Halt>
-    requires whole { IsWhole parts.now }
-    requires lender_whole { IsWhole lender.now }
-    ensures { (loans : List (ℕ × Loan)) → Reads (spec.compare_of_view (exporter_of parts.now) view op (values.One (scalars.Handle handle)) (lent_for_each (exporter_of parts.now) ((handle, loan_of_snap (snap_of_subject (exporter_of lender.now) lent)) ∷ loans) (handle ∷ []))) (exporter_of parts.now) result }
-{
-    let stored = given(parts, view)?;
-    check_equality(op)?;
-    let equal = equals_subject(parts, stored, lender, lent)?;
+    let equal = equals_value(parts, view, stored, other, names)?;
     Ok(LocalReply::Truth(equality_answer(op, equal)))
 }

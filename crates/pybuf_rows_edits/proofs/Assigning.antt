@@ -1,66 +1,14 @@
--- What the code of edits that put bytes in place of others rests on.
-use Rattle.std.proofs.Common.{◌≡◌, ℕ, List, ◌++◌, length, take, drop, Bool, true, false, ap, ◌∙◌, refl, subst, arith, eq-eqb}
-use Rattle.std.specs.Prelude.{◌==◌, if◌then◌else◌, slice_get, Option, Some, None, Result, Ok, Err}
-use Rattle.std.specs.Option.{ok_or, option_map}
+-- As many bytes over those that a slice picks.
+use Rattle.std.proofs.Common.{◌≡◌, ℕ, List, ◌++◌, length, take, drop, Bool, true, false, ap, ◌∙◌, subst, arith, eq-eqb}
+use Rattle.std.specs.Prelude.{◌==◌, if◌then◌else◌}
 use Rattle.std.specs.List.{AllZip, each_same}
 use Rattle.std.proofs.lemmas.Grind.{common_steps}
 use Rattle.pybuf_value.specs.declared.faults.Outcome.{Outcome}
 use Rattle.pybuf_value.specs.declared.faults.Outcome.TheVariants as outcome
-use Rattle.pybuf_value.specs.declared.faults.Fault.{Fault}
 use Rattle.pybuf_value.specs.declared.faults.Fault.TheVariants as fault
-use Rattle.pybuf_value.specs.Refusing.{◌>>=◌, unless}
-use Rattle.pybuf_value.specs.Snaps.{content_of_named}
 use Rattle.pybuf_slice.specs.Parts.{SliceParts, picks_of}
 use Rattle.pybuf_slice.specs.Edits.{assigned_list, MatchOutcome, done_if_equal}
 use Rattle.pybuf_slice.specs.EditLaws.{AsManyKeepTheLength}
-use Rattle.pybuf_desc.specs.Layouts.{Layout}
-use Rattle.pybuf_desc.specs.Items.{content_of_layout}
-use Rattle.pybuf_command.specs.declared.kinds.Subject.TheVariants as subject
-use Rattle.pybuf_command.specs.declared.commands.LocalReply.TheVariants as reply
-use Rattle.pybuf_state.specs.Exporter.{Exporter, View, live_layout}
-use Rattle.pybuf_state.specs.Resizing.{resizable}
-use Rattle.pybuf_state.specs.Snaps.{snap_of_view, snap_of_subject}
-use Rattle.pybuf_rows_edits.specs.Replacing.{replaced_all}
-use Rattle.pybuf_rows_edits.specs.LentBytes.{initialized_by}
-use Rattle.pybuf_rows_edits.proofs.Lending.{refused}
-
--- ---- what a handle names
-
-abbrev layout_found : Option View → Result Layout Fault
-layout_found o = ok_or o fault.UnknownName >>= λ v. unless v.released fault.Value >>= λ _. Ok v.layout
-
-abbrev okay : {X : Type 0} → X → Result X Fault
-okay x = Ok x
-
-view_live : (bytes : List ℕ) (v : View) (b : Bool) (l : Layout) → v.released ≡ b → (unless b fault.Value >>= λ _. okay v.layout) ≡ Ok l → content_of_named (Some (snap_of_view bytes v)) ≡ Ok (content_of_layout bytes l)
-view_live bytes v true l is found = absurd (cc)
-view_live bytes v false l is found =
-    let shown : v.layout ≡ l = cc in
-    rw is (ap (λ (x : Layout). okay (content_of_layout bytes x)) shown)
-
-view_given : (bytes : List ℕ) (o : Option View) (l : Layout) → layout_found o ≡ Ok l → content_of_named (option_map (snap_of_view bytes) o) ≡ Ok (content_of_layout bytes l)
-view_given bytes None l found = absurd (cc)
-view_given bytes (Some v) l found = view_live bytes v v.released l refl found
-
--- those of an unreleased view
-pub view_content : (e : Exporter) (k : ℕ) (l : Layout) → live_layout e k ≡ Ok l → content_of_named (snap_of_subject e (subject.View k)) ≡ Ok (content_of_layout e.bytes l)
-view_content e k l found = view_given e.bytes (slice_get e.views k) l found
-
-view_unreleased : (e : Exporter) (k : ℕ) (v : View) (b : Bool) (l : Layout) → slice_get e.views k ≡ Some v → v.released ≡ b → (unless b fault.Value >>= λ _. okay v.layout) ≡ Ok l → resizable e ≡ Err fault.Buffer
-view_unreleased e k v true l at is found = absurd (cc)
-view_unreleased e k v false l at is found = refused e k v at is
-
-view_there : (e : Exporter) (k : ℕ) (o : Option View) (l : Layout) → slice_get e.views k ≡ o → layout_found o ≡ Ok l → resizable e ≡ Err fault.Buffer
-view_there e k None l at found = absurd (cc)
-view_there e k (Some v) l at found = view_unreleased e k v v.released l at refl found
-
--- because of an unreleased view of it an exporter isn't initialized by that view
-pub view_initializes : (e : Exporter) (k : ℕ) (l : Layout) → live_layout e k ≡ Ok l → initialized_by e (snap_of_subject e (subject.View k)) ≡ Err fault.Buffer
-view_initializes e k l found =
-    ap (λ (r : Result (List ℕ) Fault). r >>= replaced_all e) (view_content e k l found)
-    ∙ ap (λ (r : Result Bool Fault). r >>= λ _. okay (record e { bytes = content_of_layout e.bytes l }, reply.Ok)) (view_there e k (slice_get e.views k) l refl found)
-
--- ---- as many bytes
 
 abbrev is_same : ℕ → ℕ → Type 0
 is_same x y = y ≡ x

@@ -1,25 +1,22 @@
 //! Edits that add bytes.
-ghost use Rattle.std.specs.Prelude.{◌≡◌, ◌<◌, ◌*◌, ◌^◌, ℕ, [], length, None, Some, IfOk};
-ghost use Rattle.std.specs.Option.{option_copied};
-ghost use Rattle.pybuf_value.specs.declared.values.Value.TheVariants as values;
-ghost use Rattle.pybuf_value.specs.declared.values.Scalar.TheVariants as scalars;
+ghost use Rattle.std.specs.Prelude.{◌≡◌, ◌<◌, ◌*◌, ◌^◌, [], length, IfOk};
 ghost use Rattle.pybuf_command.specs.Handles.{handle_of_value};
-ghost use Rattle.pybuf_command.specs.Fits.{LoansFit};
 ghost use Rattle.pybuf_command.specs.declared.kinds.Subject.TheVariants as subjects;
 ghost use Rattle.pybuf_slice.specs.Edits.{repeated_list};
 ghost use Rattle.pybuf_state.specs.Exporter.{exports_of};
-ghost use Rattle.pybuf_state.specs.Loans.{lent_as, lent_for_each, subject_in, snap_in};
+ghost use Rattle.pybuf_state.specs.Loans.{lents_by};
+ghost use Rattle.pybuf_state.specs.Names as names_spec;
 ghost use Rattle.pybuf_state.specs.Snaps.{snap_of_subject};
 ghost use Rattle.pybuf_state.specs.Answers.{exporter_of, IsWhole, Answers};
 ghost use Rattle.pybuf_rows_edits.specs.Growing as spec;
+ghost use Rattle.pybuf_rows_edits.specs.LentBytes as lent_spec;
 
 use crate::counts::count_in;
-use crate::named::{content_in_a_row, content_read};
-use pybuf_command::{ExporterKind, Loan, LoanList, LocalReply, loan_of};
+use pybuf_command::{ExporterKind, LocalReply, Subject};
 use pybuf_slice::SequenceIndexOp;
-use pybuf_state::Parts;
+use pybuf_state::{Meaning, Names, Other, Parts, content_of_other, run_of_other};
 use pybuf_value::{
-    Fault, Halt, Made, Outcome, Scalar, Snap, SnapList, Value, bytes_from_object, value_from_object,
+    Fault, Halt, Made, Outcome, Scalar, SnapList, Value, bytes_from_object, value_from_object,
 };
 use std::alloc::Global;
 
@@ -85,24 +82,18 @@ fn copies_of(alloc: Global, bytes: &[u8], times: usize) -> Made<Vec<u8>>
     Ok(list)
 }
 
-/// Makes the bytes stand there so many times. The further copies are made as one, so that the bytes grow
-/// once.
+/// Makes the bytes stand there so many times: each copy is written where it stays.
 fn repeat_bytes(parts: &mut Parts, times: usize) -> Result<LocalReply, Halt>
     requires { IsWhole parts.old }
     ensures answer { Answers (spec.repeated (exporter_of parts.old) times) (exporter_of parts.old) result (exporter_of parts.new) }
     ensures counted { parts.new.exports ≡ exports_of (exporter_of parts.new) }
 {
     parts.resizable()?;
-    let end = parts.bytes.len();
-    if end as u128 * times as u128 > isize::MAX as u128 {
+    if parts.bytes.len() as u128 * times as u128 > isize::MAX as u128 {
         return Err(Halt::Refused(Fault::Overflow));
     }
-    if times == 0 {
-        parts.remove_range(0, end);
-        return Ok(LocalReply::Ok);
-    }
-    let copies = copies_of(parts.alloc, parts.bytes.as_slice(), times - 1)?;
-    parts.replace_range(end, end, copies.as_slice())?;
+    let copies = copies_of(parts.alloc, parts.bytes.as_slice(), times)?;
+    parts.replace_bytes(copies);
     Ok(LocalReply::Ok)
 }
 
@@ -148,7 +139,7 @@ pub fn imul(parts: &mut Parts, count: &Value) -> Result<LocalReply, Halt>
 /// Adds bytes that lie outside the exporter.
 fn add(parts: &mut Parts, bytes: &[u8]) -> Result<LocalReply, Halt>
     requires { IsWhole parts.old }
-    ensures answer { Answers (spec.extended (exporter_of parts.old) (values.One (scalars.Bytes bytes.now)) []) (exporter_of parts.old) result (exporter_of parts.new) }
+    ensures answer { Answers (lent_spec.bytes_added (exporter_of parts.old) bytes.now) (exporter_of parts.old) result (exporter_of parts.new) }
     ensures counted { parts.new.exports ≡ exports_of (exporter_of parts.new) }
 {
     parts.resizable()?;
@@ -161,7 +152,7 @@ fn add(parts: &mut Parts, bytes: &[u8]) -> Result<LocalReply, Halt>
 /// because of which nothing can be added.
 fn extend_by_view(parts: &Parts, view: usize) -> Result<LocalReply, Halt>
     requires { IsWhole parts.now }
-    ensures { (h : ℕ) → Answers (spec.extended_or_doubled (exporter_of parts.now) (values.One (scalars.Handle h)) (lent_as h (Some (subjects.View view)) (snap_of_subject (exporter_of parts.now) (subjects.View view)))) (exporter_of parts.now) result (exporter_of parts.now) }
+    ensures { Answers (lent_spec.extended_by (exporter_of parts.now) (snap_of_subject (exporter_of parts.now) (subjects.View view))) (exporter_of parts.now) result (exporter_of parts.now) }
 {
     parts.live_layout(view)?;
     Err(Halt::Refused(Fault::Buffer))
@@ -169,34 +160,37 @@ fn extend_by_view(parts: &Parts, view: usize) -> Result<LocalReply, Halt>
 
 /// Adds nothing: an iterator has no bytes.
 fn extend_by_iterator(parts: &Parts, iterator: usize) -> Result<LocalReply, Halt>
-    ensures { (h : ℕ) → Answers (spec.extended_or_doubled (exporter_of parts.now) (values.One (scalars.Handle h)) (lent_as h (Some (subjects.Iter iterator)) (snap_of_subject (exporter_of parts.now) (subjects.Iter iterator)))) (exporter_of parts.now) result (exporter_of parts.now) }
+    ensures { Answers (lent_spec.extended_by (exporter_of parts.now) (snap_of_subject (exporter_of parts.now) (subjects.Iter iterator))) (exporter_of parts.now) result (exporter_of parts.now) }
 {
     parts.iterator(iterator)?;
     Err(Halt::Refused(Fault::Kind))
 }
 
-/// Adds what another exporter lends.
-fn extend_by_other(parts: &mut Parts, snap: &Snap) -> Result<LocalReply, Halt>
-    requires { IsWhole parts.old }
-    ensures answer { (h : ℕ) → Answers (spec.extended_or_doubled (exporter_of parts.old) (values.One (scalars.Handle h)) (lent_as h None (Some snap.now))) (exporter_of parts.old) result (exporter_of parts.new) }
+/// Adds the bytes of something of another exporter.
+fn extend_by_other(parts: &mut Parts, other: Other<'_>) -> Result<LocalReply, Halt>
+    requires whole { IsWhole parts.old }
+    requires sound { names_spec.IsSoundOther other }
+    ensures answer { Answers (lent_spec.extended_by (exporter_of parts.old) (names_spec.snap_of_other other.entry)) (exporter_of parts.old) result (exporter_of parts.new) }
     ensures counted { parts.new.exports ≡ exports_of (exporter_of parts.new) }
 {
-    let bytes = content_read(snap)?;
-    add(parts, bytes)
+    let bytes = content_of_other(parts.alloc, other)?;
+    add(parts, bytes.as_slice())
 }
 
-/// Adds what a handle is lent as: the bytes themselves once more for a handle of the exporter itself.
-fn extend_by_loan(parts: &mut Parts, loan: Option<&Loan>) -> Result<LocalReply, Halt>
-    requires { IsWhole parts.old }
-    ensures answer { (h : ℕ) → Answers (spec.extended_or_doubled (exporter_of parts.old) (values.One (scalars.Handle h)) (lent_as h (subject_in (option_copied loan.entry)) (snap_in (exporter_of parts.old) (option_copied loan.entry)))) (exporter_of parts.old) result (exporter_of parts.new) }
+/// Adds the bytes of what a handle names: those of the exporter itself stand there once more.
+#[tactic(auto, using(crate::proofs::Lending::other_extends))]
+fn extend_by_meaning(parts: &mut Parts, meaning: Meaning<'_>) -> Result<LocalReply, Halt>
+    requires whole { IsWhole parts.old }
+    requires sound { names_spec.IsSoundMeaning meaning }
+    ensures answer { Answers (lent_spec.extended_as (exporter_of parts.old) (names_spec.meant meaning.entry)) (exporter_of parts.old) result (exporter_of parts.new) }
     ensures counted { parts.new.exports ≡ exports_of (exporter_of parts.new) }
 {
-    match loan {
-        Some(Loan::Own) => repeat(parts, 2),
-        Some(Loan::View(view)) => extend_by_view(parts, *view),
-        Some(Loan::Iter(iterator)) => extend_by_iterator(parts, *iterator),
-        Some(Loan::Other(snap)) => extend_by_other(parts, snap),
-        _ => Err(Halt::Refused(Fault::UnknownName)),
+    match meaning {
+        Meaning::Own(Subject::Own) => repeat(parts, 2),
+        Meaning::Own(Subject::View(view)) => extend_by_view(parts, view),
+        Meaning::Own(Subject::Iter(iterator)) => extend_by_iterator(parts, iterator),
+        Meaning::Other(other) => extend_by_other(parts, other),
+        Meaning::Nothing => Err(Halt::Refused(Fault::UnknownName)),
     }
 }
 
@@ -212,30 +206,33 @@ fn extend_by_parts(parts: &mut Parts, value: &Value) -> Result<LocalReply, Halt>
     }
 }
 
-fn extend_by_value(parts: &mut Parts, value: &Value, loans: &LoanList) -> Result<LocalReply, Halt>
-    requires { IsWhole parts.old }
-    ensures answer { Answers (spec.extended_or_doubled (exporter_of parts.old) value.now (lent_for_each (exporter_of parts.old) loans.now (handle_of_value value.now))) (exporter_of parts.old) result (exporter_of parts.new) }
+fn extend_by_value<N: Names>(
+    parts: &mut Parts,
+    value: &Value,
+    names: &N,
+) -> Result<LocalReply, Halt>
+    requires whole { IsWhole parts.old }
+    requires fit { N.fit names.now }
+    ensures answer { Answers (spec.extended_or_doubled (exporter_of parts.old) value.now (lents_by (exporter_of parts.old) (N.named names.now) (handle_of_value value.now))) (exporter_of parts.old) result (exporter_of parts.new) }
     ensures counted { parts.new.exports ≡ exports_of (exporter_of parts.new) }
 {
     match value {
         Value::One(Scalar::Bytes(bytes)) => add(parts, bytes.as_slice()),
-        Value::One(Scalar::Handle(handle)) => {
-            extend_by_loan(parts, loan_of(loans.as_slice(), *handle))
-        }
+        Value::One(Scalar::Handle(handle)) => extend_by_meaning(parts, names.meaning(*handle)),
         _ => extend_by_parts(parts, value),
     }
 }
 
 /// Adds bytes at the end of a bytearray: those of a bytes value, of what a handle names, whose items may
 /// lie apart, and those that the parts of a list or a tuple are. By itself it is twice what it was.
-pub fn extend(parts: &mut Parts, value: &Value, loans: &LoanList) -> Result<LocalReply, Halt>
+pub fn extend<N: Names>(parts: &mut Parts, value: &Value, names: &N) -> Result<LocalReply, Halt>
     requires whole { IsWhole parts.old }
-    requires fit { LoansFit loans.now }
-    ensures answer { Answers (spec.extend_of_own (exporter_of parts.old) value.now (lent_for_each (exporter_of parts.old) loans.now (handle_of_value value.now))) (exporter_of parts.old) result (exporter_of parts.new) }
+    requires fit { N.fit names.now }
+    ensures answer { Answers (spec.extend_of_own (exporter_of parts.old) value.now (lents_by (exporter_of parts.old) (N.named names.now) (handle_of_value value.now))) (exporter_of parts.old) result (exporter_of parts.new) }
     ensures counted { parts.new.exports ≡ exports_of (exporter_of parts.new) }
 {
     match parts.kind {
-        ExporterKind::ByteArray => extend_by_value(parts, value, loans),
+        ExporterKind::ByteArray => extend_by_value(parts, value, names),
         _ => Err(Halt::Refused(Fault::UnknownName)),
     }
 }
@@ -243,7 +240,7 @@ pub fn extend(parts: &mut Parts, value: &Value, loans: &LoanList) -> Result<Loca
 /// Adds the bytes of a view of the exporter itself, and reads none, as for `extend`.
 fn add_view(parts: &Parts, view: usize) -> Result<LocalReply, Halt>
     requires { IsWhole parts.now }
-    ensures { (h : ℕ) → Answers (spec.added (exporter_of parts.now) (values.One (scalars.Handle h)) (lent_as h (Some (subjects.View view)) (snap_of_subject (exporter_of parts.now) (subjects.View view)))) (exporter_of parts.now) result (exporter_of parts.now) }
+    ensures { Answers (lent_spec.added_by (exporter_of parts.now) (snap_of_subject (exporter_of parts.now) (subjects.View view))) (exporter_of parts.now) result (exporter_of parts.now) }
 {
     let layout = parts.live_layout(view)?;
     if !layout.is_contiguous() {
@@ -254,61 +251,63 @@ fn add_view(parts: &Parts, view: usize) -> Result<LocalReply, Halt>
 
 /// Adds nothing of an iterator, as for `extend`.
 fn add_iterator(parts: &Parts, iterator: usize) -> Result<LocalReply, Halt>
-    ensures { (h : ℕ) → Answers (spec.added (exporter_of parts.now) (values.One (scalars.Handle h)) (lent_as h (Some (subjects.Iter iterator)) (snap_of_subject (exporter_of parts.now) (subjects.Iter iterator)))) (exporter_of parts.now) result (exporter_of parts.now) }
+    ensures { Answers (lent_spec.added_by (exporter_of parts.now) (snap_of_subject (exporter_of parts.now) (subjects.Iter iterator))) (exporter_of parts.now) result (exporter_of parts.now) }
 {
     parts.iterator(iterator)?;
     Err(Halt::Refused(Fault::Kind))
 }
 
-/// Adds what another exporter lends.
-fn add_other(parts: &mut Parts, snap: &Snap) -> Result<LocalReply, Halt>
-    requires { IsWhole parts.old }
-    ensures answer { (h : ℕ) → Answers (spec.added (exporter_of parts.old) (values.One (scalars.Handle h)) (lent_as h None (Some snap.now))) (exporter_of parts.old) result (exporter_of parts.new) }
+/// Adds the bytes of something of another exporter, which must lie one after the other.
+fn add_other(parts: &mut Parts, other: Other<'_>) -> Result<LocalReply, Halt>
+    requires whole { IsWhole parts.old }
+    requires sound { names_spec.IsSoundOther other }
+    ensures answer { Answers (lent_spec.added_by (exporter_of parts.old) (names_spec.snap_of_other other.entry)) (exporter_of parts.old) result (exporter_of parts.new) }
     ensures counted { parts.new.exports ≡ exports_of (exporter_of parts.new) }
 {
-    let bytes = content_in_a_row(snap)?;
+    let bytes = run_of_other(other)?;
     add(parts, bytes)
 }
 
-/// Adds what a handle is lent as, and never the exporter itself.
-fn add_loan(parts: &mut Parts, loan: Option<&Loan>) -> Result<LocalReply, Halt>
-    requires { IsWhole parts.old }
-    ensures answer { (h : ℕ) → Answers (spec.added (exporter_of parts.old) (values.One (scalars.Handle h)) (lent_as h (subject_in (option_copied loan.entry)) (snap_in (exporter_of parts.old) (option_copied loan.entry)))) (exporter_of parts.old) result (exporter_of parts.new) }
+/// Adds the bytes of what a handle names, and never those of the exporter itself.
+#[tactic(auto, using(crate::proofs::Lending::other_adds))]
+fn add_meaning(parts: &mut Parts, meaning: Meaning<'_>) -> Result<LocalReply, Halt>
+    requires whole { IsWhole parts.old }
+    requires sound { names_spec.IsSoundMeaning meaning }
+    ensures answer { Answers (lent_spec.added_as (exporter_of parts.old) (names_spec.meant meaning.entry)) (exporter_of parts.old) result (exporter_of parts.new) }
     ensures counted { parts.new.exports ≡ exports_of (exporter_of parts.new) }
 {
-    match loan {
-        Some(Loan::Own) => Err(Halt::Refused(Fault::Buffer)),
-        Some(Loan::View(view)) => add_view(parts, *view),
-        Some(Loan::Iter(iterator)) => add_iterator(parts, *iterator),
-        Some(Loan::Other(snap)) => add_other(parts, snap),
-        _ => Err(Halt::Refused(Fault::UnknownName)),
+    match meaning {
+        Meaning::Own(Subject::Own) => Err(Halt::Refused(Fault::Buffer)),
+        Meaning::Own(Subject::View(view)) => add_view(parts, view),
+        Meaning::Own(Subject::Iter(iterator)) => add_iterator(parts, iterator),
+        Meaning::Other(other) => add_other(parts, other),
+        Meaning::Nothing => Err(Halt::Refused(Fault::UnknownName)),
     }
 }
 
-fn add_value(parts: &mut Parts, value: &Value, loans: &LoanList) -> Result<LocalReply, Halt>
-    requires { IsWhole parts.old }
-    ensures answer { Answers (spec.added (exporter_of parts.old) value.now (lent_for_each (exporter_of parts.old) loans.now (handle_of_value value.now))) (exporter_of parts.old) result (exporter_of parts.new) }
+fn add_value<N: Names>(parts: &mut Parts, value: &Value, names: &N) -> Result<LocalReply, Halt>
+    requires whole { IsWhole parts.old }
+    requires fit { N.fit names.now }
+    ensures answer { Answers (spec.added (exporter_of parts.old) value.now (lents_by (exporter_of parts.old) (N.named names.now) (handle_of_value value.now))) (exporter_of parts.old) result (exporter_of parts.new) }
     ensures counted { parts.new.exports ≡ exports_of (exporter_of parts.new) }
 {
     match value {
         Value::One(Scalar::Bytes(bytes)) => add(parts, bytes.as_slice()),
-        Value::One(Scalar::Handle(handle)) => {
-            add_loan(parts, loan_of(loans.as_slice(), *handle))
-        }
+        Value::One(Scalar::Handle(handle)) => add_meaning(parts, names.meaning(*handle)),
         _ => Err(Halt::Refused(Fault::Kind)),
     }
 }
 
 /// Adds bytes that lie one after the other at the end of a bytearray: those of a bytes value, or of what a
 /// handle names. The bytearray itself is refused with `BufferError`.
-pub fn iadd(parts: &mut Parts, value: &Value, loans: &LoanList) -> Result<LocalReply, Halt>
+pub fn iadd<N: Names>(parts: &mut Parts, value: &Value, names: &N) -> Result<LocalReply, Halt>
     requires whole { IsWhole parts.old }
-    requires fit { LoansFit loans.now }
-    ensures answer { Answers (spec.iadd_of_own (exporter_of parts.old) value.now (lent_for_each (exporter_of parts.old) loans.now (handle_of_value value.now))) (exporter_of parts.old) result (exporter_of parts.new) }
+    requires fit { N.fit names.now }
+    ensures answer { Answers (spec.iadd_of_own (exporter_of parts.old) value.now (lents_by (exporter_of parts.old) (N.named names.now) (handle_of_value value.now))) (exporter_of parts.old) result (exporter_of parts.new) }
     ensures counted { parts.new.exports ≡ exports_of (exporter_of parts.new) }
 {
     match parts.kind {
-        ExporterKind::ByteArray => add_value(parts, value, loans),
+        ExporterKind::ByteArray => add_value(parts, value, names),
         _ => Err(Halt::Refused(Fault::UnknownName)),
     }
 }

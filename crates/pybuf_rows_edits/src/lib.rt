@@ -4,7 +4,6 @@
 mod counts;
 mod growing;
 mod laws;
-mod named;
 mod pick;
 mod replacing;
 mod shrinking;

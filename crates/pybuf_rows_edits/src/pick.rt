@@ -2,45 +2,44 @@
 ghost use Rattle.std.specs.Prelude.{◌≡◌};
 ghost use Rattle.pybuf_command.specs.declared.kinds.Subject.TheVariants as subjects;
 ghost use Rattle.pybuf_command.specs.Handles.{handles_read};
-ghost use Rattle.pybuf_command.specs.Fits.{LoansFit};
 ghost use Rattle.pybuf_state.specs.Exporter.{exports_of};
-ghost use Rattle.pybuf_state.specs.Loans.{lent_for_each};
+ghost use Rattle.pybuf_state.specs.Loans.{lents_by};
 ghost use Rattle.pybuf_state.specs.Answers.{exporter_of, IsWhole, Answers, Reads};
 ghost use Rattle.pybuf_rows_edits.specs.Edits as spec;
 ghost use Rattle.pybuf_rows_edits.specs.Shrinking as shrinking_spec;
 
 use crate::{growing, replacing, shrinking};
-use pybuf_command::{LoanList, LocalReply, Verb};
-use pybuf_state::Parts;
+use pybuf_command::{LocalReply, Verb};
+use pybuf_state::{Names, Parts};
 use pybuf_value::{Fault, Halt, Value};
 
 /// The edit of a verb on the exporter itself.
 ///
 /// Refused with `UnknownName` where the verb is no edit, and where the kind of the exporter hasn't it.
-pub fn edit_of_own(parts: &mut Parts, verb: &Verb, loans: &LoanList) -> Result<LocalReply, Halt>
+pub fn edit_of_own<N: Names>(parts: &mut Parts, verb: &Verb, names: &N) -> Result<LocalReply, Halt>
     requires whole { IsWhole parts.old }
-    requires fit { LoansFit loans.now }
-    ensures answer { Answers (spec.edit_of_own (exporter_of parts.old) verb.now (lent_for_each (exporter_of parts.old) loans.now (handles_read subjects.Own verb.now))) (exporter_of parts.old) result (exporter_of parts.new) }
+    requires fit { N.fit names.now }
+    ensures answer { Answers (spec.edit_of_own (exporter_of parts.old) verb.now (lents_by (exporter_of parts.old) (N.named names.now) (handles_read subjects.Own verb.now))) (exporter_of parts.old) result (exporter_of parts.new) }
     ensures counted { parts.new.exports ≡ exports_of (exporter_of parts.new) }
 {
     match verb {
         Verb::Append { value } => growing::append(parts, value),
-        Verb::Extend { value } => growing::extend(parts, value, loans),
+        Verb::Extend { value } => growing::extend(parts, value, names),
         Verb::Insert { index, value } => growing::insert(parts, index, value),
         Verb::Pop { index } => shrinking::pop(parts, index),
         Verb::Remove { value } => shrinking::remove(parts, value),
         Verb::Clear => shrinking::clear(parts),
         Verb::Reverse => replacing::reverse(parts),
         Verb::Del { key } => shrinking::delete(parts, key),
-        Verb::IAdd { value } => growing::iadd(parts, value, loans),
+        Verb::IAdd { value } => growing::iadd(parts, value, names),
         Verb::IMul { count } => growing::imul(parts, count),
-        Verb::Init { options } => replacing::init(parts, options, loans),
+        Verb::Init { options } => replacing::init(parts, options, names),
         Verb::Take => shrinking::take(parts),
         Verb::Copy => replacing::copy(parts),
         Verb::Set {
             key: Value::Slice(slice),
             value,
-        } => replacing::assign(parts, slice, value, loans),
+        } => replacing::assign(parts, slice, value, names),
         _ => Err(Halt::Refused(Fault::UnknownName)),
     }
 }

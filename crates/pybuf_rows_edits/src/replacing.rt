@@ -1,13 +1,13 @@
 //! Edits that put bytes in place of others.
 ghost use Rattle.std.specs.Prelude.{◌≡◌, [], length, None, Some, Ok, Err, IfOk, OnOk, OnErr, MatchResult};
-ghost use Rattle.std.specs.Option.{option_copied};
 ghost use Rattle.pybuf_value.specs.Halting.{Gives};
+ghost use Rattle.pybuf_value.specs.Lent.{lent_bytes};
 ghost use Rattle.pybuf_value.specs.Snaps.{content_of_named};
 ghost use Rattle.pybuf_command.specs.Handles.{handle_of_value, handle_of_option};
-ghost use Rattle.pybuf_command.specs.Fits.{LoansFit};
 ghost use Rattle.pybuf_command.specs.declared.kinds.Subject.TheVariants as subjects;
 ghost use Rattle.pybuf_state.specs.Exporter.{exports_of};
-ghost use Rattle.pybuf_state.specs.Loans.{lent_for_each, snap_in};
+ghost use Rattle.pybuf_state.specs.Loans.{lents_by, snap_in};
+ghost use Rattle.pybuf_state.specs.Names as names_spec;
 ghost use Rattle.pybuf_state.specs.Snaps.{snap_of_subject};
 ghost use Rattle.pybuf_state.specs.Answers.{exporter_of, IsWhole, Answers, Reads};
 ghost use Rattle.pybuf_slice.specs.Parts.{picks_of};
@@ -16,15 +16,15 @@ ghost use Rattle.pybuf_rows_edits.specs.Common as common;
 ghost use Rattle.pybuf_rows_edits.specs.LentBytes as lent_spec;
 ghost use Rattle.pybuf_rows_edits.specs.Replacing as spec;
 
-use crate::named::content_read;
 use pybuf_bytes::ByteInnerNewOptions;
-use pybuf_command::{ExporterKind, Loan, LoanList, LocalReply, Subject, loan_of};
+use pybuf_command::{ExporterKind, LocalReply, Subject, handle_alone};
 use pybuf_memoryview::content_of;
 use pybuf_slice::{SaturatedSlice, slices};
-use pybuf_state::{Parts, snap_of_subject};
+use pybuf_state::{Meaning, Names, Other, Parts, content_of_other, snap_of_subject};
 use pybuf_value::{
-    Fault, Halt, Made, Outcome, PySlice, Scalar, Snap, SnapList, Value, bytes_from_object,
+    Fault, Halt, Lent, Made, Outcome, PySlice, Scalar, SnapList, Value, bytes_from_object,
 };
+use std::alloc::Global;
 
 // ---- `set` by a slice
 
@@ -98,32 +98,35 @@ fn put_iterator(parts: &Parts, slice: SaturatedSlice, iterator: usize) -> Result
     Err(Halt::Refused(Fault::Kind))
 }
 
-/// Puts what another exporter lends there.
-fn put_other(parts: &mut Parts, slice: SaturatedSlice, snap: &Snap) -> Result<LocalReply, Halt>
-    requires { IsWhole parts.old }
-    ensures answer { Answers (lent_spec.assigned_by (exporter_of parts.old) slice (Some snap.now)) (exporter_of parts.old) result (exporter_of parts.new) }
+/// Puts the bytes of something of another exporter there.
+fn put_other(parts: &mut Parts, slice: SaturatedSlice, other: Other<'_>) -> Result<LocalReply, Halt>
+    requires whole { IsWhole parts.old }
+    requires sound { names_spec.IsSoundOther other }
+    ensures answer { Answers (lent_spec.assigned_by (exporter_of parts.old) slice (names_spec.snap_of_other other.entry)) (exporter_of parts.old) result (exporter_of parts.new) }
     ensures counted { parts.new.exports ≡ exports_of (exporter_of parts.new) }
 {
-    let bytes = content_read(snap)?;
-    put(parts, slice, bytes)
+    let bytes = content_of_other(parts.alloc, other)?;
+    put(parts, slice, bytes.as_slice())
 }
 
-/// Puts what a handle is lent as there.
-fn put_loan(
+/// Puts the bytes of what a handle names there.
+#[tactic(auto, using(crate::proofs::Lending::other_snap))]
+fn put_meaning(
     parts: &mut Parts,
     slice: SaturatedSlice,
-    loan: Option<&Loan>,
+    meaning: Meaning<'_>,
 ) -> Result<LocalReply, Halt>
-    requires { IsWhole parts.old }
-    ensures answer { Answers (lent_spec.assigned_by (exporter_of parts.old) slice (snap_in (exporter_of parts.old) (option_copied loan.entry))) (exporter_of parts.old) result (exporter_of parts.new) }
+    requires whole { IsWhole parts.old }
+    requires sound { names_spec.IsSoundMeaning meaning }
+    ensures answer { Answers (lent_spec.assigned_by (exporter_of parts.old) slice (snap_in (exporter_of parts.old) (names_spec.meant meaning.entry))) (exporter_of parts.old) result (exporter_of parts.new) }
     ensures counted { parts.new.exports ≡ exports_of (exporter_of parts.new) }
 {
-    match loan {
-        Some(Loan::Own) => put_own(parts, slice),
-        Some(Loan::View(view)) => put_view(parts, slice, *view),
-        Some(Loan::Iter(iterator)) => put_iterator(parts, slice, *iterator),
-        Some(Loan::Other(snap)) => put_other(parts, slice, snap),
-        _ => Err(Halt::Refused(Fault::UnknownName)),
+    match meaning {
+        Meaning::Own(Subject::Own) => put_own(parts, slice),
+        Meaning::Own(Subject::View(view)) => put_view(parts, slice, view),
+        Meaning::Own(Subject::Iter(iterator)) => put_iterator(parts, slice, iterator),
+        Meaning::Other(other) => put_other(parts, slice, other),
+        Meaning::Nothing => Err(Halt::Refused(Fault::UnknownName)),
     }
 }
 
@@ -139,72 +142,84 @@ fn put_parts(parts: &mut Parts, slice: SaturatedSlice, value: &Value) -> Result<
     }
 }
 
-fn put_value(
+fn put_value<N: Names>(
     parts: &mut Parts,
     slice: SaturatedSlice,
     value: &Value,
-    loans: &LoanList,
+    names: &N,
 ) -> Result<LocalReply, Halt>
-    requires { IsWhole parts.old }
-    ensures answer { Answers (spec.assigned_from (exporter_of parts.old) slice value.now (lent_for_each (exporter_of parts.old) loans.now (handle_of_value value.now))) (exporter_of parts.old) result (exporter_of parts.new) }
+    requires whole { IsWhole parts.old }
+    requires fit { N.fit names.now }
+    ensures answer { Answers (spec.assigned_from (exporter_of parts.old) slice value.now (lents_by (exporter_of parts.old) (N.named names.now) (handle_of_value value.now))) (exporter_of parts.old) result (exporter_of parts.new) }
     ensures counted { parts.new.exports ≡ exports_of (exporter_of parts.new) }
 {
     match value {
         Value::One(Scalar::Bytes(bytes)) => put(parts, slice, bytes.as_slice()),
-        Value::One(Scalar::Handle(handle)) => {
-            put_loan(parts, slice, loan_of(loans.as_slice(), *handle))
-        }
+        Value::One(Scalar::Handle(handle)) => put_meaning(parts, slice, names.meaning(*handle)),
         _ => put_parts(parts, slice, value),
     }
 }
 
-fn set_slice(
+fn set_slice<N: Names>(
     parts: &mut Parts,
     slice: &PySlice,
     value: &Value,
-    loans: &LoanList,
+    names: &N,
 ) -> Result<LocalReply, Halt>
-    requires { IsWhole parts.old }
-    ensures answer { Answers (spec.slice_set (exporter_of parts.old) slice.now value.now (lent_for_each (exporter_of parts.old) loans.now (handle_of_value value.now))) (exporter_of parts.old) result (exporter_of parts.new) }
+    requires whole { IsWhole parts.old }
+    requires fit { N.fit names.now }
+    ensures answer { Answers (spec.slice_set (exporter_of parts.old) slice.now value.now (lents_by (exporter_of parts.old) (N.named names.now) (handle_of_value value.now))) (exporter_of parts.old) result (exporter_of parts.new) }
     ensures counted { parts.new.exports ≡ exports_of (exporter_of parts.new) }
 {
     let slice = SaturatedSlice::with_slice(slice)?;
-    put_value(parts, slice, value, loans)
+    put_value(parts, slice, value, names)
 }
 
 /// Puts bytes in place of those of a bytearray that a slice picks: those of a bytes value, of what a
 /// handle names, whose items may lie apart, and those that the parts of a list or a tuple are. A slice
 /// of step 1 takes any number of them; any other takes as many as it picks, and is refused with
 /// `ValueError` where there are not as many. (Library reference, "Mutable Sequence Types".)
-pub fn assign(
+pub fn assign<N: Names>(
     parts: &mut Parts,
     slice: &PySlice,
     value: &Value,
-    loans: &LoanList,
+    names: &N,
 ) -> Result<LocalReply, Halt>
     requires whole { IsWhole parts.old }
-    requires fit { LoansFit loans.now }
-    ensures answer { Answers (spec.assign_of_own (exporter_of parts.old) slice.now value.now (lent_for_each (exporter_of parts.old) loans.now (handle_of_value value.now))) (exporter_of parts.old) result (exporter_of parts.new) }
+    requires fit { N.fit names.now }
+    ensures answer { Answers (spec.assign_of_own (exporter_of parts.old) slice.now value.now (lents_by (exporter_of parts.old) (N.named names.now) (handle_of_value value.now))) (exporter_of parts.old) result (exporter_of parts.new) }
     ensures counted { parts.new.exports ≡ exports_of (exporter_of parts.new) }
 {
     match parts.kind {
-        ExporterKind::ByteArray => set_slice(parts, slice, value, loans),
+        ExporterKind::ByteArray => set_slice(parts, slice, value, names),
         _ => Err(Halt::Refused(Fault::UnknownName)),
     }
 }
 
 // ---- `init`
 
-/// Puts other bytes in place of all.
-fn replace_all(parts: &mut Parts, bytes: &[u8]) -> Result<LocalReply, Halt>
+/// Puts a vector in place of all bytes, as it is.
+fn replace_all(parts: &mut Parts, bytes: Vec<u8>) -> Result<LocalReply, Halt>
     requires { IsWhole parts.old }
-    ensures answer { Answers (spec.replaced_all (exporter_of parts.old) bytes.now) (exporter_of parts.old) result (exporter_of parts.new) }
+    ensures answer { Answers (spec.replaced_all (exporter_of parts.old) bytes.items) (exporter_of parts.old) result (exporter_of parts.new) }
     ensures counted { parts.new.exports ≡ exports_of (exporter_of parts.new) }
 {
     parts.resizable()?;
-    let end = parts.bytes.len();
-    parts.replace_range(0, end, bytes)?;
+    parts.replace_bytes(bytes);
     Ok(LocalReply::Ok)
+}
+
+/// Bytes that are lent, as a vector: they are copied where they lie elsewhere.
+fn vector_of(alloc: Global, bytes: Lent<'_>) -> Made<Vec<u8>>
+    ensures { IfOk result (λ vector. vector.items ≡ lent_bytes bytes.entry) }
+{
+    match bytes {
+        Lent::Lies(bytes) => {
+            let vector = Vec::from_slice(alloc, bytes)?;
+            Ok(vector)
+        }
+        Lent::Gathered(bytes) => Ok(bytes),
+    }
 }
 
 /// By the exporter itself: its bytes stay where they are.
@@ -234,28 +249,34 @@ fn init_by_iterator(parts: &Parts, iterator: usize) -> Result<LocalReply, Halt>
     Err(Halt::Refused(Fault::Kind))
 }
 
-/// By what another exporter lends.
-fn init_by_other(parts: &mut Parts, snap: &Snap) -> Result<LocalReply, Halt>
-    requires { IsWhole parts.old }
-    ensures answer { Answers (lent_spec.initialized_by (exporter_of parts.old) (Some snap.now)) (exporter_of parts.old) result (exporter_of parts.new) }
+/// By something of another exporter, whose bytes are copied once, and only where the length may change.
+fn init_by_other(parts: &mut Parts, other: Other<'_>) -> Result<LocalReply, Halt>
+    requires whole { IsWhole parts.old }
+    requires sound { names_spec.IsSoundOther other }
+    ensures answer { Answers (lent_spec.initialized_by (exporter_of parts.old) (names_spec.snap_of_other other.entry)) (exporter_of parts.old) result (exporter_of parts.new) }
     ensures counted { parts.new.exports ≡ exports_of (exporter_of parts.new) }
 {
-    let bytes = content_read(snap)?;
-    replace_all(parts, bytes)
+    let bytes = content_of_other(parts.alloc, other)?;
+    parts.resizable()?;
+    let vector = vector_of(parts.alloc, bytes)?;
+    parts.replace_bytes(vector);
+    Ok(LocalReply::Ok)
 }
 
-/// By what a handle is lent as.
-fn init_by_loan(parts: &mut Parts, loan: Option<&Loan>) -> Result<LocalReply, Halt>
-    requires { IsWhole parts.old }
-    ensures answer { Answers (lent_spec.initialized_by (exporter_of parts.old) (snap_in (exporter_of parts.old) (option_copied loan.entry))) (exporter_of parts.old) result (exporter_of parts.new) }
+/// By what a handle names.
+#[tactic(auto, using(crate::proofs::Lending::other_snap))]
+fn init_by_meaning(parts: &mut Parts, meaning: Meaning<'_>) -> Result<LocalReply, Halt>
+    requires whole { IsWhole parts.old }
+    requires sound { names_spec.IsSoundMeaning meaning }
+    ensures answer { Answers (lent_spec.initialized_by (exporter_of parts.old) (snap_in (exporter_of parts.old) (names_spec.meant meaning.entry))) (exporter_of parts.old) result (exporter_of parts.new) }
     ensures counted { parts.new.exports ≡ exports_of (exporter_of parts.new) }
 {
-    match loan {
-        Some(Loan::Own) => init_by_own(parts),
-        Some(Loan::View(view)) => init_by_view(parts, *view),
-        Some(Loan::Iter(iterator)) => init_by_iterator(parts, *iterator),
-        Some(Loan::Other(snap)) => init_by_other(parts, snap),
-        _ => Err(Halt::Refused(Fault::UnknownName)),
+    match meaning {
+        Meaning::Own(Subject::Own) => init_by_own(parts),
+        Meaning::Own(Subject::View(view)) => init_by_view(parts, view),
+        Meaning::Own(Subject::Iter(iterator)) => init_by_iterator(parts, iterator),
+        Meaning::Other(other) => init_by_other(parts, other),
+        Meaning::Nothing => Err(Halt::Refused(Fault::UnknownName)),
     }
 }
 
@@ -266,32 +287,23 @@ fn init_by_options(parts: &mut Parts, options: &ByteInnerNewOptions) -> Result<L
     ensures counted { parts.new.exports ≡ exports_of (exporter_of parts.new) }
 {
     match options.get_bytearray_inner(parts.alloc, &SnapList::new(parts.alloc))? {
-        Outcome::Done(bytes) => replace_all(parts, bytes.as_bytes()),
+        Outcome::Done(bytes) => replace_all(parts, bytes.into_vec()),
         Outcome::Refused(fault) => Err(Halt::Refused(fault)),
     }
 }
 
-/// The handle that is a source alone.
-fn handle_alone(options: &ByteInnerNewOptions) -> Option<u64>
-    ensures { result ≡ lent_spec.handle_alone options.now.source options.now.encoding options.now.errors }
-{
-    match (&options.source, &options.encoding, &options.errors) {
-        (Some(Value::One(Scalar::Handle(handle))), None, None) => Some(*handle),
-        _ => None,
-    }
-}
-
-fn initialize(
+fn initialize<N: Names>(
     parts: &mut Parts,
     options: &ByteInnerNewOptions,
-    loans: &LoanList,
+    names: &N,
 ) -> Result<LocalReply, Halt>
-    requires { IsWhole parts.old }
-    ensures answer { Answers (spec.initialized (exporter_of parts.old) options.now (lent_for_each (exporter_of parts.old) loans.now (handle_of_option options.now.source))) (exporter_of parts.old) result (exporter_of parts.new) }
+    requires whole { IsWhole parts.old }
+    requires fit { N.fit names.now }
+    ensures answer { Answers (spec.initialized (exporter_of parts.old) options.now (lents_by (exporter_of parts.old) (N.named names.now) (handle_of_option options.now.source))) (exporter_of parts.old) result (exporter_of parts.new) }
     ensures counted { parts.new.exports ≡ exports_of (exporter_of parts.new) }
 {
     match handle_alone(options) {
-        Some(handle) => init_by_loan(parts, loan_of(loans.as_slice(), handle)),
+        Some(handle) => init_by_meaning(parts, names.meaning(handle)),
         None => init_by_options(parts, options),
     }
 }
@@ -299,18 +311,18 @@ fn initialize(
 /// Puts the bytes of the options in place of all bytes of a bytearray, as Python's
 /// `bytearray.__init__(source, encoding, errors)` (Library reference, "Built-in Functions",
 /// `bytearray`). Refused as the options are.
-pub fn init(
+pub fn init<N: Names>(
     parts: &mut Parts,
     options: &ByteInnerNewOptions,
-    loans: &LoanList,
+    names: &N,
 ) -> Result<LocalReply, Halt>
     requires whole { IsWhole parts.old }
-    requires fit { LoansFit loans.now }
-    ensures answer { Answers (spec.init_of_own (exporter_of parts.old) options.now (lent_for_each (exporter_of parts.old) loans.now (handle_of_option options.now.source))) (exporter_of parts.old) result (exporter_of parts.new) }
+    requires fit { N.fit names.now }
+    ensures answer { Answers (spec.init_of_own (exporter_of parts.old) options.now (lents_by (exporter_of parts.old) (N.named names.now) (handle_of_option options.now.source))) (exporter_of parts.old) result (exporter_of parts.new) }
     ensures counted { parts.new.exports ≡ exports_of (exporter_of parts.new) }
 {
     match parts.kind {
-        ExporterKind::ByteArray => initialize(parts, options, loans),
+        ExporterKind::ByteArray => initialize(parts, options, names),
         _ => Err(Halt::Refused(Fault::UnknownName)),
     }
 }

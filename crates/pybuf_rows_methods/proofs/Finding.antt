@@ -7,9 +7,8 @@ use Rattle.pybuf_value.specs.declared.snaps.Snap.{Snap}
 use Rattle.pybuf_value.specs.Snaps.{snap_of}
 use Rattle.pybuf_command.specs.declared.kinds.Subject.{Subject}
 use Rattle.pybuf_command.specs.declared.loans.Loan.{Loan}
-use Rattle.pybuf_command.specs.Loans.{loan_of}
 use Rattle.pybuf_state.specs.Exporter.{Exporter}
-use Rattle.pybuf_state.specs.Loans.{Lent, lent_as, lent_for, lent_for_each, snap_in, snaps_of, subject_in}
+use Rattle.pybuf_state.specs.Loans.{Lent, lent_as, lents_by, snap_in, snaps_of, subject_in}
 use Rattle.pybuf_rows_methods.specs.Laws.{NamesAreFound}
 use Rattle.pybuf_rows_methods.specs.Names.{paired, all_paired, named_among}
 
@@ -40,14 +39,14 @@ one_lent : (x : ℕ) (s : Option Subject) (o : Option Snap) (rest : List Lent) �
 one_lent x s None rest = refl
 one_lent x s (Some snap) rest = refl
 
-pub lents_paired : (e : Exporter) (loans : List (ℕ × Loan)) (handles : List ℕ) → snaps_of (lent_for_each e loans handles) ≡ all_paired (λ h. snap_in e (loan_of loans h)) handles
-lents_paired e loans [] = refl
-lents_paired e loans (x ∷ xs) =
-    one_lent x (subject_in (loan_of loans x)) (snap_in e (loan_of loans x)) (lent_for_each e loans xs)
-    ∙ ap (λ (rest : List (ℕ × Snap)). paired x (snap_in e (loan_of loans x)) ++ rest) (lents_paired e loans xs)
+pub lents_paired : (e : Exporter) (named : ℕ → Option Loan) (handles : List ℕ) → snaps_of (lents_by e named handles) ≡ all_paired (λ h. snap_in e (named h)) handles
+lents_paired e named [] = refl
+lents_paired e named (x ∷ xs) =
+    one_lent x (subject_in (named x)) (snap_in e (named x)) (lents_by e named xs)
+    ∙ ap (λ (rest : List (ℕ × Snap)). paired x (snap_in e (named x)) ++ rest) (lents_paired e named xs)
 
-pub found_among : (e : Exporter) (loans : List (ℕ × Loan)) (handles : List ℕ) (h : ℕ) →
-    snap_of (snaps_of (lent_for_each e loans handles)) h ≡ named_among (λ x. snap_in e (loan_of loans x)) handles h
-found_among e loans handles h =
-    ap (λ (pairs : List (ℕ × Snap)). snap_of pairs h) (lents_paired e loans handles)
-    ∙ names_found (λ x. snap_in e (loan_of loans x)) handles h
+pub found_among : (e : Exporter) (named : ℕ → Option Loan) (handles : List ℕ) (h : ℕ) →
+    snap_of (snaps_of (lents_by e named handles)) h ≡ named_among (λ x. snap_in e (named x)) handles h
+found_among e named handles h =
+    ap (λ (pairs : List (ℕ × Snap)). snap_of pairs h) (lents_paired e named handles)
+    ∙ names_found (λ x. snap_in e (named x)) handles h

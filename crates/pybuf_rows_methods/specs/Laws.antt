@@ -6,9 +6,8 @@ use Rattle.pybuf_value.specs.Snaps.{snap_of}
 use Rattle.pybuf_bytes.specs.declared.methods.MethodCall.{MethodCall}
 use Rattle.pybuf_state.specs.Exporter.{Exporter}
 use Rattle.pybuf_command.specs.declared.loans.Loan.{Loan}
-use Rattle.pybuf_command.specs.Loans.{loan_of}
 use Rattle.pybuf_state.specs.Keeps.{IsSafe}
-use Rattle.pybuf_state.specs.Loans.{lent_for_each, snap_in, snaps_of}
+use Rattle.pybuf_state.specs.Loans.{lents_by, snap_in, snaps_of}
 use Rattle.pybuf_rows_methods.specs.Calls.{call_of_own, contains_of_own, hex_of_view}
 use Rattle.pybuf_rows_methods.specs.Names.{all_paired, named_among}
 
@@ -25,6 +24,6 @@ HexIsSafe = (e : Exporter) (k : ℕ) (sep group : Option Value) (pairs : List (�
 abbrev pub NamesAreFound : Type 0
 NamesAreFound = (named : ℕ → Option Snap) (handles : List ℕ) (handle : ℕ) → snap_of (all_paired named handles) handle ≡ named_among named handles handle
 
--- the pairs of what is lent for some handles are those of what each names by its loan
+-- the pairs of what is lent for some handles are those of what each names
 abbrev pub LentsArePaired : Type 0
-LentsArePaired = (e : Exporter) (loans : List (ℕ × Loan)) (handles : List ℕ) → snaps_of (lent_for_each e loans handles) ≡ all_paired (λ h. snap_in e (loan_of loans h)) handles
+LentsArePaired = (e : Exporter) (named : ℕ → Option Loan) (handles : List ℕ) → snaps_of (lents_by e named handles) ≡ all_paired (λ h. snap_in e (named h)) handles

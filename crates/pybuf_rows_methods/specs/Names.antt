@@ -2,11 +2,6 @@
 use Rattle.std.specs.Prelude.{ℕ, ◌==◌, List, [], ◌∷◌, Option, Some, None, if◌then◌else◌}
 use Rattle.std.specs.List.{flat_map, list_any}
 use Rattle.pybuf_value.specs.declared.snaps.Snap.{Snap}
-use Rattle.pybuf_command.specs.declared.kinds.Subject.{Subject}
-use Rattle.pybuf_state.specs.Exporter.{Exporter}
-use Rattle.pybuf_state.specs.Snaps.{snap_of_subject}
-use Rattle.pybuf_rows_methods.specs.declared.loaned.Place.{Place}
-use Rattle.pybuf_rows_methods.specs.declared.loaned.Place.TheVariants as place
 
 -- a handle with what it names, where it names anything
 abbrev pub paired : ℕ → Option Snap → List (ℕ × Snap)
@@ -20,9 +15,3 @@ all_paired named handles = flat_map (λ handle. paired handle (named handle)) ha
 -- what one of some handles names, and nothing for every other
 abbrev pub named_among : (ℕ → Option Snap) → List ℕ → ℕ → Option Snap
 named_among named handles handle = if list_any (λ other. other == handle) handles then named handle else None
-
--- what stands at a place: a subject of the exporter, or a snap
-abbrev pub snap_at : Exporter → Option Place → Option Snap
-snap_at e None = None
-snap_at e (Some (place.Of s)) = snap_of_subject e s
-snap_at e (Some (place.Other snap)) = Some snap.now

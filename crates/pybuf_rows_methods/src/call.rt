@@ -1,26 +1,13 @@
 //! `call`: a method of bytes and bytearrays, by its name.
-ghost use Rattle.std.specs.Prelude.{◌≡◌, Ok, Err, true, MatchResult};
-ghost use Rattle.pybuf_value.specs.declared.faults.Fault.TheVariants as faults;
-ghost use Rattle.pybuf_value.specs.Refusing.{unless};
-ghost use Rattle.pybuf_state.specs.Keeps as keeps;
+ghost use Rattle.std.specs.Prelude.{◌≡◌};
 ghost use Rattle.pybuf_state.specs.Answers.{exporter_of, Reads};
 ghost use Rattle.pybuf_rows_methods.specs.Calls as spec;
 
 use pybuf_bytes::{MethodCall, MethodReply};
-use pybuf_command::{ExporterKind, LocalReply};
-use pybuf_methods::{Names, reply_of};
+use pybuf_command::LocalReply;
+use pybuf_methods::{Contents, reply_of};
 use pybuf_state::Parts;
-use pybuf_value::{Fault, Halt, Item, Scalar};
-
-/// Refuses a vector, which is no string.
-pub(crate) fn check_string(kind: ExporterKind) -> Result<(), Fault>
-    ensures { MatchResult result (λ _. unless (keeps.is_vector kind) faults.UnknownName ≡ Ok true) (λ f. unless (keeps.is_vector kind) faults.UnknownName ≡ Err f) }
-{
-    match kind {
-        ExporterKind::Vector { readonly: _ } => Err(Fault::UnknownName),
-        _ => Ok(()),
-    }
-}
+use pybuf_value::{Halt, Item, Scalar};
 
 /// What a method answers, as a reply.
 fn reply_of_answer(answer: MethodReply) -> LocalReply
@@ -40,17 +27,21 @@ fn reply_of_answer(answer: MethodReply) -> LocalReply
 ///
 /// Refused with `UnknownName` for a vector, with `TypeError` for a wrong number of arguments, then as the
 /// first argument from left to right that is refused, and then by the method's own rule.
-pub fn of_own<N: Names>(parts: &Parts, method: &MethodCall, names: &N) -> Result<LocalReply, Halt>
-    ensures { Reads (spec.call_of_own (exporter_of parts.now) method.now (N.pairs names.now)) (exporter_of parts.now) result }
+pub fn of_own<C: Contents>(
+    parts: &Parts,
+    method: &MethodCall,
+    contents: &C,
+) -> Result<LocalReply, Halt>
+    ensures { Reads (spec.call_of_own (exporter_of parts.now) method.now (C.pairs contents.now)) (exporter_of parts.now) result }
 {
-    check_string(parts.kind)?;
+    parts.check_string()?;
     let bytes = parts.bytes.as_slice();
     let answer = reply_of(
         parts.alloc,
         bytes,
         method.name,
         method.args.as_slice(),
-        names,
+        contents,
     )?;
     Ok(reply_of_answer(answer))
 }

@@ -2,9 +2,8 @@
 ghost use Rattle.pybuf_state.specs.Answers.{exporter_of, Reads};
 ghost use Rattle.pybuf_rows_methods.specs.Calls as spec;
 
-use crate::call::check_string;
 use pybuf_command::LocalReply;
-use pybuf_methods::{Names, contains_in};
+use pybuf_methods::{Contents, contains_in};
 use pybuf_state::Parts;
 use pybuf_value::{Halt, Value};
 
@@ -13,10 +12,10 @@ use pybuf_value::{Halt, Value};
 ///
 /// Refused with `UnknownName` for a vector, with `ValueError` for a number outside `0..256`, and else as
 /// `bytes_from_object` refuses.
-pub fn of_own<N: Names>(parts: &Parts, value: &Value, names: &N) -> Result<LocalReply, Halt>
-    ensures { Reads (spec.contains_of_own (exporter_of parts.now) value.now (N.pairs names.now)) (exporter_of parts.now) result }
+pub fn of_own<C: Contents>(parts: &Parts, value: &Value, contents: &C) -> Result<LocalReply, Halt>
+    ensures { Reads (spec.contains_of_own (exporter_of parts.now) value.now (C.pairs contents.now)) (exporter_of parts.now) result }
 {
-    check_string(parts.kind)?;
-    let found = contains_in(parts.alloc, parts.bytes.as_slice(), value, names)?;
+    parts.check_string()?;
+    let found = contains_in(parts.alloc, parts.bytes.as_slice(), value, contents)?;
     Ok(LocalReply::Truth(found))
 }

@@ -3,10 +3,9 @@ ghost use Rattle.std.specs.Option.{option_copied};
 ghost use Rattle.pybuf_state.specs.Answers.{exporter_of, IsWhole, Reads};
 ghost use Rattle.pybuf_rows_methods.specs.Calls as spec;
 
-use crate::subjects::content_lent;
 use pybuf_command::LocalReply;
-use pybuf_methods::{Names, hex_of};
-use pybuf_state::Parts;
+use pybuf_methods::{Contents, hex_of};
+use pybuf_state::{Parts, content_lent};
 use pybuf_value::{Halt, Value};
 
 /// The digits of a view's bytes, of which the last dimension runs fastest, with a separator between groups
@@ -15,15 +14,15 @@ use pybuf_value::{Halt, Value};
 ///
 /// Refused with `UnknownName` for a view that was never given, with `ValueError` for a released one, and then
 /// as `hex_of` refuses the separator and the size of a group.
-pub fn of_view<N: Names>(
+pub fn of_view<C: Contents>(
     parts: &Parts,
     view: usize,
     sep: &Option<Value>,
     group: &Option<Value>,
-    names: &N,
+    contents: &C,
 ) -> Result<LocalReply, Halt>
     requires { IsWhole parts.now }
-    ensures { Reads (spec.hex_of_view (exporter_of parts.now) view sep.now group.now (N.pairs names.now)) (exporter_of parts.now) result }
+    ensures { Reads (spec.hex_of_view (exporter_of parts.now) view sep.now group.now (C.pairs contents.now)) (exporter_of parts.now) result }
 {
     pybuf_state::live_layouts_are_sound();
     let layout = parts.live_layout(view)?;
@@ -33,7 +32,7 @@ pub fn of_view<N: Names>(
         bytes.as_slice(),
         sep.as_ref(),
         group.as_ref(),
-        names,
+        contents,
     )?;
     Ok(LocalReply::Text(text))
 }

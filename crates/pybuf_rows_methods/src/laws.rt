@@ -29,7 +29,7 @@ pub fn names_are_found()
     ensures { NamesAreFound }
 {}
 
-/// The pairs of what is lent for some handles are those of what each names by its loan.
+/// The pairs of what is lent for some handles are those of what each names.
 pub fn lents_are_paired()
     ensures { LentsArePaired }
 {}

@@ -6,9 +6,7 @@ pub mod call;
 pub mod contains;
 pub mod hex;
 mod laws;
-mod loaned;
-mod subjects;
+mod reading;
 
 pub use laws::{call_is_safe, contains_is_safe, hex_is_safe, lents_are_paired, names_are_found};
-pub use loaned::{Loaned, Place};
-pub use subjects::{content_of_subject, kind_of_subject, run_of_subject};
+pub use reading::Reading;

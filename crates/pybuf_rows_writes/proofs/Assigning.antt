@@ -1,7 +1,7 @@
 -- What the code of an assignment by a slice rests on.
 use Rattle.std.proofs.Common.{◌≡◌, ℕ, ◌*◌, List, [], ◌∷◌, ◌++◌, length, take, drop, Bool, true, false, true≢false, ap, ap₂, sym, ◌∙◌, refl, subst, arith}
-use Rattle.std.specs.Prelude.{◌==◌, ◌&&◌, ◌||◌, not, bytes_eq, slice_index, if◌then◌else◌, Option, Some, None, Result, Ok}
-use Rattle.std.specs.Option.{ForSome}
+use Rattle.std.specs.Prelude.{◌==◌, ◌&&◌, ◌||◌, not, bytes_eq, slice_index, Option, Some, None, Result, Ok}
+use Rattle.std.specs.Option.{option_map}
 use Rattle.std.proofs.lemmas.Bool.{eqb-true}
 use Rattle.std.proofs.lemmas.Grind.{common_steps}
 use Rattle.pybuf_value.specs.declared.faults.Fault.{Fault}
@@ -10,17 +10,18 @@ use Rattle.pybuf_value.specs.declared.snaps.Snap.{Snap}
 use Rattle.pybuf_value.specs.declared.snaps.SnapKind.{SnapKind}
 use Rattle.pybuf_value.specs.declared.snaps.SnapKind.TheVariants as snap_kind
 use Rattle.pybuf_value.specs.Refusing.{◌>>=◌, unless}
+use Rattle.pybuf_value.specs.Snaps.{is_iterator}
 use Rattle.pybuf_desc.specs.Layouts.{Layout}
 use Rattle.pybuf_command.specs.Sized.{is_sized, byte_count}
-use Rattle.pybuf_command.specs.Fits.{fits, fits_snap, fits_kind, is_whole, is_byte_format, is_row_of, all_fit}
-use Rattle.pybuf_command.specs.Loans.{loan_of}
+use Rattle.pybuf_command.specs.Fits.{fits_snap, fits_kind, is_whole, is_byte_format, is_row_of}
 use Rattle.pybuf_command.specs.declared.loans.Loan.{Loan}
+use Rattle.pybuf_command.specs.declared.loans.Loan.TheVariants as loan
 use Rattle.pybuf_command.specs.declared.commands.LocalReply.{LocalReply}
 use Rattle.pybuf_command.specs.declared.commands.LocalReply.TheVariants as reply
 use Rattle.pybuf_memoryview.specs.Laid.{laid}
 use Rattle.pybuf_state.specs.Exporter.{Exporter, new_exporter}
 use Rattle.pybuf_state.specs.Answers.{Answers}
-use Rattle.pybuf_state.specs.Loans.{Lent, lent_as, lent_for_each, subject_in, snap_in}
+use Rattle.pybuf_state.specs.Loans.{Lent, lent_as, lents_by, subject_in, snap_in}
 use Rattle.pybuf_state.specs.Snaps.{snap_of_exporter}
 use Rattle.pybuf_value.specs.declared.halt.Halt.{Halt}
 use Rattle.pybuf_value.specs.declared.values.Value.{Value}
@@ -29,7 +30,7 @@ use Rattle.pybuf_value.specs.declared.values.Scalar.TheVariants as scalar
 use Rattle.pybuf_command.specs.Handles.{handle_of_value}
 use Rattle.pybuf_command.specs.declared.kinds.ExporterKind.TheVariants as kind
 use Rattle.pybuf_command.specs.declared.kinds.Subject.{Subject}
-use Rattle.pybuf_rows_writes.specs.Assign.{is_iterator, has_form_of, lent_source, source_of, assigned, assigned_from, assigned_of_value}
+use Rattle.pybuf_rows_writes.specs.Assign.{has_form_of, lent_source, source_of, assigned, assigned_from, assigned_of_value}
 
 both_true : (a b : Bool) → (a && b) ≡ true → (a ≡ true) × (b ≡ true)
 both_true true b is = (refl, is)
@@ -82,17 +83,6 @@ by_kind snap_kind.Iterator s is other live = absurd (true≢false other)
 pub content_fits : (s : Snap) → fits_snap s ≡ true → is_iterator s.kind ≡ false → s.released ≡ false → length s.content ≡ byte_count s.itemsize s.shape
 content_fits s fit other live = by_kind s.kind s (both_true (fits_kind s.kind s) (is_sized s.format s.itemsize) fit).0 other live
 
--- what is found among loans that fit fits
-found_fits : (b : Bool) (l : Loan) (o : Option Loan) → fits l ≡ true → ForSome o (λ (x : Loan). fits x ≡ true) → ForSome (if b then Some l else o) (λ (x : Loan). fits x ≡ true)
-found_fits true l o first rest = λ x is. let same : l ≡ x = cc in ap fits (sym same) ∙ first
-found_fits false l o first rest = rest
-
-pub loan_fits : (loans : List (ℕ × Loan)) (h : ℕ) → all_fit loans ≡ true → ForSome (loan_of loans h) (λ (l : Loan). fits l ≡ true)
-loan_fits [] h fit = λ x is. absurd (cc)
-loan_fits (pair ∷ loans) h fit =
-    let parts = both_true (fits pair.1) (all_fit loans) fit in
-    found_fits (pair.0 == h) pair.1 (loan_of loans h) parts.0 (loan_fits loans h parts.1)
-
 -- ---- what stands after an assignment
 
 abbrev okay : Exporter × LocalReply → Result (Exporter × LocalReply) Fault
@@ -118,17 +108,21 @@ is_assigned_from e target lent snap bytes named live form now =
 pub lent_back : (old new : List ℕ) (n : ℕ) → length new ≡ n → take n (new ++ drop (length new) old) ≡ new
 lent_back old new n is = grind (arith, common_steps, is)
 
--- ---- by the kind of a value
+-- ---- by what a handle names and by the kind of a value
+
+pub other_snap : (e : Exporter) (o : Option Snap) → snap_in e (option_map loan.Other o) ≡ o
+other_snap e None = refl
+other_snap e (Some snap) = refl
 
 same_source : (h : ℕ) (s : Option Subject) (o : Option Snap) → lent_source (lent_as h s o ++ []) ≡ source_of o
 same_source h s None = refl
 same_source h s (Some snap) = refl
 
-pub answers_by_handle : (e : Exporter) (target : Layout) (v : Value) (h : ℕ) (loans : List (ℕ × Loan)) (o : Option Loan) (r : Result LocalReply Halt) (new : Exporter) → v ≡ value.One (scalar.Handle h)
-    → o ≡ loan_of loans h → Answers (assigned_from e target (snap_in e o)) e r new → Answers (assigned_of_value e target v (lent_for_each e loans (handle_of_value v))) e r new
-answers_by_handle e target v h loans o r new is found answers =
-    subst (λ (x : Value). Answers (assigned_of_value e target x (lent_for_each e loans (handle_of_value x))) e r new) (sym is)
-    (subst (λ (source : Result Snap Fault). Answers (source >>= assigned e target) e r new) (sym (same_source h (subject_in (loan_of loans h)) (snap_in e (loan_of loans h))))
+pub answers_by_handle : (e : Exporter) (target : Layout) (v : Value) (h : ℕ) (named : ℕ → Option Loan) (o : Option Loan) (r : Result LocalReply Halt) (new : Exporter) → v ≡ value.One (scalar.Handle h)
+    → o ≡ named h → Answers (assigned_from e target (snap_in e o)) e r new → Answers (assigned_of_value e target v (lents_by e named (handle_of_value v))) e r new
+answers_by_handle e target v h named o r new is found answers =
+    subst (λ (x : Value). Answers (assigned_of_value e target x (lents_by e named (handle_of_value x))) e r new) (sym is)
+    (subst (λ (source : Result Snap Fault). Answers (source >>= assigned e target) e r new) (sym (same_source h (subject_in (named h)) (snap_in e (named h))))
     (subst (λ (l : Option Loan). Answers (assigned_from e target (snap_in e l)) e r new) found answers))
 
 pub answers_by_bytes : (e : Exporter) (target : Layout) (v : Value) (bytes content : List ℕ) (lents : List Lent) (r : Result LocalReply Halt) (new : Exporter) → v ≡ value.One (scalar.Bytes bytes)

@@ -12,6 +12,7 @@ use Rattle.pybuf_value.specs.declared.values.Value.TheVariants as value
 use Rattle.pybuf_value.specs.declared.values.Scalar.TheVariants as scalar
 use Rattle.pybuf_value.specs.declared.snaps.Snap.{Snap}
 use Rattle.pybuf_value.specs.Refusing.{◌>>=◌, unless}
+use Rattle.pybuf_value.specs.Snaps.{is_iterator}
 use Rattle.pybuf_slice.specs.Parts.{SliceParts}
 use Rattle.pybuf_desc.specs.Layouts.{Layout, LiesInside, HasItemsOfItsShape}
 use Rattle.pybuf_desc.specs.Slices.{slice_of}
@@ -23,7 +24,7 @@ use Rattle.pybuf_command.specs.declared.commands.LocalReply.TheVariants as reply
 use Rattle.pybuf_state.specs.Exporter.{Exporter}
 use Rattle.pybuf_state.specs.Loans.{Lent}
 use Rattle.pybuf_state.specs.Laws.{LiveLayoutsAreSound}
-use Rattle.pybuf_rows_writes.specs.Assign.{is_iterator, no_iterator, lent_source, source_in, has_form_of, assign_target, assigned, assigned_of_value}
+use Rattle.pybuf_rows_writes.specs.Assign.{no_iterator, lent_source, source_in, has_form_of, assign_target, assigned, assigned_of_value}
 use Rattle.pybuf_desc.specs.Items.{bytes_at, bytes_of_items, content_of_layout}
 use Rattle.pybuf_memoryview.specs.Items.{bytes_with}
 use Rattle.pybuf_memoryview.specs.Laid.{laid}

@@ -1,6 +1,6 @@
 -- `set` of a view by a slice: the items that the slice picks get the bytes of as many other items, as
 -- these were before the command.
-use Rattle.std.specs.Prelude.{ℕ, ◌==◌, Bool, true, false, ◌&&◌, not, List, [], ◌∷◌, length, slice_index, bytes_eq, Option, Some, None, Result, Ok, Err}
+use Rattle.std.specs.Prelude.{ℕ, ◌==◌, Bool, ◌&&◌, not, List, [], ◌∷◌, length, slice_index, bytes_eq, Option, Some, None, Result, Ok, Err}
 use Rattle.pybuf_value.specs.declared.faults.Fault.{Fault}
 use Rattle.pybuf_value.specs.declared.faults.Fault.TheVariants as fault
 use Rattle.pybuf_value.specs.declared.values.Value.{Value}
@@ -8,9 +8,8 @@ use Rattle.pybuf_value.specs.declared.values.Value.TheVariants as value
 use Rattle.pybuf_value.specs.declared.values.Scalar.TheVariants as scalar
 use Rattle.pybuf_value.specs.declared.values.PySlice.{PySlice}
 use Rattle.pybuf_value.specs.declared.snaps.Snap.{Snap}
-use Rattle.pybuf_value.specs.declared.snaps.SnapKind.{SnapKind}
-use Rattle.pybuf_value.specs.declared.snaps.SnapKind.TheVariants as snap_kind
 use Rattle.pybuf_value.specs.Refusing.{◌>>=◌, unless}
+use Rattle.pybuf_value.specs.Snaps.{is_iterator}
 use Rattle.pybuf_slice.specs.Parts.{saturated_parts_of}
 use Rattle.pybuf_desc.specs.Layouts.{Layout}
 use Rattle.pybuf_desc.specs.Slices.{slice_of}
@@ -34,10 +33,6 @@ assign_target e k slice value = do
   _ ← unless (not (length layout.shape == 1)) fault.NotImplemented
   parts ← saturated_parts_of slice
   Ok (slice_of layout parts)
-
-abbrev pub is_iterator : SnapKind → Bool
-is_iterator snap_kind.Iterator = true
-is_iterator _ = false
 
 -- what was lent, which is an exporter or a view: an iterator has no items to copy
 abbrev pub no_iterator : Snap → Result Snap Fault
@@ -86,12 +81,6 @@ abbrev pub assigned_of_value : Exporter → Layout → Value → List Lent → R
 assigned_of_value e target value lents = do
   source ← source_in value lents
   assigned e target source
-
--- with what another exporter lends for a handle, as its code does it
-abbrev pub assign_beside : Exporter → ℕ → PySlice → Value → Option Snap → Result (Exporter × LocalReply) Fault
-assign_beside e k slice value lent = do
-  target ← assign_target e k slice value
-  assigned_from e target lent
 
 abbrev pub assign_of_view : Exporter → ℕ → PySlice → Value → List Lent → Result (Exporter × LocalReply) Fault
 assign_of_view e k slice value lents = do

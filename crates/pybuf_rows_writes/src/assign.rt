@@ -1,25 +1,26 @@
 //! `set` of a view by a slice: items are copied over those that the slice picks.
 ghost use Rattle.std.specs.Prelude.{◌≡◌, [], ◌∷◌, true, false, length, codes, Some, Ok, Err, IfOk, MatchResult};
-ghost use Rattle.std.specs.Option.{option_copied, ForSome};
 ghost use Rattle.pybuf_value.specs.Halting.{Gives};
+ghost use Rattle.pybuf_value.specs.Snaps.{is_iterator};
 ghost use Rattle.pybuf_desc.specs.Layouts.{Layout, LiesInside};
 ghost use Rattle.pybuf_command.specs.declared.kinds.ExporterKind.{ExporterKind};
 ghost use Rattle.pybuf_command.specs.declared.kinds.Subject.TheVariants as subjects;
 ghost use Rattle.pybuf_command.specs.Handles.{handle_of_value};
-ghost use Rattle.pybuf_command.specs.Fits.{LoansFit, fits, fits_snap, is_row_of};
+ghost use Rattle.pybuf_command.specs.Fits.{fits_snap};
 ghost use Rattle.pybuf_memoryview.specs.Snaps.{snap_of_layout};
 ghost use Rattle.pybuf_state.specs.Exporter.{Exporter, exports_of, new_exporter};
-ghost use Rattle.pybuf_state.specs.Loans.{lent_for_each, snap_in};
+ghost use Rattle.pybuf_state.specs.Loans.{lents_by, snap_in};
+ghost use Rattle.pybuf_state.specs.Names as names_spec;
 ghost use Rattle.pybuf_state.specs.Snaps.{snap_of_exporter, snap_of_subject};
 ghost use Rattle.pybuf_state.specs.Answers.{exporter_of, IsWhole, Answers};
 ghost use Rattle.pybuf_state.specs.Laws.{IsSoundLayout};
 ghost use Rattle.pybuf_rows_writes.specs.Assign as spec;
 
-use pybuf_command::{Loan, LoanList, LocalReply, Subject, is_byte_format, loan_of};
+use pybuf_command::{LocalReply, Subject, is_byte_format, is_row_of};
 use pybuf_memoryview::{KeptLayout, content_of, first_place, is_none, lay, lay_across, lay_moved};
 use pybuf_slice::SaturatedSlice;
-use pybuf_state::Parts;
-use pybuf_value::{Fault, Halt, PySlice, Scalar, Snap, SnapKind, Value};
+use pybuf_state::{Meaning, Names, Other, Parts};
+use pybuf_value::{Fault, Halt, PySlice, Scalar, Snap, Value};
 
 /// The layout of the items that are written.
 fn target(parts: &Parts, view: usize, slice: &PySlice, value: &Value) -> Result<KeptLayout, Halt>
@@ -45,16 +46,6 @@ fn target(parts: &Parts, view: usize, slice: &PySlice, value: &Value) -> Result<
     let slice = SaturatedSlice::with_slice(slice)?;
     let target = layout.sliced(parts.alloc, slice)?;
     Ok(target)
-}
-
-/// Whether a shape is one dimension of so many entries.
-fn is_row_of(count: usize, shape: &[usize]) -> bool
-    ensures { result ≡ is_row_of count shape.now }
-{
-    match shape {
-        [n] => *n == count,
-        _ => false,
-    }
 }
 
 /// Whether items have the format, the item size and the shape of those that are written.
@@ -85,16 +76,6 @@ fn has_form_of_layout(target: &KeptLayout, source: &KeptLayout) -> bool
         && source.first_entry() == target.first_entry()
 }
 
-/// Whether a snap is of an iterator.
-fn is_iterator(kind: SnapKind) -> bool
-    ensures { result ≡ spec.is_iterator kind }
-{
-    match kind {
-        SnapKind::Iterator => true,
-        _ => false,
-    }
-}
-
 /// Copies bytes that lie outside the exporter.
 fn from_bytes(parts: &mut Parts, target: &KeptLayout, bytes: &[u8]) -> Result<LocalReply, Halt>
     requires whole { IsWhole parts.old }
@@ -116,7 +97,7 @@ fn from_snap(parts: &mut Parts, target: &KeptLayout, snap: &Snap) -> Result<Loca
     requires one_dimension { length target.now.shape ≡ 1 }
     requires inside { LiesInside (length parts.old.bytes.items) target.now }
     requires fits { fits_snap snap.now ≡ true }
-    requires no_iterator { spec.is_iterator snap.now.kind ≡ false }
+    requires no_iterator { is_iterator snap.now.kind ≡ false }
     ensures answer { Answers (spec.assigned (exporter_of parts.old) target.now snap.now) (exporter_of parts.old) result (exporter_of parts.new) }
     ensures counted { parts.new.exports ≡ exports_of (exporter_of parts.new) }
 {
@@ -144,7 +125,7 @@ fn from_other(parts: &mut Parts, target: &KeptLayout, snap: &Snap) -> Result<Loc
     ensures answer { Answers (spec.assigned_from (exporter_of parts.old) target.now (Some snap.now)) (exporter_of parts.old) result (exporter_of parts.new) }
     ensures counted { parts.new.exports ≡ exports_of (exporter_of parts.new) }
 {
-    if is_iterator(snap.kind) {
+    if snap.kind.is_iterator() {
         return Err(Halt::Refused(Fault::Kind));
     }
     from_snap(parts, target, snap)
@@ -208,69 +189,8 @@ fn from_view(parts: &mut Parts, target: &KeptLayout, view: usize) -> Result<Loca
     Ok(LocalReply::Ok)
 }
 
-/// Copies what a handle is lent as.
-fn from_loan(
-    parts: &mut Parts,
-    target: &KeptLayout,
-    loan: Option<&Loan>,
-) -> Result<LocalReply, Halt>
-    requires whole { IsWhole parts.old }
-    requires one_dimension { length target.now.shape ≡ 1 }
-    requires inside { LiesInside (length parts.old.bytes.items) target.now }
-    requires fits { ForSome (option_copied loan) (λ l. fits l ≡ true) }
-    ensures answer { Answers (spec.assigned_from (exporter_of parts.old) target.now (snap_in (exporter_of parts.old) (option_copied loan.entry))) (exporter_of parts.old) result (exporter_of parts.new) }
-    ensures counted { parts.new.exports ≡ exports_of (exporter_of parts.new) }
-{
-    match loan {
-        Some(Loan::Own) => from_own(parts, target),
-        Some(Loan::View(view)) => from_view(parts, target, *view),
-        Some(Loan::Other(snap)) => from_other(parts, target, snap),
-        _ => Err(Halt::Refused(Fault::Kind)),
-    }
-}
-
-/// Copies what a value is or names.
-fn from_value(
-    parts: &mut Parts,
-    target: &KeptLayout,
-    value: &Value,
-    loans: &LoanList,
-) -> Result<LocalReply, Halt>
-    requires whole { IsWhole parts.old }
-    requires one_dimension { length target.now.shape ≡ 1 }
-    requires inside { LiesInside (length parts.old.bytes.items) target.now }
-    requires fit { LoansFit loans.now }
-    ensures answer { Answers (spec.assigned_of_value (exporter_of parts.old) target.now value.now (lent_for_each (exporter_of parts.old) loans.now (handle_of_value value.now))) (exporter_of parts.old) result (exporter_of parts.new) }
-    ensures counted { parts.new.exports ≡ exports_of (exporter_of parts.new) }
-{
-    match value {
-        Value::One(Scalar::Bytes(bytes)) => from_bytes(parts, target, bytes.as_slice()),
-        Value::One(Scalar::Handle(handle)) => {
-            from_loan(parts, target, loan_of(loans.as_slice(), *handle))
-        }
-        _ => Err(Halt::Refused(Fault::Kind)),
-    }
-}
-
-/// Copies over the items that a slice of a view picks.
-pub fn of_view(
-    parts: &mut Parts,
-    view: usize,
-    slice: &PySlice,
-    value: &Value,
-    loans: &LoanList,
-) -> Result<LocalReply, Halt>
-    requires whole { IsWhole parts.old }
-    requires fit { LoansFit loans.now }
-    ensures answer { Answers (spec.assign_of_view (exporter_of parts.old) view slice.now value.now (lent_for_each (exporter_of parts.old) loans.now (handle_of_value value.now))) (exporter_of parts.old) result (exporter_of parts.new) }
-    ensures counted { parts.new.exports ≡ exports_of (exporter_of parts.new) }
-{
-    let target = target(parts, view, slice, value)?;
-    from_value(parts, &target, value, loans)
-}
-
 /// Copies the items of a view of another exporter from where they lie, row by row.
-fn from_view_beside(
+fn from_view_across(
     parts: &mut Parts,
     target: &KeptLayout,
     lender: &Parts,
@@ -296,42 +216,88 @@ fn from_view_beside(
     Ok(LocalReply::Ok)
 }
 
-/// Copies a subject of another exporter from where its bytes lie.
-fn from_beside(
+/// Copies a subject of another exporter from where its bytes lie: no byte is copied between.
+fn from_subject_across(
     parts: &mut Parts,
     target: &KeptLayout,
     lender: &Parts,
-    lent: Subject,
+    subject: Subject,
 ) -> Result<LocalReply, Halt>
     requires whole { IsWhole parts.old }
     requires lender_whole { IsWhole lender.now }
     requires one_dimension { length target.now.shape ≡ 1 }
     requires inside { LiesInside (length parts.old.bytes.items) target.now }
-    ensures answer { Answers (spec.assigned_from (exporter_of parts.old) target.now (snap_of_subject (exporter_of lender.now) lent)) (exporter_of parts.old) result (exporter_of parts.new) }
+    ensures answer { Answers (spec.assigned_from (exporter_of parts.old) target.now (snap_of_subject (exporter_of lender.now) subject)) (exporter_of parts.old) result (exporter_of parts.new) }
     ensures counted { parts.new.exports ≡ exports_of (exporter_of parts.new) }
 {
-    match lent {
+    match subject {
         Subject::Own => from_bytes(parts, target, lender.bytes.as_slice()),
-        Subject::View(view) => from_view_beside(parts, target, lender, view),
+        Subject::View(view) => from_view_across(parts, target, lender, view),
         Subject::Iter(_) => Err(Halt::Refused(Fault::Kind)),
     }
 }
 
-/// Copies over the items that a slice of a view picks, from another exporter that is lent itself, or
-/// from a view of it: no byte is copied between.
-pub fn of_view_beside(
+/// Copies what a handle names.
+#[tactic(auto, using(crate::proofs::Assigning::other_snap))]
+fn from_meaning(
+    parts: &mut Parts,
+    target: &KeptLayout,
+    meaning: Meaning<'_>,
+) -> Result<LocalReply, Halt>
+    requires whole { IsWhole parts.old }
+    requires one_dimension { length target.now.shape ≡ 1 }
+    requires inside { LiesInside (length parts.old.bytes.items) target.now }
+    requires sound { names_spec.IsSoundMeaning meaning }
+    ensures answer { Answers (spec.assigned_from (exporter_of parts.old) target.now (snap_in (exporter_of parts.old) (names_spec.meant meaning.entry))) (exporter_of parts.old) result (exporter_of parts.new) }
+    ensures counted { parts.new.exports ≡ exports_of (exporter_of parts.new) }
+{
+    match meaning {
+        Meaning::Own(Subject::Own) => from_own(parts, target),
+        Meaning::Own(Subject::View(view)) => from_view(parts, target, view),
+        Meaning::Own(Subject::Iter(_)) => Err(Halt::Refused(Fault::Kind)),
+        Meaning::Other(Other::Snap(snap)) => from_other(parts, target, snap),
+        Meaning::Other(Other::Lies { lender, subject }) => {
+            from_subject_across(parts, target, lender, subject)
+        }
+        Meaning::Nothing => Err(Halt::Refused(Fault::Kind)),
+    }
+}
+
+/// Copies what a value is or names.
+fn from_value<N: Names>(
+    parts: &mut Parts,
+    target: &KeptLayout,
+    value: &Value,
+    names: &N,
+) -> Result<LocalReply, Halt>
+    requires whole { IsWhole parts.old }
+    requires one_dimension { length target.now.shape ≡ 1 }
+    requires inside { LiesInside (length parts.old.bytes.items) target.now }
+    requires fit { N.fit names.now }
+    ensures answer { Answers (spec.assigned_of_value (exporter_of parts.old) target.now value.now (lents_by (exporter_of parts.old) (N.named names.now) (handle_of_value value.now))) (exporter_of parts.old) result (exporter_of parts.new) }
+    ensures counted { parts.new.exports ≡ exports_of (exporter_of parts.new) }
+{
+    match value {
+        Value::One(Scalar::Bytes(bytes)) => from_bytes(parts, target, bytes.as_slice()),
+        Value::One(Scalar::Handle(handle)) => from_meaning(parts, target, names.meaning(*handle)),
+        _ => Err(Halt::Refused(Fault::Kind)),
+    }
+}
+
+/// Copies over the items that a slice of a view picks. From another exporter that is lent itself, or from
+/// a view of it, no byte is copied between.
+pub fn of_view<N: Names>(
     parts: &mut Parts,
     view: usize,
     slice: &PySlice,
     value: &Value,
-    lender: &Parts,
-    lent: Subject,
+    names: &N,
 ) -> Result<LocalReply, Halt>
     requires whole { IsWhole parts.old }
-    requires lender_whole { IsWhole lender.now }
-    ensures answer { Answers (spec.assign_beside (exporter_of parts.old) view slice.now value.now (snap_of_subject (exporter_of lender.now) lent)) (exporter_of parts.old) result (exporter_of parts.new) }
+    requires fit { N.fit names.now }
+    ensures answer { Answers (spec.assign_of_view (exporter_of parts.old) view slice.now value.now (lents_by (exporter_of parts.old) (N.named names.now) (handle_of_value value.now))) (exporter_of parts.old) result (exporter_of parts.new) }
     ensures counted { parts.new.exports ≡ exports_of (exporter_of parts.new) }
 {
     let target = target(parts, view, slice, value)?;
-    from_beside(parts, &target, lender, lent)
+    from_value(parts, &target, value, names)
 }

@@ -7,17 +7,17 @@ ghost use Rattle.pybuf_value.specs.declared.values.Scalar.TheVariants as scalar;
 ghost use Rattle.pybuf_memoryview.specs.Items.{piece_by, scalar_in};
 ghost use Rattle.pybuf_command.specs.Handles.{handle_of_value};
 ghost use Rattle.pybuf_state.specs.Exporter.{exports_of};
-ghost use Rattle.pybuf_state.specs.Loans.{lent_for_each};
+ghost use Rattle.pybuf_state.specs.Loans.{lents_by};
 ghost use Rattle.pybuf_state.specs.Sound.{IsFormed};
 ghost use Rattle.pybuf_state.specs.Answers.{exporter_of, IsWhole, Answers};
 ghost use Rattle.pybuf_rows_writes.specs.Set.{byte_set, set_of_own, set_target, item_set, set_of_view};
 ghost use Rattle.pybuf_rows_writes.specs.Writing.{bytes_packed, bytes_by_letter, single_byte_set, IsStartOfTarget};
 
-use pybuf_command::{ExporterKind, LoanList, LocalReply, is_byte_format};
+use pybuf_command::{ExporterKind, LocalReply, is_byte_format};
 use pybuf_memoryview::{
     KeptLayout, args_of, byte_for_item, entry_in, format_of, index_in, is_none, place_of_key,
 };
-use pybuf_state::{Parts, lent_to};
+use pybuf_state::{Names, Parts, lent_to};
 use pybuf_struct::{FormatSpec, is_numeric_letter, pack_single};
 use pybuf_value::{Fault, Halt, Scalar, ScalarList, SnapList, Value, value_from_object};
 
@@ -162,15 +162,16 @@ fn write_number(
 
 /// Writes the item of a view at a key. A byte of the format `B`, which most views have, and numbers of
 /// a format of one letter are written without parsing it.
-pub fn of_view(
+pub fn of_view<N: Names>(
     parts: &mut Parts,
     view: usize,
     key: &Value,
     value: &Value,
-    loans: &LoanList,
+    names: &N,
 ) -> Result<LocalReply, Halt>
-    requires { IsWhole parts.old }
-    ensures answer { Answers (set_of_view (exporter_of parts.old) view key.now value.now (lent_for_each (exporter_of parts.old) loans.now (handle_of_value value.now))) (exporter_of parts.old) result (exporter_of parts.new) }
+    requires whole { IsWhole parts.old }
+    requires fit { N.fit names.now }
+    ensures answer { Answers (set_of_view (exporter_of parts.old) view key.now value.now (lents_by (exporter_of parts.old) (N.named names.now) (handle_of_value value.now))) (exporter_of parts.old) result (exporter_of parts.new) }
     ensures counted { parts.new.exports ≡ exports_of (exporter_of parts.new) }
 {
     pybuf_memoryview::byte_items_are_their_byte();
@@ -184,7 +185,7 @@ pub fn of_view(
         return Ok(LocalReply::Ok);
     }
     let format = format_of(parts.alloc, layout)?;
-    let pairs = lent_to(parts, parts.alloc, &format, loans, value)?;
+    let pairs = lent_to(parts, parts.alloc, &format, names, value)?;
     let args = args_of(parts.alloc, value)?;
     write_item(parts.bytes.as_mut_slice(), place, &format, &args, &pairs)?;
     Ok(LocalReply::Ok)

@@ -1,8 +1,9 @@
 //! What bytes can be read from, and a separator with a greatest number of cuts.
 ghost use Rattle.std.specs.Prelude.{◌≡◌, ℕ, List};
+ghost use Rattle.pybuf_value.specs.Lent.{lent_bytes};
 ghost use Rattle.pybuf_search.specs.Separators as spec;
 
-use pybuf_value::{ByteList, Fault};
+use pybuf_value::{ByteList, Fault, Lent};
 
 /// What bytes can be read from.
 pub trait AnyStrWrapper {
@@ -16,6 +17,14 @@ pub trait AnyStrWrapper {
 
 impl AnyStrWrapper for ByteList {
     ghost bytes = { λ list. list };
+
+    fn as_ref(&self) -> &[u8] {
+        self.as_slice()
+    }
+}
+
+impl<'a> AnyStrWrapper for Lent<'a> {
+    ghost bytes = { lent_bytes };
 
     fn as_ref(&self) -> &[u8] {
         self.as_slice()

@@ -2,4 +2,4 @@ pub mod Finding
 pub mod Keeping
 pub mod Fitting
 pub mod Copying
-pub mod Ahead
+pub mod Meanings

@@ -5,6 +5,7 @@ pub mod Loans
 pub mod Keeps
 pub mod Fresh
 pub mod Answers
+pub mod Names
 pub mod Laws
 pub mod Live
 pub mod Resizing

@@ -18,16 +18,25 @@ is_named e (Some loan.Own) = true
 is_named e (Some (loan.View k)) = nat_lt k (length e.views)
 is_named e (Some (loan.Iter k)) = nat_lt k (length e.iterators)
 is_named e (Some (loan.Other snap)) = true
-is_named e (Some loan.Known) = true
 is_named e (Some loan.Missing) = false
 is_named e None = false
 
--- the first pair of a handle counts
-abbrev pub is_known : Exporter → List (ℕ × Loan) → ℕ → Bool
-is_known e loans h = is_named e (loan_of loans h)
+-- the same of each of these handles, by what each is lent as
+abbrev pub are_named : Exporter → (ℕ → Option Loan) → List ℕ → Bool
+are_named e named handles = list_all (λ h. is_named e (named h)) handles
 
+-- a handle for which nothing is lent is none that was given
+abbrev pub given_loan : Option Loan → Option Loan
+given_loan (Some loan.Missing) = None
+given_loan l = l
+
+-- what each handle is lent as: the first pair of it counts
+abbrev pub names_of : List (ℕ × Loan) → ℕ → Option Loan
+names_of loans h = given_loan (loan_of loans h)
+
+-- the same of each of these handles by loans
 abbrev pub are_known : Exporter → List (ℕ × Loan) → List ℕ → Bool
-are_known e loans handles = list_all (is_known e loans) handles
+are_known e loans handles = are_named e (names_of loans) handles
 
 -- ---- what is lent
 
@@ -62,12 +71,13 @@ snap_in e (Some (loan.Iter k)) = snap_of_subject e (subject.Iter k)
 snap_in e (Some (loan.Other snap)) = Some snap
 snap_in e _ = None
 
-abbrev pub lent_for : Exporter → List (ℕ × Loan) → ℕ → List Lent
-lent_for e loans h = lent_as h (subject_in (loan_of loans h)) (snap_in e (loan_of loans h))
+-- what is lent for the handles whose bytes a command reads, in order, by what each is lent as
+abbrev pub lents_by : Exporter → (ℕ → Option Loan) → List ℕ → List Lent
+lents_by e named handles = flat_map (λ h. lent_as h (subject_in (named h)) (snap_in e (named h))) handles
 
--- what is lent for the handles whose bytes a command reads, in order
+-- the same by loans
 abbrev pub lent_for_each : Exporter → List (ℕ × Loan) → List ℕ → List Lent
-lent_for_each e loans handles = flat_map (lent_for e loans) handles
+lent_for_each e loans handles = lents_by e (names_of loans) handles
 
 -- the handles with what they name
 abbrev pub snaps_of : List Lent → List (ℕ × Snap)

@@ -7,23 +7,28 @@
 
 mod fresh;
 mod iterators;
-mod known;
 mod laws;
 mod lending;
+mod names;
 mod parts;
 mod runs;
 mod snaps;
 mod stored;
+mod subjects;
 
 pub use fresh::exporter_of_copy;
 pub use iterators::StoredIterator;
-pub use known::{are_known, are_known_beside, is_lent};
 pub use laws::{
     copies_are_faithful, emptying_keeps, live_layouts_are_sound, moved_iterators_stay,
     new_iterators_stay, new_views_keep, part_layouts_are_sound, reading_keeps, releasing_keeps,
     resizing_keeps, whole_layouts_are_sound, writing_keeps,
 };
+pub use names::{Meaning, Names, Other, are_known};
 pub use parts::Parts;
 pub use runs::{bytes_in_a_row, given, run_of};
 pub use snaps::{lent_to, snap_of_subject};
 pub use stored::StoredView;
+pub use subjects::{
+    content_lent, content_of_meaning, content_of_other, content_of_subject, kind_of_meaning,
+    kind_of_other, kind_of_subject, run_of_meaning, run_of_other, run_of_subject,
+};

@@ -22,10 +22,23 @@ pub struct Parts {
 }
 
 impl Parts {
+    ghost use Rattle.pybuf_value.specs.declared.faults.Fault.TheVariants as faults;
+    ghost use Rattle.pybuf_value.specs.Refusing.{unless};
+    ghost use Rattle.pybuf_state.specs.Keeps as keeps;
     ghost use Rattle.pybuf_state.specs.Exporter.{view_at, live_layout, with_view, released_in, exports_of, resized, iterator_at, with_iterator, iterator_put};
     ghost use Rattle.pybuf_state.specs.Answers.{exporter_of, IsWhole, Answers};
     ghost use Rattle.pybuf_state.specs.Laws.{IsSoundLayout};
     ghost use Rattle.pybuf_state.specs.Resizing.{has_exports, resizable};
+
+    /// Refuses a vector, which is no string of bytes, with `UnknownName`.
+    pub fn check_string(&self) -> Result<(), Fault>
+        ensures { MatchResult result (λ _. unless (keeps.is_vector self.now.kind) faults.UnknownName ≡ Ok true) (λ f. unless (keeps.is_vector self.now.kind) faults.UnknownName ≡ Err f) }
+    {
+        match self.kind {
+            ExporterKind::Vector { readonly: _ } => Err(Fault::UnknownName),
+            _ => Ok(()),
+        }
+    }
 
     /// The view of a number that was given, released or not.
     ///
@@ -114,9 +127,9 @@ impl Parts {
         Ok(())
     }
 
-    /// Puts other bytes in place of those from one place up to another, as many as there are: the one
-    /// call by which the length of an exporter changes. The bytes behind move once, and none moves
-    /// where bytes are added at the end. Where memory runs out, all is as before.
+    /// Puts other bytes in place of those from one place up to another, as many as there are. With
+    /// `replace_bytes` it is the call by which the length of an exporter changes. The bytes behind move
+    /// once, and none moves where bytes are added at the end. Where memory runs out, all is as before.
     pub fn replace_range(&mut self, start: usize, end: usize, bytes: &[u8]) -> Made<()>
         requires free { has_exports (exporter_of self.old) ≡ false }
         requires ordered { start ≤ end }
@@ -145,6 +158,15 @@ impl Parts {
         ensures exports { self.new.exports ≡ self.old.exports }
     {
         self.bytes.do_delete_range(start..end);
+    }
+
+    /// Puts a vector in place of all bytes, as it is: nothing is copied, and no memory is taken.
+    pub fn replace_bytes(&mut self, bytes: Vec<u8>)
+        requires free { has_exports (exporter_of self.old) ≡ false }
+        ensures same { exporter_of self.new ≡ record (exporter_of self.old) { bytes = bytes.items } }
+        ensures exports { self.new.exports ≡ self.old.exports }
+    {
+        self.bytes = bytes;
     }
 
     /// Releases a view that was given. The second time changes nothing.

@@ -1,6 +1,5 @@
 //! What an exporter and its views are lent as.
 ghost use Rattle.std.specs.Prelude.{◌≡◌, List, [], ◌∷◌, ◌++◌, codes, IfOk, IfSome, true, false};
-ghost use Rattle.std.specs.Option.{option_copied};
 ghost use Rattle.pybuf_value.specs.declared.values.Scalar.{Scalar};
 ghost use Rattle.pybuf_command.specs.declared.kinds.Subject.TheVariants as subjects;
 ghost use Rattle.pybuf_command.specs.Handles.{handle_of_value};
@@ -9,15 +8,18 @@ ghost use Rattle.pybuf_struct.specs.Packing.{packed_bytes};
 ghost use Rattle.pybuf_state.specs.Answers.{exporter_of, IsWhole};
 ghost use Rattle.pybuf_state.specs.Snaps as spec;
 ghost use Rattle.pybuf_state.specs.Loans as loans_spec;
+ghost use Rattle.pybuf_state.specs.Names as names_spec;
 
+use crate::names::{Meaning, Names, Other};
 use crate::parts::Parts;
-use pybuf_command::{ExporterKind, Loan, LoanList, Subject, loan_of};
+use pybuf_command::{ExporterKind, Subject};
 use pybuf_memoryview::{reads_bytes, snap_of_layout};
 use pybuf_struct::FormatSpec;
 use pybuf_value::{ByteList, CountList, Made, Scalar, Snap, SnapKind, SnapList, Text, Twin, Value};
 use std::alloc::Global;
 
-fn kind_of(kind: ExporterKind) -> SnapKind
+/// The kind of an exporter, as what a handle names.
+pub(crate) fn kind_of(kind: ExporterKind) -> SnapKind
     ensures { result ≡ spec.snap_kind_of kind }
 {
     match kind {
@@ -138,31 +140,48 @@ fn pair_of(alloc: Global, handle: u64, snap: Option<Snap>) -> Made<SnapList>
     Ok(pairs)
 }
 
-/// What a loan names, as it stands; nothing where its bytes aren't read.
-fn snap_in(parts: &Parts, alloc: Global, loan: Option<&Loan>) -> Made<Option<Snap>>
-    requires { IsWhole parts.now }
-    ensures { IfOk result (λ snap. snap ≡ loans_spec.snap_in (exporter_of parts.now) (option_copied loan.entry)) }
+/// Something of another exporter, as it stands.
+fn snap_of_other(alloc: Global, other: Other<'_>) -> Made<Option<Snap>>
+    requires { names_spec.IsSoundOther other }
+    ensures { IfOk result (λ snap. snap ≡ names_spec.snap_of_other other.entry) }
 {
-    match loan {
-        Some(Loan::Own) => snap_of_subject(parts, alloc, Subject::Own),
-        Some(Loan::View(view)) => snap_of_subject(parts, alloc, Subject::View(*view)),
-        Some(Loan::Iter(iterator)) => snap_of_subject(parts, alloc, Subject::Iter(*iterator)),
-        Some(Loan::Other(snap)) => {
+    match other {
+        Other::Snap(snap) => {
             let snap = snap.copy(alloc)?;
             Ok(Some(snap))
         }
-        _ => Ok(None),
+        Other::Lies { lender, subject } => snap_of_subject(lender, alloc, subject),
+    }
+}
+
+/// What a handle names, as it stands.
+#[tactic(auto, using(crate::proofs::Meanings::own_snap, crate::proofs::Meanings::other_snap))]
+fn snap_of_meaning(parts: &Parts, alloc: Global, meaning: Meaning<'_>) -> Made<Option<Snap>>
+    requires whole { IsWhole parts.now }
+    requires sound { names_spec.IsSoundMeaning meaning }
+    ensures { IfOk result (λ snap. snap ≡ loans_spec.snap_in (exporter_of parts.now) (names_spec.meant meaning.entry)) }
+{
+    match meaning {
+        Meaning::Own(subject) => snap_of_subject(parts, alloc, subject),
+        Meaning::Other(other) => snap_of_other(alloc, other),
+        Meaning::Nothing => Ok(None),
     }
 }
 
 /// What the handle that a value is names.
-fn lent_for_value(parts: &Parts, alloc: Global, loans: &LoanList, value: &Value) -> Made<SnapList>
-    requires { IsWhole parts.now }
-    ensures { IfOk result (λ pairs. pairs ≡ loans_spec.snaps_of (loans_spec.lent_for_each (exporter_of parts.now) loans.now (handle_of_value value.now))) }
+fn lent_for_value<N: Names>(
+    parts: &Parts,
+    alloc: Global,
+    names: &N,
+    value: &Value,
+) -> Made<SnapList>
+    requires whole { IsWhole parts.now }
+    requires fit { N.fit names.now }
+    ensures { IfOk result (λ pairs. pairs ≡ loans_spec.snaps_of (loans_spec.lents_by (exporter_of parts.now) (N.named names.now) (handle_of_value value.now))) }
 {
     match value {
         Value::One(Scalar::Handle(handle)) => {
-            let snap = snap_in(parts, alloc, loan_of(loans.as_slice(), *handle))?;
+            let snap = snap_of_meaning(parts, alloc, names.meaning(*handle))?;
             pair_of(alloc, *handle, snap)
         }
         _ => Ok(SnapList::new(alloc)),
@@ -171,19 +190,20 @@ fn lent_for_value(parts: &Parts, alloc: Global, loans: &LoanList, value: &Value)
 
 /// What is lent to a format for the handle that a value is: nothing where the format looks at no
 /// bytes, so that none are copied. The format writes the same as if all were lent.
-pub fn lent_to(
+pub fn lent_to<N: Names>(
     parts: &Parts,
     alloc: Global,
     format: &FormatSpec,
-    loans: &LoanList,
+    names: &N,
     value: &Value,
 ) -> Made<SnapList>
-    requires { IsWhole parts.now }
-    ensures { IfOk result (λ pairs. (values : List Scalar) → packed_bytes format.now pairs values ≡ packed_bytes format.now (loans_spec.snaps_of (loans_spec.lent_for_each (exporter_of parts.now) loans.now (handle_of_value value.now))) values) }
+    requires whole { IsWhole parts.now }
+    requires fit { N.fit names.now }
+    ensures { IfOk result (λ pairs. (values : List Scalar) → packed_bytes format.now pairs values ≡ packed_bytes format.now (loans_spec.snaps_of (loans_spec.lents_by (exporter_of parts.now) (N.named names.now) (handle_of_value value.now))) values) }
 {
     pybuf_memoryview::numbers_look_at_no_loan();
     if reads_bytes(format) {
-        return lent_for_value(parts, alloc, loans, value);
+        return lent_for_value(parts, alloc, names, value);
     }
     Ok(SnapList::new(alloc))
 }

@@ -125,7 +125,7 @@ fn loans_with(alloc: Global, kind: SnapKind, format: char) -> Made<LoanList> {
     let mut loans = LoanList::new(alloc);
     loans.push((3, Loan::Own))?;
     loans.push((7, Loan::Other(snap(alloc, kind, format)?)))?;
-    loans.push((8, Loan::Known))?;
+    loans.push((8, Loan::Missing))?;
     Ok(loans)
 }
 

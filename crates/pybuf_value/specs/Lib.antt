@@ -6,6 +6,7 @@ pub mod Equality
 pub mod Order
 pub mod Texts
 pub mod Snaps
+pub mod Lent
 pub mod Quotes
 pub mod Unquoted
 pub mod Spelling

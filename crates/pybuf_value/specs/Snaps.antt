@@ -12,6 +12,11 @@ use Rattle.pybuf_value.specs.declared.snaps.Snap.{Snap}
 use Rattle.pybuf_value.specs.declared.snaps.SnapKind.{SnapKind}
 use Rattle.pybuf_value.specs.declared.snaps.SnapKind.TheVariants as kind
 
+-- an iterator, which has no bytes
+abbrev pub is_iterator : SnapKind → Bool
+is_iterator kind.Iterator = true
+is_iterator _ = false
+
 -- the snap of the first pair of a handle
 abbrev pub snap_of : List (ℕ × Snap) → ℕ → Option Snap
 snap_of [] h = None

@@ -7,6 +7,7 @@ ghost use Rattle.pybuf_value.specs.Snaps.{bytes_like, bytes_alone, bytes_in, byt
 
 use crate::faults::{Fault, Tried};
 use crate::halt::{Halt, tried};
+use crate::lent::{content_of_snap, run_of_snap};
 use crate::list::ByteList;
 use crate::numbers::{ByteOr, number_in};
 use crate::snaps::{Lender, Snap, SnapKind};
@@ -39,24 +40,10 @@ pub fn bytes_like<'a, L: Lender>(value: &'a Scalar, lender: &'a L) -> Result<&'a
 {
     match value {
         Scalar::Bytes(bytes) => Ok(bytes.as_slice()),
-        Scalar::Handle(handle) => {
-            let Some(snap) = lender.lend(*handle) else {
-                return Err(Fault::UnknownName);
-            };
-            match snap.kind {
-                SnapKind::Iterator => Err(Fault::Kind),
-                SnapKind::View => {
-                    if snap.released {
-                        return Err(Fault::Value);
-                    }
-                    if !snap.contiguous {
-                        return Err(Fault::Kind);
-                    }
-                    Ok(snap.content.as_slice())
-                }
-                _ => Ok(snap.content.as_slice()),
-            }
-        }
+        Scalar::Handle(handle) => match lender.lend(*handle) {
+            Some(snap) => run_of_snap(snap),
+            None => Err(Fault::UnknownName),
+        },
         _ => Err(Fault::Kind),
     }
 }
@@ -92,16 +79,10 @@ pub fn bytes_alone<'a, L: Lender>(value: &'a Scalar, lender: &'a L) -> Result<&'
 fn content_of(snap: Option<&Snap>) -> Result<&[u8], Fault>
     ensures { MatchResult result (λ bytes. content_of_named (option_copied snap.entry) ≡ Ok bytes.now) (λ fault. content_of_named (option_copied snap.entry) ≡ Err fault) }
 {
-    let Some(snap) = snap else {
-        return Err(Fault::UnknownName);
-    };
-    if let SnapKind::Iterator = snap.kind {
-        return Err(Fault::Kind);
+    match snap {
+        Some(snap) => content_of_snap(snap),
+        None => Err(Fault::UnknownName),
     }
-    if let (SnapKind::View, true) = (snap.kind, snap.released) {
-        return Err(Fault::Value);
-    }
-    Ok(snap.content.as_slice())
 }
 
 /// The byte that a part of a list is.

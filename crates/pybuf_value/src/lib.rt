@@ -6,6 +6,7 @@ mod equality;
 mod faults;
 mod halt;
 mod laws;
+mod lent;
 mod list;
 mod numbers;
 mod order;
@@ -24,6 +25,7 @@ pub use laws::{
     operators_agree, order_of_bytes_is_total, quoted_texts_read_back,
     scalar_equality_is_equivalence, values_are_spelled_in_ascii,
 };
+pub use lent::{Lent, content_of_snap, run_of_snap};
 pub use list::{
     ByteList, ByteLists, CountList, DimList, ItemList, Items, NumberList, ScalarList, SliceList,
     ValueList, push_reserved,

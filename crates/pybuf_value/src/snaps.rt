@@ -2,7 +2,7 @@
 ghost use Rattle.std.specs.Prelude.{◌≡◌, ℕ, List};
 ghost use Rattle.std.specs.Option.{option_copied};
 ghost use Rattle.pybuf_value.specs.declared.snaps.Snap.{Snap};
-ghost use Rattle.pybuf_value.specs.Snaps.{snap_of};
+ghost use Rattle.pybuf_value.specs.Snaps.{is_iterator, snap_of};
 
 use crate::list::{ByteList, CountList, Items};
 use crate::text::Text;
@@ -22,6 +22,18 @@ pub enum SnapKind {
     View,
     /// An iterator.
     Iterator,
+}
+
+impl SnapKind {
+    /// Whether it is an iterator, which has no bytes.
+    pub fn is_iterator(self) -> bool
+        ensures { result ≡ is_iterator self }
+    {
+        match self {
+            SnapKind::Iterator => true,
+            _ => false,
+        }
+    }
 }
 
 /// What a handle names, as it stands at one moment.

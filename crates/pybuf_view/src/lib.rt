@@ -1,6 +1,6 @@
-//! Python's buffer world, all that a user imports: bytes, bytearrays and memoryviews as values, their
-//! iterators, buffers and borrows, formats and slices, and worlds that are told commands and reply; with
-//! the values that they take, what they answer, and the laws that hold of them.
+//! Python's buffer world, all that a user imports: bytes, bytearrays and memoryviews as values, their iterators,
+//! buffers and borrows, formats and slices, and worlds that are told commands and reply; with the values that they
+//! take, the replies and refusals that they answer, and the laws that hold of them.
 #![tactic(auto)]
 
 pub use pybuf_borrow::ArgAsciiBuffer;
@@ -55,11 +55,10 @@ pub use pybuf_exporter::iterators_give_the_bytes;
 pub use pybuf_exporter::iterators_stay;
 pub use pybuf_exporter::lengths_stay;
 pub use pybuf_exporter::lists_hold_the_items;
-pub use pybuf_exporter::loans_alike_do_the_same;
+pub use pybuf_exporter::names_alike_do_the_same;
 pub use pybuf_exporter::others_leave_iterators;
 pub use pybuf_exporter::reading_in_place_changes_nothing;
 pub use pybuf_exporter::readonly_bytes_stay;
-pub use pybuf_exporter::reads_in_place;
 pub use pybuf_exporter::refused_commands_change_nothing;
 pub use pybuf_exporter::resizing_is_refused_while_exported;
 pub use pybuf_exporter::shaped_casts_share_their_bytes;
@@ -69,8 +68,6 @@ pub use pybuf_exporter::writes_are_seen;
 pub use pybuf_memoryobject::PyMemoryView;
 pub use pybuf_memoryobject::PyMemoryViewIterator;
 pub use pybuf_memoryobject::VecBuffer;
-pub use pybuf_methods::Lent;
-pub use pybuf_methods::Names;
 pub use pybuf_methods::takes;
 pub use pybuf_methods::wrong_numbers_are_refused;
 pub use pybuf_object::BufferResizeGuard;

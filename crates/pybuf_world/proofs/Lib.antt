@@ -6,9 +6,7 @@ pub mod Sound
 pub mod Runs
 pub mod Refusals
 pub mod Stays
-pub mod Needed
-pub mod Beside
+pub mod Among
 pub mod Releases
 pub mod Copies
 pub mod Shown
-pub mod InPlace

@@ -15,11 +15,10 @@ use Rattle.pybuf_value.specs.Texts.{text_in}
 use Rattle.pybuf_bytes.specs.declared.options.ByteInnerNewOptions.{ByteInnerNewOptions}
 use Rattle.pybuf_bytes.specs.Options.{bytes_of_source, text_given, bytes_by, bytes_of_options}
 use Rattle.pybuf_command.specs.declared.kinds.ExporterKind.{ExporterKind}
-use Rattle.pybuf_command.specs.Handles.{handles_in_option, handles_of_options}
+use Rattle.pybuf_command.specs.Handles.{source_alone as handle_by, handle_alone, handles_in_option, handles_of_options}
 use Rattle.pybuf_command.specs.declared.worlds.Reply.TheVariants as reply
 use Rattle.pybuf_rows_methods.specs.Names.{paired}
 use Rattle.pybuf_world.specs.World.{World, snap_for, pairs_of, bytes_of_new, world_with_bytes, are_given}
-use Rattle.pybuf_world.specs.Making.{handle_by, handle_alone}
 use Rattle.pybuf_world.specs.Laws.{IsNewMade, NewExportersStandBehind, UnknownSourcesAreRefused}
 
 -- ---- one handle
@@ -41,19 +40,19 @@ bytes_of_one w options h is = of_one w options.source options.encoding options.e
 
 -- ---- no handle
 
-source_alone : (pairs : List (ℕ × Snap)) (v : Value) → handle_by (Some v) None None ≡ None → bytes_of_source pairs v ≡ bytes_of_source [] v
-source_alone pairs (value.One (scalar.Handle h)) is = absurd (cc)
-source_alone pairs (value.One scalar.None) is = refl
-source_alone pairs (value.One (scalar.Bool true)) is = refl
-source_alone pairs (value.One (scalar.Bool false)) is = refl
-source_alone pairs (value.One (scalar.Int n)) is = refl
-source_alone pairs (value.One (scalar.Text text)) is = refl
-source_alone pairs (value.One (scalar.Bytes bytes)) is = refl
-source_alone pairs (value.One scalar.Ellipsis) is = refl
-source_alone pairs (value.Slice slice) is = refl
-source_alone pairs (value.Tuple parts) is = refl
-source_alone pairs (value.List parts) is = refl
-source_alone pairs (value.Slices slices) is = refl
+source_read : (pairs : List (ℕ × Snap)) (v : Value) → handle_by (Some v) None None ≡ None → bytes_of_source pairs v ≡ bytes_of_source [] v
+source_read pairs (value.One (scalar.Handle h)) is = absurd (cc)
+source_read pairs (value.One scalar.None) is = refl
+source_read pairs (value.One (scalar.Bool true)) is = refl
+source_read pairs (value.One (scalar.Bool false)) is = refl
+source_read pairs (value.One (scalar.Int n)) is = refl
+source_read pairs (value.One (scalar.Text text)) is = refl
+source_read pairs (value.One (scalar.Bytes bytes)) is = refl
+source_read pairs (value.One scalar.Ellipsis) is = refl
+source_read pairs (value.Slice slice) is = refl
+source_read pairs (value.Tuple parts) is = refl
+source_read pairs (value.List parts) is = refl
+source_read pairs (value.Slices slices) is = refl
 
 errors_alone : (pairs : List (ℕ × Snap)) (s : Option Value) (r : Result (List ℕ) Fault)
     → ((r >>= (λ text. Ok (Some text))) >>= (λ errors. bytes_by pairs s None errors)) ≡ ((r >>= (λ text. Ok (Some text))) >>= (λ errors. bytes_by [] s None errors))
@@ -75,7 +74,7 @@ encoding_given pairs s (Ok text) r = by_encoding pairs s text r
 of_none : (pairs : List (ℕ × Snap)) (s e r : Option Value) → handle_by s e r ≡ None → bytes_of_options pairs s e r ≡ bytes_of_options [] s e r
 of_none pairs s (Some e) r is = encoding_given pairs s (text_in e) (text_given r)
 of_none pairs s None (Some r) is = errors_alone pairs s (text_in r)
-of_none pairs (Some v) None None is = source_alone pairs v is
+of_none pairs (Some v) None None is = source_read pairs v is
 of_none pairs None None None is = refl
 
 -- where a source is no handle alone, nothing that is lent is looked at

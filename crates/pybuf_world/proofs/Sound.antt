@@ -31,7 +31,7 @@ use Rattle.pybuf_command.specs.declared.worlds.Reply.TheVariants as reply
 use Rattle.pybuf_command.specs.Handles.{handles_of_options}
 use Rattle.pybuf_world.specs.World.{World, empty_world, exporter_of, with_exporter, bytes_of_new, world_with_bytes, are_given, step_of_new, loans_of, has_view, handles_with_copy, world_after, step_with_loans, target_of, step_of_handle, wstep, world_after_all, world_with_released, released_in_exporter, released_by_name, released_by}
 use Rattle.pybuf_world.specs.Sound.{IsSoundWorld, StaysSound}
-use Rattle.pybuf_world.specs.Beside.{local_step}
+use Rattle.pybuf_world.specs.Stepping.{local_step}
 use Rattle.pybuf_world.specs.Tables.{AreOwners, owners_after}
 use Rattle.pybuf_world.proofs.Handles.{NameExporters, AreNamed, AreFirst, stay_named, stay_first, named_with_new, first_with_new, there_with_new}
 use Rattle.pybuf_world.proofs.Lists.{All-slice_get}

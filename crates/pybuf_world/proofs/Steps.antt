@@ -16,8 +16,8 @@ use Rattle.pybuf_exporter.specs.Laws.{FreshRepliesAreCopies}
 use Rattle.pybuf_world.specs.declared.named.Named.{Named}
 use Rattle.pybuf_world.specs.declared.named.Target.{Target}
 use Rattle.pybuf_command.specs.declared.worlds.Reply.{Reply}
-use Rattle.pybuf_world.specs.World.{World, has_view, handles_with_copy, reply_with_copy, world_after, step_with_loans}
-use Rattle.pybuf_world.specs.Beside.{local_step, loans_beside}
+use Rattle.pybuf_world.specs.World.{World, has_view, handles_with_copy, reply_with_copy, loans_of, world_after, step_with_loans}
+use Rattle.pybuf_world.specs.Stepping.{local_step}
 use Rattle.pybuf_world.specs.Tables.{owners_after, IsCopyAt, IsFresh, IfFresh, with_made, with_copy, answered}
 use Rattle.pybuf_world.proofs.Lists.{slice_get-set, set-slice_get}
 
@@ -118,11 +118,11 @@ copy_asked copies w t v loans o after (local.Refused f) found is = tt
 -- ---- room that was reserved, and both facts of an error
 
 -- handles for which room was reserved are the handles
-pub with_room : (es : List Exporter) (names handles : List Named) (t : Target) (v : Verb) (beside : Option (ℕ × Named)) (loans : List (ℕ × Loan)) (after : World) (r : LocalReply) → names ≡ handles
-    → local_step (record { exporters = es; handles = names }) t v (loans_beside (record { exporters = es; handles = names }) t.exporter beside loans) (slice_get es t.exporter) ≡ (after, r)
-    → local_step (record { exporters = es; handles = handles }) t v (loans_beside (record { exporters = es; handles = handles }) t.exporter beside loans) (slice_get es t.exporter) ≡ (after, r)
-with_room es names handles t v beside loans after r same is =
-    subst (λ (hs : List Named). local_step (record { exporters = es; handles = hs }) t v (loans_beside (record { exporters = es; handles = hs }) t.exporter beside loans) (slice_get es t.exporter) ≡ (after, r)) same is
+pub with_room : (es : List Exporter) (names handles : List Named) (t : Target) (v : Verb) (after : World) (r : LocalReply) → names ≡ handles
+    → local_step (record { exporters = es; handles = names }) t v (loans_of (record { exporters = es; handles = names }) t.exporter v) (slice_get es t.exporter) ≡ (after, r)
+    → local_step (record { exporters = es; handles = handles }) t v (loans_of (record { exporters = es; handles = handles }) t.exporter v) (slice_get es t.exporter) ≡ (after, r)
+with_room es names handles t v after r same is =
+    subst (λ (hs : List Named). local_step (record { exporters = es; handles = hs }) t v (loans_of (record { exporters = es; handles = hs }) t.exporter v) (slice_get es t.exporter) ≡ (after, r)) same is
 
 pub both_on_err : {X E : Type 0} (P Q R : Type 0) (r : Result X E) → (P → Q → R) → OnErr r P → OnErr r Q → OnErr r R
 both_on_err P Q R (Ok x) go p q = p

@@ -19,6 +19,7 @@ use Rattle.pybuf_command.specs.Handles.{handles_of, handles_of_options}
 use Rattle.pybuf_state.specs.Exporter.{Exporter, new_exporter, released_in}
 use Rattle.pybuf_state.specs.Fresh.{is_readonly_subject, made_of}
 use Rattle.pybuf_state.specs.Loans.{loan_of_snap}
+use Rattle.pybuf_state.specs.Names.{loan_of_own}
 use Rattle.pybuf_state.specs.Snaps.{snap_of_subject}
 use Rattle.pybuf_rows_methods.specs.Names.{all_paired}
 use Rattle.pybuf_exporter.specs.Step.{estep}
@@ -114,12 +115,6 @@ step_of_new w k options =
 abbrev pub loan_of_other : Option Exporter → Subject → Loan
 loan_of_other (Some e) s = loan_of_snap (snap_of_subject e s)
 loan_of_other None s = loan.Missing
-
--- what an exporter calls a subject of its own
-abbrev pub loan_of_own : Subject → Loan
-loan_of_own subject.Own = loan.Own
-loan_of_own (subject.View k) = loan.View k
-loan_of_own (subject.Iter k) = loan.Iter k
 
 -- What a handle is lent as to an exporter, by what it names: that exporter itself, a view of it or an iterator
 -- over one, or else another exporter or what is made of one as it stands. Nothing is lent for a handle that was never given.

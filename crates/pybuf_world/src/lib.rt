@@ -1,9 +1,9 @@
 //! Worlds of exporters and of views of them.
 #![tactic(auto)]
 
-mod in_place;
 mod laws;
 mod named;
+mod others;
 mod tables;
 mod world;
 

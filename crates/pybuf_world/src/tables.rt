@@ -1,35 +1,26 @@
 //! What is kept of a world, and the work on it.
-ghost use Rattle.std.specs.Prelude.{◌≡◌, ◌<◌, ◌+◌, ◌++◌, [], ◌∷◌, slice_get, slice_index, length, map, Some, IfOk, IfSome, OnOk, OnErr, MatchResult, vec_len, vec_capacity};
+ghost use Rattle.std.specs.Prelude.{◌≡◌, ◌<◌, ◌+◌, ◌++◌, [], ◌∷◌, slice_get, slice_index, length, IfOk, OnOk, OnErr, MatchResult, vec_len, vec_capacity};
 ghost use Rattle.std.specs.Prelude.{true, false};
-ghost use Rattle.pybuf_command.specs.Fits.{fits, LoansFit};
-ghost use Rattle.pybuf_state.specs.Loans.{loan_of_snap};
-ghost use Rattle.pybuf_state.specs.Snaps.{snap_of_subject};
-ghost use Rattle.pybuf_world.specs.World.{has_view, loan_of_own, loan_for};
-ghost use Rattle.pybuf_world.specs.Making.{handle_alone};
+ghost use Rattle.pybuf_world.specs.World.{has_view};
 ghost use Rattle.pybuf_value.specs.Halting.{outcome_of};
 ghost use Rattle.pybuf_value.specs.Snaps.{content_of_named};
 ghost use Rattle.pybuf_bytes.specs.Options.{bytes_of_options};
-ghost use Rattle.pybuf_world.specs.Beside.{IsLentBeside, reads_beside, loans_beside, other_loans, local_step};
-ghost use Rattle.pybuf_world.specs.Needed.{loan_if_read, is_read, needed_for};
-ghost use Rattle.std.specs.List.{list_all};
-ghost use Rattle.pybuf_exporter.specs.Step.{reads_in_place};
-ghost use Rattle.pybuf_world.specs.InPlace.{is_named_in};
+ghost use Rattle.pybuf_world.specs.Stepping.{local_step};
 
-use crate::in_place::{InPlace, is_named};
 use crate::named::{Named, Target};
+use crate::others::Others;
 use pybuf_bytes::ByteInnerNewOptions;
 use pybuf_command::{
-    Command, ExporterKind, Loan, LoanList, LocalReply, Reply, ReplyList, Subject, Verb, handles_of,
-    handles_of_options, handles_read,
+    Command, ExporterKind, LocalReply, Reply, ReplyList, Subject, Verb, handle_alone,
+    handles_of_options,
 };
 use pybuf_exporter::{
     ExporterState, commands_keep_sound, copies_are_faithful, fresh_replies_are_copies,
-    lents_are_paired, loans_alike_do_the_same, reads_in_place, source_in_place,
+    names_alike_do_the_same,
 };
 use pybuf_rows_views::release_is_safe;
 use pybuf_value::{
-    ByteList, Fault, Made, NoMemory, Outcome, Scalar, Snap, SnapKind, SnapList, Tried, Value,
-    push_reserved,
+    ByteList, Fault, Made, NoMemory, Outcome, Snap, SnapKind, SnapList, Tried, push_reserved,
 };
 use std::alloc::Global;
 use std::mem;
@@ -42,16 +33,6 @@ pub struct Tables {
     pub handles: Vec<Named>,
     pub owners: Vec<u64>,
     pub alloc: Global,
-}
-
-/// The handle that options are, where they are no more than that.
-fn handle_alone(options: &ByteInnerNewOptions) -> Option<u64>
-    ensures { result ≡ handle_alone options.now }
-{
-    match (&options.source, &options.encoding, &options.errors) {
-        (Some(Value::One(Scalar::Handle(handle))), None, None) => Some(*handle),
-        _ => None,
-    }
 }
 
 /// The bytes of what a handle names, which are moved out of it.
@@ -86,69 +67,6 @@ fn owner_in(owners: &[u64], exporter: usize) -> u64
     ensures { result ≡ slice_index owners.now exporter }
 {
     owners.get(exporter).copied().unwrap_or(0)
-}
-
-/// Whether a handle stands as far behind the first as its number is above that one's. In handles that were
-/// given one after another each does.
-fn stands_in_row(reads: &[u64], handle: u64) -> bool
-    ensures { result ≡ true → is_read reads.now handle ≡ true }
-{
-    if reads.is_empty() || handle < reads[0] {
-        return false;
-    }
-    let place = handle - reads[0];
-    if place >= reads.len() as u64 {
-        return false;
-    }
-    reads[place as usize] == handle
-}
-
-/// Whether a handle is among those whose bytes are read. It is looked for where it stands in a row of handles
-/// before it is searched for.
-pub fn is_read(reads: &[u64], handle: u64) -> bool
-    ensures { result ≡ is_read reads.now handle }
-{
-    if stands_in_row(reads, handle) {
-        return true;
-    }
-    reads.contains(&handle)
-}
-
-/// What an exporter calls a subject of its own.
-fn loan_of_own(subject: Subject) -> Loan
-    ensures value { result ≡ loan_of_own subject }
-    ensures same_unread { (read : _) → loan_if_read read result ≡ result }
-    ensures fits { fits result ≡ true }
-{
-    match subject {
-        Subject::Own => Loan::Own,
-        Subject::View(view) => Loan::View(view),
-        Subject::Iter(iterator) => Loan::Iter(iterator),
-    }
-}
-
-/// What an exporter lends of itself, of a view of it or of an iterator, whole.
-fn loan_of_bytes(alloc: Global, lender: &ExporterState, subject: Subject) -> Made<Loan>
-    ensures value { IfOk result (λ loan. loan ≡ loan_of_snap (snap_of_subject lender.now subject)) }
-    ensures fits { IfOk result (λ loan. fits loan ≡ true) }
-{
-    match lender.snap(alloc, subject)? {
-        Some(snap) => Ok(Loan::Other(snap)),
-        None => Ok(Loan::Missing),
-    }
-}
-
-/// The same where nobody reads its bytes: whether there is such a subject.
-fn loan_of_known(lender: &ExporterState, subject: Subject) -> Loan
-    ensures value { result ≡ loan_if_read false (loan_of_snap (snap_of_subject lender.now subject)) }
-    ensures fits { fits result ≡ true }
-{
-    let is_there = match subject {
-        Subject::Own => true,
-        Subject::View(view) => view < lender.view_count(),
-        Subject::Iter(iterator) => iterator < lender.iter_count(),
-    };
-    if is_there { Loan::Known } else { Loan::Missing }
 }
 
 /// Whether what is made of a copy has a view.
@@ -307,150 +225,30 @@ impl Tables {
         }
     }
 
-    /// What an exporter lends of itself or of a view of it, as it stands. Where nobody reads it,
-    /// nothing is copied.
-    fn loan_of_other(&self, exporter: usize, subject: Subject, is_read: bool) -> Made<Loan>
-        ensures value { IfOk result (λ loan. loan ≡ loan_if_read is_read (spec.loan_of_other (slice_get (world_of_tables self.now).exporters exporter) subject)) }
-        ensures fits { IfOk result (λ loan. fits loan ≡ true) }
-    {
-        let Some(lender) = self.exporters.get(exporter) else {
-            return Ok(Loan::Missing);
-        };
-        if is_read {
-            return loan_of_bytes(self.alloc, lender, subject);
-        }
-        Ok(loan_of_known(lender, subject))
-    }
-
-    /// What a name is lent as to an exporter. Nothing is copied of that exporter itself, nor where
-    /// nobody reads it.
-    fn loan_of_name(&self, exporter: usize, named: Named, is_read: bool) -> Made<Loan>
-        ensures value { IfOk result (λ loan. loan ≡ loan_if_read is_read (spec.loan_of_name (world_of_tables self.now) exporter (Some named))) }
-        ensures fits { IfOk result (λ loan. fits loan ≡ true) }
-    {
-        if named.exporter() == exporter {
-            return Ok(loan_of_own(named.subject()));
-        }
-        self.loan_of_other(named.exporter(), named.subject(), is_read)
-    }
-
-    /// What a handle is lent as to an exporter.
-    fn loan(&self, exporter: usize, handle: u64, is_read: bool) -> Made<Loan>
-        ensures value { IfOk result (λ loan. loan ≡ loan_if_read is_read (spec.loan_for (world_of_tables self.now) exporter handle)) }
-        ensures fits { IfOk result (λ loan. fits loan ≡ true) }
-    {
-        let named = self.handles.get(handle as usize).copied();
-        match named {
-            Some(named) => self.loan_of_name(exporter, named, is_read),
-            None => Ok(Loan::Missing),
-        }
-    }
-
-    fn loans_for(&self, exporter: usize, handles: &[u64], reads: &[u64]) -> Made<LoanList>
-        ensures value { IfOk result (λ loans. loans ≡ map (λ handle. (handle, needed_for (world_of_tables self.now) exporter reads.now handle)) handles.now) }
-        ensures fit { IfOk result (λ loans. LoansFit loans) }
-    {
-        let mut loans = LoanList::new(self.alloc);
-        for handle in handles {
-            let loan = self.loan(exporter, *handle, is_read(reads, *handle))?;
-            loans.push((*handle, loan))?;
-        }
-        Ok(loans)
-    }
-
-    /// The handles whose bytes a command reads by their loans.
-    fn reads(&self, subject: Subject, verb: &Verb, beside: Option<(u64, Named)>) -> Made<Vec<u64>>
-        ensures { IfOk result (λ handles. handles.items ≡ reads_beside beside subject verb.now) }
-    {
-        if beside.is_some() {
-            return Ok(Vec::new(self.alloc));
-        }
-        handles_read(self.alloc, subject, verb)
-    }
-
-    /// What each handle of a command is lent as by a loan. Takes no memory where there is no handle.
-    fn loans(&self, target: Target, verb: &Verb, beside: Option<(u64, Named)>) -> Made<LoanList>
-        ensures value { IfOk result (λ loans. loans ≡ other_loans (world_of_tables self.now) target verb.now beside) }
-        ensures fit { IfOk result (λ loans. LoansFit loans) }
-    {
-        let handles = handles_of(self.alloc, verb)?;
-        let reads = self.reads(target.subject, verb, beside)?;
-        self.loans_for(target.exporter, handles.as_slice(), reads.as_slice())
-    }
-
-    /// The handle whose bytes a command reads where they lie, and what it names, where that is of
-    /// another exporter.
-    fn lent_beside(&self, target: Target, verb: &Verb) -> Option<(u64, Named)>
-        ensures { IfSome result (λ beside. IsLentBeside (world_of_tables self.now) target verb.now beside.0 beside.1) }
-    {
-        let handle = source_in_place(target.subject, verb)?;
-        let named = self.handles.get(handle as usize).copied()?;
-        if named.exporter() == target.exporter {
-            return None;
-        }
-        if named.exporter() >= self.exporters.len() {
-            return None;
-        }
-        Some((handle, named))
-    }
-
-    /// A command that reads the bytes of another exporter, which stands beside: the stepping exporter
-    /// is taken out of the table for the step. Takes no memory.
-    fn step_beside(
-        &mut self,
-        target: Target,
-        verb: &Verb,
-        loans: &LoanList,
-        handle: u64,
-        named: Named,
-    ) -> Made<LocalReply>
+    /// What the exporter of a target does. It is taken out of the table for the step, and the others are lent
+    /// to it. Takes no memory of its own.
+    fn local_step(&mut self, target: Target, verb: &Verb) -> Made<LocalReply>
         requires there { target.exporter < length (world_of_tables self.old).exporters }
-        requires beside { IsLentBeside (world_of_tables self.old) target verb.now handle named }
-        ensures ok { IfOk result (λ r. local_step (world_of_tables self.old) target verb.now ((handle, loan_for (world_of_tables self.old) target.exporter handle) ∷ loans.now) (slice_get (world_of_tables self.old).exporters target.exporter) ≡ (world_of_tables self.new, r)) }
+        ensures ok { IfOk result (λ r. local_step (world_of_tables self.old) target verb.now (spec.loans_of (world_of_tables self.old) target.exporter verb.now) (slice_get (world_of_tables self.old).exporters target.exporter) ≡ (world_of_tables self.new, r)) }
         ensures err { OnErr result (world_of_tables self.new ≡ world_of_tables self.old) }
         ensures owners { self.new.owners.items ≡ self.old.owners.items }
         ensures handles { self.new.handles ≡ self.old.handles }
     {
+        names_alike_do_the_same();
         let nothing = ExporterState::new(
             self.alloc,
             ExporterKind::Bytes,
             ByteList::new(self.alloc),
         );
         let mut worker = mem::replace(&mut self.exporters[target.exporter], nothing);
-        let lender = &self.exporters[named.exporter()];
-        let answer = worker.carry_out_beside(
-            target.subject,
-            verb,
-            loans,
-            handle,
-            lender,
-            named.subject(),
-        );
+        let others = Others {
+            exporters: self.exporters.as_slice(),
+            handles: self.handles.as_slice(),
+            stepping: target.exporter,
+        };
+        let answer = worker.carry_out(target.subject, verb, &others);
         self.exporters[target.exporter] = worker;
         answer
-    }
-
-    /// What the exporter of a target does.
-    fn local_step(
-        &mut self,
-        target: Target,
-        verb: &Verb,
-        loans: &LoanList,
-        beside: Option<(u64, Named)>,
-    ) -> Made<LocalReply>
-        requires there { target.exporter < length (world_of_tables self.old).exporters }
-        requires fit { LoansFit loans.now }
-        requires beside { IfSome beside (λ b. IsLentBeside (world_of_tables self.old) target verb.now b.0 b.1) }
-        ensures ok { IfOk result (λ r. local_step (world_of_tables self.old) target verb.now (loans_beside (world_of_tables self.old) target.exporter beside loans.now) (slice_get (world_of_tables self.old).exporters target.exporter) ≡ (world_of_tables self.new, r)) }
-        ensures err { OnErr result (world_of_tables self.new ≡ world_of_tables self.old) }
-        ensures owners { self.new.owners.items ≡ self.old.owners.items }
-        ensures handles { self.new.handles ≡ self.old.handles }
-    {
-        if let Some((handle, named)) = beside {
-            return self.step_beside(target, verb, loans, handle, named);
-        }
-        let worker = &mut self.exporters[target.exporter];
-        worker.carry_out(target.subject, verb, loans)
     }
 
     /// The handle of an exporter.
@@ -524,38 +322,9 @@ impl Tables {
         }
     }
 
-    /// Whether each of these handles names anything.
-    fn are_named(&self, handles: &[u64]) -> bool
-        ensures { result ≡ list_all (is_named_in (world_of_tables self.now)) handles.now }
-    {
-        handles.iter().all(|handle| is_named(self, *handle))
-    }
-
-    /// What a command replies that reads what handles name from where it lies, of an exporter that is there.
-    /// It changes nothing.
-    fn read_in_place(&self, target: Target, verb: &Verb) -> Made<LocalReply>
-        requires there { target.exporter < length (world_of_tables self.now).exporters }
-        requires reads { reads_in_place target.subject verb.now ≡ true }
-        ensures { IfOk result (λ r. local_step (world_of_tables self.now) target verb.now (spec.loans_of (world_of_tables self.now) target.exporter verb.now) (slice_get (world_of_tables self.now).exporters target.exporter) ≡ (world_of_tables self.now, r)) }
-    {
-        lents_are_paired();
-        let handles = handles_of(self.alloc, verb)?;
-        if !self.are_named(handles.as_slice()) {
-            return Ok(LocalReply::Refused(Fault::UnknownName));
-        }
-        let sought = handles_read(self.alloc, target.subject, verb)?;
-        let names = InPlace {
-            tables: self,
-            sought: sought.as_slice(),
-        };
-        let reader = &self.exporters[target.exporter];
-        reader.read_in_place(target.subject, verb, &names)
-    }
-
-    /// What a target that is there replies to such a command.
-    fn work_in_place(&mut self, target: Target, verb: &Verb) -> Made<Reply>
+    /// What a target does, with the loans by the world as it is.
+    fn work(&mut self, target: Target, verb: &Verb) -> Made<Reply>
         requires kept { IsKept self.old }
-        requires reads { reads_in_place target.subject verb.now ≡ true }
         ensures ok { IfOk result (λ r. spec.step_of_target (world_of_tables self.old) target verb.now ≡ (world_of_tables self.new, r)) }
         ensures err { OnErr result (world_of_tables self.new ≡ world_of_tables self.old) }
         ensures owners { IfOk result (λ _. self.new.owners.items ≡ owners_after self.old.owners.items (length (world_of_tables self.old).handles) (local_step (world_of_tables self.old) target verb.now (spec.loans_of (world_of_tables self.old) target.exporter verb.now) (slice_get (world_of_tables self.old).exporters target.exporter)).1) }
@@ -567,93 +336,25 @@ impl Tables {
             return Ok(Reply::Refused(Fault::UnknownName));
         }
         let owner = self.owner_of(exporter);
-        let reply = self.read_in_place(target, verb)?;
         self.handles.reserve(1)?;
+        let reply = self.local_step(target, verb)?;
         self.answer(target, owner, reply)
     }
 
     /// The same, where the handles of the exporters stay what they are.
-    fn step_in_place(&mut self, target: Target, verb: &Verb) -> Made<Reply>
-        requires kept { IsKept self.old }
-        requires reads { reads_in_place target.subject verb.now ≡ true }
-        ensures ok { IfOk result (λ r. spec.step_of_target (world_of_tables self.old) target verb.now ≡ (world_of_tables self.new, r)) }
-        ensures err { OnErr result (world_of_tables self.new ≡ world_of_tables self.old) }
-        ensures owned { AreOwners (world_of_tables self.new) self.new.owners.items }
-    {
-        commands_keep_sound();
-        fresh_replies_are_copies();
-        copies_are_faithful();
-        match self.work_in_place(target, verb) {
-            Ok(reply) => Ok(reply),
-            Err(NoMemory) => Err(NoMemory),
-        }
-    }
-
-    /// What a target that is there does with loans.
-    fn work(
-        &mut self,
-        target: Target,
-        verb: &Verb,
-        loans: &LoanList,
-        beside: Option<(u64, Named)>,
-    ) -> Made<Reply>
-        requires kept { IsKept self.old }
-        requires fit { LoansFit loans.now }
-        requires beside { IfSome beside (λ b. IsLentBeside (world_of_tables self.old) target verb.now b.0 b.1) }
-        ensures ok { IfOk result (λ r. spec.step_with_loans (world_of_tables self.old) target verb.now (loans_beside (world_of_tables self.old) target.exporter beside loans.now) (slice_get (world_of_tables self.old).exporters target.exporter) ≡ (world_of_tables self.new, r)) }
-        ensures err { OnErr result (world_of_tables self.new ≡ world_of_tables self.old) }
-        ensures owners { IfOk result (λ _. self.new.owners.items ≡ owners_after self.old.owners.items (length (world_of_tables self.old).handles) (local_step (world_of_tables self.old) target verb.now (loans_beside (world_of_tables self.old) target.exporter beside loans.now) (slice_get (world_of_tables self.old).exporters target.exporter)).1) }
-        ensures owners_kept { OnErr result (self.new.owners.items ≡ self.old.owners.items) }
-    {
-        fresh_replies_are_copies();
-        let exporter = target.exporter;
-        if exporter >= self.exporters.len() {
-            return Ok(Reply::Refused(Fault::UnknownName));
-        }
-        let owner = self.owner_of(exporter);
-        self.handles.reserve(1)?;
-        let reply = self.local_step(target, verb, loans, beside)?;
-        self.answer(target, owner, reply)
-    }
-
-    /// The same, where the handles of the exporters stay what they are.
-    fn step_with_loans(
-        &mut self,
-        target: Target,
-        verb: &Verb,
-        loans: &LoanList,
-        beside: Option<(u64, Named)>,
-    ) -> Made<Reply>
-        requires kept { IsKept self.old }
-        requires fit { LoansFit loans.now }
-        requires beside { IfSome beside (λ b. IsLentBeside (world_of_tables self.old) target verb.now b.0 b.1) }
-        ensures ok { IfOk result (λ r. spec.step_with_loans (world_of_tables self.old) target verb.now (loans_beside (world_of_tables self.old) target.exporter beside loans.now) (slice_get (world_of_tables self.old).exporters target.exporter) ≡ (world_of_tables self.new, r)) }
-        ensures err { OnErr result (world_of_tables self.new ≡ world_of_tables self.old) }
-        ensures owned { AreOwners (world_of_tables self.new) self.new.owners.items }
-    {
-        commands_keep_sound();
-        fresh_replies_are_copies();
-        copies_are_faithful();
-        match self.work(target, verb, loans, beside) {
-            Ok(reply) => Ok(reply),
-            Err(NoMemory) => Err(NoMemory),
-        }
-    }
-
-    /// What a target does, with the loans by the world as it is.
     fn step_of_target(&mut self, target: Target, verb: &Verb) -> Made<Reply>
         requires { IsKept self.old }
         ensures ok { IfOk result (λ r. spec.step_of_target (world_of_tables self.old) target verb.now ≡ (world_of_tables self.new, r)) }
         ensures err { OnErr result (world_of_tables self.new ≡ world_of_tables self.old) }
         ensures owned { AreOwners (world_of_tables self.new) self.new.owners.items }
     {
-        if reads_in_place(target.subject, verb) {
-            return self.step_in_place(target, verb);
+        commands_keep_sound();
+        fresh_replies_are_copies();
+        copies_are_faithful();
+        match self.work(target, verb) {
+            Ok(reply) => Ok(reply),
+            Err(NoMemory) => Err(NoMemory),
         }
-        loans_alike_do_the_same();
-        let beside = self.lent_beside(target, verb);
-        let loans = self.loans(target, verb, beside)?;
-        self.step_with_loans(target, verb, &loans, beside)
     }
 
     /// A command on what a handle names.

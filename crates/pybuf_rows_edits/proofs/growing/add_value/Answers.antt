@@ -1,18 +1,17 @@
-use Rattle.std.proofs.Common.{rules, ◌≡◌, ℕ, List, ap, ◌∙◌}
-use Rattle.std.specs.Option.{option_copied}
+use Rattle.std.proofs.Common.{rules, ◌≡◌}
 use Rattle.pybuf_value.specs.declared.values.Value.TheVariants as value
 use Rattle.pybuf_value.specs.declared.values.Scalar.TheVariants as scalar
-use Rattle.pybuf_command.specs.Loans.{loan_of}
-use Rattle.pybuf_command.specs.declared.loans.Loan.{Loan}
 use Rattle.pybuf_state.specs.Answers.{exporter_of}
+use Rattle.pybuf_state.specs.Names.{meant}
 use Rattle.pybuf_rows_edits.specs.Growing.{added}
-use Rattle.pybuf_rows_edits.proofs.Lending.{by_handle}
+use Rattle.pybuf_rows_edits.specs.LentBytes.{added_as}
+use Rattle.pybuf_rows_edits.proofs.Lending.{by_handle, handle_adds}
 use Rattle.pybuf_rows_edits.proofs.growing.add_value.Goals as goal
 
 pub returns-in-One-Handle-clause-answer : goal.returns-in-One-Handle-clause-answer
-returns-in-One-Handle-clause-answer c =
+returns-in-One-Handle-clause-answer g c =
     let e = exporter_of c.args.parts.now in
     let h = c.in-One-Handle.handle in
     let is : c.args.value.now ≡ value.One (scalar.Handle h) = search rules in
-    by_handle (added e) e c.args.value.now h c.args.loans.now (option_copied c.loan_of.result) c.add_loan.result (exporter_of c.add_loan.new.parts) is
-    (c.loan_of.ensures ∙ ap (λ (loans : List (ℕ × Loan)). loan_of loans h) c.as_slice-in-One-Handle.ensures) (c.add_loan.ensures.answer h)
+    by_handle (added e) (added_as e) e c.args.value.now h (g.N.Names.named c.args.names.now) (meant c.meaning.result) c.add_meaning.result (exporter_of c.add_meaning.new.parts)
+    (handle_adds e h) is c.meaning.ensures.meant c.add_meaning.ensures.answer

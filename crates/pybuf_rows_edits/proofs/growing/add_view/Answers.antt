@@ -7,4 +7,4 @@ use Rattle.pybuf_rows_edits.proofs.growing.add_view.Goals as goal
 pub returns : goal.returns
 returns c =
     let in_a_row : is_contiguous_layout c.in_ok-layout.layout.now ≡ true = search rules in
-    λ h. (view_adds (exporter_of c.args.parts.now) h c.args.view c.in_ok-layout.layout.now c.in_ok-layout.ensures.exact in_a_row, refl)
+    (view_adds (exporter_of c.args.parts.now) c.args.view c.in_ok-layout.layout.now c.in_ok-layout.ensures.exact in_a_row, refl)

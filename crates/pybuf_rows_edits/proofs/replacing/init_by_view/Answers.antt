@@ -1,6 +1,6 @@
 use Rattle.std.proofs.Common.{refl}
 use Rattle.pybuf_state.specs.Answers.{exporter_of}
-use Rattle.pybuf_rows_edits.proofs.Assigning.{view_initializes}
+use Rattle.pybuf_rows_edits.proofs.Lending.{view_initializes}
 use Rattle.pybuf_rows_edits.proofs.replacing.init_by_view.Goals as goal
 
 pub returns : goal.returns

@@ -1,0 +1,114 @@
+//! What the handles of a command name, asked one at a time.
+ghost use Rattle.std.specs.Prelude.{◌≡◌, ℕ, Option, Some, true};
+ghost use Rattle.std.specs.Option.{option_copied, ForSome};
+ghost use Rattle.pybuf_command.specs.declared.loans.Loan.{Loan};
+ghost use Rattle.pybuf_command.specs.Fits.{LoansFit, fits};
+ghost use Rattle.pybuf_state.specs.Answers.{exporter_of};
+ghost use Rattle.pybuf_state.specs.Loans.{given_loan, names_of, is_named, are_named};
+ghost use Rattle.pybuf_state.specs.Names as spec;
+
+use crate::parts::Parts;
+use pybuf_command::{Loan, LoanList, Subject, loan_of};
+use pybuf_value::Snap;
+
+/// Something of another exporter.
+#[derive(Debug, Drop)]
+pub enum Other<'a> {
+    /// As it stood when it was lent.
+    Snap(&'a Snap),
+    /// From where it lies: a subject of an exporter with these parts.
+    Lies { lender: &'a Parts, subject: Subject },
+}
+
+/// What a handle names.
+#[derive(Debug, Drop)]
+pub enum Meaning<'a> {
+    /// The exporter that the command works on, or a view or an iterator of it.
+    Own(Subject),
+    /// Another exporter, or a view or an iterator of one.
+    Other(Other<'a>),
+    /// Nothing: the handle was never given.
+    Nothing,
+}
+
+/// What handles name. A clause sees what each is lent as.
+pub trait Names {
+    ghost named: { Self → ℕ → Option Loan };
+
+    /// Whether each snap that is lent fits.
+    ghost fit: { Self → Type 0 };
+
+    /// What a handle names.
+    fn meaning(&self, handle: u64) -> Meaning<'_>
+        ensures meant { spec.meant result ≡ named self.now handle }
+        ensures sound { fit self.now → spec.IsSoundMeaning result };
+}
+
+/// What a loan means.
+fn meaning_of(loan: Option<&Loan>) -> Meaning<'_>
+    ensures meant { spec.meant result ≡ given_loan (option_copied loan.entry) }
+    ensures sound { ForSome (option_copied loan.entry) (λ l. fits l ≡ true) → spec.IsSoundMeaning result }
+{
+    match loan {
+        Some(Loan::Own) => Meaning::Own(Subject::Own),
+        Some(Loan::View(view)) => Meaning::Own(Subject::View(*view)),
+        Some(Loan::Iter(iterator)) => Meaning::Own(Subject::Iter(*iterator)),
+        Some(Loan::Other(snap)) => Meaning::Other(Other::Snap(snap)),
+        Some(Loan::Missing) => Meaning::Nothing,
+        None => Meaning::Nothing,
+    }
+}
+
+impl Names for LoanList {
+    ghost named = { λ loans. names_of loans };
+
+    ghost fit = { λ loans. LoansFit loans };
+
+    #[tactic(auto, using(crate::proofs::Meanings::loan_fits))]
+    fn meaning(&self, handle: u64) -> Meaning<'_> {
+        meaning_of(loan_of(self.as_slice(), handle))
+    }
+}
+
+/// Whether an exporter has such a subject.
+fn is_there(parts: &Parts, subject: Subject) -> bool
+    ensures { result ≡ is_named (exporter_of parts.now) (Some (spec.loan_of_own subject)) }
+{
+    match subject {
+        Subject::Own => true,
+        Subject::View(view) => view < parts.views.len(),
+        Subject::Iter(iterator) => iterator < parts.iterators.len(),
+    }
+}
+
+/// Whether something of another exporter is there.
+fn is_lent(other: Other<'_>) -> bool
+    ensures { (e : _) → result ≡ is_named e (spec.meant_other other.entry) }
+{
+    match other {
+        Other::Snap(_) => true,
+        Other::Lies { lender, subject } => match subject {
+            Subject::Own => true,
+            Subject::View(view) => view < lender.views.len(),
+            Subject::Iter(iterator) => iterator < lender.iterators.len(),
+        },
+    }
+}
+
+/// Whether what a handle names is there.
+fn is_known<N: Names>(parts: &Parts, names: &N, handle: u64) -> bool
+    ensures { result ≡ is_named (exporter_of parts.now) (N.named names.now handle) }
+{
+    match names.meaning(handle) {
+        Meaning::Own(subject) => is_there(parts, subject),
+        Meaning::Other(other) => is_lent(other),
+        Meaning::Nothing => false,
+    }
+}
+
+/// Whether each of these handles names something that is there.
+pub fn are_known<N: Names>(parts: &Parts, names: &N, handles: &[u64]) -> bool
+    ensures { result ≡ are_named (exporter_of parts.now) (N.named names.now) handles.now }
+{
+    handles.iter().all(|handle| is_known(parts, names, *handle))
+}
