@@ -11,7 +11,7 @@ use Rattle.pybuf_desc.specs.Places.{Stands, layout_at}
 use Rattle.pybuf_desc.specs.Valid.{IsValid, IsPlaced}
 use Rattle.pybuf_desc.specs.Laws.{PlacedDescriptorsStand, DescriptorsStandForOneView, DescribedViewsHaveTheirShape, ValidWhereItemsLieInside}
 use Rattle.pybuf_command.specs.Kinds.{holds_readonly}
-use Rattle.pybuf_command.specs.Sized.{is_size_of}
+use Rattle.pybuf_memoryview.specs.Sized.{is_size_of}
 use Rattle.pybuf_command.specs.declared.kinds.ExporterKind.TheVariants as kinds
 use Rattle.pybuf_command.specs.declared.commands.LocalReply.TheVariants as reply
 use Rattle.pybuf_state.specs.Exporter.{Exporter, new_exporter, with_view}

@@ -1,6 +1,6 @@
 //! One command on an exporter, whose verb and loans are handed over.
 ghost use Rattle.std.specs.Prelude.{◌≡◌, [], IfOk, OnErr};
-ghost use Rattle.pybuf_command.specs.Fits.{LoansFit};
+ghost use Rattle.pybuf_state.specs.Fits.{LoansFit};
 ghost use Rattle.pybuf_exporter.specs.Step.{estep};
 
 use pybuf_command::{LoanList, LocalReply, Subject, Verb};

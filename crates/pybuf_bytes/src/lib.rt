@@ -16,9 +16,10 @@ pub use arguments::{ByteInnerFindOptions, ByteInnerSplitOptions};
 pub use decoding::{DecodeArgs, bytes_decode, decode_text};
 pub use inner::PyBytesInner;
 pub use letters::SplitLinesArgs;
-pub use methods::{MethodCall, MethodName, MethodReply};
+pub use methods::MethodReply;
 pub use needles::Needle;
-pub use options::ByteInnerNewOptions;
+pub use options::NewOptions;
+pub use pybuf_command::{ByteInnerNewOptions, MethodCall, MethodName};
 pub use pybuf_letters::is_py_ascii_whitespace;
 pub use pybuf_search::{
     AnyStrWrapper, SplitArgs, StartsEndsWithArgs, StringRange, adjust_indices, bytes_lent,

@@ -1,43 +1,18 @@
-//! What bytes are made of.
+//! The bytes that options ask for.
 ghost use Rattle.std.specs.Prelude.{◌≡◌, ◌<◌, ◌^◌, Ok, Err, IfOk, MatchResult, pos};
 ghost use Rattle.std.specs.Option.{option_copied};
 ghost use Rattle.std.specs.Str.{bytes_eq};
 ghost use Rattle.pybuf_value.specs.Halting.{Gives, outcome_of};
+ghost use Rattle.pybuf_command.specs.declared.options.ByteInnerNewOptions.{ByteInnerNewOptions};
 ghost use Rattle.pybuf_bytes.specs.Options as spec;
 
 use crate::inner::PyBytesInner;
+use pybuf_command::ByteInnerNewOptions;
 use pybuf_value::{
-    Exact, Fault, Halt, Lender, Made, Outcome, Text, Tried, Twin, Value, bytes_from_object,
-    fit_count, index_of, text_in, tried,
+    Fault, Halt, Lender, Outcome, Text, Tried, Value, bytes_from_object, fit_count, index_of,
+    text_in, tried,
 };
 use std::alloc::Global;
-
-/// What bytes are made of, as the arguments of Python's `bytes(source, encoding, errors)` (Library
-/// reference, "Built-in Functions", `bytearray`). An argument that isn't there is absent; a `None`
-/// that is given is a value.
-#[derive(Debug, Drop)]
-pub struct ByteInnerNewOptions {
-    pub source: Option<Value>,
-    pub encoding: Option<Value>,
-    pub errors: Option<Value>,
-}
-
-impl Twin for ByteInnerNewOptions {
-    fn copy(&self, alloc: Global) -> Made<ByteInnerNewOptions> {
-        let source = self.source.copy(alloc)?;
-        let encoding = self.encoding.copy(alloc)?;
-        let errors = self.errors.copy(alloc)?;
-        Ok(ByteInnerNewOptions {
-            source,
-            encoding,
-            errors,
-        })
-    }
-}
-
-impl Exact for ByteInnerNewOptions {
-    ghost exact = { λ x y e. e };
-}
 
 /// Whether a text is a name, byte by byte.
 fn is_name(text: &[u8], name: &str) -> bool
@@ -174,7 +149,22 @@ fn bytes_of_options<L: Lender>(
     bytes_by(alloc, &options.source, encoding, errors, lender)
 }
 
-impl ByteInnerNewOptions {
+/// The same, as a call answers it.
+fn bytes_answered<L: Lender>(
+    alloc: Global,
+    options: &ByteInnerNewOptions,
+    lender: &L,
+) -> Tried<PyBytesInner>
+    ensures { IfOk result (λ outcome. outcome ≡ outcome_of (spec.bytes_of_options (L.pairs lender.now) options.now.source options.now.encoding options.now.errors)) }
+{
+    tried(bytes_of_options(alloc, options, lender))
+}
+
+/// The bytes that options ask for. The options are words of commands and stand below strings of bytes, so
+/// that these calls are those of a trait.
+pub trait NewOptions {
+    ghost options: { Self → ByteInnerNewOptions };
+
     /// The bytes that the options ask for, for Python's `bytes`: none without arguments; of a number
     /// alone so many zeros; of any other source alone the bytes that it is read as; of a text with its
     /// encoding, `utf-8`, `utf8` or `ascii`, the bytes of the text.
@@ -185,16 +175,22 @@ impl ByteInnerNewOptions {
     /// and else as `bytes_from_object` refuses it; with `TypeError` for a handler of errors without
     /// an encoding, and for a source with an encoding that is no text; with `ValueError` for another
     /// encoding, for another handler of errors than `strict`, and for a character past ASCII.
-    pub fn get_bytes<L: Lender>(&self, alloc: Global, lender: &L) -> Tried<PyBytesInner>
-        ensures { IfOk result (λ outcome. outcome ≡ outcome_of (spec.bytes_of_options (L.pairs lender.now) self.now.source self.now.encoding self.now.errors)) }
-    {
-        tried(bytes_of_options(alloc, self, lender))
-    }
+    fn get_bytes<L: Lender>(&self, alloc: Global, lender: &L) -> Tried<PyBytesInner>
+        ensures { IfOk result (λ outcome. outcome ≡ outcome_of (spec.bytes_of_options (L.pairs lender.now) (options self.now).source (options self.now).encoding (options self.now).errors)) };
 
     /// The same for Python's `bytearray`, which takes the same arguments.
-    pub fn get_bytearray_inner<L: Lender>(&self, alloc: Global, lender: &L) -> Tried<PyBytesInner>
-        ensures { IfOk result (λ outcome. outcome ≡ outcome_of (spec.bytes_of_options (L.pairs lender.now) self.now.source self.now.encoding self.now.errors)) }
-    {
-        tried(bytes_of_options(alloc, self, lender))
+    fn get_bytearray_inner<L: Lender>(&self, alloc: Global, lender: &L) -> Tried<PyBytesInner>
+        ensures { IfOk result (λ outcome. outcome ≡ outcome_of (spec.bytes_of_options (L.pairs lender.now) (options self.now).source (options self.now).encoding (options self.now).errors)) };
+}
+
+impl NewOptions for ByteInnerNewOptions {
+    ghost options = { λ o. o };
+
+    fn get_bytes<L: Lender>(&self, alloc: Global, lender: &L) -> Tried<PyBytesInner> {
+        bytes_answered(alloc, self, lender)
+    }
+
+    fn get_bytearray_inner<L: Lender>(&self, alloc: Global, lender: &L) -> Tried<PyBytesInner> {
+        bytes_answered(alloc, self, lender)
     }
 }

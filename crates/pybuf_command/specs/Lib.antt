@@ -1,5 +1,4 @@
 pub mod Kinds
-pub mod Sized
 pub mod Loans
-pub mod Fits
+pub mod Arity
 pub mod Handles

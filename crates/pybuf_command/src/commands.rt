@@ -1,7 +1,8 @@
 //! Commands and replies of one exporter.
 use crate::kinds::Subject;
 use crate::loans::LoanList;
-use pybuf_bytes::{ByteInnerNewOptions, MethodCall};
+use crate::methods::MethodCall;
+use crate::options::ByteInnerNewOptions;
 use pybuf_value::{
     ByteList, ByteLists, CompareOp, CountList, Fault, Item, ItemList, Made, NumberList, Snap, Text,
     Twin, Value,

@@ -8,7 +8,7 @@ ghost use Rattle.pybuf_command.specs.Loans.{loan_of};
 use crate::commands::Verb;
 use crate::kinds::Subject;
 use crate::loans::Loan;
-use pybuf_bytes::ByteInnerNewOptions;
+use crate::options::ByteInnerNewOptions;
 use pybuf_value::{Made, PySlice, Scalar, Value};
 use std::alloc::Global;
 

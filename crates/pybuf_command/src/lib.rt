@@ -1,18 +1,25 @@
 //! The words that are spoken to an exporter and to a world of exporters: kinds and subjects, commands
-//! and replies, and what the handles of a command are lent as.
+//! and replies, what the handles of a command are lent as, the names of methods of strings of bytes, and what
+//! new bytes are made of.
 #![tactic(auto)]
 
+mod arity;
 mod commands;
 mod handles;
 mod kinds;
 mod loans;
+mod methods;
+mod options;
 mod worlds;
 
+pub use arity::{fewest, most, takes};
 pub use commands::{LocalCommand, LocalReply, PropertyName, Verb};
 pub use handles::{
     handle_alone, handles_in, handles_in_both, handles_in_option, handles_of, handles_of_options,
     handles_read, handles_with_option, loan_of,
 };
 pub use kinds::{ExporterKind, Subject};
-pub use loans::{Loan, LoanList, is_byte_format, is_row_of};
+pub use loans::{Loan, LoanList};
+pub use methods::{MethodCall, MethodName};
+pub use options::ByteInnerNewOptions;
 pub use worlds::{Command, Reply, ReplyList};

@@ -2,7 +2,7 @@
 
 use crate::commands::Verb;
 use crate::kinds::ExporterKind;
-use pybuf_bytes::ByteInnerNewOptions;
+use crate::options::ByteInnerNewOptions;
 use pybuf_value::{ByteList, ByteLists, CountList, Fault, Item, ItemList, Items, NumberList, Text};
 
 /// A command for a world.

@@ -8,8 +8,8 @@ use Rattle.pybuf_value.specs.declared.snaps.SnapKind.{SnapKind}
 use Rattle.pybuf_value.specs.declared.snaps.SnapKind.TheVariants as kind
 use Rattle.pybuf_struct.specs.Formats.{Format, format_of}
 use Rattle.pybuf_desc.specs.Layouts.{product}
-use Rattle.pybuf_command.specs.Fits.{is_byte_format, is_row_of, is_whole, fits_kind}
-use Rattle.pybuf_command.specs.Sized.{is_size_of, is_sized, byte_count}
+use Rattle.pybuf_memoryview.specs.Fits.{is_byte_format, is_row_of, is_whole, fits_kind}
+use Rattle.pybuf_memoryview.specs.Sized.{is_size_of, is_sized, byte_count}
 use Rattle.pybuf_equality.specs.Laws.{FittingSnapsHaveAllItems}
 use Rattle.pybuf_equality.proofs.Bools.{first, second, either}
 

@@ -5,8 +5,8 @@ use Rattle.pybuf_value.specs.declared.snaps.Snap.{Snap}
 use Rattle.pybuf_value.specs.declared.snaps.SnapKind.TheVariants as kind
 use Rattle.pybuf_value.specs.Laws.{IsEquality}
 use Rattle.pybuf_desc.specs.Layouts.{Layout, LiesInside, HasItemsOfItsShape, product}
-use Rattle.pybuf_command.specs.Fits.{fits_snap}
-use Rattle.pybuf_command.specs.Sized.{byte_count}
+use Rattle.pybuf_memoryview.specs.Fits.{fits_snap}
+use Rattle.pybuf_memoryview.specs.Sized.{byte_count}
 use Rattle.pybuf_memoryview.specs.Lists.{items_of_layout}
 use Rattle.pybuf_memoryview.specs.Snaps.{snap_of_layout}
 use Rattle.pybuf_equality.specs.Equality.{items_of_snap, same_view}

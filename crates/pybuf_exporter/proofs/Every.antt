@@ -14,7 +14,7 @@ use Rattle.pybuf_struct.specs.Formats.{Format, format_of}
 use Rattle.pybuf_struct.specs.Values.{unpacked_values}
 use Rattle.pybuf_struct.specs.Laws.{BytesOfTheSizeAreRead}
 use Rattle.pybuf_desc.specs.Items.{bytes_at}
-use Rattle.pybuf_command.specs.Sized.{is_size_of}
+use Rattle.pybuf_memoryview.specs.Sized.{is_size_of}
 use Rattle.pybuf_command.specs.declared.kinds.Subject.{Subject}
 use Rattle.pybuf_command.specs.declared.kinds.Subject.TheVariants as subject
 use Rattle.pybuf_command.specs.declared.commands.Verb.{Verb}

@@ -62,7 +62,8 @@ impl ExporterState {
     ghost use Rattle.pybuf_value.specs.Lent.{Lends, kind_of_named};
     ghost use Rattle.pybuf_exporter.specs.Step.{estep, estep_by};
     ghost use Rattle.pybuf_state.specs.Names.{IsSoundOther, snap_of_other};
-    ghost use Rattle.pybuf_command.specs.Fits.{LoansFit, fits_snap};
+    ghost use Rattle.pybuf_memoryview.specs.Fits.{fits_snap};
+    ghost use Rattle.pybuf_state.specs.Fits.{LoansFit};
     ghost use Rattle.pybuf_state.specs.Snaps.{snap_of_subject};
     ghost use Rattle.pybuf_state.specs.Exporter.{released_in};
     ghost use Rattle.pybuf_state.specs.Fresh.{IsCopyOf, is_readonly_subject, made_of};

@@ -1,6 +1,6 @@
 //! Objects with a view that kernels work on.
 ghost use Rattle.std.specs.Prelude.{IfOk};
-ghost use Rattle.pybuf_command.specs.Fits.{LoansFit};
+ghost use Rattle.pybuf_state.specs.Fits.{LoansFit};
 
 use crate::data::drawn;
 use crate::keys::{slice, text};

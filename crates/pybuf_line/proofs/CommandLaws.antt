@@ -14,10 +14,10 @@ use Rattle.pybuf_command.specs.declared.commands.PropertyName.{PropertyName}
 use Rattle.pybuf_command.specs.declared.commands.PropertyName.TheVariants as property
 use Rattle.pybuf_command.specs.declared.commands.Verb.{Verb}
 use Rattle.pybuf_command.specs.declared.commands.Verb.TheVariants as verb
-use Rattle.pybuf_bytes.specs.declared.options.ByteInnerNewOptions.{ByteInnerNewOptions}
-use Rattle.pybuf_bytes.specs.declared.methods.MethodName.{MethodName}
-use Rattle.pybuf_bytes.specs.declared.methods.MethodName.TheVariants as name
-use Rattle.pybuf_bytes.specs.declared.methods.MethodCall.{MethodCall}
+use Rattle.pybuf_command.specs.declared.options.ByteInnerNewOptions.{ByteInnerNewOptions}
+use Rattle.pybuf_command.specs.declared.methods.MethodName.{MethodName}
+use Rattle.pybuf_command.specs.declared.methods.MethodName.TheVariants as name
+use Rattle.pybuf_command.specs.declared.methods.MethodCall.{MethodCall}
 use Rattle.pybuf_command.specs.declared.worlds.Command.TheVariants as command
 use Rattle.pybuf_line.specs.declared.words.Word.{Word}
 use Rattle.pybuf_line.specs.declared.words.Word.TheVariants as word

@@ -9,8 +9,8 @@ use Rattle.pybuf_command.specs.declared.kinds.ExporterKind.{ExporterKind}
 use Rattle.pybuf_command.specs.declared.kinds.ExporterKind.TheVariants as kind
 use Rattle.pybuf_command.specs.declared.commands.PropertyName.{PropertyName}
 use Rattle.pybuf_command.specs.declared.commands.PropertyName.TheVariants as property
-use Rattle.pybuf_bytes.specs.declared.methods.MethodName.{MethodName}
-use Rattle.pybuf_bytes.specs.declared.methods.MethodName.TheVariants as name
+use Rattle.pybuf_command.specs.declared.methods.MethodName.{MethodName}
+use Rattle.pybuf_command.specs.declared.methods.MethodName.TheVariants as name
 use Rattle.pybuf_line.specs.declared.words.Word.{Word}
 use Rattle.pybuf_line.specs.declared.words.Word.TheVariants as word
 use Rattle.pybuf_line.specs.Words.{named_in, written_word, every_word, word_in, written_kind, every_kind, kind_in, written_operator, every_operator, operator_in, written_name, every_property, property_in}

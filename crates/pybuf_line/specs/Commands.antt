@@ -3,10 +3,10 @@ use Rattle.std.specs.Prelude.{ℕ, List, [], ◌∷◌, length, map, Option, Som
 use Rattle.std.specs.List.{join_with_byte}
 use Rattle.pybuf_value.specs.Choosing.{◌>>=◌}
 use Rattle.pybuf_value.specs.declared.values.Value.{Value}
-use Rattle.pybuf_bytes.specs.declared.options.ByteInnerNewOptions.{ByteInnerNewOptions}
-use Rattle.pybuf_bytes.specs.declared.methods.MethodName.{MethodName}
-use Rattle.pybuf_bytes.specs.declared.methods.MethodCall.{MethodCall}
-use Rattle.pybuf_methods.specs.Arity.{takes}
+use Rattle.pybuf_command.specs.declared.options.ByteInnerNewOptions.{ByteInnerNewOptions}
+use Rattle.pybuf_command.specs.declared.methods.MethodName.{MethodName}
+use Rattle.pybuf_command.specs.declared.methods.MethodCall.{MethodCall}
+use Rattle.pybuf_command.specs.Arity.{takes}
 use Rattle.pybuf_command.specs.declared.kinds.ExporterKind.{ExporterKind}
 use Rattle.pybuf_command.specs.declared.commands.Verb.{Verb}
 use Rattle.pybuf_command.specs.declared.commands.Verb.TheVariants as verb

@@ -4,9 +4,9 @@ use Rattle.std.specs.Str.{byte}
 use Rattle.std.specs.List.{flat_map, join_with_byte, list_any, AllByRecursion}
 use Rattle.pybuf_command.specs.declared.commands.Verb.{Verb}
 use Rattle.pybuf_command.specs.declared.commands.Verb.TheVariants as verb
-use Rattle.pybuf_bytes.specs.declared.options.ByteInnerNewOptions.{ByteInnerNewOptions}
-use Rattle.pybuf_bytes.specs.declared.methods.MethodCall.{MethodCall}
-use Rattle.pybuf_methods.specs.Arity.{takes}
+use Rattle.pybuf_command.specs.declared.options.ByteInnerNewOptions.{ByteInnerNewOptions}
+use Rattle.pybuf_command.specs.declared.methods.MethodCall.{MethodCall}
+use Rattle.pybuf_command.specs.Arity.{takes}
 use Rattle.pybuf_command.specs.declared.worlds.Command.{Command}
 use Rattle.pybuf_command.specs.declared.worlds.Command.TheVariants as command
 use Rattle.pybuf_command.specs.declared.worlds.Reply.{Reply}

@@ -1,7 +1,7 @@
 -- The methods of strings of bytes that lines call: a table as those of words, of what is written for each, and of all of them.
 use Rattle.std.specs.Prelude.{ℕ, List, [], ◌∷◌, codes, Option}
-use Rattle.pybuf_bytes.specs.declared.methods.MethodName.{MethodName}
-use Rattle.pybuf_bytes.specs.declared.methods.MethodName.TheVariants as name
+use Rattle.pybuf_command.specs.declared.methods.MethodName.{MethodName}
+use Rattle.pybuf_command.specs.declared.methods.MethodName.TheVariants as name
 use Rattle.pybuf_line.specs.Words.{named_in}
 
 -- the names of methods

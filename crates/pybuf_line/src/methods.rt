@@ -3,7 +3,7 @@ ghost use Rattle.std.specs.Prelude.{◌≡◌};
 ghost use Rattle.pybuf_line.specs.Methods.{search_or_cut_in, method_in};
 
 use crate::words::is_word;
-use pybuf_bytes::MethodName;
+use pybuf_command::MethodName;
 
 /// The method that a text names.
 #[tactic(auto, unfolding(crate::specs::Methods::method_in, crate::specs::Methods::search_or_cut_in))]

@@ -6,7 +6,7 @@ ghost use Rattle.pybuf_line.specs.Reading.{Reads};
 
 use crate::spellings::value;
 use crate::unread::Unread;
-use pybuf_bytes::ByteInnerNewOptions;
+use pybuf_command::ByteInnerNewOptions;
 use std::alloc::Global;
 
 /// The options of `new` and `init` by their words: none, a source, its encoding, the handler of errors.

@@ -12,9 +12,7 @@ use crate::options::options_of;
 use crate::spellings::value;
 use crate::unread::Unread;
 use crate::words::{Word, operator_named, property_named};
-use pybuf_bytes::MethodCall;
-use pybuf_command::{Command, Verb};
-use pybuf_methods::takes;
+use pybuf_command::{Command, MethodCall, Verb, takes};
 use pybuf_value::ValueList;
 use std::alloc::Global;
 

@@ -24,7 +24,7 @@ use std::ops::Range;
 /// `LocalReply::Refused`, and changes nothing. Before all that a method names, a view that was never given and a
 /// handle among the values that the loans don't name are refused with `UnknownName`, and then a released view
 /// with `ValueError`, but by `exit`. Where memory runs out, nothing is changed. The loans have to fit, as
-/// `LoanList::fit` tells.
+/// `FitLoans::fit` tells.
 #[derive(Debug, Drop)]
 pub struct PyMemoryView {
     view: usize,

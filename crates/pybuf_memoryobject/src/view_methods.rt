@@ -1,6 +1,6 @@
 //! The commands on a memoryview, as methods of it.
 ghost use Rattle.std.specs.Prelude.{◌≡◌, IfOk, OnErr};
-ghost use Rattle.pybuf_command.specs.Fits.{LoansFit};
+ghost use Rattle.pybuf_state.specs.Fits.{LoansFit};
 ghost use Rattle.pybuf_command.specs.declared.kinds.Subject.TheVariants as subjects;
 ghost use Rattle.pybuf_command.specs.declared.commands.PropertyName.TheVariants as names;
 ghost use Rattle.pybuf_command.specs.declared.commands.Verb.TheVariants as verbs;

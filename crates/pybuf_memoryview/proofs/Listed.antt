@@ -18,7 +18,7 @@ use Rattle.pybuf_memoryview.specs.Lists.{items_of_layout}
 use Rattle.pybuf_memoryview.specs.ListReading.{read_by, items_in, items_of_run, items_of_ranges}
 use Rattle.pybuf_memoryview.specs.declared.lists.ItemReader.{ItemReader}
 use Rattle.pybuf_memoryview.specs.declared.lists.ItemReader.TheVariants as reader
-use Rattle.pybuf_command.specs.Fits.{is_byte_format}
+use Rattle.pybuf_memoryview.specs.Fits.{is_byte_format}
 use Rattle.std.proofs.lemmas.Bool.{eqb-true}
 use Rattle.pybuf_memoryview.proofs.SingleBytes.{reads_byte}
 

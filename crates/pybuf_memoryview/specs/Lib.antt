@@ -1,3 +1,5 @@
+pub mod Sized
+pub mod Fits
 pub mod Orders
 pub mod Items
 pub mod Keys

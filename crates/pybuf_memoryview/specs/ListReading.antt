@@ -7,7 +7,7 @@ use Rattle.pybuf_value.specs.declared.values.Item.TheVariants as item
 use Rattle.pybuf_struct.specs.Formats.{format_of}
 use Rattle.pybuf_struct.specs.Values.{unpacked_values}
 use Rattle.pybuf_desc.specs.Segments.{bytes_in}
-use Rattle.pybuf_command.specs.Fits.{is_byte_format}
+use Rattle.pybuf_memoryview.specs.Fits.{is_byte_format}
 use Rattle.pybuf_memoryview.specs.Items.{byte_item, item_of_values}
 use Rattle.pybuf_memoryview.specs.declared.lists.ItemReader.{ItemReader}
 use Rattle.pybuf_memoryview.specs.declared.lists.ItemReader.TheVariants as reader

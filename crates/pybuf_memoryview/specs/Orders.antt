@@ -4,7 +4,7 @@ use Rattle.std.specs.Prelude.{ℕ, ◌==◌, Bool, ◌&&◌, List, length, nat_l
 use Rattle.std.specs.List.{list_any}
 use Rattle.pybuf_desc.specs.Layouts.{Layout}
 use Rattle.pybuf_desc.specs.Contiguous.{is_contiguous_layout}
-use Rattle.pybuf_command.specs.Sized.{byte_count}
+use Rattle.pybuf_memoryview.specs.Sized.{byte_count}
 
 -- the number of bytes of all items
 abbrev pub nbytes_of : Layout → ℕ

@@ -3,7 +3,7 @@ ghost use Rattle.std.specs.Prelude.{◌≡◌, ◌<◌, ◌^◌, [], ◌∷◌, 
 ghost use Rattle.pybuf_struct.specs.Values.{item_of};
 ghost use Rattle.pybuf_struct.specs.Formats.{format_of};
 ghost use Rattle.pybuf_value.specs.Halting.{Gives};
-ghost use Rattle.pybuf_command.specs.Sized.{is_sized};
+ghost use Rattle.pybuf_memoryview.specs.Sized.{is_sized};
 ghost use Rattle.pybuf_memoryview.specs.Items as spec;
 ghost use Rattle.pybuf_memoryview.specs.SingleBytes.{byte_for_item};
 

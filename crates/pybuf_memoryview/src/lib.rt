@@ -1,7 +1,8 @@
 //! One view over bytes: where its items lie and how they are kept, what they read as and are written
-//! as, their bytes, and what the view is lent as.
+//! as, their bytes, and what the view is lent as; what is lent that fits.
 #![tactic(auto)]
 
+mod bytes;
 mod content;
 mod items;
 mod kept;
@@ -11,6 +12,7 @@ mod laws;
 mod lent;
 mod lists;
 
+pub use bytes::{is_byte_format, is_row_of};
 pub use content::content_of;
 pub use items::{
     args_of, byte_for_item, byte_item, entry_in, format_of, index_in, is_none, is_slice, item_by,

@@ -7,9 +7,9 @@ ghost use Rattle.pybuf_memoryview.specs.Items.{item_by};
 ghost use Rattle.pybuf_memoryview.specs.Lists as spec;
 ghost use Rattle.pybuf_memoryview.specs.ListReading as reading;
 
+use crate::bytes::is_byte_format;
 use crate::items::{byte_item, item_of};
 use crate::kept::KeptLayout;
-use pybuf_command::is_byte_format;
 use pybuf_desc::Segments;
 use pybuf_struct::FormatSpec;
 use pybuf_value::{CountList, Item, ItemList, Made, Outcome, ScalarList, Text};

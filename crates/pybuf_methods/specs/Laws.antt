@@ -3,8 +3,8 @@ use Rattle.std.specs.Prelude.{◌≡◌, ℕ, false, List, length, Err}
 use Rattle.pybuf_value.specs.declared.faults.Fault.TheVariants as fault
 use Rattle.pybuf_value.specs.declared.snaps.Snap.{Snap}
 use Rattle.pybuf_value.specs.declared.values.Value.{Value}
-use Rattle.pybuf_bytes.specs.declared.methods.MethodName.{MethodName}
-use Rattle.pybuf_methods.specs.Arity.{takes}
+use Rattle.pybuf_command.specs.declared.methods.MethodName.{MethodName}
+use Rattle.pybuf_command.specs.Arity.{takes}
 use Rattle.pybuf_methods.specs.Methods.{method_reply}
 
 -- a call with another number of arguments than its method takes is a wrong kind

@@ -4,7 +4,6 @@ pub mod Sought
 pub mod Shaped
 pub mod Cut
 pub mod Methods
-pub mod Arity
 pub mod Laws
 pub mod Lent
 pub mod Affixes

@@ -11,8 +11,8 @@ use Rattle.pybuf_letters.specs.Classes.{all_of, all_ascii, all_in_case, is_blank
 use Rattle.pybuf_letters.specs.Strips.{stripped, stripped_left, stripped_right}
 use Rattle.pybuf_shaping.specs.Padding.{centered, justified_left, justified_right}
 use Rattle.pybuf_bytes.specs.Searching.{split_of, rsplit_of}
-use Rattle.pybuf_bytes.specs.declared.methods.MethodName.{MethodName}
-use Rattle.pybuf_bytes.specs.declared.methods.MethodName.TheVariants as name
+use Rattle.pybuf_command.specs.declared.methods.MethodName.{MethodName}
+use Rattle.pybuf_command.specs.declared.methods.MethodName.TheVariants as name
 use Rattle.pybuf_bytes.specs.declared.methods.MethodReply.{MethodReply}
 use Rattle.pybuf_methods.specs.Plain as plain
 use Rattle.pybuf_methods.specs.Sought as sought

@@ -2,18 +2,18 @@
 #![tactic(auto)]
 
 mod affixes;
-mod arity;
 mod contents;
 mod cut;
 mod given;
 mod join;
+mod laws;
 mod methods;
 mod plain;
 mod shaped;
 mod sought;
 
-pub use arity::{fewest, most, takes, wrong_numbers_are_refused};
 pub use contents::{ByLender, Contents};
+pub use laws::wrong_numbers_are_refused;
 pub use methods::{apply_method, reply_of};
 pub use shaped::hex_of;
 pub use sought::contains_in;

@@ -5,7 +5,8 @@ ghost use Rattle.pybuf_methods.specs.Methods.{method_reply};
 
 use crate::contents::{ByLender, Contents};
 use crate::{cut, plain, shaped, sought};
-use pybuf_bytes::{MethodCall, MethodName, MethodReply};
+use pybuf_bytes::MethodReply;
+use pybuf_command::{MethodCall, MethodName};
 use pybuf_letters::{
     is_alnum, is_alpha, is_ascii, is_digit, is_lower, is_space, is_title, is_upper,
 };

@@ -1,7 +1,7 @@
 //! Python's `bytearray`, as a value of its own.
 ghost use Rattle.std.specs.Prelude.{◌≡◌, ◌↔◌, length, IfOk, IfSome, IfErr, IsOk, IsSome, OnErr};
 ghost use Rattle.std.specs.Borrow.{sem};
-ghost use Rattle.pybuf_command.specs.Fits.{LoansFit};
+ghost use Rattle.pybuf_state.specs.Fits.{LoansFit};
 ghost use Rattle.pybuf_command.specs.declared.kinds.ExporterKind.TheVariants as kinds;
 ghost use Rattle.pybuf_command.specs.declared.kinds.Subject.TheVariants as subjects;
 ghost use Rattle.pybuf_command.specs.declared.commands.PropertyName.TheVariants as names;
@@ -12,8 +12,10 @@ ghost use Rattle.pybuf_state.specs.Exporter.{new_exporter, exports_of};
 
 use crate::guard::BufferResizeGuard;
 use pybuf_buffer::step_of;
-use pybuf_bytes::{ByteInnerNewOptions, MethodCall};
-use pybuf_command::{ExporterKind, LoanList, LocalReply, PropertyName, Subject, Verb};
+use pybuf_command::{
+    ByteInnerNewOptions, ExporterKind, LoanList, LocalReply, MethodCall, PropertyName, Subject,
+    Verb,
+};
 use pybuf_exporter::ExporterState;
 use pybuf_value::{ByteList, CompareOp, Fault, Made, Value};
 use std::alloc::Global;
@@ -26,7 +28,7 @@ use std::marker::Model;
 /// A method that takes loans is one command on the exporter, and answers its reply. What is refused is
 /// replied as `LocalReply::Refused`, and changes nothing; before all that a method names, a handle among the
 /// values that the loans don't name is refused with `UnknownName`. Where memory runs out, nothing is changed.
-/// The loans have to fit, as `LoanList::fit` tells.
+/// The loans have to fit, as `FitLoans::fit` tells.
 #[derive(Debug, Drop)]
 pub struct PyByteArray {
     exporter: ExporterState,
@@ -450,7 +452,7 @@ impl PyByteArray {
     /// Puts the bytes of a source in place of all, as Python's `bytearray.__init__(source, encoding,
     /// errors)` (Library reference, "Bytearray Objects").
     ///
-    /// Refused as `ByteInnerNewOptions::get_bytearray_inner` refuses the options, and then with
+    /// Refused as `NewOptions::get_bytearray_inner` refuses the options, and then with
     /// `BufferError` where a view is unreleased.
     pub fn init(&mut self, options: ByteInnerNewOptions, loans: LoanList) -> Made<LocalReply>
         requires { LoansFit loans }

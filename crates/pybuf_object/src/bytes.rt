@@ -1,7 +1,7 @@
 //! Python's `bytes`, as a value of its own.
 ghost use Rattle.std.specs.Prelude.{◌≡◌, ◌==◌, length, IfOk, OnErr};
 ghost use Rattle.std.specs.Borrow.{sem};
-ghost use Rattle.pybuf_command.specs.Fits.{LoansFit};
+ghost use Rattle.pybuf_state.specs.Fits.{LoansFit};
 ghost use Rattle.pybuf_command.specs.declared.kinds.ExporterKind.TheVariants as kinds;
 ghost use Rattle.pybuf_command.specs.declared.kinds.Subject.TheVariants as subjects;
 ghost use Rattle.pybuf_command.specs.declared.commands.PropertyName.TheVariants as names;
@@ -10,8 +10,7 @@ ghost use Rattle.pybuf_exporter.specs.Step.{estep};
 ghost use Rattle.pybuf_state.specs.Exporter.{new_exporter};
 
 use pybuf_buffer::step_of;
-use pybuf_bytes::MethodCall;
-use pybuf_command::{ExporterKind, LoanList, LocalReply, PropertyName, Subject, Verb};
+use pybuf_command::{ExporterKind, LoanList, LocalReply, MethodCall, PropertyName, Subject, Verb};
 use pybuf_exporter::ExporterState;
 use pybuf_value::{ByteList, CompareOp, Made, Value};
 use std::alloc::Global;
@@ -23,7 +22,7 @@ use std::marker::Model;
 /// A method that takes loans is one command on the exporter, and answers its reply. What is refused is
 /// replied as `LocalReply::Refused`, and changes nothing; before all that a method names, a handle among the
 /// values that the loans don't name is refused with `UnknownName`. Where memory runs out, nothing is changed.
-/// The loans have to fit, as `LoanList::fit` tells.
+/// The loans have to fit, as `FitLoans::fit` tells.
 #[derive(Debug, Drop)]
 pub struct PyBytes {
     exporter: ExporterState,

@@ -10,7 +10,7 @@ use Rattle.pybuf_value.specs.Refusing.{◌>>=◌, unless}
 use Rattle.pybuf_struct.specs.Formats.{codes_in, layout_from, format_after_prefix}
 use Rattle.pybuf_desc.specs.Layouts.{Layout}
 use Rattle.pybuf_desc.specs.Items.{bytes_at, bytes_of_items, content_of_layout}
-use Rattle.pybuf_command.specs.Sized.{is_sized}
+use Rattle.pybuf_memoryview.specs.Sized.{is_sized}
 use Rattle.pybuf_command.specs.declared.commands.LocalReply.{LocalReply}
 use Rattle.pybuf_command.specs.declared.commands.LocalReply.TheVariants as reply
 use Rattle.pybuf_memoryview.specs.Laws.{ContentsAreWhole}

@@ -9,7 +9,7 @@ ghost use Rattle.pybuf_desc.specs.Layouts.{LiesInside};
 ghost use Rattle.pybuf_command.specs.declared.kinds.ExporterKind.{ExporterKind};
 ghost use Rattle.pybuf_command.specs.declared.kinds.ExporterKind.TheVariants as kinds;
 ghost use Rattle.pybuf_command.specs.Handles.{handle_of_value};
-ghost use Rattle.pybuf_command.specs.Fits.{fits_snap};
+ghost use Rattle.pybuf_memoryview.specs.Fits.{fits_snap};
 ghost use Rattle.pybuf_state.specs.Exporter.{new_exporter, view_at};
 ghost use Rattle.pybuf_state.specs.Loans.{lent_as, lents_by, snap_in, subject_in};
 ghost use Rattle.pybuf_state.specs.Names as names_spec;

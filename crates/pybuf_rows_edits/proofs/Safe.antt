@@ -15,7 +15,7 @@ use Rattle.pybuf_value.specs.Snaps.{bytes_in}
 use Rattle.pybuf_slice.specs.Parts.{SliceParts, saturated_parts_of, picks_of}
 use Rattle.pybuf_slice.specs.Edits.{is_one, times, assigned_list}
 use Rattle.pybuf_slice.specs.EditLaws.{AsManyKeepTheLength}
-use Rattle.pybuf_bytes.specs.declared.options.ByteInnerNewOptions.{ByteInnerNewOptions}
+use Rattle.pybuf_command.specs.declared.options.ByteInnerNewOptions.{ByteInnerNewOptions}
 use Rattle.pybuf_bytes.specs.Options.{bytes_of_options}
 use Rattle.pybuf_command.specs.declared.commands.Verb.TheVariants as verb
 use Rattle.pybuf_command.specs.declared.commands.LocalReply.{LocalReply}

@@ -16,8 +16,8 @@ ghost use Rattle.pybuf_rows_edits.specs.Common as common;
 ghost use Rattle.pybuf_rows_edits.specs.LentBytes as lent_spec;
 ghost use Rattle.pybuf_rows_edits.specs.Replacing as spec;
 
-use pybuf_bytes::ByteInnerNewOptions;
-use pybuf_command::{ExporterKind, LocalReply, Subject, handle_alone};
+use pybuf_bytes::NewOptions;
+use pybuf_command::{ByteInnerNewOptions, ExporterKind, LocalReply, Subject, handle_alone};
 use pybuf_memoryview::content_of;
 use pybuf_slice::{SaturatedSlice, slices};
 use pybuf_state::{Meaning, Names, Other, Parts, content_of_other, snap_of_subject};

@@ -7,7 +7,7 @@ use Rattle.pybuf_value.specs.declared.values.Scalar.TheVariants as scalar
 use Rattle.pybuf_value.specs.declared.values.Item.TheVariants as item
 use Rattle.pybuf_value.specs.declared.values.Value.{Value}
 use Rattle.pybuf_value.specs.Refusing.{◌>>=◌, unless}
-use Rattle.pybuf_bytes.specs.declared.methods.MethodCall.{MethodCall}
+use Rattle.pybuf_command.specs.declared.methods.MethodCall.{MethodCall}
 use Rattle.pybuf_bytes.specs.declared.methods.MethodReply.{MethodReply}
 use Rattle.pybuf_bytes.specs.declared.methods.MethodReply.TheVariants as answer
 use Rattle.pybuf_methods.specs.Methods.{method_reply}

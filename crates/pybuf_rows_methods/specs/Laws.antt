@@ -3,7 +3,7 @@ use Rattle.std.specs.Prelude.{◌≡◌, ℕ, List, Option}
 use Rattle.pybuf_value.specs.declared.snaps.Snap.{Snap}
 use Rattle.pybuf_value.specs.declared.values.Value.{Value}
 use Rattle.pybuf_value.specs.Snaps.{snap_of}
-use Rattle.pybuf_bytes.specs.declared.methods.MethodCall.{MethodCall}
+use Rattle.pybuf_command.specs.declared.methods.MethodCall.{MethodCall}
 use Rattle.pybuf_state.specs.Exporter.{Exporter}
 use Rattle.pybuf_command.specs.declared.loans.Loan.{Loan}
 use Rattle.pybuf_state.specs.Keeps.{IsSafe}

@@ -3,8 +3,8 @@ ghost use Rattle.std.specs.Prelude.{◌≡◌};
 ghost use Rattle.pybuf_state.specs.Answers.{exporter_of, Reads};
 ghost use Rattle.pybuf_rows_methods.specs.Calls as spec;
 
-use pybuf_bytes::{MethodCall, MethodReply};
-use pybuf_command::LocalReply;
+use pybuf_bytes::MethodReply;
+use pybuf_command::{LocalReply, MethodCall};
 use pybuf_methods::{Contents, reply_of};
 use pybuf_state::Parts;
 use pybuf_value::{Halt, Item, Scalar};

@@ -26,7 +26,7 @@ use Rattle.pybuf_desc.specs.Contiguous.{is_contiguous_layout}
 use Rattle.pybuf_desc.specs.Slices.{slice_of}
 use Rattle.pybuf_desc.specs.Casts.{cast_of}
 use Rattle.pybuf_desc.specs.Laws.{SlicesStayInside, SlicesHaveTheirShape, CastsStayInside, CastsHaveTheirShape, ShapedCastsStayInside, ShapedCastsHaveTheirShape}
-use Rattle.pybuf_command.specs.Sized.{is_size_of}
+use Rattle.pybuf_memoryview.specs.Sized.{is_size_of}
 use Rattle.pybuf_memoryview.specs.Items.{has_dimensions}
 use Rattle.pybuf_memoryview.specs.Orders.{nbytes_of, has_zero_entry}
 use Rattle.pybuf_state.specs.Laws.{IsSoundLayout, WholeLayoutsAreSound, PartLayoutsAreSound, LiveLayoutsAreSound, ReadingKeeps, NewViewsKeep, ReleasingKeeps}

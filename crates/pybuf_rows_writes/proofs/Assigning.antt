@@ -12,8 +12,8 @@ use Rattle.pybuf_value.specs.declared.snaps.SnapKind.TheVariants as snap_kind
 use Rattle.pybuf_value.specs.Refusing.{◌>>=◌, unless}
 use Rattle.pybuf_value.specs.Snaps.{is_iterator}
 use Rattle.pybuf_desc.specs.Layouts.{Layout}
-use Rattle.pybuf_command.specs.Sized.{is_sized, byte_count}
-use Rattle.pybuf_command.specs.Fits.{fits_snap, fits_kind, is_whole, is_byte_format, is_row_of}
+use Rattle.pybuf_memoryview.specs.Sized.{is_sized, byte_count}
+use Rattle.pybuf_memoryview.specs.Fits.{fits_snap, fits_kind, is_whole, is_byte_format, is_row_of}
 use Rattle.pybuf_command.specs.declared.loans.Loan.{Loan}
 use Rattle.pybuf_command.specs.declared.loans.Loan.TheVariants as loan
 use Rattle.pybuf_command.specs.declared.commands.LocalReply.{LocalReply}

@@ -17,8 +17,8 @@ use Rattle.pybuf_slice.specs.Parts.{SliceParts}
 use Rattle.pybuf_desc.specs.Layouts.{Layout, LiesInside, HasItemsOfItsShape}
 use Rattle.pybuf_desc.specs.Slices.{slice_of}
 use Rattle.pybuf_desc.specs.Laws.{SlicesStayInside, SlicesHaveTheirShape}
-use Rattle.pybuf_command.specs.Sized.{byte_count}
-use Rattle.pybuf_command.specs.Fits.{fits_snap}
+use Rattle.pybuf_memoryview.specs.Sized.{byte_count}
+use Rattle.pybuf_memoryview.specs.Fits.{fits_snap}
 use Rattle.pybuf_command.specs.declared.commands.LocalReply.{LocalReply}
 use Rattle.pybuf_command.specs.declared.commands.LocalReply.TheVariants as reply
 use Rattle.pybuf_state.specs.Exporter.{Exporter}

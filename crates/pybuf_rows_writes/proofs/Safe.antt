@@ -12,7 +12,7 @@ use Rattle.pybuf_struct.specs.Formats.{Format, format_of}
 use Rattle.pybuf_struct.specs.Packing.{packed_bytes}
 use Rattle.pybuf_struct.specs.Laws.{PackingFillsTheFormat}
 use Rattle.pybuf_desc.specs.Layouts.{Layout}
-use Rattle.pybuf_command.specs.Sized.{is_size_of, is_sized}
+use Rattle.pybuf_memoryview.specs.Sized.{is_size_of, is_sized}
 use Rattle.pybuf_command.specs.declared.commands.LocalReply.{LocalReply}
 use Rattle.pybuf_memoryview.specs.Items.{index_in, entry_in, is_none, kind_fault, scalar_in, bytes_with, piece_by}
 use Rattle.pybuf_memoryview.specs.Keys.{item_of_key}

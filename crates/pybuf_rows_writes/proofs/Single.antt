@@ -6,7 +6,7 @@ use Rattle.pybuf_value.specs.declared.faults.Fault.{Fault}
 use Rattle.pybuf_value.specs.declared.values.Value.{Value}
 use Rattle.pybuf_value.specs.Refusing.{◌>>=◌}
 use Rattle.pybuf_desc.specs.Layouts.{Layout}
-use Rattle.pybuf_command.specs.Fits.{is_byte_format}
+use Rattle.pybuf_memoryview.specs.Fits.{is_byte_format}
 use Rattle.pybuf_command.specs.declared.commands.LocalReply.{LocalReply}
 use Rattle.pybuf_command.specs.declared.commands.LocalReply.TheVariants as reply
 use Rattle.pybuf_memoryview.specs.Items.{piece_by, bytes_with}

@@ -16,7 +16,7 @@ use Rattle.pybuf_desc.specs.Slices.{slice_of}
 use Rattle.pybuf_command.specs.declared.kinds.ExporterKind.TheVariants as kind
 use Rattle.pybuf_command.specs.declared.commands.LocalReply.{LocalReply}
 use Rattle.pybuf_command.specs.declared.commands.LocalReply.TheVariants as reply
-use Rattle.pybuf_command.specs.Fits.{is_row_of}
+use Rattle.pybuf_memoryview.specs.Fits.{is_row_of}
 use Rattle.pybuf_memoryview.specs.Items.{has_dimensions, is_none}
 use Rattle.pybuf_memoryview.specs.Laid.{laid}
 use Rattle.pybuf_state.specs.Exporter.{Exporter, new_exporter, live_layout}

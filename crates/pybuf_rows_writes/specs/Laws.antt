@@ -10,7 +10,7 @@ use Rattle.pybuf_value.specs.declared.snaps.Snap.{Snap}
 use Rattle.pybuf_slice.specs.Parts.{SliceParts, saturated_parts_of}
 use Rattle.pybuf_desc.specs.Layouts.{Layout, LiesInside}
 use Rattle.pybuf_desc.specs.Slices.{slice_of}
-use Rattle.pybuf_command.specs.Fits.{fits_snap}
+use Rattle.pybuf_memoryview.specs.Fits.{fits_snap}
 use Rattle.pybuf_memoryview.specs.Snaps.{snap_of_layout}
 use Rattle.pybuf_desc.specs.Items.{bytes_at}
 use Rattle.pybuf_command.specs.declared.commands.LocalReply.{LocalReply}

@@ -6,7 +6,7 @@ ghost use Rattle.pybuf_desc.specs.Layouts.{Layout, LiesInside};
 ghost use Rattle.pybuf_command.specs.declared.kinds.ExporterKind.{ExporterKind};
 ghost use Rattle.pybuf_command.specs.declared.kinds.Subject.TheVariants as subjects;
 ghost use Rattle.pybuf_command.specs.Handles.{handle_of_value};
-ghost use Rattle.pybuf_command.specs.Fits.{fits_snap};
+ghost use Rattle.pybuf_memoryview.specs.Fits.{fits_snap};
 ghost use Rattle.pybuf_memoryview.specs.Snaps.{snap_of_layout};
 ghost use Rattle.pybuf_state.specs.Exporter.{Exporter, exports_of, new_exporter};
 ghost use Rattle.pybuf_state.specs.Loans.{lents_by, snap_in};
@@ -16,8 +16,11 @@ ghost use Rattle.pybuf_state.specs.Answers.{exporter_of, IsWhole, Answers};
 ghost use Rattle.pybuf_state.specs.Laws.{IsSoundLayout};
 ghost use Rattle.pybuf_rows_writes.specs.Assign as spec;
 
-use pybuf_command::{LocalReply, Subject, is_byte_format, is_row_of};
-use pybuf_memoryview::{KeptLayout, content_of, first_place, is_none, lay, lay_across, lay_moved};
+use pybuf_command::{LocalReply, Subject};
+use pybuf_memoryview::{
+    KeptLayout, content_of, first_place, is_byte_format, is_none, is_row_of, lay, lay_across,
+    lay_moved,
+};
 use pybuf_slice::SaturatedSlice;
 use pybuf_state::{Meaning, Names, Other, Parts};
 use pybuf_value::{Fault, Halt, PySlice, Scalar, Snap, Value};

@@ -13,9 +13,10 @@ ghost use Rattle.pybuf_state.specs.Answers.{exporter_of, IsWhole, Answers};
 ghost use Rattle.pybuf_rows_writes.specs.Set.{byte_set, set_of_own, set_target, item_set, set_of_view};
 ghost use Rattle.pybuf_rows_writes.specs.Writing.{bytes_packed, bytes_by_letter, single_byte_set, IsStartOfTarget};
 
-use pybuf_command::{ExporterKind, LocalReply, is_byte_format};
+use pybuf_command::{ExporterKind, LocalReply};
 use pybuf_memoryview::{
-    KeptLayout, args_of, byte_for_item, entry_in, format_of, index_in, is_none, place_of_key,
+    KeptLayout, args_of, byte_for_item, entry_in, format_of, index_in, is_byte_format, is_none,
+    place_of_key,
 };
 use pybuf_state::{Names, Parts, lent_to};
 use pybuf_struct::{FormatSpec, is_numeric_letter, pack_single};

@@ -12,8 +12,8 @@ use Rattle.pybuf_command.specs.declared.kinds.ExporterKind.TheVariants as kind
 use Rattle.pybuf_command.specs.declared.kinds.Subject.{Subject}
 use Rattle.pybuf_command.specs.declared.kinds.Subject.TheVariants as subject
 use Rattle.pybuf_struct.specs.Formats.{codes_in, layout_from, format_after_prefix}
-use Rattle.pybuf_command.specs.Sized.{is_sized, byte_count}
-use Rattle.pybuf_command.specs.Fits.{fits_kind, fits_snap}
+use Rattle.pybuf_memoryview.specs.Sized.{is_sized, byte_count}
+use Rattle.pybuf_memoryview.specs.Fits.{fits_kind, fits_snap}
 use Rattle.pybuf_memoryview.specs.Laws.{ContentsAreWhole}
 use Rattle.pybuf_state.specs.Exporter.{Exporter, View, Iterator}
 use Rattle.pybuf_state.specs.Sound.{IsSoundView, IsSoundExporter}

@@ -8,7 +8,7 @@ use Rattle.std.proofs.lemmas.List.FromFn.{length-range_with_len, get_or-range_wi
 use Rattle.pybuf_desc.specs.Layouts.{Layout}
 use Rattle.pybuf_command.specs.declared.kinds.ExporterKind.{ExporterKind}
 use Rattle.pybuf_struct.specs.Formats.{codes_in, layout_from, format_after_prefix}
-use Rattle.pybuf_command.specs.Sized.{is_sized}
+use Rattle.pybuf_memoryview.specs.Sized.{is_sized}
 use Rattle.pybuf_state.specs.Exporter.{Exporter, View, Iterator, is_exported, exports_of}
 use Rattle.pybuf_state.specs.Sound.{IsSoundView, IsSoundExporter}
 use Rattle.pybuf_state.specs.Keeps.{IsSameOrReleased, ViewsStay, LengthsStay, IsSameOrMoved}

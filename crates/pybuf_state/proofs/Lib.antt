@@ -3,3 +3,4 @@ pub mod Keeping
 pub mod Fitting
 pub mod Copying
 pub mod Meanings
+pub mod Counts

@@ -7,7 +7,7 @@ use Rattle.pybuf_command.specs.declared.kinds.Subject.{Subject}
 use Rattle.pybuf_command.specs.declared.kinds.Subject.TheVariants as subject
 use Rattle.pybuf_command.specs.declared.loans.Loan.{Loan}
 use Rattle.pybuf_command.specs.declared.loans.Loan.TheVariants as loan
-use Rattle.pybuf_command.specs.Fits.{fits, all_fit}
+use Rattle.pybuf_state.specs.Fits.{fits, all_fit}
 use Rattle.pybuf_command.specs.Loans.{loan_of}
 use Rattle.pybuf_state.specs.Exporter.{Exporter}
 use Rattle.pybuf_state.specs.Loans.{snap_in}

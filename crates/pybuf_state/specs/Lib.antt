@@ -2,6 +2,7 @@ pub mod Exporter
 pub mod Sound
 pub mod Snaps
 pub mod Loans
+pub mod Fits
 pub mod Keeps
 pub mod Fresh
 pub mod Answers

@@ -7,7 +7,7 @@ use Rattle.pybuf_command.specs.declared.kinds.Subject.{Subject}
 use Rattle.pybuf_command.specs.declared.kinds.Subject.TheVariants as subject
 use Rattle.pybuf_command.specs.declared.loans.Loan.{Loan}
 use Rattle.pybuf_command.specs.declared.loans.Loan.TheVariants as loan
-use Rattle.pybuf_command.specs.Fits.{fits_snap}
+use Rattle.pybuf_memoryview.specs.Fits.{fits_snap}
 use Rattle.pybuf_state.specs.declared.names.Other.{Other}
 use Rattle.pybuf_state.specs.declared.names.Other.TheVariants as other
 use Rattle.pybuf_state.specs.declared.names.Meaning.{Meaning}

@@ -4,7 +4,7 @@ use Rattle.std.specs.List.{All}
 use Rattle.pybuf_desc.specs.Layouts.{Layout, HasItemsOfItsShape, LiesInside}
 use Rattle.pybuf_command.specs.declared.kinds.ExporterKind.{ExporterKind}
 use Rattle.pybuf_command.specs.Kinds.{holds_readonly}
-use Rattle.pybuf_command.specs.Sized.{is_sized}
+use Rattle.pybuf_memoryview.specs.Sized.{is_sized}
 use Rattle.pybuf_state.specs.Exporter.{Exporter, View}
 
 -- The format is in the grammar, and its size there is at least 1 and is the item size; and there are

@@ -9,6 +9,7 @@ mod fresh;
 mod iterators;
 mod laws;
 mod lending;
+mod loans;
 mod names;
 mod parts;
 mod runs;
@@ -23,6 +24,7 @@ pub use laws::{
     new_iterators_stay, new_views_keep, part_layouts_are_sound, reading_keeps, releasing_keeps,
     resizing_keeps, whole_layouts_are_sound, writing_keeps,
 };
+pub use loans::FitLoans;
 pub use names::{Meaning, Names, Other, are_known};
 pub use parts::Parts;
 pub use runs::{bytes_in_a_row, given, run_of};

@@ -2,7 +2,7 @@
 ghost use Rattle.std.specs.Prelude.{◌≡◌, ℕ, Option, Some, true};
 ghost use Rattle.std.specs.Option.{option_copied, ForSome};
 ghost use Rattle.pybuf_command.specs.declared.loans.Loan.{Loan};
-ghost use Rattle.pybuf_command.specs.Fits.{LoansFit, fits};
+ghost use Rattle.pybuf_state.specs.Fits.{LoansFit, fits};
 ghost use Rattle.pybuf_state.specs.Answers.{exporter_of};
 ghost use Rattle.pybuf_state.specs.Loans.{given_loan, names_of, is_named, are_named};
 ghost use Rattle.pybuf_state.specs.Names as spec;

@@ -3,7 +3,7 @@ ghost use Rattle.std.specs.Prelude.{◌≡◌, List, [], ◌∷◌, ◌++◌, co
 ghost use Rattle.pybuf_value.specs.declared.values.Scalar.{Scalar};
 ghost use Rattle.pybuf_command.specs.declared.kinds.Subject.TheVariants as subjects;
 ghost use Rattle.pybuf_command.specs.Handles.{handle_of_value};
-ghost use Rattle.pybuf_command.specs.Fits.{fits_snap};
+ghost use Rattle.pybuf_memoryview.specs.Fits.{fits_snap};
 ghost use Rattle.pybuf_struct.specs.Packing.{packed_bytes};
 ghost use Rattle.pybuf_state.specs.Answers.{exporter_of, IsWhole};
 ghost use Rattle.pybuf_state.specs.Snaps as spec;

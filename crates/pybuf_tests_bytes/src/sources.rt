@@ -1,5 +1,5 @@
 //! Strings of bytes, with ample memory.
-use pybuf_bytes::{ByteInnerNewOptions, PyBytesInner};
+use pybuf_bytes::{ByteInnerNewOptions, NewOptions, PyBytesInner};
 use pybuf_value::{Fault, Outcome, Scalar, SnapList, Text, Twin, Value};
 use std::alloc::Global;
 use std::test::Fail;

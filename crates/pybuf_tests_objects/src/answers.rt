@@ -2,8 +2,7 @@
 //!
 //! Each call of a script stands in a function without clauses, which hands over what it was answered. So no script
 //! carries what the calls before did, and none drops a reply at each place where it may stop.
-use pybuf_bytes::{MethodCall, MethodName};
-use pybuf_command::{ExporterKind, LocalReply};
+use pybuf_command::{ExporterKind, LocalReply, MethodCall, MethodName};
 use pybuf_exporter::ExporterState;
 use pybuf_value::{
     ByteList, Fault, Item, Made, Scalar, Text, Value, ValueList, push_quoted, push_scalar,

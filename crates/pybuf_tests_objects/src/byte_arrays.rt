@@ -6,8 +6,7 @@ ghost use Rattle.pybuf_command.specs.declared.kinds.ExporterKind.TheVariants as 
 use crate::answers::{
     Asks, bytes, bytes_reply, call_of, carry_out, count_reply, number, truth_reply,
 };
-use pybuf_bytes::{ByteInnerNewOptions, MethodName};
-use pybuf_command::{ExporterKind, LoanList, LocalReply};
+use pybuf_command::{ByteInnerNewOptions, ExporterKind, LoanList, LocalReply, MethodName};
 use pybuf_object::{BufferResizeGuard, PyByteArray, PyByteArrayIterator};
 use pybuf_value::{CompareOp, Made, PySlice, Scalar, Value};
 use std::alloc::Global;

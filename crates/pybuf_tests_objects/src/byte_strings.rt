@@ -3,8 +3,7 @@
 use crate::answers::{
     Asks, bytes, bytes_reply, call_of, carry_out, count_reply, number, truth_reply,
 };
-use pybuf_bytes::MethodName;
-use pybuf_command::{LoanList, LocalReply};
+use pybuf_command::{LoanList, LocalReply, MethodName};
 use pybuf_object::{PyBytes, PyBytesIterator};
 use pybuf_value::{CompareOp, Made};
 use std::alloc::Global;

@@ -1,6 +1,6 @@
 //! The calls of an exporter that no line of the program makes, since a world carries commands out by other calls:
 //! `step`, a copy, `view_desc`, and a command whose loans have the copy of another exporter's view.
-ghost use Rattle.pybuf_command.specs.Fits.{LoansFit};
+ghost use Rattle.pybuf_state.specs.Fits.{LoansFit};
 
 use crate::answers::{
     exporter_of, number, tell, tell_bytes, tell_count, tell_fault, tell_numbered, tell_word,
@@ -8,6 +8,7 @@ use crate::answers::{
 use pybuf_command::{Loan, LoanList, LocalCommand, Subject, Verb};
 use pybuf_exporter::ExporterState;
 use pybuf_memoryobject::PyMemoryView;
+use pybuf_state::FitLoans;
 use pybuf_value::{Made, Outcome, PySlice, Scalar, Snap, Twin, Value};
 use std::alloc::Global;
 use std::test::Fail;

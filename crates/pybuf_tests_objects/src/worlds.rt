@@ -3,8 +3,7 @@
 use crate::answers::{
     bytes, tell_bytes, tell_count, tell_fault, tell_number, tell_scalar, tell_word,
 };
-use pybuf_bytes::ByteInnerNewOptions;
-use pybuf_command::{ExporterKind, Verb};
+use pybuf_command::{ByteInnerNewOptions, ExporterKind, Verb};
 use pybuf_value::{Fault, Items, Made, Scalar, Value};
 use pybuf_world::{Command, Reply, ReplyList, World};
 use std::alloc::Global;

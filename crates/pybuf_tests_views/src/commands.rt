@@ -1,10 +1,10 @@
 //! Copies of verbs, replies, loans and commands, and the handles that they name. A world copies none of
 //! them: a user of one exporter does.
-use pybuf_bytes::{ByteInnerNewOptions, MethodCall, MethodName};
 use pybuf_command::{
-    Loan, LoanList, LocalCommand, LocalReply, Subject, Verb, handles_of, handles_of_options,
-    handles_read, loan_of,
+    ByteInnerNewOptions, Loan, LoanList, LocalCommand, LocalReply, MethodCall, MethodName, Subject,
+    Verb, handles_of, handles_of_options, handles_read, loan_of,
 };
+use pybuf_state::FitLoans;
 use pybuf_value::{
     ByteList, CountList, Made, Scalar, Snap, SnapKind, Text, Twin, Value, ValueList,
 };

@@ -12,7 +12,7 @@ use Rattle.pybuf_value.specs.declared.values.Value.TheVariants as value
 use Rattle.pybuf_value.specs.Refusing.{◌>>=◌}
 use Rattle.pybuf_value.specs.Snaps.{snap_of, content_of_named}
 use Rattle.pybuf_value.specs.Texts.{text_in}
-use Rattle.pybuf_bytes.specs.declared.options.ByteInnerNewOptions.{ByteInnerNewOptions}
+use Rattle.pybuf_command.specs.declared.options.ByteInnerNewOptions.{ByteInnerNewOptions}
 use Rattle.pybuf_bytes.specs.Options.{bytes_of_source, text_given, bytes_by, bytes_of_options}
 use Rattle.pybuf_command.specs.declared.kinds.ExporterKind.{ExporterKind}
 use Rattle.pybuf_command.specs.Handles.{source_alone as handle_by, handle_alone, handles_in_option, handles_of_options}

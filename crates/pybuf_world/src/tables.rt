@@ -9,10 +9,10 @@ ghost use Rattle.pybuf_world.specs.Stepping.{local_step};
 
 use crate::named::{Named, Target};
 use crate::others::Others;
-use pybuf_bytes::ByteInnerNewOptions;
+use pybuf_bytes::NewOptions;
 use pybuf_command::{
-    Command, ExporterKind, LocalReply, Reply, ReplyList, Subject, Verb, handle_alone,
-    handles_of_options,
+    ByteInnerNewOptions, Command, ExporterKind, LocalReply, Reply, ReplyList, Subject, Verb,
+    handle_alone, handles_of_options,
 };
 use pybuf_exporter::{
     ExporterState, commands_keep_sound, copies_are_faithful, fresh_replies_are_copies,

@@ -1,5 +1,5 @@
 use Rattle.std.proofs.Common.{ap, sym, ◌∙◌}
-use Rattle.pybuf_command.specs.Fits.{is_byte_format}
+use Rattle.pybuf_memoryview.specs.Fits.{is_byte_format}
 use Rattle.pybuf_memoryview.proofs.Listed.{byte_reads}
 use Rattle.pybuf_memoryview.proofs.lists.reader_of.Goals as goal
 

@@ -1,5 +1,5 @@
 use Rattle.std.proofs.Common.{ap, sym, subst, ◌∙◌}
-use Rattle.pybuf_command.specs.Fits.{is_byte_format}
+use Rattle.pybuf_memoryview.specs.Fits.{is_byte_format}
 use Rattle.pybuf_command.specs.Handles.{handle_of_value}
 use Rattle.pybuf_state.specs.Loans.{lents_by}
 use Rattle.pybuf_state.specs.Answers.{exporter_of, Answers}

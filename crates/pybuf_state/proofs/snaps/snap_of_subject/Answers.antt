@@ -1,7 +1,7 @@
 use Rattle.std.proofs.Common.{◌≡◌, true, sym, subst}
 use Rattle.pybuf_value.specs.declared.snaps.Snap.{Snap}
 use Rattle.pybuf_command.specs.declared.kinds.Subject.TheVariants as subjects
-use Rattle.pybuf_command.specs.Fits.{fits_snap}
+use Rattle.pybuf_memoryview.specs.Fits.{fits_snap}
 use Rattle.pybuf_state.specs.Answers.{exporter_of}
 use Rattle.pybuf_state.proofs.Fitting.{exporter_fits, subject_fits, fits_so}
 use Rattle.pybuf_state.proofs.snaps.snap_of_subject.Goals as goal

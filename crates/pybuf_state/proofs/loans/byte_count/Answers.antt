@@ -1,6 +1,6 @@
 use Rattle.std.proofs.Common.{◌-◌, ◌*◌, ◌^◌, min, get_or, ap, ◌∙◌}
-use Rattle.pybuf_command.proofs.Counts.{count_more}
-use Rattle.pybuf_command.proofs.loans.byte_count.Goals as goal
+use Rattle.pybuf_state.proofs.Counts.{count_more}
+use Rattle.pybuf_state.proofs.loans.byte_count.Goals as goal
 
 pub loop-entries-preserved : goal.loop-entries-preserved
 loop-entries-preserved c =

@@ -1,9 +1,8 @@
 //! How many arguments each method takes.
-ghost use Rattle.std.specs.Prelude.{◌≡◌, length, nat_le, ◌&&◌};
-ghost use Rattle.pybuf_methods.specs.Arity as spec;
-ghost use Rattle.pybuf_methods.specs.Laws.{WrongNumbersAreRefused};
+ghost use Rattle.std.specs.Prelude.{◌≡◌, nat_le, ◌&&◌};
+ghost use Rattle.pybuf_command.specs.Arity as spec;
 
-use pybuf_bytes::MethodName;
+use crate::methods::MethodName;
 
 /// The fewest arguments that a method takes.
 pub fn fewest(name: MethodName) -> usize
@@ -83,8 +82,3 @@ pub fn takes(name: MethodName, count: usize) -> bool
 {
     fewest(name) <= count && count <= most(name)
 }
-
-/// A call with another number of arguments than its method takes is refused with `TypeError`.
-pub fn wrong_numbers_are_refused()
-    ensures { WrongNumbersAreRefused }
-{}

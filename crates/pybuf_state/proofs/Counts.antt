@@ -4,7 +4,7 @@ use Rattle.std.proofs.Math.Nat.{mul_assoc, mul-zero, min-eq_left, min-eq_right, 
 use Rattle.std.proofs.lemmas.Bool.{cases_lt}
 use Rattle.std.proofs.lemmas.List.{take_more}
 use Rattle.pybuf_desc.specs.Layouts.{product}
-use Rattle.pybuf_command.specs.Sized.{byte_count}
+use Rattle.pybuf_memoryview.specs.Sized.{byte_count}
 
 pub product-push : (shape : List ℕ) (n : ℕ) → product (shape ++ n ∷ []) ≡ product shape * n
 product-push [] n = omega arith

@@ -1,7 +1,7 @@
 -- How many arguments each method takes.
 use Rattle.std.specs.Prelude.{ℕ, Bool, ◌&&◌, nat_le}
-use Rattle.pybuf_bytes.specs.declared.methods.MethodName.{MethodName}
-use Rattle.pybuf_bytes.specs.declared.methods.MethodName.TheVariants as name
+use Rattle.pybuf_command.specs.declared.methods.MethodName.{MethodName}
+use Rattle.pybuf_command.specs.declared.methods.MethodName.TheVariants as name
 
 -- the fewest
 abbrev pub fewest : MethodName → ℕ

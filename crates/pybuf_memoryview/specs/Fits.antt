@@ -1,13 +1,10 @@
--- Which loans fit.
-use Rattle.std.specs.Prelude.{◌≡◌, ℕ, ◌==◌, Bool, true, false, ◌&&◌, ◌||◌, List, [], ◌∷◌, length}
+-- Which snaps fit.
+use Rattle.std.specs.Prelude.{ℕ, ◌==◌, Bool, true, false, ◌&&◌, ◌||◌, List, [], ◌∷◌, length}
 use Rattle.std.specs.Str.{byte}
-use Rattle.std.specs.List.{list_all}
 use Rattle.pybuf_value.specs.declared.snaps.Snap.{Snap}
 use Rattle.pybuf_value.specs.declared.snaps.SnapKind.{SnapKind}
 use Rattle.pybuf_value.specs.declared.snaps.SnapKind.TheVariants as kind
-use Rattle.pybuf_command.specs.declared.loans.Loan.{Loan}
-use Rattle.pybuf_command.specs.declared.loans.Loan.TheVariants as loan
-use Rattle.pybuf_command.specs.Sized.{is_sized, byte_count}
+use Rattle.pybuf_memoryview.specs.Sized.{is_sized, byte_count}
 
 -- the format of bytes: `B`
 abbrev pub is_byte_format : List ℕ → Bool
@@ -34,14 +31,3 @@ fits_kind _ s = is_whole s
 
 abbrev pub fits_snap : Snap → Bool
 fits_snap s = fits_kind s.kind s && is_sized s.format s.itemsize
-
-abbrev pub fits : Loan → Bool
-fits (loan.Other snap) = fits_snap snap
-fits _ = true
-
-abbrev pub all_fit : List (ℕ × Loan) → Bool
-all_fit loans = list_all (λ pair. fits pair.1) loans
-
--- the loans fit
-abbrev pub LoansFit : List (ℕ × Loan) → Type 0
-LoansFit loans = all_fit loans ≡ true
