@@ -1,4 +1,4 @@
-//! Strings of bytes, and what they are made of.
+//! Strings of bytes, and the bytes that options ask for.
 #![tactic(auto)]
 
 mod arguments;
