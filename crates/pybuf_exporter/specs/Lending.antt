@@ -2,7 +2,7 @@
 use Rattle.std.specs.Prelude.{ℕ, List, ◌++◌, length, take, drop, slice_index, Result}
 use Rattle.std.specs.Borrow.{Lends, LendsIfOk, MutBor, Fml, Array, u8}
 use Rattle.pybuf_value.specs.declared.faults.Fault.{Fault}
-use Rattle.pybuf_state.specs.Lending.{Bytes, bytes_row}
+use Rattle.pybuf_state.specs.Bytes.{Bytes, bytes_row}
 use Rattle.pybuf_state.specs.Live.{layout_of}
 use Rattle.pybuf_state.specs.Exporter.{Exporter}
 use Rattle.pybuf_exporter.specs.contracts.exporter.ExporterState.{the_row}

@@ -7,7 +7,7 @@ use pybuf_desc::BufferDescriptor;
 use pybuf_memoryview::KeptLayout;
 use pybuf_rows_views::release;
 use pybuf_state::{
-    Names, Other, Parts, content_of_subject, copies_are_faithful, exporter_of_copy,
+    Names, Other, Parts, Store, content_of_subject, copies_are_faithful, exporter_of_copy,
     kind_of_subject, new_views_keep, run_of_subject, snap_of_subject,
 };
 use pybuf_value::{
@@ -75,7 +75,7 @@ impl ExporterState {
         ExporterState {
             parts: Parts {
                 kind,
-                bytes: bytes.into_vec(),
+                bytes: Store::from_vec(bytes.into_vec()),
                 views: Vec::new(alloc),
                 iterators: Vec::new(alloc),
                 exports: 0,
@@ -345,7 +345,7 @@ impl ExporterState {
         if self.parts.exports > 0 {
             return Err(Fault::Buffer);
         }
-        Ok(&mut self.parts.bytes)
+        Ok(self.parts.bytes.as_vec_mut())
     }
 
     /// Whether a view of this number was given and is unreleased.
@@ -447,7 +447,7 @@ impl ExporterState {
 
 impl Twin for ExporterState {
     fn copy(&self, alloc: Global) -> Made<ExporterState> {
-        let bytes = Vec::from_slice(alloc, self.parts.bytes.as_slice())?;
+        let bytes = Store::from_vec(Vec::from_slice(alloc, self.parts.bytes.as_slice())?);
         let views = copy_all(alloc, self.parts.views.as_slice())?;
         let iterators = Vec::from_slice(alloc, self.parts.iterators.as_slice())?;
         Ok(ExporterState {

@@ -3,7 +3,7 @@ use Rattle.std.specs.Prelude.{ℕ, List, Option, Result}
 use Rattle.std.specs.Borrow.{Lends, LendsIf, LendsIfOk, MutBor, Fml, Array, u8}
 use Rattle.pybuf_value.specs.declared.faults.Fault.{Fault}
 use Rattle.pybuf_state.specs.Exporter.{Exporter}
-use Rattle.pybuf_state.specs.Lending.{Bytes, bytes_row}
+use Rattle.pybuf_state.specs.Bytes.{Bytes, bytes_row}
 use Rattle.pybuf_exporter.specs.Lending.{overwritten_exporter, resized_exporter}
 use Rattle.pybuf_exporter.specs.contracts.exporter.ExporterState as exporter
 use Rattle.pybuf_object.specs.contracts.bytes.PyBytes as bytes

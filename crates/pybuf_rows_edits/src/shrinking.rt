@@ -31,7 +31,7 @@ fn pop_byte(parts: &mut Parts, index: &Option<Value>) -> Result<LocalReply, Halt
     let number = count_or_last(index)?;
     parts.resizable()?;
     let place = entry_in(parts.bytes.len(), number)?;
-    let byte = parts.bytes[place];
+    let byte = parts.bytes.as_slice()[place];
     parts.remove_range(place, place + 1);
     Ok(LocalReply::Item(byte_item(byte)))
 }

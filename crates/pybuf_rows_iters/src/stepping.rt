@@ -19,7 +19,7 @@ fn byte_at(parts: &Parts, position: usize) -> Option<Item>
     ensures inside { IfSome result (λ _. position < 2 ^ 63) }
 {
     match parts.bytes.get(position) {
-        Some(byte) => Some(byte_item(*byte)),
+        Some(byte) => Some(byte_item(byte)),
         None => None,
     }
 }
@@ -52,7 +52,7 @@ fn item_of_view(parts: &Parts, view: usize, position: usize) -> Result<Option<It
         return Err(Halt::Refused(Fault::NotImplemented));
     }
     let place = layout.place(position);
-    let bytes = &parts.bytes[place..place + layout.itemsize()];
+    let bytes = &parts.bytes.as_slice()[place..place + layout.itemsize()];
     let item = item_by(parts.alloc, layout.format_text(), bytes)?;
     Ok(Some(item))
 }

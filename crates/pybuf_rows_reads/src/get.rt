@@ -28,7 +28,7 @@ fn part_of_own(parts: &Parts, key: &Value) -> Result<LocalReply, Halt>
     }
     let index = index_in(key)?;
     let place = entry_in(parts.bytes.len(), index)?;
-    Ok(LocalReply::Item(byte_item(parts.bytes[place])))
+    Ok(LocalReply::Item(byte_item(parts.bytes.as_slice()[place])))
 }
 
 /// The byte of an exporter at an index, or the bytes that a slice picks.
@@ -51,7 +51,7 @@ pub fn of_view(parts: &Parts, view: usize, key: &Value) -> Result<LocalReply, Ha
         return Ok(LocalReply::Itself);
     }
     let place = place_of_key(layout, key)?;
-    let bytes = &parts.bytes[place..place + layout.itemsize()];
+    let bytes = &parts.bytes.as_slice()[place..place + layout.itemsize()];
     let item = item_by(parts.alloc, layout.format_text(), bytes)?;
     Ok(LocalReply::Item(item))
 }

@@ -31,7 +31,7 @@ fn set_byte(parts: &mut Parts, key: &Value, value: &Value) -> Result<LocalReply,
     let index = index_in(key)?;
     let byte = value_from_object(value)?;
     let place = entry_in(parts.bytes.len(), index)?;
-    parts.bytes[place] = byte;
+    parts.bytes.put(place, byte);
     Ok(LocalReply::Ok)
 }
 
@@ -98,7 +98,7 @@ fn write_byte(parts: &mut Parts, place: usize, value: &Value) -> Result<LocalRep
     ensures counted { parts.new.exports ≡ exports_of (exporter_of parts.new) }
 {
     let byte = byte_for_item(value)?;
-    parts.bytes[place] = byte;
+    parts.bytes.put(place, byte);
     Ok(LocalReply::Ok)
 }
 

@@ -11,3 +11,5 @@ pub mod Laws
 pub mod Live
 pub mod Resizing
 pub mod Lending
+pub mod Bytes
+pub mod Store

@@ -6,6 +6,7 @@ ghost use Rattle.pybuf_state.specs.Answers.{exporter_of, IsWhole};
 ghost use Rattle.pybuf_state.specs.Fresh.{IsCopyOf, is_readonly_subject, made_of};
 
 use crate::parts::Parts;
+use crate::store::Store;
 use crate::stored::StoredView;
 use pybuf_command::{ExporterKind, Subject};
 use pybuf_memoryview::KeptLayout;
@@ -22,7 +23,7 @@ fn with_one_view(
     ensures value { IfOk result (λ made. exporter_of made ≡ (with_view (new_exporter kind content) layout).0) }
     ensures counted { IfOk result (λ made. made.exports ≡ exports_of (exporter_of made)) }
 {
-    let bytes = content.into_vec();
+    let bytes = Store::from_vec(content.into_vec());
     let mut views = Vec::new(alloc);
     views.push(StoredView::new(bytes.len(), layout))?;
     Ok(Parts {
@@ -42,7 +43,7 @@ fn without_views(alloc: Global, kind: ExporterKind, content: ByteList) -> Parts
 {
     Parts {
         kind,
-        bytes: content.into_vec(),
+        bytes: Store::from_vec(content.into_vec()),
         views: Vec::new(alloc),
         iterators: Vec::new(alloc),
         exports: 0,

@@ -5,7 +5,6 @@ ghost use Rattle.pybuf_desc.specs.Items.{content_of_layout};
 
 use crate::parts::Parts;
 use pybuf_memoryview::first_place;
-use std_alloc::vec::run_mut;
 
 impl Parts {
     ghost use Rattle.std.specs.Borrow.{sem};
@@ -74,6 +73,6 @@ impl Parts {
         ensures value { result.now ≡ content_of_layout self.old.bytes.items (layout_of (exporter_of self.old) view) }
     {
         let (start, end) = self.run_between(view);
-        run_mut(&mut self.bytes, start, end)
+        self.bytes.run_mut(start, end)
     }
 }

@@ -14,6 +14,7 @@ mod names;
 mod parts;
 mod runs;
 mod snaps;
+mod store;
 mod stored;
 mod subjects;
 
@@ -29,6 +30,7 @@ pub use names::{Meaning, Names, Other, are_known};
 pub use parts::Parts;
 pub use runs::{bytes_in_a_row, given, run_of};
 pub use snaps::{lent_to, snap_of_subject};
+pub use store::Store;
 pub use stored::StoredView;
 pub use subjects::{
     content_lent, content_of_meaning, content_of_other, content_of_subject, kind_of_meaning,

@@ -2,10 +2,10 @@
 ghost use Rattle.std.specs.Prelude.{◌≡◌, ◌≤◌, ◌<◌, [], Ok, Err, length, true, false, IfOk, IsOk, OnOk, OnErr, MatchResult};
 
 use crate::iterators::StoredIterator;
+use crate::store::Store;
 use crate::stored::StoredView;
 use pybuf_command::{ExporterKind, LocalReply, Subject};
 use pybuf_memoryview::KeptLayout;
-use pybuf_slice::SliceableSequenceMutOp;
 use pybuf_value::{Fault, Halt, Made};
 use std::alloc::Global;
 
@@ -14,7 +14,7 @@ use std::alloc::Global;
 #[derive(Debug, Drop)]
 pub struct Parts {
     pub kind: ExporterKind,
-    pub bytes: Vec<u8>,
+    pub bytes: Store,
     pub views: Vec<StoredView>,
     pub iterators: Vec<StoredIterator>,
     pub exports: usize,
@@ -139,14 +139,13 @@ impl Parts {
         ensures exports { self.new.exports ≡ self.old.exports }
     {
         if start == self.bytes.len() {
-            self.bytes.extend_from_slice(bytes)?;
-            return Ok(());
+            return self.bytes.append(bytes);
         }
         if bytes.is_empty() {
             self.remove_range(start, end);
             return Ok(());
         }
-        self.bytes.do_set_range(self.alloc, start..end, bytes)
+        self.bytes.replace_range(self.alloc, start, end, bytes)
     }
 
     /// `replace_range` by no bytes, which takes no memory: the bytes behind move once.
@@ -157,7 +156,7 @@ impl Parts {
         ensures same { exporter_of self.new ≡ resized (exporter_of self.old) start end [] }
         ensures exports { self.new.exports ≡ self.old.exports }
     {
-        self.bytes.do_delete_range(start..end);
+        self.bytes.remove_range(start, end);
     }
 
     /// Puts a vector in place of all bytes, as it is: nothing is copied, and no memory is taken.
@@ -166,7 +165,7 @@ impl Parts {
         ensures same { exporter_of self.new ≡ record (exporter_of self.old) { bytes = bytes.items } }
         ensures exports { self.new.exports ≡ self.old.exports }
     {
-        self.bytes = bytes;
+        self.bytes = Store::from_vec(bytes);
     }
 
     /// Releases a view that was given. The second time changes nothing.

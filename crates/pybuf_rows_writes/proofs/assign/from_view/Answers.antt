@@ -26,9 +26,9 @@ returns-then-is_contiguous-2-clause-answer c =
     let bytes : List ℕ = c.args.parts.now.bytes.items in
     let form : has_form_of target source.format source.itemsize source.shape ≡ true = search rules in
     let count : nbytes_of source ≡ nbytes_of target = bytes_of_form target source.itemsize source.shape (of_form target source.format source.itemsize source.shape c.requires.one_dimension form) in
-    let kept : length c.lay_moved.new.bytes ≡ c.args.parts.now.bytes.len = search rules in
-    is_assigned_from (exporter_of c.args.parts.now) target (snap_of_subject (exporter_of c.args.parts.now) (subjects.View c.args.view)) (snap_of_layout bytes source false) (take c.args.parts.now.bytes.len (c.lay_moved.new.bytes ++ drop (length c.lay_moved.new.bytes) bytes)) c.in_ok-source.ensures.exact refl form
-    (lent_back bytes c.lay_moved.new.bytes c.args.parts.now.bytes.len kept ∙ c.lay_moved.ensures ∙ ap (λ (old : List ℕ). laid old target.itemsize target.starts (take (nbytes_of target) (drop c.first_place-from.result old))) c.as_mut_slice.ensures.value
+    let kept : length c.lay_moved.new.bytes ≡ (length c.args.parts.now.bytes.items) = search rules in
+    is_assigned_from (exporter_of c.args.parts.now) target (snap_of_subject (exporter_of c.args.parts.now) (subjects.View c.args.view)) (snap_of_layout bytes source false) (take (length c.args.parts.now.bytes.items) (c.lay_moved.new.bytes ++ drop (length c.lay_moved.new.bytes) bytes)) c.in_ok-source.ensures.exact refl form
+    (lent_back bytes c.lay_moved.new.bytes (length c.args.parts.now.bytes.items) kept ∙ c.lay_moved.ensures ∙ ap (λ (old : List ℕ). laid old target.itemsize target.starts (take (nbytes_of target) (drop c.first_place-from.result old))) c.as_mut_slice.ensures.value
     ∙ ap (laid bytes target.itemsize target.starts) (ap (λ (n : ℕ). take n (drop c.first_place-from.result bytes)) (sym count) ∙ c.first_place-from.ensures.content bytes))
 
 pub lay-requires-clause-as_many : goal.lay-requires-clause-as_many
