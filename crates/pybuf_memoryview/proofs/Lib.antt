@@ -6,7 +6,5 @@ pub mod Listed
 pub mod Gathered
 pub mod Unread
 pub mod SingleBytes
-pub mod Laying
 pub mod Runs
-pub mod Pairs
 pub mod First

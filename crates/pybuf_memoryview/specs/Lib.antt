@@ -7,6 +7,4 @@ pub mod Reading
 pub mod Snaps
 pub mod Lists
 pub mod ListReading
-pub mod Laid
-pub mod LaidBytes
 pub mod Laws

@@ -9,10 +9,11 @@ use Rattle.std.proofs.lemmas.List.{length-take-le, length-drop}
 use Rattle.std.proofs.lemmas.List.FromFn.{length-range_with_len}
 use Rattle.pybuf_slice.specs.Reads.{elements_at}
 use Rattle.pybuf_desc.specs.Segments.{bytes_of}
-use Rattle.pybuf_memoryview.specs.Items.{bytes_with}
-use Rattle.pybuf_memoryview.specs.LaidBytes.{put_at}
-use Rattle.pybuf_memoryview.proofs.Gathered.{range_inside, rest_inside, run_of_bytes, elements_both}
-use Rattle.pybuf_memoryview.proofs.Laying.{put_run, put_both, bytes_with_none, length-bytes_with}
+use Rattle.pybuf_rows_writes.specs.Laid.{bytes_with}
+use Rattle.pybuf_rows_writes.specs.LaidBytes.{put_at}
+use Rattle.pybuf_rows_writes.proofs.Bytes.{length-bytes_with}
+use Rattle.pybuf_rows_writes.proofs.Ranges.{range_inside, rest_inside, run_of_bytes, elements_both}
+use Rattle.pybuf_rows_writes.proofs.Laying.{put_run, put_both, bytes_with_none}
 
 abbrev pub firsts : List (Range ℕ × Range ℕ) → List (Range ℕ)
 firsts pairs = map (λ pair. pair.0) pairs

@@ -1,7 +1,7 @@
 use Rattle.std.proofs.Common.{◌<◌, ℕ, sym, ◌∙◌, subst}
 use Rattle.pybuf_memoryview.proofs.First.{start_is_first, first_of_no_bytes, some_items, some_of}
 use Rattle.pybuf_memoryview.proofs.Runs.{content_from, ends_from}
-use Rattle.pybuf_memoryview.proofs.laid.first_place.Goals as goal
+use Rattle.pybuf_memoryview.proofs.content.first_place.Goals as goal
 
 pub returns-then-nbytes-eq0 : goal.returns-then-nbytes-eq0
 returns-then-nbytes-eq0 c =

@@ -1,24 +1,23 @@
 //! Bytes that are laid over the items of a view.
-ghost use Rattle.std.specs.Prelude.{◌≡◌, ◌+◌, ◌-◌, ◌*◌, ◌<◌, ◌≤◌, ℕ, List, true, length, map, take, drop, slice_index};
+ghost use Rattle.std.specs.Prelude.{◌≡◌, ◌+◌, ◌-◌, ◌<◌, ◌≤◌, true, length, map, take, drop};
 ghost use Rattle.std.specs.List.{All, flat_map};
 ghost use Rattle.pybuf_slice.specs.Reads.{elements_at};
 ghost use Rattle.pybuf_desc.specs.Contiguous.{is_contiguous_layout};
 ghost use Rattle.pybuf_desc.specs.Items.{content_of_layout};
-ghost use Rattle.pybuf_desc.specs.Layouts.{LiesInside, HasItemsOfItsShape};
+ghost use Rattle.pybuf_desc.specs.Layouts.{LiesInside};
 ghost use Rattle.pybuf_desc.specs.Segments.{bytes_of};
-ghost use Rattle.pybuf_memoryview.specs.Items.{bytes_with};
-ghost use Rattle.pybuf_memoryview.specs.Laid as spec;
-ghost use Rattle.pybuf_memoryview.specs.LaidBytes as bytewise;
 ghost use Rattle.pybuf_memoryview.specs.Orders.{nbytes_of};
+ghost use Rattle.pybuf_rows_writes.specs.Laid as spec;
+ghost use Rattle.pybuf_rows_writes.specs.LaidBytes as bytewise;
 
-use crate::kept::KeptLayout;
 use pybuf_desc::{Segments, ZipSegments};
+use pybuf_memoryview::{KeptLayout, first_place};
 use std::ops::Range;
 
 /// Copies a piece over the bytes from a place on.
 fn copy_over(bytes: &mut [u8], place: usize, piece: &[u8])
     requires { place + length piece.now ≤ length bytes.old }
-    ensures { bytes.new ≡ bytes_with bytes.old place piece.now }
+    ensures { bytes.new ≡ spec.bytes_with bytes.old place piece.now }
 {
     let end = place + piece.len();
     if piece.len() == 1 {
@@ -33,7 +32,7 @@ fn copy_over(bytes: &mut [u8], place: usize, piece: &[u8])
 fn copy_range(bytes: &mut [u8], range: Range<usize>, content: &[u8], from: usize) -> usize
     requires inside { range.start < range.end → range.end ≤ length bytes.old }
     requires enough { range.start < range.end → from + (range.end - range.start) ≤ length content.now }
-    ensures copied { bytes.new ≡ bytes_with bytes.old range.start (take (range.end - range.start) (drop from content.now)) }
+    ensures copied { bytes.new ≡ spec.bytes_with bytes.old range.start (take (range.end - range.start) (drop from content.now)) }
     ensures next { result ≡ from + (range.end - range.start) }
 {
     if range.start < range.end {
@@ -58,11 +57,12 @@ fn lay_ranges(bytes: &mut [u8], mut ranges: Segments<'_>, content: &[u8])
 
 /// Lays bytes over the items of a view, in order. A row of items that lie one after the other gets
 /// its bytes by one copy.
-pub fn lay(bytes: &mut [u8], layout: &KeptLayout, content: &[u8])
+pub(crate) fn lay(bytes: &mut [u8], layout: &KeptLayout, content: &[u8])
     requires inside { LiesInside (length bytes.old) layout.now }
     requires as_many { length content.now ≡ nbytes_of layout.now }
     ensures { bytes.new ≡ spec.laid bytes.old layout.now.itemsize layout.now.starts content.now }
 {
+    pybuf_memoryview::item_bytes_lie_inside();
     let (descriptor, start) = layout.placed();
     lay_ranges(bytes, descriptor.segments(start, true), content);
 }
@@ -82,13 +82,16 @@ fn lay_pairs(bytes: &mut [u8], mut pairs: ZipSegments<'_>, source: &[u8])
 /// Lays the items of a view of other bytes over those of a view, in order, each view by its own
 /// strides. Where the items of both lie one after the other in their rows, a row gets its bytes by one
 /// copy. Takes no memory.
-pub fn lay_across(bytes: &mut [u8], layout: &KeptLayout, lender: &[u8], source: &KeptLayout)
+pub(crate) fn lay_across(bytes: &mut [u8], layout: &KeptLayout, lender: &[u8], source: &KeptLayout)
     requires inside { LiesInside (length bytes.old) layout.now }
     requires source_inside { LiesInside (length lender.now) source.now }
     requires same_size { layout.now.itemsize ≡ source.now.itemsize }
     requires same_shape { layout.now.shape ≡ source.now.shape }
     ensures { bytes.new ≡ spec.laid bytes.old layout.now.itemsize layout.now.starts (content_of_layout lender.now source.now) }
 {
+    pybuf_memoryview::item_bytes_lie_inside();
+    pybuf_memoryview::item_bytes_are_the_content();
+    pybuf_memoryview::contents_are_whole();
     let (descriptor, start) = layout.placed();
     let (lent, lent_start) = source.placed();
     lay_pairs(
@@ -98,27 +101,11 @@ pub fn lay_across(bytes: &mut [u8], layout: &KeptLayout, lender: &[u8], source: 
     );
 }
 
-/// The place of the first byte of a view whose items lie one after the other, 0 where it has none.
-/// From there on lie the bytes of its items.
-pub fn first_place(layout: &KeptLayout) -> usize
-    requires { is_contiguous_layout layout.now ≡ true }
-    ensures value { result ≡ slice_index layout.now.starts 0 }
-    ensures counted { HasItemsOfItsShape layout.now }
-    ensures content { (bytes : List ℕ) → take (nbytes_of layout.now) (drop result bytes) ≡ content_of_layout bytes layout.now }
-    ensures inside { (room : ℕ) → LiesInside room layout.now → result + nbytes_of layout.now ≤ room }
-{
-    let (_, start) = layout.placed();
-    if layout.nbytes() == 0 {
-        return 0;
-    }
-    start
-}
-
 /// Moves so many bytes from a place to another.
 fn move_bytes(bytes: &mut [u8], from: usize, count: usize, place: usize)
     requires inside { from + count ≤ length bytes.old }
     requires place_inside { place + count ≤ length bytes.old }
-    ensures { bytes.new ≡ bytes_with bytes.old place (take count (drop from bytes.old)) }
+    ensures { bytes.new ≡ spec.bytes_with bytes.old place (take count (drop from bytes.old)) }
 {
     let end = from + count;
     bytes.copy_within(from..end, place);
@@ -126,13 +113,14 @@ fn move_bytes(bytes: &mut [u8], from: usize, count: usize, place: usize)
 
 /// Lays the bytes from a place on over the items of a view of the same bytes that lie one after the
 /// other: one move of bytes, also where the two overlap. Takes no memory.
-pub fn lay_moved(bytes: &mut [u8], layout: &KeptLayout, from: usize)
+pub(crate) fn lay_moved(bytes: &mut [u8], layout: &KeptLayout, from: usize)
     requires one_dimension { length layout.now.shape ≡ 1 }
     requires contiguous { is_contiguous_layout layout.now ≡ true }
     requires inside { LiesInside (length bytes.old) layout.now }
     requires enough { from + nbytes_of layout.now ≤ length bytes.old }
     ensures { bytes.new ≡ spec.laid bytes.old layout.now.itemsize layout.now.starts (take (nbytes_of layout.now) (drop from bytes.old)) }
 {
+    pybuf_memoryview::contiguous_items_are_one_run();
     let place = first_place(layout);
     move_bytes(bytes, from, layout.nbytes(), place);
 }

@@ -1,10 +1,9 @@
 use Rattle.std.proofs.Common.{sym, ◌∙◌}
-use Rattle.pybuf_memoryview.proofs.Gathered.{places_inside}
-use Rattle.pybuf_memoryview.proofs.Laying.{as_many_places, laid_by_ranges}
-use Rattle.pybuf_memoryview.proofs.laid.lay.Goals as goal
+use Rattle.pybuf_rows_writes.proofs.Laying.{as_many_places, laid_by_ranges, places_inside}
+use Rattle.pybuf_rows_writes.proofs.laid.lay.Goals as goal
 
 pub lay_ranges-requires-clause-inside : goal.lay_ranges-requires-clause-inside
-lay_ranges-requires-clause-inside c = places_inside c.args.bytes.now c.placed-start.result.0.now c.placed-start.result.1 c.args.layout.now c.segments.result c.placed-start.ensures.stands c.segments.ensures.bytes c.requires.inside
+lay_ranges-requires-clause-inside c = places_inside c.item_bytes_lie_inside.ensures c.args.bytes.now c.placed-start.result.0.now c.placed-start.result.1 c.args.layout.now c.segments.result c.placed-start.ensures.stands c.segments.ensures.bytes c.requires.inside
 
 pub lay_ranges-requires-clause-as_many : goal.lay_ranges-requires-clause-as_many
 lay_ranges-requires-clause-as_many c =

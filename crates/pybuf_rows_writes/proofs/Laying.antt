@@ -1,24 +1,25 @@
 -- Bytes that are laid over items, range by range.
-use Rattle.std.proofs.Common.{◌≡◌, ℕ, zero, suc, ◌+◌, ◌*◌, ◌-◌, ◌<◌, ◌≤◌, ℤ, pos, nat_abs, List, [], ◌∷◌, ◌++◌, length, map, take, drop, ap, ap₂, sym, ◌∙◌, refl, subst, arith}
-use Rattle.std.specs.Prelude.{All, set}
+use Rattle.std.proofs.Common.{◌≡◌, ℕ, zero, suc, ◌+◌, ◌*◌, ◌-◌, ◌<◌, ◌≤◌, ℤ, pos, nat_abs, true, List, [], ◌∷◌, ◌++◌, length, map, take, drop, ap, ap₂, sym, ◌∙◌, refl, subst, arith}
+use Rattle.std.specs.Prelude.{All, set, slice_index}
 use Rattle.std.specs.List.{flat_map, range_with_len}
 use Rattle.std.specs.declared.ops.Range.{Range}
 use Rattle.std.proofs.lemmas.Grind.{common_steps}
 use Rattle.std.proofs.lemmas.List.Elements.{All-head, All-tail}
 use Rattle.std.proofs.lemmas.List.FromFn.{length-range_with_len}
 use Rattle.std.proofs.lemmas.List.{set_split, length-append, length-take-le, length-drop}
+use Rattle.pybuf_slice.specs.Reads.{elements_at}
 use Rattle.pybuf_desc.specs.Segments.{bytes_of, item_bytes}
 use Rattle.pybuf_desc.specs.Descriptor.{Descriptor}
 use Rattle.pybuf_desc.specs.Layouts.{Layout, LiesInside, HasItemsOfItsShape}
+use Rattle.pybuf_desc.specs.Items.{content_of_layout}
+use Rattle.pybuf_desc.specs.Contiguous.{is_contiguous_layout}
 use Rattle.pybuf_desc.specs.Places.{Stands}
-use Rattle.pybuf_memoryview.specs.Items.{bytes_with}
 use Rattle.pybuf_memoryview.specs.Orders.{nbytes_of}
-use Rattle.pybuf_memoryview.specs.Laid.{laid}
-use Rattle.pybuf_memoryview.specs.LaidBytes.{put_at}
-use Rattle.pybuf_memoryview.proofs.Gathered.{range_inside}
-
-pub length-bytes_with : (bytes : List ℕ) (place : ℕ) (piece : List ℕ) → place + length piece ≤ length bytes → length (bytes_with bytes place piece) ≡ length bytes
-length-bytes_with bytes place piece inside = grind (arith, common_steps, inside)
+use Rattle.pybuf_memoryview.specs.Laws.{ItemBytesLieInside, ItemBytesAreTheContent, ContiguousItemsAreOneRun}
+use Rattle.pybuf_rows_writes.specs.Laid.{bytes_with, laid}
+use Rattle.pybuf_rows_writes.specs.LaidBytes.{put_at}
+use Rattle.pybuf_rows_writes.proofs.Bytes.{length-bytes_with}
+use Rattle.pybuf_rows_writes.proofs.Ranges.{range_inside}
 
 -- nothing is put
 pub bytes_with_none : (bytes : List ℕ) (place : ℕ) → bytes_with bytes place [] ≡ bytes
@@ -143,3 +144,38 @@ pub laid_by_ranges : (bytes content : List ℕ) (d : Descriptor) (start : ℕ) (
 laid_by_ranges bytes content d start layout ranges stands counted same inside long =
     ap (λ (ps : List ℕ). put_at bytes ps content) (same ∙ places_of_layout d start layout stands)
     ∙ sym (laid_is_put bytes layout.itemsize layout.starts content (long ∙ ap (λ (n : ℕ). layout.itemsize * n) (sym counted)) inside)
+
+-- each byte of the ranges of a walk over the items lies inside
+pub places_inside : ItemBytesLieInside → (bytes : List ℕ) (d : Descriptor) (start : ℕ) (layout : Layout) (ranges : List (Range ℕ)) → Stands d start layout → flat_map bytes_of ranges ≡ item_bytes d (pos start)
+    → LiesInside (length bytes) layout → All (λ place. place < length bytes) (flat_map bytes_of ranges)
+places_inside lie_inside bytes d start layout ranges stands same held = subst (All (λ place. place < length bytes)) (sym same) (lie_inside d start layout (length bytes) stands held)
+
+-- and these ranges hold the bytes of the view
+pub content_of_ranges : ItemBytesAreTheContent → (bytes : List ℕ) (d : Descriptor) (start : ℕ) (layout : Layout) (ranges : List (Range ℕ)) → Stands d start layout → flat_map bytes_of ranges ≡ item_bytes d (pos start)
+    → elements_at bytes (flat_map bytes_of ranges) ≡ content_of_layout bytes layout
+content_of_ranges are_content bytes d start layout ranges stands same = ap (elements_at bytes) same ∙ are_content bytes d start layout stands
+
+-- ---- items one after the other
+
+bytes_counted : (layout : Layout) → HasItemsOfItsShape layout → nbytes_of layout ≡ layout.itemsize * length layout.starts
+bytes_counted layout counted = ap (λ (n : ℕ). layout.itemsize * n) (sym counted)
+
+-- laid over them at once
+laid_at_once : (bytes : List ℕ) (size : ℕ) (starts content : List ℕ) → flat_map (λ (s : ℕ). range_with_len s size) starts ≡ range_with_len (slice_index starts 0) (size * length starts)
+    → length content ≡ size * length starts → All (λ start. start + size ≤ length bytes) starts → slice_index starts 0 + size * length starts ≤ length bytes
+    → laid bytes size starts content ≡ bytes_with bytes (slice_index starts 0) content
+laid_at_once bytes size starts content one_run long inside room =
+    let fits : slice_index starts 0 + length content ≤ length bytes = omega (arith, long, room) in
+    laid_is_put bytes size starts content long inside
+    ∙ ap (λ (ps : List ℕ). put_at bytes ps content) (one_run ∙ ap (range_with_len (slice_index starts 0)) (sym long))
+    ∙ put_run bytes (slice_index starts 0) content fits
+
+pub laid_from : ContiguousItemsAreOneRun → (bytes content : List ℕ) (layout : Layout) (place : ℕ) → HasItemsOfItsShape layout → is_contiguous_layout layout ≡ true → place ≡ slice_index layout.starts 0
+    → LiesInside (length bytes) layout → place + nbytes_of layout ≤ length bytes → length content ≡ nbytes_of layout → bytes_with bytes place content ≡ laid bytes layout.itemsize layout.starts content
+laid_from one_run bytes content layout place counted flat at held ends long =
+    let room : slice_index layout.starts 0 + layout.itemsize * length layout.starts ≤ length bytes = omega (arith, at, bytes_counted layout counted, ends) in
+    ap (λ (k : ℕ). bytes_with bytes k content) at
+    ∙ sym (laid_at_once bytes layout.itemsize layout.starts content (one_run layout flat) (long ∙ bytes_counted layout counted) held room)
+
+pub length-taken : (bytes : List ℕ) (from n : ℕ) → from + n ≤ length bytes → length (take n (drop from bytes)) ≡ n
+length-taken bytes from n enough = length-take-le n (drop from bytes) (let fits : n ≤ length (drop from bytes) = omega (arith, enough, length-drop from bytes) in fits)

@@ -1,5 +1,5 @@
-use Rattle.pybuf_memoryview.proofs.Pairs.{pair_step, pair_copies}
-use Rattle.pybuf_memoryview.proofs.laid.lay_pairs.Goals as goal
+use Rattle.pybuf_rows_writes.proofs.Pairs.{pair_step, pair_copies}
+use Rattle.pybuf_rows_writes.proofs.laid.lay_pairs.Goals as goal
 
 pub copy_range-next-requires : goal.copy_range-next-requires
 copy_range-next-requires c =

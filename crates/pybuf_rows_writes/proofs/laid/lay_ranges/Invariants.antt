@@ -2,8 +2,8 @@ use Rattle.std.proofs.Common.{◌≡◌, ◌+◌, ◌<◌, length, drop}
 use Rattle.std.specs.Prelude.{All}
 use Rattle.std.specs.List.{flat_map}
 use Rattle.pybuf_desc.specs.Segments.{bytes_of}
-use Rattle.pybuf_memoryview.specs.LaidBytes.{put_at}
-use Rattle.pybuf_memoryview.proofs.laid.lay_ranges.Given as goal
+use Rattle.pybuf_rows_writes.specs.LaidBytes.{put_at}
+use Rattle.pybuf_rows_writes.proofs.laid.lay_ranges.Given as goal
 
 abbrev pub invariant-loop-range : goal.invariant-loop-range
 invariant-loop-range l = record {

@@ -2,9 +2,9 @@ use Rattle.std.proofs.Common.{◌≡◌, ◌+◌, ◌<◌, ◌≤◌, ℕ, lengt
 use Rattle.std.specs.Prelude.{All}
 use Rattle.std.specs.List.{flat_map}
 use Rattle.pybuf_desc.specs.Segments.{bytes_of}
-use Rattle.pybuf_memoryview.proofs.Gathered.{range_inside, rest_inside}
-use Rattle.pybuf_memoryview.proofs.Laying.{length_ranges, lay_step, more_inside}
-use Rattle.pybuf_memoryview.proofs.laid.lay_ranges.Goals as goal
+use Rattle.pybuf_rows_writes.proofs.Ranges.{range_inside, rest_inside}
+use Rattle.pybuf_rows_writes.proofs.Laying.{length_ranges, lay_step, more_inside}
+use Rattle.pybuf_rows_writes.proofs.laid.lay_ranges.Goals as goal
 
 pub copy_range-from-requires-clause-inside : goal.copy_range-from-requires-clause-inside
 copy_range-from-requires-clause-inside c = λ some. range_inside c.loop-range.bytes c.in-Some.range c.loop-range.ranges c.next.new.self c.in-Some.ensures.steps some c.loop-range.invariant.inside

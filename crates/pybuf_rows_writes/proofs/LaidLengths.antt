@@ -3,8 +3,7 @@ use Rattle.std.proofs.Common.{◌≡◌, ℕ, ◌+◌, ◌≤◌, List, [], ◌�
 use Rattle.std.specs.Prelude.{All}
 use Rattle.std.proofs.lemmas.Grind.{common_steps}
 use Rattle.std.proofs.lemmas.List.Elements.{All-head, All-tail}
-use Rattle.pybuf_memoryview.specs.Items.{bytes_with}
-use Rattle.pybuf_memoryview.specs.Laid.{laid}
+use Rattle.pybuf_rows_writes.specs.Laid.{bytes_with, laid}
 use Rattle.pybuf_rows_writes.proofs.Bytes.{length-bytes_with}
 
 pub piece_short : (size : ℕ) (content : List ℕ) → length (take size content) ≤ size
