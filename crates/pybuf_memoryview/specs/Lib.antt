@@ -6,5 +6,5 @@ pub mod SingleBytes
 pub mod Reading
 pub mod Snaps
 pub mod Lists
-pub mod ListReading
+pub mod Readers
 pub mod Laws

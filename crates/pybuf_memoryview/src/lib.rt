@@ -8,7 +8,7 @@ mod kept;
 mod keys;
 mod laws;
 mod lent;
-mod lists;
+mod readers;
 
 pub use content::{content_of, first_place};
 pub use items::{
@@ -22,4 +22,4 @@ pub use laws::{
     numbers_look_at_no_loan,
 };
 pub use lent::{reads_bytes, snap_of_copy, snap_of_layout};
-pub use lists::{ItemReader, items_of, list_shape, read_by, reader_of};
+pub use readers::{ItemReader, read_by, reader_of};

@@ -3,9 +3,9 @@ use Rattle.std.specs.Prelude.{All, IfOk}
 use Rattle.std.specs.declared.ops.Range.{Range}
 use Rattle.pybuf_value.specs.declared.values.Item.{Item}
 use Rattle.pybuf_desc.specs.Segments.{joined_count}
-use Rattle.pybuf_memoryview.specs.ListReading.{items_of_ranges}
-use Rattle.pybuf_memoryview.proofs.Listed.{ranges_forward, all_read, ReadsAs}
-use Rattle.pybuf_memoryview.proofs.lists.items_of.Goals as goal
+use Rattle.pybuf_rows_reads.specs.ItemRuns.{items_of_ranges}
+use Rattle.pybuf_rows_reads.proofs.ItemRuns.{ranges_forward, all_read, ReadsAs}
+use Rattle.pybuf_rows_reads.proofs.lists.items_of.Goals as goal
 
 pub items_of_ranges-requires-clause-inside : goal.items_of_ranges-requires-clause-inside
 items_of_ranges-requires-clause-inside c =

@@ -1,7 +1,7 @@
 use Rattle.std.proofs.Common.{ap, sym, ◌∙◌}
 use Rattle.pybuf_command.specs.Fits.{is_byte_format}
-use Rattle.pybuf_memoryview.proofs.Listed.{byte_reads}
-use Rattle.pybuf_memoryview.proofs.lists.reader_of.Goals as goal
+use Rattle.pybuf_memoryview.proofs.ByteReader.{byte_reads}
+use Rattle.pybuf_memoryview.proofs.readers.reader_of.Goals as goal
 
 pub returns-then-is_byte_format-clause-reads : goal.returns-then-is_byte_format-clause-reads
 returns-then-is_byte_format-clause-reads c = λ bytes long.

@@ -1,5 +1,5 @@
 -- Items that are read a row at a time.
-use Rattle.std.proofs.Common.{◌≡◌, ℕ, zero, suc, ◌+◌, ◌*◌, ◌-◌, ◌<◌, ◌≤◌, ℤ, pos, nat_abs, List, [], ◌∷◌, ◌++◌, length, map, take, drop, Bool, true, false, true≢false, ap, ap₂, sym, ◌∙◌, refl, subst, arith, suc-add, append_assoc}
+use Rattle.std.proofs.Common.{◌≡◌, ℕ, zero, suc, ◌+◌, ◌*◌, ◌-◌, ◌<◌, ◌≤◌, ℤ, pos, nat_abs, List, [], ◌∷◌, ◌++◌, length, map, take, drop, Bool, true, false, ap, ap₂, sym, ◌∙◌, refl, subst, arith, suc-add, append_assoc}
 use Rattle.std.specs.Prelude.{All, ◌/◌, ◌%◌, ◌==◌, if◌then◌else◌}
 use Rattle.std.specs.List.{flat_map, AllByRecursion}
 use Rattle.std.specs.declared.ops.Range.{Range}
@@ -15,12 +15,9 @@ use Rattle.pybuf_desc.specs.Places.{places, Stands}
 use Rattle.pybuf_desc.specs.Segments.{range_at, ranges_of, joined_count, joined_dims, outer_dims, bytes_in}
 use Rattle.pybuf_memoryview.specs.Items.{item_by}
 use Rattle.pybuf_memoryview.specs.Lists.{items_of_layout}
-use Rattle.pybuf_memoryview.specs.ListReading.{read_by, items_in, items_of_run, items_of_ranges}
-use Rattle.pybuf_memoryview.specs.declared.lists.ItemReader.{ItemReader}
-use Rattle.pybuf_memoryview.specs.declared.lists.ItemReader.TheVariants as reader
-use Rattle.pybuf_command.specs.Fits.{is_byte_format}
-use Rattle.std.proofs.lemmas.Bool.{eqb-true}
-use Rattle.pybuf_memoryview.proofs.SingleBytes.{reads_byte}
+use Rattle.pybuf_memoryview.specs.Readers.{read_by}
+use Rattle.pybuf_memoryview.specs.declared.readers.ItemReader.{ItemReader}
+use Rattle.pybuf_rows_reads.specs.ItemRuns.{items_in, items_of_run, items_of_ranges}
 
 -- ---- rows that follow one another
 
@@ -168,18 +165,6 @@ first_of P range ranges rest same all = All-head P range rest (subst (All P) sam
 
 pub others_of : (P : Range ℕ → Type 0) (range : Range ℕ) (ranges rest : List (Range ℕ)) → ranges ≡ range ∷ rest → All P ranges → All P rest
 others_of P range ranges rest same all = All-tail P range rest (subst (All P) same all)
-
--- ---- the format `B`
-
-byte_format : (format : List ℕ) → is_byte_format format ≡ true → format ≡ 66 ∷ []
-byte_format [] is = absurd (true≢false (sym is))
-byte_format (b ∷ []) is = ap (λ (x : ℕ). x ∷ []) (eqb-true b 66 is)
-byte_format (b ∷ (c ∷ format)) is = absurd (true≢false (sym is))
-
-pub byte_reads : (format bytes : List ℕ) → is_byte_format format ≡ true → length bytes ≡ 1 → read_by reader.Byte bytes ≡ item_by format bytes
-byte_reads format [] is long = absurd (omega (arith, long))
-byte_reads format (b ∷ []) is long = sym (reads_byte b) ∙ ap (λ (text : List ℕ). item_by text (b ∷ [])) (sym (byte_format format is))
-byte_reads format (b ∷ (c ∷ bytes)) is long = absurd (omega (arith, long))
 
 -- one turn of the loop over a row
 pub run_step_at : (reader : ItemReader) (size left : ℕ) (rest front back : List ℕ) (items more total : List Item) (item : Item) → 0 < left → front ≡ take size rest → back ≡ drop size rest

@@ -1,6 +1,6 @@
 use Rattle.std.proofs.Common.{◌≤◌, length}
-use Rattle.pybuf_memoryview.proofs.Listed.{range_step, first_of, others_of}
-use Rattle.pybuf_memoryview.proofs.lists.items_of_ranges.Goals as goal
+use Rattle.pybuf_rows_reads.proofs.ItemRuns.{range_step, first_of, others_of}
+use Rattle.pybuf_rows_reads.proofs.lists.items_of_ranges.Goals as goal
 
 pub push_range-requires-clause-forward : goal.push_range-requires-clause-forward
 push_range-requires-clause-forward c = first_of (λ range. range.start ≤ range.end) c.in-Some.range c.loop-range.ranges c.next.new.self c.in-Some.ensures.steps c.loop-range.invariant.2
