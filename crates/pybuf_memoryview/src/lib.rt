@@ -7,8 +7,8 @@ mod items;
 mod kept;
 mod keys;
 mod laws;
-mod lent;
 mod readers;
+mod view_snaps;
 
 pub use content::{content_of, first_place};
 pub use items::{
@@ -21,5 +21,5 @@ pub use laws::{
     item_bytes_are_the_content, item_bytes_lie_inside, items_have_their_entries, keys_name_items,
     numbers_look_at_no_loan,
 };
-pub use lent::{reads_bytes, snap_of_copy, snap_of_layout};
 pub use readers::{ItemReader, read_by, reader_of};
+pub use view_snaps::{reads_bytes, snap_of_copy, snap_of_layout};

@@ -6,7 +6,7 @@ use Rattle.pybuf_memoryview.specs.Snaps.{snap_of_layout}
 use Rattle.pybuf_equality.specs.Equality.{shapes_agree}
 use Rattle.pybuf_equality.proofs.Filled.{answered_so, entries_some, packed_compared}
 use Rattle.pybuf_equality.proofs.Same.{as_many_as, shapes_same, without_items}
-use Rattle.pybuf_equality.proofs.lent.equal_to_content.Goals as goal
+use Rattle.pybuf_equality.proofs.view_and_bytes.equal_to_content.Goals as goal
 
 pub returns-then-has_zero : goal.returns-then-has_zero
 returns-then-has_zero c =

@@ -1,6 +1,6 @@
 use Rattle.std.proofs.Common.{arith}
 use Rattle.pybuf_shaping.proofs.DigitValues.{value_of_digit, printed_digit}
-use Rattle.pybuf_shaping.proofs.reading.digit_value.Goals as goal
+use Rattle.pybuf_shaping.proofs.digit_pairs.digit_value.Goals as goal
 
 pub returns-clause-value : goal.returns-clause-value
 returns-clause-value c = value_of_digit c.args.digit (omega (arith, c.ranges.digit.fits))

@@ -2,7 +2,7 @@ use Rattle.std.proofs.Common.{length, true, ap, ◌∙◌, arith}
 use Rattle.pybuf_desc.specs.Contiguous.{is_contiguous_layout}
 use Rattle.pybuf_desc.specs.Layouts.{product}
 use Rattle.pybuf_equality.proofs.Filled.{whole_is_contiguous, packed_from, packed_so, product_some, size_below}
-use Rattle.pybuf_equality.proofs.lent.packed_layout.Goals as goal
+use Rattle.pybuf_equality.proofs.view_and_bytes.packed_layout.Goals as goal
 
 pub cast_shape-requires-clause-contiguous : goal.cast_shape-requires-clause-contiguous
 cast_shape-requires-clause-contiguous c = ap is_contiguous_layout c.in_ok-whole.ensures ∙ whole_is_contiguous (length c.args.content.now) true

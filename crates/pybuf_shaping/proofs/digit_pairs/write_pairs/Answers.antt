@@ -2,7 +2,7 @@ use Rattle.std.proofs.Common.{◌<◌, ◌+◌, ◌*◌, length, slice_index, ta
 use Rattle.std.proofs.lemmas.List.{take_more_set, length-set}
 use Rattle.pybuf_shaping.specs.Digits.{bytes_of_hex}
 use Rattle.pybuf_shaping.proofs.ReadLemmas.{bytes_before, nothing_before, blank_step, pair_step, bad_step, refused_behind, byte_of_values, value_refused}
-use Rattle.pybuf_shaping.proofs.reading.write_pairs.Goals as goal
+use Rattle.pybuf_shaping.proofs.digit_pairs.write_pairs.Goals as goal
 
 pub loop-at-preserved-then-is_py_ascii_whitespace : goal.loop-at-preserved-then-is_py_ascii_whitespace
 loop-at-preserved-then-is_py_ascii_whitespace c = record {

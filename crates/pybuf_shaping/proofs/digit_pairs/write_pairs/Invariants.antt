@@ -1,7 +1,7 @@
 use Rattle.std.proofs.Common.{◌≡◌, ◌-◌, ◌*◌, ◌/◌, ◌≤◌, length, take, drop}
 use Rattle.pybuf_shaping.specs.Digits.{bytes_of_hex}
 use Rattle.pybuf_shaping.proofs.ReadLemmas.{bytes_before}
-use Rattle.pybuf_shaping.proofs.reading.write_pairs.Given as goal
+use Rattle.pybuf_shaping.proofs.digit_pairs.write_pairs.Given as goal
 
 abbrev pub invariant-loop-at : goal.invariant-loop-at
 invariant-loop-at l = record {
