@@ -8,12 +8,12 @@ mod append;
 mod buffer;
 mod laws;
 mod lending;
-mod stepping;
+mod method_step;
 mod steps;
 mod views;
 
 pub use buffer::PyBuffer;
 pub use laws::{range_counts_are_bounded, ranges_are_counted};
-pub use stepping::{step_of, step_without_loans};
+pub use method_step::{step_of, step_without_loans};
 pub use steps::Steps;
 pub use views::live_descriptor;

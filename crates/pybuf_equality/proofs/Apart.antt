@@ -25,10 +25,10 @@ use Rattle.pybuf_struct.specs.Laws.{is_exact, AreExact, WritesWhatWasRead}
 use Rattle.pybuf_desc.specs.Items.{bytes_at, bytes_of_items, content_of_layout}
 use Rattle.pybuf_desc.specs.Layouts.{Layout, LiesInside, HasItemsOfItsShape, product}
 use Rattle.pybuf_memoryview.specs.Items.{item_by, item_of_values}
-use Rattle.pybuf_memoryview.specs.ListReading.{read_by, IsSpelledBy}
+use Rattle.pybuf_memoryview.specs.Readers.{read_by, IsSpelledBy}
 use Rattle.pybuf_memoryview.specs.Lists.{items_of_layout}
-use Rattle.pybuf_memoryview.specs.declared.lists.ItemReader.{ItemReader}
-use Rattle.pybuf_memoryview.specs.declared.lists.ItemReader.TheVariants as reader
+use Rattle.pybuf_memoryview.specs.declared.readers.ItemReader.{ItemReader}
+use Rattle.pybuf_memoryview.specs.declared.readers.ItemReader.TheVariants as reader
 use Rattle.pybuf_equality.specs.Equality.{same_items}
 use Rattle.pybuf_equality.specs.Exact.{is_exact_code, is_exact_format, is_exact_reader}
 use Rattle.pybuf_equality.specs.Reading.{ReadsAs}

@@ -15,9 +15,9 @@ use Rattle.pybuf_desc.specs.Items.{bytes_at, content_of_layout}
 use Rattle.pybuf_desc.specs.Places.{places, Stands}
 use Rattle.pybuf_desc.specs.Valid.{IsPlaced}
 use Rattle.pybuf_desc.specs.Laws.{RangesStayInside, RangesHaveTheContent}
-use Rattle.pybuf_memoryview.specs.ListReading.{read_by}
+use Rattle.pybuf_memoryview.specs.Readers.{read_by}
 use Rattle.pybuf_memoryview.specs.Lists.{items_of_layout}
-use Rattle.pybuf_memoryview.specs.declared.lists.ItemReader.{ItemReader}
+use Rattle.pybuf_memoryview.specs.declared.readers.ItemReader.{ItemReader}
 use Rattle.pybuf_equality.specs.Equality.{same_items}
 use Rattle.pybuf_equality.specs.Reading.{ReadsAs}
 use Rattle.pybuf_equality.specs.Walks.{IsPart, ArePaired, same_bytes_in, same_ranges, same_items_in, same_items_of}

@@ -3,8 +3,8 @@ use Rattle.std.specs.Prelude.{ℕ, ◌==◌, ◌&&◌, Bool, false}
 use Rattle.std.specs.List.{list_all}
 use Rattle.pybuf_struct.specs.Formats.{Code, Format}
 use Rattle.pybuf_struct.specs.Laws.{is_exact}
-use Rattle.pybuf_memoryview.specs.declared.lists.ItemReader.{ItemReader}
-use Rattle.pybuf_memoryview.specs.declared.lists.ItemReader.TheVariants as reader
+use Rattle.pybuf_memoryview.specs.declared.readers.ItemReader.{ItemReader}
+use Rattle.pybuf_memoryview.specs.declared.readers.ItemReader.TheVariants as reader
 
 -- a code without padding, whose every byte is part of its values
 abbrev pub is_exact_code : Code → Bool

@@ -1,8 +1,8 @@
 -- How the items of a view are read.
 use Rattle.std.specs.Prelude.{◌≡◌, ℕ, List, length}
 use Rattle.pybuf_memoryview.specs.Items.{item_by}
-use Rattle.pybuf_memoryview.specs.ListReading.{read_by}
-use Rattle.pybuf_memoryview.specs.declared.lists.ItemReader.{ItemReader}
+use Rattle.pybuf_memoryview.specs.Readers.{read_by}
+use Rattle.pybuf_memoryview.specs.declared.readers.ItemReader.{ItemReader}
 
 -- bytes of an item's size are read by a reader as they are by the text of a format
 abbrev pub ReadsAs : ItemReader → List ℕ → ℕ → Type 0

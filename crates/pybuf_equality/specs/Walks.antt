@@ -4,8 +4,8 @@ use Rattle.std.specs.List.{All, list_all}
 use Rattle.std.specs.declared.ops.Range.{Range}
 use Rattle.pybuf_value.specs.Equality.{same_item}
 use Rattle.pybuf_desc.specs.Segments.{bytes_in}
-use Rattle.pybuf_memoryview.specs.ListReading.{read_by}
-use Rattle.pybuf_memoryview.specs.declared.lists.ItemReader.{ItemReader}
+use Rattle.pybuf_memoryview.specs.Readers.{read_by}
+use Rattle.pybuf_memoryview.specs.declared.readers.ItemReader.{ItemReader}
 
 -- a range of so many bytes
 pub record IsPart (room : ℕ) (range : Range ℕ) : Type 0 where

@@ -1,7 +1,7 @@
 //! The items of two views of one shape, compared one by one.
 ghost use Rattle.std.specs.Prelude.{◌≡◌, length, true, IfOk};
 ghost use Rattle.pybuf_desc.specs.Layouts.{LiesInside, HasItemsOfItsShape};
-ghost use Rattle.pybuf_memoryview.specs.ListReading.{read_by, IsSpelledBy};
+ghost use Rattle.pybuf_memoryview.specs.Readers.{read_by, IsSpelledBy};
 ghost use Rattle.pybuf_memoryview.specs.Lists.{items_of_layout};
 ghost use Rattle.pybuf_desc.specs.Segments.{bytes_in};
 ghost use Rattle.pybuf_value.specs.Equality.{same_item};

@@ -6,13 +6,13 @@ mod equality;
 mod exact;
 mod items;
 mod laws;
-mod lent;
 mod raw;
 mod shapes;
+mod view_and_bytes;
 
 pub use equality::equal_views;
 pub use laws::{
     equal_byte_views_hold_the_same_bytes, fitting_snaps_have_all_items, layouts_have_their_items,
     view_equality_is_equivalence,
 };
-pub use lent::{equal_to_bytes, equal_to_content};
+pub use view_and_bytes::{equal_to_bytes, equal_to_content};

@@ -14,7 +14,7 @@ use Rattle.pybuf_desc.specs.Descriptor.{Descriptor}
 use Rattle.pybuf_desc.specs.Layouts.{Layout, LiesInside}
 use Rattle.pybuf_desc.specs.Items.{bytes_at, bytes_of_items, content_of_layout}
 use Rattle.pybuf_desc.specs.Places.{places, Stands}
-use Rattle.pybuf_memoryview.specs.Laws.{ContentsAreWhole}
+use Rattle.pybuf_memoryview.specs.Laws.{ContentsAreWhole, ItemBytesLieInside, ItemBytesAreTheContent}
 
 abs_of_pos : (xs : List ℕ) → map nat_abs (map (λ x. pos x) xs) ≡ xs
 abs_of_pos [] = refl
@@ -51,12 +51,16 @@ bytes_of_places bytes size (p ∷ ps) =
     elements_both bytes (range_with_len (nat_abs p) size) (flat_map (λ place. range_with_len (nat_abs place) size) ps)
     ∙ ap₂ (λ (xs ys : List ℕ). xs ++ ys) (run_of_bytes bytes (nat_abs p) size) (bytes_of_places bytes size ps)
 
+-- the bytes at the places of the items' bytes are those of the view
+pub item_bytes_read : ItemBytesAreTheContent
+item_bytes_read bytes d start layout stands =
+    bytes_of_places bytes d.itemsize (places d.dims (pos start))
+    ∙ ap₂ (λ (size : ℕ) (starts : List ℕ). bytes_of_items bytes size starts) stands.itemsize (ap (map nat_abs) stands.starts ∙ abs_of_pos layout.starts)
+
 -- the ranges of a walk over a view's items hold its content
 pub content_gathered : (bytes : List ℕ) (d : Descriptor) (start : ℕ) (layout : Layout) (ranges : List (Range ℕ)) → Stands d start layout → flat_map bytes_of ranges ≡ item_bytes d (pos start)
     → elements_at bytes (flat_map bytes_of ranges) ≡ content_of_layout bytes layout
-content_gathered bytes d start layout ranges stands same =
-    ap (elements_at bytes) same ∙ bytes_of_places bytes d.itemsize (places d.dims (pos start))
-    ∙ ap₂ (λ (size : ℕ) (starts : List ℕ). bytes_of_items bytes size starts) stands.itemsize (ap (map nat_abs) stands.starts ∙ abs_of_pos layout.starts)
+content_gathered bytes d start layout ranges stands same = ap (elements_at bytes) same ∙ item_bytes_read bytes d start layout stands
 
 run_inside : (len start n : ℕ) → start + n ≤ len → All (λ place. place < len) (range_with_len start n)
 run_inside len start n fits = λ k d below.
@@ -69,12 +73,16 @@ items_inside len size (s ∷ starts) all =
     All-append (λ place. place < len) (range_with_len s size) (flat_map (λ place. range_with_len (nat_abs place) size) (map (λ x. pos x) starts))
     (run_inside len s size (All-head (λ start. start + size ≤ len) s starts all)) (items_inside len size starts (All-tail (λ start. start + size ≤ len) s starts all))
 
--- each byte of a held view's items lies inside
+-- each byte of the items of a view that lie inside does
+pub item_bytes_inside : ItemBytesLieInside
+item_bytes_inside d start layout room stands held =
+    subst (All (λ place. place < room)) (sym (ap₂ (λ (size : ℕ) (ps : List ℤ). flat_map (λ place. range_with_len (nat_abs place) size) ps) stands.itemsize stands.starts))
+    (items_inside room layout.itemsize layout.starts held)
+
+-- so does each byte of the ranges of a walk over them
 pub places_inside : (bytes : List ℕ) (d : Descriptor) (start : ℕ) (layout : Layout) (ranges : List (Range ℕ)) → Stands d start layout → flat_map bytes_of ranges ≡ item_bytes d (pos start)
     → LiesInside (length bytes) layout → All (λ place. place < length bytes) (flat_map bytes_of ranges)
-places_inside bytes d start layout ranges stands same held =
-    subst (All (λ place. place < length bytes)) (sym (same ∙ ap₂ (λ (size : ℕ) (ps : List ℤ). flat_map (λ place. range_with_len (nat_abs place) size) ps) stands.itemsize stands.starts))
-    (items_inside (length bytes) layout.itemsize layout.starts held)
+places_inside bytes d start layout ranges stands same held = subst (All (λ place. place < length bytes)) (sym same) (item_bytes_inside d start layout (length bytes) stands held)
 
 all_left : {X : Type 0} (P : X → Type 0) (xs ys : List X) → All P (xs ++ ys) → All P xs
 all_left P xs ys all = All-from_recursion P xs (left-recursion P xs ys (recursion_from_All P (xs ++ ys) all))

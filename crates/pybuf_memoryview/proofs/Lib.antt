@@ -2,11 +2,9 @@ pub mod Dimensions
 pub mod Entries
 pub mod Named
 pub mod Numbered
-pub mod Listed
 pub mod Gathered
 pub mod Unread
 pub mod SingleBytes
-pub mod Laying
+pub mod ByteReader
 pub mod Runs
-pub mod Pairs
 pub mod First

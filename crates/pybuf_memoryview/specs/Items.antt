@@ -1,5 +1,5 @@
 -- Items: which entry an index names, what an item reads as, and which value it is written as.
-use Rattle.std.specs.Prelude.{ℕ, ◌+◌, ◌==◌, List, [], ◌∷◌, ◌++◌, take, drop, length, ℤ, pos, Bool, true, false, Result, Ok, Err, ok_or}
+use Rattle.std.specs.Prelude.{ℕ, ◌==◌, List, [], ◌∷◌, length, ℤ, pos, Bool, true, false, Result, Ok, Err, ok_or}
 use Rattle.pybuf_value.specs.declared.faults.Fault.{Fault}
 use Rattle.pybuf_value.specs.declared.faults.Fault.TheVariants as fault
 use Rattle.pybuf_value.specs.declared.values.Scalar.{Scalar}
@@ -63,10 +63,6 @@ scalar_in _ = scalar.Ellipsis
 abbrev pub is_slice : Value → Bool
 is_slice (value.Slice s) = true
 is_slice _ = false
-
--- the bytes with a piece in place of those from a place on
-abbrev pub bytes_with : List ℕ → ℕ → List ℕ → List ℕ
-bytes_with bytes start piece = take start bytes ++ piece ++ drop (start + length piece) bytes
 
 -- The piece of bytes that a value is written as, by the text of a format; a handle counts as what it
 -- is lent as.

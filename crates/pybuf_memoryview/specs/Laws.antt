@@ -1,13 +1,19 @@
 -- What holds of items and of the bytes of views.
-use Rattle.std.specs.Prelude.{◌≡◌, ℕ, ◌*◌, ◌<◌, List, [], ◌∷◌, length, map, pos, codes, false, Ok, ⊤}
+use Rattle.std.specs.Prelude.{◌≡◌, ℕ, ◌*◌, ◌<◌, List, [], ◌∷◌, length, map, pos, codes, slice_index, true, false, Ok, ⊤}
+use Rattle.std.specs.List.{All, flat_map, range_with_len}
 use Rattle.pybuf_value.specs.declared.values.Scalar.{Scalar}
 use Rattle.pybuf_value.specs.declared.values.Value.{Value}
 use Rattle.pybuf_value.specs.declared.snaps.Snap.{Snap}
 use Rattle.pybuf_value.specs.Refusing.{◌>>=◌}
+use Rattle.pybuf_slice.specs.Reads.{elements_at}
 use Rattle.pybuf_struct.specs.Formats.{Format}
 use Rattle.pybuf_struct.specs.Packing.{packed_bytes}
 use Rattle.pybuf_desc.specs.Layouts.{Layout, LiesInside, product}
 use Rattle.pybuf_desc.specs.Items.{content_of_layout}
+use Rattle.pybuf_desc.specs.Contiguous.{is_contiguous_layout}
+use Rattle.pybuf_desc.specs.Descriptor.{Descriptor}
+use Rattle.pybuf_desc.specs.Places.{Stands}
+use Rattle.pybuf_desc.specs.Segments.{item_bytes}
 use Rattle.pybuf_memoryview.specs.Items.{piece_by}
 use Rattle.pybuf_memoryview.specs.Keys.{item_at_indices, item_of_key}
 use Rattle.pybuf_memoryview.specs.SingleBytes.{byte_for_item}
@@ -45,3 +51,21 @@ ItemsHaveTheirEntries = (shape : List ℕ) (item : ℕ) → item < product shape
 -- the items of a view that lie inside have all their bytes
 abbrev pub ContentsAreWhole : Type 0
 ContentsAreWhole = (bytes : List ℕ) (layout : Layout) → LiesInside (length bytes) layout → length (content_of_layout bytes layout) ≡ layout.itemsize * length layout.starts
+
+-- ---- the places of the bytes of a view's items, item by item, by a descriptor that stands for the view
+
+-- where the items lie inside, so do these places
+abbrev pub ItemBytesLieInside : Type 0
+ItemBytesLieInside =
+    (d : Descriptor) (start : ℕ) (layout : Layout) (room : ℕ) → Stands d start layout → LiesInside room layout → All (λ place. place < room) (item_bytes d (pos start))
+
+-- the bytes at these places are those of the view
+abbrev pub ItemBytesAreTheContent : Type 0
+ItemBytesAreTheContent =
+    (bytes : List ℕ) (d : Descriptor) (start : ℕ) (layout : Layout) → Stands d start layout → elements_at bytes (item_bytes d (pos start)) ≡ content_of_layout bytes layout
+
+-- those of items that lie one after the other are one run, from the place of the first item on
+abbrev pub ContiguousItemsAreOneRun : Type 0
+ContiguousItemsAreOneRun =
+    (layout : Layout) → is_contiguous_layout layout ≡ true
+    → flat_map (λ (start : ℕ). range_with_len start layout.itemsize) layout.starts ≡ range_with_len (slice_index layout.starts 0) (layout.itemsize * length layout.starts)

@@ -8,7 +8,5 @@ pub mod SingleBytes
 pub mod Reading
 pub mod Snaps
 pub mod Lists
-pub mod ListReading
-pub mod Laid
-pub mod LaidBytes
+pub mod Readers
 pub mod Laws

@@ -1,5 +1,5 @@
 -- All items of a view.
-use Rattle.std.specs.Prelude.{ℕ, List, [], ◌∷◌, map}
+use Rattle.std.specs.Prelude.{ℕ, List, map}
 use Rattle.pybuf_value.specs.declared.values.Item.{Item}
 use Rattle.pybuf_desc.specs.Layouts.{Layout}
 use Rattle.pybuf_desc.specs.Items.{bytes_at}
@@ -8,8 +8,3 @@ use Rattle.pybuf_memoryview.specs.Items.{item_by}
 -- each item as it reads, in order
 abbrev pub items_of_layout : List ℕ → Layout → List Item
 items_of_layout bytes layout = map (λ start. item_by layout.format (bytes_at bytes layout.itemsize start)) layout.starts
-
--- The shape that the items are nested by: a view of no dimension gives a list of its one item.
-abbrev pub list_shape : List ℕ → List ℕ
-list_shape [] = 1 ∷ []
-list_shape (n ∷ shape) = n ∷ shape

@@ -1,10 +1,12 @@
 //! The bytes of a view's items.
-ghost use Rattle.std.specs.Prelude.{◌≡◌, ◌<◌, ◌≤◌, ◌-◌, ◌++◌, length, take, drop, IfOk, OnOk};
+ghost use Rattle.std.specs.Prelude.{◌≡◌, ◌+◌, ◌<◌, ◌≤◌, ◌-◌, ◌++◌, ℕ, List, true, length, take, drop, slice_index, IfOk, OnOk};
 ghost use Rattle.std.specs.List.{All, flat_map};
 ghost use Rattle.pybuf_slice.specs.Reads.{elements_at};
-ghost use Rattle.pybuf_desc.specs.Layouts.{LiesInside};
+ghost use Rattle.pybuf_desc.specs.Contiguous.{is_contiguous_layout};
+ghost use Rattle.pybuf_desc.specs.Layouts.{LiesInside, HasItemsOfItsShape};
 ghost use Rattle.pybuf_desc.specs.Items.{content_of_layout};
 ghost use Rattle.pybuf_desc.specs.Segments.{bytes_of};
+ghost use Rattle.pybuf_memoryview.specs.Orders.{nbytes_of};
 
 use crate::kept::KeptLayout;
 use pybuf_desc::Segments;
@@ -53,4 +55,20 @@ pub fn content_of(alloc: Global, bytes: &[u8], layout: &KeptLayout) -> Made<Vec<
         descriptor.len(),
         descriptor.segments(start, true),
     )
+}
+
+/// The place of the first byte of a view whose items lie one after the other, 0 where it has none.
+/// From there on lie the bytes of its items.
+pub fn first_place(layout: &KeptLayout) -> usize
+    requires { is_contiguous_layout layout.now ≡ true }
+    ensures value { result ≡ slice_index layout.now.starts 0 }
+    ensures counted { HasItemsOfItsShape layout.now }
+    ensures content { (bytes : List ℕ) → take (nbytes_of layout.now) (drop result bytes) ≡ content_of_layout bytes layout.now }
+    ensures inside { (room : ℕ) → LiesInside room layout.now → result + nbytes_of layout.now ≤ room }
+{
+    let (_, start) = layout.placed();
+    if layout.nbytes() == 0 {
+        return 0;
+    }
+    start
 }

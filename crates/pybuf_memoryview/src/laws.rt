@@ -1,5 +1,5 @@
 //! Laws of the definitions that the contracts cite. Each stands on a function with an empty body.
-ghost use Rattle.pybuf_memoryview.specs.Laws.{ByteItemsAreTheirByte, NumbersLookAtNoLoan, ContentsAreWhole, KeysNameItems, ItemsHaveTheirEntries};
+ghost use Rattle.pybuf_memoryview.specs.Laws.{ByteItemsAreTheirByte, NumbersLookAtNoLoan, ContentsAreWhole, ItemBytesLieInside, ItemBytesAreTheContent, ContiguousItemsAreOneRun, KeysNameItems, ItemsHaveTheirEntries};
 
 /// A value is written as an item of the format `B` as its one byte, whatever is lent.
 pub fn byte_items_are_their_byte()
@@ -14,6 +14,21 @@ pub fn numbers_look_at_no_loan()
 /// The bytes of a view whose items lie inside are as many as its items have.
 pub fn contents_are_whole()
     ensures { ContentsAreWhole }
+{}
+
+/// Where the items of a view lie inside, so does the place of each of their bytes.
+pub fn item_bytes_lie_inside()
+    ensures { ItemBytesLieInside }
+{}
+
+/// The bytes at the places of a view's items, item by item, are the bytes of the view.
+pub fn item_bytes_are_the_content()
+    ensures { ItemBytesAreTheContent }
+{}
+
+/// The bytes of items that lie one after the other are one run, from the place of the first item on.
+pub fn contiguous_items_are_one_run()
+    ensures { ContiguousItemsAreOneRun }
 {}
 
 /// The item that a key names is one of the view's: its number is below the product of the shape.

@@ -2,13 +2,13 @@
 #![tactic(auto)]
 
 mod counts;
+mod edit_of_verb;
 mod growing;
 mod laws;
-mod pick;
 mod replacing;
 mod shrinking;
 
+pub use edit_of_verb::{delete_of_view, edit_of_own};
 pub use growing::append;
 pub use laws::{delete_of_view_is_safe, edits_are_safe, edits_ask_before_they_resize};
-pub use pick::{delete_of_view, edit_of_own};
 pub use shrinking::pop;

@@ -6,7 +6,7 @@ pub mod call;
 pub mod contains;
 pub mod hex;
 mod laws;
-mod reading;
+mod named_contents;
 
 pub use laws::{call_is_safe, contains_is_safe, hex_is_safe, lents_are_paired, names_are_found};
-pub use reading::Reading;
+pub use named_contents::Reading;

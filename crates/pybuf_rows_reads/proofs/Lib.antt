@@ -1,2 +1,3 @@
 pub mod Safe
 pub mod Listed
+pub mod ItemRuns

@@ -14,12 +14,13 @@ use Rattle.pybuf_command.specs.declared.commands.LocalReply.{LocalReply}
 use Rattle.pybuf_command.specs.declared.commands.LocalReply.TheVariants as reply
 use Rattle.pybuf_memoryview.specs.Items.{item_by}
 use Rattle.pybuf_memoryview.specs.Keys.{item_of_key}
-use Rattle.pybuf_memoryview.specs.Lists.{items_of_layout, list_shape}
+use Rattle.pybuf_memoryview.specs.Lists.{items_of_layout}
 use Rattle.pybuf_memoryview.specs.Laws.{KeysNameItems}
 use Rattle.pybuf_state.specs.Exporter.{Exporter}
 use Rattle.pybuf_state.specs.Sound.{IsFormed}
 use Rattle.pybuf_state.specs.Laws.{LiveLayoutsAreSound}
 use Rattle.pybuf_rows_reads.specs.Get.{item_of_layout}
+use Rattle.pybuf_rows_reads.specs.ToList.{list_shape}
 use Rattle.pybuf_rows_reads.specs.Laws.{IsListOf, ListsHoldTheItems}
 
 -- a list of one has as many places as a view of no dimension

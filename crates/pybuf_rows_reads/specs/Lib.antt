@@ -3,4 +3,5 @@ pub mod ToBytes
 pub mod Len
 pub mod Property
 pub mod ToList
+pub mod ItemRuns
 pub mod Laws

@@ -4,6 +4,7 @@
 pub mod get;
 mod laws;
 pub mod len;
+mod lists;
 pub mod property;
 pub mod to_bytes;
 pub mod to_list;

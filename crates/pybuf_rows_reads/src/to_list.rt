@@ -2,8 +2,8 @@
 ghost use Rattle.pybuf_state.specs.Answers.{exporter_of, IsWhole, Reads};
 ghost use Rattle.pybuf_rows_reads.specs.ToList.{list_of_view};
 
+use crate::lists::{items_of, list_shape};
 use pybuf_command::LocalReply;
-use pybuf_memoryview::{items_of, list_shape};
 use pybuf_state::Parts;
 use pybuf_value::Halt;
 

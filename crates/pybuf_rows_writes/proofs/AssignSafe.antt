@@ -12,14 +12,14 @@ use Rattle.pybuf_desc.specs.Layouts.{Layout, LiesInside}
 use Rattle.pybuf_desc.specs.Slices.{slice_of}
 use Rattle.pybuf_desc.specs.Laws.{SlicesStayInside}
 use Rattle.pybuf_memoryview.specs.Items.{has_dimensions, is_none}
-use Rattle.pybuf_memoryview.specs.Laid.{laid}
 use Rattle.pybuf_state.specs.Exporter.{Exporter, live_layout}
 use Rattle.pybuf_state.specs.Sound.{IsSoundExporter}
 use Rattle.pybuf_state.specs.Keeps.{IsSafe}
 use Rattle.pybuf_state.specs.Laws.{LiveLayoutsAreSound, WritingKeeps}
+use Rattle.pybuf_rows_writes.specs.Laid.{laid}
 use Rattle.pybuf_rows_writes.specs.Assign.{assign_target, has_form_of, source_in, assigned}
 use Rattle.pybuf_rows_writes.specs.Laws.{AssignIsSafe}
-use Rattle.pybuf_rows_writes.proofs.Laid.{length-laid}
+use Rattle.pybuf_rows_writes.proofs.LaidLengths.{length-laid}
 use Rattle.pybuf_rows_writes.proofs.Safe.{bind, done, passed, not_false, writable}
 
 -- what a target is

@@ -18,7 +18,6 @@ use Rattle.pybuf_command.specs.declared.loans.Loan.{Loan}
 use Rattle.pybuf_command.specs.declared.loans.Loan.TheVariants as loan
 use Rattle.pybuf_command.specs.declared.commands.LocalReply.{LocalReply}
 use Rattle.pybuf_command.specs.declared.commands.LocalReply.TheVariants as reply
-use Rattle.pybuf_memoryview.specs.Laid.{laid}
 use Rattle.pybuf_state.specs.Exporter.{Exporter, new_exporter}
 use Rattle.pybuf_state.specs.Answers.{Answers}
 use Rattle.pybuf_state.specs.Loans.{Lent, lent_as, lents_by, subject_in, snap_in}
@@ -30,6 +29,7 @@ use Rattle.pybuf_value.specs.declared.values.Scalar.TheVariants as scalar
 use Rattle.pybuf_command.specs.Handles.{handle_of_value}
 use Rattle.pybuf_command.specs.declared.kinds.ExporterKind.TheVariants as kind
 use Rattle.pybuf_command.specs.declared.kinds.Subject.{Subject}
+use Rattle.pybuf_rows_writes.specs.Laid.{laid}
 use Rattle.pybuf_rows_writes.specs.Assign.{has_form_of, lent_source, source_of, assigned, assigned_from, assigned_of_value}
 
 both_true : (a b : Bool) → (a && b) ≡ true → (a ≡ true) × (b ≡ true)

@@ -24,13 +24,12 @@ use Rattle.pybuf_command.specs.declared.commands.LocalReply.TheVariants as reply
 use Rattle.pybuf_state.specs.Exporter.{Exporter}
 use Rattle.pybuf_state.specs.Loans.{Lent}
 use Rattle.pybuf_state.specs.Laws.{LiveLayoutsAreSound}
+use Rattle.pybuf_rows_writes.specs.Laid.{bytes_with, laid}
 use Rattle.pybuf_rows_writes.specs.Assign.{no_iterator, lent_source, source_in, has_form_of, assign_target, assigned, assigned_of_value}
 use Rattle.pybuf_desc.specs.Items.{bytes_at, bytes_of_items, content_of_layout}
-use Rattle.pybuf_memoryview.specs.Items.{bytes_with}
-use Rattle.pybuf_memoryview.specs.Laid.{laid}
 use Rattle.pybuf_rows_writes.specs.Laws.{AreApart, AreOutside, IsAssigned, AssignmentsAreByValue}
 use Rattle.pybuf_rows_writes.proofs.Bytes.{taken, dropped, between}
-use Rattle.pybuf_rows_writes.proofs.Laid.{piece_short, rest_inside, length-laid}
+use Rattle.pybuf_rows_writes.proofs.LaidLengths.{piece_short, rest_inside, length-laid}
 use Rattle.pybuf_rows_writes.proofs.Safe.{done}
 use Rattle.pybuf_rows_writes.proofs.Assigning.{IsOfForm, of_form, bytes_of_form, content_fits}
 use Rattle.pybuf_rows_writes.proofs.AssignSafe.{IsAssignTarget, target_is, target_inside}

@@ -3,7 +3,7 @@ use Rattle.std.proofs.Common.{◌≡◌, ℕ, ◌+◌, ◌<◌, ◌≤◌, List,
 use Rattle.std.specs.Prelude.{set}
 use Rattle.std.proofs.lemmas.List.{set_split}
 use Rattle.std.proofs.lemmas.Grind.{common_steps}
-use Rattle.pybuf_memoryview.specs.Items.{bytes_with}
+use Rattle.pybuf_rows_writes.specs.Laid.{bytes_with}
 
 pub length-bytes_with : (bytes : List ℕ) (place : ℕ) (piece : List ℕ) → place + length piece ≤ length bytes → length (bytes_with bytes place piece) ≡ length bytes
 length-bytes_with bytes place piece inside = grind (arith, common_steps, inside)

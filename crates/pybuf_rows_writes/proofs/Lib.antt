@@ -2,9 +2,13 @@ pub mod Bytes
 pub mod Safe
 pub mod Seen
 pub mod Assigning
-pub mod Laid
+pub mod LaidLengths
 pub mod AssignSafe
 pub mod Moving
 pub mod ByValue
 pub mod Single
 pub mod Numbers
+pub mod Ranges
+pub mod Laying
+pub mod Pairs
+pub mod Widths

@@ -14,7 +14,7 @@ use Rattle.pybuf_struct.specs.Laws.{PackingFillsTheFormat}
 use Rattle.pybuf_desc.specs.Layouts.{Layout}
 use Rattle.pybuf_memoryview.specs.Sized.{is_size_of, is_sized}
 use Rattle.pybuf_command.specs.declared.commands.LocalReply.{LocalReply}
-use Rattle.pybuf_memoryview.specs.Items.{index_in, entry_in, is_none, kind_fault, scalar_in, bytes_with, piece_by}
+use Rattle.pybuf_memoryview.specs.Items.{index_in, entry_in, is_none, kind_fault, scalar_in, piece_by}
 use Rattle.pybuf_memoryview.specs.Keys.{item_of_key}
 use Rattle.pybuf_memoryview.specs.Laws.{KeysNameItems}
 use Rattle.pybuf_state.specs.Exporter.{Exporter, live_layout}
@@ -26,6 +26,7 @@ use Rattle.pybuf_command.specs.declared.kinds.ExporterKind.{ExporterKind}
 use Rattle.pybuf_command.specs.declared.kinds.ExporterKind.TheVariants as kind
 use Rattle.pybuf_command.specs.Kinds.{holds_readonly}
 use Rattle.pybuf_state.specs.Keeps.{IsCarriedOut, IsSafe}
+use Rattle.pybuf_rows_writes.specs.Laid.{bytes_with}
 use Rattle.pybuf_rows_writes.specs.Set.{byte_set, set_in_kind, item_set, set_target}
 use Rattle.pybuf_rows_writes.specs.Laws.{SetIsSafe}
 use Rattle.pybuf_rows_writes.proofs.Bytes.{length-bytes_with}

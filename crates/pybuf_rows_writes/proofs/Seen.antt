@@ -12,7 +12,7 @@ use Rattle.pybuf_struct.specs.Laws.{PackingFillsTheFormat}
 use Rattle.pybuf_desc.specs.Layouts.{Layout}
 use Rattle.pybuf_command.specs.declared.commands.LocalReply.{LocalReply}
 use Rattle.pybuf_command.specs.declared.commands.LocalReply.TheVariants as reply
-use Rattle.pybuf_memoryview.specs.Items.{scalar_in, bytes_with, piece_by}
+use Rattle.pybuf_memoryview.specs.Items.{scalar_in, piece_by}
 use Rattle.pybuf_state.specs.Exporter.{Exporter}
 use Rattle.pybuf_state.specs.Loans.{snaps_of}
 use Rattle.pybuf_state.specs.Sound.{IsFormed}
@@ -21,6 +21,7 @@ use Rattle.pybuf_struct.specs.Values.{item_of, unpacked_values}
 use Rattle.pybuf_struct.specs.Laws.{normal_values, ReadsWhatWasWritten}
 use Rattle.pybuf_desc.specs.Items.{bytes_at}
 use Rattle.pybuf_memoryview.specs.Items.{item_by, item_of_values}
+use Rattle.pybuf_rows_writes.specs.Laid.{bytes_with}
 use Rattle.pybuf_rows_writes.specs.Laws.{IsWritten, WritesAreSeen}
 use Rattle.pybuf_rows_writes.proofs.Bytes.{taken, dropped, between}
 use Rattle.pybuf_rows_writes.proofs.Safe.{done, IsPiece, piece_is}

@@ -9,11 +9,12 @@ use Rattle.pybuf_desc.specs.Layouts.{Layout}
 use Rattle.pybuf_memoryview.specs.Fits.{is_byte_format}
 use Rattle.pybuf_command.specs.declared.commands.LocalReply.{LocalReply}
 use Rattle.pybuf_command.specs.declared.commands.LocalReply.TheVariants as reply
-use Rattle.pybuf_memoryview.specs.Items.{piece_by, bytes_with}
+use Rattle.pybuf_memoryview.specs.Items.{piece_by}
 use Rattle.pybuf_memoryview.specs.SingleBytes.{byte_for_item}
 use Rattle.pybuf_memoryview.specs.Laws.{ByteItemsAreTheirByte}
 use Rattle.pybuf_state.specs.Exporter.{Exporter}
 use Rattle.pybuf_state.specs.Loans.{Lent, snaps_of}
+use Rattle.pybuf_rows_writes.specs.Laid.{bytes_with}
 use Rattle.pybuf_rows_writes.specs.Set.{set_target, item_set, set_of_view}
 use Rattle.pybuf_rows_writes.specs.Writing.{single_byte_set, IsStartOfTarget}
 

@@ -18,10 +18,10 @@ use Rattle.pybuf_command.specs.declared.commands.LocalReply.{LocalReply}
 use Rattle.pybuf_command.specs.declared.commands.LocalReply.TheVariants as reply
 use Rattle.pybuf_memoryview.specs.Fits.{is_row_of}
 use Rattle.pybuf_memoryview.specs.Items.{has_dimensions, is_none}
-use Rattle.pybuf_memoryview.specs.Laid.{laid}
 use Rattle.pybuf_state.specs.Exporter.{Exporter, new_exporter, live_layout}
 use Rattle.pybuf_state.specs.Loans.{Lent}
 use Rattle.pybuf_state.specs.Snaps.{snap_of_exporter}
+use Rattle.pybuf_rows_writes.specs.Laid.{laid}
 
 -- the layout of the items that are written: those that the slice picks, of a view of one dimension
 abbrev pub assign_target : Exporter → ℕ → PySlice → Value → Result Layout Fault

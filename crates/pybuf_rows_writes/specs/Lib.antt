@@ -1,3 +1,5 @@
+pub mod Laid
+pub mod LaidBytes
 pub mod Set
 pub mod Writing
 pub mod Assign

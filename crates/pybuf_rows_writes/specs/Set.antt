@@ -10,10 +10,11 @@ use Rattle.pybuf_command.specs.declared.kinds.ExporterKind.{ExporterKind}
 use Rattle.pybuf_command.specs.declared.kinds.ExporterKind.TheVariants as kind
 use Rattle.pybuf_command.specs.declared.commands.LocalReply.{LocalReply}
 use Rattle.pybuf_command.specs.declared.commands.LocalReply.TheVariants as reply
-use Rattle.pybuf_memoryview.specs.Items.{index_in, entry_in, is_none, bytes_with, piece_by}
+use Rattle.pybuf_memoryview.specs.Items.{index_in, entry_in, is_none, piece_by}
 use Rattle.pybuf_memoryview.specs.Keys.{item_of_key}
 use Rattle.pybuf_state.specs.Exporter.{Exporter, live_layout}
 use Rattle.pybuf_state.specs.Loans.{Lent, snaps_of}
+use Rattle.pybuf_rows_writes.specs.Laid.{bytes_with}
 
 -- in a bytearray: the byte
 abbrev pub byte_set : Exporter → Value → Value → Result (Exporter × LocalReply) Fault

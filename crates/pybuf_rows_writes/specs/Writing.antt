@@ -11,9 +11,10 @@ use Rattle.pybuf_struct.specs.Packing.{packed_bytes}
 use Rattle.pybuf_desc.specs.Layouts.{Layout}
 use Rattle.pybuf_command.specs.declared.commands.LocalReply.{LocalReply}
 use Rattle.pybuf_command.specs.declared.commands.LocalReply.TheVariants as reply
-use Rattle.pybuf_memoryview.specs.Items.{kind_fault, bytes_with, piece_by}
+use Rattle.pybuf_memoryview.specs.Items.{kind_fault, piece_by}
 use Rattle.pybuf_memoryview.specs.SingleBytes.{byte_for_item}
 use Rattle.pybuf_state.specs.Exporter.{Exporter}
+use Rattle.pybuf_rows_writes.specs.Laid.{bytes_with}
 
 -- the bytes with values packed at a place
 abbrev pub bytes_packed : List ℕ → ℕ → Format → List (ℕ × Snap) → List Scalar → Result (List ℕ) Fault

@@ -2,6 +2,7 @@
 #![tactic(auto)]
 
 pub mod assign;
+mod laid;
 mod laws;
 pub mod set;
 

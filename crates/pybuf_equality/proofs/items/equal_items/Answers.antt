@@ -1,5 +1,5 @@
 use Rattle.std.proofs.Common.{◌≡◌, ℕ, List, true, ap, sym, ◌∙◌, subst}
-use Rattle.pybuf_memoryview.specs.ListReading.{IsSpelledBy}
+use Rattle.pybuf_memoryview.specs.Readers.{IsSpelledBy}
 use Rattle.pybuf_equality.specs.Exact.{is_exact_reader}
 use Rattle.pybuf_equality.specs.Reading.{ReadsAs}
 use Rattle.pybuf_equality.proofs.Apart.{exact_views, are_bytes}

@@ -1,12 +1,12 @@
 use Rattle.std.proofs.Common.{rules, ◌≡◌, ◌*◌, ℕ, List, ◌++◌, true, false, length, take, drop, arith, sym, ◌∙◌, ap, refl}
 use Rattle.pybuf_desc.specs.Layouts.{Layout}
 use Rattle.pybuf_desc.specs.Items.{content_of_layout}
-use Rattle.pybuf_memoryview.specs.Laid.{laid}
 use Rattle.pybuf_memoryview.specs.Orders.{nbytes_of}
 use Rattle.pybuf_command.specs.declared.kinds.Subject.TheVariants as subjects
 use Rattle.pybuf_memoryview.specs.Snaps.{snap_of_layout}
 use Rattle.pybuf_state.specs.Answers.{exporter_of}
 use Rattle.pybuf_state.specs.Snaps.{snap_of_subject}
+use Rattle.pybuf_rows_writes.specs.Laid.{laid}
 use Rattle.pybuf_rows_writes.specs.Assign.{has_form_of}
 use Rattle.pybuf_rows_writes.proofs.Assigning.{of_form, bytes_of_form, lent_back, is_assigned_from}
 use Rattle.pybuf_rows_writes.proofs.assign.from_view.Goals as goal

@@ -1,0 +1,52 @@
+//! Items by a format that was read once.
+ghost use Rattle.std.specs.Prelude.{◌≡◌, length, IfOk};
+ghost use Rattle.pybuf_memoryview.specs.Items.{item_by};
+ghost use Rattle.pybuf_memoryview.specs.Readers as reading;
+
+use crate::items::{byte_item, item_of};
+use crate::bytes::is_byte_format;
+use pybuf_struct::FormatSpec;
+use pybuf_value::{Item, Made, Outcome, ScalarList, Text};
+use std::alloc::Global;
+
+/// How items are read whose format was read once.
+#[derive(Debug, Drop)]
+pub enum ItemReader {
+    /// As the one byte that an item of the format `B` has.
+    Byte,
+    /// As the values of the fields.
+    Fields(FormatSpec),
+    /// As no value, where a text is no format.
+    Nothing,
+}
+
+/// How items of a size are read by the text of their format.
+pub fn reader_of(alloc: Global, format: &Text, size: usize) -> Made<ItemReader>
+    ensures reads { IfOk result (λ reader. (bytes : _) → length bytes ≡ size → reading.read_by reader bytes ≡ item_by format.now bytes) }
+    ensures spelled { IfOk result (λ reader. reading.IsSpelledBy format.now reader) }
+{
+    if size == 1 && is_byte_format(format.as_slice()) {
+        return Ok(ItemReader::Byte);
+    }
+    match FormatSpec::parse(alloc, format.as_slice())? {
+        Outcome::Done(format) => Ok(ItemReader::Fields(format)),
+        Outcome::Refused(_) => Ok(ItemReader::Nothing),
+    }
+}
+
+/// The item of these bytes. Bytes of another number than the format's size read as no values.
+pub fn read_by(alloc: Global, reader: &ItemReader, bytes: &[u8]) -> Made<Item>
+    ensures { IfOk result (λ item. item ≡ reading.read_by reader.now bytes.now) }
+{
+    match reader {
+        ItemReader::Byte => match bytes {
+            [byte] => Ok(byte_item(*byte)),
+            _ => Ok(Item::Many(ScalarList::new(alloc))),
+        },
+        ItemReader::Fields(format) => match format.unpack(alloc, bytes)? {
+            Outcome::Done(values) => Ok(item_of(values)),
+            Outcome::Refused(_) => Ok(Item::Many(ScalarList::new(alloc))),
+        },
+        ItemReader::Nothing => Ok(Item::Many(ScalarList::new(alloc))),
+    }
+}

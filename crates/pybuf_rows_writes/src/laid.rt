@@ -1,0 +1,126 @@
+//! Bytes that are laid over the items of a view.
+ghost use Rattle.std.specs.Prelude.{◌≡◌, ◌+◌, ◌-◌, ◌<◌, ◌≤◌, true, length, map, take, drop};
+ghost use Rattle.std.specs.List.{All, flat_map};
+ghost use Rattle.pybuf_slice.specs.Reads.{elements_at};
+ghost use Rattle.pybuf_desc.specs.Contiguous.{is_contiguous_layout};
+ghost use Rattle.pybuf_desc.specs.Items.{content_of_layout};
+ghost use Rattle.pybuf_desc.specs.Layouts.{LiesInside};
+ghost use Rattle.pybuf_desc.specs.Segments.{bytes_of};
+ghost use Rattle.pybuf_memoryview.specs.Orders.{nbytes_of};
+ghost use Rattle.pybuf_rows_writes.specs.Laid as spec;
+ghost use Rattle.pybuf_rows_writes.specs.LaidBytes as bytewise;
+
+use pybuf_desc::{Segments, ZipSegments};
+use pybuf_memoryview::{KeptLayout, first_place};
+use std::ops::Range;
+
+/// Copies a piece over the bytes from a place on.
+fn copy_over(bytes: &mut [u8], place: usize, piece: &[u8])
+    requires { place + length piece.now ≤ length bytes.old }
+    ensures { bytes.new ≡ spec.bytes_with bytes.old place piece.now }
+{
+    let end = place + piece.len();
+    if piece.len() == 1 {
+        // one byte costs less by itself than as a run
+        bytes[place] = piece[0];
+        return;
+    }
+    bytes[place..end].copy_from_slice(piece);
+}
+
+/// Copies bytes from a place on over those of a range, as many as that has. Answers the place after them.
+fn copy_range(bytes: &mut [u8], range: Range<usize>, content: &[u8], from: usize) -> usize
+    requires inside { range.start < range.end → range.end ≤ length bytes.old }
+    requires enough { range.start < range.end → from + (range.end - range.start) ≤ length content.now }
+    ensures copied { bytes.new ≡ spec.bytes_with bytes.old range.start (take (range.end - range.start) (drop from content.now)) }
+    ensures next { result ≡ from + (range.end - range.start) }
+{
+    if range.start < range.end {
+        let next = from + (range.end - range.start);
+        copy_over(bytes, range.start, &content[from..next]);
+        return next;
+    }
+    from
+}
+
+/// Lays bytes over those of ranges, one range after the other.
+fn lay_ranges(bytes: &mut [u8], mut ranges: Segments<'_>, content: &[u8])
+    requires inside { All (λ place. place < length bytes.old) (flat_map bytes_of ranges) }
+    requires as_many { length (flat_map bytes_of ranges) ≡ length content.now }
+    ensures { bytes.new ≡ bytewise.put_at bytes.old (flat_map bytes_of ranges.entry) content.now }
+{
+    let mut from = 0;
+    while let Some(range) = ranges.next() {
+        from = copy_range(bytes, range, content, from);
+    }
+}
+
+/// Lays bytes over the items of a view, in order. A row of items that lie one after the other gets
+/// its bytes by one copy.
+pub(crate) fn lay(bytes: &mut [u8], layout: &KeptLayout, content: &[u8])
+    requires inside { LiesInside (length bytes.old) layout.now }
+    requires as_many { length content.now ≡ nbytes_of layout.now }
+    ensures { bytes.new ≡ spec.laid bytes.old layout.now.itemsize layout.now.starts content.now }
+{
+    pybuf_memoryview::item_bytes_lie_inside();
+    let (descriptor, start) = layout.placed();
+    lay_ranges(bytes, descriptor.segments(start, true), content);
+}
+
+/// Lays the bytes at ranges over those at other ranges, which are as long, pair by pair.
+fn lay_pairs(bytes: &mut [u8], mut pairs: ZipSegments<'_>, source: &[u8])
+    requires inside { All (λ place. place < length bytes.old) (flat_map bytes_of (map (λ pair. pair.0) pairs)) }
+    requires source_inside { All (λ place. place < length source.now) (flat_map bytes_of (map (λ pair. pair.1) pairs)) }
+    requires alike { All (λ pair. pair.0.end - pair.0.start ≡ pair.1.end - pair.1.start) pairs }
+    ensures { bytes.new ≡ bytewise.put_at bytes.old (flat_map bytes_of (map (λ pair. pair.0) pairs.entry)) (elements_at source.now (flat_map bytes_of (map (λ pair. pair.1) pairs.entry))) }
+{
+    while let Some((range, lender)) = pairs.next() {
+        let _next = copy_range(bytes, range, source, lender.start);
+    }
+}
+
+/// Lays the items of a view of other bytes over those of a view, in order, each view by its own
+/// strides. Where the items of both lie one after the other in their rows, a row gets its bytes by one
+/// copy. Takes no memory.
+pub(crate) fn lay_across(bytes: &mut [u8], layout: &KeptLayout, lender: &[u8], source: &KeptLayout)
+    requires inside { LiesInside (length bytes.old) layout.now }
+    requires source_inside { LiesInside (length lender.now) source.now }
+    requires same_size { layout.now.itemsize ≡ source.now.itemsize }
+    requires same_shape { layout.now.shape ≡ source.now.shape }
+    ensures { bytes.new ≡ spec.laid bytes.old layout.now.itemsize layout.now.starts (content_of_layout lender.now source.now) }
+{
+    pybuf_memoryview::item_bytes_lie_inside();
+    pybuf_memoryview::item_bytes_are_the_content();
+    pybuf_memoryview::contents_are_whole();
+    let (descriptor, start) = layout.placed();
+    let (lent, lent_start) = source.placed();
+    lay_pairs(
+        bytes,
+        descriptor.zip_segments(start, lent, lent_start, true),
+        lender,
+    );
+}
+
+/// Moves so many bytes from a place to another.
+fn move_bytes(bytes: &mut [u8], from: usize, count: usize, place: usize)
+    requires inside { from + count ≤ length bytes.old }
+    requires place_inside { place + count ≤ length bytes.old }
+    ensures { bytes.new ≡ spec.bytes_with bytes.old place (take count (drop from bytes.old)) }
+{
+    let end = from + count;
+    bytes.copy_within(from..end, place);
+}
+
+/// Lays the bytes from a place on over the items of a view of the same bytes that lie one after the
+/// other: one move of bytes, also where the two overlap. Takes no memory.
+pub(crate) fn lay_moved(bytes: &mut [u8], layout: &KeptLayout, from: usize)
+    requires one_dimension { length layout.now.shape ≡ 1 }
+    requires contiguous { is_contiguous_layout layout.now ≡ true }
+    requires inside { LiesInside (length bytes.old) layout.now }
+    requires enough { from + nbytes_of layout.now ≤ length bytes.old }
+    ensures { bytes.new ≡ spec.laid bytes.old layout.now.itemsize layout.now.starts (take (nbytes_of layout.now) (drop from bytes.old)) }
+{
+    pybuf_memoryview::contiguous_items_are_one_run();
+    let place = first_place(layout);
+    move_bytes(bytes, from, layout.nbytes(), place);
+}

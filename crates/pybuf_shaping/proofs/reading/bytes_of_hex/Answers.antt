@@ -1,5 +1,0 @@
-use Rattle.pybuf_shaping.specs.Digits.{bytes_of_hex}
-use Rattle.pybuf_shaping.proofs.reading.bytes_of_hex.Goals as goal
-
-pub returns : goal.returns
-returns c = c.tried.ensures (bytes_of_hex c.args.text.now) c.read_pairs.ensures
