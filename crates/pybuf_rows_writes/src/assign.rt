@@ -17,8 +17,8 @@ ghost use Rattle.pybuf_state.specs.Laws.{IsSoundLayout};
 ghost use Rattle.pybuf_rows_writes.specs.Assign as spec;
 
 use pybuf_command::{LocalReply, Subject, is_byte_format, is_row_of};
+use pybuf_index::SaturatedSlice;
 use pybuf_memoryview::{KeptLayout, content_of, first_place, is_none, lay, lay_across, lay_moved};
-use pybuf_slice::SaturatedSlice;
 use pybuf_state::{Meaning, Names, Other, Parts};
 use pybuf_value::{Fault, Halt, PySlice, Scalar, Snap, Value};
 
