@@ -1,8 +1,8 @@
 -- Blocks of places, cut out and blocks_apart down again.
 use Rattle.std.proofs.Common.{◌≡◌, ℕ, zero, suc, ◌+◌, ◌<◌, ◌≤◌, ℤ, pos, negsuc, ◌+ℤ◌, ◌*ℤ◌, ◌≤ℤ◌, ◌<ℤ◌, ◌-ℤ◌, ◌-◌, nat_abs, Bool, true, false, cond, List, [], ◌∷◌, refl, sym, ◌∙◌, subst, arith}
 use Rattle.std.proofs.lemmas.Int.{ints}
-use Rattle.pybuf_slice.specs.Picks.{steps_to, comes_before}
-use Rattle.pybuf_slice.specs.Runs.{picks_in_span}
+use Rattle.pybuf_index.specs.Picks.{steps_to, comes_before}
+use Rattle.pybuf_index.specs.Runs.{picks_in_span}
 
 times_of : (z x y t : ℤ) → z ≡ x +ℤ y → z *ℤ t ≡ x *ℤ t +ℤ y *ℤ t
 times_of (pos c) (pos a) (pos b) (pos t) e = let f : c ≡ a + b = omega (arith, ints, e) in rw f (omega (arith, ints))

@@ -5,7 +5,7 @@ use Rattle.pybuf_value.specs.declared.faults.Fault.{Fault}
 use Rattle.pybuf_value.specs.declared.faults.Fault.TheVariants as fault
 use Rattle.pybuf_value.specs.Refusing.{◌>>=◌}
 use Rattle.std.specs.Option.{ok_or}
-use Rattle.pybuf_slice.specs.Places.{item_place}
+use Rattle.pybuf_index.specs.Places.{item_place}
 use Rattle.pybuf_desc.specs.Places.{places}
 use Rattle.pybuf_desc.specs.Positions.{AreIndices, offset_of, number_of_item, entry_of_index, position_of}
 use Rattle.pybuf_desc.proofs.Indices.{position_from, place_of_item}

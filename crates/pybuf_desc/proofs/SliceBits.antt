@@ -1,8 +1,8 @@
 -- The code's numbers of a slice, which go over bits, are those of the definition.
 use Rattle.std.proofs.Common.{◌≡◌, ℕ, ◌+◌, ◌<◌, ◌≤◌, ℤ, pos, negsuc, ◌+ℤ◌, ◌*ℤ◌, ◌≤ℤ◌, ◌<ℤ◌, List, length, ap, ap₂, sym, ◌∙◌, subst, arith, SFits, w64, to_z, of_z}
 use Rattle.std.proofs.lemmas.Int.{ints, to_z-of_z}
-use Rattle.pybuf_slice.specs.Parts.{SliceParts, IsSaturated, picks_of, nearest_word}
-use Rattle.pybuf_slice.specs.Runs.{picks_in_span}
+use Rattle.pybuf_index.specs.Parts.{SliceParts, IsSaturated, picks_of, nearest_word}
+use Rattle.pybuf_index.specs.Runs.{picks_in_span}
 use Rattle.pybuf_desc.specs.Descriptor.{Descriptor}
 use Rattle.pybuf_desc.specs.Valid.{IsPlaced}
 use Rattle.pybuf_desc.proofs.Moves.{dim_at}

@@ -2,7 +2,7 @@
 use Rattle.std.proofs.Common.{◌≡◌, ◌≢◌, ℕ, zero, suc, ◌+◌, ◌*◌, ◌/◌, ◌^◌, ◌<◌, ◌≤◌, min, ℤ, pos, negsuc, ◌+ℤ◌, ◌*ℤ◌, List, [], ◌∷◌, ◌++◌, length, take, drop, map, refl, ap, ap₂, sym, ◌∙◌, arith, SFits, w64, flat_map, mul-div_cancel, drop-drop, drop_at, take_at, lit≤, lit<, mul_comm}
 use Rattle.std.proofs.lemmas.Int.{ints}
 use Rattle.std.proofs.Math.IntN.{*ℤ_comm}
-use Rattle.pybuf_slice.specs.Parts.{nearest_word}
+use Rattle.pybuf_index.specs.Parts.{nearest_word}
 use Rattle.pybuf_desc.specs.Layouts.{Layout, product}
 use Rattle.pybuf_desc.specs.Descriptor.{Descriptor, shape_of, strides_of}
 use Rattle.pybuf_desc.specs.Places.{places, Stands}

@@ -5,8 +5,8 @@ use Rattle.std.proofs.lemmas.List.{length-take-le, take_all, take-append-le, dro
 use Rattle.std.proofs.lemmas.List.Elements.{All-nil, All-cons, All-append, All-take, All-drop, All-head, All-tail}
 use Rattle.std.specs.Prelude.{All}
 use Rattle.std.specs.List.{flat_map}
-use Rattle.pybuf_slice.specs.Picks.{picks, steps_to}
-use Rattle.pybuf_slice.specs.Parts.{SliceParts, picks_of}
+use Rattle.pybuf_index.specs.Picks.{picks, steps_to}
+use Rattle.pybuf_index.specs.Parts.{SliceParts, picks_of}
 use Rattle.pybuf_desc.specs.Layouts.{Layout, LiesInside, HasItemsOfItsShape, product}
 use Rattle.pybuf_desc.specs.Slices.{block_at, first_entry, slice_of}
 use Rattle.pybuf_desc.specs.Laws.{backward}

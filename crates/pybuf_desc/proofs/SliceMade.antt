@@ -3,9 +3,9 @@ use Rattle.std.proofs.Common.{◌≡◌, ◌≢◌, ℕ, zero, suc, ◌-◌, ◌
 use Rattle.std.proofs.lemmas.Int.{ints}
 use Rattle.std.specs.List.{AllByRecursion}
 use Rattle.std.proofs.lemmas.List.Elements.{recursion_from_All}
-use Rattle.pybuf_slice.specs.Parts.{SliceParts, IsSaturated, picks_of, nearest_word}
-use Rattle.pybuf_slice.specs.Picks.{steps_to, comes_before}
-use Rattle.pybuf_slice.specs.Runs.{picks_in_span}
+use Rattle.pybuf_index.specs.Parts.{SliceParts, IsSaturated, picks_of, nearest_word}
+use Rattle.pybuf_index.specs.Picks.{steps_to, comes_before}
+use Rattle.pybuf_index.specs.Runs.{picks_in_span}
 use Rattle.pybuf_desc.specs.Layouts.{Layout, product}
 use Rattle.pybuf_desc.specs.Descriptor.{Descriptor, shape_of, strides_of}
 use Rattle.pybuf_desc.specs.Places.{places, Stands}

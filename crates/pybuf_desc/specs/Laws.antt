@@ -2,7 +2,7 @@
 use Rattle.std.specs.Prelude.{◌≡◌, ◌≢◌, ◌↔◌, ℕ, ◌+◌, ◌*◌, ◌%◌, ◌^◌, ◌<◌, ℤ, pos, negsuc, ◌+ℤ◌, ◌≤ℤ◌, ◌<ℤ◌, ◌≤◌, nat_abs, Bool, List, [], ◌∷◌, length, slice_get, slice_index, true, None, Some}
 use Rattle.std.specs.List.{All, flat_map}
 use Rattle.std.specs.declared.ops.Range.{Range}
-use Rattle.pybuf_slice.specs.Parts.{SliceParts}
+use Rattle.pybuf_index.specs.Parts.{SliceParts}
 use Rattle.pybuf_desc.specs.Layouts.{Layout, HasItemsOfItsShape, LiesInside, product}
 use Rattle.pybuf_desc.specs.Items.{content_of_layout}
 use Rattle.pybuf_desc.specs.Contiguous.{is_contiguous_layout}

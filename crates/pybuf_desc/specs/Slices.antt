@@ -1,7 +1,7 @@
 -- The slice of a view along its first dimension.
 use Rattle.std.specs.Prelude.{ℕ, ◌*◌, ◌/◌, ℤ, pos, ◌*ℤ◌, List, [], ◌∷◌, length, take, drop}
 use Rattle.std.specs.List.{flat_map}
-use Rattle.pybuf_slice.specs.Parts.{SliceParts, picks_of, nearest_word}
+use Rattle.pybuf_index.specs.Parts.{SliceParts, picks_of, nearest_word}
 use Rattle.pybuf_desc.specs.Layouts.{Layout}
 
 -- The first entry of a shape. A view of no dimension is never sliced: it has no such entry, and the 1

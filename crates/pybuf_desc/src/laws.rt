@@ -57,7 +57,7 @@ pub fn slices_stay_inside()
 pub fn slices_have_their_shape()
     ensures { SlicesHaveTheirShape }
 {
-    pybuf_slice::indices_of_a_slice();
+    pybuf_index::indices_of_a_slice();
 }
 
 /// A slice `::-1` along the first dimension, sliced by `::-1` again, has each item where it was.

@@ -5,7 +5,7 @@ ghost use Rattle.pybuf_desc.specs.Valid.{IsPlaceable};
 ghost use Rattle.pybuf_desc.specs.Positions.{AreIndices, offset_of, number_of_item, entry_of_index, position_of};
 
 use crate::descriptor::BufferDescriptor;
-use pybuf_slice::SequenceIndexOp;
+use pybuf_index::SequenceIndexOp;
 use pybuf_value::Fault;
 
 /// The entry among `len` that an index names, where a negative one counts from the end.

@@ -1,7 +1,7 @@
 //! The slice of a descriptor along its first dimension.
 ghost use Rattle.std.specs.Prelude.{◌≡◌, ◌+◌, ◌*◌, ◌^◌, ◌<◌, ◌≤◌, ℕ, ℤ, pos, [], ◌∷◌, ◌+ℤ◌, ◌*ℤ◌, ◌≤ℤ◌, ◌<ℤ◌, FitsSigned, IfOk, length, slice_set, slice_index_or};
 ghost use Rattle.std.specs.Int.{w64};
-ghost use Rattle.pybuf_slice.specs.Parts.{picks_of, nearest_word};
+ghost use Rattle.pybuf_index.specs.Parts.{picks_of, nearest_word};
 ghost use Rattle.pybuf_desc.specs.Layouts.{Layout};
 ghost use Rattle.pybuf_desc.specs.Descriptor.{Descriptor, shape_of, strides_of};
 ghost use Rattle.pybuf_desc.specs.Places.{Stands};
@@ -9,7 +9,7 @@ ghost use Rattle.pybuf_desc.specs.Valid.{IsValid, IsPlaced};
 ghost use Rattle.pybuf_desc.specs.Slices.{first_entry, first_stride, slice_of};
 
 use crate::descriptor::BufferDescriptor;
-use pybuf_slice::SaturatedSlice;
+use pybuf_index::SaturatedSlice;
 use pybuf_value::{Made, saturate};
 use std::alloc::Global;
 

@@ -6,9 +6,9 @@ use Rattle.std.specs.declared.ops.Range.{Range}
 use Rattle.std.proofs.lemmas.Int.{ints, clamps}
 use Rattle.std.proofs.Math.Nat.{mul-pos, le-mul_of_pos_right, mul-le-mul_right}
 use Rattle.std.proofs.lemmas.List.{length-map}
-use Rattle.pybuf_slice.specs.Picks.{start_of, stop_of, steps_to, picks}
-use Rattle.pybuf_slice.specs.Parts.{picks_of}
-use Rattle.pybuf_slice.specs.Laws.{EachSlice, SameWhenClamped}
+use Rattle.pybuf_index.specs.Picks.{start_of, stop_of, steps_to, picks}
+use Rattle.pybuf_index.specs.Parts.{picks_of}
+use Rattle.pybuf_index.specs.Laws.{EachSlice, SameWhenClamped}
 use Rattle.pybuf_desc.specs.Layouts.{Layout, product}
 use Rattle.pybuf_desc.specs.Descriptor.{Descriptor, shape_of}
 use Rattle.pybuf_desc.specs.Slices.{first_entry, slice_of, slice_at}

@@ -2,7 +2,7 @@
 use Rattle.std.specs.Prelude.{ℕ, ◌-◌, pos, Some}
 use Rattle.std.specs.List.{range_with_len}
 use Rattle.std.specs.declared.ops.Range.{Range}
-use Rattle.pybuf_slice.specs.Parts.{SliceParts, clamped_parts}
+use Rattle.pybuf_index.specs.Parts.{SliceParts, clamped_parts}
 use Rattle.pybuf_desc.specs.Layouts.{Layout}
 use Rattle.pybuf_desc.specs.Slices.{slice_at}
 

@@ -13,7 +13,7 @@ use pybuf_desc::{
     BufferDescriptor, descriptors_stand_for_one_view, slices_have_their_shape, slices_stay_inside,
 };
 use pybuf_exporter::ExporterState;
-use pybuf_slice::{SaturatedSlice, clamping_changes_no_index};
+use pybuf_index::{SaturatedSlice, clamping_changes_no_index};
 use pybuf_state::whole_layouts_are_sound;
 use pybuf_value::{Made, PySlice, Scalar};
 use std::alloc::Global;

@@ -8,7 +8,7 @@ use Rattle.pybuf_value.specs.declared.values.Item.{Item}
 use Rattle.pybuf_value.specs.declared.values.Item.TheVariants as item
 use Rattle.pybuf_value.specs.declared.values.Value.{Value}
 use Rattle.pybuf_value.specs.declared.values.Value.TheVariants as value
-use Rattle.pybuf_slice.specs.Places.{item_place}
+use Rattle.pybuf_index.specs.Places.{item_place}
 use Rattle.pybuf_value.specs.Refusing.{◌>>=◌, unless}
 use Rattle.pybuf_struct.specs.Formats.{format_of}
 use Rattle.pybuf_desc.specs.Layouts.{Layout}

@@ -8,7 +8,7 @@ ghost use Rattle.pybuf_memoryview.specs.Items as spec;
 ghost use Rattle.pybuf_memoryview.specs.SingleBytes.{byte_for_item};
 
 use crate::kept::KeptLayout;
-use pybuf_slice::SequenceIndexOp;
+use pybuf_index::SequenceIndexOp;
 use pybuf_struct::{FormatSpec, single_value};
 use pybuf_value::{
     Fault, Halt, Item, Made, Outcome, Scalar, ScalarList, Text, Twin, Value, fit_index, index_of,

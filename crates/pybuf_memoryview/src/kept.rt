@@ -3,7 +3,7 @@ ghost use Rattle.std.specs.Prelude.{◌≡◌, ◌<◌, ◌≤◌, ◌+◌, ◌*
 ghost use Rattle.std.specs.List.{list_any};
 
 use pybuf_desc::BufferDescriptor;
-use pybuf_slice::SaturatedSlice;
+use pybuf_index::SaturatedSlice;
 use pybuf_value::{CountList, Fault, Made, NumberList, Text, Twin};
 use std::alloc::Global;
 use std::marker::Model;

@@ -10,8 +10,8 @@ use Rattle.pybuf_value.specs.declared.values.PySlice.{PySlice}
 use Rattle.pybuf_value.specs.Refusing.{◌>>=◌, unless}
 use Rattle.pybuf_value.specs.Numbers.{byte_in}
 use Rattle.pybuf_value.specs.Snaps.{bytes_in}
-use Rattle.pybuf_slice.specs.Places.{item_place}
-use Rattle.pybuf_slice.specs.Parts.{SliceParts, saturated_parts_of, picks_of}
+use Rattle.pybuf_index.specs.Places.{item_place}
+use Rattle.pybuf_index.specs.Parts.{SliceParts, saturated_parts_of, picks_of}
 use Rattle.pybuf_slice.specs.Edits.{is_one, times}
 use Rattle.pybuf_bytes.specs.Options.{bytes_of_options}
 use Rattle.pybuf_command.specs.declared.commands.Verb.TheVariants as verb

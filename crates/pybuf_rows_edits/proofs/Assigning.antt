@@ -6,7 +6,7 @@ use Rattle.std.proofs.lemmas.Grind.{common_steps}
 use Rattle.pybuf_value.specs.declared.faults.Outcome.{Outcome}
 use Rattle.pybuf_value.specs.declared.faults.Outcome.TheVariants as outcome
 use Rattle.pybuf_value.specs.declared.faults.Fault.TheVariants as fault
-use Rattle.pybuf_slice.specs.Parts.{SliceParts, picks_of}
+use Rattle.pybuf_index.specs.Parts.{SliceParts, picks_of}
 use Rattle.pybuf_slice.specs.Edits.{assigned_list, MatchOutcome, done_if_equal}
 use Rattle.pybuf_slice.specs.EditLaws.{AsManyKeepTheLength}
 

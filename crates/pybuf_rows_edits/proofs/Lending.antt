@@ -12,7 +12,7 @@ use Rattle.pybuf_value.specs.declared.values.Scalar.TheVariants as scalar
 use Rattle.pybuf_value.specs.declared.halt.Halt.{Halt}
 use Rattle.pybuf_value.specs.Refusing.{◌>>=◌, unless}
 use Rattle.pybuf_value.specs.Snaps.{snap_of, content_of, content_of_kind, content_of_named}
-use Rattle.pybuf_slice.specs.Parts.{SliceParts}
+use Rattle.pybuf_index.specs.Parts.{SliceParts}
 use Rattle.pybuf_command.specs.declared.options.ByteInnerNewOptions.{ByteInnerNewOptions}
 use Rattle.pybuf_bytes.specs.Options.{bytes_of_options}
 use Rattle.pybuf_desc.specs.Layouts.{Layout}

@@ -7,7 +7,7 @@ use Rattle.pybuf_value.specs.declared.values.Value.TheVariants as value
 use Rattle.pybuf_value.specs.Refusing.{◌>>=◌, unless}
 use Rattle.pybuf_value.specs.Numbers.{byte_in}
 use Rattle.pybuf_value.specs.Snaps.{bytes_in}
-use Rattle.pybuf_slice.specs.Parts.{saturated_parts_of, picks_of}
+use Rattle.pybuf_index.specs.Parts.{saturated_parts_of, picks_of}
 use Rattle.pybuf_slice.specs.Edits.{is_one}
 use Rattle.pybuf_bytes.specs.Options.{bytes_of_options}
 use Rattle.pybuf_command.specs.declared.commands.Verb.{Verb}

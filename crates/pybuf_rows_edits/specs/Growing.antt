@@ -9,7 +9,7 @@ use Rattle.pybuf_value.specs.declared.values.Value.TheVariants as value
 use Rattle.pybuf_value.specs.Refusing.{◌>>=◌, unless}
 use Rattle.pybuf_value.specs.Numbers.{byte_in}
 use Rattle.pybuf_value.specs.Snaps.{bytes_in, bytes_like}
-use Rattle.pybuf_slice.specs.Places.{saturated_place}
+use Rattle.pybuf_index.specs.Places.{saturated_place}
 use Rattle.pybuf_slice.specs.Edits.{replaced_range, repeated_list, times, is_one}
 use Rattle.pybuf_command.specs.declared.commands.LocalReply.{LocalReply}
 use Rattle.pybuf_command.specs.declared.commands.LocalReply.TheVariants as reply

@@ -5,7 +5,7 @@ use Rattle.pybuf_value.specs.declared.faults.Fault.TheVariants as fault
 use Rattle.pybuf_value.specs.declared.snaps.Snap.{Snap}
 use Rattle.pybuf_value.specs.Refusing.{◌>>=◌}
 use Rattle.pybuf_value.specs.Snaps.{content_of, content_of_named}
-use Rattle.pybuf_slice.specs.Parts.{SliceParts}
+use Rattle.pybuf_index.specs.Parts.{SliceParts}
 use Rattle.pybuf_command.specs.declared.commands.LocalReply.{LocalReply}
 use Rattle.pybuf_command.specs.declared.loans.Loan.{Loan}
 use Rattle.pybuf_command.specs.declared.loans.Loan.TheVariants as loan

@@ -8,7 +8,7 @@ use Rattle.pybuf_value.specs.declared.values.Value.{Value}
 use Rattle.pybuf_value.specs.declared.values.Value.TheVariants as value
 use Rattle.pybuf_value.specs.Refusing.{◌>>=◌, unless}
 use Rattle.pybuf_value.specs.Numbers.{byte_in}
-use Rattle.pybuf_slice.specs.Parts.{saturated_parts_of, picks_of}
+use Rattle.pybuf_index.specs.Parts.{saturated_parts_of, picks_of}
 use Rattle.pybuf_slice.specs.Edits.{replaced_range, elements_off}
 use Rattle.pybuf_command.specs.declared.commands.LocalReply.{LocalReply}
 use Rattle.pybuf_command.specs.declared.commands.LocalReply.TheVariants as reply

@@ -10,7 +10,7 @@ ghost use Rattle.pybuf_state.specs.Loans.{lents_by, snap_in};
 ghost use Rattle.pybuf_state.specs.Names as names_spec;
 ghost use Rattle.pybuf_state.specs.Snaps.{snap_of_subject};
 ghost use Rattle.pybuf_state.specs.Answers.{exporter_of, IsWhole, Answers, Reads};
-ghost use Rattle.pybuf_slice.specs.Parts.{picks_of};
+ghost use Rattle.pybuf_index.specs.Parts.{picks_of};
 ghost use Rattle.pybuf_slice.specs.Edits.{assigned_list};
 ghost use Rattle.pybuf_rows_edits.specs.Common as common;
 ghost use Rattle.pybuf_rows_edits.specs.LentBytes as lent_spec;
@@ -18,8 +18,9 @@ ghost use Rattle.pybuf_rows_edits.specs.Replacing as spec;
 
 use pybuf_bytes::NewOptions;
 use pybuf_command::{ByteInnerNewOptions, ExporterKind, LocalReply, Subject, handle_alone};
+use pybuf_index::SaturatedSlice;
 use pybuf_memoryview::content_of;
-use pybuf_slice::{SaturatedSlice, slices};
+use pybuf_slice::slices;
 use pybuf_state::{Meaning, Names, Other, Parts, content_of_other, snap_of_subject};
 use pybuf_value::{
     Fault, Halt, Lent, Made, Outcome, PySlice, Scalar, SnapList, Value, bytes_from_object,

@@ -8,8 +8,9 @@ ghost use Rattle.pybuf_rows_edits.specs.Shrinking as spec;
 use crate::counts::count_in;
 use bstr::ByteSlice;
 use pybuf_command::{ExporterKind, LocalReply};
+use pybuf_index::SaturatedSlice;
 use pybuf_memoryview::{byte_item, entry_in, index_in};
-use pybuf_slice::{SaturatedSlice, close_up};
+use pybuf_slice::close_up;
 use pybuf_state::Parts;
 use pybuf_value::{ByteList, Fault, Halt, PySlice, Value, value_from_object};
 

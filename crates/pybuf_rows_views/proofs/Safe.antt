@@ -20,7 +20,7 @@ use Rattle.pybuf_value.specs.declared.values.Scalar.TheVariants as scalar
 use Rattle.pybuf_value.specs.declared.values.Value.{Value}
 use Rattle.pybuf_value.specs.declared.values.Value.TheVariants as value
 use Rattle.pybuf_value.specs.Numbers.{number_in, number_of}
-use Rattle.pybuf_slice.specs.Parts.{SliceParts, nonzero, step_in, part_in, nearest_word, parts_of, saturated_parts_of}
+use Rattle.pybuf_index.specs.Parts.{SliceParts, nonzero, step_in, part_in, nearest_word, parts_of, saturated_parts_of}
 use Rattle.pybuf_struct.specs.Formats.{Format, format_of}
 use Rattle.pybuf_desc.specs.Contiguous.{is_contiguous_layout}
 use Rattle.pybuf_desc.specs.Slices.{slice_of}

@@ -3,7 +3,7 @@ use Rattle.std.specs.Prelude.{ℕ, Result, Ok}
 use Rattle.pybuf_value.specs.declared.faults.Fault.{Fault}
 use Rattle.pybuf_value.specs.declared.values.PySlice.{PySlice}
 use Rattle.pybuf_value.specs.Refusing.{◌>>=◌}
-use Rattle.pybuf_slice.specs.Parts.{saturated_parts_of}
+use Rattle.pybuf_index.specs.Parts.{saturated_parts_of}
 use Rattle.pybuf_desc.specs.Slices.{slice_of}
 use Rattle.pybuf_command.specs.declared.commands.LocalReply.{LocalReply}
 use Rattle.pybuf_memoryview.specs.Items.{has_dimensions}

@@ -5,7 +5,7 @@ ghost use Rattle.pybuf_state.specs.Answers.{exporter_of, IsWhole, Answers};
 ghost use Rattle.pybuf_rows_views.specs.Slice.{slice_of_view};
 
 use pybuf_command::LocalReply;
-use pybuf_slice::SaturatedSlice;
+use pybuf_index::SaturatedSlice;
 use pybuf_state::Parts;
 use pybuf_value::{Fault, Halt, PySlice};
 

@@ -7,7 +7,7 @@ use Rattle.pybuf_value.specs.declared.values.Value.{Value}
 use Rattle.pybuf_value.specs.declared.values.PySlice.{PySlice}
 use Rattle.pybuf_value.specs.declared.snaps.Snap.{Snap}
 use Rattle.pybuf_value.specs.Refusing.{unless, IfDone, done_bind}
-use Rattle.pybuf_slice.specs.Parts.{SliceParts, saturated_parts_of}
+use Rattle.pybuf_index.specs.Parts.{SliceParts, saturated_parts_of}
 use Rattle.pybuf_desc.specs.Layouts.{Layout, LiesInside}
 use Rattle.pybuf_desc.specs.Slices.{slice_of}
 use Rattle.pybuf_desc.specs.Laws.{SlicesStayInside}

@@ -8,7 +8,7 @@ use Rattle.pybuf_value.specs.declared.values.Scalar.TheVariants as scalar
 use Rattle.pybuf_value.specs.declared.values.PySlice.{PySlice}
 use Rattle.pybuf_value.specs.Numbers.{number_in}
 use Rattle.pybuf_value.specs.Refusing.{◌>>=◌, IfDone, done_bind}
-use Rattle.pybuf_slice.specs.Parts.{SliceParts, nonzero, step_in, part_in, nearest_word, parts_of, saturated_parts_of}
+use Rattle.pybuf_index.specs.Parts.{SliceParts, nonzero, step_in, part_in, nearest_word, parts_of, saturated_parts_of}
 use Rattle.pybuf_rows_writes.proofs.Safe.{done}
 
 nonzero_moves : (z : ℤ) → IfDone (λ (step : ℤ). step ≢ pos 0) (nonzero z)

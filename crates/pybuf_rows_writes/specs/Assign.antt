@@ -10,7 +10,7 @@ use Rattle.pybuf_value.specs.declared.values.PySlice.{PySlice}
 use Rattle.pybuf_value.specs.declared.snaps.Snap.{Snap}
 use Rattle.pybuf_value.specs.Refusing.{◌>>=◌, unless}
 use Rattle.pybuf_value.specs.Snaps.{is_iterator}
-use Rattle.pybuf_slice.specs.Parts.{saturated_parts_of}
+use Rattle.pybuf_index.specs.Parts.{saturated_parts_of}
 use Rattle.pybuf_desc.specs.Layouts.{Layout}
 use Rattle.pybuf_desc.specs.Slices.{slice_of}
 use Rattle.pybuf_command.specs.declared.kinds.ExporterKind.TheVariants as kind

@@ -7,7 +7,7 @@ use Rattle.pybuf_struct.specs.Formats.{Format, format_of, fields}
 use Rattle.pybuf_struct.specs.Values.{item_of}
 use Rattle.pybuf_struct.specs.Laws.{normal_values}
 use Rattle.pybuf_value.specs.declared.snaps.Snap.{Snap}
-use Rattle.pybuf_slice.specs.Parts.{SliceParts, saturated_parts_of}
+use Rattle.pybuf_index.specs.Parts.{SliceParts, saturated_parts_of}
 use Rattle.pybuf_desc.specs.Layouts.{Layout, LiesInside}
 use Rattle.pybuf_desc.specs.Slices.{slice_of}
 use Rattle.pybuf_memoryview.specs.Fits.{fits_snap}

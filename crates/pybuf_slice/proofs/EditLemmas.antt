@@ -1,5 +1,5 @@
 -- What stays off an index list, place by place.
-use Rattle.std.proofs.Common.{◌≡◌, ◌≢◌, ℕ, zero, suc, ◌+◌, ◌-◌, ◌<◌, ◌≤◌, true, false, List, [], ◌∷◌, ◌++◌, length, refl, ap, sym, ◌∙◌, arith, inl, inr, ◌⊎◌, ℤ, pos, negsuc, take, drop, set, get_or, append-nil, length-take, length-drop, length-set, take-append-drop}
+use Rattle.std.proofs.Common.{◌≡◌, ◌≢◌, ℕ, zero, suc, ◌+◌, ◌-◌, ◌*◌, ◌<◌, ◌≤◌, true, false, List, [], ◌∷◌, ◌++◌, length, refl, ap, sym, ◌∙◌, arith, inl, inr, ◌⊎◌, ℤ, pos, negsuc, take, drop, set, get_or, append-nil, length-take, length-drop, length-set, take-append-drop}
 use Rattle.std.specs.Prelude.{Bool, All, reverse, if◌then◌else◌, ◌==◌}
 use Rattle.std.specs.List.Sorted.{IsStrictlyIncreasing}
 use Rattle.std.specs.List.{swap}
@@ -7,11 +7,10 @@ use Rattle.std.proofs.lemmas.Bool.{cases_lt}
 use Rattle.std.proofs.lemmas.Bool.Decides.{nat_tests}
 use Rattle.std.proofs.lemmas.List.{take_more, take_more_set, take-set, take-set-le, drop-set-lt, get_or_default, reverse-append}
 use Rattle.std.proofs.lemmas.List.Elements.{All-head, All-tail, All-same, All-append, All-cons, All-nil}
-use Rattle.pybuf_slice.specs.Runs.{IsRisingFrom, rising, how_many, picks_in_span}
-use Rattle.pybuf_slice.proofs.StepLemmas.{falling}
-use Rattle.pybuf_slice.proofs.SpanLemmas.{span_rises, span_falls}
-use Rattle.pybuf_slice.proofs.LawLemmas.{how_many_one}
-use Rattle.pybuf_slice.specs.Edits.{has, off_from, elements_off, replaced_range}
+use Rattle.pybuf_index.specs.Runs.{rising, how_many, picks_in_span}
+use Rattle.pybuf_index.specs.Laws.{EachSpan, SpanPicksAre}
+use Rattle.pybuf_slice.specs.Edits.{has, off_from, elements_off, IsRisingFrom, replaced_range}
+use Rattle.pybuf_slice.proofs.ReadLemmas.{down_moves, how_many_one, run_by_one}
 
 pub has_head : (i : ℕ) (r : List ℕ) (q : ℕ) → i ≡ q → has (i ∷ r) q ≡ true
 has_head i r q e = grind (arith, nat_tests)
@@ -206,6 +205,36 @@ length_swap {X} (x ∷ ys) i j =
     let xs : List X = x ∷ ys in
     length-set (set xs i (get_or xs j x)) j (get_or xs i x) ∙ length-set xs i (get_or xs j x)
 
+-- ---- the order of an index list
+
+either_way : (a b c : Bool) → (if a then true else (if b then true else c)) ≡ (if (if a then true else b) then true else c)
+either_way true b c = refl
+either_way false b c = refl
+
+has_append : (xs ys : List ℕ) (q : ℕ) → has (xs ++ ys) q ≡ (if has xs q then true else has ys q)
+has_append [] ys q = refl
+has_append (x ∷ xs) ys q = rw (has_append xs ys q) (either_way (x == q) (has xs q) (has ys q))
+
+other_way : (a b : Bool) → (if a then true else (if b then true else false)) ≡ (if b then true else a)
+other_way true true = refl
+other_way true false = refl
+other_way false true = refl
+other_way false false = refl
+
+pub has_reverse : (xs : List ℕ) (q : ℕ) → has (reverse xs) q ≡ has xs q
+has_reverse [] q = refl
+has_reverse (x ∷ xs) q =
+    ap (λ (us : List ℕ). has us q) (reverse-append (x ∷ []) xs)
+    ∙ has_append (reverse xs) (x ∷ []) q
+    ∙ ap (λ b. if b then true else has (x ∷ []) q) (has_reverse xs q)
+    ∙ other_way (has xs q) (x == q)
+
+pub all_reverse : (P : ℕ → Type 0) (xs : List ℕ) → All P xs → All P (reverse xs)
+all_reverse P [] all = all
+all_reverse P (x ∷ xs) all =
+    All-same P (reverse (x ∷ xs)) (reverse xs ++ x ∷ []) (reverse-append (x ∷ []) xs)
+    (All-append P (reverse xs) (x ∷ []) (all_reverse P xs (All-tail P x xs all)) (All-cons P x [] (All-head P x xs all) (All-nil P)))
+
 -- ---- a range
 
 drop_none : {X : Type 0} (n : ℕ) → drop n (let none : List X = [] in none) ≡ []
@@ -264,70 +293,40 @@ has_run_not (suc count) low q (inr over) =
     let other : low ≢ q = omega arith in
     has_other low (rising (low + 1) 1 count) q other ∙ has_run_not count (low + 1) q (inr (omega arith))
 
-has_fall : (count high q : ℕ) → count ≤ high → high ≤ q + count → q < high → has (falling high 1 count) q ≡ true
-has_fall zero high q fits over under = absurd (omega arith)
-has_fall (suc count) high q fits over under =
-    elim (cases_lt q (high - 1)) [
-      | inl below ↦
-          let other : high - 1 ≢ q = omega arith in
-          has_other (high - 1) (falling (high - 1) 1 count) q other ∙ has_fall count (high - 1) q (omega arith) (omega arith) (omega arith)
-      | inr upto ↦ has_head (high - 1) (falling (high - 1) 1 count) q (omega arith)
-    ]
-
-has_fall_not : (count high q : ℕ) → count ≤ high → (q + count < high) ⊎ (high ≤ q) → has (falling high 1 count) q ≡ false
-has_fall_not zero high q fits out = refl
-has_fall_not (suc count) high q fits (inl under) =
-    let other : high - 1 ≢ q = omega arith in
-    has_other (high - 1) (falling (high - 1) 1 count) q other ∙ has_fall_not count (high - 1) q (omega arith) (inl (omega arith))
-has_fall_not (suc count) high q fits (inr over) =
-    let other : high - 1 ≢ q = omega arith in
-    has_other (high - 1) (falling (high - 1) 1 count) q other ∙ has_fall_not count (high - 1) q (omega arith) (inr (omega arith))
-
--- a step of 1, up or down, picks the whole range
-pub off_range : {X : Type 0} (items : List X) (low high : ℕ) (step : ℤ) → (step ≡ pos 1) ⊎ (step ≡ negsuc 0) → low ≤ high → high ≤ length items → replaced_range items low high [] ≡ elements_off items (picks_in_span low high step)
-off_range items low high step (inl up) ordered inside =
-    let count : how_many low high 1 ≡ high - low = how_many_one low high in
-    let list : picks_in_span low high step ≡ rising low 1 (high - low) = ap (picks_in_span low high) up ∙ span_rises low high 0 ∙ ap (rising low 1) count in
+-- all places of a range, in order
+off_places : {X : Type 0} (items : List X) (low high : ℕ) → low ≤ high → high ≤ length items → replaced_range items low high [] ≡ elements_off items (rising low 1 (high - low))
+off_places items low high ordered inside =
     off_span items low high (rising low 1 (high - low)) ordered inside
     (λ q over under. has_run (high - low) low q over (omega arith))
     (λ q under. has_run_not (high - low) low q (inl under))
     (λ q over. has_run_not (high - low) low q (inr (omega arith)))
-    ∙ ap (elements_off items) (sym list)
-off_range items low high step (inr down) ordered inside =
-    let count : how_many low high 1 ≡ high - low = how_many_one low high in
-    let list : picks_in_span low high step ≡ falling high 1 (high - low) = ap (picks_in_span low high) down ∙ span_falls low high 0 ∙ ap (falling high 1) count in
-    off_span items low high (falling high 1 (high - low)) ordered inside
-    (λ q over under. has_fall (high - low) high q (omega arith) (omega arith) under)
-    (λ q under. has_fall_not (high - low) high q (omega arith) (inl (omega arith)))
-    (λ q over. has_fall_not (high - low) high q (omega arith) (inr over))
-    ∙ ap (elements_off items) (sym list)
 
--- ---- the order of an index list
+-- as many places, of which the last is that of the range, begin at its first
+from_the_last : (low high : ℕ) → low ≤ high → rising (high - 1 - (high - low - 1) * 1) 1 (high - low) ≡ rising low 1 (high - low)
+from_the_last low high ordered =
+    elim (cases_lt low high) [
+      | inl some ↦
+          let least : high - 1 - (high - low - 1) * 1 ≡ low = omega arith in
+          ap (λ n. rising n 1 (high - low)) least
+      | inr none ↦
+          let empty : high - low ≡ 0 = omega arith in
+          ap (λ count. rising (high - 1 - (high - low - 1) * 1) 1 count) empty ∙ sym (ap (λ count. rising low 1 count) empty)
+    ]
 
-either_way : (a b c : Bool) → (if a then true else (if b then true else c)) ≡ (if (if a then true else b) then true else c)
-either_way true b c = refl
-either_way false b c = refl
+-- a step of -1 picks the places of a range, the last first
+run_by_less_one : (spans : EachSpan SpanPicksAre) (low high : ℕ) (step : ℤ) → step ≡ negsuc 0 → low ≤ high → picks_in_span low high step ≡ reverse (rising low 1 (high - low))
+run_by_less_one spans low high step less_one ordered =
+    let run : picks_in_span low high (negsuc 0) ≡ reverse (rising (high - 1 - (how_many low high 1 - 1) * 1) 1 (how_many low high 1)) = (spans low high (negsuc 0) (down_moves 0)).run in
+    ap (picks_in_span low high) less_one
+    ∙ run
+    ∙ ap (λ count. reverse (rising (high - 1 - (count - 1) * 1) 1 count)) (how_many_one low high)
+    ∙ ap reverse (from_the_last low high ordered)
 
-has_append : (xs ys : List ℕ) (q : ℕ) → has (xs ++ ys) q ≡ (if has xs q then true else has ys q)
-has_append [] ys q = refl
-has_append (x ∷ xs) ys q = rw (has_append xs ys q) (either_way (x == q) (has xs q) (has ys q))
-
-other_way : (a b : Bool) → (if a then true else (if b then true else false)) ≡ (if b then true else a)
-other_way true true = refl
-other_way true false = refl
-other_way false true = refl
-other_way false false = refl
-
-pub has_reverse : (xs : List ℕ) (q : ℕ) → has (reverse xs) q ≡ has xs q
-has_reverse [] q = refl
-has_reverse (x ∷ xs) q =
-    ap (λ (us : List ℕ). has us q) (reverse-append (x ∷ []) xs)
-    ∙ has_append (reverse xs) (x ∷ []) q
-    ∙ ap (λ b. if b then true else has (x ∷ []) q) (has_reverse xs q)
-    ∙ other_way (has xs q) (x == q)
-
-pub all_reverse : (P : ℕ → Type 0) (xs : List ℕ) → All P xs → All P (reverse xs)
-all_reverse P [] all = all
-all_reverse P (x ∷ xs) all =
-    All-same P (reverse (x ∷ xs)) (reverse xs ++ x ∷ []) (reverse-append (x ∷ []) xs)
-    (All-append P (reverse xs) (x ∷ []) (all_reverse P xs (All-tail P x xs all)) (All-cons P x [] (All-head P x xs all) (All-nil P)))
+-- a step of 1, up or down, picks the whole range
+pub off_range : {X : Type 0} (spans : EachSpan SpanPicksAre) (items : List X) (low high : ℕ) (step : ℤ) → (step ≡ pos 1) ⊎ (step ≡ negsuc 0) → low ≤ high → high ≤ length items → replaced_range items low high [] ≡ elements_off items (picks_in_span low high step)
+off_range spans items low high step (inl up) ordered inside =
+    off_places items low high ordered inside ∙ ap (elements_off items) (sym (run_by_one spans low high step up))
+off_range spans items low high step (inr down) ordered inside =
+    off_places items low high ordered inside
+    ∙ off_same items 0 (rising low 1 (high - low)) (reverse (rising low 1 (high - low))) (λ q. sym (has_reverse (rising low 1 (high - low)) q))
+    ∙ ap (elements_off items) (sym (run_by_less_one spans low high step down ordered))

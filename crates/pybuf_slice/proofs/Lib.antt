@@ -1,7 +1,4 @@
-pub mod StepLemmas
-pub mod SpanLemmas
-pub mod LawLemmas
-pub mod PartLemmas
+pub mod ReadLemmas
 pub mod TwinLemmas
 pub mod EditLemmas
 pub mod PartedLemmas

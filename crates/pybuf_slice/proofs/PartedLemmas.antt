@@ -1,18 +1,17 @@
 -- A slice parts a list in two.
-use Rattle.std.proofs.Common.{◌≡◌, ◌≢◌, ℕ, zero, suc, ◌+◌, ◌-◌, ◌*◌, ◌<◌, ◌≤◌, false, List, [], ◌∷◌, ◌++◌, length, reverse, ℤ, pos, negsuc, Option, None, Some, refl, ap, sym, ◌∙◌, arith, inl, inr, append-nil}
+use Rattle.std.proofs.Common.{◌≡◌, ◌≢◌, ℕ, zero, suc, ◌+◌, ◌-◌, ◌*◌, ◌<◌, ◌≤◌, false, List, [], ◌∷◌, ◌++◌, length, reverse, ℤ, pos, negsuc, Option, None, Some, refl, ap, sym, ◌∙◌, subst, arith, inl, inr, append-nil}
 use Rattle.std.specs.Prelude.{Bool, All, slice_get}
 use Rattle.std.specs.List.{cons_option, filter_map}
 use Rattle.std.proofs.lemmas.Bool.{cases_lt}
 use Rattle.std.proofs.lemmas.List.{reverse-append, reverse-reverse}
-use Rattle.std.proofs.lemmas.List.Elements.{All-head, All-tail, filter_map-append}
-use Rattle.pybuf_slice.specs.Picks.{picks}
-use Rattle.pybuf_slice.specs.Runs.{IsRisingFrom, rising, how_many}
+use Rattle.std.proofs.lemmas.List.Elements.{All-head, All-tail, All-same, filter_map-append}
+use Rattle.pybuf_index.specs.Parts.{SliceParts, picks_of}
+use Rattle.pybuf_index.specs.Runs.{rising, how_many, picks_in_span, span_start, span_end}
+use Rattle.pybuf_index.specs.Laws.{EachSpan, SpanPicksAre, SlicesHaveSpans}
 use Rattle.pybuf_slice.specs.Reads.{elements_at}
-use Rattle.pybuf_slice.specs.Edits.{has, off_from}
-use Rattle.pybuf_slice.specs.EditLaws.{marked_elements, unmarked_elements, SlicePartsList}
-use Rattle.pybuf_slice.proofs.StepLemmas.{falling, falling-is}
-use Rattle.pybuf_slice.proofs.SpanLemmas.{start_up, stop_up, start_down, stop_down, picks_up, picks_down}
-use Rattle.pybuf_slice.proofs.LawLemmas.{picks_are, how_many_below}
+use Rattle.pybuf_slice.specs.Edits.{has, off_from, elements_off, IsRisingFrom}
+use Rattle.pybuf_slice.specs.EditLaws.{marked_elements, unmarked_elements, AreParted, SlicePartsList}
+use Rattle.pybuf_slice.proofs.ReadLemmas.{below_end}
 use Rattle.pybuf_slice.proofs.EditLemmas.{has_head, has_other, has_below, rising_lower, has_reverse, all_reverse}
 
 -- for each element, whether its place is on the index list
@@ -105,56 +104,61 @@ read_reverse {X} items (i ∷ indices) =
     ∙ ap (λ (xs : List X). xs ++ cons_option (slice_get items i) []) (read_reverse items indices)
     ∙ sym (reverse_option (slice_get items i) (elements_at items indices))
 
--- a falling run is a rising one the other way round
-pub record Turned (indices : List ℕ) : Type 0 where
-  pub up : List ℕ
-  pub is : indices ≡ reverse up
-  pub rises : IsRisingFrom 0 up
+-- ---- both directions
 
-turned_fall : (count low top t : ℕ) → (0 < count → low + (count - 1) * suc t < top) → Turned (falling top (suc t) count)
-turned_fall zero low top t h = record { up = []; is = refl; rises = tt }
-turned_fall (suc count) low top t h =
-    let less : suc count - 1 ≡ count = omega arith in
-    let stays : low + count * suc t < top = rw less at (h (omega arith)) in
-    let least : ℕ = top - 1 - count * suc t in
-    let reach : top ≡ least + count * suc t + 1 = omega (arith, stays) in
+rising_from_zero : (count low t : ℕ) → IsRisingFrom 0 (rising low (suc t) count)
+rising_from_zero count low t = rising_lower (rising low (suc t) count) low 0 (omega arith) (rising_is count low t)
+
+-- indices that rise
+parted_rising : {X : Type 0} (items : List X) (low high t : ℕ) (indices : List ℕ) → IsRisingFrom 0 indices → All (λ i. (low ≤ i) × (i < high)) indices → high ≤ length items
+    → AreParted items (elements_at items indices) (elements_off items indices) (pos (suc t))
+parted_rising items low high t indices rises within inside = record {
+  marks = flags 0 items indices;
+  one_each = length-flags 0 items indices;
+  read_are = parted_up items indices rises (below_end (length items) low high indices inside within);
+  stay_are = off_unmarked 0 items indices;
+}
+
+-- the same indices, the last first
+parted_falling : {X : Type 0} (items : List X) (low high t : ℕ) (indices : List ℕ) → IsRisingFrom 0 indices → All (λ i. (low ≤ i) × (i < high)) (reverse indices) → high ≤ length items
+    → AreParted items (elements_at items (reverse indices)) (elements_off items (reverse indices)) (negsuc t)
+parted_falling {X} items low high t indices rises within inside =
+    let again = all_reverse (λ i. (low ≤ i) × (i < high)) (reverse indices) within in
+    let forward = rw (reverse-reverse indices) at again in
     record {
-      up = rising least (suc t) (suc count);
-      is = falling-is count least (suc t) top reach;
-      rises = rising_lower (rising least (suc t) (suc count)) least 0 (omega arith) (rising_is (suc count) least t);
+      marks = flags 0 items indices;
+      one_each = length-flags 0 items indices;
+      read_are = read_reverse items indices ∙ ap reverse (parted_up items indices rises (below_end (length items) low high indices inside forward));
+      stay_are = off_unmarked 0 items (reverse indices) ∙ ap (λ (bs : List Bool). unmarked_elements bs items) (flags_same 0 items (reverse indices) indices (λ q h. has_reverse indices q));
     }
 
-pub parted : {X : Type 0} (items : List X) (start stop : Option ℤ) (step : ℤ) → SlicePartsList items start stop step
-parted items start stop (pos zero) moves = absurd (moves refl)
-parted {X} items start stop (pos (suc t)) moves =
-    let n : ℕ = length items in
-    let a = start_up n t start in
-    let b = stop_up n t stop in
-    let list = picks_up n t a.at b.at start stop a.is b.is b.within in
-    let indices : List ℕ = rising a.at (suc t) (how_many a.at b.at (suc t)) in
-    let rises : IsRisingFrom 0 indices = rising_lower indices a.at 0 (omega arith) (rising_is (how_many a.at b.at (suc t)) a.at t) in
-    let inside = rw list at (picks_are n start stop (pos (suc t)) moves).inside in
-    rw list (record {
-      marks = flags 0 items indices;
-      one_each = length-flags 0 items indices;
-      read_are = parted_up items indices rises inside;
-      stay_are = off_unmarked 0 items indices;
-    })
-parted {X} items start stop (negsuc t) moves =
-    let n : ℕ = length items in
-    let a = start_down n t start in
-    let b = stop_down n t stop in
-    let list = picks_down n t a.top b.top start stop a.is b.is a.within in
-    let count : ℕ = how_many b.top a.top (suc t) in
-    let turned = turned_fall count b.top a.top t (λ some. how_many_below b.top a.top t (count - 1) (omega (arith, some))) in
-    let indices : List ℕ = turned.up in
-    let down : picks n start stop (negsuc t) ≡ reverse indices = list ∙ turned.is in
-    let inside = rw down at (picks_are n start stop (negsuc t) moves).inside in
-    let again = all_reverse (λ i. i < n) (reverse indices) inside in
-    let inside_up = rw (reverse-reverse indices) at again in
-    rw down (record {
-      marks = flags 0 items indices;
-      one_each = length-flags 0 items indices;
-      read_are = read_reverse items indices ∙ ap reverse (parted_up items indices turned.rises inside_up);
-      stay_are = off_unmarked 0 items (reverse indices) ∙ ap (λ (bs : List Bool). unmarked_elements bs items) (flags_same 0 items (reverse indices) indices (λ q h. has_reverse indices q));
-    })
+-- the indices of a span inside the list
+parted_span : {X : Type 0} (spans : EachSpan SpanPicksAre) (items : List X) (low high : ℕ) (step : ℤ) → step ≢ pos 0 → high ≤ length items
+    → AreParted items (elements_at items (picks_in_span low high step)) (elements_off items (picks_in_span low high step)) step
+parted_span spans items low high (pos zero) moves inside = absurd (moves refl)
+parted_span {X} spans items low high (pos (suc t)) moves inside =
+    let span = spans low high (pos (suc t)) moves in
+    let indices : List ℕ = rising low (suc t) (how_many low high (suc t)) in
+    let run : picks_in_span low high (pos (suc t)) ≡ indices = span.run in
+    let within = All-same (λ i. (low ≤ i) × (i < high)) indices (picks_in_span low high (pos (suc t))) (sym run) span.within in
+    subst (λ (picked : List ℕ). AreParted items (elements_at items picked) (elements_off items picked) (pos (suc t))) (sym run)
+    (parted_rising items low high t indices (rising_from_zero (how_many low high (suc t)) low t) within inside)
+parted_span {X} spans items low high (negsuc t) moves inside =
+    let span = spans low high (negsuc t) moves in
+    let count : ℕ = how_many low high (suc t) in
+    let least : ℕ = high - 1 - (count - 1) * suc t in
+    let indices : List ℕ = rising least (suc t) count in
+    let run : picks_in_span low high (negsuc t) ≡ reverse indices = span.run in
+    let within = All-same (λ i. (low ≤ i) × (i < high)) (reverse indices) (picks_in_span low high (negsuc t)) (sym run) span.within in
+    subst (λ (picked : List ℕ). AreParted items (elements_at items picked) (elements_off items picked) (negsuc t)) (sym run)
+    (parted_falling items low high t indices (rising_from_zero count least t) within inside)
+
+parted_parts : {X : Type 0} (spans : EachSpan SpanPicksAre) (slices : SlicesHaveSpans) (items : List X) (parts : SliceParts) → parts.step ≢ pos 0
+    → AreParted items (elements_at items (picks_of (length items) parts)) (elements_off items (picks_of (length items) parts)) parts.step
+parted_parts {X} spans slices items parts moves =
+    let span = slices (length items) parts moves in
+    subst (λ (picked : List ℕ). AreParted items (elements_at items picked) (elements_off items picked) parts.step) span.same
+    (parted_span spans items (span_start (length items) parts) (span_end (length items) parts) parts.step moves span.inside)
+
+pub parted : {X : Type 0} (spans : EachSpan SpanPicksAre) (slices : SlicesHaveSpans) (items : List X) (start stop : Option ℤ) (step : ℤ) → SlicePartsList items start stop step
+parted spans slices items start stop step moves = parted_parts spans slices items (record { start = start; stop = stop; step = step }) moves

@@ -1,8 +1,8 @@
 -- What edits by slices do, beside their definitions.
 use Rattle.std.specs.Prelude.{◌≡◌, ◌≢◌, ℤ, pos, Bool, List, [], ◌∷◌, length, reverse, Option, if◌then◌else◌}
-use Rattle.pybuf_slice.specs.Picks.{is_negative, picks}
+use Rattle.pybuf_index.specs.Picks.{is_negative, picks}
+use Rattle.pybuf_index.specs.Parts.{SliceParts, picks_of}
 use Rattle.pybuf_slice.specs.Reads.{elements_at}
-use Rattle.pybuf_slice.specs.Parts.{SliceParts, picks_of}
 use Rattle.pybuf_slice.specs.Edits.{elements_off, assigned_list}
 
 -- the elements that are marked, in order

@@ -1,13 +1,13 @@
 -- Edits of lists.
-use Rattle.std.specs.Prelude.{◌≡◌, ℕ, zero, suc, ◌*◌, ◌^◌, ◌==◌, Bool, true, false, ℤ, pos, negsuc, List, [], ◌∷◌, ◌++◌, length, take, drop, slice_set, nat_lt, if◌then◌else◌, Option, None, Some, Result, Ok, Err}
+use Rattle.std.specs.Prelude.{◌≡◌, ⊤, ℕ, zero, suc, ◌*◌, ◌^◌, ◌==◌, ◌≤◌, Bool, true, false, ℤ, pos, negsuc, List, [], ◌∷◌, ◌++◌, length, take, drop, slice_set, nat_lt, if◌then◌else◌, Option, None, Some, Result, Ok, Err}
 use Rattle.std.specs.List.{AllZip}
 use Rattle.std.specs.Global.{Vec}
 use Rattle.pybuf_value.specs.declared.faults.Fault.{Fault}
 use Rattle.pybuf_value.specs.declared.faults.Fault.TheVariants as fault
 use Rattle.pybuf_value.specs.declared.faults.Outcome.{Outcome}
 use Rattle.pybuf_value.specs.declared.faults.Outcome.TheVariants as outcome
-use Rattle.pybuf_slice.specs.Parts.{SliceParts, picks_of}
-use Rattle.pybuf_slice.specs.Runs.{span_start, span_end}
+use Rattle.pybuf_index.specs.Parts.{SliceParts, picks_of}
+use Rattle.pybuf_index.specs.Runs.{span_start, span_end}
 
 -- other elements in place of those of a range
 abbrev pub replaced_range : {X : Type 0} → List X → ℕ → ℕ → List X → List X
@@ -32,6 +32,11 @@ off_from place (x ∷ items) indices = if has indices place then off_from (suc p
 -- the elements whose places are off an index list, in order
 abbrev pub elements_off : {X : Type 0} → List X → List ℕ → List X
 elements_off items indices = off_from 0 items indices
+
+-- each number is above the one before it, and none below the first bound
+abbrev pub IsRisingFrom : ℕ → List ℕ → Type 0
+IsRisingFrom n [] = ⊤
+IsRisingFrom n (i ∷ indices) = (n ≤ i) × IsRisingFrom (suc i) indices
 
 -- the list so many times, one after another
 abbrev pub repeated_list : {X : Type 0} → ℕ → List X → List X

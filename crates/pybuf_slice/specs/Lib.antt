@@ -1,11 +1,3 @@
-pub mod Picks
-pub mod Parts
-pub mod Runs
-pub mod Places
-pub mod Indices
-pub mod Laws
 pub mod Reads
 pub mod Edits
 pub mod EditLaws
-pub mod Compared
-pub mod Lanes

@@ -1,11 +1,11 @@
 -- What is read of a sequence.
-use Rattle.std.specs.Prelude.{◌≡◌, ℕ, ℤ, pos, neg_ℤ, Bool, true, false, List, length, Option, None, Some, slice_get}
+use Rattle.std.specs.Prelude.{◌≡◌, ℕ, ℤ, List, length, Option, None, Some, slice_get}
 use Rattle.std.specs.List.{filter_map}
 use Rattle.std.specs.Option.{option_and_then}
 use Rattle.pybuf_value.specs.declared.faults.Fault.TheVariants as fault
 use Rattle.pybuf_value.specs.declared.faults.Outcome.{Outcome}
 use Rattle.pybuf_value.specs.declared.faults.Outcome.TheVariants as outcome
-use Rattle.pybuf_slice.specs.Places.{item_place}
+use Rattle.pybuf_index.specs.Places.{item_place}
 
 -- the elements at the indices, in their order
 abbrev pub elements_at : {X : Type 0} → List X → List ℕ → List X
@@ -26,8 +26,3 @@ SameOutcome R (outcome.Refused e) (outcome.Refused f) = f ≡ e
 SameOutcome R (outcome.Done x) (outcome.Done y) = R x y
 SameOutcome R (outcome.Refused e) (outcome.Done y) = ⊥
 SameOutcome R (outcome.Done x) (outcome.Refused f) = ⊥
-
--- a step of this size, up or down
-abbrev pub signed_step : Bool → ℕ → ℤ
-signed_step false size = pos size
-signed_step true size = neg_ℤ (pos size)

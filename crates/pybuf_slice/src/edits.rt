@@ -3,15 +3,12 @@
 ghost use Rattle.std.specs.Prelude.{◌≡◌, ◌+◌, ◌<◌, ◌≤◌, ◌^◌, ℕ, List, [], ◌∷◌, length, All, IfOk, OnOk, OnErr, Result, Option};
 ghost use Rattle.std.specs.List.{AllZip};
 ghost use Rattle.std.specs.List.Sorted.{IsStrictlyIncreasing};
-ghost use Rattle.pybuf_slice.specs.Parts.{SliceParts, picks_of};
-ghost use Rattle.pybuf_slice.specs.Places.{item_place};
-ghost use Rattle.pybuf_slice.specs.Edits.{replaced_range, elements_off, named_or_index_error, deleted_if_named, assign_answer, assigned_list, has, MatchOutcome};
-ghost use Rattle.pybuf_slice.specs.Runs.{IsRisingFrom};
+ghost use Rattle.pybuf_index.specs.Parts.{SliceParts, picks_of};
+ghost use Rattle.pybuf_index.specs.Places.{item_place};
+ghost use Rattle.pybuf_slice.specs.Edits.{replaced_range, elements_off, named_or_index_error, deleted_if_named, assign_answer, assigned_list, has, IsRisingFrom, MatchOutcome};
 
-use crate::iter::SaturatedSliceIter;
-use crate::keys::SequenceIndexOp;
-use crate::saturated::SaturatedSlice;
 use crate::slices;
+use pybuf_index::{SaturatedSlice, SaturatedSliceIter, indices_of_a_span};
 use pybuf_value::{Fault, Made, Outcome, Tried, Twin, copy_all};
 use std::alloc::Global;
 use std::ops::Range;
@@ -201,6 +198,7 @@ pub fn close_up<T: Twin>(items: &mut [T], slice: SaturatedSlice) -> Range<usize>
     ensures inside { result.end ≤ length items.old }
     ensures length { length items.new ≡ length items.old }
 {
+    indices_of_a_span();
     let (range, step, count) = slice.adjust_indices(items.len());
     if step == 1 || step == -1 {
         return range;

@@ -1,13 +1,13 @@
 //! Reading a sequence by indices.
 ghost use Rattle.std.specs.Prelude.{◌≡◌, ◌<◌, ◌≤◌, ◌^◌, ℕ, ℤ, List, [], length, reverse, IfOk, OnErr, IsSome, IsSomeAnd, true, false, slice_get, slice_range};
-ghost use Rattle.pybuf_slice.specs.Parts.{SliceParts, picks_of};
-ghost use Rattle.pybuf_slice.specs.Places.{saturated_place, item_place};
-ghost use Rattle.pybuf_slice.specs.Runs.{picks_in_span};
+ghost use Rattle.pybuf_index.specs.Parts.{SliceParts, picks_of};
+ghost use Rattle.pybuf_index.specs.Places.{saturated_place, item_place};
+ghost use Rattle.pybuf_index.specs.Runs.{picks_in_span, signed_step};
 ghost use Rattle.std.specs.List.{AllZip};
-ghost use Rattle.pybuf_slice.specs.Reads.{elements_at, item_at, signed_step, SameOutcome};
+ghost use Rattle.pybuf_slice.specs.Reads.{elements_at, item_at, SameOutcome};
 
-use crate::saturated::SaturatedSlice;
 use crate::slices;
+use pybuf_index::SaturatedSlice;
 use pybuf_value::{Made, Tried, Twin};
 use std::alloc::Global;
 use std::ops::Range;

@@ -2,15 +2,15 @@
 ghost use Rattle.std.specs.Prelude.{◌≡◌, ◌≢◌, ◌<◌, ◌≤◌, ◌^◌, ℕ, List, [], length, reverse, All, IfOk, OnOk, OnErr, IsSome, IsSomeAnd, true, false, pos, slice_get, slice_set, slice_range, Result, Option};
 ghost use Rattle.pybuf_value.specs.declared.faults.Fault.TheVariants as fault;
 ghost use Rattle.pybuf_slice.specs.Edits.{set_at, set_if_named, named_or_index_error, done_if_equal, assigned_list, MatchOutcome};
-ghost use Rattle.pybuf_slice.specs.Parts.{SliceParts, picks_of};
-ghost use Rattle.pybuf_slice.specs.Places.{saturated_place, item_place};
-ghost use Rattle.pybuf_slice.specs.Runs.{picks_in_span};
+ghost use Rattle.pybuf_index.specs.Parts.{SliceParts, picks_of};
+ghost use Rattle.pybuf_index.specs.Places.{saturated_place, item_place};
+ghost use Rattle.pybuf_index.specs.Runs.{picks_in_span, signed_step};
 ghost use Rattle.std.specs.List.{AllZip};
-ghost use Rattle.pybuf_slice.specs.Reads.{elements_at, item_at, signed_step, SameOutcome};
+ghost use Rattle.pybuf_slice.specs.Reads.{elements_at, item_at, SameOutcome};
 
-use crate::iter::SaturatedSliceIter;
-use crate::keys::SequenceIndexOp;
-use crate::saturated::SaturatedSlice;
+use pybuf_index::{
+    SaturatedSlice, SaturatedSliceIter, SequenceIndexOp, indices_of_a_slice, indices_of_a_span,
+};
 use pybuf_value::{Fault, Made, Outcome, Tried, Twin, copy_all};
 use std::alloc::Global;
 use std::ops::Range;
@@ -56,6 +56,7 @@ pub fn do_stepped_slice<T: Twin>(
     requires moves { 0 < step }
     ensures { IfOk result (λ list. AllZip T.same (elements_at items.now (picks_in_span range.start range.end (signed_step false step))) list.items) }
 {
+    indices_of_a_span();
     gather(
         alloc,
         items,
@@ -76,6 +77,7 @@ pub fn do_stepped_slice_reverse<T: Twin>(
     requires moves { 0 < step }
     ensures { IfOk result (λ list. AllZip T.same (elements_at items.now (picks_in_span range.start range.end (signed_step true step))) list.items) }
 {
+    indices_of_a_span();
     gather(alloc, items, SaturatedSliceIter::in_span(range, step, true))
 }
 
@@ -114,6 +116,8 @@ pub fn getitem_by_slice<T: Twin>(alloc: Global, items: &[T], slice: SaturatedSli
     requires { length items.now < 2 ^ 63 }
     ensures { IfOk result (λ list. AllZip T.same (elements_at items.now (picks_of (length items.now) slice)) list.items) }
 {
+    indices_of_a_slice();
+    indices_of_a_span();
     let (range, step, _) = slice.adjust_indices(items.len());
     if step == 1 {
         return do_slice(alloc, items, range);
@@ -219,6 +223,7 @@ pub fn setitem_by_slice_no_resize<T: Twin>(
     ensures change { IfOk result (λ outcome. MatchOutcome outcome ((copies : List T) × AllZip T.same items.now copies × (places.new ≡ assigned_list places.old slice copies)) (places.new ≡ places.old)) }
     ensures memory { OnErr result (places.new ≡ places.old) }
 {
+    indices_of_a_span();
     let (range, step, count) = slice.adjust_indices(places.len());
     if step != 1 {
         return set_extended(alloc, places, slice, items, count, Fault::Buffer);
@@ -246,6 +251,7 @@ pub(crate) fn set_extended<T: Twin>(
     ensures change { IfOk result (λ outcome. MatchOutcome outcome ((copies : List T) × AllZip T.same items.now copies × (places.new ≡ set_at places.old (picks_of (length places.old) slice) copies)) (places.new ≡ places.old)) }
     ensures memory { OnErr result (places.new ≡ places.old) }
 {
+    indices_of_a_slice();
     if count != items.len() {
         return Ok(Outcome::Refused(refusal));
     }

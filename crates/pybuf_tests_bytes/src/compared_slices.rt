@@ -1,5 +1,5 @@
 //! Slices compared, as texts and hashed, with ample memory. The expected values are Python's.
-use pybuf_slice::{SliceIndices, hash_of_lanes};
+use pybuf_index::{SliceIndices, hash_of_lanes};
 use pybuf_value::{ByteList, CompareOp, Fault, PySlice, Scalar, Text};
 use std::alloc::Global;
 use std::test::Fail;

@@ -8,7 +8,7 @@ ghost use Rattle.std.specs.Prelude.{◌≡◌, [], ◌∷◌, IfOk};
 ghost use Rattle.pybuf_desc.specs.Descriptor.{shape_of};
 
 use pybuf_desc::BufferDescriptor;
-use pybuf_slice::SaturatedSlice;
+use pybuf_index::SaturatedSlice;
 use pybuf_value::{DimList, Fault, Made, PySlice, Scalar, Text, Twin};
 use std::alloc::Global;
 use std::test::Fail;

@@ -4,10 +4,10 @@ use Rattle.std.specs.Prelude.{FitsSigned, reverse}
 use Rattle.std.proofs.lemmas.Int.{to_z-of_z}
 use Rattle.std.specs.Int.{w64}
 use Rattle.std.proofs.lemmas.List.Elements.{All-same}
-use Rattle.pybuf_slice.specs.Parts.{picks_of}
-use Rattle.pybuf_slice.specs.Runs.{picks_in_span}
+use Rattle.pybuf_index.specs.Parts.{picks_of}
+use Rattle.pybuf_index.specs.Runs.{picks_in_span}
 use Rattle.pybuf_slice.specs.Edits.{elements_off}
-use Rattle.pybuf_slice.proofs.LawLemmas.{span_within, one_from_bits, less_one_from_bits}
+use Rattle.pybuf_slice.proofs.ReadLemmas.{one_from_bits, less_one_from_bits}
 use Rattle.pybuf_slice.proofs.EditLemmas.{off_range, off_same, has_reverse, all_reverse}
 use Rattle.pybuf_slice.proofs.edits.close_up.Goals as goal
 use Rattle.pybuf_slice.proofs.edits.close_up.Goals.{then-step-eq1-via-then-step-eq1, then-step-eq1-via-else-step-eq1+then-step}
@@ -23,7 +23,7 @@ returns-then-step-eq1-clause-list g c =
       | then-step-eq1-via-else-step-eq1+then-step w ↦
           inr (adjusted_part.step ∙ less_one_from_bits c.args.slice.step adjusted_part.saturated.step (ap (of_z w64) (sym adjusted_part.step) ∙ w.if-step.true))
     ] in
-    off_range c.args.items.now c.adjust_indices-step.result.0.start c.adjust_indices-step.result.0.end step whole adjusted_part.ordered adjusted_part.within
+    off_range c.indices_of_a_span.ensures c.args.items.now c.adjust_indices-step.result.0.start c.adjust_indices-step.result.0.end step whole adjusted_part.ordered adjusted_part.within
     ∙ ap (elements_off c.args.items.now) adjusted_part.picks
 
 pub close_up_indexes-kept-requires-clause-within : goal.close_up_indexes-kept-requires-clause-within
@@ -33,7 +33,7 @@ close_up_indexes-kept-requires-clause-within g c =
     let high = c.adjust_indices-step.result.0.end in
     let step = c.adjust_indices-step.result.1 in
     let moves : step ≢ pos 0 = λ e. adjusted_part.saturated.moves (sym adjusted_part.step ∙ e) in
-    let inside = span_within low high step moves in
+    let inside = (c.indices_of_a_span.ensures low high step moves).within in
     let fits : FitsSigned w64 step = rw adjusted_part.step adjusted_part.saturated.step in
     let from : c.from_adjust_indices-indexes.result ≡ picks_in_span low high step = c.from_adjust_indices-indexes.ensures ∙ ap (picks_in_span low high) (to_z-of_z w64 step fits) in
     elim c.positive_order.ensures.same [

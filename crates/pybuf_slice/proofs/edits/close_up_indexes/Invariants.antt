@@ -1,6 +1,5 @@
 use Rattle.std.proofs.Common.{◌≡◌, ◌<◌, ◌≤◌, ℕ, ◌∷◌, length, take, drop}
-use Rattle.pybuf_slice.specs.Edits.{has, elements_off}
-use Rattle.pybuf_slice.specs.Runs.{IsRisingFrom}
+use Rattle.pybuf_slice.specs.Edits.{has, elements_off, IsRisingFrom}
 use Rattle.pybuf_slice.proofs.edits.close_up_indexes.Given as goal
 
 abbrev pub invariant-loop-place : goal.invariant-loop-place

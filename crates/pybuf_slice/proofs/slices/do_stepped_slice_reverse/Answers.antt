@@ -1,9 +1,9 @@
 -- The indices of a range inside the sequence are places of elements.
 use Rattle.std.proofs.Common.{true, length}
-use Rattle.pybuf_slice.proofs.LawLemmas.{stride_inside}
+use Rattle.pybuf_slice.proofs.ReadLemmas.{stride_inside}
 use Rattle.pybuf_slice.proofs.slices.do_stepped_slice_reverse.Goals as goal
 
 pub gather-requires : goal.gather-requires
 gather-requires g c =
     rw c.in_span.ensures
-    (stride_inside (length c.args.items.now) c.args.range.start c.args.range.end c.args.step true c.requires.moves c.requires.inside)
+    (stride_inside c.indices_of_a_span.ensures (length c.args.items.now) c.args.range.start c.args.range.end c.args.step true c.requires.moves c.requires.inside)

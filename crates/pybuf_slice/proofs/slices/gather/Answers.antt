@@ -3,7 +3,7 @@ use Rattle.std.proofs.Common.{[], ◌∷◌, ◌++◌, List, length, refl, subst
 use Rattle.std.specs.List.{AllZip}
 use Rattle.std.proofs.lemmas.List.Elements.{AllZip-push}
 use Rattle.pybuf_slice.specs.Reads.{elements_at}
-use Rattle.pybuf_slice.proofs.LawLemmas.{gather_step, first_inside, rest_inside}
+use Rattle.pybuf_slice.proofs.ReadLemmas.{gather_step, first_inside, rest_inside}
 use Rattle.pybuf_slice.proofs.slices.gather.Goals as goal
 
 pub loop-index-init : goal.loop-index-init

@@ -2,7 +2,7 @@
 use Rattle.std.proofs.Common.{◌∷◌, List, ℕ, length, ap, sym, ◌∙◌, arith, length-set}
 use Rattle.std.specs.Vec.Iter.{into_iter_items}
 use Rattle.pybuf_slice.specs.Edits.{set_at}
-use Rattle.pybuf_slice.proofs.LawLemmas.{rest_inside}
+use Rattle.pybuf_slice.proofs.ReadLemmas.{rest_inside}
 use Rattle.pybuf_slice.proofs.slices.scatter.Goals as goal
 
 pub loop-index-preserved-in-Some-next : goal.loop-index-preserved-in-Some-next

@@ -1,5 +1,5 @@
 use Rattle.std.proofs.Common.{rules, arith, ◌≡◌, ◌<◌, ◌^◌, ◌*◌, pos, ◌+ℤ◌, ◌*ℤ◌, ◌≤ℤ◌, ◌<ℤ◌, SFits, w64, sym, ap, ◌∙◌, subst, pos_of_ne-zero}
-use Rattle.pybuf_slice.specs.Parts.{nearest_word}
+use Rattle.pybuf_index.specs.Parts.{nearest_word}
 use Rattle.pybuf_desc.specs.Places.{Stands}
 use Rattle.pybuf_desc.specs.Valid.{IsValid}
 use Rattle.pybuf_desc.specs.Slices.{slice_of}

@@ -1,0 +1,4 @@
+pub mod StepLemmas
+pub mod SpanLemmas
+pub mod LawLemmas
+pub mod PartLemmas

@@ -1,0 +1,34 @@
+//! What holds of the indices of every slice, and of every span.
+ghost use Rattle.std.specs.Prelude.{ℕ};
+ghost use Rattle.pybuf_value.specs.declared.values.PySlice.{PySlice};
+ghost use Rattle.pybuf_index.specs.Laws.{EachSlice, PicksAre, SameWhenClamped, IndicesAgree, EachSpan, SpanPicksAre, SlicesHaveSpans};
+
+/// The indices of a slice are exactly the numbers that lie so many steps from its start and before
+/// its stop, each is the place of an item, and they rise or fall strictly with the step.
+pub fn indices_of_a_slice()
+    ensures { EachSlice PicksAre }
+{}
+
+/// In a sequence of at most `isize::MAX` items, a slice has the same indices where each of its
+/// parts is at the nearest `isize`.
+pub fn clamping_changes_no_index()
+    ensures { EachSlice SameWhenClamped }
+{}
+
+/// In a sequence of at most `isize::MAX` items, the start, stop and step that
+/// `SliceIndices::indices` gives lead to the very indices that a `SaturatedSlice` of the same slice
+/// has, whose number `adjust_indices` gives.
+pub fn indices_and_adjust_indices_agree()
+    ensures { (slice : PySlice) (n : ℕ) → IndicesAgree slice n }
+{}
+
+/// The indices of a span are a run of numbers one stride apart, from its first place up or, where the
+/// step is negative, from its last one down, and each lies in the span.
+pub fn indices_of_a_span()
+    ensures { EachSpan SpanPicksAre }
+{}
+
+/// The span of a slice lies in the sequence, and its indices are those of the slice.
+pub fn slices_have_spans()
+    ensures { SlicesHaveSpans }
+{}

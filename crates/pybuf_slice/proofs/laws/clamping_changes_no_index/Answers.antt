@@ -1,5 +1,0 @@
-use Rattle.pybuf_slice.proofs.LawLemmas.{same_when_clamped}
-use Rattle.pybuf_slice.proofs.laws.clamping_changes_no_index.Goals as goal
-
-pub returns : goal.returns
-returns c = same_when_clamped

@@ -1,5 +1,0 @@
-use Rattle.pybuf_slice.proofs.PartLemmas.{indices_agree}
-use Rattle.pybuf_slice.proofs.laws.indices_and_adjust_indices_agree.Goals as goal
-
-pub returns : goal.returns
-returns c = indices_agree
