@@ -5,7 +5,7 @@ ghost use Rattle.pybuf_value.specs.declared.faults.Outcome.TheVariants as outcom
 ghost use Rattle.pybuf_methods.specs.Given as spec;
 ghost use Rattle.pybuf_methods.specs.Given.{IsStopped};
 
-use pybuf_value::{Fault, Halt, Outcome, Scalar, Tried, Value, fit_count, index_of, text_in};
+use pybuf_value::{Fault, Halt, Outcome, Scalar, Tried, Value, count_in, index_of, text_in};
 
 /// What an answer is, where it is neither refused nor wanting memory.
 pub(crate) fn done<T>(answer: Tried<T>) -> Result<T, Halt>
@@ -108,15 +108,7 @@ pub(crate) fn one_to_three(
     }
 }
 
-/// A number that fits `isize`.
-pub(crate) fn count_in(value: &Value) -> Result<isize, Fault>
-    ensures { result ≡ spec.count_in value.now }
-{
-    let number = index_of(value)?;
-    fit_count(number)
-}
-
-/// The same, and a number where none is given.
+/// A number that fits `isize`, and another where none is given.
 pub fn count_or(absent: isize, value: Option<&Value>) -> Result<isize, Fault>
     ensures { result ≡ spec.count_or absent (option_copied value.entry) }
 {

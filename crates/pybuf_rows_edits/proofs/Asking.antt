@@ -8,7 +8,7 @@ use Rattle.pybuf_value.specs.declared.values.Value.{Value}
 use Rattle.pybuf_value.specs.declared.values.Value.TheVariants as value
 use Rattle.pybuf_value.specs.declared.values.PySlice.{PySlice}
 use Rattle.pybuf_value.specs.Refusing.{◌>>=◌, unless}
-use Rattle.pybuf_value.specs.Numbers.{byte_in}
+use Rattle.pybuf_value.specs.Numbers.{count_in, byte_in}
 use Rattle.pybuf_value.specs.Snaps.{bytes_in}
 use Rattle.pybuf_slice.specs.Places.{item_place}
 use Rattle.pybuf_slice.specs.Parts.{SliceParts, saturated_parts_of, picks_of}
@@ -23,7 +23,7 @@ use Rattle.pybuf_state.specs.Exporter.{Exporter}
 use Rattle.pybuf_state.specs.Keeps.{is_vector}
 use Rattle.pybuf_state.specs.Resizing.{has_exports, resizable}
 use Rattle.pybuf_state.specs.Loans.{Lent, snaps_of}
-use Rattle.pybuf_rows_edits.specs.Common.{with_bytes, of_byte_array, count_in, is_itself}
+use Rattle.pybuf_rows_edits.specs.Common.{with_bytes, of_byte_array, is_itself}
 use Rattle.pybuf_rows_edits.specs.Growing.{appended, inserted, repeated, repeated_unless_empty, multiplied, extended, extended_or_doubled, lent_bytes, added}
 use Rattle.pybuf_rows_edits.specs.Shrinking.{count_or_last, popped, removed, cleared, byte_deleted, slice_deleted, deleted, taken}
 use Rattle.pybuf_rows_edits.specs.Replacing.{assigned, slice_set, initialized}

@@ -10,7 +10,7 @@ use Rattle.pybuf_value.specs.declared.values.Value.{Value}
 use Rattle.pybuf_value.specs.declared.values.Value.TheVariants as value
 use Rattle.pybuf_value.specs.declared.values.PySlice.{PySlice}
 use Rattle.pybuf_value.specs.Refusing.{◌>>=◌, unless, IfDone, done_bind}
-use Rattle.pybuf_value.specs.Numbers.{byte_in}
+use Rattle.pybuf_value.specs.Numbers.{count_in, byte_in}
 use Rattle.pybuf_value.specs.Snaps.{bytes_in}
 use Rattle.pybuf_slice.specs.Parts.{SliceParts, saturated_parts_of, picks_of}
 use Rattle.pybuf_slice.specs.Edits.{is_one, times, assigned_list}
@@ -31,7 +31,7 @@ use Rattle.pybuf_state.specs.Laws.{ReadingKeeps, WritingKeeps, ResizingKeeps, Em
 use Rattle.pybuf_state.specs.Resizing.{has_exports, resizable}
 use Rattle.pybuf_state.specs.Loans.{Lent, snaps_of}
 use Rattle.pybuf_state.specs.Snaps.{snap_of_exporter}
-use Rattle.pybuf_rows_edits.specs.Common.{with_bytes, of_byte_array, count_in, is_itself}
+use Rattle.pybuf_rows_edits.specs.Common.{with_bytes, of_byte_array, is_itself}
 use Rattle.pybuf_rows_edits.specs.Growing.{appended, inserted, repeated, repeated_unless_empty, multiplied, extended, extended_or_doubled, lent_bytes, added}
 use Rattle.pybuf_rows_edits.specs.Shrinking.{count_or_last, popped, removed, cleared, byte_deleted, slice_deleted, deleted, taken, take_of_own}
 use Rattle.pybuf_rows_edits.specs.Replacing.{slice_set, initialized}

@@ -5,7 +5,7 @@ use Rattle.pybuf_value.specs.declared.faults.Fault.TheVariants as fault
 use Rattle.pybuf_value.specs.declared.values.Value.{Value}
 use Rattle.pybuf_value.specs.declared.values.Value.TheVariants as value
 use Rattle.pybuf_value.specs.Refusing.{◌>>=◌, unless}
-use Rattle.pybuf_value.specs.Numbers.{byte_in}
+use Rattle.pybuf_value.specs.Numbers.{count_in, byte_in}
 use Rattle.pybuf_value.specs.Snaps.{bytes_in}
 use Rattle.pybuf_slice.specs.Parts.{saturated_parts_of, picks_of}
 use Rattle.pybuf_slice.specs.Edits.{is_one}
@@ -16,7 +16,7 @@ use Rattle.pybuf_memoryview.specs.Items.{index_in}
 use Rattle.pybuf_state.specs.Exporter.{Exporter}
 use Rattle.pybuf_state.specs.Keeps.{is_vector}
 use Rattle.pybuf_state.specs.Loans.{Lent, snaps_of}
-use Rattle.pybuf_rows_edits.specs.Common.{of_byte_array, count_in, is_itself}
+use Rattle.pybuf_rows_edits.specs.Common.{of_byte_array, is_itself}
 use Rattle.pybuf_rows_edits.specs.Growing.{lent_bytes}
 use Rattle.pybuf_rows_edits.specs.Shrinking.{count_or_last}
 

@@ -7,7 +7,7 @@ use Rattle.pybuf_value.specs.declared.snaps.Snap.{Snap}
 use Rattle.pybuf_value.specs.declared.values.Value.{Value}
 use Rattle.pybuf_value.specs.declared.values.Value.TheVariants as value
 use Rattle.pybuf_value.specs.Refusing.{◌>>=◌, unless}
-use Rattle.pybuf_value.specs.Numbers.{byte_in}
+use Rattle.pybuf_value.specs.Numbers.{count_in, byte_in}
 use Rattle.pybuf_value.specs.Snaps.{bytes_in, bytes_like}
 use Rattle.pybuf_slice.specs.Places.{saturated_place}
 use Rattle.pybuf_slice.specs.Edits.{replaced_range, repeated_list, times, is_one}
@@ -16,7 +16,7 @@ use Rattle.pybuf_command.specs.declared.commands.LocalReply.TheVariants as reply
 use Rattle.pybuf_state.specs.Exporter.{Exporter}
 use Rattle.pybuf_state.specs.Resizing.{resizable}
 use Rattle.pybuf_state.specs.Loans.{Lent, snaps_of}
-use Rattle.pybuf_rows_edits.specs.Common.{with_bytes, of_byte_array, count_in, is_itself}
+use Rattle.pybuf_rows_edits.specs.Common.{with_bytes, of_byte_array, is_itself}
 
 -- ---- `append`: a byte at the end
 

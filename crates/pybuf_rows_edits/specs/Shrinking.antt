@@ -7,7 +7,7 @@ use Rattle.pybuf_value.specs.declared.values.PySlice.{PySlice}
 use Rattle.pybuf_value.specs.declared.values.Value.{Value}
 use Rattle.pybuf_value.specs.declared.values.Value.TheVariants as value
 use Rattle.pybuf_value.specs.Refusing.{◌>>=◌, unless}
-use Rattle.pybuf_value.specs.Numbers.{byte_in}
+use Rattle.pybuf_value.specs.Numbers.{count_in, byte_in}
 use Rattle.pybuf_slice.specs.Parts.{saturated_parts_of, picks_of}
 use Rattle.pybuf_slice.specs.Edits.{replaced_range, elements_off}
 use Rattle.pybuf_command.specs.declared.commands.LocalReply.{LocalReply}
@@ -16,7 +16,7 @@ use Rattle.pybuf_memoryview.specs.Items.{index_in, entry_in, byte_item}
 use Rattle.pybuf_state.specs.Exporter.{Exporter, live_layout}
 use Rattle.pybuf_state.specs.Keeps.{is_vector}
 use Rattle.pybuf_state.specs.Resizing.{resizable}
-use Rattle.pybuf_rows_edits.specs.Common.{with_bytes, of_byte_array, count_in}
+use Rattle.pybuf_rows_edits.specs.Common.{with_bytes, of_byte_array}
 
 -- the bytes without the one at a place
 abbrev pub without : List ℕ → ℕ → List ℕ

@@ -1,7 +1,6 @@
 //! The edits of a bytearray.
 #![tactic(auto)]
 
-mod counts;
 mod growing;
 mod laws;
 mod pick;

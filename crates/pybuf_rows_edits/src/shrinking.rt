@@ -5,13 +5,12 @@ ghost use Rattle.pybuf_state.specs.Exporter.{exports_of};
 ghost use Rattle.pybuf_state.specs.Answers.{exporter_of, IsWhole, Answers};
 ghost use Rattle.pybuf_rows_edits.specs.Shrinking as spec;
 
-use crate::counts::count_in;
 use bstr::ByteSlice;
 use pybuf_command::{ExporterKind, LocalReply};
 use pybuf_memoryview::{byte_item, entry_in, index_in};
 use pybuf_slice::{SaturatedSlice, close_up};
 use pybuf_state::Parts;
-use pybuf_value::{ByteList, Fault, Halt, PySlice, Value, value_from_object};
+use pybuf_value::{ByteList, Fault, Halt, PySlice, Value, count_in, value_from_object};
 
 /// The number of an index, which is that of the last byte where none is given.
 fn count_or_last(index: &Option<Value>) -> Result<isize, Fault>

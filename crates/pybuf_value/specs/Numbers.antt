@@ -28,6 +28,12 @@ is_word (negsuc n) = nat_lt n (2 ^ 63)
 abbrev pub fitted_number : Fault → ℤ → Result ℤ Fault
 fitted_number f n = if is_word n then Ok n else Err f
 
+-- a number that must fit a word
+abbrev pub count_in : Value → Result ℤ Fault
+count_in v = do
+  n ← number_of v
+  fitted_number fault.Overflow n
+
 -- a number from 0 to 255
 abbrev pub byte_of : ℤ → Result ℕ Fault
 byte_of (pos n) = if nat_lt n 256 then Ok n else Err fault.Value

@@ -2,7 +2,7 @@
 ghost use Rattle.std.specs.Prelude.{◌≡◌, ◌↔◌, ℕ, Result, IsOk, FitsSigned};
 ghost use Rattle.std.specs.Int.{w64, saturate_signed};
 ghost use Rattle.pybuf_value.specs.declared.faults.Fault.{Fault};
-ghost use Rattle.pybuf_value.specs.Numbers.{number_in, number_of, fitted_number, byte_of, byte_in};
+ghost use Rattle.pybuf_value.specs.Numbers.{number_in, number_of, fitted_number, count_in, byte_of, byte_in};
 
 use crate::faults::Fault;
 use crate::values::{Scalar, Value};
@@ -60,6 +60,17 @@ pub fn fit_count(number: i128) -> Result<isize, Fault>
         return Err(Fault::Overflow);
     }
     Ok(number as isize)
+}
+
+/// The number of a value, as a count.
+///
+/// Refused with `TypeError` where the value is no number, and then with `OverflowError` where the number
+/// doesn't fit `isize`.
+pub fn count_in(value: &Value) -> Result<isize, Fault>
+    ensures { result ≡ count_in value.now }
+{
+    let number = index_of(value)?;
+    fit_count(number)
 }
 
 /// The `isize` that is nearest to the number.
