@@ -12,7 +12,7 @@ use Rattle.pybuf_value.specs.declared.values.Scalar.TheVariants as scalar
 use Rattle.pybuf_value.specs.declared.values.Value.{Value}
 use Rattle.pybuf_value.specs.declared.values.Value.TheVariants as value
 use Rattle.pybuf_value.specs.Refusing.{◌>>=◌}
-use Rattle.pybuf_value.specs.Numbers.{number_of, count_in}
+use Rattle.pybuf_value.specs.Numbers.{number_of}
 use Rattle.pybuf_value.specs.Snaps.{bytes_in, bytes_like, bytes_alone}
 use Rattle.pybuf_value.specs.Texts.{text_in}
 
@@ -65,11 +65,6 @@ one_to_three (a ∷ b ∷ c ∷ []) = Ok (a, Some b, Some c)
 one_to_three _ = Err fault.Kind
 
 -- ---- what each stands for
-
--- a number that fits `isize`, and another where none is given
-abbrev pub count_or : ℤ → Option Value → Result ℤ Fault
-count_or absent None = Ok absent
-count_or absent (Some v) = count_in v
 
 -- a bound: `None` is no bound
 abbrev pub bound_in : Value → Result (Option ℤ) Fault

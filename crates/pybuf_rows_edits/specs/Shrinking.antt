@@ -1,5 +1,5 @@
 -- Edits that take bytes out. While a view is unreleased each is refused with `BufferError`.
-use Rattle.std.specs.Prelude.{ℕ, ◌+◌, ◌==◌, not, ℤ, negsuc, List, [], length, nat_lt, slice_index, Option, Some, None, Result, Ok, Err, if◌then◌else◌}
+use Rattle.std.specs.Prelude.{ℕ, ◌+◌, ◌==◌, not, ℤ, negsuc, List, [], length, nat_lt, slice_index, Option, Result, Ok, Err, if◌then◌else◌}
 use Rattle.std.specs.List.{position_or_len}
 use Rattle.pybuf_value.specs.declared.faults.Fault.{Fault}
 use Rattle.pybuf_value.specs.declared.faults.Fault.TheVariants as fault
@@ -7,7 +7,7 @@ use Rattle.pybuf_value.specs.declared.values.PySlice.{PySlice}
 use Rattle.pybuf_value.specs.declared.values.Value.{Value}
 use Rattle.pybuf_value.specs.declared.values.Value.TheVariants as value
 use Rattle.pybuf_value.specs.Refusing.{◌>>=◌, unless}
-use Rattle.pybuf_value.specs.Numbers.{count_in, byte_in}
+use Rattle.pybuf_value.specs.Numbers.{count_or, byte_in}
 use Rattle.pybuf_slice.specs.Parts.{saturated_parts_of, picks_of}
 use Rattle.pybuf_slice.specs.Edits.{replaced_range, elements_off}
 use Rattle.pybuf_command.specs.declared.commands.LocalReply.{LocalReply}
@@ -25,8 +25,7 @@ without bytes place = replaced_range bytes place (place + 1) []
 -- ---- `pop`: the byte at an index, the last where none is given
 
 abbrev pub count_or_last : Option Value → Result ℤ Fault
-count_or_last None = Ok (negsuc 0)
-count_or_last (Some index) = count_in index
+count_or_last index = count_or (negsuc 0) index
 
 abbrev pub popped : Exporter → Option Value → Result (Exporter × LocalReply) Fault
 popped e index = do

@@ -10,16 +10,13 @@ use pybuf_command::{ExporterKind, LocalReply};
 use pybuf_memoryview::{byte_item, entry_in, index_in};
 use pybuf_slice::{SaturatedSlice, close_up};
 use pybuf_state::Parts;
-use pybuf_value::{ByteList, Fault, Halt, PySlice, Value, count_in, value_from_object};
+use pybuf_value::{ByteList, Fault, Halt, PySlice, Value, count_or, value_from_object};
 
 /// The number of an index, which is that of the last byte where none is given.
 fn count_or_last(index: &Option<Value>) -> Result<isize, Fault>
     ensures { result ≡ spec.count_or_last index.now }
 {
-    match index {
-        None => Ok(-1),
-        Some(index) => count_in(index),
-    }
+    count_or(-1, index.as_ref())
 }
 
 fn pop_byte(parts: &mut Parts, index: &Option<Value>) -> Result<LocalReply, Halt>

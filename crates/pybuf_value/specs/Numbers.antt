@@ -1,5 +1,5 @@
 -- Which values are numbers, and which numbers fit where.
-use Rattle.std.specs.Prelude.{ℕ, ◌^◌, Bool, true, false, ℤ, pos, negsuc, Result, Ok, Err, nat_lt, if◌then◌else◌}
+use Rattle.std.specs.Prelude.{ℕ, ◌^◌, Bool, true, false, ℤ, pos, negsuc, Option, Some, None, Result, Ok, Err, nat_lt, if◌then◌else◌}
 use Rattle.pybuf_value.specs.declared.faults.Fault.{Fault}
 use Rattle.pybuf_value.specs.declared.faults.Fault.TheVariants as fault
 use Rattle.pybuf_value.specs.Refusing.{◌>>=◌}
@@ -33,6 +33,11 @@ abbrev pub count_in : Value → Result ℤ Fault
 count_in v = do
   n ← number_of v
   fitted_number fault.Overflow n
+
+-- the same, and a number where none is given
+abbrev pub count_or : ℤ → Option Value → Result ℤ Fault
+count_or absent None = Ok absent
+count_or absent (Some v) = count_in v
 
 -- a number from 0 to 255
 abbrev pub byte_of : ℤ → Result ℕ Fault

@@ -30,7 +30,9 @@ pub use list::{
     ByteList, ByteLists, CountList, DimList, ItemList, Items, NumberList, ScalarList, SliceList,
     ValueList, push_reserved,
 };
-pub use numbers::{ByteOr, count_in, fit_count, fit_index, index_of, saturate, value_from_object};
+pub use numbers::{
+    ByteOr, count_in, count_or, fit_count, fit_index, index_of, saturate, value_from_object,
+};
 pub use order::{compare_bytes, is_order, scalar_cmp};
 pub use pybuf_copy::{Exact, Made, NoMemory, Twin, copy_all};
 pub use quotes::{escaped, push_escaped, push_quoted, quote};

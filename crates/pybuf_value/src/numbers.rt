@@ -1,8 +1,9 @@
 //! Numbers as arguments: which values are numbers, and which numbers fit where.
 ghost use Rattle.std.specs.Prelude.{◌≡◌, ◌↔◌, ℕ, Result, IsOk, FitsSigned};
 ghost use Rattle.std.specs.Int.{w64, saturate_signed};
+ghost use Rattle.std.specs.Option.{option_copied};
 ghost use Rattle.pybuf_value.specs.declared.faults.Fault.{Fault};
-ghost use Rattle.pybuf_value.specs.Numbers.{number_in, number_of, fitted_number, count_in, byte_of, byte_in};
+ghost use Rattle.pybuf_value.specs.Numbers.{number_in, number_of, fitted_number, count_in, count_or, byte_of, byte_in};
 
 use crate::faults::Fault;
 use crate::values::{Scalar, Value};
@@ -71,6 +72,16 @@ pub fn count_in(value: &Value) -> Result<isize, Fault>
 {
     let number = index_of(value)?;
     fit_count(number)
+}
+
+/// The same, and another number where none is given.
+pub fn count_or(absent: isize, value: Option<&Value>) -> Result<isize, Fault>
+    ensures { result ≡ count_or absent (option_copied value.entry) }
+{
+    match value {
+        None => Ok(absent),
+        Some(value) => count_in(value),
+    }
 }
 
 /// The `isize` that is nearest to the number.
