@@ -31,7 +31,8 @@ pub use list::{
     ValueList, push_reserved,
 };
 pub use numbers::{
-    ByteOr, count_in, count_or, fit_count, fit_index, index_of, saturate, value_from_object,
+    ByteOr, count_in, count_or, fit_count, fit_index, index_of, number_in, saturate,
+    value_from_object,
 };
 pub use order::{compare_bytes, is_order, scalar_cmp};
 pub use pybuf_copy::{Exact, Made, NoMemory, Twin, copy_all};

@@ -8,8 +8,10 @@ ghost use Rattle.pybuf_value.specs.Numbers.{number_in, number_of, fitted_number,
 use crate::faults::Fault;
 use crate::values::{Scalar, Value};
 
-/// The same of a value without parts.
-pub(crate) fn number_in(value: &Scalar) -> Result<i128, Fault>
+/// The number of a whole number or of a truth value, which counts as 0 or 1.
+///
+/// Refused with `TypeError` for every other value without parts.
+pub fn number_in(value: &Scalar) -> Result<i128, Fault>
     ensures { result ≡ number_in value.now }
 {
     match value {
@@ -19,9 +21,9 @@ pub(crate) fn number_in(value: &Scalar) -> Result<i128, Fault>
     }
 }
 
-/// The number of a whole number or of a truth value, which counts as 0 or 1.
+/// The same of any value.
 ///
-/// Refused with `TypeError` for every other value.
+/// Refused with `TypeError` where it is no number.
 pub fn index_of(value: &Value) -> Result<i128, Fault>
     ensures { result ≡ number_of value.now }
 {
