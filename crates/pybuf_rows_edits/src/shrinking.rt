@@ -1,16 +1,16 @@
 //! Edits that take bytes out.
-ghost use Rattle.std.specs.Prelude.{◌≡◌, ◌==◌, nat_lt, if◌then◌else◌, Some, None, length};
-ghost use Rattle.std.specs.List.{position_or_len};
+ghost use Rattle.std.specs.Prelude.{◌≡◌};
 ghost use Rattle.pybuf_state.specs.Exporter.{exports_of};
 ghost use Rattle.pybuf_state.specs.Answers.{exporter_of, IsWhole, Answers};
 ghost use Rattle.pybuf_rows_edits.specs.Shrinking as spec;
 
-use bstr::ByteSlice;
 use pybuf_command::{ExporterKind, LocalReply};
 use pybuf_memoryview::{byte_item, entry_in, index_in};
 use pybuf_slice::{SaturatedSlice, close_up};
 use pybuf_state::Parts;
-use pybuf_value::{ByteList, Fault, Halt, PySlice, Value, count_or, value_from_object};
+use pybuf_value::{
+    ByteList, Fault, Halt, PySlice, Value, count_or, place_of_byte, value_from_object,
+};
 
 /// The number of an index, which is that of the last byte where none is given.
 fn count_or_last(index: &Option<Value>) -> Result<isize, Fault>
@@ -45,14 +45,6 @@ pub fn pop(parts: &mut Parts, index: &Option<Value>) -> Result<LocalReply, Halt>
     }
 }
 
-/// The place of the first byte of a value. None exactly where there is no such byte.
-#[tactic(auto, using(crate::proofs::FirstByte::position_of_byte))]
-fn place_of(bytes: &[u8], byte: u8) -> Option<usize>
-    ensures { result ≡ (if nat_lt (position_or_len (λ b. b == byte) bytes.now) (length bytes.now) then Some (position_or_len (λ b. b == byte) bytes.now) else None) }
-{
-    bytes.find_byte(byte)
-}
-
 fn remove_byte(parts: &mut Parts, value: &Value) -> Result<LocalReply, Halt>
     requires { IsWhole parts.old }
     ensures answer { Answers (spec.removed (exporter_of parts.old) value.now) (exporter_of parts.old) result (exporter_of parts.new) }
@@ -60,7 +52,7 @@ fn remove_byte(parts: &mut Parts, value: &Value) -> Result<LocalReply, Halt>
 {
     let byte = value_from_object(value)?;
     parts.resizable()?;
-    match place_of(parts.bytes.as_slice(), byte) {
+    match place_of_byte(parts.bytes.as_slice(), byte) {
         None => Err(Halt::Refused(Fault::Value)),
         Some(place) => {
             parts.remove_range(place, place + 1);

@@ -127,6 +127,7 @@ pub use pybuf_value::Tried;
 pub use pybuf_value::Twin;
 pub use pybuf_value::Value;
 pub use pybuf_value::ValueList;
+pub use pybuf_value::place_of_byte;
 pub use pybuf_world::Command;
 pub use pybuf_world::Named;
 pub use pybuf_world::Reply;
