@@ -8,7 +8,7 @@ ghost use Rattle.pybuf_bytes.specs.Options as spec;
 use crate::inner::PyBytesInner;
 use pybuf_value::{
     Exact, Fault, Halt, Lender, Made, Outcome, Text, Tried, Twin, Value, bytes_from_object,
-    fit_count, index_of, text_in, tried,
+    fit_count, index_of, is_ascii, text_in, tried,
 };
 use std::alloc::Global;
 
@@ -68,13 +68,6 @@ pub(crate) fn is_strict(errors: Option<&Text>) -> bool
         None => true,
         Some(name) => is_name(name.as_slice(), "strict"),
     }
-}
-
-/// Whether each character of a text is one of ASCII.
-pub(crate) fn is_ascii(text: &[u8]) -> bool
-    ensures { result ≡ spec.is_ascii text.now }
-{
-    text.is_ascii()
 }
 
 /// So many bytes of 0, as one block.

@@ -10,7 +10,7 @@ mod lent;
 mod list;
 mod numbers;
 mod order;
-mod places;
+mod plain;
 mod quotes;
 mod snaps;
 mod spelling;
@@ -36,7 +36,7 @@ pub use numbers::{
     value_from_object,
 };
 pub use order::{compare_bytes, is_order, scalar_cmp};
-pub use places::place_of_byte;
+pub use plain::{is_ascii, place_of_byte};
 pub use pybuf_copy::{Exact, Made, NoMemory, Twin, copy_all};
 pub use quotes::{escaped, push_escaped, push_quoted, quote};
 pub use snaps::{Lender, Snap, SnapKind, SnapList};

@@ -5,7 +5,7 @@ ghost use Rattle.hex.specs.Hex.{encode_lower};
 ghost use Rattle.pybuf_value.specs.Quotes.{quote_of, is_plain, escaped_byte, quoted_text};
 
 use crate::list::ByteList;
-use crate::places::place_of_byte;
+use crate::plain::place_of_byte;
 use pybuf_copy::{Made, NoMemory};
 use std::alloc::Global;
 use std::mem;

@@ -4,7 +4,8 @@ ghost use Rattle.std.specs.Str.{IsUtf8};
 ghost use Rattle.std.specs.Fmt.{signed_decimal};
 ghost use Rattle.pybuf_value.specs.Quotes.{quoted_text, repr_of, fitted_text};
 ghost use Rattle.pybuf_value.specs.Halting.{Gives, outcome_of};
-ghost use Rattle.pybuf_value.specs.Spelling.{is_ascii, handle_text, scalar_text};
+ghost use Rattle.pybuf_value.specs.Spelling.{handle_text, scalar_text};
+ghost use Rattle.pybuf_value.specs.Texts.{is_ascii};
 
 use crate::faults::{Fault, Tried};
 use crate::halt::{Halt, tried};
