@@ -11,7 +11,7 @@ use Rattle.pybuf_value.specs.declared.values.Value.TheVariants as value
 use Rattle.pybuf_value.specs.declared.values.PySlice.{PySlice}
 use Rattle.pybuf_value.specs.Refusing.{◌>>=◌, unless, IfDone, done_bind}
 use Rattle.pybuf_value.specs.Numbers.{count_in, byte_in}
-use Rattle.pybuf_value.specs.Snaps.{bytes_in}
+use Rattle.pybuf_value.specs.Snaps.{bytes_in, like_in}
 use Rattle.pybuf_slice.specs.Parts.{SliceParts, saturated_parts_of, picks_of}
 use Rattle.pybuf_slice.specs.Edits.{is_one, times, assigned_list}
 use Rattle.pybuf_slice.specs.EditLaws.{AsManyKeepTheLength}
@@ -32,7 +32,7 @@ use Rattle.pybuf_state.specs.Resizing.{has_exports, resizable}
 use Rattle.pybuf_state.specs.Loans.{Lent, snaps_of}
 use Rattle.pybuf_state.specs.Snaps.{snap_of_exporter}
 use Rattle.pybuf_rows_edits.specs.Common.{with_bytes, of_byte_array, is_itself}
-use Rattle.pybuf_rows_edits.specs.Growing.{appended, inserted, repeated, repeated_unless_empty, multiplied, extended, extended_or_doubled, lent_bytes, added}
+use Rattle.pybuf_rows_edits.specs.Growing.{appended, inserted, repeated, repeated_unless_empty, multiplied, extended, extended_or_doubled, added}
 use Rattle.pybuf_rows_edits.specs.Shrinking.{count_or_last, popped, removed, cleared, byte_deleted, slice_deleted, deleted, taken, take_of_own}
 use Rattle.pybuf_rows_edits.specs.Replacing.{slice_set, initialized}
 use Rattle.pybuf_rows_edits.specs.Laws.{EditsAreSafe}
@@ -104,7 +104,7 @@ extending ways e v lents writable = either e (is_itself v lents) (repeated_unles
 
 adding : Ways → (e : Exporter) (v : Value) (lents : List Lent) → holds_readonly e.kind ≡ false → IsSafe e (added e v lents)
 adding ways e v lents writable =
-    bind e (lent_bytes (snaps_of lents) v) _ (λ bytes _. bind e (unless (is_itself v lents) fault.Buffer) _ (λ _ _. asked e _ (λ u free. resized_to ways e _ reply.Ok free writable refl)))
+    bind e (like_in (snaps_of lents) v) _ (λ bytes _. bind e (unless (is_itself v lents) fault.Buffer) _ (λ _ _. asked e _ (λ u free. resized_to ways e _ reply.Ok free writable refl)))
 
 popping : Ways → (e : Exporter) (index : Option Value) → holds_readonly e.kind ≡ false → IsSafe e (popped e index)
 popping ways e index writable =

@@ -6,7 +6,7 @@ use Rattle.pybuf_value.specs.declared.values.Value.{Value}
 use Rattle.pybuf_value.specs.declared.values.Value.TheVariants as value
 use Rattle.pybuf_value.specs.Refusing.{◌>>=◌, unless}
 use Rattle.pybuf_value.specs.Numbers.{count_in, byte_in}
-use Rattle.pybuf_value.specs.Snaps.{bytes_in}
+use Rattle.pybuf_value.specs.Snaps.{bytes_in, like_in}
 use Rattle.pybuf_slice.specs.Parts.{saturated_parts_of, picks_of}
 use Rattle.pybuf_slice.specs.Edits.{is_one}
 use Rattle.pybuf_bytes.specs.Options.{bytes_of_options}
@@ -17,7 +17,6 @@ use Rattle.pybuf_state.specs.Exporter.{Exporter}
 use Rattle.pybuf_state.specs.Keeps.{is_vector}
 use Rattle.pybuf_state.specs.Loans.{Lent, snaps_of}
 use Rattle.pybuf_rows_edits.specs.Common.{of_byte_array, is_itself}
-use Rattle.pybuf_rows_edits.specs.Growing.{lent_bytes}
 use Rattle.pybuf_rows_edits.specs.Shrinking.{count_or_last}
 
 -- passed, whatever was read
@@ -51,7 +50,7 @@ byte_array_asks e (verb.Remove v) lents = passed (byte_in v)
 byte_array_asks e verb.Clear lents = Ok true
 byte_array_asks e (verb.Del key) lents = key_passed key
 byte_array_asks e (verb.IAdd v) lents = do
-  _ ← lent_bytes (snaps_of lents) v
+  _ ← like_in (snaps_of lents) v
   _ ← unless (is_itself v lents) fault.Buffer
   Ok true
 byte_array_asks e (verb.IMul count) lents = do

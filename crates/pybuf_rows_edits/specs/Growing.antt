@@ -1,14 +1,12 @@
 -- Edits that add bytes. While a view is unreleased each is refused with `BufferError`, where it asks for
 -- another length.
-use Rattle.std.specs.Prelude.{ℕ, ◌*◌, ◌^◌, ◌==◌, not, List, [], ◌∷◌, ◌++◌, length, nat_lt, Result, Ok, Err, if◌then◌else◌}
+use Rattle.std.specs.Prelude.{ℕ, ◌*◌, ◌^◌, ◌==◌, not, List, [], ◌∷◌, ◌++◌, length, nat_lt, Result, Ok, if◌then◌else◌}
 use Rattle.pybuf_value.specs.declared.faults.Fault.{Fault}
 use Rattle.pybuf_value.specs.declared.faults.Fault.TheVariants as fault
-use Rattle.pybuf_value.specs.declared.snaps.Snap.{Snap}
 use Rattle.pybuf_value.specs.declared.values.Value.{Value}
-use Rattle.pybuf_value.specs.declared.values.Value.TheVariants as value
 use Rattle.pybuf_value.specs.Refusing.{◌>>=◌, unless}
 use Rattle.pybuf_value.specs.Numbers.{count_in, byte_in}
-use Rattle.pybuf_value.specs.Snaps.{bytes_in, bytes_like}
+use Rattle.pybuf_value.specs.Snaps.{bytes_in, like_in}
 use Rattle.pybuf_slice.specs.Places.{saturated_place}
 use Rattle.pybuf_slice.specs.Edits.{replaced_range, repeated_list, times, is_one}
 use Rattle.pybuf_command.specs.declared.commands.LocalReply.{LocalReply}
@@ -81,13 +79,9 @@ extend_of_own e v lents = of_byte_array e.kind (extended_or_doubled e v lents)
 
 -- ---- `iadd`: bytes that lie one after the other at the end, and never its own
 
-abbrev pub lent_bytes : List (ℕ × Snap) → Value → Result (List ℕ) Fault
-lent_bytes pairs (value.One s) = bytes_like pairs s
-lent_bytes pairs _ = Err fault.Kind
-
 abbrev pub added : Exporter → Value → List Lent → Result (Exporter × LocalReply) Fault
 added e v lents = do
-  bytes ← lent_bytes (snaps_of lents) v
+  bytes ← like_in (snaps_of lents) v
   _ ← unless (is_itself v lents) fault.Buffer
   _ ← resizable e
   Ok (with_bytes e (e.bytes ++ bytes))
