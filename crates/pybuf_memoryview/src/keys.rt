@@ -4,8 +4,9 @@ ghost use Rattle.std.specs.List.{list_all};
 ghost use Rattle.pybuf_memoryview.specs.Keys as spec;
 ghost use Rattle.pybuf_memoryview.specs.KeyPlaces as places;
 
-use crate::items::{entry_in, index_in};
+use crate::items::index_in;
 use crate::kept::KeptLayout;
+use pybuf_slice::entry_in;
 use pybuf_value::{Fault, Scalar, Value, fit_index, number_in};
 
 /// Whether a part of a tuple is a number.

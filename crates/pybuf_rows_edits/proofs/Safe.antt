@@ -17,6 +17,7 @@ use Rattle.pybuf_slice.specs.Edits.{is_one, times, assigned_list}
 use Rattle.pybuf_slice.specs.EditLaws.{AsManyKeepTheLength}
 use Rattle.pybuf_bytes.specs.declared.options.ByteInnerNewOptions.{ByteInnerNewOptions}
 use Rattle.pybuf_bytes.specs.Options.{bytes_of_options}
+use Rattle.pybuf_slice.specs.Places.{entry_in}
 use Rattle.pybuf_command.specs.declared.commands.Verb.TheVariants as verb
 use Rattle.pybuf_command.specs.declared.commands.LocalReply.{LocalReply}
 use Rattle.pybuf_command.specs.declared.commands.LocalReply.TheVariants as reply
@@ -24,7 +25,7 @@ use Rattle.pybuf_command.specs.declared.kinds.ExporterKind.{ExporterKind}
 use Rattle.pybuf_command.specs.declared.kinds.ExporterKind.TheVariants as kind
 use Rattle.pybuf_command.specs.declared.kinds.Subject.TheVariants as subject
 use Rattle.pybuf_command.specs.Kinds.{holds_readonly}
-use Rattle.pybuf_memoryview.specs.Items.{index_in, entry_in}
+use Rattle.pybuf_memoryview.specs.Items.{index_in}
 use Rattle.pybuf_state.specs.Exporter.{Exporter}
 use Rattle.pybuf_state.specs.Keeps.{is_answer, is_vector, IsCarriedOut, IsSafe, IsCopied}
 use Rattle.pybuf_state.specs.Laws.{ReadingKeeps, WritingKeeps, ResizingKeeps, EmptyingKeeps}

@@ -10,9 +10,10 @@ use Rattle.pybuf_value.specs.Refusing.{◌>>=◌, unless}
 use Rattle.pybuf_value.specs.Numbers.{count_or, byte_in}
 use Rattle.pybuf_slice.specs.Parts.{saturated_parts_of, picks_of}
 use Rattle.pybuf_slice.specs.Edits.{replaced_range, elements_off}
+use Rattle.pybuf_slice.specs.Places.{entry_in}
 use Rattle.pybuf_command.specs.declared.commands.LocalReply.{LocalReply}
 use Rattle.pybuf_command.specs.declared.commands.LocalReply.TheVariants as reply
-use Rattle.pybuf_memoryview.specs.Items.{index_in, entry_in, byte_item}
+use Rattle.pybuf_memoryview.specs.Items.{index_in, byte_item}
 use Rattle.pybuf_state.specs.Exporter.{Exporter, live_layout}
 use Rattle.pybuf_state.specs.Keeps.{is_vector}
 use Rattle.pybuf_state.specs.Resizing.{resizable}

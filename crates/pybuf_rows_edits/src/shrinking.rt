@@ -5,8 +5,8 @@ ghost use Rattle.pybuf_state.specs.Answers.{exporter_of, IsWhole, Answers};
 ghost use Rattle.pybuf_rows_edits.specs.Shrinking as spec;
 
 use pybuf_command::{ExporterKind, LocalReply};
-use pybuf_memoryview::{byte_item, entry_in, index_in};
-use pybuf_slice::{SaturatedSlice, close_up};
+use pybuf_memoryview::{byte_item, index_in};
+use pybuf_slice::{SaturatedSlice, close_up, entry_in};
 use pybuf_state::Parts;
 use pybuf_value::{
     ByteList, Fault, Halt, PySlice, Value, count_or, place_of_byte, value_from_object,

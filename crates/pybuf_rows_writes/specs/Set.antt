@@ -5,12 +5,13 @@ use Rattle.pybuf_value.specs.declared.faults.Fault.TheVariants as fault
 use Rattle.pybuf_value.specs.declared.values.Value.{Value}
 use Rattle.pybuf_value.specs.Refusing.{◌>>=◌, unless}
 use Rattle.pybuf_value.specs.Numbers.{byte_in}
+use Rattle.pybuf_slice.specs.Places.{entry_in}
 use Rattle.pybuf_desc.specs.Layouts.{Layout}
 use Rattle.pybuf_command.specs.declared.kinds.ExporterKind.{ExporterKind}
 use Rattle.pybuf_command.specs.declared.kinds.ExporterKind.TheVariants as kind
 use Rattle.pybuf_command.specs.declared.commands.LocalReply.{LocalReply}
 use Rattle.pybuf_command.specs.declared.commands.LocalReply.TheVariants as reply
-use Rattle.pybuf_memoryview.specs.Items.{index_in, entry_in, is_none, bytes_with, piece_by}
+use Rattle.pybuf_memoryview.specs.Items.{index_in, is_none, bytes_with, piece_by}
 use Rattle.pybuf_memoryview.specs.Keys.{item_of_key}
 use Rattle.pybuf_state.specs.Exporter.{Exporter, live_layout}
 use Rattle.pybuf_state.specs.Loans.{Lent, snaps_of}
