@@ -1,5 +1,5 @@
 //! Strings of bytes in other shapes.
-ghost use Rattle.std.specs.Prelude.{◌≡◌, IfOk, Ok, length};
+ghost use Rattle.std.specs.Prelude.{◌≡◌, IfOk, length};
 ghost use Rattle.std.specs.Option.{option_copied};
 ghost use Rattle.pybuf_value.specs.Halting.{outcome_of};
 ghost use Rattle.pybuf_search.specs.Joins.{items_of};
@@ -12,19 +12,10 @@ ghost use Rattle.pybuf_shaping.specs.Tabs.{expanded, tab_size};
 ghost use Rattle.pybuf_bytes.specs.Shaping.{group_given};
 
 use crate::inner::PyBytesInner;
+use pybuf_search::as_vec;
 use pybuf_shaping::{ByteInnerPaddingOptions, ByteInnerTranslateOptions, ExpandTabsArgs};
-use pybuf_value::{ByteList, Lender, Made, Outcome, Text, Tried};
+use pybuf_value::{Lender, Made, Text, Tried};
 use std::alloc::Global;
-
-/// The bytes of an answer, as a vector. Takes no memory.
-fn as_vec(answer: Tried<ByteList>) -> Tried<Vec<u8>>
-    ensures { IfOk result (λ outcome. answer ≡ Ok (items_of outcome)) }
-{
-    match answer? {
-        Outcome::Done(bytes) => Ok(Outcome::Done(bytes.into_vec())),
-        Outcome::Refused(fault) => Ok(Outcome::Refused(fault)),
-    }
-}
 
 /// The bytes as pairs of lower-case hexadecimal digits, with a separator, where one is given, between
 /// each two groups of so many bytes: of one where no size is given, counted from the right for a positive
