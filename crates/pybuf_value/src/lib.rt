@@ -40,6 +40,8 @@ pub use plain::{is_ascii, place_of_byte};
 pub use pybuf_copy::{Exact, Made, NoMemory, Twin, copy_all};
 pub use quotes::{escaped, push_escaped, push_quoted, quote};
 pub use snaps::{Lender, Snap, SnapKind, SnapList};
-pub use spelling::{named_repr_text, push_scalar, repr_text};
+pub use spelling::{
+    named_repr_text, push_bytes, push_handle, push_number, push_scalar, push_truth, repr_text,
+};
 pub use text::Text;
 pub use values::{CompareOp, Item, PySlice, Scalar, Value};

@@ -4,7 +4,7 @@ ghost use Rattle.std.specs.Str.{IsUtf8};
 ghost use Rattle.std.specs.Fmt.{signed_decimal};
 ghost use Rattle.pybuf_value.specs.Quotes.{quoted_text, repr_of, fitted_text};
 ghost use Rattle.pybuf_value.specs.Halting.{Gives, outcome_of};
-ghost use Rattle.pybuf_value.specs.Spelling.{handle_text, scalar_text};
+ghost use Rattle.pybuf_value.specs.Spelling.{bytes_text, truth_text, handle_text, scalar_text};
 ghost use Rattle.pybuf_value.specs.Texts.{is_ascii};
 
 use crate::faults::{Fault, Tried};
@@ -68,7 +68,7 @@ pub fn named_repr_text(alloc: Global, name: &str, bytes: &[u8]) -> Tried<Text>
 }
 
 /// Adds a number in decimal digits, with its sign.
-fn push_number(out: &mut Vec<u8>, number: i128) -> Made<()>
+pub fn push_number(out: &mut Vec<u8>, number: i128) -> Made<()>
     ensures { OnOk result (out.new.items ≡ out.old.items ++ signed_decimal number) }
 {
     let mut buffer = Buffer::new();
@@ -76,8 +76,28 @@ fn push_number(out: &mut Vec<u8>, number: i128) -> Made<()>
     Ok(())
 }
 
+/// Adds bytes as Python's `repr` writes them.
+pub fn push_bytes(out: &mut Vec<u8>, bytes: &[u8]) -> Made<()>
+    ensures { OnOk result (out.new.items ≡ out.old.items ++ bytes_text bytes.now) }
+{
+    out.push(b'b')?;
+    push_quoted(out, bytes)
+}
+
+/// Adds a truth value.
+pub fn push_truth(out: &mut Vec<u8>, truth: bool) -> Made<()>
+    ensures { OnOk result (out.new.items ≡ out.old.items ++ truth_text truth) }
+{
+    if truth {
+        out.extend_from_slice(b"True")?;
+    } else {
+        out.extend_from_slice(b"False")?;
+    }
+    Ok(())
+}
+
 /// Adds a handle: `h` and its number.
-fn push_handle(out: &mut Vec<u8>, handle: u64) -> Made<()>
+pub fn push_handle(out: &mut Vec<u8>, handle: u64) -> Made<()>
     ensures { OnOk result (out.new.items ≡ out.old.items ++ handle_text handle) }
 {
     let mut buffer = Buffer::new();
@@ -94,19 +114,10 @@ pub fn push_scalar(out: &mut Vec<u8>, value: &Scalar) -> Made<()>
 {
     match value {
         Scalar::None => out.extend_from_slice(b"None")?,
-        Scalar::Bool(truth) => {
-            if *truth {
-                out.extend_from_slice(b"True")?;
-            } else {
-                out.extend_from_slice(b"False")?;
-            }
-        }
+        Scalar::Bool(truth) => push_truth(out, *truth)?,
         Scalar::Int(number) => push_number(out, *number)?,
         Scalar::Text(text) => push_quoted(out, text.as_slice())?,
-        Scalar::Bytes(bytes) => {
-            out.push(b'b')?;
-            push_quoted(out, bytes.as_slice())?;
-        }
+        Scalar::Bytes(bytes) => push_bytes(out, bytes.as_slice())?,
         Scalar::Ellipsis => out.extend_from_slice(b"Ellipsis")?,
         Scalar::Handle(handle) => push_handle(out, *handle)?,
     }
