@@ -7,7 +7,7 @@ use Rattle.pybuf_value.specs.declared.values.Value.{Value}
 use Rattle.pybuf_value.specs.Refusing.{◌>>=◌}
 use Rattle.pybuf_value.specs.Numbers.{count_in}
 use Rattle.pybuf_value.specs.Snaps.{like_in}
-use Rattle.pybuf_search.specs.Joins.{fitted}
+use Rattle.pybuf_value.specs.Texts.{fitted}
 use Rattle.pybuf_bytes.specs.Searching.{concat_of, repeated_of}
 use Rattle.pybuf_bytes.specs.declared.methods.MethodReply.{MethodReply}
 use Rattle.pybuf_bytes.specs.declared.methods.MethodReply.TheVariants as reply

@@ -2,10 +2,10 @@
 ghost use Rattle.std.specs.Prelude.{◌≡◌, ◌++◌, IfOk, OnOk, IsTrue, codes};
 ghost use Rattle.std.specs.Str.{IsUtf8};
 ghost use Rattle.std.specs.Fmt.{signed_decimal};
-ghost use Rattle.pybuf_value.specs.Quotes.{quoted_text, repr_of, fitted_text};
+ghost use Rattle.pybuf_value.specs.Quotes.{quoted_text, repr_of};
 ghost use Rattle.pybuf_value.specs.Halting.{Gives, outcome_of};
 ghost use Rattle.pybuf_value.specs.Spelling.{bytes_text, truth_text, handle_text, scalar_text};
-ghost use Rattle.pybuf_value.specs.Texts.{is_ascii};
+ghost use Rattle.pybuf_value.specs.Texts.{is_ascii, fitted};
 
 use crate::faults::{Fault, Tried};
 use crate::halt::{Halt, tried};
@@ -29,7 +29,7 @@ fn quoted_between(
     requires name { IsUtf8 name.now }
     requires opening { IsUtf8 opening.now }
     requires closing { IsUtf8 closing.now }
-    ensures { Gives (fitted_text (repr_of (name.now ++ opening.now) bytes.now closing.now)) result }
+    ensures { Gives (fitted (repr_of (name.now ++ opening.now) bytes.now closing.now)) result }
 {
     let around = name.len() as u128 + opening.len() as u128 + closing.len() as u128;
     let length = around + quoted_length(bytes);
@@ -52,7 +52,7 @@ fn quoted_between(
 pub fn repr_text(alloc: Global, before: &[u8], bytes: &[u8], after: &[u8]) -> Tried<Text>
     requires before { IsTrue (is_ascii before.now) }
     requires after { IsTrue (is_ascii after.now) }
-    ensures { IfOk result (λ outcome. outcome ≡ outcome_of (fitted_text (repr_of before.now bytes.now after.now))) }
+    ensures { IfOk result (λ outcome. outcome ≡ outcome_of (fitted (repr_of before.now bytes.now after.now))) }
 {
     tried(quoted_between(alloc, b"", before, bytes, after))
 }
@@ -62,7 +62,7 @@ pub fn repr_text(alloc: Global, before: &[u8], bytes: &[u8], after: &[u8]) -> Tr
 ///
 /// Refused with `OverflowError` exactly where the text is more than `isize::MAX` bytes.
 pub fn named_repr_text(alloc: Global, name: &str, bytes: &[u8]) -> Tried<Text>
-    ensures { IfOk result (λ outcome. outcome ≡ outcome_of (fitted_text (repr_of (name.now ++ codes "(b") bytes.now (codes ")")))) }
+    ensures { IfOk result (λ outcome. outcome ≡ outcome_of (fitted (repr_of (name.now ++ codes "(b") bytes.now (codes ")")))) }
 {
     tried(quoted_between(alloc, name.as_bytes(), b"(b", bytes, b")"))
 }
