@@ -14,7 +14,7 @@ use Rattle.pybuf_value.specs.Snaps.{bytes_in}
 use Rattle.pybuf_search.specs.Places.{holds_needle}
 use Rattle.bstr.specs.Text.{repeated}
 use Rattle.pybuf_value.specs.Texts.{fitted}
-use Rattle.pybuf_search.specs.Joins.{times}
+use Rattle.pybuf_value.specs.Numbers.{times}
 use Rattle.pybuf_search.specs.Parts.{split_parts, rsplit_parts, partition_of, rpartition_of}
 use Rattle.pybuf_letters.specs.Blanks.{blank_parts, blank_rparts}
 use Rattle.pybuf_bytes.specs.declared.needles.Needle.{Needle}

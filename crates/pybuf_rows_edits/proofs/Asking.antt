@@ -8,11 +8,11 @@ use Rattle.pybuf_value.specs.declared.values.Value.{Value}
 use Rattle.pybuf_value.specs.declared.values.Value.TheVariants as value
 use Rattle.pybuf_value.specs.declared.values.PySlice.{PySlice}
 use Rattle.pybuf_value.specs.Refusing.{◌>>=◌, unless}
-use Rattle.pybuf_value.specs.Numbers.{count_in, byte_in}
+use Rattle.pybuf_value.specs.Numbers.{count_in, byte_in, times}
 use Rattle.pybuf_value.specs.Snaps.{bytes_in, like_in}
 use Rattle.pybuf_slice.specs.Places.{item_place}
 use Rattle.pybuf_slice.specs.Parts.{SliceParts, saturated_parts_of, picks_of}
-use Rattle.pybuf_slice.specs.Edits.{is_one, times}
+use Rattle.pybuf_slice.specs.Edits.{is_one}
 use Rattle.pybuf_bytes.specs.Options.{bytes_of_options}
 use Rattle.pybuf_command.specs.declared.commands.Verb.TheVariants as verb
 use Rattle.pybuf_command.specs.declared.commands.LocalReply.{LocalReply}

@@ -10,10 +10,10 @@ use Rattle.pybuf_value.specs.declared.values.Value.{Value}
 use Rattle.pybuf_value.specs.declared.values.Value.TheVariants as value
 use Rattle.pybuf_value.specs.declared.values.PySlice.{PySlice}
 use Rattle.pybuf_value.specs.Refusing.{◌>>=◌, unless, IfDone, done_bind}
-use Rattle.pybuf_value.specs.Numbers.{count_in, byte_in}
+use Rattle.pybuf_value.specs.Numbers.{count_in, byte_in, times}
 use Rattle.pybuf_value.specs.Snaps.{bytes_in, like_in}
 use Rattle.pybuf_slice.specs.Parts.{SliceParts, saturated_parts_of, picks_of}
-use Rattle.pybuf_slice.specs.Edits.{is_one, times, assigned_list}
+use Rattle.pybuf_slice.specs.Edits.{is_one, assigned_list}
 use Rattle.pybuf_slice.specs.EditLaws.{AsManyKeepTheLength}
 use Rattle.pybuf_bytes.specs.declared.options.ByteInnerNewOptions.{ByteInnerNewOptions}
 use Rattle.pybuf_bytes.specs.Options.{bytes_of_options}

@@ -5,10 +5,10 @@ use Rattle.pybuf_value.specs.declared.faults.Fault.{Fault}
 use Rattle.pybuf_value.specs.declared.faults.Fault.TheVariants as fault
 use Rattle.pybuf_value.specs.declared.values.Value.{Value}
 use Rattle.pybuf_value.specs.Refusing.{◌>>=◌, unless}
-use Rattle.pybuf_value.specs.Numbers.{count_in, byte_in}
+use Rattle.pybuf_value.specs.Numbers.{count_in, byte_in, times}
 use Rattle.pybuf_value.specs.Snaps.{bytes_in, like_in}
 use Rattle.pybuf_slice.specs.Places.{saturated_place}
-use Rattle.pybuf_slice.specs.Edits.{replaced_range, repeated_list, times, is_one}
+use Rattle.pybuf_slice.specs.Edits.{replaced_range, repeated_list, is_one}
 use Rattle.pybuf_command.specs.declared.commands.LocalReply.{LocalReply}
 use Rattle.pybuf_command.specs.declared.commands.LocalReply.TheVariants as reply
 use Rattle.pybuf_state.specs.Exporter.{Exporter}

@@ -1,5 +1,5 @@
 -- Bytes put together, where they are not too many.
-use Rattle.std.specs.Prelude.{ℕ, ℤ, pos, negsuc, ◌^◌, nat_lt, List, ◌++◌, Option, Some, None, if◌then◌else◌}
+use Rattle.std.specs.Prelude.{ℕ, ◌^◌, nat_lt, List, ◌++◌, Option, Some, None, if◌then◌else◌}
 use Rattle.std.specs.List.{flat_map}
 use Rattle.std.specs.Global.{Vec}
 use Rattle.pybuf_value.specs.declared.faults.Outcome.{Outcome}
@@ -17,8 +17,3 @@ further separator parts = flat_map (λ part. separator ++ part) parts
 abbrev pub items_of : Outcome (Vec ℕ) → Outcome (List ℕ)
 items_of (outcome.Done bytes) = outcome.Done bytes.items
 items_of (outcome.Refused f) = outcome.Refused f
-
--- how many times bytes are repeated: not at all for a negative number
-abbrev pub times : ℤ → ℕ
-times (pos n) = n
-times (negsuc _) = 0

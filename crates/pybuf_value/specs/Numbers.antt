@@ -39,6 +39,11 @@ abbrev pub count_or : ℤ → Option Value → Result ℤ Fault
 count_or absent None = Ok absent
 count_or absent (Some v) = count_in v
 
+-- how many times something is repeated: not at all for a negative number
+abbrev pub times : ℤ → ℕ
+times (pos n) = n
+times (negsuc n) = 0
+
 -- a number from 0 to 255
 abbrev pub byte_of : ℤ → Result ℕ Fault
 byte_of (pos n) = if nat_lt n 256 then Ok n else Err fault.Value
