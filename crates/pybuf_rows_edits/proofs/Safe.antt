@@ -24,7 +24,7 @@ use Rattle.pybuf_command.specs.declared.commands.LocalReply.TheVariants as reply
 use Rattle.pybuf_command.specs.declared.kinds.ExporterKind.{ExporterKind}
 use Rattle.pybuf_command.specs.declared.kinds.ExporterKind.TheVariants as kind
 use Rattle.pybuf_command.specs.declared.kinds.Subject.TheVariants as subject
-use Rattle.pybuf_command.specs.Kinds.{holds_readonly}
+use Rattle.pybuf_command.specs.Kinds.{holds_readonly, of_byte_array}
 use Rattle.pybuf_memoryview.specs.Items.{index_in}
 use Rattle.pybuf_state.specs.Exporter.{Exporter}
 use Rattle.pybuf_state.specs.Keeps.{is_answer, is_vector, IsCarriedOut, IsSafe, IsCopied}
@@ -32,7 +32,7 @@ use Rattle.pybuf_state.specs.Laws.{ReadingKeeps, WritingKeeps, ResizingKeeps, Em
 use Rattle.pybuf_state.specs.Resizing.{has_exports, resizable}
 use Rattle.pybuf_state.specs.Loans.{Lent, snaps_of}
 use Rattle.pybuf_state.specs.Snaps.{snap_of_exporter}
-use Rattle.pybuf_rows_edits.specs.Common.{with_bytes, of_byte_array, is_itself}
+use Rattle.pybuf_rows_edits.specs.Common.{with_bytes, is_itself}
 use Rattle.pybuf_rows_edits.specs.Growing.{appended, inserted, repeated, repeated_unless_empty, multiplied, extended, extended_or_doubled, added}
 use Rattle.pybuf_rows_edits.specs.Shrinking.{count_or_last, popped, removed, cleared, byte_deleted, slice_deleted, deleted, taken, take_of_own}
 use Rattle.pybuf_rows_edits.specs.Replacing.{slice_set, initialized}

@@ -16,7 +16,8 @@ use Rattle.pybuf_memoryview.specs.Items.{index_in}
 use Rattle.pybuf_state.specs.Exporter.{Exporter}
 use Rattle.pybuf_state.specs.Keeps.{is_vector}
 use Rattle.pybuf_state.specs.Loans.{Lent, snaps_of}
-use Rattle.pybuf_rows_edits.specs.Common.{of_byte_array, is_itself}
+use Rattle.pybuf_command.specs.Kinds.{of_byte_array}
+use Rattle.pybuf_rows_edits.specs.Common.{is_itself}
 use Rattle.pybuf_rows_edits.specs.Shrinking.{count_or_last}
 
 -- passed, whatever was read

@@ -14,7 +14,8 @@ use Rattle.pybuf_command.specs.declared.commands.LocalReply.TheVariants as reply
 use Rattle.pybuf_state.specs.Exporter.{Exporter}
 use Rattle.pybuf_state.specs.Resizing.{resizable}
 use Rattle.pybuf_state.specs.Loans.{Lent, snaps_of}
-use Rattle.pybuf_rows_edits.specs.Common.{with_bytes, of_byte_array, is_itself}
+use Rattle.pybuf_command.specs.Kinds.{of_byte_array}
+use Rattle.pybuf_rows_edits.specs.Common.{with_bytes, is_itself}
 
 -- ---- `append`: a byte at the end
 

@@ -17,7 +17,8 @@ use Rattle.pybuf_memoryview.specs.Items.{index_in, byte_item}
 use Rattle.pybuf_state.specs.Exporter.{Exporter, live_layout}
 use Rattle.pybuf_state.specs.Keeps.{is_vector}
 use Rattle.pybuf_state.specs.Resizing.{resizable}
-use Rattle.pybuf_rows_edits.specs.Common.{with_bytes, of_byte_array}
+use Rattle.pybuf_command.specs.Kinds.{of_byte_array}
+use Rattle.pybuf_rows_edits.specs.Common.{with_bytes}
 
 -- the bytes without the one at a place
 abbrev pub without : List ℕ → ℕ → List ℕ

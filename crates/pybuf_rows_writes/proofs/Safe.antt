@@ -25,9 +25,9 @@ use Rattle.pybuf_state.specs.Laws.{LiveLayoutsAreSound, WritingKeeps}
 use Rattle.pybuf_value.specs.Numbers.{byte_in}
 use Rattle.pybuf_command.specs.declared.kinds.ExporterKind.{ExporterKind}
 use Rattle.pybuf_command.specs.declared.kinds.ExporterKind.TheVariants as kind
-use Rattle.pybuf_command.specs.Kinds.{holds_readonly}
+use Rattle.pybuf_command.specs.Kinds.{holds_readonly, of_byte_array}
 use Rattle.pybuf_state.specs.Keeps.{IsCarriedOut, IsSafe}
-use Rattle.pybuf_rows_writes.specs.Set.{byte_set, set_in_kind, item_set, set_target}
+use Rattle.pybuf_rows_writes.specs.Set.{byte_set, item_set, set_target}
 use Rattle.pybuf_rows_writes.specs.Laws.{SetIsSafe}
 use Rattle.pybuf_rows_writes.proofs.Bytes.{length-bytes_with}
 
@@ -56,7 +56,7 @@ byte_safe writing e key value writable =
     })))
 
 -- the row of a bytearray is that of an exporter that may be written
-in_kind : (e : Exporter) (k : ExporterKind) (r : Result (Exporter × LocalReply) Fault) → e.kind ≡ k → (holds_readonly e.kind ≡ false → IsSafe e r) → IsSafe e (set_in_kind k r)
+in_kind : (e : Exporter) (k : ExporterKind) (r : Result (Exporter × LocalReply) Fault) → e.kind ≡ k → (holds_readonly e.kind ≡ false → IsSafe e r) → IsSafe e (of_byte_array k r)
 in_kind e kind.ByteArray r is safe = safe (ap holds_readonly is)
 in_kind e kind.Bytes r is safe = tt
 in_kind e (kind.Vector readonly) r is safe = tt
