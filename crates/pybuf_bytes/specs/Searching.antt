@@ -98,11 +98,6 @@ concat_of pairs other bytes = do
 abbrev pub repeated_of : ℤ → List ℕ → Result (List ℕ) Fault
 repeated_of n bytes = fitted (repeated (times n) bytes)
 
--- whether a change is made
-abbrev pub whether : Result (List ℕ) Fault → Result (Unit {0}) Fault
-whether (Ok bytes) = Ok tt
-whether (Err f) = Err f
-
 -- the bytes after a change, or those from before where it is refused
 abbrev pub or_before : List ℕ → Result (List ℕ) Fault → List ℕ
 or_before before (Ok bytes) = bytes

@@ -1,8 +1,7 @@
 //! Strings of bytes in other shapes.
 ghost use Rattle.std.specs.Prelude.{◌≡◌, IfOk, length};
 ghost use Rattle.std.specs.Option.{option_copied};
-ghost use Rattle.pybuf_value.specs.Halting.{outcome_of};
-ghost use Rattle.pybuf_search.specs.Joins.{items_of};
+ghost use Rattle.pybuf_value.specs.Halting.{outcome_of, items_of};
 ghost use Rattle.pybuf_shaping.specs.Arguments.{filled, translation};
 ghost use Rattle.pybuf_shaping.specs.Digits.{hex_text, bytes_of_hex};
 ghost use Rattle.pybuf_shaping.specs.Padding.{centered, justified_left, justified_right, zero_filled};

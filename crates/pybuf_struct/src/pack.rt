@@ -2,9 +2,9 @@
 ghost use Rattle.std.specs.Prelude.{◌≡◌, ◌<◌, ◌≤◌, ◌-◌, ◌^◌, true, false, ◌||◌, length, Ok, Err, IfOk, IfErr, OnOk, OnErr, IsOk, IsTrue};
 ghost use Rattle.pybuf_struct.specs.Digits.{is_width};
 ghost use Rattle.pybuf_struct.specs.Formats.{extent, fields_from};
-ghost use Rattle.pybuf_value.specs.Halting.{outcome_of};
+ghost use Rattle.pybuf_value.specs.Halting.{outcome_of, refusal_of, items_of};
 ghost use Rattle.pybuf_struct.specs.Values.{is_length};
-ghost use Rattle.pybuf_struct.specs.Packing.{is_in_range, complement_of, digits_of, truth_byte, fitted_to, pascal_bytes, bytes_of, contents_of, room_with_contents, refusal_of, packed_bytes, items_of};
+ghost use Rattle.pybuf_struct.specs.Packing.{is_in_range, complement_of, digits_of, truth_byte, fitted_to, pascal_bytes, bytes_of, contents_of, room_with_contents, packed_bytes};
 
 use crate::cursor::Cursor;
 use crate::digits::modulus_of;
