@@ -7,11 +7,9 @@ ghost use Rattle.pybuf_anystr.specs.Cases.{IsTestOfByte};
 
 use crate::any_str::{AnyStr, AnyStrContainer};
 use pybuf_bytes::{ByteInnerSplitOptions, PyBytesInner, SplitLinesArgs, partition_at, split_at};
-use pybuf_search::{
-    AnyStrWrapper, as_vec, first_place_in_range, number_in_range, single_or_tuple_any,
-};
+use pybuf_search::{AnyStrWrapper, first_place_in_range, number_in_range, single_or_tuple_any};
 use pybuf_shaping::ByteInnerPaddingOptions;
-use pybuf_value::{ByteLists, Fault, Lender, Made, Outcome, Text, Tried, Value};
+use pybuf_value::{ByteLists, Fault, Lender, Made, Outcome, Text, Tried, Value, as_vec};
 use std::alloc::{AllocError, Global};
 use std::marker::Model;
 use std::ops::Range;

@@ -11,9 +11,8 @@ ghost use Rattle.pybuf_shaping.specs.Tabs.{expanded, tab_size};
 ghost use Rattle.pybuf_bytes.specs.Shaping.{group_given};
 
 use crate::inner::PyBytesInner;
-use pybuf_search::as_vec;
 use pybuf_shaping::{ByteInnerPaddingOptions, ByteInnerTranslateOptions, ExpandTabsArgs};
-use pybuf_value::{Lender, Made, Text, Tried};
+use pybuf_value::{Lender, Made, Text, Tried, as_vec};
 use std::alloc::Global;
 
 /// The bytes as pairs of lower-case hexadecimal digits, with a separator, where one is given, between

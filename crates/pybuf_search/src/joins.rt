@@ -1,5 +1,5 @@
 //! Bytes put together. Room for all of them is taken once, and only where they are few enough.
-ghost use Rattle.std.specs.Prelude.{◌≡◌, ◌++◌, ◌*◌, ◌+◌, ◌<◌, ◌≤◌, ◌^◌, length, map, Ok, IfOk, OnOk};
+ghost use Rattle.std.specs.Prelude.{◌≡◌, ◌++◌, ◌*◌, ◌+◌, ◌<◌, ◌≤◌, ◌^◌, length, map, IfOk, OnOk};
 ghost use Rattle.bstr.specs.Owned as owned;
 ghost use Rattle.bstr.specs.Text as text;
 ghost use Rattle.pybuf_value.specs.Halting.{outcome_of, items_of};
@@ -130,14 +130,4 @@ pub fn repeated(alloc: Global, bytes: &[u8], n: isize) -> Tried<Vec<u8>>
     };
     let whole = times_over(alloc, bytes, times)?;
     Ok(Outcome::Done(whole))
-}
-
-/// The bytes of an answer, as a vector. Takes no memory.
-pub fn as_vec(answer: Tried<ByteList>) -> Tried<Vec<u8>>
-    ensures { IfOk result (λ outcome. answer ≡ Ok (items_of outcome)) }
-{
-    match answer? {
-        Outcome::Done(bytes) => Ok(Outcome::Done(bytes.into_vec())),
-        Outcome::Refused(fault) => Ok(Outcome::Refused(fault)),
-    }
 }

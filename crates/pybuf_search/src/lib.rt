@@ -14,7 +14,7 @@ mod separators;
 pub use affixes::{StartsEndsWithArgs, bytes_lent, endswith, single_or_tuple_any, startswith};
 pub use bounds::{StringRange, adjust_indices, between};
 pub use ends::{begins_with, ends_with, without_prefix, without_suffix};
-pub use joins::{added, as_vec, joined, joined_parts, repeated};
+pub use joins::{added, joined, joined_parts, repeated};
 pub use laws::{
     empty_stands_everywhere, matches_are_from_left, matches_are_from_right, partition_is_whole,
     rpartition_is_whole, rsplit_joins_back, split_joins_back,

@@ -20,7 +20,7 @@ mod values;
 pub use contents::{bytes_alone, bytes_from_object, bytes_like, text_in, try_as_bytes};
 pub use equality::{identical_or_equal, item_eq, scalar_eq};
 pub use faults::{Fault, Outcome, Tried};
-pub use halt::{Halt, tried};
+pub use halt::{Halt, as_vec, tried};
 pub use laws::{
     equal_items_count_alike, equal_scalars_count_alike, item_equality_is_equivalence,
     operators_agree, order_of_bytes_is_total, quoted_texts_read_back,
