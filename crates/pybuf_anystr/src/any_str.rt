@@ -2,8 +2,8 @@
 ghost use Rattle.std.specs.Prelude.{◌≡◌, ◌==◌, ◌+◌, ◌<◌, ◌≤◌, ◌^◌, ◌++◌, ℕ, Bool, List, [], length, IfOk, OnOk, OnErr, Option, slice_range};
 ghost use Rattle.std.specs.Option.{option_copied};
 ghost use Rattle.bstr.specs.Owned.{joined};
-ghost use Rattle.pybuf_value.specs.Halting.{outcome_of};
-ghost use Rattle.pybuf_search.specs.Joins.{fitted, items_of};
+ghost use Rattle.pybuf_value.specs.Halting.{outcome_of, items_of};
+ghost use Rattle.pybuf_value.specs.Texts.{fitted};
 ghost use Rattle.pybuf_search.specs.Ends.{without_prefix, without_suffix};
 ghost use Rattle.pybuf_search.specs.Places.{first_place};
 ghost use Rattle.pybuf_search.specs.Ranges.{place_in_range, number_in_range};

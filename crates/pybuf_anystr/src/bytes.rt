@@ -1,8 +1,7 @@
 //! Bytes as a string of any kind.
-ghost use Rattle.std.specs.Prelude.{◌≡◌, ℕ, Bool, List, IfOk, Ok};
+ghost use Rattle.std.specs.Prelude.{◌≡◌, ℕ, Bool, List, IfOk};
 ghost use Rattle.std.specs.Option.{option_copied};
 ghost use Rattle.std.specs.Str.{chars};
-ghost use Rattle.pybuf_search.specs.Joins.{items_of};
 ghost use Rattle.pybuf_letters.specs.Classes as letters;
 ghost use Rattle.pybuf_anystr.specs.Cases.{IsTestOfByte};
 
@@ -10,7 +9,7 @@ use crate::any_str::{AnyStr, AnyStrContainer};
 use pybuf_bytes::{ByteInnerSplitOptions, PyBytesInner, SplitLinesArgs, partition_at, split_at};
 use pybuf_search::{AnyStrWrapper, first_place_in_range, number_in_range, single_or_tuple_any};
 use pybuf_shaping::ByteInnerPaddingOptions;
-use pybuf_value::{ByteList, ByteLists, Fault, Lender, Made, Outcome, Text, Tried, Value};
+use pybuf_value::{ByteLists, Fault, Lender, Made, Outcome, Text, Tried, Value, as_vec};
 use std::alloc::{AllocError, Global};
 use std::marker::Model;
 use std::ops::Range;
@@ -231,16 +230,6 @@ impl AnyStr for Bytes {
 
     fn py_iscase<F: Fn(u8) -> bool, G: Fn(u8) -> bool>(&self, is_case: F, is_opposite: G) -> bool {
         all_in_case(self.bytes.as_slice(), &is_case, &is_opposite)
-    }
-}
-
-/// The bytes of an answer, as a vector. Takes no memory.
-fn as_vec(answer: Tried<ByteList>) -> Tried<Vec<u8>>
-    ensures { IfOk result (λ outcome. answer ≡ Ok (items_of outcome)) }
-{
-    match answer? {
-        Outcome::Done(bytes) => Ok(Outcome::Done(bytes.into_vec())),
-        Outcome::Refused(fault) => Ok(Outcome::Refused(fault)),
     }
 }
 

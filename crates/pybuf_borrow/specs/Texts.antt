@@ -1,6 +1,5 @@
 -- Arguments that are a text, or are borrowed as bytes.
-use Rattle.std.specs.Prelude.{ℕ, Bool, not, List, Result, Ok, nat_lt}
-use Rattle.std.specs.List.{list_all}
+use Rattle.std.specs.Prelude.{ℕ, not, List, Result, Ok}
 use Rattle.pybuf_value.specs.declared.faults.Fault.{Fault}
 use Rattle.pybuf_value.specs.declared.faults.Fault.TheVariants as fault
 use Rattle.pybuf_value.specs.declared.snaps.Snap.{Snap}
@@ -8,6 +7,7 @@ use Rattle.pybuf_value.specs.declared.values.Scalar.TheVariants as scalar
 use Rattle.pybuf_value.specs.declared.values.Value.{Value}
 use Rattle.pybuf_value.specs.declared.values.Value.TheVariants as value
 use Rattle.pybuf_value.specs.Refusing.{◌>>=◌, unless}
+use Rattle.pybuf_value.specs.Texts.{is_ascii}
 use Rattle.pybuf_borrow.specs.Arguments.{argument_of}
 use Rattle.pybuf_borrow.specs.declared.texts.ArgStrOrBytesLike.{ArgStrOrBytesLike}
 use Rattle.pybuf_borrow.specs.declared.texts.ArgStrOrBytesLike.TheVariants as either
@@ -31,14 +31,10 @@ abbrev pub bytes_of : ArgStrOrBytesLike → List ℕ
 bytes_of (either.Buf argument) = argument.bytes
 bytes_of (either.Str text) = text
 
--- whether each character of a text is one of ASCII: so each of its bytes is below 128
-abbrev pub is_ascii_text : List ℕ → Bool
-is_ascii_text text = list_all (λ byte. nat_lt byte 128) text
-
 -- the same of a text of ASCII alone
 abbrev pub ascii_or_bytes : List (ℕ × Snap) → Value → Result ArgAsciiBuffer Fault
 ascii_or_bytes pairs (value.One (scalar.Text text)) = do
-  _ ← unless (not (is_ascii_text text)) fault.Value
+  _ ← unless (not (is_ascii text)) fault.Value
   Ok (ascii.Text text)
 ascii_or_bytes pairs v = do
   argument ← argument_of pairs v

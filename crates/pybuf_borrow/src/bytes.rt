@@ -1,7 +1,8 @@
 //! An argument that is borrowed as bytes.
 ghost use Rattle.std.specs.Prelude.{◌≡◌, ◌==◌, ℕ, List, Ok, Err, length, IfOk, IfErr};
 ghost use Rattle.std.specs.Fn.{FnOnceReturnsAt};
-ghost use Rattle.pybuf_borrow.specs.Arguments.{like_in, argument_of};
+ghost use Rattle.pybuf_value.specs.Snaps.{like_in};
+ghost use Rattle.pybuf_borrow.specs.Arguments.{argument_of};
 
 use pybuf_value::{Fault, Lender, Value, bytes_like};
 use std::marker::Model;

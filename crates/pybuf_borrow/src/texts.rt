@@ -2,10 +2,9 @@
 ghost use Rattle.std.specs.Prelude.{◌≡◌, ◌==◌, length, IfOk};
 ghost use Rattle.std.specs.Fn.{FnOnceReturnsAt};
 ghost use Rattle.pybuf_value.specs.Halting.{outcome_of};
-ghost use Rattle.pybuf_borrow.specs.Texts.{is_ascii_text};
 
 use crate::bytes::ArgBytesLike;
-use pybuf_value::{Fault, Lender, Made, Outcome, Scalar, Text, Tried, Twin, Value};
+use pybuf_value::{Fault, Lender, Made, Outcome, Scalar, Text, Tried, Twin, Value, is_ascii};
 use std::alloc::Global;
 
 /// An argument that is a text, or is borrowed as bytes.
@@ -73,13 +72,6 @@ pub enum ArgAsciiBuffer<'a> {
     Buffer(ArgBytesLike<'a>),
 }
 
-/// Whether each character of a text is one of ASCII.
-fn is_ascii_text(text: &[u8]) -> bool
-    ensures { result ≡ is_ascii_text text.now }
-{
-    text.iter().all(|byte| *byte < 128)
-}
-
 impl<'a> ArgAsciiBuffer<'a> {
     ghost use Rattle.pybuf_borrow.specs.Texts.{ascii_or_bytes, ascii_bytes_of};
 
@@ -95,7 +87,7 @@ impl<'a> ArgAsciiBuffer<'a> {
         ensures { IfOk result (λ outcome. outcome ≡ outcome_of (ascii_or_bytes (L.pairs lender.now) value.now)) }
     {
         if let Value::One(Scalar::Text(text)) = value {
-            if !is_ascii_text(text.as_slice()) {
+            if !is_ascii(text.as_slice()) {
                 return Ok(Outcome::Refused(Fault::Value));
             }
             let text = text.copy(alloc)?;

@@ -6,7 +6,7 @@ use Rattle.std.proofs.lemmas.Bool.{cond-true, lt-ltb}
 use Rattle.bstr.specs.Text.{repeated}
 use Rattle.pybuf_value.specs.declared.faults.Fault.{Fault}
 use Rattle.pybuf_value.specs.declared.faults.Fault.TheVariants as fault
-use Rattle.pybuf_search.specs.Joins.{fitted}
+use Rattle.pybuf_value.specs.Texts.{fitted}
 use Rattle.pybuf_bytes.specs.Searching.{repeated_of}
 
 once : (bytes : List ℕ) → repeated 1 bytes ≡ bytes

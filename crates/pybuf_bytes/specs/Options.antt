@@ -1,15 +1,14 @@
 -- What bytes are made of: the arguments of Python's `bytes(source, encoding, errors)`, in the written
 -- order of its checks.
-use Rattle.std.specs.Prelude.{ℕ, Bool, true, not, ◌||◌, ◌&&◌, ℤ, pos, negsuc, List, [], replicate, codes, nat_lt, Option, Some, None, Result, Ok, Err}
+use Rattle.std.specs.Prelude.{ℕ, Bool, true, not, ◌||◌, ◌&&◌, ℤ, pos, negsuc, List, [], replicate, codes, Option, Some, None, Result, Ok, Err}
 use Rattle.std.specs.Str.{bytes_eq}
-use Rattle.std.specs.List.{list_all}
 use Rattle.pybuf_value.specs.declared.faults.Fault.{Fault}
 use Rattle.pybuf_value.specs.declared.faults.Fault.TheVariants as fault
 use Rattle.pybuf_value.specs.declared.snaps.Snap.{Snap}
 use Rattle.pybuf_value.specs.declared.values.Value.{Value}
 use Rattle.pybuf_value.specs.Refusing.{◌>>=◌, unless}
 use Rattle.pybuf_value.specs.Numbers.{number_of, fitted_number}
-use Rattle.pybuf_value.specs.Texts.{text_in}
+use Rattle.pybuf_value.specs.Texts.{text_in, is_ascii}
 use Rattle.pybuf_value.specs.Snaps.{bytes_in}
 
 -- ---- a source alone
@@ -44,10 +43,6 @@ is_ascii_name name = bytes_eq name (codes "ascii")
 abbrev pub is_strict : Option (List ℕ) → Bool
 is_strict None = true
 is_strict (Some name) = bytes_eq name (codes "strict")
-
--- whether each character of a text is one of ASCII: so each of its bytes is below 128
-abbrev pub is_ascii : List ℕ → Bool
-is_ascii text = list_all (λ byte. nat_lt byte 128) text
 
 -- the bytes of a text, which is kept as its UTF-8
 abbrev pub encoded : Value → List ℕ → Option (List ℕ) → Result (List ℕ) Fault

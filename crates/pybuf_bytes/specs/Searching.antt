@@ -13,7 +13,8 @@ use Rattle.pybuf_value.specs.Refusing.{◌>>=◌}
 use Rattle.pybuf_value.specs.Snaps.{bytes_in}
 use Rattle.pybuf_search.specs.Places.{holds_needle}
 use Rattle.bstr.specs.Text.{repeated}
-use Rattle.pybuf_search.specs.Joins.{fitted, times}
+use Rattle.pybuf_value.specs.Texts.{fitted}
+use Rattle.pybuf_value.specs.Numbers.{times}
 use Rattle.pybuf_search.specs.Parts.{split_parts, rsplit_parts, partition_of, rpartition_of}
 use Rattle.pybuf_letters.specs.Blanks.{blank_parts, blank_rparts}
 use Rattle.pybuf_bytes.specs.declared.needles.Needle.{Needle}
@@ -96,11 +97,6 @@ concat_of pairs other bytes = do
 -- the bytes so many times
 abbrev pub repeated_of : ℤ → List ℕ → Result (List ℕ) Fault
 repeated_of n bytes = fitted (repeated (times n) bytes)
-
--- whether a change is made
-abbrev pub whether : Result (List ℕ) Fault → Result (Unit {0}) Fault
-whether (Ok bytes) = Ok tt
-whether (Err f) = Err f
 
 -- the bytes after a change, or those from before where it is refused
 abbrev pub or_before : List ℕ → Result (List ℕ) Fault → List ℕ

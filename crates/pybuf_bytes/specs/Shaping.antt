@@ -4,7 +4,8 @@ use Rattle.std.specs.Str.{is_utf8}
 use Rattle.pybuf_value.specs.declared.faults.Fault.{Fault}
 use Rattle.pybuf_value.specs.declared.faults.Fault.TheVariants as fault
 use Rattle.pybuf_value.specs.Refusing.{◌>>=◌, unless}
-use Rattle.pybuf_bytes.specs.Options.{is_utf8_name, is_ascii_name, is_strict, is_ascii}
+use Rattle.pybuf_value.specs.Texts.{is_ascii}
+use Rattle.pybuf_bytes.specs.Options.{is_utf8_name, is_ascii_name, is_strict}
 
 -- groups of digits are of one byte where no size is given
 abbrev pub group_given : Option ℤ → ℤ

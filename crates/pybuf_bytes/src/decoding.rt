@@ -5,8 +5,8 @@ ghost use Rattle.std.specs.Str.{is_utf8};
 ghost use Rattle.pybuf_value.specs.Halting.{Gives, outcome_of};
 ghost use Rattle.pybuf_bytes.specs.Shaping as spec;
 
-use crate::options::{is_ascii, is_ascii_name, is_strict, is_utf8_name};
-use pybuf_value::{Fault, Halt, Text, Tried, tried};
+use crate::options::{is_ascii_name, is_strict, is_utf8_name};
+use pybuf_value::{Fault, Halt, Text, Tried, is_ascii, tried};
 use std::alloc::Global;
 
 /// The codec and the handler of errors by which bytes are decoded, as arguments of Python's

@@ -2,7 +2,8 @@
 ghost use Rattle.std.specs.Prelude.{◌≡◌, ◌==◌, ◌<◌, ◌^◌, ◌++◌, List, [], ℕ, length, codes, IfOk};
 ghost use Rattle.pybuf_value.specs.Halting.{outcome_of};
 ghost use Rattle.pybuf_value.specs.Order.{order_of, answers};
-ghost use Rattle.pybuf_value.specs.Quotes.{repr_of, fitted_text};
+ghost use Rattle.pybuf_value.specs.Texts.{fitted};
+ghost use Rattle.pybuf_value.specs.Quotes.{repr_of};
 
 use pybuf_value::{
     CompareOp, Exact, Made, Text, Tried, Twin, compare_bytes, named_repr_text, repr_text,
@@ -82,7 +83,7 @@ impl PyBytesInner {
     ///
     /// Refused with `OverflowError` exactly where that is more than `isize::MAX` bytes.
     pub fn repr_bytes(&self, alloc: Global) -> Tried<Text>
-        ensures { IfOk result (λ outcome. outcome ≡ outcome_of (fitted_text (repr_of (codes "b") self.now []))) }
+        ensures { IfOk result (λ outcome. outcome ≡ outcome_of (fitted (repr_of (codes "b") self.now []))) }
     {
         repr_text(alloc, b"b", self.bytes.as_slice(), b"")
     }
@@ -92,7 +93,7 @@ impl PyBytesInner {
     ///
     /// Refused with `OverflowError` exactly where that is more than `isize::MAX` bytes.
     pub fn repr_with_name(&self, alloc: Global, class_name: &Text) -> Tried<Text>
-        ensures { IfOk result (λ outcome. outcome ≡ outcome_of (fitted_text (repr_of (class_name.now ++ codes "(b") self.now (codes ")")))) }
+        ensures { IfOk result (λ outcome. outcome ≡ outcome_of (fitted (repr_of (class_name.now ++ codes "(b") self.now (codes ")")))) }
     {
         named_repr_text(alloc, class_name.as_str(), self.bytes.as_slice())
     }

@@ -2,7 +2,8 @@
 ghost use Rattle.std.specs.Prelude.{◌≡◌, IfOk};
 ghost use Rattle.std.specs.Option.{option_copied};
 ghost use Rattle.std.specs.Char.{is_ascii_alphabetic, is_ascii_alphanumeric, is_ascii_digit, is_ascii_lowercase, is_ascii_uppercase};
-ghost use Rattle.pybuf_letters.specs.Classes.{all_of, all_ascii, all_in_case, is_blank, is_title};
+ghost use Rattle.pybuf_value.specs.Texts.{is_ascii};
+ghost use Rattle.pybuf_letters.specs.Classes.{all_of, all_in_case, is_blank, is_title};
 ghost use Rattle.pybuf_letters.specs.Cases as cases;
 ghost use Rattle.pybuf_letters.specs.Strips.{goes, stripped, stripped_left, stripped_right};
 ghost use Rattle.pybuf_letters.specs.Lines.{split_lines};
@@ -45,9 +46,9 @@ impl PyBytesInner {
 
     /// Whether each byte is below 128: so also where there is none.
     pub fn isascii(&self) -> bool
-        ensures { result ≡ all_ascii self.now }
+        ensures { result ≡ is_ascii self.now }
     {
-        pybuf_letters::is_ascii(self.as_bytes())
+        pybuf_value::is_ascii(self.as_bytes())
     }
 
     /// Whether there are bytes and each is a decimal digit of ASCII.

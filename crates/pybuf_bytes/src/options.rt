@@ -10,7 +10,7 @@ use crate::inner::PyBytesInner;
 use pybuf_command::ByteInnerNewOptions;
 use pybuf_value::{
     Fault, Halt, Lender, Outcome, Text, Tried, Value, bytes_from_object, fit_count, index_of,
-    text_in, tried,
+    is_ascii, text_in, tried,
 };
 use std::alloc::Global;
 
@@ -43,13 +43,6 @@ pub(crate) fn is_strict(errors: Option<&Text>) -> bool
         None => true,
         Some(name) => is_name(name.as_slice(), "strict"),
     }
-}
-
-/// Whether each character of a text is one of ASCII.
-pub(crate) fn is_ascii(text: &[u8]) -> bool
-    ensures { result ≡ spec.is_ascii text.now }
-{
-    text.is_ascii()
 }
 
 /// So many bytes of 0, as one block.

@@ -2,8 +2,8 @@
 ghost use Rattle.std.specs.Prelude.{◌≡◌, ◌≤◌, ◌++◌, ℕ, List, Option, Some, length, IfOk, OnOk, OnErr};
 ghost use Rattle.std.specs.Borrow.{Bor};
 ghost use Rattle.bstr.specs.Owned.{joined};
-ghost use Rattle.pybuf_value.specs.Halting.{outcome_of};
-ghost use Rattle.pybuf_search.specs.Joins.{fitted, items_of};
+ghost use Rattle.pybuf_value.specs.Halting.{outcome_of, refusal_of, items_of};
+ghost use Rattle.pybuf_value.specs.Texts.{fitted};
 ghost use Rattle.pybuf_search.specs.Ends.{without_prefix, without_suffix};
 ghost use Rattle.pybuf_search.specs.Ranges.{IsSearch};
 ghost use Rattle.pybuf_bytes.specs.Searching as spec;
@@ -56,7 +56,7 @@ impl PyBytesInner {
     /// Refused with `OverflowError` exactly where that is more than `isize::MAX` bytes. After a
     /// refusal, or where memory runs out, the bytes are as before.
     pub fn imul(&mut self, alloc: Global, n: isize) -> Tried<()>
-        ensures answer { IfOk result (λ outcome. outcome ≡ outcome_of (spec.whether (spec.repeated_of n self.old))) }
+        ensures answer { IfOk result (λ outcome. outcome ≡ outcome_of (refusal_of (spec.repeated_of n self.old))) }
         ensures bytes { OnOk result (self.new ≡ spec.or_before self.old (spec.repeated_of n self.old)) }
         ensures memory { OnErr result (self.new ≡ self.old) }
     {

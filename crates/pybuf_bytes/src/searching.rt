@@ -1,8 +1,7 @@
 //! Searches and cuts of bytes by arguments.
 ghost use Rattle.std.specs.Prelude.{◌≡◌, ◌≤◌, ℕ, List, Option, Some, IfOk, length};
 ghost use Rattle.std.specs.Borrow.{Bor};
-ghost use Rattle.pybuf_value.specs.Halting.{outcome_of};
-ghost use Rattle.pybuf_search.specs.Joins.{items_of};
+ghost use Rattle.pybuf_value.specs.Halting.{outcome_of, items_of};
 ghost use Rattle.pybuf_search.specs.Ranges.{IsSearch};
 ghost use Rattle.pybuf_bytes.specs.Searching as spec;
 

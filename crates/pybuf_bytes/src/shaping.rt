@@ -1,8 +1,7 @@
 //! Strings of bytes in other shapes.
-ghost use Rattle.std.specs.Prelude.{◌≡◌, IfOk, Ok, length};
+ghost use Rattle.std.specs.Prelude.{◌≡◌, IfOk, length};
 ghost use Rattle.std.specs.Option.{option_copied};
-ghost use Rattle.pybuf_value.specs.Halting.{outcome_of};
-ghost use Rattle.pybuf_search.specs.Joins.{items_of};
+ghost use Rattle.pybuf_value.specs.Halting.{outcome_of, items_of};
 ghost use Rattle.pybuf_shaping.specs.Arguments.{filled, translation};
 ghost use Rattle.pybuf_shaping.specs.Digits.{hex_text, bytes_of_hex};
 ghost use Rattle.pybuf_shaping.specs.Padding.{centered, justified_left, justified_right, zero_filled};
@@ -13,18 +12,8 @@ ghost use Rattle.pybuf_bytes.specs.Shaping.{group_given};
 
 use crate::inner::PyBytesInner;
 use pybuf_shaping::{ByteInnerPaddingOptions, ByteInnerTranslateOptions, ExpandTabsArgs};
-use pybuf_value::{ByteList, Lender, Made, Outcome, Text, Tried};
+use pybuf_value::{Lender, Made, Text, Tried, as_vec};
 use std::alloc::Global;
-
-/// The bytes of an answer, as a vector. Takes no memory.
-fn as_vec(answer: Tried<ByteList>) -> Tried<Vec<u8>>
-    ensures { IfOk result (λ outcome. answer ≡ Ok (items_of outcome)) }
-{
-    match answer? {
-        Outcome::Done(bytes) => Ok(Outcome::Done(bytes.into_vec())),
-        Outcome::Refused(fault) => Ok(Outcome::Refused(fault)),
-    }
-}
 
 /// The bytes as pairs of lower-case hexadecimal digits, with a separator, where one is given, between
 /// each two groups of so many bytes: of one where no size is given, counted from the right for a positive

@@ -5,9 +5,9 @@ use Rattle.pybuf_value.specs.declared.faults.Fault.{Fault}
 use Rattle.pybuf_value.specs.declared.faults.Fault.TheVariants as fault
 use Rattle.pybuf_value.specs.Refusing.{◌>>=◌}
 use Rattle.std.specs.Option.{ok_or}
-use Rattle.pybuf_index.specs.Places.{item_place}
+use Rattle.pybuf_index.specs.Places.{item_place, entry_in}
 use Rattle.pybuf_desc.specs.Places.{places}
-use Rattle.pybuf_desc.specs.Positions.{AreIndices, offset_of, number_of_item, entry_of_index, position_of}
+use Rattle.pybuf_desc.specs.Positions.{AreIndices, offset_of, number_of_item, position_of}
 use Rattle.pybuf_desc.proofs.Indices.{position_from, place_of_item}
 use Rattle.pybuf_desc.proofs.Moves.{dim_at}
 use Rattle.pybuf_desc.proofs.Products.{AreNonzero, AreNonzero-from_All}
@@ -20,7 +20,7 @@ is_place : (place : Option ℕ) (f : Fault) (i : ℕ) → ok_or place f ≡ Ok i
 is_place None f i e = absurd (cc)
 is_place (Some k) f i e = ap Some (let same : k ≡ i = cc in same)
 
-pub index_below : (n : ℕ) (z : ℤ) (i : ℕ) → entry_of_index n z ≡ Ok i → i < n
+pub index_below : (n : ℕ) (z : ℤ) (i : ℕ) → entry_in n z ≡ Ok i → i < n
 index_below n z i e = below n z i (is_place (item_place n z) fault.Index i e)
 
 -- the first dimension's step
@@ -34,8 +34,8 @@ in_order (Ok i) (Ok n) stride = refl
 in_order (Ok i) (Err f) stride = refl
 in_order (Err f) r stride = refl
 
-position-cons : (index : ℤ) (indices : List ℤ) (dim : ℕ × ℤ × ℤ) (dims : List (ℕ × ℤ × ℤ)) → position_of (index ∷ indices) (dim ∷ dims) ≡ after_first (entry_of_index dim.0 index) dim.1 (position_of indices dims)
-position-cons index indices dim dims = in_order (entry_of_index dim.0 index) (position_of indices dims) dim.1
+position-cons : (index : ℤ) (indices : List ℤ) (dim : ℕ × ℤ × ℤ) (dims : List (ℕ × ℤ × ℤ)) → position_of (index ∷ indices) (dim ∷ dims) ≡ after_first (entry_in dim.0 index) dim.1 (position_of indices dims)
+position-cons index indices dim dims = in_order (entry_in dim.0 index) (position_of indices dims) dim.1
 
 plus_assoc : (a b c : ℤ) → a +ℤ (b +ℤ c) ≡ a +ℤ b +ℤ c
 plus_assoc a b c = omega (arith, ints)
@@ -45,13 +45,13 @@ position_from-after offset i stride (Ok n) = ap (λ (k : ℤ). Ok k) (plus_assoc
 position_from-after offset i stride (Err f) = refl
 
 position_at : (indices : List ℤ) (dims : List (ℕ × ℤ × ℤ)) (k : ℕ) → length indices ≡ length dims → k < length dims
-    → position_of (drop k indices) (drop k dims) ≡ after_first (entry_of_index (dim_at dims k).0 (get_or indices k (pos 0))) (dim_at dims k).1 (position_of (drop (k + 1) indices) (drop (k + 1) dims))
+    → position_of (drop k indices) (drop k dims) ≡ after_first (entry_in (dim_at dims k).0 (get_or indices k (pos 0))) (dim_at dims k).1 (position_of (drop (k + 1) indices) (drop (k + 1) dims))
 position_at indices dims k e h =
     rw add-one (ap₂ (λ is ds. position_of is ds) (drop-cons indices k (pos 0) (omega arith)) (drop-cons dims k (0, pos 0, pos 0) h)
     ∙ position-cons (get_or indices k (pos 0)) (drop (suc k) indices) (dim_at dims k) (drop (suc k) dims))
 
 pub position_more : (indices : List ℤ) (dims : List (ℕ × ℤ × ℤ)) (k i : ℕ) (offset next : ℤ) (whole : Result ℤ Fault) → length indices ≡ length dims → k < length dims
-    → entry_of_index (dim_at dims k).0 (get_or indices k (pos 0)) ≡ Ok i → next ≡ offset +ℤ pos i *ℤ (dim_at dims k).1
+    → entry_in (dim_at dims k).0 (get_or indices k (pos 0)) ≡ Ok i → next ≡ offset +ℤ pos i *ℤ (dim_at dims k).1
     → whole ≡ position_from offset (position_of (drop k indices) (drop k dims)) → whole ≡ position_from next (position_of (drop (k + 1) indices) (drop (k + 1) dims))
 position_more indices dims k i offset next whole e h w n q =
     q ∙ ap (position_from offset) (position_at indices dims k e h ∙ ap (λ r. after_first r (dim_at dims k).1 (position_of (drop (k + 1) indices) (drop (k + 1) dims))) w)
@@ -59,7 +59,7 @@ position_more indices dims k i offset next whole e h w n q =
     ∙ ap (λ m. position_from m (position_of (drop (k + 1) indices) (drop (k + 1) dims))) (sym n)
 
 pub position_refused : (indices : List ℤ) (dims : List (ℕ × ℤ × ℤ)) (k : ℕ) (offset : ℤ) (f : Fault) (whole : Result ℤ Fault) → length indices ≡ length dims → k < length dims
-    → entry_of_index (dim_at dims k).0 (get_or indices k (pos 0)) ≡ Err f
+    → entry_in (dim_at dims k).0 (get_or indices k (pos 0)) ≡ Err f
     → whole ≡ position_from offset (position_of (drop k indices) (drop k dims)) → whole ≡ Err f
 position_refused indices dims k offset f whole e h w q =
     q ∙ ap (position_from offset) (position_at indices dims k e h ∙ ap (λ r. after_first r (dim_at dims k).1 (position_of (drop (k + 1) indices) (drop (k + 1) dims))) w)
@@ -73,7 +73,7 @@ pub position_end : (indices : List ℤ) (dims : List (ℕ × ℤ × ℤ)) (k : �
 position_end indices dims k offset whole h q =
     q ∙ ap (λ ds. position_from offset (position_of (drop k indices) ds)) (drop_of_length-le dims h) ∙ position_none (drop k indices) offset
 
-none_named : (z : ℤ) → entry_of_index 0 z ≡ Err fault.Index
+none_named : (z : ℤ) → entry_in 0 z ≡ Err fault.Index
 none_named (pos k) = grind arith
 none_named (negsuc k) = grind arith
 
@@ -81,7 +81,7 @@ pub position_of_none : (indices : List ℤ) (dims : List (ℕ × ℤ × ℤ)) �
 position_of_none indices [] e h z = absurd (omega arith)
 position_of_none [] (dim ∷ dims) e h z = absurd (let wrong : 0 ≡ length (dim ∷ dims) = e in omega arith)
 position_of_none (i ∷ indices) (dim ∷ dims) e h z =
-    position-cons i indices dim dims ∙ ap (λ r. after_first r dim.1 (position_of indices dims)) (ap (λ n. entry_of_index n i) z ∙ none_named i)
+    position-cons i indices dim dims ∙ ap (λ r. after_first r dim.1 (position_of indices dims)) (ap (λ n. entry_in n i) z ∙ none_named i)
 
 -- ---- a position is an item's place less the start
 
@@ -103,7 +103,7 @@ found [] [] offset e q = record { indices = []; in_range = tt; sum = cc }
 found [] (dim ∷ dims) offset e q = absurd (let wrong : 0 ≡ length (dim ∷ dims) = e in omega arith)
 found (i ∷ indices) [] offset e q = absurd (let wrong : length (i ∷ indices) ≡ 0 = e in omega arith)
 found (i ∷ indices) (dim ∷ dims) offset e q =
-    found-cons dim dims (entry_of_index dim.0 i) (position_of indices dims) offset (index_below dim.0 i) (λ o p. found indices dims o (let l : length (i ∷ indices) ≡ length (dim ∷ dims) = e in omega arith) p) (sym (position-cons i indices dim dims) ∙ q)
+    found-cons dim dims (entry_in dim.0 i) (position_of indices dims) offset (index_below dim.0 i) (λ o p. found indices dims o (let l : length (i ∷ indices) ≡ length (dim ∷ dims) = e in omega arith) p) (sym (position-cons i indices dim dims) ∙ q)
 
 contains_from_get : (xs : List ℤ) (k : ℕ) (x : ℤ) → slice_get xs k ≡ Some x → Contains xs x
 contains_from_get [] k x e = absurd (cc)

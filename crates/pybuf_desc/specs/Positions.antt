@@ -1,9 +1,8 @@
 -- An item by its indices.
-use Rattle.std.specs.Prelude.{ℕ, ◌+◌, ◌*◌, ◌<◌, ℤ, pos, ◌+ℤ◌, ◌*ℤ◌, List, [], ◌∷◌, Result, Ok, ok_or, ⊤}
+use Rattle.std.specs.Prelude.{ℕ, ◌+◌, ◌*◌, ◌<◌, ℤ, pos, ◌+ℤ◌, ◌*ℤ◌, List, [], ◌∷◌, Result, Ok, ⊤}
 use Rattle.pybuf_value.specs.declared.faults.Fault.{Fault}
-use Rattle.pybuf_value.specs.declared.faults.Fault.TheVariants as fault
 use Rattle.pybuf_value.specs.Refusing.{◌>>=◌}
-use Rattle.pybuf_index.specs.Places.{item_place}
+use Rattle.pybuf_index.specs.Places.{entry_in}
 use Rattle.pybuf_desc.specs.Layouts.{product}
 use Rattle.pybuf_desc.specs.Descriptor.{shape_of}
 
@@ -24,14 +23,10 @@ number_of_item (index ∷ indices) (dim ∷ dims) =
     index * product (shape_of dims) + number_of_item indices dims
 number_of_item _ _ = 0
 
--- the entry that an index names, where a negative one counts from the end
-abbrev pub entry_of_index : ℕ → ℤ → Result ℕ Fault
-entry_of_index n index = ok_or (item_place n index) fault.Index
-
 -- the sum of entry times stride, where each index names an entry
 abbrev pub position_of : List ℤ → List (ℕ × ℤ × ℤ) → Result ℤ Fault
 position_of (index ∷ indices) (dim ∷ dims) = do
-  first ← entry_of_index dim.0 index
+  first ← entry_in dim.0 index
   others ← position_of indices dims
   Ok (pos first *ℤ dim.1 +ℤ others)
 position_of _ _ = Ok (pos 0)

@@ -4,8 +4,8 @@ use Rattle.std.specs.List.{flat_map}
 use Rattle.pybuf_index.specs.Parts.{SliceParts, picks_of, nearest_word}
 use Rattle.pybuf_desc.specs.Layouts.{Layout}
 
--- The first entry of a shape. A view of no dimension is never sliced: it has no such entry, and the 1
--- counts nothing.
+-- The first entry of a shape, and 1 where there is no dimension: an iterator over such a view goes along one
+-- entry. Such a view is never sliced, and there the 1 counts nothing.
 abbrev pub first_entry : List ℕ → ℕ
 first_entry [] = 1
 first_entry (n ∷ shape) = n

@@ -1,22 +1,12 @@
 //! Positions of items by their indices.
-ghost use Rattle.std.specs.Prelude.{◌≡◌, ◌<◌, ◌^◌, ◌+ℤ◌, ℤ, Some, Contains, slice_get, length, IfOk};
+ghost use Rattle.std.specs.Prelude.{◌≡◌, ◌+ℤ◌, ℤ, Some, Contains, slice_get, length, IfOk};
 ghost use Rattle.pybuf_desc.specs.Places.{places};
 ghost use Rattle.pybuf_desc.specs.Valid.{IsPlaceable};
-ghost use Rattle.pybuf_desc.specs.Positions.{AreIndices, offset_of, number_of_item, entry_of_index, position_of};
+ghost use Rattle.pybuf_desc.specs.Positions.{AreIndices, offset_of, number_of_item, position_of};
 
 use crate::descriptor::BufferDescriptor;
-use pybuf_index::SequenceIndexOp;
+use pybuf_index::entry_in;
 use pybuf_value::Fault;
-
-/// The entry among `len` that an index names, where a negative one counts from the end.
-///
-/// Refused with `IndexError` exactly where it is out of bounds.
-fn entry_of_index(index: isize, len: usize) -> Result<usize, Fault>
-    requires { len < 2 ^ 63 }
-    ensures { result ≡ entry_of_index len index }
-{
-    index.wrapped_at(len).ok_or(Fault::Index)
-}
 
 impl BufferDescriptor {
     /// The place of an item less the start: the sum of index times stride. One index for each
@@ -56,7 +46,7 @@ impl BufferDescriptor {
         }
         let mut offset: isize = 0;
         for k in 0..dims.len() {
-            let index = entry_of_index(indices[k], dims[k].0)?;
+            let index = entry_in(dims[k].0, indices[k])?;
             offset += index as isize * dims[k].1;
         }
         Ok(offset)

@@ -16,8 +16,8 @@ use pybuf_command::{
 use pybuf_rows_edits::{append as append_of_own, pop as pop_of_own};
 use pybuf_rows_reads::get;
 use pybuf_rows_views::{cast, release, view};
-use pybuf_state::{Parts, are_known};
-use pybuf_value::{Fault, Halt, Made, Value};
+use pybuf_state::Parts;
+use pybuf_value::{Halt, Made, Value};
 
 fn answered_view_of_own(parts: &mut Parts, _loans: &LoanList) -> Result<LocalReply, Halt>
     requires { IsWhole parts.old }
@@ -90,9 +90,7 @@ fn answered_get_of_own(parts: &mut Parts, key: &Value, loans: &LoanList) -> Resu
     ensures counted { parts.new.exports ≡ exports_of (exporter_of parts.new) }
 {
     let handles = handles_in(parts.alloc, key)?;
-    if !are_known(parts, loans, handles.as_slice()) {
-        return Err(Halt::Refused(Fault::UnknownName));
-    }
+    pick::check_known(parts, loans, handles.as_slice())?;
     get::of_own(parts, key)
 }
 
@@ -118,9 +116,7 @@ fn answered_get_of_view(
     ensures counted { parts.new.exports ≡ exports_of (exporter_of parts.new) }
 {
     let handles = handles_in(parts.alloc, key)?;
-    if !are_known(parts, loans, handles.as_slice()) {
-        return Err(Halt::Refused(Fault::UnknownName));
-    }
+    pick::check_known(parts, loans, handles.as_slice())?;
     pick::get_of_view(parts, view, key)
 }
 
@@ -153,9 +149,7 @@ fn answered_set_through_view(
     ensures counted { parts.new.exports ≡ exports_of (exporter_of parts.new) }
 {
     let handles = handles_in_both(parts.alloc, key, value)?;
-    if !are_known(parts, loans, handles.as_slice()) {
-        return Err(Halt::Refused(Fault::UnknownName));
-    }
+    pick::check_known(parts, loans, handles.as_slice())?;
     pick::set_through_view(parts, view, key, value, loans)
 }
 
@@ -189,9 +183,7 @@ fn answered_cast_of_view(
     ensures counted { parts.new.exports ≡ exports_of (exporter_of parts.new) }
 {
     let handles = handles_with_option(parts.alloc, format, shape)?;
-    if !are_known(parts, loans, handles.as_slice()) {
-        return Err(Halt::Refused(Fault::UnknownName));
-    }
+    pick::check_known(parts, loans, handles.as_slice())?;
     cast::of_view(parts, view, format, shape)
 }
 
@@ -218,9 +210,7 @@ fn answered_append(parts: &mut Parts, value: &Value, loans: &LoanList) -> Result
     ensures counted { parts.new.exports ≡ exports_of (exporter_of parts.new) }
 {
     let handles = handles_in(parts.alloc, value)?;
-    if !are_known(parts, loans, handles.as_slice()) {
-        return Err(Halt::Refused(Fault::UnknownName));
-    }
+    pick::check_known(parts, loans, handles.as_slice())?;
     append_of_own(parts, value)
 }
 
@@ -245,9 +235,7 @@ fn answered_pop(
     ensures counted { parts.new.exports ≡ exports_of (exporter_of parts.new) }
 {
     let handles = handles_in_option(parts.alloc, index)?;
-    if !are_known(parts, loans, handles.as_slice()) {
-        return Err(Halt::Refused(Fault::UnknownName));
-    }
+    pick::check_known(parts, loans, handles.as_slice())?;
     pop_of_own(parts, index)
 }
 

@@ -1,9 +1,10 @@
 //! Which row a command has.
-ghost use Rattle.std.specs.Prelude.{◌≡◌, IfOk, OnErr};
+ghost use Rattle.std.specs.Prelude.{◌≡◌, true, false, IfOk, IfErr, OnOk, OnErr};
+ghost use Rattle.pybuf_value.specs.declared.faults.Fault.TheVariants as faults;
 ghost use Rattle.pybuf_command.specs.declared.kinds.Subject.TheVariants as subjects;
 ghost use Rattle.pybuf_command.specs.Handles.{handle_of_value, handles_read};
 ghost use Rattle.pybuf_state.specs.Exporter.{exports_of};
-ghost use Rattle.pybuf_state.specs.Loans.{lents_by};
+ghost use Rattle.pybuf_state.specs.Loans.{are_named, lents_by};
 ghost use Rattle.pybuf_state.specs.Answers.{exporter_of, IsWhole, Answers};
 ghost use Rattle.pybuf_exporter.specs.Step as spec;
 
@@ -134,6 +135,18 @@ fn row<N: Names>(
     }
 }
 
+/// Refuses a handle that names nothing, with `UnknownName`, before all else.
+pub(crate) fn check_known<N: Names>(parts: &Parts, names: &N, handles: &[u64]) -> Result<(), Fault>
+    ensures known { OnOk result (are_named (exporter_of parts.now) (N.named names.now) handles.now ≡ true) }
+    ensures unknown { OnErr result (are_named (exporter_of parts.now) (N.named names.now) handles.now ≡ false) }
+    ensures refused { IfErr result (λ fault. fault ≡ faults.UnknownName) }
+{
+    if !are_known(parts, names, handles) {
+        return Err(Fault::UnknownName);
+    }
+    Ok(())
+}
+
 fn answered<N: Names>(
     parts: &mut Parts,
     subject: Subject,
@@ -146,9 +159,7 @@ fn answered<N: Names>(
     ensures counted { parts.new.exports ≡ exports_of (exporter_of parts.new) }
 {
     let handles = handles_of(parts.alloc, verb)?;
-    if !are_known(parts, names, handles.as_slice()) {
-        return Err(Halt::Refused(Fault::UnknownName));
-    }
+    check_known(parts, names, handles.as_slice())?;
     row(parts, subject, verb, names)
 }
 

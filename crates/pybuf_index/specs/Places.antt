@@ -1,6 +1,7 @@
 -- Where a number points in a sequence of n items: a negative one counts from the end.
-use Rattle.std.specs.Prelude.{ℕ, suc, ◌-◌, min, ℤ, pos, negsuc, Option, None, Some, Result, Ok, nat_lt, if◌then◌else◌}
+use Rattle.std.specs.Prelude.{ℕ, suc, ◌-◌, min, ℤ, pos, negsuc, Option, None, Some, Result, Ok, ok_or, nat_lt, if◌then◌else◌}
 use Rattle.pybuf_value.specs.declared.faults.Fault.{Fault}
+use Rattle.pybuf_value.specs.declared.faults.Fault.TheVariants as fault
 use Rattle.pybuf_value.specs.declared.values.Value.{Value}
 use Rattle.pybuf_value.specs.Numbers.{number_of}
 use Rattle.pybuf_value.specs.Refusing.{◌>>=◌}
@@ -14,6 +15,10 @@ saturated_place n (negsuc k) = n - suc k
 abbrev pub item_place : ℕ → ℤ → Option ℕ
 item_place n (pos k) = if nat_lt k n then Some k else None
 item_place n (negsuc k) = if nat_lt k n then Some (n - suc k) else None
+
+-- the same, refused where there is none
+abbrev pub entry_in : ℕ → ℤ → Result ℕ Fault
+entry_in count index = ok_or (item_place count index) fault.Index
 
 -- the place of a bound that may be absent
 abbrev pub bound_in : ℕ → ℕ → Option Value → Result ℕ Fault

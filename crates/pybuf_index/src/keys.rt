@@ -2,7 +2,7 @@
 ghost use Rattle.std.specs.Prelude.{◌≡◌, ◌<◌, ◌^◌, ℕ, ℤ, Option, Result, IfOk};
 ghost use Rattle.pybuf_value.specs.declared.faults.Fault.{Fault};
 ghost use Rattle.pybuf_index.specs.Parts.{SliceParts, saturated_parts_of};
-ghost use Rattle.pybuf_index.specs.Places.{saturated_place, item_place, bound_in, bounds_in};
+ghost use Rattle.pybuf_index.specs.Places.{saturated_place, item_place, entry_in, bound_in, bounds_in};
 ghost use Rattle.pybuf_value.specs.declared.values.PySlice.{PySlice};
 ghost use Rattle.pybuf_index.specs.Compared.{compared_slices, slice_text};
 ghost use Rattle.pybuf_index.specs.Indices.{indices_of, sequence_index_of};
@@ -87,6 +87,19 @@ impl SequenceIndexOp for i128 {
                 None
             }
         }
+    }
+}
+
+/// The entry among so many that an index names, where a negative one counts from the end.
+///
+/// Refused with `IndexError` exactly where there is none.
+pub fn entry_in(count: usize, index: isize) -> Result<usize, Fault>
+    requires { count < 2 ^ 63 }
+    ensures { result ≡ entry_in count index }
+{
+    match index.wrapped_at(count) {
+        Some(entry) => Ok(entry),
+        None => Err(Fault::Index),
     }
 }
 

@@ -10,7 +10,7 @@ mod saturated;
 
 pub use compared::hash_of_lanes;
 pub use iter::SaturatedSliceIter;
-pub use keys::{OptionalRangeArgs, SequenceIndex, SequenceIndexOp, SliceIndices};
+pub use keys::{OptionalRangeArgs, SequenceIndex, SequenceIndexOp, SliceIndices, entry_in};
 pub use laws::{
     clamping_changes_no_index, indices_and_adjust_indices_agree, indices_of_a_slice,
     indices_of_a_span, slices_have_spans,

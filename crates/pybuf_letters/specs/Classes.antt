@@ -1,6 +1,6 @@
 -- Classes of bytes. The letters and digits of ASCII alone are letters and digits, and a byte past 127
 -- is in none of these classes.
-use Rattle.std.specs.Prelude.{ℕ, Bool, true, false, not, ◌&&◌, ◌||◌, ◌==◌, nat_lt, nat_le, List, [], ◌∷◌, length, if◌then◌else◌}
+use Rattle.std.specs.Prelude.{ℕ, Bool, true, false, not, ◌&&◌, ◌||◌, ◌==◌, nat_le, List, [], ◌∷◌, length, if◌then◌else◌}
 use Rattle.std.specs.Char.{is_ascii_alphabetic, is_ascii_uppercase, is_ascii_lowercase}
 use Rattle.std.specs.List.{list_all, list_any}
 
@@ -11,10 +11,6 @@ is_blank b = b == 32 || nat_le 9 b && nat_le b 13
 -- there are bytes, and each is of the class
 abbrev pub all_of : (ℕ → Bool) → List ℕ → Bool
 all_of of_class bytes = not (length bytes == 0) && list_all of_class bytes
-
--- each byte is below 128
-abbrev pub all_ascii : List ℕ → Bool
-all_ascii bytes = list_all (λ b. nat_lt b 128) bytes
 
 -- some byte is of the one case, and none is of the other
 abbrev pub all_in_case : (ℕ → Bool) → (ℕ → Bool) → List ℕ → Bool

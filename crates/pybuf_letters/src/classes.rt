@@ -31,13 +31,6 @@ pub fn is_alpha(bytes: &[u8]) -> bool
     bytes.iter().all(|b| b.is_ascii_alphabetic())
 }
 
-/// Whether each byte is below 128, as of Python's `bytes.isascii`: so also where there is none.
-pub fn is_ascii(bytes: &[u8]) -> bool
-    ensures { result ≡ spec.all_ascii bytes.now }
-{
-    bytes.is_ascii()
-}
-
 /// Whether there are bytes and each is a decimal digit of ASCII, as of Python's `bytes.isdigit`.
 pub fn is_digit(bytes: &[u8]) -> bool
     ensures { result ≡ spec.all_of is_ascii_digit bytes.now }

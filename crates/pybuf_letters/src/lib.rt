@@ -12,8 +12,7 @@ mod strips;
 pub use blanks::{blank_parts_from_last, rsplit_at_blanks, split_at_blanks};
 pub use cases::{capitalize, lower, swapcase, title, upper};
 pub use classes::{
-    is_alnum, is_alpha, is_ascii, is_digit, is_lower, is_py_ascii_whitespace, is_space, is_title,
-    is_upper,
+    is_alnum, is_alpha, is_digit, is_lower, is_py_ascii_whitespace, is_space, is_title, is_upper,
 };
 pub use laws::{
     cases_alone_are_changed, cases_settle, cuts_lose_blanks_alone, lines_are_the_bytes,

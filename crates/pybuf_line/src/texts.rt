@@ -2,13 +2,15 @@
 ghost use Rattle.std.specs.Prelude.{◌≡◌, ◌++◌, List, ℕ, OnOk, decimal};
 ghost use Rattle.std.specs.Fmt.{signed_decimal};
 ghost use Rattle.std.specs.List.{flat_map};
-ghost use Rattle.pybuf_value.specs.Quotes.{quoted_text};
-ghost use Rattle.pybuf_value.specs.Spelling.{bytes_text, truth_text, handle_text, scalar_text};
+ghost use Rattle.pybuf_value.specs.Spelling.{bytes_text, handle_text, scalar_text};
 ghost use Rattle.pybuf_line.specs.Replies.{next_part_text, tuple_text, item_text, list_text, nested_text, reply_text, reply_line, bad_line_text};
 
 use itoa::Buffer;
 use pybuf_command::Reply;
-use pybuf_value::{ByteList, Item, Made, Scalar, push_quoted, push_scalar};
+use pybuf_value::{
+    ByteList, Item, Made, Scalar, push_bytes, push_handle, push_number, push_quoted, push_scalar,
+    push_truth,
+};
 
 /// Adds a decimal number.
 fn push_decimal(out: &mut Vec<u8>, number: u64) -> Made<()>
@@ -17,43 +19,6 @@ fn push_decimal(out: &mut Vec<u8>, number: u64) -> Made<()>
     let mut buffer = Buffer::new();
     out.extend_from_slice(buffer.format(number).as_bytes())?;
     Ok(())
-}
-
-/// Adds a decimal number with its sign.
-fn push_signed_decimal(out: &mut Vec<u8>, number: i128) -> Made<()>
-    ensures { OnOk result (out.new.items ≡ out.old.items ++ signed_decimal number) }
-{
-    let mut buffer = Buffer::new();
-    out.extend_from_slice(buffer.format(number).as_bytes())?;
-    Ok(())
-}
-
-/// Adds bytes as Python's `repr` writes them.
-fn push_bytes(out: &mut Vec<u8>, bytes: &[u8]) -> Made<()>
-    ensures { OnOk result (out.new.items ≡ out.old.items ++ bytes_text bytes.now) }
-{
-    out.push(b'b')?;
-    push_quoted(out, bytes)
-}
-
-/// Adds a truth value.
-fn push_truth(out: &mut Vec<u8>, truth: bool) -> Made<()>
-    ensures { OnOk result (out.new.items ≡ out.old.items ++ truth_text truth) }
-{
-    if truth {
-        out.extend_from_slice(b"True")?;
-    } else {
-        out.extend_from_slice(b"False")?;
-    }
-    Ok(())
-}
-
-/// Adds a handle.
-fn push_handle(out: &mut Vec<u8>, handle: u64) -> Made<()>
-    ensures { OnOk result (out.new.items ≡ out.old.items ++ handle_text handle) }
-{
-    out.push(b'h')?;
-    push_decimal(out, handle)
 }
 
 /// What a tuple or a list may have as its parts.
@@ -70,7 +35,7 @@ impl Part for i128 {
     ghost text = { signed_decimal };
 
     fn push_part(&self, out: &mut Vec<u8>) -> Made<()> {
-        push_signed_decimal(out, *self)
+        push_number(out, *self)
     }
 }
 

@@ -156,9 +156,6 @@ impl PyMemoryView {
         requires { self.now < length state.old.views }
         ensures { released_in state.old self.now ≡ Ok state.new }
     {
-        match state.release_view(self.view) {
-            Ok(()) => {}
-            Err(_) => unreachable!(),
-        }
+        PyBuffer::of(self.view).release(state)
     }
 }

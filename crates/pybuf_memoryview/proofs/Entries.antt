@@ -5,13 +5,13 @@ use Rattle.std.proofs.lemmas.Grind.{common_steps}
 use Rattle.std.proofs.lemmas.Option.{get_or_from_slice_get}
 use Rattle.pybuf_value.specs.declared.faults.Fault.{Fault}
 use Rattle.pybuf_value.specs.Refusing.{◌>>=◌}
+use Rattle.pybuf_index.specs.Places.{entry_in}
 use Rattle.pybuf_desc.specs.Descriptor.{Descriptor, shape_of}
 use Rattle.pybuf_desc.specs.Layouts.{Layout, product}
 use Rattle.pybuf_desc.specs.Places.{layout_at}
 use Rattle.pybuf_desc.specs.Valid.{IsPlaced}
 use Rattle.pybuf_desc.specs.Laws.{IsPosition, PositionsArePlaces, PlacedDescriptorsStand}
 use Rattle.pybuf_desc.specs.Positions.{number_of_item, offset_of, AreIndices, position_of}
-use Rattle.pybuf_memoryview.specs.Items.{entry_in}
 use Rattle.pybuf_memoryview.specs.Keys.{item_at_indices}
 use Rattle.pybuf_memoryview.specs.KeyPlaces.{IsStartOf}
 

@@ -12,8 +12,9 @@ use Rattle.pybuf_value.specs.declared.values.Scalar.TheVariants as scalar
 use Rattle.pybuf_value.specs.declared.values.Value.{Value}
 use Rattle.pybuf_value.specs.declared.values.Value.TheVariants as value
 use Rattle.pybuf_value.specs.Refusing.{unless, IfDone, done_bind}
+use Rattle.pybuf_index.specs.Places.{entry_in}
 use Rattle.pybuf_desc.specs.Layouts.{product}
-use Rattle.pybuf_memoryview.specs.Items.{index_in, entry_in}
+use Rattle.pybuf_memoryview.specs.Items.{index_in}
 use Rattle.pybuf_memoryview.specs.Keys.{is_number, part_number, fits_word, item_at_indices, item_of_tuple, item_of_index, item_among, only_item, item_of_key}
 use Rattle.pybuf_memoryview.specs.Laws.{KeysNameItems}
 use Rattle.pybuf_memoryview.proofs.Entries.{entry_below}

@@ -6,8 +6,8 @@ use Rattle.std.proofs.lemmas.Nat.{mul-add-lt, div-mul-add, div-add-mod'}
 use Rattle.std.proofs.Math.Nat.{div-lt_iff_lt-mul, mod-lt}
 use Rattle.pybuf_value.specs.declared.faults.Fault.{Fault}
 use Rattle.pybuf_value.specs.Refusing.{◌>>=◌}
+use Rattle.pybuf_index.specs.Places.{entry_in}
 use Rattle.pybuf_desc.specs.Layouts.{product}
-use Rattle.pybuf_memoryview.specs.Items.{entry_in}
 use Rattle.pybuf_memoryview.specs.Keys.{item_at_indices}
 use Rattle.pybuf_memoryview.specs.Laws.{AreEntries, ItemsHaveTheirEntries}
 

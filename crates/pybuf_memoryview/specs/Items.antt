@@ -1,5 +1,5 @@
--- Items: which entry an index names, what an item reads as, and which value it is written as.
-use Rattle.std.specs.Prelude.{ℕ, ◌==◌, List, [], ◌∷◌, length, ℤ, pos, Bool, true, false, Result, Ok, Err, ok_or}
+-- Items: what an item reads as, and which value it is written as; and the number of a key.
+use Rattle.std.specs.Prelude.{ℕ, ◌==◌, List, [], ◌∷◌, length, ℤ, pos, Bool, true, false, Result, Ok, Err}
 use Rattle.pybuf_value.specs.declared.faults.Fault.{Fault}
 use Rattle.pybuf_value.specs.declared.faults.Fault.TheVariants as fault
 use Rattle.pybuf_value.specs.declared.values.Scalar.{Scalar}
@@ -8,7 +8,6 @@ use Rattle.pybuf_value.specs.declared.values.Item.{Item}
 use Rattle.pybuf_value.specs.declared.values.Item.TheVariants as item
 use Rattle.pybuf_value.specs.declared.values.Value.{Value}
 use Rattle.pybuf_value.specs.declared.values.Value.TheVariants as value
-use Rattle.pybuf_index.specs.Places.{item_place}
 use Rattle.pybuf_value.specs.Refusing.{◌>>=◌, unless}
 use Rattle.pybuf_struct.specs.Formats.{format_of}
 use Rattle.pybuf_desc.specs.Layouts.{Layout}
@@ -22,10 +21,6 @@ abbrev pub index_in : Value → Result ℤ Fault
 index_in key = do
   n ← number_of key
   fitted_number fault.Index n
-
--- the entry among so many that an index names: a negative one counts from the end
-abbrev pub entry_in : ℕ → ℤ → Result ℕ Fault
-entry_in count index = ok_or (item_place count index) fault.Index
 
 -- a view of no dimension has no entries that an index or a slice could name
 abbrev pub has_dimensions : Layout → Result Bool Fault

@@ -10,8 +10,9 @@ use Rattle.pybuf_value.specs.declared.values.Value.{Value}
 use Rattle.pybuf_value.specs.declared.values.Value.TheVariants as value
 use Rattle.pybuf_value.specs.Numbers.{number_in, is_word}
 use Rattle.pybuf_value.specs.Refusing.{◌>>=◌, unless}
+use Rattle.pybuf_index.specs.Places.{entry_in}
 use Rattle.pybuf_desc.specs.Layouts.{product}
-use Rattle.pybuf_memoryview.specs.Items.{index_in, entry_in}
+use Rattle.pybuf_memoryview.specs.Items.{index_in}
 
 -- ---- a tuple of numbers, one for each dimension
 

@@ -1,5 +1,5 @@
 //! Keys and the values of items.
-ghost use Rattle.std.specs.Prelude.{◌≡◌, ◌<◌, ◌^◌, [], ◌∷◌, true, IfOk, IfSome};
+ghost use Rattle.std.specs.Prelude.{◌≡◌, [], ◌∷◌, true, IfOk, IfSome};
 ghost use Rattle.pybuf_struct.specs.Values.{item_of};
 ghost use Rattle.pybuf_struct.specs.Formats.{format_of};
 ghost use Rattle.pybuf_value.specs.Halting.{Gives};
@@ -8,7 +8,6 @@ ghost use Rattle.pybuf_memoryview.specs.Items as spec;
 ghost use Rattle.pybuf_memoryview.specs.SingleBytes.{byte_for_item};
 
 use crate::kept::KeptLayout;
-use pybuf_index::SequenceIndexOp;
 use pybuf_struct::{FormatSpec, single_value};
 use pybuf_value::{
     Fault, Halt, Item, Made, Outcome, Scalar, ScalarList, Text, Twin, Value, fit_index, index_of,
@@ -25,19 +24,6 @@ pub fn index_in(key: &Value) -> Result<isize, Fault>
 {
     let number = index_of(key)?;
     fit_index(number)
-}
-
-/// The entry among so many that an index names, where a negative one counts from the end.
-///
-/// Refused with `IndexError` exactly where there is none.
-pub fn entry_in(count: usize, index: isize) -> Result<usize, Fault>
-    requires { count < 2 ^ 63 }
-    ensures { result ≡ spec.entry_in count index }
-{
-    match index.wrapped_at(count) {
-        Some(entry) => Ok(entry),
-        None => Err(Fault::Index),
-    }
 }
 
 /// A byte as an item.

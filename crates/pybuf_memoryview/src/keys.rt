@@ -1,26 +1,13 @@
 //! Which item of a view a key names, and where that item lies.
 ghost use Rattle.std.specs.Prelude.{◌≡◌, ◌≤◌, ◌+ℤ◌, pos, nat_abs, true, length, map, take, Ok, MatchResult};
 ghost use Rattle.std.specs.List.{list_all};
-ghost use Rattle.pybuf_value.specs.Numbers.{number_in};
 ghost use Rattle.pybuf_memoryview.specs.Keys as spec;
 ghost use Rattle.pybuf_memoryview.specs.KeyPlaces as places;
 
-use crate::items::{entry_in, index_in};
+use crate::items::index_in;
 use crate::kept::KeptLayout;
-use pybuf_value::{Fault, Scalar, Value, fit_index};
-
-/// The number that a part of a tuple is.
-///
-/// Refused with `TypeError` where it is none.
-fn number_in(part: &Scalar) -> Result<i128, Fault>
-    ensures { result ≡ number_in part.now }
-{
-    match part {
-        Scalar::Int(number) => Ok(*number),
-        Scalar::Bool(truth) => { if *truth { Ok(1) } else { Ok(0) } }
-        _ => Err(Fault::Kind),
-    }
-}
+use pybuf_index::entry_in;
+use pybuf_value::{Fault, Scalar, Value, fit_index, number_in};
 
 /// Whether a part of a tuple is a number.
 fn is_number(part: &Scalar) -> bool

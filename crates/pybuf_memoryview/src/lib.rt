@@ -14,7 +14,7 @@ mod view_snaps;
 pub use bytes::{is_byte_format, is_row_of};
 pub use content::{content_of, first_place};
 pub use items::{
-    args_of, byte_for_item, byte_item, entry_in, format_of, index_in, is_none, is_slice, item_by,
+    args_of, byte_for_item, byte_item, format_of, index_in, is_none, is_slice, item_by,
 };
 pub use kept::KeptLayout;
 pub use keys::{names_itself, place_of_key};

@@ -4,6 +4,7 @@ use Rattle.pybuf_value.specs.declared.faults.Fault.{Fault}
 use Rattle.pybuf_value.specs.declared.snaps.Snap.{Snap}
 use Rattle.pybuf_value.specs.declared.values.Value.{Value}
 use Rattle.pybuf_value.specs.Refusing.{◌>>=◌}
+use Rattle.pybuf_value.specs.Numbers.{count_or}
 use Rattle.pybuf_value.specs.Snaps.{bytes_in}
 use Rattle.pybuf_search.specs.Parts.{partition_parts, rpartition_parts}
 use Rattle.pybuf_search.specs.Separators.{by_separator}
@@ -11,7 +12,7 @@ use Rattle.pybuf_letters.specs.Strips.{goes}
 use Rattle.pybuf_letters.specs.Lines.{split_lines}
 use Rattle.pybuf_bytes.specs.declared.methods.MethodReply.{MethodReply}
 use Rattle.pybuf_bytes.specs.declared.methods.MethodReply.TheVariants as reply
-use Rattle.pybuf_methods.specs.Given.{one, at_most_one, at_most_two, count_or, flag_given, bytes_given}
+use Rattle.pybuf_methods.specs.Given.{one, at_most_one, at_most_two, flag_given, bytes_given}
 
 -- without the bytes of a set, or the blanks, at one end or both
 abbrev pub strip : ((ℕ → Bool) → List ℕ → List ℕ) → List (ℕ × Snap) → List ℕ → List Value → Result MethodReply Fault

@@ -12,8 +12,8 @@ use Rattle.pybuf_value.specs.declared.values.Scalar.TheVariants as scalar
 use Rattle.pybuf_value.specs.declared.values.Value.{Value}
 use Rattle.pybuf_value.specs.declared.values.Value.TheVariants as value
 use Rattle.pybuf_value.specs.Refusing.{◌>>=◌}
-use Rattle.pybuf_value.specs.Numbers.{number_of, fitted_number}
-use Rattle.pybuf_value.specs.Snaps.{bytes_in, bytes_like, bytes_alone}
+use Rattle.pybuf_value.specs.Numbers.{number_of}
+use Rattle.pybuf_value.specs.Snaps.{bytes_in, bytes_alone}
 use Rattle.pybuf_value.specs.Texts.{text_in}
 
 -- ---- what stops a call
@@ -66,17 +66,6 @@ one_to_three _ = Err fault.Kind
 
 -- ---- what each stands for
 
--- a number that fits `isize`
-abbrev pub count_in : Value → Result ℤ Fault
-count_in v = do
-  n ← number_of v
-  fitted_number fault.Overflow n
-
--- the same, and a number where none is given
-abbrev pub count_or : ℤ → Option Value → Result ℤ Fault
-count_or absent None = Ok absent
-count_or absent (Some v) = count_in v
-
 -- a bound: `None` is no bound
 abbrev pub bound_in : Value → Result (Option ℤ) Fault
 bound_in (value.One scalar.None) = Ok None
@@ -120,11 +109,6 @@ text_if v = do
 abbrev pub text_given : Option Value → Result (Option (List ℕ)) Fault
 text_given None = Ok None
 text_given (Some v) = text_if v
-
--- the bytes of a bytes value, of an exporter, or of a view whose items lie one after another
-abbrev pub like_in : List (ℕ × Snap) → Value → Result (List ℕ) Fault
-like_in pairs (value.One s) = bytes_like pairs s
-like_in pairs _ = Err fault.Kind
 
 -- the bytes of a text, of a bytes value, or of an exporter of kind bytes
 abbrev pub separator_in : List (ℕ × Snap) → Value → Result (List ℕ) Fault

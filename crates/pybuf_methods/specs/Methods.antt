@@ -4,10 +4,11 @@ use Rattle.std.specs.Char.{is_ascii_alphabetic, is_ascii_alphanumeric, is_ascii_
 use Rattle.pybuf_value.specs.declared.faults.Fault.{Fault}
 use Rattle.pybuf_value.specs.declared.snaps.Snap.{Snap}
 use Rattle.pybuf_value.specs.declared.values.Value.{Value}
+use Rattle.pybuf_value.specs.Texts.{is_ascii}
 use Rattle.pybuf_search.specs.Ends.{without_prefix, without_suffix}
 use Rattle.pybuf_search.specs.Places.{first_place, last_place}
 use Rattle.pybuf_letters.specs.Cases.{lower, upper, swapcase, capitalize, title}
-use Rattle.pybuf_letters.specs.Classes.{all_of, all_ascii, all_in_case, is_blank, is_title}
+use Rattle.pybuf_letters.specs.Classes.{all_of, all_in_case, is_blank, is_title}
 use Rattle.pybuf_letters.specs.Strips.{stripped, stripped_left, stripped_right}
 use Rattle.pybuf_shaping.specs.Padding.{centered, justified_left, justified_right}
 use Rattle.pybuf_bytes.specs.Searching.{split_of, rsplit_of}
@@ -26,7 +27,7 @@ method_reply pairs bytes name.Concat args = plain.concat pairs bytes args
 method_reply pairs bytes name.Mul args = plain.mul bytes args
 method_reply pairs bytes name.IsAlnum args = plain.truth (all_of is_ascii_alphanumeric bytes) args
 method_reply pairs bytes name.IsAlpha args = plain.truth (all_of is_ascii_alphabetic bytes) args
-method_reply pairs bytes name.IsAscii args = plain.truth (all_ascii bytes) args
+method_reply pairs bytes name.IsAscii args = plain.truth (is_ascii bytes) args
 method_reply pairs bytes name.IsDigit args = plain.truth (all_of is_ascii_digit bytes) args
 method_reply pairs bytes name.IsLower args = plain.truth (all_in_case is_ascii_lowercase is_ascii_uppercase bytes) args
 method_reply pairs bytes name.IsSpace args = plain.truth (all_of is_blank bytes) args

@@ -5,11 +5,13 @@ use Rattle.pybuf_value.specs.declared.faults.Fault.{Fault}
 use Rattle.pybuf_value.specs.declared.snaps.Snap.{Snap}
 use Rattle.pybuf_value.specs.declared.values.Value.{Value}
 use Rattle.pybuf_value.specs.Refusing.{◌>>=◌}
-use Rattle.pybuf_search.specs.Joins.{fitted}
+use Rattle.pybuf_value.specs.Numbers.{count_in}
+use Rattle.pybuf_value.specs.Snaps.{like_in}
+use Rattle.pybuf_value.specs.Texts.{fitted}
 use Rattle.pybuf_bytes.specs.Searching.{concat_of, repeated_of}
 use Rattle.pybuf_bytes.specs.declared.methods.MethodReply.{MethodReply}
 use Rattle.pybuf_bytes.specs.declared.methods.MethodReply.TheVariants as reply
-use Rattle.pybuf_methods.specs.Given.{none, one, count_in, like_in, lists_in}
+use Rattle.pybuf_methods.specs.Given.{none, one, lists_in}
 
 -- what a method without arguments answers, or that there are some
 abbrev pub truth : Bool → List Value → Result MethodReply Fault

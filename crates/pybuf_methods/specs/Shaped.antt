@@ -4,6 +4,7 @@ use Rattle.pybuf_value.specs.declared.faults.Fault.{Fault}
 use Rattle.pybuf_value.specs.declared.snaps.Snap.{Snap}
 use Rattle.pybuf_value.specs.declared.values.Value.{Value}
 use Rattle.pybuf_value.specs.Refusing.{◌>>=◌}
+use Rattle.pybuf_value.specs.Numbers.{count_in, count_or}
 use Rattle.pybuf_value.specs.Snaps.{bytes_in}
 use Rattle.pybuf_value.specs.Texts.{text_in}
 use Rattle.pybuf_shaping.specs.Arguments.{fill_of, translation}
@@ -15,7 +16,7 @@ use Rattle.pybuf_shaping.specs.Tabs.{expanded, tab_size}
 use Rattle.pybuf_bytes.specs.Shaping.{decoded}
 use Rattle.pybuf_bytes.specs.declared.methods.MethodReply.{MethodReply}
 use Rattle.pybuf_bytes.specs.declared.methods.MethodReply.TheVariants as reply
-use Rattle.pybuf_methods.specs.Given.{one, two, at_most_one, at_most_two, one_or_two, two_or_three, count_in, count_or, separator_given, text_given}
+use Rattle.pybuf_methods.specs.Given.{one, two, at_most_one, at_most_two, one_or_two, two_or_three, separator_given, text_given}
 
 -- the digits of bytes by the arguments: a group is of one byte where no size is given
 abbrev pub hex_of : List (ℕ × Snap) → Option Value → Option Value → List ℕ → Result (List ℕ) Fault

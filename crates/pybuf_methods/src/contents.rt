@@ -4,7 +4,7 @@ ghost use Rattle.std.specs.Option.{option_copied};
 ghost use Rattle.pybuf_value.specs.declared.faults.Fault as faults;
 ghost use Rattle.pybuf_value.specs.declared.snaps.Snap.{Snap};
 ghost use Rattle.pybuf_value.specs.declared.values.Value.TheVariants as values;
-ghost use Rattle.pybuf_value.specs.Snaps.{snap_of, bytes_in, content_of, content_of_bytes, content_of_named};
+ghost use Rattle.pybuf_value.specs.Snaps.{snap_of, bytes_in, like_in, content_of, content_of_bytes, content_of_named};
 ghost use Rattle.pybuf_shaping.specs.Arguments as fills;
 ghost use Rattle.pybuf_methods.specs.Given as spec;
 ghost use Rattle.pybuf_value.specs.Lent.{Lends, kind_of_named};
@@ -154,7 +154,7 @@ pub(crate) fn bytes_given<'a, N: Contents>(
 
 /// The bytes of a bytes value, of an exporter, or of a view whose items lie one after another, lent.
 pub(crate) fn like_in<'a, N: Contents>(value: &'a Value, names: &'a N) -> Result<&'a [u8], Fault>
-    ensures { MatchResult result (λ bytes. spec.like_in (N.pairs names.now) value.now ≡ Ok bytes.now) (λ fault. spec.like_in (N.pairs names.now) value.now ≡ Err fault) }
+    ensures { MatchResult result (λ bytes. like_in (N.pairs names.now) value.now ≡ Ok bytes.now) (λ fault. like_in (N.pairs names.now) value.now ≡ Err fault) }
 {
     match value {
         Value::One(Scalar::Bytes(bytes)) => Ok(bytes.as_slice()),

@@ -11,11 +11,11 @@ ghost use Rattle.pybuf_methods.specs.Cut as spec;
 ghost use Rattle.pybuf_methods.specs.Lent.{lent_option};
 
 use crate::contents::{Contents, bytes_given, bytes_of};
-use crate::given::{at_most_one, at_most_two, count_or, flag_given, one};
+use crate::given::{at_most_one, at_most_two, flag_given, one};
 use pybuf_bytes::MethodReply;
 use pybuf_letters::{rsplit_at_blanks, split_at_blanks, split_lines, strip_left, strip_right};
 use pybuf_search::{without_prefix, without_suffix};
-use pybuf_value::{ByteList, ByteLists, Fault, Halt, Lent, Made, Value};
+use pybuf_value::{ByteList, ByteLists, Fault, Halt, Lent, Made, Value, count_or};
 use std::alloc::Global;
 
 /// A copy of bytes.

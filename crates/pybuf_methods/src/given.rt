@@ -5,7 +5,7 @@ ghost use Rattle.pybuf_value.specs.declared.faults.Outcome.TheVariants as outcom
 ghost use Rattle.pybuf_methods.specs.Given as spec;
 ghost use Rattle.pybuf_methods.specs.Given.{IsStopped};
 
-use pybuf_value::{Fault, Halt, Outcome, Scalar, Tried, Value, fit_count, index_of, text_in};
+use pybuf_value::{Fault, Halt, Outcome, Scalar, Tried, Value, index_of, text_in};
 
 /// What an answer is, where it is neither refused nor wanting memory.
 pub(crate) fn done<T>(answer: Tried<T>) -> Result<T, Halt>
@@ -105,24 +105,6 @@ pub(crate) fn one_to_three(
         [a, b] => Ok((a, Some(b), None)),
         [a, b, c] => Ok((a, Some(b), Some(c))),
         _ => Err(Fault::Kind),
-    }
-}
-
-/// A number that fits `isize`.
-pub(crate) fn count_in(value: &Value) -> Result<isize, Fault>
-    ensures { result ≡ spec.count_in value.now }
-{
-    let number = index_of(value)?;
-    fit_count(number)
-}
-
-/// The same, and a number where none is given.
-pub fn count_or(absent: isize, value: Option<&Value>) -> Result<isize, Fault>
-    ensures { result ≡ spec.count_or absent (option_copied value.entry) }
-{
-    match value {
-        None => Ok(absent),
-        Some(value) => count_in(value),
     }
 }
 

@@ -7,10 +7,8 @@ use crate::contents::{ByLender, Contents};
 use crate::{cut, plain, shaped, sought};
 use pybuf_bytes::MethodReply;
 use pybuf_command::{MethodCall, MethodName};
-use pybuf_letters::{
-    is_alnum, is_alpha, is_ascii, is_digit, is_lower, is_space, is_title, is_upper,
-};
-use pybuf_value::{Halt, Lender, Tried, Value, tried};
+use pybuf_letters::{is_alnum, is_alpha, is_digit, is_lower, is_space, is_title, is_upper};
+use pybuf_value::{Halt, Lender, Tried, Value, is_ascii, tried};
 use std::alloc::Global;
 
 /// What a method of the bytes answers, by its name and arguments, as `apply_method` says it, where what

@@ -5,10 +5,10 @@ ghost use Rattle.pybuf_letters.specs.Cases as cases;
 ghost use Rattle.pybuf_methods.specs.Plain as spec;
 
 use crate::contents::{Contents, like_in, part_of};
-use crate::given::{count_in, done, none, one};
+use crate::given::{done, none, one};
 use crate::join::lists_in;
 use pybuf_bytes::MethodReply;
-use pybuf_value::{ByteList, Fault, Halt, Value};
+use pybuf_value::{ByteList, Fault, Halt, Value, count_in};
 use std::alloc::Global;
 
 /// The answer of a test.

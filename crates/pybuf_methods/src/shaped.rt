@@ -12,12 +12,11 @@ ghost use Rattle.pybuf_value.specs.Lent.{lent_bytes, Lends};
 
 use crate::contents::{Contents, bytes_of, fill_of, separator_given};
 use crate::given::{
-    at_most_one, at_most_two, count_in, count_or, done, one, one_or_two, text_given, two,
-    two_or_three,
+    at_most_one, at_most_two, done, one, one_or_two, text_given, two, two_or_three,
 };
 use pybuf_bytes::{MethodReply, decode_text};
 use pybuf_shaping::{identity_table, tab_size};
-use pybuf_value::{ByteList, Fault, Halt, Lent, Scalar, Text, Value, text_in};
+use pybuf_value::{ByteList, Fault, Halt, Lent, Scalar, Text, Value, count_in, count_or, text_in};
 use std::alloc::Global;
 
 /// Hexadecimal digits, or why not.

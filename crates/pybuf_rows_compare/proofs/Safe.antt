@@ -7,7 +7,7 @@ use Rattle.pybuf_value.specs.declared.values.CompareOp.{CompareOp}
 use Rattle.pybuf_value.specs.declared.snaps.Snap.{Snap}
 use Rattle.pybuf_value.specs.Refusing.{◌>>=◌, unless, done_bind}
 use Rattle.pybuf_value.specs.Order.{is_order}
-use Rattle.pybuf_value.specs.Quotes.{fitted_text}
+use Rattle.pybuf_value.specs.Texts.{fitted}
 use Rattle.pybuf_value.specs.Snaps.{content_of}
 use Rattle.pybuf_command.specs.Kinds.{holds_readonly}
 use Rattle.pybuf_command.specs.declared.commands.LocalReply.{LocalReply}
@@ -52,13 +52,13 @@ hash_safe reading = (
 
 -- ---- repr
 
-same_if_fitting : (fits : Bool) (text fitted : List ℕ) → (if fits then Ok text else Err fault.Overflow) ≡ Ok fitted → text ≡ fitted
-same_if_fitting true text fitted found = cc
-same_if_fitting false text fitted found = absurd (cc)
+same_if_fitting : (fits : Bool) (text whole : List ℕ) → (if fits then Ok text else Err fault.Overflow) ≡ Ok whole → text ≡ whole
+same_if_fitting true text whole found = cc
+same_if_fitting false text whole found = absurd (cc)
 
 shown_safe : ReadingKeeps → (e : Exporter) (text : List ℕ) → is_one_line text ≡ true → IsSafe e (shown e text)
 shown_safe reading e text single =
-    bind e (fitted_text text) _ (λ fitted found. read reading e (reply.Shown fitted) (subst (λ (t : List ℕ). is_one_line t ≡ true) (same_if_fitting (nat_lt (length text) (2 ^ 63)) text fitted found) single))
+    bind e (fitted text) _ (λ whole found. read reading e (reply.Shown whole) (subst (λ (t : List ℕ). is_one_line t ≡ true) (same_if_fitting (nat_lt (length text) (2 ^ 63)) text whole found) single))
 
 pub repr_safe : ReadingKeeps → ReprIsSafe
 repr_safe reading = (

@@ -4,7 +4,8 @@ use Rattle.std.specs.Prelude.{ℕ, Bool, true, false, List, [], ◌++◌, codes,
 use Rattle.pybuf_value.specs.declared.faults.Fault.{Fault}
 use Rattle.pybuf_value.specs.declared.faults.Fault.TheVariants as fault
 use Rattle.pybuf_value.specs.Refusing.{◌>>=◌, unless}
-use Rattle.pybuf_value.specs.Quotes.{repr_of, fitted_text}
+use Rattle.pybuf_value.specs.Texts.{fitted}
+use Rattle.pybuf_value.specs.Quotes.{repr_of}
 use Rattle.pybuf_command.specs.declared.kinds.ExporterKind.{ExporterKind}
 use Rattle.pybuf_command.specs.declared.kinds.ExporterKind.TheVariants as kind
 use Rattle.pybuf_command.specs.declared.commands.LocalReply.{LocalReply}
@@ -20,8 +21,8 @@ shown_bytes _ bytes = repr_of (codes "b") bytes []
 -- a text of at most `isize::MAX` bytes
 abbrev pub shown : Exporter → List ℕ → Result (Exporter × LocalReply) Fault
 shown e text = do
-  fitted ← fitted_text text
-  Ok (e, reply.Shown fitted)
+  whole ← fitted text
+  Ok (e, reply.Shown whole)
 
 -- of bytes and bytearrays: a vector isn't shown
 abbrev pub repr_of_own : Exporter → Result (Exporter × LocalReply) Fault

@@ -1,7 +1,7 @@
 //! `repr`: the text that a subject is shown as, as by Python's `repr`.
 ghost use Rattle.std.specs.Prelude.{IsTrue, ◌≡◌, ◌++◌, [], codes, decimal, IfOk};
 ghost use Rattle.pybuf_value.specs.Quotes.{repr_of};
-ghost use Rattle.pybuf_value.specs.Spelling.{is_ascii};
+ghost use Rattle.pybuf_value.specs.Texts.{is_ascii};
 ghost use Rattle.pybuf_state.specs.Answers.{exporter_of, Reads};
 ghost use Rattle.pybuf_rows_compare.specs.Repr as spec;
 

@@ -8,11 +8,11 @@ use Rattle.pybuf_value.specs.declared.values.Value.{Value}
 use Rattle.pybuf_value.specs.declared.values.Value.TheVariants as value
 use Rattle.pybuf_value.specs.declared.values.PySlice.{PySlice}
 use Rattle.pybuf_value.specs.Refusing.{◌>>=◌, unless}
-use Rattle.pybuf_value.specs.Numbers.{byte_in}
-use Rattle.pybuf_value.specs.Snaps.{bytes_in}
+use Rattle.pybuf_value.specs.Numbers.{count_in, byte_in, times}
+use Rattle.pybuf_value.specs.Snaps.{bytes_in, like_in}
 use Rattle.pybuf_index.specs.Places.{item_place}
 use Rattle.pybuf_index.specs.Parts.{SliceParts, saturated_parts_of, picks_of}
-use Rattle.pybuf_slice.specs.Edits.{is_one, times}
+use Rattle.pybuf_slice.specs.Edits.{is_one}
 use Rattle.pybuf_bytes.specs.Options.{bytes_of_options}
 use Rattle.pybuf_command.specs.declared.commands.Verb.TheVariants as verb
 use Rattle.pybuf_command.specs.declared.commands.LocalReply.{LocalReply}
@@ -23,8 +23,9 @@ use Rattle.pybuf_state.specs.Exporter.{Exporter}
 use Rattle.pybuf_state.specs.Keeps.{is_vector}
 use Rattle.pybuf_state.specs.Resizing.{has_exports, resizable}
 use Rattle.pybuf_state.specs.Loans.{Lent, snaps_of}
-use Rattle.pybuf_rows_edits.specs.Common.{with_bytes, of_byte_array, count_in, is_itself}
-use Rattle.pybuf_rows_edits.specs.Growing.{appended, inserted, repeated, repeated_unless_empty, multiplied, extended, extended_or_doubled, lent_bytes, added}
+use Rattle.pybuf_command.specs.Kinds.{of_byte_array}
+use Rattle.pybuf_rows_edits.specs.Common.{with_bytes, is_itself}
+use Rattle.pybuf_rows_edits.specs.Growing.{appended, inserted, repeated, repeated_unless_empty, multiplied, extended, extended_or_doubled, added}
 use Rattle.pybuf_rows_edits.specs.Shrinking.{count_or_last, popped, removed, cleared, byte_deleted, slice_deleted, deleted, taken}
 use Rattle.pybuf_rows_edits.specs.Replacing.{assigned, slice_set, initialized}
 use Rattle.pybuf_rows_edits.specs.Asking.{passed, key_passed, assignment_asks, byte_array_asks}
@@ -122,7 +123,7 @@ extending : (e : Exporter) (v : Value) (lents : List Lent) → IsAsked e (byte_a
 extending e v lents = either e (is_itself v lents) _ _ (repeated_unless_empty e 2) (extended e v lents) (repeating_unless_empty e 2) (extending_by e v lents)
 
 adding : (e : Exporter) (v : Value) (lents : List Lent) → IsAsked e (byte_array_asks e (verb.IAdd v) lents) (added e v lents)
-adding e v lents = checked e (lent_bytes (snaps_of lents) v) _ _ (λ bytes. checked e (unless (is_itself v lents) fault.Buffer) _ _ (λ u. asking e _ (λ u. done_so _)))
+adding e v lents = checked e (like_in (snaps_of lents) v) _ _ (λ bytes. checked e (unless (is_itself v lents) fault.Buffer) _ _ (λ u. asking e _ (λ u. done_so _)))
 
 popping : (e : Exporter) (index : Option Value) → IsAsked e (passed (count_or_last index)) (popped e index)
 popping e index = passing e (count_or_last index) _ (λ number. asking e _ (λ u. placed (item_place (length e.bytes) number) _))

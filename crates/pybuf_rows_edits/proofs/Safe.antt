@@ -10,29 +10,30 @@ use Rattle.pybuf_value.specs.declared.values.Value.{Value}
 use Rattle.pybuf_value.specs.declared.values.Value.TheVariants as value
 use Rattle.pybuf_value.specs.declared.values.PySlice.{PySlice}
 use Rattle.pybuf_value.specs.Refusing.{◌>>=◌, unless, IfDone, done_bind}
-use Rattle.pybuf_value.specs.Numbers.{byte_in}
-use Rattle.pybuf_value.specs.Snaps.{bytes_in}
+use Rattle.pybuf_value.specs.Numbers.{count_in, byte_in, times}
+use Rattle.pybuf_value.specs.Snaps.{bytes_in, like_in}
 use Rattle.pybuf_index.specs.Parts.{SliceParts, saturated_parts_of, picks_of}
-use Rattle.pybuf_slice.specs.Edits.{is_one, times, assigned_list}
+use Rattle.pybuf_slice.specs.Edits.{is_one, assigned_list}
 use Rattle.pybuf_slice.specs.EditLaws.{AsManyKeepTheLength}
 use Rattle.pybuf_command.specs.declared.options.ByteInnerNewOptions.{ByteInnerNewOptions}
 use Rattle.pybuf_bytes.specs.Options.{bytes_of_options}
+use Rattle.pybuf_index.specs.Places.{entry_in}
 use Rattle.pybuf_command.specs.declared.commands.Verb.TheVariants as verb
 use Rattle.pybuf_command.specs.declared.commands.LocalReply.{LocalReply}
 use Rattle.pybuf_command.specs.declared.commands.LocalReply.TheVariants as reply
 use Rattle.pybuf_command.specs.declared.kinds.ExporterKind.{ExporterKind}
 use Rattle.pybuf_command.specs.declared.kinds.ExporterKind.TheVariants as kind
 use Rattle.pybuf_command.specs.declared.kinds.Subject.TheVariants as subject
-use Rattle.pybuf_command.specs.Kinds.{holds_readonly}
-use Rattle.pybuf_memoryview.specs.Items.{index_in, entry_in}
+use Rattle.pybuf_command.specs.Kinds.{holds_readonly, of_byte_array}
+use Rattle.pybuf_memoryview.specs.Items.{index_in}
 use Rattle.pybuf_state.specs.Exporter.{Exporter}
 use Rattle.pybuf_state.specs.Keeps.{is_answer, is_vector, IsCarriedOut, IsSafe, IsCopied}
 use Rattle.pybuf_state.specs.Laws.{ReadingKeeps, WritingKeeps, ResizingKeeps, EmptyingKeeps}
 use Rattle.pybuf_state.specs.Resizing.{has_exports, resizable}
 use Rattle.pybuf_state.specs.Loans.{Lent, snaps_of}
 use Rattle.pybuf_state.specs.Snaps.{snap_of_exporter}
-use Rattle.pybuf_rows_edits.specs.Common.{with_bytes, of_byte_array, count_in, is_itself}
-use Rattle.pybuf_rows_edits.specs.Growing.{appended, inserted, repeated, repeated_unless_empty, multiplied, extended, extended_or_doubled, lent_bytes, added}
+use Rattle.pybuf_rows_edits.specs.Common.{with_bytes, is_itself}
+use Rattle.pybuf_rows_edits.specs.Growing.{appended, inserted, repeated, repeated_unless_empty, multiplied, extended, extended_or_doubled, added}
 use Rattle.pybuf_rows_edits.specs.Shrinking.{count_or_last, popped, removed, cleared, byte_deleted, slice_deleted, deleted, taken, take_of_own}
 use Rattle.pybuf_rows_edits.specs.Replacing.{slice_set, initialized}
 use Rattle.pybuf_rows_edits.specs.Laws.{EditsAreSafe}
@@ -104,7 +105,7 @@ extending ways e v lents writable = either e (is_itself v lents) (repeated_unles
 
 adding : Ways → (e : Exporter) (v : Value) (lents : List Lent) → holds_readonly e.kind ≡ false → IsSafe e (added e v lents)
 adding ways e v lents writable =
-    bind e (lent_bytes (snaps_of lents) v) _ (λ bytes _. bind e (unless (is_itself v lents) fault.Buffer) _ (λ _ _. asked e _ (λ u free. resized_to ways e _ reply.Ok free writable refl)))
+    bind e (like_in (snaps_of lents) v) _ (λ bytes _. bind e (unless (is_itself v lents) fault.Buffer) _ (λ _ _. asked e _ (λ u free. resized_to ways e _ reply.Ok free writable refl)))
 
 popping : Ways → (e : Exporter) (index : Option Value) → holds_readonly e.kind ≡ false → IsSafe e (popped e index)
 popping ways e index writable =

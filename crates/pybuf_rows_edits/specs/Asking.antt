@@ -5,8 +5,8 @@ use Rattle.pybuf_value.specs.declared.faults.Fault.TheVariants as fault
 use Rattle.pybuf_value.specs.declared.values.Value.{Value}
 use Rattle.pybuf_value.specs.declared.values.Value.TheVariants as value
 use Rattle.pybuf_value.specs.Refusing.{◌>>=◌, unless}
-use Rattle.pybuf_value.specs.Numbers.{byte_in}
-use Rattle.pybuf_value.specs.Snaps.{bytes_in}
+use Rattle.pybuf_value.specs.Numbers.{count_in, byte_in}
+use Rattle.pybuf_value.specs.Snaps.{bytes_in, like_in}
 use Rattle.pybuf_index.specs.Parts.{saturated_parts_of, picks_of}
 use Rattle.pybuf_slice.specs.Edits.{is_one}
 use Rattle.pybuf_bytes.specs.Options.{bytes_of_options}
@@ -16,8 +16,8 @@ use Rattle.pybuf_memoryview.specs.Items.{index_in}
 use Rattle.pybuf_state.specs.Exporter.{Exporter}
 use Rattle.pybuf_state.specs.Keeps.{is_vector}
 use Rattle.pybuf_state.specs.Loans.{Lent, snaps_of}
-use Rattle.pybuf_rows_edits.specs.Common.{of_byte_array, count_in, is_itself}
-use Rattle.pybuf_rows_edits.specs.Growing.{lent_bytes}
+use Rattle.pybuf_command.specs.Kinds.{of_byte_array}
+use Rattle.pybuf_rows_edits.specs.Common.{is_itself}
 use Rattle.pybuf_rows_edits.specs.Shrinking.{count_or_last}
 
 -- passed, whatever was read
@@ -51,7 +51,7 @@ byte_array_asks e (verb.Remove v) lents = passed (byte_in v)
 byte_array_asks e verb.Clear lents = Ok true
 byte_array_asks e (verb.Del key) lents = key_passed key
 byte_array_asks e (verb.IAdd v) lents = do
-  _ ← lent_bytes (snaps_of lents) v
+  _ ← like_in (snaps_of lents) v
   _ ← unless (is_itself v lents) fault.Buffer
   Ok true
 byte_array_asks e (verb.IMul count) lents = do

@@ -1,14 +1,8 @@
 -- What the edits of a bytearray have in common.
-use Rattle.std.specs.Prelude.{ℕ, ◌==◌, Bool, true, false, ℤ, List, [], ◌∷◌, Option, Some, Result, Err, if◌then◌else◌}
-use Rattle.pybuf_value.specs.declared.faults.Fault.{Fault}
-use Rattle.pybuf_value.specs.declared.faults.Fault.TheVariants as fault
+use Rattle.std.specs.Prelude.{ℕ, ◌==◌, Bool, true, false, List, [], ◌∷◌, Option, Some, if◌then◌else◌}
 use Rattle.pybuf_value.specs.declared.values.Scalar.TheVariants as scalar
 use Rattle.pybuf_value.specs.declared.values.Value.{Value}
 use Rattle.pybuf_value.specs.declared.values.Value.TheVariants as value
-use Rattle.pybuf_value.specs.Refusing.{◌>>=◌}
-use Rattle.pybuf_value.specs.Numbers.{number_of, fitted_number}
-use Rattle.pybuf_command.specs.declared.kinds.ExporterKind.{ExporterKind}
-use Rattle.pybuf_command.specs.declared.kinds.ExporterKind.TheVariants as kind
 use Rattle.pybuf_command.specs.declared.kinds.Subject.{Subject}
 use Rattle.pybuf_command.specs.declared.kinds.Subject.TheVariants as subject
 use Rattle.pybuf_command.specs.declared.commands.LocalReply.{LocalReply}
@@ -19,17 +13,6 @@ use Rattle.pybuf_state.specs.Loans.{Lent}
 -- an exporter with other bytes, and a reply that there is nothing to say
 abbrev pub with_bytes : Exporter → List ℕ → Exporter × LocalReply
 with_bytes e bytes = (record e { bytes = bytes }, reply.Ok)
-
--- only a bytearray has these commands
-abbrev pub of_byte_array : {X : Type 0} → ExporterKind → Result X Fault → Result X Fault
-of_byte_array kind.ByteArray row = row
-of_byte_array _ row = Err fault.UnknownName
-
--- a number that must fit a word
-abbrev pub count_in : Value → Result ℤ Fault
-count_in v = do
-  n ← number_of v
-  fitted_number fault.Overflow n
 
 -- ---- the exporter itself as a value
 

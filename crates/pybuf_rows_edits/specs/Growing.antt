@@ -1,22 +1,21 @@
 -- Edits that add bytes. While a view is unreleased each is refused with `BufferError`, where it asks for
 -- another length.
-use Rattle.std.specs.Prelude.{ℕ, ◌*◌, ◌^◌, ◌==◌, not, List, [], ◌∷◌, ◌++◌, length, nat_lt, Result, Ok, Err, if◌then◌else◌}
+use Rattle.std.specs.Prelude.{ℕ, ◌*◌, ◌^◌, ◌==◌, not, List, [], ◌∷◌, ◌++◌, length, nat_lt, Result, Ok, if◌then◌else◌}
 use Rattle.pybuf_value.specs.declared.faults.Fault.{Fault}
 use Rattle.pybuf_value.specs.declared.faults.Fault.TheVariants as fault
-use Rattle.pybuf_value.specs.declared.snaps.Snap.{Snap}
 use Rattle.pybuf_value.specs.declared.values.Value.{Value}
-use Rattle.pybuf_value.specs.declared.values.Value.TheVariants as value
 use Rattle.pybuf_value.specs.Refusing.{◌>>=◌, unless}
-use Rattle.pybuf_value.specs.Numbers.{byte_in}
-use Rattle.pybuf_value.specs.Snaps.{bytes_in, bytes_like}
+use Rattle.pybuf_value.specs.Numbers.{count_in, byte_in, times}
+use Rattle.pybuf_value.specs.Snaps.{bytes_in, like_in}
 use Rattle.pybuf_index.specs.Places.{saturated_place}
-use Rattle.pybuf_slice.specs.Edits.{replaced_range, repeated_list, times, is_one}
+use Rattle.pybuf_slice.specs.Edits.{replaced_range, repeated_list, is_one}
 use Rattle.pybuf_command.specs.declared.commands.LocalReply.{LocalReply}
 use Rattle.pybuf_command.specs.declared.commands.LocalReply.TheVariants as reply
 use Rattle.pybuf_state.specs.Exporter.{Exporter}
 use Rattle.pybuf_state.specs.Resizing.{resizable}
 use Rattle.pybuf_state.specs.Loans.{Lent, snaps_of}
-use Rattle.pybuf_rows_edits.specs.Common.{with_bytes, of_byte_array, count_in, is_itself}
+use Rattle.pybuf_command.specs.Kinds.{of_byte_array}
+use Rattle.pybuf_rows_edits.specs.Common.{with_bytes, is_itself}
 
 -- ---- `append`: a byte at the end
 
@@ -81,13 +80,9 @@ extend_of_own e v lents = of_byte_array e.kind (extended_or_doubled e v lents)
 
 -- ---- `iadd`: bytes that lie one after the other at the end, and never its own
 
-abbrev pub lent_bytes : List (ℕ × Snap) → Value → Result (List ℕ) Fault
-lent_bytes pairs (value.One s) = bytes_like pairs s
-lent_bytes pairs _ = Err fault.Kind
-
 abbrev pub added : Exporter → Value → List Lent → Result (Exporter × LocalReply) Fault
 added e v lents = do
-  bytes ← lent_bytes (snaps_of lents) v
+  bytes ← like_in (snaps_of lents) v
   _ ← unless (is_itself v lents) fault.Buffer
   _ ← resizable e
   Ok (with_bytes e (e.bytes ++ bytes))

@@ -16,7 +16,8 @@ use Rattle.pybuf_state.specs.Exporter.{Exporter}
 use Rattle.pybuf_state.specs.Resizing.{has_exports, resizable}
 use Rattle.pybuf_state.specs.Loans.{Lent, snaps_of}
 use Rattle.pybuf_state.specs.Snaps.{snap_of_exporter}
-use Rattle.pybuf_rows_edits.specs.Common.{with_bytes, of_byte_array}
+use Rattle.pybuf_command.specs.Kinds.{of_byte_array}
+use Rattle.pybuf_rows_edits.specs.Common.{with_bytes}
 
 -- ---- `set` by a slice
 

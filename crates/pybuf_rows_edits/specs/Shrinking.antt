@@ -1,5 +1,5 @@
 -- Edits that take bytes out. While a view is unreleased each is refused with `BufferError`.
-use Rattle.std.specs.Prelude.{ℕ, ◌+◌, ◌==◌, not, ℤ, negsuc, List, [], length, nat_lt, slice_index, Option, Some, None, Result, Ok, Err, if◌then◌else◌}
+use Rattle.std.specs.Prelude.{ℕ, ◌+◌, ◌==◌, not, ℤ, negsuc, List, [], length, nat_lt, slice_index, Option, Result, Ok, Err, if◌then◌else◌}
 use Rattle.std.specs.List.{position_or_len}
 use Rattle.pybuf_value.specs.declared.faults.Fault.{Fault}
 use Rattle.pybuf_value.specs.declared.faults.Fault.TheVariants as fault
@@ -7,16 +7,18 @@ use Rattle.pybuf_value.specs.declared.values.PySlice.{PySlice}
 use Rattle.pybuf_value.specs.declared.values.Value.{Value}
 use Rattle.pybuf_value.specs.declared.values.Value.TheVariants as value
 use Rattle.pybuf_value.specs.Refusing.{◌>>=◌, unless}
-use Rattle.pybuf_value.specs.Numbers.{byte_in}
+use Rattle.pybuf_value.specs.Numbers.{count_or, byte_in}
 use Rattle.pybuf_index.specs.Parts.{saturated_parts_of, picks_of}
 use Rattle.pybuf_slice.specs.Edits.{replaced_range, elements_off}
+use Rattle.pybuf_index.specs.Places.{entry_in}
 use Rattle.pybuf_command.specs.declared.commands.LocalReply.{LocalReply}
 use Rattle.pybuf_command.specs.declared.commands.LocalReply.TheVariants as reply
-use Rattle.pybuf_memoryview.specs.Items.{index_in, entry_in, byte_item}
+use Rattle.pybuf_memoryview.specs.Items.{index_in, byte_item}
 use Rattle.pybuf_state.specs.Exporter.{Exporter, live_layout}
 use Rattle.pybuf_state.specs.Keeps.{is_vector}
 use Rattle.pybuf_state.specs.Resizing.{resizable}
-use Rattle.pybuf_rows_edits.specs.Common.{with_bytes, of_byte_array, count_in}
+use Rattle.pybuf_command.specs.Kinds.{of_byte_array}
+use Rattle.pybuf_rows_edits.specs.Common.{with_bytes}
 
 -- the bytes without the one at a place
 abbrev pub without : List ℕ → ℕ → List ℕ
@@ -25,8 +27,7 @@ without bytes place = replaced_range bytes place (place + 1) []
 -- ---- `pop`: the byte at an index, the last where none is given
 
 abbrev pub count_or_last : Option Value → Result ℤ Fault
-count_or_last None = Ok (negsuc 0)
-count_or_last (Some index) = count_in index
+count_or_last index = count_or (negsuc 0) index
 
 abbrev pub popped : Exporter → Option Value → Result (Exporter × LocalReply) Fault
 popped e index = do

@@ -11,12 +11,12 @@ ghost use Rattle.pybuf_state.specs.Answers.{exporter_of, IsWhole, Answers};
 ghost use Rattle.pybuf_rows_edits.specs.Growing as spec;
 ghost use Rattle.pybuf_rows_edits.specs.LentBytes as lent_spec;
 
-use crate::counts::count_in;
 use pybuf_command::{ExporterKind, LocalReply, Subject};
 use pybuf_index::SequenceIndexOp;
 use pybuf_state::{Meaning, Names, Other, Parts, content_of_other, run_of_other};
 use pybuf_value::{
-    Fault, Halt, Made, Outcome, Scalar, SnapList, Value, bytes_from_object, value_from_object,
+    Fault, Halt, Made, Outcome, Scalar, SnapList, Value, bytes_from_object, count_in,
+    value_from_object,
 };
 use std::alloc::Global;
 

@@ -1,7 +1,6 @@
 //! The edits of a bytearray.
 #![tactic(auto)]
 
-mod counts;
 mod edit_of_verb;
 mod growing;
 mod laws;

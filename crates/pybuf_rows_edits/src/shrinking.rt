@@ -1,27 +1,23 @@
 //! Edits that take bytes out.
-ghost use Rattle.std.specs.Prelude.{◌≡◌, ◌==◌, nat_lt, if◌then◌else◌, Some, None, length};
-ghost use Rattle.std.specs.List.{position_or_len};
+ghost use Rattle.std.specs.Prelude.{◌≡◌};
 ghost use Rattle.pybuf_state.specs.Exporter.{exports_of};
 ghost use Rattle.pybuf_state.specs.Answers.{exporter_of, IsWhole, Answers};
 ghost use Rattle.pybuf_rows_edits.specs.Shrinking as spec;
 
-use crate::counts::count_in;
-use bstr::ByteSlice;
 use pybuf_command::{ExporterKind, LocalReply};
-use pybuf_index::SaturatedSlice;
-use pybuf_memoryview::{byte_item, entry_in, index_in};
+use pybuf_index::{SaturatedSlice, entry_in};
+use pybuf_memoryview::{byte_item, index_in};
 use pybuf_slice::close_up;
 use pybuf_state::Parts;
-use pybuf_value::{ByteList, Fault, Halt, PySlice, Value, value_from_object};
+use pybuf_value::{
+    ByteList, Fault, Halt, PySlice, Value, count_or, place_of_byte, value_from_object,
+};
 
 /// The number of an index, which is that of the last byte where none is given.
 fn count_or_last(index: &Option<Value>) -> Result<isize, Fault>
     ensures { result ≡ spec.count_or_last index.now }
 {
-    match index {
-        None => Ok(-1),
-        Some(index) => count_in(index),
-    }
+    count_or(-1, index.as_ref())
 }
 
 fn pop_byte(parts: &mut Parts, index: &Option<Value>) -> Result<LocalReply, Halt>
@@ -50,14 +46,6 @@ pub fn pop(parts: &mut Parts, index: &Option<Value>) -> Result<LocalReply, Halt>
     }
 }
 
-/// The place of the first byte of a value. None exactly where there is no such byte.
-#[tactic(auto, using(crate::proofs::FirstByte::position_of_byte))]
-fn place_of(bytes: &[u8], byte: u8) -> Option<usize>
-    ensures { result ≡ (if nat_lt (position_or_len (λ b. b == byte) bytes.now) (length bytes.now) then Some (position_or_len (λ b. b == byte) bytes.now) else None) }
-{
-    bytes.find_byte(byte)
-}
-
 fn remove_byte(parts: &mut Parts, value: &Value) -> Result<LocalReply, Halt>
     requires { IsWhole parts.old }
     ensures answer { Answers (spec.removed (exporter_of parts.old) value.now) (exporter_of parts.old) result (exporter_of parts.new) }
@@ -65,7 +53,7 @@ fn remove_byte(parts: &mut Parts, value: &Value) -> Result<LocalReply, Halt>
 {
     let byte = value_from_object(value)?;
     parts.resizable()?;
-    match place_of(parts.bytes.as_slice(), byte) {
+    match place_of_byte(parts.bytes.as_slice(), byte) {
         None => Err(Halt::Refused(Fault::Value)),
         Some(place) => {
             parts.remove_range(place, place + 1);

@@ -1,6 +1,6 @@
 -- Iterators over the bytes of an exporter and over the items of a view: how one is made, gives its next item,
 -- tells how many are left, and is moved to a place.
-use Rattle.std.specs.Prelude.{ℕ, ◌+◌, ◌-◌, ◌==◌, Bool, true, false, not, List, [], ◌∷◌, length, slice_get, slice_index, nat_lt, min, ℤ, pos, negsuc, Option, Some, None, Result, Ok, Err, if◌then◌else◌}
+use Rattle.std.specs.Prelude.{ℕ, ◌+◌, ◌-◌, ◌==◌, Bool, true, false, not, length, slice_get, slice_index, nat_lt, min, ℤ, pos, negsuc, Option, Some, None, Result, Ok, Err, if◌then◌else◌}
 use Rattle.std.specs.Option.{option_map}
 use Rattle.pybuf_value.specs.declared.faults.Fault.{Fault}
 use Rattle.pybuf_value.specs.declared.faults.Fault.TheVariants as fault
@@ -12,6 +12,7 @@ use Rattle.pybuf_value.specs.Numbers.{number_of}
 use Rattle.pybuf_value.specs.Refusing.{◌>>=◌, unless}
 use Rattle.pybuf_desc.specs.Layouts.{Layout}
 use Rattle.pybuf_desc.specs.Items.{bytes_at}
+use Rattle.pybuf_desc.specs.Slices.{first_entry}
 use Rattle.pybuf_command.specs.declared.kinds.Subject.{Subject}
 use Rattle.pybuf_command.specs.declared.kinds.Subject.TheVariants as subject
 use Rattle.pybuf_command.specs.declared.commands.Verb.{Verb}
@@ -48,20 +49,16 @@ iter_of_iterator e k = do
 abbrev pub byte_at : Exporter → ℕ → Option Item
 byte_at e position = option_map byte_item (slice_get e.bytes position)
 
--- an iterator over a view goes along its first dimension; a view of no dimension has one entry
-abbrev pub entries_of : List ℕ → ℕ
-entries_of [] = 1
-entries_of (n ∷ shape) = n
-
 -- an entry of a view is an item where the view has one dimension
 abbrev pub item_at : Exporter → Layout → ℕ → Result (Option Item) Fault
 item_at e layout position = do
   _ ← unless (not (length layout.shape == 1)) fault.NotImplemented
   Ok (Some (item_by layout.format (bytes_at e.bytes layout.itemsize (slice_index layout.starts position))))
 
--- the entry of a view at a position, none past its end
+-- The entry of a view at a position, none past its end: an iterator over a view goes along its first dimension,
+-- and a view of no dimension has one entry.
 abbrev pub entry_at : Exporter → Layout → ℕ → Result (Option Item) Fault
-entry_at e layout position = if nat_lt position (entries_of layout.shape) then item_at e layout position else Ok None
+entry_at e layout position = if nat_lt position (first_entry layout.shape) then item_at e layout position else Ok None
 
 -- the item of a subject at a position, none past its end; there is no iterator over another
 abbrev pub item_over : Exporter → Subject → ℕ → Result (Option Item) Fault

@@ -1,6 +1,7 @@
 //! The next item of an iterator, how many are left, and the place that it is moved to.
 ghost use Rattle.std.specs.Prelude.{◌≡◌, ◌<◌, ◌^◌, IfOk, IsOk, IfSome, length};
 ghost use Rattle.pybuf_value.specs.Halting.{Gives};
+ghost use Rattle.pybuf_desc.specs.Slices.{first_entry};
 ghost use Rattle.pybuf_command.specs.declared.kinds.Subject.TheVariants as subjects;
 ghost use Rattle.pybuf_state.specs.Exporter.{exports_of};
 ghost use Rattle.pybuf_state.specs.Answers.{exporter_of, IsWhole, Answers, Reads};
@@ -26,7 +27,7 @@ fn byte_at(parts: &Parts, position: usize) -> Option<Item>
 
 /// How many entries an iterator over a view goes along.
 fn entries_of(layout: &KeptLayout) -> usize
-    ensures value { result ≡ spec.entries_of layout.now.shape }
+    ensures value { result ≡ first_entry layout.now.shape }
     ensures small { result < 2 ^ 63 }
 {
     if layout.ndim() == 0 {

@@ -6,6 +6,7 @@ use Rattle.pybuf_value.specs.declared.faults.Fault.TheVariants as fault
 use Rattle.pybuf_value.specs.declared.values.Value.{Value}
 use Rattle.pybuf_value.specs.declared.values.Value.TheVariants as value
 use Rattle.pybuf_value.specs.Refusing.{◌>>=◌, unless, IfDone, done_bind}
+use Rattle.pybuf_index.specs.Places.{entry_in}
 use Rattle.pybuf_desc.specs.Layouts.{Layout}
 use Rattle.pybuf_command.specs.declared.commands.LocalReply.{LocalReply}
 use Rattle.pybuf_command.specs.declared.commands.LocalReply.TheVariants as reply
@@ -16,7 +17,7 @@ use Rattle.pybuf_command.specs.declared.kinds.ExporterKind.{ExporterKind}
 use Rattle.pybuf_command.specs.declared.kinds.ExporterKind.TheVariants as kind
 use Rattle.pybuf_command.specs.declared.commands.PropertyName.{PropertyName}
 use Rattle.pybuf_command.specs.declared.commands.PropertyName.TheVariants as property
-use Rattle.pybuf_memoryview.specs.Items.{index_in, entry_in, has_dimensions}
+use Rattle.pybuf_memoryview.specs.Items.{index_in, has_dimensions}
 use Rattle.pybuf_memoryview.specs.Keys.{item_of_key, names_itself}
 use Rattle.pybuf_state.specs.Laws.{ReadingKeeps}
 use Rattle.pybuf_rows_reads.specs.Get.{byte_of_own, part_of_own, get_in_kind, item_of_layout, item_of_view}

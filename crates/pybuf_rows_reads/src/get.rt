@@ -5,8 +5,8 @@ ghost use Rattle.pybuf_state.specs.Answers.{exporter_of, IsWhole, Reads};
 ghost use Rattle.pybuf_rows_reads.specs.Get.{part_of_own, get_of_own, item_of_view};
 
 use pybuf_command::{ExporterKind, LocalReply};
-use pybuf_index::SaturatedSlice;
-use pybuf_memoryview::{byte_item, entry_in, index_in, item_by, names_itself, place_of_key};
+use pybuf_index::{SaturatedSlice, entry_in};
+use pybuf_memoryview::{byte_item, index_in, item_by, names_itself, place_of_key};
 use pybuf_slice::slices::getitem_by_slice;
 use pybuf_state::Parts;
 use pybuf_value::{ByteList, Fault, Halt, PySlice, Value};

@@ -3,7 +3,6 @@
 ghost use Rattle.std.specs.Prelude.{◌≡◌, ◌<◌, ◌≤◌, ◌*◌, ◌^◌, All, length, true, IfOk};
 ghost use Rattle.std.specs.Prelude.{◌%◌, ◌==◌, ◌&&◌, not};
 ghost use Rattle.pybuf_value.specs.Halting.{Gives};
-ghost use Rattle.pybuf_value.specs.Numbers.{number_in};
 ghost use Rattle.pybuf_desc.specs.Layouts.{product};
 ghost use Rattle.pybuf_desc.specs.Contiguous.{is_contiguous_layout};
 ghost use Rattle.pybuf_memoryview.specs.Orders.{nbytes_of};
@@ -16,7 +15,9 @@ use pybuf_command::LocalReply;
 use pybuf_memoryview::KeptLayout;
 use pybuf_state::Parts;
 use pybuf_struct::{FormatSpec, single_size};
-use pybuf_value::{CountList, Fault, Halt, Outcome, Scalar, Text, Twin, Value, fit_count, text_in};
+use pybuf_value::{
+    CountList, Fault, Halt, Outcome, Scalar, Text, Twin, Value, fit_count, number_in, text_in,
+};
 use std::alloc::Global;
 
 /// The size of a format's items. That of a format of one letter is told without parsing it.
@@ -48,17 +49,6 @@ fn size_for(alloc: Global, len: usize, text: &Text) -> Result<usize, Halt>
         return Err(Halt::Refused(Fault::Kind));
     }
     Ok(size)
-}
-
-/// The number of a scalar that is one.
-fn number_in(part: &Scalar) -> Result<i128, Fault>
-    ensures { result ≡ number_in part.now }
-{
-    match part {
-        Scalar::Int(number) => Ok(*number),
-        Scalar::Bool(truth) => { if *truth { Ok(1) } else { Ok(0) } }
-        _ => Err(Fault::Kind),
-    }
 }
 
 /// An entry of a shape, which must be above 0 and at most the greatest word divided by the product

@@ -8,13 +8,14 @@ use Rattle.pybuf_value.specs.declared.faults.Fault.TheVariants as fault
 use Rattle.pybuf_value.specs.declared.values.Value.{Value}
 use Rattle.pybuf_value.specs.declared.snaps.Snap.{Snap}
 use Rattle.pybuf_value.specs.Refusing.{◌>>=◌, unless, IfDone, done_bind}
+use Rattle.pybuf_index.specs.Places.{entry_in}
 use Rattle.pybuf_struct.specs.Formats.{Format, format_of}
 use Rattle.pybuf_struct.specs.Packing.{packed_bytes}
 use Rattle.pybuf_struct.specs.Laws.{PackingFillsTheFormat}
 use Rattle.pybuf_desc.specs.Layouts.{Layout}
 use Rattle.pybuf_memoryview.specs.Sized.{is_size_of, is_sized}
 use Rattle.pybuf_command.specs.declared.commands.LocalReply.{LocalReply}
-use Rattle.pybuf_memoryview.specs.Items.{index_in, entry_in, is_none, kind_fault, scalar_in, piece_by}
+use Rattle.pybuf_memoryview.specs.Items.{index_in, is_none, kind_fault, scalar_in, piece_by}
 use Rattle.pybuf_memoryview.specs.Keys.{item_of_key}
 use Rattle.pybuf_memoryview.specs.Laws.{KeysNameItems}
 use Rattle.pybuf_state.specs.Exporter.{Exporter, live_layout}
@@ -24,10 +25,10 @@ use Rattle.pybuf_state.specs.Laws.{LiveLayoutsAreSound, WritingKeeps}
 use Rattle.pybuf_value.specs.Numbers.{byte_in}
 use Rattle.pybuf_command.specs.declared.kinds.ExporterKind.{ExporterKind}
 use Rattle.pybuf_command.specs.declared.kinds.ExporterKind.TheVariants as kind
-use Rattle.pybuf_command.specs.Kinds.{holds_readonly}
+use Rattle.pybuf_command.specs.Kinds.{holds_readonly, of_byte_array}
 use Rattle.pybuf_state.specs.Keeps.{IsCarriedOut, IsSafe}
 use Rattle.pybuf_rows_writes.specs.Laid.{bytes_with}
-use Rattle.pybuf_rows_writes.specs.Set.{byte_set, set_in_kind, item_set, set_target}
+use Rattle.pybuf_rows_writes.specs.Set.{byte_set, item_set, set_target}
 use Rattle.pybuf_rows_writes.specs.Laws.{SetIsSafe}
 use Rattle.pybuf_rows_writes.proofs.Bytes.{length-bytes_with}
 
@@ -56,7 +57,7 @@ byte_safe writing e key value writable =
     })))
 
 -- the row of a bytearray is that of an exporter that may be written
-in_kind : (e : Exporter) (k : ExporterKind) (r : Result (Exporter × LocalReply) Fault) → e.kind ≡ k → (holds_readonly e.kind ≡ false → IsSafe e r) → IsSafe e (set_in_kind k r)
+in_kind : (e : Exporter) (k : ExporterKind) (r : Result (Exporter × LocalReply) Fault) → e.kind ≡ k → (holds_readonly e.kind ≡ false → IsSafe e r) → IsSafe e (of_byte_array k r)
 in_kind e kind.ByteArray r is safe = safe (ap holds_readonly is)
 in_kind e kind.Bytes r is safe = tt
 in_kind e (kind.Vector readonly) r is safe = tt

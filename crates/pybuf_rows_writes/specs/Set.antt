@@ -1,16 +1,16 @@
 -- `set`: the item at a key is written, and nothing else.
-use Rattle.std.specs.Prelude.{ℕ, List, [], ◌∷◌, length, slice_index, Result, Ok, Err}
+use Rattle.std.specs.Prelude.{ℕ, List, [], ◌∷◌, length, slice_index, Result, Ok}
 use Rattle.pybuf_value.specs.declared.faults.Fault.{Fault}
 use Rattle.pybuf_value.specs.declared.faults.Fault.TheVariants as fault
 use Rattle.pybuf_value.specs.declared.values.Value.{Value}
 use Rattle.pybuf_value.specs.Refusing.{◌>>=◌, unless}
 use Rattle.pybuf_value.specs.Numbers.{byte_in}
+use Rattle.pybuf_index.specs.Places.{entry_in}
 use Rattle.pybuf_desc.specs.Layouts.{Layout}
-use Rattle.pybuf_command.specs.declared.kinds.ExporterKind.{ExporterKind}
-use Rattle.pybuf_command.specs.declared.kinds.ExporterKind.TheVariants as kind
+use Rattle.pybuf_command.specs.Kinds.{of_byte_array}
 use Rattle.pybuf_command.specs.declared.commands.LocalReply.{LocalReply}
 use Rattle.pybuf_command.specs.declared.commands.LocalReply.TheVariants as reply
-use Rattle.pybuf_memoryview.specs.Items.{index_in, entry_in, is_none, piece_by}
+use Rattle.pybuf_memoryview.specs.Items.{index_in, is_none, piece_by}
 use Rattle.pybuf_memoryview.specs.Keys.{item_of_key}
 use Rattle.pybuf_state.specs.Exporter.{Exporter, live_layout}
 use Rattle.pybuf_state.specs.Loans.{Lent, snaps_of}
@@ -25,12 +25,8 @@ byte_set e key value = do
   Ok (record e { bytes = bytes_with e.bytes place (byte ∷ []) }, reply.Ok)
 
 -- only a bytearray is written by itself
-abbrev pub set_in_kind : ExporterKind → Result (Exporter × LocalReply) Fault → Result (Exporter × LocalReply) Fault
-set_in_kind kind.ByteArray written = written
-set_in_kind _ written = Err fault.UnknownName
-
 abbrev pub set_of_own : Exporter → Value → Value → Result (Exporter × LocalReply) Fault
-set_of_own e key value = set_in_kind e.kind (byte_set e key value)
+set_of_own e key value = of_byte_array e.kind (byte_set e key value)
 
 -- The item of a number gets the bytes of the value by the view's format. A handle counts as what it is
 -- lent as.

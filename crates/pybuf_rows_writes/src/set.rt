@@ -15,9 +15,9 @@ ghost use Rattle.pybuf_rows_writes.specs.Writing.{bytes_packed, bytes_by_letter,
 
 use pybuf_command::{ExporterKind, LocalReply};
 use pybuf_memoryview::{
-    KeptLayout, args_of, byte_for_item, entry_in, format_of, index_in, is_byte_format, is_none,
-    place_of_key,
+    KeptLayout, args_of, byte_for_item, format_of, index_in, is_byte_format, is_none, place_of_key,
 };
+use pybuf_index::entry_in;
 use pybuf_state::{Names, Parts, lent_to};
 use pybuf_struct::{FormatSpec, is_numeric_letter, pack_single};
 use pybuf_value::{Fault, Halt, Scalar, ScalarList, SnapList, Value, value_from_object};

@@ -3,7 +3,7 @@ use Rattle.std.proofs.Common.{◌≡◌, ℕ, zero, suc, ◌+◌, ◌*◌, List,
 use Rattle.std.proofs.Common.{◌^◌, nat_lt, Ok, Err, if◌then◌else◌}
 use Rattle.bstr.specs.Text.{repeated}
 use Rattle.pybuf_value.specs.declared.faults.Fault.TheVariants as fault
-use Rattle.pybuf_search.specs.Joins.{fitted}
+use Rattle.pybuf_value.specs.Texts.{fitted}
 
 pub repeated_zero : (bytes : List ℕ) → repeated 0 bytes ≡ []
 unfolding repeated

@@ -2,7 +2,7 @@
 ghost use Rattle.std.specs.Prelude.{◌≡◌, ℕ, Bool, List, Option, Some, None, Ok, Err, IfOk, MatchOption, MatchResult};
 ghost use Rattle.pybuf_value.specs.declared.values.Value.TheVariants as values;
 ghost use Rattle.pybuf_value.specs.Halting.{Gives, outcome_of};
-ghost use Rattle.pybuf_value.specs.Snaps.{bytes_in, content_read};
+ghost use Rattle.pybuf_value.specs.Snaps.{bytes_in};
 ghost use Rattle.pybuf_search.specs.Bounds.{range_if_any, between_bounds};
 ghost use Rattle.pybuf_search.specs.Affixes as spec;
 ghost use Rattle.pybuf_search.specs.Affixes.{IsTested};
@@ -10,7 +10,7 @@ ghost use Rattle.pybuf_search.specs.Affixes.{IsTested};
 use crate::bounds::{adjust_indices, between};
 use crate::ends::{begins_with, ends_with};
 use pybuf_value::{
-    Fault, Halt, Lender, Outcome, Scalar, Snap, SnapKind, Tried, Value, bytes_from_object, tried,
+    Fault, Halt, Lender, Outcome, Scalar, Tried, Value, bytes_from_object, content_of_snap, tried,
 };
 use std::alloc::Global;
 use std::ops::Range;
@@ -49,22 +49,6 @@ impl StartsEndsWithArgs {
     }
 }
 
-/// The bytes of what a handle names; the items of a view may lie apart.
-fn bytes_of_snap(snap: &Snap) -> Result<&[u8], Fault>
-    ensures { MatchResult result (λ bytes. content_read snap.now.kind snap.now.released snap.now.content ≡ Ok bytes.now) (λ fault. content_read snap.now.kind snap.now.released snap.now.content ≡ Err fault) }
-{
-    match snap.kind {
-        SnapKind::Iterator => Err(Fault::Kind),
-        SnapKind::View => {
-            if snap.released {
-                return Err(Fault::Value);
-            }
-            Ok(snap.content.as_slice())
-        }
-        _ => Ok(snap.content.as_slice()),
-    }
-}
-
 /// The bytes of a bytes value, or of the exporter or the view that a handle names, contiguous or not.
 /// Nothing is copied.
 ///
@@ -76,7 +60,7 @@ pub fn bytes_lent<'a, L: Lender>(value: &'a Scalar, lender: &'a L) -> Result<&'a
     match value {
         Scalar::Bytes(bytes) => Ok(bytes.as_slice()),
         Scalar::Handle(handle) => match lender.lend(*handle) {
-            Some(snap) => bytes_of_snap(snap),
+            Some(snap) => content_of_snap(snap),
             None => Err(Fault::UnknownName),
         },
         _ => Err(Fault::Kind),

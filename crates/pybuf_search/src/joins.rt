@@ -2,8 +2,10 @@
 ghost use Rattle.std.specs.Prelude.{◌≡◌, ◌++◌, ◌*◌, ◌+◌, ◌<◌, ◌≤◌, ◌^◌, length, map, IfOk, OnOk};
 ghost use Rattle.bstr.specs.Owned as owned;
 ghost use Rattle.bstr.specs.Text as text;
-ghost use Rattle.pybuf_value.specs.Halting.{outcome_of};
-ghost use Rattle.pybuf_search.specs.Joins.{fitted, items_of, times, further};
+ghost use Rattle.pybuf_value.specs.Halting.{outcome_of, items_of};
+ghost use Rattle.pybuf_value.specs.Texts.{fitted};
+ghost use Rattle.pybuf_value.specs.Numbers.{times};
+ghost use Rattle.pybuf_search.specs.Joins.{further};
 ghost use Rattle.pybuf_search.specs.Joins as spec;
 
 use crate::separators::AnyStrWrapper;

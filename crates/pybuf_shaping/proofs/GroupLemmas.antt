@@ -3,7 +3,7 @@ use Rattle.std.proofs.Common.{◌≡◌, ℕ, ◌+◌, ◌-◌, ◌*◌, ◌<◌
 use Rattle.std.specs.Int.Signed.{lt_z}
 use Rattle.std.proofs.lemmas.Bool.{false≢true, lt-ltb}
 use Rattle.pybuf_value.specs.Refusing.{◌>>=◌}
-use Rattle.pybuf_value.specs.Quotes.{fitted_text}
+use Rattle.pybuf_value.specs.Texts.{fitted}
 use Rattle.std.specs.Prelude.{nat_lt}
 use Rattle.std.proofs.lemmas.Bool.Decides.{nat_tests}
 use Rattle.std.specs.List.{flat_map, list_all, All}
@@ -160,14 +160,14 @@ negative (negsuc m) some none = (m, refl)
 
 by_negative : (separator : List ℕ) (byte width first m : ℕ) (size : ℤ) (bytes : List ℕ) → size ≡ negsuc m → width ≡ suc m →
     first ≡ min width (length bytes) → separator_in separator ≡ Ok byte →
-    fitted_text (separated byte (take first bytes ∷ groups_of width (further width bytes) (drop first bytes))) ≡ text_by_groups separator size bytes
+    fitted (separated byte (take first bytes ∷ groups_of width (further width bytes) (drop first bytes))) ≡ text_by_groups separator size bytes
 by_negative separator byte width first m size bytes less same cut one =
-    ap (λ groups. fitted_text (separated byte groups)) (cut_at_end width first bytes cut ∙ ap (λ w. groups_from_left w bytes) same)
-    ∙ sym (ap (λ z. text_by_groups separator z bytes) less ∙ ap (λ r. r >>= (λ b. fitted_text (separated b (groups_from_left (suc m) bytes)))) one)
+    ap (λ groups. fitted (separated byte groups)) (cut_at_end width first bytes cut ∙ ap (λ w. groups_from_left w bytes) same)
+    ∙ sym (ap (λ z. text_by_groups separator z bytes) less ∙ ap (λ r. r >>= (λ b. fitted (separated b (groups_from_left (suc m) bytes)))) one)
 
 pub from_left_text : (separator : List ℕ) (byte width first : ℕ) (size : ℤ) (bytes : List ℕ) → size ≢ pos 0 → lt_z (pos 0) size ≡ false → width ≡ nat_abs size →
     first ≡ min width (length bytes) → separator_in separator ≡ Ok byte →
-    fitted_text (separated byte (take first bytes ∷ groups_of width (further width bytes) (drop first bytes))) ≡ text_by_groups separator size bytes
+    fitted (separated byte (take first bytes ∷ groups_of width (further width bytes) (drop first bytes))) ≡ text_by_groups separator size bytes
 from_left_text separator byte width first size bytes some none same cut one =
     let found : (m : ℕ) × (size ≡ negsuc m) = negative size some none in
     by_negative separator byte width first found.0 size bytes found.1 (same ∙ ap nat_abs found.1) cut one

@@ -5,7 +5,7 @@ use Rattle.hex.specs.Hex.{encode_lower, hex_digit_value}
 use Rattle.pybuf_value.specs.declared.faults.Fault.{Fault}
 use Rattle.pybuf_value.specs.declared.faults.Fault.TheVariants as fault
 use Rattle.pybuf_value.specs.Refusing.{◌>>=◌}
-use Rattle.pybuf_value.specs.Quotes.{fitted_text}
+use Rattle.pybuf_value.specs.Texts.{fitted}
 use Rattle.pybuf_letters.specs.Classes.{is_blank}
 
 -- ---- groups
@@ -54,13 +54,13 @@ grouped (negsuc size) bytes = groups_from_left (suc size) bytes
 abbrev pub text_by_groups : List ℕ → ℤ → List ℕ → Result (List ℕ) Fault
 text_by_groups separator size bytes = do
   byte ← separator_in separator
-  fitted_text (separated byte (grouped size bytes))
+  fitted (separated byte (grouped size bytes))
 
 -- The digits of bytes. Of no bytes, without a separator and in groups of no size, nothing is looked at.
 abbrev pub hex_text : Option (List ℕ) → ℤ → List ℕ → Result (List ℕ) Fault
 hex_text separator size [] = Ok []
-hex_text None size bytes = fitted_text (encode_lower bytes)
-hex_text (Some separator) (pos zero) bytes = fitted_text (encode_lower bytes)
+hex_text None size bytes = fitted (encode_lower bytes)
+hex_text (Some separator) (pos zero) bytes = fitted (encode_lower bytes)
 hex_text (Some separator) size bytes = text_by_groups separator size bytes
 
 -- ---- read back

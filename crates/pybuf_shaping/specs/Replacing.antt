@@ -2,7 +2,7 @@
 use Rattle.std.specs.Prelude.{ℕ, ◌-◌, ◌^◌, ℤ, pos, negsuc, List, Option, Some, None, Result}
 use Rattle.bstr.specs.Owned.{joined}
 use Rattle.pybuf_value.specs.declared.faults.Fault.{Fault}
-use Rattle.pybuf_search.specs.Joins.{fitted}
+use Rattle.pybuf_value.specs.Texts.{fitted}
 use Rattle.pybuf_search.specs.Parts.{split_parts}
 
 -- What stands between the first matches from the left, with others between them. An empty needle stands

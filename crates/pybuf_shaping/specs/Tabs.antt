@@ -1,7 +1,7 @@
 -- Tabs as spaces up to the next column that is a multiple of a size.
 use Rattle.std.specs.Prelude.{ℕ, zero, suc, ◌+◌, ◌-◌, ◌%◌, ◌==◌, ◌||◌, ℤ, pos, negsuc, List, [], ◌∷◌, ◌++◌, replicate, Result, if◌then◌else◌}
 use Rattle.pybuf_value.specs.declared.faults.Fault.{Fault}
-use Rattle.pybuf_value.specs.Quotes.{fitted_text}
+use Rattle.pybuf_value.specs.Texts.{fitted}
 use Rattle.std.specs.Str.{byte}
 
 -- how many spaces a tab at a column is: none where the size is 0
@@ -26,4 +26,4 @@ tab_size (pos size) = size
 tab_size (negsuc _) = 0
 
 abbrev pub expanded : ℕ → List ℕ → Result (List ℕ) Fault
-expanded size bytes = fitted_text (expanded_from size 0 bytes)
+expanded size bytes = fitted (expanded_from size 0 bytes)

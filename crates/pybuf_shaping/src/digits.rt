@@ -4,7 +4,7 @@ ghost use Rattle.std.specs.List.{flat_map};
 ghost use Rattle.std.specs.Option.{option_copied};
 ghost use Rattle.hex.specs.Hex.{encode_lower};
 ghost use Rattle.pybuf_value.specs.Halting.{Gives, outcome_of};
-ghost use Rattle.pybuf_value.specs.Quotes.{fitted_text};
+ghost use Rattle.pybuf_value.specs.Texts.{fitted};
 ghost use Rattle.pybuf_shaping.specs.Digits as spec;
 
 use pybuf_value::{Fault, Halt, Made, Text, Tried, tried};
@@ -45,7 +45,7 @@ fn push_groups(
 
 /// The digits of bytes, not in groups, made in one block.
 fn plain_text(alloc: Global, bytes: &[u8]) -> Result<Text, Halt>
-    ensures { Gives (fitted_text (encode_lower bytes.now)) result }
+    ensures { Gives (fitted (encode_lower bytes.now)) result }
 {
     if bytes.len() > isize::MAX as usize / 2 {
         return Err(Halt::Refused(Fault::Overflow));
@@ -66,7 +66,7 @@ fn separated_text(
     requires inside { first ≤ length bytes.now }
     requires few { count ≤ length bytes.now }
     requires whole { length bytes.now ≤ first + count * size }
-    ensures { Gives (fitted_text (spec.separated separator (take first bytes.now ∷ spec.groups_of size count (drop first bytes.now)))) result }
+    ensures { Gives (fitted (spec.separated separator (take first bytes.now ∷ spec.groups_of size count (drop first bytes.now)))) result }
 {
     let total = 2 * bytes.len() as u128 + count as u128;
     if total > isize::MAX as u128 {

@@ -1,7 +1,7 @@
 //! Bytes with others in place of the matches of a needle.
 ghost use Rattle.std.specs.Prelude.{◌≡◌, ◌+◌, ◌<◌, ◌≤◌, ◌^◌, ◌++◌, IfOk, OnOk, length, take};
 ghost use Rattle.bstr.specs.Text.{MatchList, replaced_at};
-ghost use Rattle.pybuf_search.specs.Joins.{fitted};
+ghost use Rattle.pybuf_value.specs.Texts.{fitted};
 ghost use Rattle.pybuf_search.specs.Matches.{matches_from_left};
 ghost use Rattle.pybuf_value.specs.Halting.{Gives, outcome_of};
 ghost use Rattle.pybuf_shaping.specs.Replacing as spec;

@@ -6,6 +6,7 @@ use Rattle.pybuf_value.specs.declared.faults.Fault.{Fault}
 use Rattle.pybuf_value.specs.declared.faults.Fault.TheVariants as fault
 use Rattle.pybuf_value.specs.declared.faults.Outcome.{Outcome}
 use Rattle.pybuf_value.specs.declared.faults.Outcome.TheVariants as outcome
+use Rattle.pybuf_value.specs.Numbers.{times}
 use Rattle.pybuf_index.specs.Parts.{SliceParts, picks_of}
 use Rattle.pybuf_index.specs.Runs.{span_start, span_end}
 
@@ -42,11 +43,6 @@ IsRisingFrom n (i ∷ indices) = (n ≤ i) × IsRisingFrom (suc i) indices
 abbrev pub repeated_list : {X : Type 0} → ℕ → List X → List X
 repeated_list zero items = []
 repeated_list (suc n) items = items ++ repeated_list n items
-
--- no times for a negative number
-abbrev pub times : ℤ → ℕ
-times (pos n) = n
-times (negsuc n) = 0
 
 -- ---- answers of edits
 

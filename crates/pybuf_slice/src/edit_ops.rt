@@ -5,7 +5,8 @@ ghost use Rattle.std.specs.List.Sorted.{IsStrictlyIncreasing};
 ghost use Rattle.pybuf_value.specs.declared.faults.Fault.TheVariants as fault;
 ghost use Rattle.pybuf_index.specs.Parts.{SliceParts, picks_of};
 ghost use Rattle.pybuf_index.specs.Places.{item_place};
-ghost use Rattle.pybuf_slice.specs.Edits.{replaced_range, set_at, elements_off, named_or_index_error, set_if_named, deleted_if_named, done_if_equal, assign_answer, assigned_list, MatchOutcome, times, repeat_answer, fits_answer, SameLists, IsRepeated};
+ghost use Rattle.pybuf_value.specs.Numbers.{times};
+ghost use Rattle.pybuf_slice.specs.Edits.{replaced_range, set_at, elements_off, named_or_index_error, set_if_named, deleted_if_named, done_if_equal, assign_answer, assigned_list, MatchOutcome, repeat_answer, fits_answer, SameLists, IsRepeated};
 
 use crate::sequence::SliceableSequenceOp;
 use crate::{edits, repeats, slices};

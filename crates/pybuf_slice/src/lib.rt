@@ -14,7 +14,7 @@ pub use edits::close_up;
 pub use laws::{as_many_keep_the_length, reading_and_deleting_part_a_list};
 pub use pybuf_index::{
     OptionalRangeArgs, SaturatedSlice, SaturatedSliceIter, SequenceIndex, SequenceIndexOp,
-    SliceIndices, clamping_changes_no_index, hash_of_lanes, indices_and_adjust_indices_agree,
-    indices_of_a_slice, indices_of_a_span, slices_have_spans,
+    SliceIndices, clamping_changes_no_index, entry_in, hash_of_lanes,
+    indices_and_adjust_indices_agree, indices_of_a_slice, indices_of_a_span, slices_have_spans,
 };
 pub use sequence::SliceableSequenceOp;

@@ -1,7 +1,8 @@
 //! A list so many times.
 ghost use Rattle.std.specs.Prelude.{◌≡◌, ◌<◌, ◌*◌, ◌^◌, List, length, IfOk, OnOk, OnErr, Option};
 ghost use Rattle.std.specs.List.{AllZip};
-ghost use Rattle.pybuf_slice.specs.Edits.{times, repeated_list, times_that_fit, SameLists, IsRepeated, MatchOutcome, repeat_answer, fits_answer};
+ghost use Rattle.pybuf_value.specs.Numbers.{times};
+ghost use Rattle.pybuf_slice.specs.Edits.{repeated_list, times_that_fit, SameLists, IsRepeated, MatchOutcome, repeat_answer, fits_answer};
 
 use pybuf_value::{Fault, Made, Outcome, Tried, Twin};
 use std::alloc::Global;

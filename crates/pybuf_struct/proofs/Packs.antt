@@ -10,7 +10,8 @@ use Rattle.pybuf_value.specs.declared.snaps.Snap.{Snap}
 use Rattle.pybuf_value.specs.Refusing.{◌>>=◌}
 use Rattle.pybuf_struct.specs.declared.table.Endianness.{Endianness}
 use Rattle.pybuf_struct.specs.Formats.{Code, Field, extent, fields_from}
-use Rattle.pybuf_struct.specs.Packing.{bytes_of, contents_of, room_with, room_with_contents, refusal_of}
+use Rattle.pybuf_value.specs.Halting.{refusal_of}
+use Rattle.pybuf_struct.specs.Packing.{bytes_of, contents_of, room_with, room_with_contents}
 use Rattle.pybuf_struct.proofs.Fields.{IsSound, fields_sound}
 
 -- ---- one more value

@@ -1,13 +1,10 @@
 -- Writing values by a format.
 use Rattle.std.specs.Prelude.{ℕ, zero, suc, ◌+◌, ◌-◌, ◌*◌, ◌^◌, ◌==◌, min, Bool, true, false, List, [], ◌∷◌, ◌++◌, take, drop, length, replicate, ℤ, pos, negsuc, nat_lt, Result, Ok, Err, if◌then◌else◌}
-use Rattle.std.specs.Global.{Vec}
 use Rattle.std.specs.Int.{bytes_low_first, bytes_high_first}
 use Rattle.pybuf_value.specs.declared.faults.Fault.{Fault}
 use Rattle.pybuf_value.specs.declared.faults.Fault.TheVariants as fault
 use Rattle.pybuf_value.specs.declared.values.Scalar.{Scalar}
 use Rattle.pybuf_value.specs.declared.values.Scalar.TheVariants as scalar
-use Rattle.pybuf_value.specs.declared.faults.Outcome.{Outcome}
-use Rattle.pybuf_value.specs.declared.faults.Outcome.TheVariants as outcome
 use Rattle.pybuf_value.specs.declared.snaps.Snap.{Snap}
 use Rattle.pybuf_value.specs.Numbers.{number_in}
 use Rattle.pybuf_value.specs.Refusing.{◌>>=◌}
@@ -119,13 +116,3 @@ packed_values f pairs values = room_with_contents (fields f) (contents_of f.orde
 -- that its field refuses.
 abbrev pub packed_bytes : Format → List (ℕ × Snap) → List Scalar → Result (List ℕ) Fault
 packed_bytes f pairs values = if length values == length (fields f) then packed_values f pairs values else Err fault.Struct
-
--- whether a call is refused, and why
-abbrev pub refusal_of : {A : Type 0} → Result A Fault → Result (Unit {0}) Fault
-refusal_of (Ok x) = Ok tt
-refusal_of (Err f) = Err f
-
--- the bytes that a call gave
-abbrev pub items_of : Outcome (Vec ℕ) → Outcome (List ℕ)
-items_of (outcome.Done v) = outcome.Done v.items
-items_of (outcome.Refused f) = outcome.Refused f

@@ -1,29 +1,19 @@
 //! Bytes from values.
 ghost use Rattle.std.specs.Prelude.{◌≡◌, ◌<◌, ◌≤◌, ◌-◌, ◌^◌, true, false, ◌||◌, length, Ok, Err, IfOk, IfErr, OnOk, OnErr, IsOk, IsTrue};
-ghost use Rattle.pybuf_value.specs.Numbers.{number_in};
 ghost use Rattle.pybuf_struct.specs.Digits.{is_width};
 ghost use Rattle.pybuf_struct.specs.Formats.{extent, fields_from};
-ghost use Rattle.pybuf_value.specs.Halting.{outcome_of};
+ghost use Rattle.pybuf_value.specs.Halting.{outcome_of, refusal_of, items_of};
 ghost use Rattle.pybuf_struct.specs.Values.{is_length};
-ghost use Rattle.pybuf_struct.specs.Packing.{is_in_range, complement_of, digits_of, truth_byte, fitted_to, pascal_bytes, bytes_of, contents_of, room_with_contents, refusal_of, packed_bytes, items_of};
+ghost use Rattle.pybuf_struct.specs.Packing.{is_in_range, complement_of, digits_of, truth_byte, fitted_to, pascal_bytes, bytes_of, contents_of, room_with_contents, packed_bytes};
 
 use crate::cursor::Cursor;
 use crate::digits::modulus_of;
 use crate::format::{FormatCode, FormatSpec};
 use crate::table::{Endianness, FormatType};
-use pybuf_value::{Fault, Lender, Outcome, Scalar, ScalarList, Tried, bytes_alone, bytes_like};
+use pybuf_value::{
+    Fault, Lender, Outcome, Scalar, ScalarList, Tried, bytes_alone, bytes_like, number_in,
+};
 use std::alloc::Global;
-
-/// The number of an argument.
-pub(crate) fn number_of(value: &Scalar) -> Result<i128, Fault>
-    ensures { result ≡ number_in value.now }
-{
-    match value {
-        Scalar::Int(number) => Ok(*number),
-        Scalar::Bool(truth) => { if *truth { Ok(1) } else { Ok(0) } }
-        _ => Err(Fault::Kind),
-    }
-}
 
 /// The byte of a truth value, or of a number: 0 for 0, else 1.
 pub(crate) fn truth_byte(value: &Scalar) -> Result<u8, Fault>
@@ -121,7 +111,7 @@ fn check_field<L: Lender>(
             Ok(())
         }
         _ => {
-            match number_of(value) {
+            match number_in(value) {
                 Ok(number) => {
                     if !is_in_range(code.is_signed(), length, number) {
                         return Err(Fault::Struct);
@@ -182,7 +172,7 @@ fn write_field<L: Lender>(
             }
         }
         _ => {
-            if let Ok(number) = number_of(value) {
+            if let Ok(number) = number_in(value) {
                 put_digits(order.is_big(), complement_of(place.len(), number), place);
             }
         }

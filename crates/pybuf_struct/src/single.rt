@@ -8,9 +8,9 @@ ghost use Rattle.pybuf_value.specs.declared.snaps.Snap.{Snap};
 ghost use Rattle.pybuf_struct.specs.Singles as spec;
 
 use crate::digits::number;
-use crate::pack::{complement_of, is_in_range, number_of, put_digits, truth_byte};
+use crate::pack::{complement_of, is_in_range, put_digits, truth_byte};
 use crate::table::{Endianness, FormatType};
-use pybuf_value::Scalar;
+use pybuf_value::{Scalar, number_in};
 
 /// The code of a text that is its letter alone.
 fn single_code(text: &[u8]) -> Option<FormatType>
@@ -112,7 +112,7 @@ fn put_value(code: FormatType, room: &mut [u8], value: &Scalar) -> bool
             room.copy_from_slice(&[byte]);
         }
         _ => {
-            let Ok(number) = number_of(value) else {
+            let Ok(number) = number_in(value) else {
                 return false;
             };
             if !is_in_range(code.is_signed(), room.len(), number) {

@@ -52,7 +52,7 @@ fn inner(alloc: Global, bytes: &[u8]) -> Result<PyBytesInner, Fail> {
 }
 
 /// The bytes, or why not.
-fn made(outcome: &Outcome<Vec<u8>>) -> Result<&[u8], Fault> {
+pub(crate) fn made(outcome: &Outcome<Vec<u8>>) -> Result<&[u8], Fault> {
     match outcome {
         Outcome::Done(bytes) => Ok(bytes.as_slice()),
         Outcome::Refused(fault) => Err(*fault),

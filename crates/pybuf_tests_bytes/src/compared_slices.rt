@@ -1,19 +1,9 @@
 //! Slices compared, as texts and hashed, with ample memory. The expected values are Python's.
+use crate::slices::{NONE, part};
 use pybuf_index::{SliceIndices, hash_of_lanes};
 use pybuf_value::{ByteList, CompareOp, Fault, PySlice, Scalar, Text};
 use std::alloc::Global;
 use std::test::Fail;
-
-/// Stands for `None`.
-const NONE: i128 = i128::MAX;
-
-fn part(number: i128) -> Scalar {
-    if number == NONE {
-        Scalar::None
-    } else {
-        Scalar::Int(number)
-    }
-}
 
 fn slice(parts: [i128; 3]) -> PySlice {
     PySlice {

@@ -8,7 +8,7 @@ use std::alloc::Global;
 use std::test::Fail;
 
 /// Stands for an absent part.
-const NONE: i128 = i128::MAX;
+pub(crate) const NONE: i128 = i128::MAX;
 
 const PARTS: [i128; 10] = [NONE, -4, -3, -2, -1, 0, 1, 2, 3, 4];
 
@@ -149,7 +149,8 @@ const ENDS: [(usize, i128, i128, i128, usize, i128, i128); 25] = [
     (3, 9223372036854775807, 9223372036854775807, -1, 0, -1, -1),
 ];
 
-fn part(number: i128) -> Scalar {
+/// A part of a slice.
+pub(crate) fn part(number: i128) -> Scalar {
     if number == NONE {
         Scalar::None
     } else {

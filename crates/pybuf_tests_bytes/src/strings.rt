@@ -1,4 +1,5 @@
 //! Strings of any kind, with ample memory. What is wanted is what Python's `bytes` answers.
+use crate::bytes::made;
 use pybuf_anystr::{AnyStr, AnyStrContainer, Bytes};
 use pybuf_bytes::{ByteInnerPaddingOptions, PyBytesInner, SplitArgs, SplitLinesArgs};
 use pybuf_search::begins_with;
@@ -178,14 +179,6 @@ fn begins(alloc: Global, string: &Bytes, affix: &Value) -> Tried<bool> {
         &|bytes: &[u8], prefix: &[u8]| begins_with(bytes, prefix),
         &SnapList::new(alloc),
     )
-}
-
-/// The bytes, or why not.
-fn made(outcome: &Outcome<Vec<u8>>) -> Result<&[u8], Fault> {
-    match outcome {
-        Outcome::Done(bytes) => Ok(bytes.as_slice()),
-        Outcome::Refused(fault) => Err(*fault),
-    }
 }
 
 #[test]

@@ -2,10 +2,12 @@
 //!
 //! Each call of a script stands in a function without clauses, which hands over what it was answered. So no script
 //! carries what the calls before did, and none drops a reply at each place where it may stop.
+use pybuf_buffer::PyBuffer;
 use pybuf_command::{ExporterKind, LocalReply, MethodCall, MethodName};
+use pybuf_desc::BufferDescriptor;
 use pybuf_exporter::ExporterState;
 use pybuf_value::{
-    ByteList, Fault, Item, Made, Scalar, Text, Value, ValueList, push_quoted, push_scalar,
+    ByteList, Fault, Item, Made, Outcome, Scalar, Text, Value, ValueList, push_quoted, push_scalar,
 };
 use std::alloc::Global;
 
@@ -79,6 +81,32 @@ pub(crate) fn tell_numbered(told: &mut Vec<u8>, letter: u8, number: usize) -> Ma
     tell_word(told, b"")?;
     told.push(letter)?;
     push_scalar(told, &Scalar::Int(number as i128))
+}
+
+/// Adds the bytes of a view, where they lie together.
+pub(crate) fn tell_view(told: &mut Vec<u8>, state: &ExporterState, view: usize) -> Made<()> {
+    let buffer = PyBuffer::of(view);
+    if !buffer.is_live(state) {
+        return tell_word(told, b"dead");
+    }
+    match buffer.as_contiguous(state) {
+        Some(bytes) => tell_bytes(told, bytes),
+        None => tell_word(told, b"None"),
+    }
+}
+
+/// One more buffer, by a descriptor, and adds its number, or why there is none.
+pub(crate) fn lend_by(
+    state: &mut ExporterState,
+    alloc: Global,
+    descriptor: BufferDescriptor,
+    start: usize,
+    told: &mut Vec<u8>,
+) -> Made<()> {
+    match PyBuffer::new(alloc, state, descriptor, start)? {
+        Outcome::Done(buffer) => tell_numbered(told, b'v', buffer.number()),
+        Outcome::Refused(fault) => tell_fault(told, fault),
+    }
 }
 
 pub(crate) fn count_reply(count: usize) -> Made<LocalReply> {

@@ -4,12 +4,13 @@ ghost use Rattle.std.specs.Prelude.{◌≡◌, true};
 ghost use Rattle.pybuf_state.specs.Live.{is_live};
 
 use crate::answers::{
-    exporter_of, tell_bytes, tell_count, tell_fault, tell_numbered, tell_truth, tell_word,
+    exporter_of, lend_by, tell_bytes, tell_count, tell_fault, tell_numbered, tell_truth, tell_view,
+    tell_word,
 };
 use pybuf_buffer::{PyBuffer, Steps};
 use pybuf_desc::BufferDescriptor;
 use pybuf_exporter::ExporterState;
-use pybuf_value::{DimList, Made, Outcome, Text};
+use pybuf_value::{DimList, Made, Text};
 use std::alloc::Global;
 use std::marker::Brand;
 use std::sync::ledger::{Blank, Ledger};
@@ -21,19 +22,6 @@ fn bytes_apart(alloc: Global, len: usize, stride: isize) -> Made<BufferDescripto
     dims.push((len, stride, 0))?;
     let format = Text::from_string(String::from_str(alloc, "B")?);
     Ok(BufferDescriptor::raw(len, false, 1, format, dims))
-}
-
-fn lend_by(
-    state: &mut ExporterState,
-    alloc: Global,
-    descriptor: BufferDescriptor,
-    start: usize,
-    told: &mut Vec<u8>,
-) -> Made<()> {
-    match PyBuffer::new(alloc, state, descriptor, start)? {
-        Outcome::Done(buffer) => tell_numbered(told, b'v', buffer.number()),
-        Outcome::Refused(fault) => tell_fault(told, fault),
-    }
 }
 
 /// Buffer 0: so many bytes, a stride apart, from a place on.
@@ -114,18 +102,6 @@ fn collect(state: &ExporterState, alloc: Global, told: &mut Vec<u8>) -> Made<()>
     tell_count(told, length)
 }
 
-/// The bytes of buffer 0 where they lie together, or None.
-fn read(state: &ExporterState, told: &mut Vec<u8>) -> Made<()> {
-    let buffer = PyBuffer::of(0);
-    if !buffer.is_live(state) {
-        return tell_word(told, b"dead");
-    }
-    match buffer.as_contiguous(state) {
-        Some(bytes) => tell_bytes(told, bytes),
-        None => tell_word(told, b"None"),
-    }
-}
-
 fn read_all(state: &ExporterState, told: &mut Vec<u8>) -> Made<()> {
     let buffer = PyBuffer::of(0);
     if !buffer.is_live(state) {
@@ -152,7 +128,7 @@ fn is_turned(state: &mut ExporterState) -> bool {
 fn turn_back(state: &mut ExporterState, alloc: Global, told: &mut Vec<u8>) -> Made<()> {
     lend(state, alloc, 3, -2, 5, told)?;
     collect(state, alloc, told)?;
-    read(state, told)?;
+    tell_view(told, state, 0)?;
     tell_truth(told, is_turned(state))?;
     read_all(state, told)
 }
@@ -198,7 +174,7 @@ fn write(state: &mut ExporterState, alloc: Global, told: &mut Vec<u8>) -> Made<(
     lend(state, alloc, 3, 1, 2, told)?;
     tell_truth(told, is_turned(state))?;
     tell_bytes(told, state.bytes())?;
-    read(state, told)?;
+    tell_view(told, state, 0)?;
     tell_truth(told, is_turned_by_number(state))?;
     tell_bytes(told, state.bytes())?;
     tell_truth(told, is_turned_whole(state))?;
@@ -260,7 +236,7 @@ fn a_caller_counts_the_ranges(rt: HostRuntime) -> Result<(), Fail> {
 
 /// The bytes of buffer 0 of an exporter, which is let go.
 fn tell_vector(told: &mut Vec<u8>, state: ExporterState) -> Made<()> {
-    let done = read(&state, told);
+    let done = tell_view(told, &state, 0);
     drop(state);
     done
 }

@@ -1,7 +1,7 @@
 //! How a `PyMemoryView` is made of what an exporter or a buffer has: a line of the program makes views by commands on
 //! a world alone.
 use crate::answers::{
-    exporter_of, tell_bytes, tell_count, tell_fault, tell_numbered, tell_truth, tell_word,
+    exporter_of, lend_by, tell_count, tell_fault, tell_numbered, tell_truth, tell_view, tell_word,
 };
 use pybuf_buffer::PyBuffer;
 use pybuf_command::Subject;
@@ -68,10 +68,7 @@ fn three_rows(alloc: Global) -> Made<BufferDescriptor> {
 
 /// Buffer 0, of three rows.
 fn lend_rows(state: &mut ExporterState, alloc: Global, told: &mut Vec<u8>) -> Made<()> {
-    match PyBuffer::new(alloc, state, three_rows(alloc)?, 0)? {
-        Outcome::Done(buffer) => tell_numbered(told, b'v', buffer.number()),
-        Outcome::Refused(fault) => tell_fault(told, fault),
-    }
+    lend_by(state, alloc, three_rows(alloc)?, 0, told)
 }
 
 fn view_of_buffer(state: &mut ExporterState, alloc: Global, told: &mut Vec<u8>) -> Made<()> {
@@ -109,20 +106,9 @@ fn view_of_rows(
     tell_numbered(told, b'v', rows.number())
 }
 
-fn read(state: &ExporterState, view: usize, told: &mut Vec<u8>) -> Made<()> {
-    let buffer = PyBuffer::of(view);
-    if !buffer.is_live(state) {
-        return tell_word(told, b"dead");
-    }
-    match buffer.as_contiguous(state) {
-        Some(bytes) => tell_bytes(told, bytes),
-        None => tell_word(told, b"None"),
-    }
-}
-
 /// Tells an exporter that is a copy, and lets it go.
 fn tell_copy(told: &mut Vec<u8>, copy: ExporterState, view: usize) -> Made<()> {
-    let done = read(&copy, view, told);
+    let done = tell_view(told, &copy, view);
     drop(copy);
     done
 }
@@ -140,9 +126,9 @@ fn view_buffer(state: &mut ExporterState, alloc: Global, told: &mut Vec<u8>) -> 
     lend_rows(state, alloc, told)?;
     view_of_buffer(state, alloc, told)?;
     view_again(state, alloc, told)?;
-    read(state, 2, told)?;
+    tell_view(told, state, 2)?;
     view_of_rows(state, alloc, 1..3, told)?;
-    read(state, 3, told)?;
+    tell_view(told, state, 3)?;
     copy_rows(state, alloc, told)?;
     view_of_rows(state, alloc, 2..4, told)?;
     tell_count(told, state.exports())

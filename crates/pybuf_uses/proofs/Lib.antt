@@ -1,7 +1,6 @@
 mod NumberLemmas
 mod OutLemmas
 mod DigitLemmas
-mod FirstByte
 mod PlaceLemmas
 mod SpanLemmas
 mod RoomLemmas

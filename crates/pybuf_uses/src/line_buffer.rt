@@ -4,8 +4,7 @@ ghost use Rattle.pybuf_uses.specs.Lines.{IsSpanned, line_len_of, answer_of, over
 ghost use Rattle.std.specs.Borrow.{sem};
 ghost use Rattle.pybuf_exporter.specs.Lending.{LendsBytes};
 
-use bstr::ByteSlice;
-use pybuf_view::{ExporterState, LoanList, LocalReply, Made, PyByteArray};
+use pybuf_view::{ExporterState, LoanList, LocalReply, Made, PyByteArray, place_of_byte};
 use std::alloc::Global;
 use std::marker::Model;
 
@@ -34,11 +33,10 @@ impl Model for LineBuffer {
 }
 
 /// The number of bytes before the first line feed; None exactly where there is none.
-#[tactic(auto, using(crate::proofs::FirstByte::position_of_byte))]
 fn line_len(bytes: &[u8]) -> Option<usize>
     ensures { result ≡ line_len_of bytes.now }
 {
-    bytes.find_byte(b'\n')
+    place_of_byte(bytes, b'\n')
 }
 
 /// The bytes of a view that spans all of them, lent to be written.

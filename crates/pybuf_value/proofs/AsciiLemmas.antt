@@ -11,7 +11,8 @@ use Rattle.hex.specs.Hex.{lower_digits}
 use Rattle.pybuf_value.specs.declared.values.Scalar.{Scalar}
 use Rattle.pybuf_value.specs.declared.values.Scalar.TheVariants as scalar
 use Rattle.pybuf_value.specs.Quotes.{quote_of, escaped_byte, quoted_text, repr_of}
-use Rattle.pybuf_value.specs.Spelling.{is_ascii, truth_text, handle_text, scalar_text}
+use Rattle.pybuf_value.specs.Spelling.{truth_text, handle_text, scalar_text}
+use Rattle.pybuf_value.specs.Texts.{is_ascii}
 
 abbrev AllAscii : List ℕ → Type 0
 AllAscii xs = list_all (λ b. nat_lt b 128) xs ≡ true

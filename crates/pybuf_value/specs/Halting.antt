@@ -1,5 +1,6 @@
 -- Results that a refusal or want of memory can stand in place of.
-use Rattle.std.specs.Prelude.{◌≡◌, Result, Ok, Err}
+use Rattle.std.specs.Prelude.{◌≡◌, ℕ, List, Result, Ok, Err}
+use Rattle.std.specs.Global.{Vec}
 use Rattle.pybuf_value.specs.declared.faults.Fault.{Fault}
 use Rattle.pybuf_value.specs.declared.faults.Outcome.{Outcome}
 use Rattle.pybuf_value.specs.declared.faults.Outcome.TheVariants as outcome
@@ -16,3 +17,13 @@ Gives wanted (Err halt.NoMemory) = Unit {0}
 abbrev pub outcome_of : {X : Type 0} → Result X Fault → Outcome X
 outcome_of (Ok x) = outcome.Done x
 outcome_of (Err f) = outcome.Refused f
+
+-- what was answered, with the bytes of a vector as a list
+abbrev pub items_of : Outcome (Vec ℕ) → Outcome (List ℕ)
+items_of (outcome.Done bytes) = outcome.Done bytes.items
+items_of (outcome.Refused f) = outcome.Refused f
+
+-- whether a call is refused, and why
+abbrev pub refusal_of : {A : Type 0} → Result A Fault → Result (Unit {0}) Fault
+refusal_of (Ok x) = Ok tt
+refusal_of (Err f) = Err f

@@ -1,5 +1,5 @@
 -- Which values are numbers, and which numbers fit where.
-use Rattle.std.specs.Prelude.{ℕ, ◌^◌, Bool, true, false, ℤ, pos, negsuc, Result, Ok, Err, nat_lt, if◌then◌else◌}
+use Rattle.std.specs.Prelude.{ℕ, ◌^◌, Bool, true, false, ℤ, pos, negsuc, Option, Some, None, Result, Ok, Err, nat_lt, if◌then◌else◌}
 use Rattle.pybuf_value.specs.declared.faults.Fault.{Fault}
 use Rattle.pybuf_value.specs.declared.faults.Fault.TheVariants as fault
 use Rattle.pybuf_value.specs.Refusing.{◌>>=◌}
@@ -27,6 +27,22 @@ is_word (negsuc n) = nat_lt n (2 ^ 63)
 -- the number where it is a word, else the fault
 abbrev pub fitted_number : Fault → ℤ → Result ℤ Fault
 fitted_number f n = if is_word n then Ok n else Err f
+
+-- a number that must fit a word
+abbrev pub count_in : Value → Result ℤ Fault
+count_in v = do
+  n ← number_of v
+  fitted_number fault.Overflow n
+
+-- the same, and a number where none is given
+abbrev pub count_or : ℤ → Option Value → Result ℤ Fault
+count_or absent None = Ok absent
+count_or absent (Some v) = count_in v
+
+-- how many times something is repeated: not at all for a negative number
+abbrev pub times : ℤ → ℕ
+times (pos n) = n
+times (negsuc n) = 0
 
 -- a number from 0 to 255
 abbrev pub byte_of : ℤ → Result ℕ Fault

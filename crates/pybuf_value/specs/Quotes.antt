@@ -1,10 +1,8 @@
 -- Bytes between quotes, as Python's `repr` writes them.
-use Rattle.std.specs.Prelude.{ℕ, ◌^◌, Bool, nat_lt, length, Result, Ok, Err, ◌/◌, ◌%◌, List, ◌∷◌, [], ◌++◌, ◌==◌, ◌&&◌, not, nat_le, codes, slice_index, if◌then◌else◌}
+use Rattle.std.specs.Prelude.{ℕ, Bool, ◌/◌, ◌%◌, List, ◌∷◌, [], ◌++◌, ◌==◌, ◌&&◌, not, nat_le, codes, slice_index, if◌then◌else◌}
 use Rattle.std.specs.Str.{byte}
 use Rattle.std.specs.List.{flat_map, list_any}
 use Rattle.hex.specs.Hex.{lower_digits}
-use Rattle.pybuf_value.specs.declared.faults.Fault.{Fault}
-use Rattle.pybuf_value.specs.declared.faults.Fault.TheVariants as fault
 
 -- the quote round bytes: a double one where they hold a single quote and no double one
 abbrev pub quote_of : List ℕ → ℕ
@@ -32,7 +30,3 @@ quoted_text bytes = quote_of bytes ∷ flat_map (escaped_byte (quote_of bytes)) 
 -- bytes between quotes, after one text and before another
 abbrev pub repr_of : List ℕ → List ℕ → List ℕ → List ℕ
 repr_of before bytes after = before ++ quoted_text bytes ++ after
-
--- a text of at most `isize::MAX` bytes, else the refusal
-abbrev pub fitted_text : List ℕ → Result (List ℕ) Fault
-fitted_text text = if nat_lt (length text) (2 ^ 63) then Ok text else Err fault.Overflow

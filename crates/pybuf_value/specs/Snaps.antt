@@ -44,6 +44,11 @@ bytes_like pairs (scalar.Bytes bytes) = Ok bytes
 bytes_like pairs (scalar.Handle h) = content_of (snap_of pairs h)
 bytes_like pairs _ = Err fault.Kind
 
+-- the same of a value; one with parts has none
+abbrev pub like_in : List (ℕ × Snap) → Value → Result (List ℕ) Fault
+like_in pairs (value.One s) = bytes_like pairs s
+like_in pairs _ = Err fault.Kind
+
 -- the bytes of an exporter of kind bytes alone
 abbrev pub content_if_bytes : SnapKind → List ℕ → Result (List ℕ) Fault
 content_if_bytes kind.Bytes content = Ok content

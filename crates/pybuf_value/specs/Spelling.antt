@@ -1,15 +1,10 @@
 -- Values as texts, as Python's `repr` writes them.
-use Rattle.std.specs.Prelude.{ℕ, nat_lt, Bool, true, false, List, ◌∷◌, ◌++◌, codes, decimal}
+use Rattle.std.specs.Prelude.{ℕ, Bool, true, false, List, ◌∷◌, ◌++◌, codes, decimal}
 use Rattle.std.specs.Fmt.{signed_decimal}
 use Rattle.std.specs.Str.{byte}
-use Rattle.std.specs.List.{list_all}
 use Rattle.pybuf_value.specs.declared.values.Scalar.{Scalar}
 use Rattle.pybuf_value.specs.declared.values.Scalar.TheVariants as scalar
 use Rattle.pybuf_value.specs.Quotes.{quoted_text}
-
--- each byte is one of ASCII
-abbrev pub is_ascii : List ℕ → Bool
-is_ascii text = list_all (λ b. nat_lt b 128) text
 
 abbrev pub bytes_text : List ℕ → List ℕ
 bytes_text bytes = codes "b" ++ quoted_text bytes

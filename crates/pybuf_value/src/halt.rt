@@ -1,10 +1,11 @@
 //! Why a row of the command table stops: it is refused, or memory ran out.
-ghost use Rattle.std.specs.Prelude.{◌≡◌, Result, IfOk};
-ghost use Rattle.pybuf_value.specs.Halting.{Gives, outcome_of};
+ghost use Rattle.std.specs.Prelude.{◌≡◌, Result, Ok, IfOk};
+ghost use Rattle.pybuf_value.specs.Halting.{Gives, outcome_of, items_of};
 ghost use Rattle.pybuf_value.specs.declared.faults.Fault as faults;
 ghost use Rattle.pybuf_value.specs.declared.halt.Halt.TheVariants as halts;
 
 use crate::faults::{Fault, Outcome, Tried};
+use crate::list::ByteList;
 use pybuf_copy::NoMemory;
 use std::alloc::{AllocError, AllocFailed};
 
@@ -23,6 +24,16 @@ pub fn tried<T>(answer: Result<T, Halt>) -> Tried<T>
         Ok(value) => Ok(Outcome::Done(value)),
         Err(Halt::Refused(fault)) => Ok(Outcome::Refused(fault)),
         Err(Halt::NoMemory) => Err(NoMemory),
+    }
+}
+
+/// The bytes of an answer, as a vector. Takes no memory.
+pub fn as_vec(answer: Tried<ByteList>) -> Tried<Vec<u8>>
+    ensures { IfOk result (λ outcome. answer ≡ Ok (items_of outcome)) }
+{
+    match answer? {
+        Outcome::Done(bytes) => Ok(Outcome::Done(bytes.into_vec())),
+        Outcome::Refused(fault) => Ok(Outcome::Refused(fault)),
     }
 }
 

@@ -10,6 +10,7 @@ mod lent;
 mod list;
 mod numbers;
 mod order;
+mod plain;
 mod quotes;
 mod snaps;
 mod spelling;
@@ -19,7 +20,7 @@ mod values;
 pub use contents::{bytes_alone, bytes_from_object, bytes_like, text_in, try_as_bytes};
 pub use equality::{identical_or_equal, item_eq, scalar_eq};
 pub use faults::{Fault, Outcome, Tried};
-pub use halt::{Halt, tried};
+pub use halt::{Halt, as_vec, tried};
 pub use laws::{
     equal_items_count_alike, equal_scalars_count_alike, item_equality_is_equivalence,
     operators_agree, order_of_bytes_is_total, quoted_texts_read_back,
@@ -30,11 +31,17 @@ pub use list::{
     ByteList, ByteLists, CountList, DimList, ItemList, Items, NumberList, ScalarList, SliceList,
     ValueList, push_reserved,
 };
-pub use numbers::{ByteOr, fit_count, fit_index, index_of, saturate, value_from_object};
+pub use numbers::{
+    ByteOr, count_in, count_or, fit_count, fit_index, index_of, number_in, saturate,
+    value_from_object,
+};
 pub use order::{compare_bytes, is_order, scalar_cmp};
+pub use plain::{is_ascii, place_of_byte};
 pub use pybuf_copy::{Exact, Made, NoMemory, Twin, copy_all};
 pub use quotes::{escaped, push_escaped, push_quoted, quote};
 pub use snaps::{Lender, Snap, SnapKind, SnapList};
-pub use spelling::{named_repr_text, push_scalar, repr_text};
+pub use spelling::{
+    named_repr_text, push_bytes, push_handle, push_number, push_scalar, push_truth, repr_text,
+};
 pub use text::Text;
 pub use values::{CompareOp, Item, PySlice, Scalar, Value};

@@ -1,14 +1,17 @@
 //! Numbers as arguments: which values are numbers, and which numbers fit where.
 ghost use Rattle.std.specs.Prelude.{◌≡◌, ◌↔◌, ℕ, Result, IsOk, FitsSigned};
 ghost use Rattle.std.specs.Int.{w64, saturate_signed};
+ghost use Rattle.std.specs.Option.{option_copied};
 ghost use Rattle.pybuf_value.specs.declared.faults.Fault.{Fault};
-ghost use Rattle.pybuf_value.specs.Numbers.{number_in, number_of, fitted_number, byte_of, byte_in};
+ghost use Rattle.pybuf_value.specs.Numbers.{number_in, number_of, fitted_number, count_in, count_or, byte_of, byte_in};
 
 use crate::faults::Fault;
 use crate::values::{Scalar, Value};
 
-/// The same of a value without parts.
-pub(crate) fn number_in(value: &Scalar) -> Result<i128, Fault>
+/// The number of a whole number or of a truth value, which counts as 0 or 1.
+///
+/// Refused with `TypeError` for every other value without parts.
+pub fn number_in(value: &Scalar) -> Result<i128, Fault>
     ensures { result ≡ number_in value.now }
 {
     match value {
@@ -18,9 +21,9 @@ pub(crate) fn number_in(value: &Scalar) -> Result<i128, Fault>
     }
 }
 
-/// The number of a whole number or of a truth value, which counts as 0 or 1.
+/// The same of any value.
 ///
-/// Refused with `TypeError` for every other value.
+/// Refused with `TypeError` where it is no number.
 pub fn index_of(value: &Value) -> Result<i128, Fault>
     ensures { result ≡ number_of value.now }
 {
@@ -60,6 +63,27 @@ pub fn fit_count(number: i128) -> Result<isize, Fault>
         return Err(Fault::Overflow);
     }
     Ok(number as isize)
+}
+
+/// The number of a value, as a count.
+///
+/// Refused with `TypeError` where the value is no number, and then with `OverflowError` where the number
+/// doesn't fit `isize`.
+pub fn count_in(value: &Value) -> Result<isize, Fault>
+    ensures { result ≡ count_in value.now }
+{
+    let number = index_of(value)?;
+    fit_count(number)
+}
+
+/// The same, and another number where none is given.
+pub fn count_or(absent: isize, value: Option<&Value>) -> Result<isize, Fault>
+    ensures { result ≡ count_or absent (option_copied value.entry) }
+{
+    match value {
+        None => Ok(absent),
+        Some(value) => count_in(value),
+    }
 }
 
 /// The `isize` that is nearest to the number.

@@ -5,7 +5,7 @@ ghost use Rattle.hex.specs.Hex.{encode_lower};
 ghost use Rattle.pybuf_value.specs.Quotes.{quote_of, is_plain, escaped_byte, quoted_text};
 
 use crate::list::ByteList;
-use bstr::ByteSlice;
+use crate::plain::place_of_byte;
 use pybuf_copy::{Made, NoMemory};
 use std::alloc::Global;
 use std::mem;
@@ -14,7 +14,7 @@ use std::mem;
 fn holds(bytes: &[u8], byte: u8) -> bool
     ensures { result ≡ list_any (λ b. b == byte) bytes.now }
 {
-    bytes.find_byte(byte).is_some()
+    place_of_byte(bytes, byte).is_some()
 }
 
 /// The quote that Python's `repr` writes round the bytes: a double one where they hold a single

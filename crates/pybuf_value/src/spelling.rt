@@ -2,9 +2,10 @@
 ghost use Rattle.std.specs.Prelude.{◌≡◌, ◌++◌, IfOk, OnOk, IsTrue, codes};
 ghost use Rattle.std.specs.Str.{IsUtf8};
 ghost use Rattle.std.specs.Fmt.{signed_decimal};
-ghost use Rattle.pybuf_value.specs.Quotes.{quoted_text, repr_of, fitted_text};
+ghost use Rattle.pybuf_value.specs.Quotes.{quoted_text, repr_of};
 ghost use Rattle.pybuf_value.specs.Halting.{Gives, outcome_of};
-ghost use Rattle.pybuf_value.specs.Spelling.{is_ascii, handle_text, scalar_text};
+ghost use Rattle.pybuf_value.specs.Spelling.{bytes_text, truth_text, handle_text, scalar_text};
+ghost use Rattle.pybuf_value.specs.Texts.{is_ascii, fitted};
 
 use crate::faults::{Fault, Tried};
 use crate::halt::{Halt, tried};
@@ -28,7 +29,7 @@ fn quoted_between(
     requires name { IsUtf8 name.now }
     requires opening { IsUtf8 opening.now }
     requires closing { IsUtf8 closing.now }
-    ensures { Gives (fitted_text (repr_of (name.now ++ opening.now) bytes.now closing.now)) result }
+    ensures { Gives (fitted (repr_of (name.now ++ opening.now) bytes.now closing.now)) result }
 {
     let around = name.len() as u128 + opening.len() as u128 + closing.len() as u128;
     let length = around + quoted_length(bytes);
@@ -51,7 +52,7 @@ fn quoted_between(
 pub fn repr_text(alloc: Global, before: &[u8], bytes: &[u8], after: &[u8]) -> Tried<Text>
     requires before { IsTrue (is_ascii before.now) }
     requires after { IsTrue (is_ascii after.now) }
-    ensures { IfOk result (λ outcome. outcome ≡ outcome_of (fitted_text (repr_of before.now bytes.now after.now))) }
+    ensures { IfOk result (λ outcome. outcome ≡ outcome_of (fitted (repr_of before.now bytes.now after.now))) }
 {
     tried(quoted_between(alloc, b"", before, bytes, after))
 }
@@ -61,13 +62,13 @@ pub fn repr_text(alloc: Global, before: &[u8], bytes: &[u8], after: &[u8]) -> Tr
 ///
 /// Refused with `OverflowError` exactly where the text is more than `isize::MAX` bytes.
 pub fn named_repr_text(alloc: Global, name: &str, bytes: &[u8]) -> Tried<Text>
-    ensures { IfOk result (λ outcome. outcome ≡ outcome_of (fitted_text (repr_of (name.now ++ codes "(b") bytes.now (codes ")")))) }
+    ensures { IfOk result (λ outcome. outcome ≡ outcome_of (fitted (repr_of (name.now ++ codes "(b") bytes.now (codes ")")))) }
 {
     tried(quoted_between(alloc, name.as_bytes(), b"(b", bytes, b")"))
 }
 
 /// Adds a number in decimal digits, with its sign.
-fn push_number(out: &mut Vec<u8>, number: i128) -> Made<()>
+pub fn push_number(out: &mut Vec<u8>, number: i128) -> Made<()>
     ensures { OnOk result (out.new.items ≡ out.old.items ++ signed_decimal number) }
 {
     let mut buffer = Buffer::new();
@@ -75,8 +76,28 @@ fn push_number(out: &mut Vec<u8>, number: i128) -> Made<()>
     Ok(())
 }
 
+/// Adds bytes as Python's `repr` writes them.
+pub fn push_bytes(out: &mut Vec<u8>, bytes: &[u8]) -> Made<()>
+    ensures { OnOk result (out.new.items ≡ out.old.items ++ bytes_text bytes.now) }
+{
+    out.push(b'b')?;
+    push_quoted(out, bytes)
+}
+
+/// Adds a truth value.
+pub fn push_truth(out: &mut Vec<u8>, truth: bool) -> Made<()>
+    ensures { OnOk result (out.new.items ≡ out.old.items ++ truth_text truth) }
+{
+    if truth {
+        out.extend_from_slice(b"True")?;
+    } else {
+        out.extend_from_slice(b"False")?;
+    }
+    Ok(())
+}
+
 /// Adds a handle: `h` and its number.
-fn push_handle(out: &mut Vec<u8>, handle: u64) -> Made<()>
+pub fn push_handle(out: &mut Vec<u8>, handle: u64) -> Made<()>
     ensures { OnOk result (out.new.items ≡ out.old.items ++ handle_text handle) }
 {
     let mut buffer = Buffer::new();
@@ -93,19 +114,10 @@ pub fn push_scalar(out: &mut Vec<u8>, value: &Scalar) -> Made<()>
 {
     match value {
         Scalar::None => out.extend_from_slice(b"None")?,
-        Scalar::Bool(truth) => {
-            if *truth {
-                out.extend_from_slice(b"True")?;
-            } else {
-                out.extend_from_slice(b"False")?;
-            }
-        }
+        Scalar::Bool(truth) => push_truth(out, *truth)?,
         Scalar::Int(number) => push_number(out, *number)?,
         Scalar::Text(text) => push_quoted(out, text.as_slice())?,
-        Scalar::Bytes(bytes) => {
-            out.push(b'b')?;
-            push_quoted(out, bytes.as_slice())?;
-        }
+        Scalar::Bytes(bytes) => push_bytes(out, bytes.as_slice())?,
         Scalar::Ellipsis => out.extend_from_slice(b"Ellipsis")?,
         Scalar::Handle(handle) => push_handle(out, *handle)?,
     }

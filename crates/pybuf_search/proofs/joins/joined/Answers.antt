@@ -1,8 +1,8 @@
 use Rattle.std.proofs.Common.{◌≡◌, ℕ, List, subst, map-id}
 use Rattle.std.specs.Prelude.{IfOk}
 use Rattle.bstr.specs.Owned as owned
-use Rattle.pybuf_value.specs.Halting.{outcome_of}
-use Rattle.pybuf_search.specs.Joins.{fitted, items_of}
+use Rattle.pybuf_value.specs.Halting.{outcome_of, items_of}
+use Rattle.pybuf_value.specs.Texts.{fitted}
 use Rattle.pybuf_search.proofs.joins.joined.Goals as goal
 
 -- the bytes of each part are the part

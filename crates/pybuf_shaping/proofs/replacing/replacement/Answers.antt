@@ -3,7 +3,7 @@ use Rattle.std.proofs.lemmas.Int.{to_z-of_z}
 use Rattle.std.proofs.lemmas.Bool.Decides.{nat_tests}
 use Rattle.bstr.specs.Text.{replaced_at}
 use Rattle.pybuf_value.specs.Halting.{Gives}
-use Rattle.pybuf_search.specs.Joins.{fitted}
+use Rattle.pybuf_value.specs.Texts.{fitted}
 use Rattle.pybuf_search.specs.Matches.{matches_from_left}
 use Rattle.pybuf_shaping.specs.Replacing.{limit_of, replaced}
 use Rattle.pybuf_shaping.proofs.ReplaceLemmas.{replaced-is, no_longer}

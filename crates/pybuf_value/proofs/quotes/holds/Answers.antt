@@ -1,20 +1,28 @@
-use Rattle.std.proofs.Common.{◌≡◌, ◌==◌, ℕ, List, Option, Some, None, Bool, true, false, refl, sym, ap, ◌∙◌, get_or, arith}
-use Rattle.std.specs.Prelude.{is_some}
-use Rattle.std.specs.List.{list_any}
-use Rattle.std.proofs.lemmas.Grind.{get_or_default_zero}
+use Rattle.std.proofs.Common.{◌≡◌, ◌==◌, ℕ, ◌<◌, ◌≤◌, Bool, List, length, Option, Some, None, sym, ap, ◌∙◌, ⊎_elim, arith}
+use Rattle.std.specs.Prelude.{is_some, nat_lt}
+use Rattle.std.specs.List.{list_any, position, position_or_len}
+use Rattle.std.proofs.lemmas.Bool.{cases_lt, cond-true, cond-false, lt-ltb, le-ltb}
 use Rattle.std.proofs.lemmas.List.Folds.{list_any_none, list_any_at}
-use Rattle.bstr.specs.Find.{IsFirstByte, is_byte}
+use Rattle.std.proofs.lemmas.List.Sums.{passes_at_first, fails_before_first}
 use Rattle.pybuf_value.proofs.quotes.holds.Goals as goal
 
-not_true : (b : Bool) → ¬ (b ≡ true) → b ≡ false
-not_true true never = absurd (never refl)
-not_true false never = refl
-
 -- a byte is found where one of the bytes is it
-found-list_any : (byte : ℕ) (bytes : List ℕ) (place : Option ℕ) → IsFirstByte (is_byte byte) bytes place → is_some place ≡ list_any (λ b. b == byte) bytes
-found-list_any byte bytes None nowhere =
-    sym (list_any_none (λ b. b == byte) bytes (λ k d inside. ap (λ b. b == byte) (get_or_default_zero bytes k d inside) ∙ not_true (get_or bytes k 0 == byte) (nowhere k (omega arith) inside)))
-found-list_any byte bytes (Some k) first = sym (list_any_at (λ b. b == byte) bytes k 0 first.0.high first.1)
+found-list_any : (test : ℕ → Bool) (bytes : List ℕ) → is_some (position test bytes) ≡ list_any test bytes
+found-list_any test bytes = ⊎_elim there nowhere (cases_lt (position_or_len test bytes) (length bytes))
+  where
+    there : position_or_len test bytes < length bytes → is_some (position test bytes) ≡ list_any test bytes
+    there inside =
+        ap (λ (place : Option ℕ). is_some place)
+        (cond-true (nat_lt (position_or_len test bytes) (length bytes)) (Some (position_or_len test bytes)) None (lt-ltb _ _ inside))
+        ∙ sym (list_any_at test bytes (position_or_len test bytes) 0 inside (passes_at_first test bytes 0 inside))
+
+    nowhere : length bytes ≤ position_or_len test bytes → is_some (position test bytes) ≡ list_any test bytes
+    nowhere past =
+        ap (λ (place : Option ℕ). is_some place)
+        (cond-false (nat_lt (position_or_len test bytes) (length bytes)) (Some (position_or_len test bytes)) None (le-ltb _ _ past))
+        ∙ sym (list_any_none test bytes (λ k d inside. fails_before_first test bytes k d (omega arith)))
 
 pub returns : goal.returns
-returns c = c.is_some.ensures ∙ found-list_any c.args.byte c.args.bytes.now c.find_byte.result c.find_byte.ensures
+returns c =
+    c.is_some.ensures
+    ∙ (ap (λ (place : Option ℕ). is_some place) c.place_of_byte.ensures ∙ found-list_any (λ b. b == c.args.byte) c.args.bytes.now)

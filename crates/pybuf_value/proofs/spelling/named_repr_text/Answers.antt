@@ -1,6 +1,7 @@
 use Rattle.std.proofs.Common.{refl, subst, ◌++◌, codes}
 use Rattle.pybuf_value.specs.Halting.{Gives}
-use Rattle.pybuf_value.specs.Quotes.{repr_of, fitted_text}
+use Rattle.pybuf_value.specs.Texts.{fitted}
+use Rattle.pybuf_value.specs.Quotes.{repr_of}
 use Rattle.pybuf_value.proofs.AsciiLemmas.{utf8_from_ascii}
 use Rattle.pybuf_value.proofs.spelling.named_repr_text.Goals as goal
 
@@ -13,5 +14,5 @@ quoted_between-requires c = record {
 
 pub returns : goal.returns
 returns c =
-    c.tried.ensures (fitted_text (repr_of (c.args.name.now ++ codes "(b") c.args.bytes.now (codes ")")))
-    (subst (λ name. Gives (fitted_text (repr_of (name ++ codes "(b") c.args.bytes.now (codes ")"))) c.quoted_between.result) c.as_bytes.ensures.value c.quoted_between.ensures)
+    c.tried.ensures (fitted (repr_of (c.args.name.now ++ codes "(b") c.args.bytes.now (codes ")")))
+    (subst (λ name. Gives (fitted (repr_of (name ++ codes "(b") c.args.bytes.now (codes ")"))) c.quoted_between.result) c.as_bytes.ensures.value c.quoted_between.ensures)

@@ -1,5 +1,6 @@
 use Rattle.std.proofs.Common.{refl, []}
-use Rattle.pybuf_value.specs.Quotes.{repr_of, fitted_text}
+use Rattle.pybuf_value.specs.Texts.{fitted}
+use Rattle.pybuf_value.specs.Quotes.{repr_of}
 use Rattle.pybuf_value.proofs.AsciiLemmas.{utf8_from_ascii}
 use Rattle.pybuf_value.proofs.spelling.repr_text.Goals as goal
 
@@ -11,4 +12,4 @@ quoted_between-requires c = record {
 }
 
 pub returns : goal.returns
-returns c = c.tried.ensures (fitted_text (repr_of c.args.before.now c.args.bytes.now c.args.after.now)) c.quoted_between.ensures
+returns c = c.tried.ensures (fitted (repr_of c.args.before.now c.args.bytes.now c.args.after.now)) c.quoted_between.ensures

@@ -1,6 +1,7 @@
 use Rattle.std.proofs.Common.{◌≡◌, ℤ, ℕ, pos, Ok, Err, slice_get, get_or, length, rules, SFits, w64, ◌∙◌, sym, ap, subst}
 use Rattle.std.proofs.lemmas.Int.{to_z-of_z}
-use Rattle.pybuf_desc.specs.Positions.{entry_of_index, position_of}
+use Rattle.pybuf_index.specs.Places.{entry_in}
+use Rattle.pybuf_desc.specs.Positions.{position_of}
 use Rattle.pybuf_desc.proofs.Indices.{position_from-0}
 use Rattle.pybuf_desc.proofs.Moves.{moves, index_fits}
 use Rattle.pybuf_desc.proofs.Track.{Track, track_from_valid}
@@ -25,7 +26,7 @@ loop-k-init c = (
 pub returns-in_err-index-clause-sum : goal.returns-in_err-index-clause-sum
 returns-in_err-index-clause-sum c =
     let z : SFits w64 (get_or c.args.indices.now c.loop-k.k (pos 0)) = search rules in
-    let w : entry_of_index (get_or c.dim_desc-dims.result.now c.loop-k.k (0, pos 0, pos 0)).0 (get_or c.args.indices.now c.loop-k.k (pos 0)) ≡ Err c.in_err-index.field-0.0 = simp to_z-of_z at (sym c.in_err-index.ensures) in
+    let w : entry_in (get_or c.dim_desc-dims.result.now c.loop-k.k (0, pos 0, pos 0)).0 (get_or c.args.indices.now c.loop-k.k (pos 0)) ≡ Err c.in_err-index.field-0.0 = simp to_z-of_z at (sym c.in_err-index.ensures) in
     let whole : position_of c.args.indices.now c.args.self.now.dims ≡ Err c.in_err-index.field-0.0 =
     ap (λ ds. position_of c.args.indices.now ds) (sym c.dim_desc-dims.ensures)
     ∙ position_refused c.args.indices.now c.dim_desc-dims.result.now c.loop-k.k _ c.in_err-index.field-0.0 _
@@ -50,7 +51,7 @@ pub loop-k-preserved : goal.loop-k-preserved
 loop-k-preserved c =
     let f : SFits w64 (get_or c.dim_desc-dims.result.now c.loop-k.k (0, pos 0, pos 0)).1 = search rules in
     let z : SFits w64 (get_or c.args.indices.now c.loop-k.k (pos 0)) = search rules in
-    let w : entry_of_index (get_or c.dim_desc-dims.result.now c.loop-k.k (0, pos 0, pos 0)).0 (get_or c.args.indices.now c.loop-k.k (pos 0)) ≡ Ok c.in_ok-index.index = simp to_z-of_z at (sym c.in_ok-index.ensures) in
+    let w : entry_in (get_or c.dim_desc-dims.result.now c.loop-k.k (0, pos 0, pos 0)).0 (get_or c.args.indices.now c.loop-k.k (pos 0)) ≡ Ok c.in_ok-index.index = simp to_z-of_z at (sym c.in_ok-index.ensures) in
     let m = moves c.dim_desc-dims.result.now c.loop-k.k _ c.in_ok-index.index c.loop-k-test.true f (index_below _ _ _ (sym c.in_ok-index.ensures)) c.loop-k.invariant.0 in (
       m.track,
       position_more c.args.indices.now c.dim_desc-dims.result.now c.loop-k.k c.in_ok-index.index _ _ _

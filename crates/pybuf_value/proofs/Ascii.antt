@@ -3,7 +3,7 @@ use Rattle.std.proofs.Common.{◌≡◌, refl, sym, subst, ap, ◌∙◌, ℕ, z
 use Rattle.std.specs.Prelude.{◌&&◌, nat_lt, slice_index}
 use Rattle.std.specs.Bool.{MatchBool}
 use Rattle.std.specs.Str.{IsAscii, IsNotAscii}
-use Rattle.pybuf_bytes.specs.Options.{is_ascii}
+use Rattle.pybuf_value.specs.Texts.{is_ascii}
 
 pub all_below : (bytes : List ℕ) → IsAscii bytes → is_ascii bytes ≡ true
 all_below [] below = refl
