@@ -3,8 +3,8 @@ ghost use Rattle.std.specs.Prelude.{◌≡◌, length, IfOk};
 ghost use Rattle.pybuf_memoryview.specs.Items.{item_by};
 ghost use Rattle.pybuf_memoryview.specs.Readers as reading;
 
-use crate::items::{byte_item, item_of};
 use crate::bytes::is_byte_format;
+use crate::items::{byte_item, item_of};
 use pybuf_struct::FormatSpec;
 use pybuf_value::{Item, Made, Outcome, ScalarList, Text};
 use std::alloc::Global;

@@ -19,9 +19,7 @@ ghost use Rattle.pybuf_rows_writes.specs.Assign as spec;
 use crate::laid::{lay, lay_across, lay_moved};
 use pybuf_command::{LocalReply, Subject};
 use pybuf_index::SaturatedSlice;
-use pybuf_memoryview::{
-    KeptLayout, content_of, first_place, is_byte_format, is_none, is_row_of,
-};
+use pybuf_memoryview::{KeptLayout, content_of, first_place, is_byte_format, is_none, is_row_of};
 use pybuf_state::{Meaning, Names, Other, Parts};
 use pybuf_value::{Fault, Halt, PySlice, Scalar, Snap, Value};
 

@@ -14,10 +14,10 @@ ghost use Rattle.pybuf_rows_writes.specs.Set.{byte_set, set_of_own, set_target, 
 ghost use Rattle.pybuf_rows_writes.specs.Writing.{bytes_packed, bytes_by_letter, single_byte_set, IsStartOfTarget};
 
 use pybuf_command::{ExporterKind, LocalReply};
+use pybuf_index::entry_in;
 use pybuf_memoryview::{
     KeptLayout, args_of, byte_for_item, format_of, index_in, is_byte_format, is_none, place_of_key,
 };
-use pybuf_index::entry_in;
 use pybuf_state::{Names, Parts, lent_to};
 use pybuf_struct::{FormatSpec, is_numeric_letter, pack_single};
 use pybuf_value::{Fault, Halt, Scalar, ScalarList, SnapList, Value, value_from_object};

@@ -118,7 +118,13 @@ impl Store {
 
     /// Puts other bytes in place of those from one place up to another, as many as there are. The bytes
     /// behind move once. Where memory runs out, all is as before.
-    pub(crate) fn replace_range(&mut self, alloc: Global, start: usize, end: usize, bytes: &[u8]) -> Made<()>
+    pub(crate) fn replace_range(
+        &mut self,
+        alloc: Global,
+        start: usize,
+        end: usize,
+        bytes: &[u8],
+    ) -> Made<()>
         requires ordered { start ≤ end }
         requires inside { end ≤ length self.old.items }
         ensures ok { OnOk result (self.new.items ≡ replaced_range self.old.items start end bytes.now) }
