@@ -21,4 +21,4 @@ returns-in-One-Bytes g c =
     by_bytes (λ (v : Value). IfOk c.equals_bytes.result (λ equal. equal ≡ equals_other c.args.number (snap_of_view c.args.parts.now.bytes.items c.args.view.now) v (lents_by e named (handle_of_value v))))
     c.args.other.now c.in-One-Bytes.bytes c.as_slice-in-One-Bytes.result.now is c.as_slice-in-One-Bytes.ensures
     (subst (λ (bytes : List ℕ). IfOk c.equals_bytes.result (λ equal. equal ≡ equals_snap (snap_of_view bytes c.args.view.now) (Some (snap_of_exporter (new_exporter kind.Bytes c.as_slice-in-One-Bytes.result.now)))))
-    c.as_slice.ensures.value (c.equals_bytes.ensures kind.Bytes))
+    c.as_slice.ensures (c.equals_bytes.ensures kind.Bytes))

@@ -16,5 +16,5 @@ pub returns-clause-answer : goal.returns-clause-answer
 returns-clause-answer c =
     let e = exporter_of c.args.parts.now in
     let fits : nat_lt (length e.bytes * c.args.times) (2 ^ 63) ≡ true = search rules in
-    let copies = c.in_ok-copies.ensures ∙ ap (λ (bytes : List ℕ). repeated_list c.args.times bytes) c.as_slice.ensures.value in
+    let copies = c.in_ok-copies.ensures ∙ ap (λ (bytes : List ℕ). repeated_list c.args.times bytes) c.as_slice.ensures in
     is_repeated e c.args.times c.in_ok-copies.copies.items c.in_ok-resizable.ensures fits copies ∙ ap done (sym c.replace_bytes.ensures.same)

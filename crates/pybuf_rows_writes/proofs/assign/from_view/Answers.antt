@@ -37,6 +37,6 @@ lay-requires-clause-as_many c =
     let target : Layout = c.args.target.now in
     let form : has_form_of target source.format source.itemsize source.shape ≡ true = search rules in
     let count : nbytes_of source ≡ nbytes_of target = bytes_of_form target source.itemsize source.shape (of_form target source.format source.itemsize source.shape c.requires.one_dimension form) in
-    ap length (c.as_slice-2.ensures.value ∙ c.in_ok-content.ensures ∙ ap (λ (bytes : List ℕ). content_of_layout bytes source) c.as_slice.ensures.value)
+    ap length (c.as_slice-2.ensures.value ∙ c.in_ok-content.ensures ∙ ap (λ (bytes : List ℕ). content_of_layout bytes source) c.as_slice.ensures)
     ∙ c.contents_are_whole.ensures c.args.parts.now.bytes.items source c.in_ok-source.ensures.sound.inside
     ∙ ap (λ (n : ℕ). source.itemsize * n) c.in_ok-source.ensures.sound.formed.counted ∙ count
