@@ -87,6 +87,8 @@ pub use pybuf_object::PyByteArray;
 pub use pybuf_object::PyByteArrayIterator;
 pub use pybuf_object::PyBytes;
 pub use pybuf_object::PyBytesIterator;
+pub use pybuf_search::prefixes_are_removed;
+pub use pybuf_search::suffixes_are_removed;
 pub use pybuf_slice::SequenceExt;
 pub use pybuf_slice::SequenceMutExt;
 pub use pybuf_slice::SliceableSequenceMutOp;
