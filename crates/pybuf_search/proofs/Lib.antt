@@ -5,3 +5,4 @@ pub mod RepeatLemmas
 pub mod OneByte
 pub mod PlaceLemmas
 pub mod AffixLemmas
+pub mod EndLaws

@@ -1,11 +1,12 @@
--- What matches and cuts are, beside their definitions.
-use Rattle.std.specs.Prelude.{◌≡◌, ℕ, ℤ, ◌+◌, ◌-◌, ◌<◌, ◌≤◌, List, [], ◌∷◌, length}
+-- What matches, cuts and the removal of ends are, beside their definitions.
+use Rattle.std.specs.Prelude.{◌≡◌, ℕ, ℤ, ◌+◌, ◌-◌, ◌<◌, ◌≤◌, List, [], ◌∷◌, ◌++◌, length}
 use Rattle.std.specs.List.{concat}
 use Rattle.memchr.specs.Find.{OccursAt, match_len}
 use Rattle.bstr.specs.Owned.{joined}
 use Rattle.pybuf_search.specs.Matches.{matches_from_left, matches_from_right}
 use Rattle.pybuf_search.specs.Places.{number_of_matches}
 use Rattle.pybuf_search.specs.Parts.{split_parts, rsplit_parts, partition_parts, rpartition_parts}
+use Rattle.pybuf_search.specs.Ends.{without_prefix, without_suffix}
 
 -- The needle stands at a place from `from` on, and at none before it.
 pub record IsLeast (bytes needle : List ℕ) (from place : ℕ) : Type 0 where
@@ -60,3 +61,24 @@ PartitionIsWhole = (separator bytes : List ℕ) → concat (partition_parts sepa
 
 abbrev pub RpartitionIsWhole : Type 0
 RpartitionIsWhole = (separator bytes : List ℕ) → concat (rpartition_parts separator bytes) ≡ bytes
+
+-- ---- what bytes begin and end with
+
+-- the bytes are the prefix and some more behind it
+abbrev pub BeginsWith : List ℕ → List ℕ → Type 0
+BeginsWith bytes prefix = (rest : List ℕ) × (bytes ≡ prefix ++ rest)
+
+-- the bytes are some and the suffix behind them
+abbrev pub EndsWith : List ℕ → List ℕ → Type 0
+EndsWith bytes suffix = (rest : List ℕ) × (bytes ≡ rest ++ suffix)
+
+-- Where the bytes begin with the prefix, it and what is left of them, put together, are the bytes. Where they
+-- don't, they stay as they are.
+pub record PrefixIsRemoved (bytes prefix : List ℕ) : Type 0 where
+  pub whole : BeginsWith bytes prefix → prefix ++ without_prefix bytes prefix ≡ bytes
+  pub same : ¬ BeginsWith bytes prefix → without_prefix bytes prefix ≡ bytes
+
+-- The same of a suffix that stands behind what is left.
+pub record SuffixIsRemoved (bytes suffix : List ℕ) : Type 0 where
+  pub whole : EndsWith bytes suffix → without_suffix bytes suffix ++ suffix ≡ bytes
+  pub same : ¬ EndsWith bytes suffix → without_suffix bytes suffix ≡ bytes

@@ -1,5 +1,6 @@
 //! Laws of the definitions that the contracts cite. Each stands on a function with an empty body.
-ghost use Rattle.pybuf_search.specs.Laws.{MatchesAreFromLeft, MatchesAreFromRight, EmptyStandsEverywhere, SplitJoinsBack, RsplitJoinsBack, PartitionIsWhole, RpartitionIsWhole};
+ghost use Rattle.std.specs.Prelude.{ℕ, List};
+ghost use Rattle.pybuf_search.specs.Laws.{MatchesAreFromLeft, MatchesAreFromRight, EmptyStandsEverywhere, SplitJoinsBack, RsplitJoinsBack, PartitionIsWhole, RpartitionIsWhole, PrefixIsRemoved, SuffixIsRemoved};
 
 /// Each match from the left is the least place at which the needle stands, at or past the end of the
 /// match before it; an empty needle stands at each place.
@@ -36,4 +37,15 @@ pub fn partition_is_whole()
 /// The same of a partition at the last match.
 pub fn rpartition_is_whole()
     ensures { RpartitionIsWhole }
+{}
+
+/// A prefix that the bytes begin with and what is left without it, put together, are the bytes; bytes that
+/// don't begin with it stay as they are.
+pub fn prefixes_are_removed()
+    ensures { (bytes prefix : List ℕ) → PrefixIsRemoved bytes prefix }
+{}
+
+/// The same of a suffix that stands behind what is left.
+pub fn suffixes_are_removed()
+    ensures { (bytes suffix : List ℕ) → SuffixIsRemoved bytes suffix }
 {}

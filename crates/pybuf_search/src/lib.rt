@@ -17,7 +17,8 @@ pub use ends::{begins_with, ends_with, without_prefix, without_suffix};
 pub use joins::{added, joined, joined_parts, repeated};
 pub use laws::{
     empty_stands_everywhere, matches_are_from_left, matches_are_from_right, partition_is_whole,
-    rpartition_is_whole, rsplit_joins_back, split_joins_back,
+    prefixes_are_removed, rpartition_is_whole, rsplit_joins_back, split_joins_back,
+    suffixes_are_removed,
 };
 pub use parts::{partition, rpartition, rsplit, split};
 pub use places::{first_place, holds_needle, last_place, number_of_matches};

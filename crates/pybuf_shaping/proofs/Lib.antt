@@ -2,5 +2,7 @@ pub mod GroupLemmas
 pub mod DigitValues
 pub mod ReadLemmas
 pub mod TableLemmas
+pub mod PadLemmas
 pub mod TabLemmas
+pub mod StopLemmas
 pub mod ReplaceLemmas

@@ -1,13 +1,15 @@
--- What holds of the digits, of tables and of widths.
-use Rattle.std.specs.Prelude.{◌≡◌, ◌==◌, ◌<◌, ◌≤◌, ℕ, Bool, not, ℤ, pos, List, ◌∷◌, [], ◌++◌, length, map, Ok, ◌⊎◌, IfOk, false}
-use Rattle.std.specs.List.{All, flat_map, filter, list_any}
+-- What holds of digits, tables, widths, tabs and replacing.
+use Rattle.std.specs.Prelude.{◌≡◌, ◌≢◌, ◌==◌, ◌||◌, ◌<◌, ◌≤◌, ◌≤ℤ◌, ◌+◌, ◌%◌, ℕ, Bool, not, ℤ, pos, List, ◌∷◌, [], ◌++◌, length, map, replicate, Ok, ◌⊎◌, IfOk, false, if◌then◌else◌}
+use Rattle.std.specs.Int.{int_max}
+use Rattle.std.specs.List.{All, flat_map, filter, list_any, suffix_len}
 use Rattle.std.specs.Str.{byte}
 use Rattle.hex.specs.Hex.{encode_lower, is_hex_digit}
+use Rattle.pybuf_letters.specs.Lines.{is_line_break}
 use Rattle.pybuf_shaping.specs.Digits.{bytes_of_hex, separated, groups_from_left, groups_from_right}
 use Rattle.pybuf_shaping.specs.Tables.{all_bytes, translated, counterpart, table_of}
 use Rattle.pybuf_shaping.specs.Replacing.{replaced}
 use Rattle.pybuf_shaping.specs.Padding.{centered, justified_left, justified_right, zero_filled}
-use Rattle.pybuf_shaping.specs.Tabs.{expanded_from}
+use Rattle.pybuf_shaping.specs.Tabs.{tab_size, expanded_from}
 
 abbrev pub AreBytes : List ℕ → Type 0
 AreBytes bytes = All (λ b. b < 256) bytes
@@ -72,6 +74,39 @@ pub record AreWideOrSame (width : ℤ) (fill : ℕ) (bytes : List ℕ) : Type 0 
   pub right : IsWideOrSame width bytes (justified_right width fill bytes)
   pub zeros : IsWideOrSame width bytes (zero_filled width bytes)
 
+-- The bytes stand whole in the result, with fill bytes alone before and behind them. It is as long as the greater
+-- of the width and their length.
+pub record AreFilledUp (width : ℤ) (fill : ℕ) (before bytes behind result : List ℕ) : Type 0 where
+  pub whole : result ≡ before ++ bytes ++ behind
+  pub fills : All (λ b. b ≡ fill) before × All (λ b. b ≡ fill) behind
+  pub wide : pos (length result) ≡ int_max width (pos (length bytes))
+
+-- as many, or one more of either
+abbrev pub AreHalves : List ℕ → List ℕ → Type 0
+AreHalves before behind = (length before ≤ length behind + 1) × (length behind ≤ length before + 1)
+
+-- the sign that bytes begin with, or nothing
+abbrev pub sign_of : List ℕ → List ℕ
+sign_of [] = []
+sign_of (b ∷ bytes) = if b == byte "+" || b == byte "-" then b ∷ [] else []
+
+-- Zeros stand behind the sign, if there is one, and before the rest of the bytes. The result is as long as the
+-- greater of the width and the length of the bytes.
+pub record AreZeroFilled (width : ℤ) (bytes result : List ℕ) : Type 0 where
+  pub zeros : List ℕ
+  pub rest : List ℕ
+  pub parts : bytes ≡ sign_of bytes ++ rest
+  pub whole : result ≡ sign_of bytes ++ zeros ++ rest
+  pub fills : All (λ b. b ≡ byte "0") zeros
+  pub wide : pos (length result) ≡ int_max width (pos (length bytes))
+
+-- Bytes that are filled up stand whole: in the middle, on the left, on the right, and with zeros before them.
+pub record PaddingKeepsBytes (width : ℤ) (fill : ℕ) (bytes : List ℕ) : Type 0 where
+  pub center : (before behind : List ℕ) × AreFilledUp width fill before bytes behind (centered width fill bytes) × AreHalves before behind
+  pub left : (behind : List ℕ) × AreFilledUp width fill [] bytes behind (justified_left width fill bytes)
+  pub right : (before : List ℕ) × AreFilledUp width fill before bytes [] (justified_right width fill bytes)
+  pub zeros : AreZeroFilled width bytes (zero_filled width bytes)
+
 -- ---- tabs
 
 abbrev pub holds_tab : List ℕ → Bool
@@ -81,6 +116,29 @@ holds_tab bytes = list_any (λ b. b == byte "\t") bytes
 pub record TabsAreSpaces (size : ℕ) (bytes : List ℕ) : Type 0 where
   pub none : holds_tab (expanded_from size 0 bytes) ≡ false
   pub same : holds_tab bytes ≡ false → expanded_from size 0 bytes ≡ bytes
+
+-- bytes with their tabs as spaces, by a size
+abbrev pub spaced : ℤ → List ℕ → List ℕ
+spaced size bytes = expanded_from (tab_size size) 0 bytes
+
+-- the column behind a text: how many bytes stand at its end, behind its last line break
+abbrev pub column_of : List ℕ → ℕ
+column_of text = suffix_len (λ b. not (is_line_break b)) text
+
+-- What a tab behind a text adds: one space or more, up to the next column that is a multiple of the size.
+pub record LeadsToStop (size : ℕ) (text : List ℕ) : Type 0 where
+  pub spaces : ℕ
+  pub some : (0 < spaces) × (spaces ≤ size)
+  pub adds : spaced (pos size) (text ++ byte "\t" ∷ []) ≡ spaced (pos size) text ++ replicate spaces (byte " ")
+  pub stop : (column_of (spaced (pos size) text) + spaces) % size ≡ 0
+
+-- What one byte more adds: a tab the spaces to the next stop, or nothing where the size is 0 or less, and every
+-- other byte itself. Of no bytes nothing is made.
+pub record TabsLeadToStops (text : List ℕ) : Type 0 where
+  pub empty : (size : ℤ) → spaced size [] ≡ []
+  pub stop : (size : ℕ) → 0 < size → LeadsToStop size text
+  pub none : (size : ℤ) → size ≤ℤ pos 0 → spaced size (text ++ byte "\t" ∷ []) ≡ spaced size text
+  pub other : (size : ℤ) (b : ℕ) → b ≢ byte "\t" → spaced size (text ++ b ∷ []) ≡ spaced size text ++ b ∷ []
 
 -- ---- replacing
 

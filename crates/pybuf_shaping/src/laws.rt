@@ -1,6 +1,6 @@
 //! Laws of the definitions that the contracts cite. Each stands on a function that does nothing.
 ghost use Rattle.std.specs.Prelude.{◌<◌, ℕ, ℤ, List, length};
-ghost use Rattle.pybuf_shaping.specs.Laws.{DigitsReadBack, GroupsAreCounted, SeparatorsLeftOut, ByIdentity, EachOnce, AreWideOrSame, TabsAreSpaces, BySame};
+ghost use Rattle.pybuf_shaping.specs.Laws.{DigitsReadBack, GroupsAreCounted, SeparatorsLeftOut, ByIdentity, EachOnce, AreWideOrSame, PaddingKeepsBytes, TabsAreSpaces, TabsLeadToStops, BySame};
 
 use pybuf_search::split_joins_back;
 
@@ -35,9 +35,21 @@ pub fn wide_or_the_same()
     ensures { (width : ℤ) (fill : ℕ) (bytes : List ℕ) → AreWideOrSame width fill bytes }
 {}
 
+/// The bytes stand whole in what is filled up, between fill bytes alone, or with zeros behind their sign;
+/// it is as long as the greater of the width and their length.
+pub fn padding_keeps_the_bytes()
+    ensures { (width : ℤ) (fill : ℕ) (bytes : List ℕ) → PaddingKeepsBytes width fill bytes }
+{}
+
 /// No tab is left, and bytes without one stay as they are.
 pub fn tabs_are_spaces()
     ensures { (size : ℕ) (bytes : List ℕ) → TabsAreSpaces size bytes }
+{}
+
+/// One tab more adds spaces up to the next column that is a multiple of the size, counted from the last
+/// line break on, or nothing where the size is 0 or less; one other byte more adds itself.
+pub fn tabs_lead_to_stops()
+    ensures { (text : List ℕ) → TabsLeadToStops text }
 {}
 
 /// A needle in place of its own matches changes nothing. (What was split joins back.)
