@@ -4,5 +4,9 @@ mod Runs
 mod LastRuns
 mod LineEnds
 mod CaseLaws
+mod StripLaws
 mod RunLaws
+mod GapLaws
+mod TurnedRuns
+mod CutLaws
 mod LineLaws

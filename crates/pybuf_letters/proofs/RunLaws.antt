@@ -20,7 +20,7 @@ neither_second : (x y : Bool) → (x || y) ≡ false → y ≡ false
 neither_second true y h = absurd (cc)
 neither_second false y h = h
 
-bare-all : (run : List ℕ) → list_any is_blank run ≡ false → All (λ b. is_blank b ≡ false) run
+pub bare-all : (run : List ℕ) → list_any is_blank run ≡ false → All (λ b. is_blank b ≡ false) run
 bare-all [] h = All-nil (λ b. is_blank b ≡ false)
 bare-all (b ∷ rest) h =
     All-cons (λ b. is_blank b ≡ false) b rest (neither_first (is_blank b) (list_any is_blank rest) h) (bare-all rest (neither_second (is_blank b) (list_any is_blank rest) h))

@@ -18,7 +18,7 @@ pub record AtRun (bytes : List ℕ) : Type 0 where
 -- ---- the next run
 
 -- a blank before other bytes ends no run
-runs-blank : (b : ℕ) (rest : List ℕ) → is_blank b ≡ true → runs (b ∷ rest) ≡ runs rest
+pub runs-blank : (b : ℕ) (rest : List ℕ) → is_blank b ≡ true → runs (b ∷ rest) ≡ runs rest
 runs-blank b rest h = ap (filter (λ run. not (length run == 0))) (slice_split-cons_yes is_blank b rest h)
 
 pub runs-next_run : (bytes : List ℕ) → runs (next_run bytes) ≡ runs bytes
@@ -49,7 +49,7 @@ first_stays bytes at some =
     let none : prefix_len is_blank bytes ≡ 0 = omega (arith, prefix_len-le-length is_blank bytes) in
     rw none at (prefix_len_stops is_blank bytes 0 (omega arith))
 
-run_is_some : (bytes : List ℕ) → AtRun bytes → 0 < length bytes → 0 < position_or_len is_blank bytes
+pub run_is_some : (bytes : List ℕ) → AtRun bytes → 0 < length bytes → 0 < position_or_len is_blank bytes
 run_is_some bytes at some = ⊎_elim
     (λ here. here)
     (λ none.

@@ -1,7 +1,7 @@
--- What holds of cases, of runs between blanks and of lines.
-use Rattle.std.specs.Prelude.{◌≡◌, ◌↔◌, ◌<◌, ◌≤◌, ◌+◌, ℕ, Bool, false, not, IsTrue, List, length, filter}
+-- What holds of cases, of bytes without those at their ends, of runs between blanks and of lines.
+use Rattle.std.specs.Prelude.{◌≡◌, ◌↔◌, ◌<◌, ◌≤◌, ◌+◌, ◌-◌, ℕ, Bool, false, not, IsTrue, List, [], ◌∷◌, ◌++◌, length, slice_index, slice_index_or, filter}
 use Rattle.std.specs.Char.{is_ascii_alphabetic}
-use Rattle.std.specs.List.{All, concat, join_with_byte, list_any}
+use Rattle.std.specs.List.{All, AllPass, concat, join_with_byte, list_any}
 use Rattle.pybuf_letters.specs.Classes.{is_blank, is_title}
 use Rattle.pybuf_letters.specs.Cases.{lower, title}
 use Rattle.pybuf_letters.specs.Blanks.{runs, runs_up_to}
@@ -25,12 +25,96 @@ TurnsBack change = (bytes : List ℕ) → change (change bytes) ≡ bytes
 abbrev pub TitlesStay : Type 0
 TitlesStay = (bytes : List ℕ) → IsTrue (is_title bytes) ↔ (IsTrue (list_any is_ascii_alphabetic bytes) × (title bytes ≡ bytes))
 
+-- ---- strips
+
+-- the six bytes that are blanks
+abbrev pub the_blanks : List ℕ
+the_blanks = 32 ∷ 9 ∷ 10 ∷ 11 ∷ 12 ∷ 13 ∷ []
+
+-- where there are bytes, the first of them doesn't pass the test
+abbrev pub FirstStays : (ℕ → Bool) → List ℕ → Type 0
+FirstStays test bytes = 0 < length bytes → test (slice_index bytes 0) ≡ false
+
+-- nor does the last
+abbrev pub LastStays : (ℕ → Bool) → List ℕ → Type 0
+LastStays test bytes = 0 < length bytes → test (slice_index bytes (length bytes - 1)) ≡ false
+
+-- what is kept stands behind a front of which each byte passes the test, and doesn't begin with such a byte
+pub record LosesFront (test : ℕ → Bool) (bytes kept : List ℕ) : Type 0 where
+  pub front : List ℕ
+  pub whole : front ++ kept ≡ bytes
+  pub front_goes : AllPass test front
+  pub first : FirstStays test kept
+
+-- what is kept stands before a back of which each byte passes the test, and doesn't end with such a byte
+pub record LosesBack (test : ℕ → Bool) (bytes kept : List ℕ) : Type 0 where
+  pub back : List ℕ
+  pub whole : kept ++ back ≡ bytes
+  pub back_goes : AllPass test back
+  pub last : LastStays test kept
+
+-- what is kept stands between two such parts, and neither begins nor ends with such a byte
+pub record LosesEnds (test : ℕ → Bool) (bytes kept : List ℕ) : Type 0 where
+  pub front : List ℕ
+  pub back : List ℕ
+  pub whole : front ++ (kept ++ back) ≡ bytes
+  pub front_goes : AllPass test front
+  pub back_goes : AllPass test back
+  pub first : FirstStays test kept
+  pub last : LastStays test kept
+
 -- ---- runs
 
 -- some bytes without a blank
 pub record IsRun (run : List ℕ) : Type 0 where
   pub some : 0 < length run
   pub bare : list_any is_blank run ≡ false
+
+-- gaps and runs in turn, a gap first
+abbrev pub in_turn : List (List ℕ) → List (List ℕ) → List ℕ
+in_turn [] given = concat given
+in_turn (gap ∷ gaps) [] = gap ++ concat gaps
+in_turn (gap ∷ gaps) (run ∷ more) = gap ++ (run ++ in_turn gaps more)
+
+-- the bytes are gaps and these runs in turn: a gap has blanks alone, a run some bytes without a blank, and
+-- between two runs stands a blank at least
+pub record AreRunsOf (bytes : List ℕ) (given : List (List ℕ)) : Type 0 where
+  pub gaps : List (List ℕ)
+  pub count : length gaps ≡ length given + 1
+  pub whole : in_turn gaps given ≡ bytes
+  pub blank : All (λ gap. AllPass is_blank gap) gaps
+  pub solid : All IsRun given
+  pub between : (k : ℕ) → 0 < k → k < length given → 0 < length (slice_index_or gaps k [])
+
+-- the first n runs, and the rest of the bytes from the next run on as the last part
+pub record EndsWithRest (n : ℕ) (bytes : List ℕ) (parts : List (List ℕ)) : Type 0 where
+  pub front : List ℕ
+  pub rest : List ℕ
+  pub whole : front ++ rest ≡ bytes
+  pub first : FirstStays is_blank rest
+  pub count : length (runs front) ≡ n
+  pub same : runs front ++ runs rest ≡ runs bytes
+  pub are : parts ≡ runs front ++ rest ∷ []
+
+-- the rest of the bytes up to the end of a run as the first part, and the last n runs
+pub record BeginsWithRest (n : ℕ) (bytes : List ℕ) (parts : List (List ℕ)) : Type 0 where
+  pub rest : List ℕ
+  pub back : List ℕ
+  pub whole : rest ++ back ≡ bytes
+  pub last : LastStays is_blank rest
+  pub count : length (runs back) ≡ n
+  pub same : runs rest ++ runs back ≡ runs bytes
+  pub are : parts ≡ rest ∷ runs back
+
+-- cut n times at most the bytes give all their runs, or where there are more, n of them and the rest
+pub record AreCutFromLeft (n : ℕ) (bytes : List ℕ) (parts : List (List ℕ)) : Type 0 where
+  pub few : length (runs bytes) ≤ n → parts ≡ runs bytes
+  pub many : n < length (runs bytes) → EndsWithRest n bytes parts
+
+-- the same from the right
+pub record AreCutFromRight (n : ℕ) (bytes : List ℕ) (parts : List (List ℕ)) : Type 0 where
+  pub few : length (runs bytes) ≤ n → parts ≡ runs bytes
+  pub many : n < length (runs bytes) → BeginsWithRest n bytes parts
 
 -- runs with a blank between each two of them come back
 abbrev pub RunsComeBack : Type 0

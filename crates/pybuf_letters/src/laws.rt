@@ -1,6 +1,8 @@
 //! Laws of the definitions that the contracts cite. Each stands on a function with an empty body.
-ghost use Rattle.std.specs.Prelude.{ℕ, List};
+ghost use Rattle.std.specs.Prelude.{◌≡◌, ◌↔◌, ◌<ℤ◌, ℕ, ℤ, pos, Bool, List, Some, None, IsTrue, Contains};
 ghost use Rattle.pybuf_letters.specs.Cases as cases;
+ghost use Rattle.pybuf_letters.specs.Strips as strips;
+ghost use Rattle.pybuf_letters.specs.Blanks as blanks;
 ghost use Rattle.pybuf_letters.specs.Laws as law;
 
 /// Each change of case leaves the bytes the same but for the case of letters.
@@ -23,6 +25,42 @@ pub fn cases_settle()
 /// Bytes are a title exactly where they have a letter and stay as they are once they are made a title.
 pub fn titles_stay()
     ensures { law.TitlesStay }
+{}
+
+/// Bytes without those at their ends that a test passes are a part of the bytes: all that stands before
+/// it and behind it passes the test, and neither its first byte nor its last one does. Where one end
+/// alone is looked at, the part reaches up to the other.
+pub fn strips_take_the_ends_alone()
+    ensures left { (test : ℕ → Bool) (bytes : List ℕ) → law.LosesFront test bytes (strips.stripped_left test bytes) }
+    ensures right { (test : ℕ → Bool) (bytes : List ℕ) → law.LosesBack test bytes (strips.stripped_right test bytes) }
+    ensures both { (test : ℕ → Bool) (bytes : List ℕ) → law.LosesEnds test bytes (strips.stripped test bytes) }
+{}
+
+/// The bytes that go from the ends are those that are named, or else the six blanks.
+pub fn strips_take_named_bytes()
+    ensures named { (chars : List ℕ) (b : ℕ) → IsTrue (strips.goes (Some chars) b) ↔ Contains chars b }
+    ensures blanks { (b : ℕ) → IsTrue (strips.goes None b) ↔ Contains law.the_blanks b }
+{}
+
+/// Bytes are gaps and their runs in turn: a gap has blanks alone, a run some bytes without a blank, and
+/// between two runs stands a blank at least. So no run is empty, and each goes on as far as it can.
+pub fn runs_stand_between_blanks()
+    ensures { (bytes : List ℕ) → law.AreRunsOf bytes (blanks.runs bytes) }
+{}
+
+/// Cut from the left at most so many times, bytes give all their runs, where there are no more; else
+/// the first so many of them, and as the last part all that stands from the next run on. From the right
+/// they give the last so many, and as the first part all that stands up to the run before those.
+pub fn cuts_take_the_nearest_runs()
+    ensures left { (n : ℕ) (bytes : List ℕ) → law.AreCutFromLeft n bytes (blanks.blank_parts (pos n) bytes) }
+    ensures right { (n : ℕ) (bytes : List ℕ) → law.AreCutFromRight n bytes (blanks.blank_rparts (pos n) bytes) }
+{}
+
+/// Without a bound, bytes that are cut from the left and from the right give the same parts: all their
+/// runs, in order.
+pub fn cuts_without_bound_are_the_runs()
+    ensures left { (max : ℤ) (bytes : List ℕ) → max <ℤ pos 0 → blanks.blank_parts max bytes ≡ blanks.runs bytes }
+    ensures right { (max : ℤ) (bytes : List ℕ) → max <ℤ pos 0 → blanks.blank_rparts max bytes ≡ blanks.runs bytes }
 {}
 
 /// Runs without blanks that stand with a blank between each two of them are what their bytes are cut

@@ -241,7 +241,7 @@ drop_none : {X : Type 0} (n : ℕ) → drop n (let none : List X = [] in none) �
 drop_none zero = refl
 drop_none (suc n) = refl
 
-drop_on : {X : Type 0} (items : List X) (low high : ℕ) → low ≤ high → drop (high - low) (drop low items) ≡ drop high items
+pub drop_on : {X : Type 0} (items : List X) (low high : ℕ) → low ≤ high → drop (high - low) (drop low items) ≡ drop high items
 drop_on {X} items zero high ordered =
     let same : high - 0 ≡ high = omega arith in
     ap (λ n. drop n items) same

@@ -5,7 +5,7 @@ use Rattle.std.proofs.lemmas.Bool.{eqb-true}
 use Rattle.pybuf_index.specs.Parts.{SliceParts, picks_of}
 use Rattle.pybuf_index.specs.Runs.{span_start, span_end}
 use Rattle.pybuf_index.specs.Laws.{EachSpan, SpanPicksAre, SlicesHaveSpans}
-use Rattle.pybuf_slice.specs.Edits.{replaced_range, set_at, is_one, assigned_list}
+use Rattle.pybuf_slice.specs.Edits.{replaced_range, set_at, is_one}
 use Rattle.pybuf_slice.specs.EditLaws.{AsManyKeepTheLength}
 use Rattle.pybuf_slice.proofs.ReadLemmas.{up_moves, length_by_one}
 
@@ -19,7 +19,7 @@ length_replaced items others low high ordered inside count =
     length-append (take low items) (others ++ drop high items)
     ∙ omega (arith, length-take low items, length-append others (drop high items), length-drop high items, count, ordered, inside)
 
-one_is : (step : ℤ) → is_one step ≡ true → step ≡ pos 1
+pub one_is : (step : ℤ) → is_one step ≡ true → step ≡ pos 1
 one_is (pos n) is = ap pos (eqb-true n 1 is)
 one_is (negsuc n) is = absurd (true≢false (sym is))
 

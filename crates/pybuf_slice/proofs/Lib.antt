@@ -3,3 +3,4 @@ pub mod TwinLemmas
 pub mod EditLemmas
 pub mod PartedLemmas
 pub mod LengthLemmas
+pub mod SetLemmas

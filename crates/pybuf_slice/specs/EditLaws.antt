@@ -1,6 +1,6 @@
 -- What edits by slices do, beside their definitions.
-use Rattle.std.specs.Prelude.{◌≡◌, ◌≢◌, ℤ, pos, Bool, List, [], ◌∷◌, length, reverse, Option, if◌then◌else◌}
-use Rattle.pybuf_index.specs.Picks.{is_negative, picks}
+use Rattle.std.specs.Prelude.{◌≡◌, ◌≢◌, ℕ, ℤ, pos, Bool, List, [], ◌∷◌, ◌++◌, length, reverse, slice_get, Contains, Option, if◌then◌else◌}
+use Rattle.pybuf_index.specs.Picks.{is_negative, start_of, picks}
 use Rattle.pybuf_index.specs.Parts.{SliceParts, picks_of}
 use Rattle.pybuf_slice.specs.Reads.{elements_at}
 use Rattle.pybuf_slice.specs.Edits.{elements_off, assigned_list}
@@ -38,3 +38,28 @@ SlicePartsList items start stop step =
 -- as many elements in place of those of a slice keep the length
 abbrev pub AsManyKeepTheLength : {X : Type 0} → List X → SliceParts → List X → Type 0
 AsManyKeepTheLength items parts others = length (picks_of (length items) parts) ≡ length others → length (assigned_list items parts others) ≡ length items
+
+-- the slice reads the other elements from the new list, and each place that it doesn't pick has the element that it had
+pub record AreSet {X : Type 0} (items : List X) (parts : SliceParts) (others new : List X) : Type 0 where
+  pub read : elements_at new (picks_of (length new) parts) ≡ others
+  pub stay : (i : ℕ) → ¬ Contains (picks_of (length items) parts) i → slice_get new i ≡ slice_get items i
+
+-- as many elements in place of those of a slice are read back by it, and no other place changes
+abbrev pub AsManyAreReadBack : {X : Type 0} → List X → SliceParts → List X → Type 0
+AsManyAreReadBack items parts others =
+    parts.step ≢ pos 0
+    → length (picks_of (length items) parts) ≡ length others
+    → AreSet items parts others (assigned_list items parts others)
+
+-- the list is a front up to the start, what the slice reads, and a back; the new list has the other elements
+-- between the same front and back
+pub record StandBetween {X : Type 0} (items : List X) (parts : SliceParts) (others new : List X) : Type 0 where
+  pub front : List X
+  pub back : List X
+  pub starts : pos (length front) ≡ start_of (length items) parts.start parts.step
+  pub whole : front ++ (elements_at items (picks_of (length items) parts) ++ back) ≡ items
+  pub changed : new ≡ front ++ (others ++ back)
+
+-- any number of elements take the place of those of a slice with step 1
+abbrev pub AnyNumberTakesThePlace : {X : Type 0} → List X → SliceParts → List X → Type 0
+AnyNumberTakesThePlace items parts others = parts.step ≡ pos 1 → StandBetween items parts others (assigned_list items parts others)

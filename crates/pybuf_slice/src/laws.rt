@@ -1,9 +1,9 @@
 //! What holds of reads and edits by slices.
 ghost use Rattle.std.specs.Prelude.{ℤ, List, Option};
 ghost use Rattle.pybuf_index.specs.Parts.{SliceParts};
-ghost use Rattle.pybuf_slice.specs.EditLaws.{SlicePartsList, AsManyKeepTheLength};
+ghost use Rattle.pybuf_slice.specs.EditLaws.{SlicePartsList, AsManyKeepTheLength, AsManyAreReadBack, AnyNumberTakesThePlace};
 
-use pybuf_index::{indices_of_a_span, slices_have_spans};
+use pybuf_index::{indices_of_a_slice, indices_of_a_span, slices_have_spans};
 
 /// Reading by a slice and deleting by it part a list in two: each element is in exactly one of the
 /// two. What stays is in the order of the list, and what is read is in the direction of the step.
@@ -17,6 +17,25 @@ pub fn reading_and_deleting_part_a_list<T>()
 /// As many elements in place of those of a slice keep the length of a list.
 pub fn as_many_keep_the_length<T>()
     ensures { (items : List T) (parts : SliceParts) (others : List T) → AsManyKeepTheLength items parts others }
+{
+    indices_of_a_span();
+    slices_have_spans();
+}
+
+/// As many elements in place of those of a slice are what the slice reads afterwards, in its order, and
+/// every place that it doesn't pick has the element that it had.
+pub fn as_many_are_read_back<T>()
+    ensures { (items : List T) (parts : SliceParts) (others : List T) → AsManyAreReadBack items parts others }
+{
+    indices_of_a_slice();
+    indices_of_a_span();
+    slices_have_spans();
+}
+
+/// Any number of elements in place of those of a slice with step 1 stand between what stood before its
+/// start and what stood behind what it read; where it read nothing, they are put in at its start.
+pub fn any_number_takes_the_place<T>()
+    ensures { (items : List T) (parts : SliceParts) (others : List T) → AnyNumberTakesThePlace items parts others }
 {
     indices_of_a_span();
     slices_have_spans();

@@ -11,7 +11,10 @@ pub mod slices;
 
 pub use edit_ops::{SequenceExt, SequenceMutExt, SliceableSequenceMutOp};
 pub use edits::close_up;
-pub use laws::{as_many_keep_the_length, reading_and_deleting_part_a_list};
+pub use laws::{
+    any_number_takes_the_place, as_many_are_read_back, as_many_keep_the_length,
+    reading_and_deleting_part_a_list,
+};
 pub use pybuf_index::{
     OptionalRangeArgs, SaturatedSlice, SaturatedSliceIter, SequenceIndex, SequenceIndexOp,
     SliceIndices, clamping_changes_no_index, entry_in, hash_of_lanes,
