@@ -20,6 +20,7 @@ pub mod WalkLemmas
 pub mod SegmentFacts
 pub mod CastFacts
 pub mod ItemRuns
+pub mod ItemsApart
 pub mod SliceLayouts
 pub mod DescribedLayouts
 pub mod RangeLaws

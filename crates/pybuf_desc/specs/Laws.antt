@@ -3,7 +3,8 @@ use Rattle.std.specs.Prelude.{◌≡◌, ◌≢◌, ◌↔◌, ℕ, ◌+◌, ◌
 use Rattle.std.specs.List.{All, flat_map}
 use Rattle.std.specs.declared.ops.Range.{Range}
 use Rattle.pybuf_index.specs.Parts.{SliceParts}
-use Rattle.pybuf_desc.specs.Layouts.{Layout, HasItemsOfItsShape, LiesInside, product}
+use Rattle.pybuf_desc.specs.Layouts.{Layout, HasItemsOfItsShape, LiesInside, product, bytes_layout, bytes_layout_from}
+use Rattle.pybuf_desc.specs.Apart.{HasItemsApart}
 use Rattle.pybuf_desc.specs.Items.{content_of_layout}
 use Rattle.pybuf_desc.specs.Contiguous.{is_contiguous_layout}
 use Rattle.pybuf_desc.specs.Strides.{HasRowMajorStrides}
@@ -98,6 +99,27 @@ abbrev pub SlicingBackTwiceIsNothing : Type 0
 SlicingBackTwiceIsNothing =
     (view : Layout) (n : ℕ) (shape : List ℕ) → view.shape ≡ n ∷ shape → HasItemsOfItsShape view
     → (slice_of (slice_of view backward) backward).starts ≡ view.starts
+
+-- ---- views of which no two items share a byte
+
+-- those of all bytes, and of the bytes from a place on
+abbrev pub WholeLayoutsLieApart : Type 0
+WholeLayoutsLieApart =
+    ((count : ℕ) (readonly : Bool) → HasItemsApart (bytes_layout count readonly))
+    × ((start count : ℕ) (readonly : Bool) → HasItemsApart (bytes_layout_from start count readonly))
+
+-- of any number of dimensions, where the step is not 0
+abbrev pub SlicesLieApart : Type 0
+SlicesLieApart = (view : Layout) (parts : SliceParts) → parts.step ≢ pos 0 → HasItemsApart view → HasItemsApart (slice_of view parts)
+
+-- of whatever view: in one dimension, and in a shape
+abbrev pub CastsLieApart : Type 0
+CastsLieApart =
+    ((view : Layout) (format : List ℕ) (size : ℕ) → HasItemsApart (cast_of view format size))
+    × ((view : Layout) (format : List ℕ) (size : ℕ) (shape : List ℕ) → HasItemsApart (cast_to view format size shape))
+
+abbrev pub RowMajorLayoutsLieApart : Type 0
+RowMajorLayoutsLieApart = (view : Layout) → HasItemsApart (row_major_of view)
 
 -- ---- descriptors
 

@@ -1,4 +1,5 @@
 pub mod Layouts
+pub mod Apart
 pub mod Items
 pub mod Contiguous
 pub mod Strides

@@ -1,5 +1,5 @@
 //! Laws of the definitions that the contracts cite. Each stands on a function with an empty body.
-ghost use Rattle.pybuf_desc.specs.Laws.{CastsShareTheirBytes, CastsStayInside, CastsHaveTheirShape, CastsAreContiguous, FlatCastsHaveOneDimension, ShapedCastsShareTheirBytes, ShapedCastsStayInside, ShapedCastsHaveTheirShape, CopiesHaveTheirBytes, SlicesStayInside, SlicesHaveTheirShape, SlicingBackTwiceIsNothing, PlacedDescriptorsStand, DescriptorsStandForOneView, DescribedViewsHaveTheirShape, ValidWhereItemsLieInside, ContiguityIsOfStrides, ContiguityIsTheSameAnywhere, PositionsArePlaces, RangesHaveTheContent, RangesStayInside};
+ghost use Rattle.pybuf_desc.specs.Laws.{CastsShareTheirBytes, CastsStayInside, CastsHaveTheirShape, CastsAreContiguous, FlatCastsHaveOneDimension, ShapedCastsShareTheirBytes, ShapedCastsStayInside, ShapedCastsHaveTheirShape, CopiesHaveTheirBytes, SlicesStayInside, SlicesHaveTheirShape, SlicingBackTwiceIsNothing, WholeLayoutsLieApart, SlicesLieApart, CastsLieApart, RowMajorLayoutsLieApart, PlacedDescriptorsStand, DescriptorsStandForOneView, DescribedViewsHaveTheirShape, ValidWhereItemsLieInside, ContiguityIsOfStrides, ContiguityIsTheSameAnywhere, PositionsArePlaces, RangesHaveTheContent, RangesStayInside};
 
 /// The items of a cast of a contiguous view have the view's bytes in their order: its items lie one
 /// new item size apart from the view's first place on, and make up all its bytes.
@@ -63,6 +63,28 @@ pub fn slices_have_their_shape()
 /// A slice `::-1` along the first dimension, sliced by `::-1` again, has each item where it was.
 pub fn slicing_back_twice_is_nothing()
     ensures { SlicingBackTwiceIsNothing }
+{}
+
+/// No two items of a view of all bytes, or of the bytes from a place on, share a byte.
+pub fn whole_layouts_lie_apart()
+    ensures { WholeLayoutsLieApart }
+{}
+
+/// Where no two items of a view share a byte, no two of a slice of it do.
+pub fn slices_lie_apart()
+    ensures { SlicesLieApart }
+{
+    pybuf_index::indices_of_a_slice();
+}
+
+/// No two items of a cast share a byte.
+pub fn casts_lie_apart()
+    ensures { CastsLieApart }
+{}
+
+/// No two items of a view share a byte as they lie in a copy of their bytes.
+pub fn row_major_layouts_lie_apart()
+    ensures { RowMajorLayoutsLieApart }
 {}
 
 /// A descriptor that is valid from a start stands for the view of its places.

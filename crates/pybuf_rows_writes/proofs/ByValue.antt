@@ -27,7 +27,8 @@ use Rattle.pybuf_state.specs.Laws.{LiveLayoutsAreSound}
 use Rattle.pybuf_rows_writes.specs.Laid.{bytes_with, laid}
 use Rattle.pybuf_rows_writes.specs.Assign.{no_iterator, lent_source, source_in, has_form_of, assign_target, assigned, assigned_of_value}
 use Rattle.pybuf_desc.specs.Items.{bytes_at, bytes_of_items, content_of_layout}
-use Rattle.pybuf_rows_writes.specs.Laws.{AreApart, AreOutside, IsAssigned, AssignmentsAreByValue}
+use Rattle.pybuf_desc.specs.Apart.{AreApart}
+use Rattle.pybuf_rows_writes.specs.Laws.{AreOutside, IsAssigned, AssignmentsAreByValue}
 use Rattle.pybuf_rows_writes.proofs.Bytes.{taken, dropped, between}
 use Rattle.pybuf_rows_writes.proofs.LaidLengths.{piece_short, rest_inside, length-laid}
 use Rattle.pybuf_rows_writes.proofs.Safe.{done}

@@ -10,6 +10,7 @@ use Rattle.pybuf_value.specs.declared.snaps.Snap.{Snap}
 use Rattle.pybuf_index.specs.Parts.{SliceParts, saturated_parts_of}
 use Rattle.pybuf_desc.specs.Layouts.{Layout, LiesInside}
 use Rattle.pybuf_desc.specs.Slices.{slice_of}
+use Rattle.pybuf_desc.specs.Apart.{AreApart}
 use Rattle.pybuf_memoryview.specs.Fits.{fits_snap}
 use Rattle.pybuf_memoryview.specs.Snaps.{snap_of_layout}
 use Rattle.pybuf_desc.specs.Items.{bytes_at}
@@ -48,11 +49,6 @@ WritesAreSeen =
     × IsWritten e new layout (slice_index layout.starts item) (item_of (normal_values (snaps_of lents) (fields format) (scalar_in value ∷ [])))
 
 -- ---- assignments by a slice
-
--- of the items of this size at these starts, no two share a byte
-abbrev pub AreApart : ℕ → List ℕ → Type 0
-AreApart size starts =
-    (i j : ℕ) → i < j → j < length starts → (slice_index starts i + size ≤ slice_index starts j) ⊎ (slice_index starts j + size ≤ slice_index starts i)
 
 -- so many bytes from a place on, none of which belongs to an item
 abbrev pub AreOutside : ℕ → List ℕ → ℕ → ℕ → Type 0
