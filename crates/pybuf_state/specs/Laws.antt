@@ -1,11 +1,14 @@
 -- What is kept of an exporter by each way in which a command changes it.
-use Rattle.std.specs.Prelude.{◌≡◌, ℕ, ◌+◌, ◌≤◌, List, [], ◌∷◌, ◌++◌, length, set, true, false, Ok, Some, slice_get}
+use Rattle.std.specs.Prelude.{◌≡◌, ℕ, ◌+◌, ◌≤◌, List, [], ◌∷◌, ◌++◌, length, set, Bool, true, false, Ok, Some, slice_get}
 use Rattle.pybuf_value.specs.declared.snaps.Snap.{Snap}
 use Rattle.pybuf_desc.specs.Layouts.{Layout, LiesInside, bytes_layout_from}
+use Rattle.pybuf_desc.specs.Apart.{HasItemsApart}
+use Rattle.pybuf_command.specs.declared.kinds.ExporterKind.{ExporterKind}
 use Rattle.pybuf_command.specs.declared.kinds.Subject.{Subject}
 use Rattle.pybuf_command.specs.Kinds.{holds_readonly}
-use Rattle.pybuf_state.specs.Exporter.{Exporter, View, Iterator, whole_layout, view_at, live_layout, with_view, released_at}
+use Rattle.pybuf_state.specs.Exporter.{Exporter, View, Iterator, new_exporter, whole_layout, view_at, live_layout, with_view, released_at}
 use Rattle.pybuf_state.specs.Sound.{IsFormed, IsSoundExporter}
+use Rattle.pybuf_state.specs.Spaced.{IsSpaced}
 use Rattle.pybuf_state.specs.Keeps.{Keeps, is_vector, IsSameOrMoved, IteratorsStay}
 use Rattle.pybuf_state.specs.Resizing.{has_exports}
 use Rattle.pybuf_state.specs.Fresh.{IsCopyOf, made_of, is_readonly_subject, HoldsCopy}
@@ -68,3 +71,27 @@ abbrev pub CopiesAreFaithful : Type 0
 CopiesAreFaithful =
     (e : Exporter) (s : Subject) (snap : Snap) → IsSoundExporter e → IsCopyOf e s snap
     → (IsSoundExporter (made_of (is_readonly_subject e s) snap)) × (HoldsCopy e s (made_of (is_readonly_subject e s) snap))
+
+-- ---- exporters of whose views no two items share a byte
+
+abbrev pub NewExportersAreSpaced : Type 0
+NewExportersAreSpaced = (k : ExporterKind) (bytes : List ℕ) → IsSpaced (new_exporter k bytes)
+
+-- so it stays where one more view is made of which that holds
+abbrev pub NewViewsStayApart : Type 0
+NewViewsStayApart = (e : Exporter) (layout : Layout) → IsSpaced e → HasItemsApart layout → IsSpaced (with_view e layout).0
+
+-- and where a view is released
+abbrev pub ReleasedViewsStayApart : Type 0
+ReleasedViewsStayApart = (e : Exporter) (k : ℕ) (v : View) → IsSpaced e → view_at e k ≡ Ok v → IsSpaced (released_at e k v)
+
+-- and where the views are the same, whatever the bytes and the iterators are
+abbrev pub SameViewsStayApart : Type 0
+SameViewsStayApart = (e new : Exporter) → new.views ≡ e.views → IsSpaced e → IsSpaced new
+
+abbrev pub LiveLayoutsLieApart : Type 0
+LiveLayoutsLieApart = (e : Exporter) (k : ℕ) (layout : Layout) → IsSpaced e → live_layout e k ≡ Ok layout → HasItemsApart layout
+
+-- whatever is copied
+abbrev pub CopiesAreSpaced : Type 0
+CopiesAreSpaced = (readonly : Bool) (snap : Snap) → IsSpaced (made_of readonly snap)

@@ -1,5 +1,6 @@
 pub mod Exporter
 pub mod Sound
+pub mod Spaced
 pub mod Snaps
 pub mod Loans
 pub mod Fits

@@ -1,5 +1,5 @@
 //! Laws of the definitions that the contracts cite. Each stands on a function with an empty body.
-ghost use Rattle.pybuf_state.specs.Laws.{WholeLayoutsAreSound, PartLayoutsAreSound, LiveLayoutsAreSound, CopiesAreFaithful, ReadingKeeps, NewViewsKeep, WritingKeeps, ResizingKeeps, EmptyingKeeps, ReleasingKeeps, NewIteratorsStay, MovedIteratorsStay};
+ghost use Rattle.pybuf_state.specs.Laws.{WholeLayoutsAreSound, PartLayoutsAreSound, LiveLayoutsAreSound, CopiesAreFaithful, ReadingKeeps, NewViewsKeep, WritingKeeps, ResizingKeeps, EmptyingKeeps, ReleasingKeeps, NewIteratorsStay, MovedIteratorsStay, NewExportersAreSpaced, NewViewsStayApart, ReleasedViewsStayApart, SameViewsStayApart, LiveLayoutsLieApart, CopiesAreSpaced};
 
 /// A view of all bytes may be made of every exporter.
 pub fn whole_layouts_are_sound()
@@ -66,4 +66,37 @@ pub fn copies_are_faithful()
     live_layouts_are_sound();
     new_views_keep();
     pybuf_desc::copies_have_their_bytes();
+}
+
+/// A new exporter has no view of which two items share a byte.
+pub fn new_exporters_are_spaced()
+    ensures { NewExportersAreSpaced }
+{}
+
+/// Where no two items of a view share a byte, for each view of an exporter, that stays so where it gets
+/// one more view of which it holds.
+pub fn new_views_stay_apart()
+    ensures { NewViewsStayApart }
+{}
+
+/// It stays so where a view is released.
+pub fn released_views_stay_apart()
+    ensures { ReleasedViewsStayApart }
+{}
+
+/// It stays so where the views are the same, whatever becomes of the bytes and the iterators.
+pub fn same_views_stay_apart()
+    ensures { SameViewsStayApart }
+{}
+
+/// In such an exporter no two items of an unreleased view share a byte.
+pub fn live_layouts_lie_apart()
+    ensures { LiveLayoutsLieApart }
+{}
+
+/// What is made of a copy has no view of which two items share a byte.
+pub fn copies_are_spaced()
+    ensures { CopiesAreSpaced }
+{
+    pybuf_desc::row_major_layouts_lie_apart();
 }
