@@ -1,6 +1,18 @@
 -- Tests that closures make of single bytes.
-use Rattle.std.specs.Prelude.{◌≡◌, ℕ, ◌<◌, Bool}
+use Rattle.std.specs.Prelude.{◌≡◌, ◌⊎◌, ℕ, ◌<◌, Bool, true, false, List, [], ◌∷◌}
 
 -- a test that a closure makes of a byte
 abbrev pub IsTestOfByte : (ℕ → Bool → Type 0) → (ℕ → Bool) → Type 0
 IsTestOfByte post test = (b : ℕ) (answer : Bool) → b < 256 → post b answer → answer ≡ test b
+
+-- a result of bytes that are tested in order, up to the first for which a test of the opposite case answers yes: the
+-- result is false then, and else whether the test of the case answers yes for one of them, behind which it isn't asked
+-- any more. `says` and `opposes` tell what the two may answer for a byte, and `found` is whether the first answered yes
+-- before.
+abbrev pub IsInCase : (ℕ → Bool → Type 0) → (ℕ → Bool → Type 0) → Bool → List ℕ → Bool → Type 0
+IsInCase says opposes found [] result = result ≡ found
+IsInCase says opposes true (b ∷ bytes) result =
+    (opposes b true × (result ≡ false)) ⊎ (opposes b false × IsInCase says opposes true bytes result)
+IsInCase says opposes false (b ∷ bytes) result =
+    (opposes b true × (result ≡ false))
+    ⊎ (opposes b false × ((answer : Bool) × says b answer × IsInCase says opposes answer bytes result))

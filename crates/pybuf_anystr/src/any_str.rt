@@ -1,7 +1,9 @@
 //! What strings of any kind have in common.
-ghost use Rattle.std.specs.Prelude.{◌≡◌, ◌==◌, ◌+◌, ◌<◌, ◌≤◌, ◌^◌, ◌++◌, ℕ, Bool, List, [], length, IfOk, OnOk, OnErr, Option, slice_range};
+ghost use Rattle.std.specs.Prelude.{◌≡◌, ◌==◌, ◌+◌, ◌<◌, ◌≤◌, ◌^◌, ◌++◌, ℕ, Bool, List, [], length, IfOk, OnOk, OnErr, Option, Result, false, slice_range};
+ghost use Rattle.std.specs.Fn.{FnReturnsAtPair};
 ghost use Rattle.std.specs.Option.{option_copied};
 ghost use Rattle.bstr.specs.Owned.{joined};
+ghost use Rattle.pybuf_value.specs.declared.faults.Fault.{Fault};
 ghost use Rattle.pybuf_value.specs.Halting.{outcome_of, items_of};
 ghost use Rattle.pybuf_value.specs.Texts.{fitted};
 ghost use Rattle.pybuf_search.specs.Ends.{without_prefix, without_suffix};
@@ -11,11 +13,11 @@ ghost use Rattle.pybuf_letters.specs.Blanks.{blank_parts, blank_parts_from_last}
 ghost use Rattle.pybuf_letters.specs.Classes.{all_in_case};
 ghost use Rattle.pybuf_letters.specs.Lines.{split_lines};
 ghost use Rattle.pybuf_letters.specs.Strips.{stripped, goes};
-ghost use Rattle.pybuf_search.specs.Affixes.{single_or_any_of};
+ghost use Rattle.pybuf_search.specs.Affixes.{single_or_any_of, IsSingleOrAnyOf};
 ghost use Rattle.pybuf_shaping.specs.Arguments.{filled};
 ghost use Rattle.pybuf_shaping.specs.Padding.{padded, centered, justified_left, justified_right, zero_filled};
 ghost use Rattle.pybuf_bytes.specs.Searching.{split_of, partition_by, parts_answered};
-ghost use Rattle.pybuf_anystr.specs.Cases.{IsTestOfByte};
+ghost use Rattle.pybuf_anystr.specs.Cases.{IsTestOfByte, IsInCase};
 ghost use Rattle.pybuf_anystr.specs.Texts.{IsTextOf, AreCharactersOf};
 ghost use Rattle.pybuf_anystr.specs.Pairs.{IsTestOfTwo};
 
@@ -139,7 +141,8 @@ pub trait AnyStr {
         lender: &L,
     ) -> Tried<bool>
         requires { F.IsAlwaysCallable func.now }
-        ensures { (test : List ℕ → List ℕ → Bool) → IsTestOfTwo (F.post func.now) test → IfOk result (λ outcome. outcome ≡ outcome_of (single_or_any_of (test (bytes self.now)) (L.pairs lender.now) affix.now)) };
+        ensures function { (test : List ℕ → List ℕ → Bool) → IsTestOfTwo (F.post func.now) test → IfOk result (λ outcome. outcome ≡ outcome_of (single_or_any_of (test (bytes self.now)) (L.pairs lender.now) affix.now)) }
+        ensures calls { IfOk result (λ outcome. (answer : Result Bool Fault) × (outcome ≡ outcome_of answer) × IsSingleOrAnyOf (FnReturnsAtPair F.Fn func.now (bytes self.now)) (L.pairs lender.now) affix.now answer) };
 
     /// The bytes without those at both ends that are among `chars`, or are blanks where no `chars`
     /// are given, lent.
@@ -228,5 +231,6 @@ pub trait AnyStr {
     fn py_iscase<F: Fn(u8) -> bool, G: Fn(u8) -> bool>(&self, is_case: F, is_opposite: G) -> bool
         requires in_case { F.IsAlwaysCallable is_case }
         requires opposite { G.IsAlwaysCallable is_opposite }
-        ensures { (case_test opposite_test : ℕ → Bool) → IsTestOfByte (F.post is_case) case_test → IsTestOfByte (G.post is_opposite) opposite_test → result ≡ all_in_case case_test opposite_test (bytes self.now) };
+        ensures function { (case_test opposite_test : ℕ → Bool) → IsTestOfByte (F.post is_case) case_test → IsTestOfByte (G.post is_opposite) opposite_test → result ≡ all_in_case case_test opposite_test (bytes self.now) }
+        ensures calls { IsInCase (F.post is_case) (G.post is_opposite) false (bytes self.now) result };
 }

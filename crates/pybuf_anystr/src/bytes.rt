@@ -1,9 +1,9 @@
 //! Bytes as a string of any kind.
-ghost use Rattle.std.specs.Prelude.{◌≡◌, ℕ, Bool, List, IfOk};
+ghost use Rattle.std.specs.Prelude.{◌≡◌, ℕ, Bool, false, List, IfOk};
 ghost use Rattle.std.specs.Option.{option_copied};
 ghost use Rattle.std.specs.Str.{chars};
 ghost use Rattle.pybuf_letters.specs.Classes as letters;
-ghost use Rattle.pybuf_anystr.specs.Cases.{IsTestOfByte};
+ghost use Rattle.pybuf_anystr.specs.Cases.{IsTestOfByte, IsInCase};
 
 use crate::any_str::{AnyStr, AnyStrContainer};
 use pybuf_bytes::{ByteInnerSplitOptions, PyBytesInner, SplitLinesArgs, partition_at, split_at};
@@ -241,7 +241,8 @@ fn all_in_case<F: Fn(u8) -> bool, G: Fn(u8) -> bool>(
 ) -> bool
     requires in_case { F.IsAlwaysCallable is_case.now }
     requires opposite { G.IsAlwaysCallable is_opposite.now }
-    ensures { (case_test opposite_test : ℕ → Bool) → IsTestOfByte (F.post is_case.now) case_test → IsTestOfByte (G.post is_opposite.now) opposite_test → result ≡ letters.all_in_case case_test opposite_test bytes.now }
+    ensures function { (case_test opposite_test : ℕ → Bool) → IsTestOfByte (F.post is_case.now) case_test → IsTestOfByte (G.post is_opposite.now) opposite_test → result ≡ letters.all_in_case case_test opposite_test bytes.now }
+    ensures calls { IsInCase (F.post is_case.now) (G.post is_opposite.now) false bytes.now result }
 {
     let mut found = false;
     for b in bytes {

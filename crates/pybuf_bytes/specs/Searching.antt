@@ -1,5 +1,5 @@
 -- Searches and cuts by arguments.
-use Rattle.std.specs.Prelude.{ℕ, ℤ, ◌++◌, Bool, List, length, Option, None, Some, Result, Ok, Err}
+use Rattle.std.specs.Prelude.{◌≡◌, ℕ, ℤ, ◌++◌, Bool, List, length, Option, None, Some, Result, Ok, Err}
 use Rattle.std.specs.Global.{Vec}
 use Rattle.std.specs.declared.ops.Range.{Range}
 use Rattle.pybuf_value.specs.declared.faults.Fault.{Fault}
@@ -19,7 +19,7 @@ use Rattle.pybuf_search.specs.Parts.{split_parts, rsplit_parts, partition_of, rp
 use Rattle.pybuf_letters.specs.Blanks.{blank_parts, blank_rparts}
 use Rattle.pybuf_bytes.specs.declared.needles.Needle.{Needle}
 use Rattle.pybuf_search.specs.Bounds.{adjusted}
-use Rattle.pybuf_search.specs.Ranges.{place_in_range, number_in_range}
+use Rattle.pybuf_search.specs.Ranges.{place_in_range, number_in_range, IsPlaceInRange}
 use Rattle.pybuf_search.specs.Separators.{by_separator}
 use Rattle.pybuf_bytes.specs.Needles.{needle_bytes}
 
@@ -46,6 +46,13 @@ abbrev pub find_of : (List ℕ → List ℕ → Option ℕ) → Needle → Optio
 find_of search sub start end bytes = do
   needle ← needle_bytes sub
   Ok (place_in_range search bytes needle (adjusted start end (length bytes)))
+
+-- what is found between two bounds, where `answers` tells what a search may answer for bytes and a needle: a place in
+-- the range, or the refusal of the needle, whatever the search may answer
+abbrev pub IsFound : (List ℕ → List ℕ → Option ℕ → Type 0) → Needle → Option ℤ → Option ℤ → List ℕ → Outcome (Option ℕ) → Type 0
+IsFound answers sub start end bytes (outcome.Refused f) = needle_bytes sub ≡ Err f
+IsFound answers sub start end bytes (outcome.Done place) =
+    (needle : List ℕ) × (needle_bytes sub ≡ Ok needle) × IsPlaceInRange answers bytes needle (adjusted start end (length bytes)) place
 
 -- the needle and the range of a search
 abbrev pub search_of : Needle → Option ℤ → Option ℤ → ℕ → Result (List ℕ × Range ℕ) Fault

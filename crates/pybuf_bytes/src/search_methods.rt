@@ -1,6 +1,7 @@
 //! The searches, cuts and sums of strings of bytes.
 ghost use Rattle.std.specs.Prelude.{◌≡◌, ◌≤◌, ◌++◌, ℕ, List, Option, Some, length, IfOk, OnOk, OnErr};
 ghost use Rattle.std.specs.Borrow.{Bor};
+ghost use Rattle.std.specs.Fn.{FnReturnsAtPair};
 ghost use Rattle.bstr.specs.Owned.{joined};
 ghost use Rattle.pybuf_value.specs.Halting.{outcome_of, refusal_of, items_of};
 ghost use Rattle.pybuf_value.specs.Texts.{fitted};
@@ -108,7 +109,8 @@ impl PyBytesInner {
     ) -> Tried<Option<usize>>
         requires callable { F.IsAlwaysCallable find }
         requires inside { (part : Bor (List ℕ)) (needle : Bor (List ℕ)) (place : ℕ) → F.post find part needle (Some place) → place ≤ length part.now }
-        ensures { (search : List ℕ → List ℕ → Option ℕ) → IsSearch (F.post find) search → IfOk result (λ outcome. outcome ≡ outcome_of (spec.find_of search options.sub options.start options.end self.now)) }
+        ensures function { (search : List ℕ → List ℕ → Option ℕ) → IsSearch (F.post find) search → IfOk result (λ outcome. outcome ≡ outcome_of (spec.find_of search options.sub options.start options.end self.now)) }
+        ensures call { IfOk result (λ outcome. spec.IsFound (FnReturnsAtPair F.Fn find) options.sub options.start options.end self.now outcome) }
     {
         find_between(alloc, self.as_bytes(), options, find)
     }

@@ -1,6 +1,7 @@
 //! Searches and cuts of bytes by arguments.
 ghost use Rattle.std.specs.Prelude.{◌≡◌, ◌≤◌, ℕ, List, Option, Some, IfOk, length};
 ghost use Rattle.std.specs.Borrow.{Bor};
+ghost use Rattle.std.specs.Fn.{FnReturnsAtPair};
 ghost use Rattle.pybuf_value.specs.Halting.{outcome_of, items_of};
 ghost use Rattle.pybuf_search.specs.Ranges.{IsSearch};
 ghost use Rattle.pybuf_bytes.specs.Searching as spec;
@@ -58,7 +59,8 @@ pub fn find_between<F: Fn(&[u8], &[u8]) -> Option<usize>>(
 ) -> Tried<Option<usize>>
     requires callable { F.IsAlwaysCallable find }
     requires inside { (part : Bor (List ℕ)) (needle : Bor (List ℕ)) (place : ℕ) → F.post find part needle (Some place) → place ≤ length part.now }
-    ensures { (search : List ℕ → List ℕ → Option ℕ) → IsSearch (F.post find) search → IfOk result (λ outcome. outcome ≡ outcome_of (spec.find_of search options.sub options.start options.end bytes.now)) }
+    ensures function { (search : List ℕ → List ℕ → Option ℕ) → IsSearch (F.post find) search → IfOk result (λ outcome. outcome ≡ outcome_of (spec.find_of search options.sub options.start options.end bytes.now)) }
+    ensures call { IfOk result (λ outcome. spec.IsFound (FnReturnsAtPair F.Fn find) options.sub options.start options.end bytes.now outcome) }
 {
     match options.get_value(alloc, bytes.len())? {
         Outcome::Refused(fault) => Ok(Outcome::Refused(fault)),

@@ -1,7 +1,9 @@
 -- One value that is read as bytes, or any of a tuple of such values.
-use Rattle.std.specs.Prelude.{◌≡◌, ℕ, ℤ, Bool, true, false, List, [], ◌∷◌, Option, None, Some, Result, Ok, if◌then◌else◌}
+use Rattle.std.specs.Prelude.{◌≡◌, ◌⊎◌, ℕ, ℤ, Bool, true, false, List, [], ◌∷◌, Option, None, Some, Result, Ok, Err, if◌then◌else◌}
 use Rattle.std.specs.Borrow.{Bor}
 use Rattle.pybuf_value.specs.declared.faults.Fault.{Fault}
+use Rattle.pybuf_value.specs.declared.halt.Halt.{Halt}
+use Rattle.pybuf_value.specs.declared.halt.Halt.TheVariants as halt
 use Rattle.pybuf_value.specs.declared.snaps.Snap.{Snap}
 use Rattle.pybuf_value.specs.declared.values.Scalar.{Scalar}
 use Rattle.pybuf_value.specs.declared.values.Value.{Value}
@@ -27,6 +29,34 @@ single_or_any_of test pairs v = do
 -- a test that a closure makes of bytes that it is lent
 abbrev pub IsTested : (Bor (List ℕ) → Bool → Type 0) → (List ℕ → Bool) → Type 0
 IsTested post test = (bytes : Bor (List ℕ)) (answer : Bool) → post bytes answer → answer ≡ test bytes.now
+
+-- a result of values that are tested in order, up to the first that is refused or for which the test answers yes. Of
+-- the first of them the bytes are given, or the refusal; `answers` tells what the test may answer for bytes, and
+-- `Further` what the result of the values behind it is.
+abbrev pub IsAnyFrom : (List ℕ → Bool → Type 0) → Result (List ℕ) Fault → (Result Bool Fault → Type 0) → Result Bool Fault → Type 0
+IsAnyFrom answers (Err f) Further result = result ≡ Err f
+IsAnyFrom answers (Ok bytes) Further result = (answers bytes true × (result ≡ Ok true)) ⊎ (answers bytes false × Further result)
+
+abbrev pub IsAnyOf : (List ℕ → Bool → Type 0) → List (ℕ × Snap) → List Scalar → Result Bool Fault → Type 0
+IsAnyOf answers pairs [] result = result ≡ Ok false
+IsAnyOf answers pairs (part ∷ parts) result =
+    IsAnyFrom answers (bytes_in pairs (value.One part)) (IsAnyOf answers pairs parts) result
+
+-- a result of one test of bytes: what the test may answer for them, or their refusal, whatever it may answer
+abbrev pub IsTestOf : (List ℕ → Bool → Type 0) → Result (List ℕ) Fault → Result Bool Fault → Type 0
+IsTestOf answers (Err f) result = result ≡ Err f
+IsTestOf answers (Ok bytes) result = (answer : Bool) × answers bytes answer × (result ≡ Ok answer)
+
+-- a result of tests of one value, or of the parts of a tuple in order
+abbrev pub IsSingleOrAnyOf : (List ℕ → Bool → Type 0) → List (ℕ × Snap) → Value → Result Bool Fault → Type 0
+IsSingleOrAnyOf answers pairs (value.Tuple parts) result = IsAnyOf answers pairs parts result
+IsSingleOrAnyOf answers pairs v result = IsTestOf answers (bytes_in pairs v) result
+
+-- what holds of a result, or of the refusal in its place, unless memory runs out
+abbrev pub IfGiven : {X : Type 0} → (Result X Fault → Type 0) → Result X Halt → Type 0
+IfGiven P (Ok x) = P (Ok x)
+IfGiven P (Err (halt.Refused f)) = P (Err f)
+IfGiven P (Err halt.NoMemory) = Unit {0}
 
 -- an affix, or one of a tuple of them, in the bytes between two bounds; false where the start passes the end
 abbrev pub test_in : (List ℕ → List ℕ → Bool) → List (ℕ × Snap) → Value → Option (List ℕ) → Result Bool Fault

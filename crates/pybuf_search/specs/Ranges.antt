@@ -28,3 +28,14 @@ number_in_range bytes needle range = number_in_part needle (in_range bytes range
 abbrev pub IsSearch : (Bor (List ℕ) → Bor (List ℕ) → Option ℕ → Type 0) → (List ℕ → List ℕ → Option ℕ) → Type 0
 IsSearch post search =
     (part needle : Bor (List ℕ)) (answer : Option ℕ) → post part needle answer → answer ≡ search part.now needle.now
+
+-- a place in a part that begins at `start`, from the front of the bytes, where `answers` tells what a search may answer
+-- for bytes and a needle: one that it may answer for this part and this needle; none in no part, whatever it may answer
+abbrev pub IsPlaceInPart : (List ℕ → List ℕ → Option ℕ → Type 0) → List ℕ → ℕ → Option (List ℕ) → Option ℕ → Type 0
+IsPlaceInPart answers needle start None place = place ≡ None
+IsPlaceInPart answers needle start (Some part) place =
+    (found : Option ℕ) × answers part needle found × (place ≡ option_map (λ p. start + p) found)
+
+-- the same in a range; none where its start passes its end
+abbrev pub IsPlaceInRange : (List ℕ → List ℕ → Option ℕ → Type 0) → List ℕ → List ℕ → Range ℕ → Option ℕ → Type 0
+IsPlaceInRange answers bytes needle range place = IsPlaceInPart answers needle range.start (in_range bytes range) place

@@ -1,6 +1,8 @@
 //! What bytes begin and end with: one value that is read as bytes, or any of a tuple.
-ghost use Rattle.std.specs.Prelude.{◌≡◌, ℕ, Bool, List, Option, Some, None, Ok, Err, IfOk, MatchOption, MatchResult};
+ghost use Rattle.std.specs.Prelude.{◌≡◌, ℕ, Bool, List, Option, Some, None, Result, Ok, Err, IfOk, MatchOption, MatchResult};
+ghost use Rattle.std.specs.Fn.{FnReturnsAt};
 ghost use Rattle.pybuf_value.specs.declared.values.Value.TheVariants as values;
+ghost use Rattle.pybuf_value.specs.declared.faults.Fault.{Fault};
 ghost use Rattle.pybuf_value.specs.Halting.{Gives, outcome_of};
 ghost use Rattle.pybuf_value.specs.Snaps.{bytes_in};
 ghost use Rattle.pybuf_search.specs.Bounds.{range_if_any, between_bounds};
@@ -74,7 +76,8 @@ fn any_of<L: Lender, F: Fn(&[u8]) -> bool>(
     lender: &L,
 ) -> Result<bool, Fault>
     requires { F.IsAlwaysCallable predicate.now }
-    ensures { (test : List ℕ → Bool) → IsTested (F.post predicate.now) test → result ≡ spec.any_of test (L.pairs lender.now) parts.now }
+    ensures function { (test : List ℕ → Bool) → IsTested (F.post predicate.now) test → result ≡ spec.any_of test (L.pairs lender.now) parts.now }
+    ensures calls { spec.IsAnyOf (FnReturnsAt F.Fn predicate.now) (L.pairs lender.now) parts.now result }
 {
     for part in parts {
         let bytes = bytes_lent(part, lender)?;
@@ -93,7 +96,8 @@ fn single_or_any_of<L: Lender, F: Fn(&[u8]) -> bool>(
     lender: &L,
 ) -> Result<bool, Halt>
     requires { F.IsAlwaysCallable predicate.now }
-    ensures { (test : List ℕ → Bool) → IsTested (F.post predicate.now) test → Gives (spec.single_or_any_of test (L.pairs lender.now) value.now) result }
+    ensures function { (test : List ℕ → Bool) → IsTested (F.post predicate.now) test → Gives (spec.single_or_any_of test (L.pairs lender.now) value.now) result }
+    ensures calls { spec.IfGiven (spec.IsSingleOrAnyOf (FnReturnsAt F.Fn predicate.now) (L.pairs lender.now) value.now) result }
 {
     match value {
         Value::Tuple(parts) => {
@@ -123,7 +127,8 @@ pub fn single_or_tuple_any<L: Lender, F: Fn(&[u8]) -> bool>(
     lender: &L,
 ) -> Tried<bool>
     requires { F.IsAlwaysCallable predicate.now }
-    ensures { (test : List ℕ → Bool) → IsTested (F.post predicate.now) test → IfOk result (λ outcome. outcome ≡ outcome_of (spec.single_or_any_of test (L.pairs lender.now) value.now)) }
+    ensures function { (test : List ℕ → Bool) → IsTested (F.post predicate.now) test → IfOk result (λ outcome. outcome ≡ outcome_of (spec.single_or_any_of test (L.pairs lender.now) value.now)) }
+    ensures calls { IfOk result (λ outcome. (answer : Result Bool Fault) × (outcome ≡ outcome_of answer) × spec.IsSingleOrAnyOf (FnReturnsAt F.Fn predicate.now) (L.pairs lender.now) value.now answer) }
 {
     tried(single_or_any_of(alloc, value, predicate, lender))
 }

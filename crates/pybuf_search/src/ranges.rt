@@ -1,6 +1,7 @@
 //! Searches in a range of bytes. Nothing here takes memory.
 ghost use Rattle.std.specs.Prelude.{◌≡◌, ◌≤◌, ℕ, List, Option, Some, length};
 ghost use Rattle.std.specs.Borrow.{Bor};
+ghost use Rattle.std.specs.Fn.{FnReturnsAtPair};
 ghost use Rattle.pybuf_search.specs.Places as places;
 ghost use Rattle.pybuf_search.specs.Ranges.{IsSearch};
 ghost use Rattle.pybuf_search.specs.Ranges as spec;
@@ -20,7 +21,8 @@ pub fn place_in_range<F: Fn(&[u8], &[u8]) -> Option<usize>>(
     requires callable { F.IsAlwaysCallable find }
     requires inside { (part sought : Bor (List ℕ)) (place : ℕ) → F.post find part sought (Some place) → place ≤ length part.now }
     requires end { range.end ≤ length bytes.now }
-    ensures { (search : List ℕ → List ℕ → Option ℕ) → IsSearch (F.post find) search → result ≡ spec.place_in_range search bytes.now needle.now range }
+    ensures function { (search : List ℕ → List ℕ → Option ℕ) → IsSearch (F.post find) search → result ≡ spec.place_in_range search bytes.now needle.now range }
+    ensures call { spec.IsPlaceInRange (FnReturnsAtPair F.Fn find) bytes.now needle.now range result }
 {
     if !range.is_normal() {
         return None;

@@ -3,4 +3,4 @@ use Rattle.pybuf_search.specs.Places.{first_place}
 use Rattle.pybuf_search.proofs.ranges.first_place_in_range.Goals as goal
 
 pub returns : goal.returns
-returns c = c.place_in_range.ensures first_place (λ part needle answer says. search rules)
+returns c = c.place_in_range.ensures.function first_place (λ part needle answer says. search rules)
