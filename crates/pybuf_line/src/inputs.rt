@@ -1,8 +1,7 @@
 //! Whether the lines of an input are commands.
 ghost use Rattle.pybuf_line.specs.Scalars.{handle_in};
-ghost use Rattle.pybuf_line.specs.Lines.{commands_in, commands_from};
-ghost use Rattle.pybuf_line.specs.Commands.{command_in};
-ghost use Rattle.pybuf_line.specs.Reading.{Tells, ChecksAll};
+ghost use Rattle.pybuf_line.specs.Lines.{commands_in};
+ghost use Rattle.pybuf_line.specs.Reading.{ChecksAll};
 
 use crate::parsing::command_of_line;
 use crate::splitting::next_line;

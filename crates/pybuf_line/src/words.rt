@@ -239,16 +239,16 @@ pub fn first_word(text: &[u8]) -> Option<Word>
 pub fn kind_named(text: &[u8]) -> Option<ExporterKind>
     ensures { result ≡ kind_in text.now }
 {
-    if is_word(text, "bytes") {
+    if text == "bytes".as_bytes() {
         return Some(ExporterKind::Bytes);
     }
-    if is_word(text, "bytearray") {
+    if text == "bytearray".as_bytes() {
         return Some(ExporterKind::ByteArray);
     }
-    if is_word(text, "vector") {
+    if text == "vector".as_bytes() {
         return Some(ExporterKind::Vector { readonly: false });
     }
-    if is_word(text, "rovector") {
+    if text == "rovector".as_bytes() {
         return Some(ExporterKind::Vector { readonly: true });
     }
     None
@@ -258,22 +258,22 @@ pub fn kind_named(text: &[u8]) -> Option<ExporterKind>
 pub fn operator_named(text: &[u8]) -> Option<CompareOp>
     ensures { result ≡ operator_in text.now }
 {
-    if is_word(text, "==") {
+    if text == "==".as_bytes() {
         return Some(CompareOp::Eq);
     }
-    if is_word(text, "!=") {
+    if text == "!=".as_bytes() {
         return Some(CompareOp::Ne);
     }
-    if is_word(text, "<") {
+    if text == "<".as_bytes() {
         return Some(CompareOp::Lt);
     }
-    if is_word(text, "<=") {
+    if text == "<=".as_bytes() {
         return Some(CompareOp::Le);
     }
-    if is_word(text, ">") {
+    if text == ">".as_bytes() {
         return Some(CompareOp::Gt);
     }
-    if is_word(text, ">=") {
+    if text == ">=".as_bytes() {
         return Some(CompareOp::Ge);
     }
     None
@@ -284,43 +284,43 @@ pub fn operator_named(text: &[u8]) -> Option<CompareOp>
 pub fn property_named(text: &[u8]) -> Option<PropertyName>
     ensures { result ≡ property_in text.now }
 {
-    if is_word(text, "exports") {
+    if text == "exports".as_bytes() {
         return Some(PropertyName::Exports);
     }
-    if is_word(text, "obj") {
+    if text == "obj".as_bytes() {
         return Some(PropertyName::Obj);
     }
-    if is_word(text, "nbytes") {
+    if text == "nbytes".as_bytes() {
         return Some(PropertyName::Nbytes);
     }
-    if is_word(text, "readonly") {
+    if text == "readonly".as_bytes() {
         return Some(PropertyName::Readonly);
     }
-    if is_word(text, "itemsize") {
+    if text == "itemsize".as_bytes() {
         return Some(PropertyName::Itemsize);
     }
-    if is_word(text, "ndim") {
+    if text == "ndim".as_bytes() {
         return Some(PropertyName::Ndim);
     }
-    if is_word(text, "shape") {
+    if text == "shape".as_bytes() {
         return Some(PropertyName::Shape);
     }
-    if is_word(text, "strides") {
+    if text == "strides".as_bytes() {
         return Some(PropertyName::Strides);
     }
-    if is_word(text, "suboffsets") {
+    if text == "suboffsets".as_bytes() {
         return Some(PropertyName::Suboffsets);
     }
-    if is_word(text, "format") {
+    if text == "format".as_bytes() {
         return Some(PropertyName::Format);
     }
-    if is_word(text, "contiguous") {
+    if text == "contiguous".as_bytes() {
         return Some(PropertyName::Contiguous);
     }
-    if is_word(text, "c_contiguous") {
+    if text == "c_contiguous".as_bytes() {
         return Some(PropertyName::CContiguous);
     }
-    if is_word(text, "f_contiguous") {
+    if text == "f_contiguous".as_bytes() {
         return Some(PropertyName::FContiguous);
     }
     None
