@@ -1,15 +1,13 @@
 -- Texts that begin with a digit are numbers or nothing.
-use Rattle.std.proofs.Common.{◌≡◌, ℕ, ◌≤◌, ◌^◌, Bool, true, false, cond, ◌==◌, ◌&&◌, List, [], ◌∷◌, length, sym, ◌∙◌, ap, arith, tests, pos, refl}
-use Rattle.std.specs.Prelude.{Option, Some, None}
+use Rattle.std.proofs.Common.{◌≡◌, ℕ, ◌^◌, true, List, [], ◌∷◌, ◌∙◌, ap, arith, tests, pos, refl}
+use Rattle.std.specs.Prelude.{Some}
 use Rattle.std.specs.Char.{is_ascii_digit}
-use Rattle.std.specs.List.{list_all}
-use Rattle.pybuf_value.specs.Choosing.{◌or_else◌, ◌>>=◌}
+use Rattle.pybuf_value.specs.Choosing.{◌>>=◌}
 use Rattle.pybuf_value.specs.declared.values.Scalar.{Scalar}
 use Rattle.pybuf_value.specs.declared.values.Scalar.TheVariants as scalar
-use Rattle.pybuf_value.specs.declared.values.Value.{Value}
 use Rattle.pybuf_value.specs.declared.values.Value.TheVariants as value
-use Rattle.pybuf_line.specs.Scalars.{is_number, below, number_below, handle_in, positive_in, plain_in, scalar_in}
-use Rattle.pybuf_line.specs.Spellings.{one_in, value_in}
+use Rattle.pybuf_line.specs.Scalars.{is_number, number_below, handle_in, positive_in, plain_in}
+use Rattle.pybuf_line.specs.Spellings.{value_in}
 use Rattle.pybuf_line.proofs.Digits.{wider}
 use Rattle.pybuf_line.proofs.FirstByte.{by_digit}
 
