@@ -1,4 +1,5 @@
 pub mod Digits
+pub mod FirstByte
 pub mod Shorts
 pub mod Joined
 pub mod Commands

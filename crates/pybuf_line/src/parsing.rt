@@ -1,7 +1,7 @@
 //! The commands that lines spell.
 ghost use Rattle.std.specs.Prelude.{map};
 ghost use Rattle.pybuf_line.specs.Scalars.{handle_in};
-ghost use Rattle.pybuf_line.specs.Commands.{new_in, do_in, command_of_words, command_in};
+ghost use Rattle.pybuf_line.specs.Commands.{new_in, command_in};
 ghost use Rattle.pybuf_line.specs.Reading.{Reads};
 
 use crate::options::options_of;
@@ -30,33 +30,6 @@ fn new_of(alloc: Global, rest: &[&[u8]]) -> Result<Command, Unread>
     }
 }
 
-/// What is asked of a handle, by the words after the first.
-fn do_of(alloc: Global, word: Word, rest: &[&[u8]]) -> Result<Command, Unread>
-    ensures { Reads result (do_in handle_in word (map (λ word. word.now) rest.now)) }
-{
-    match rest {
-        [subject, arguments @ ..] => match handle(subject) {
-            Some(subject) => verb_of(alloc, subject, word, arguments),
-            None => no_command(),
-        },
-        [] => no_command(),
-    }
-}
-
-/// The command that words spell.
-fn command_of(alloc: Global, words: &[&[u8]]) -> Result<Command, Unread>
-    ensures { Reads result (command_of_words handle_in (map (λ word. word.now) words.now)) }
-{
-    match words {
-        [first, rest @ ..] => match first_word(first) {
-            None => no_command(),
-            Some(Word::New) => new_of(alloc, rest),
-            Some(word) => do_of(alloc, word, rest),
-        },
-        [] => no_command(),
-    }
-}
-
 /// The one command that a line spells. The list of words is filled for the line, so that the lines
 /// of an input share its memory.
 #[tactic(auto, unfolding(crate::specs::Commands::command_in))]
@@ -68,7 +41,20 @@ pub fn command_of_line<'a>(
     ensures { Reads result (command_in handle_in line.now) }
 {
     fill_words(words, line)?;
-    command_of(alloc, words)
+    match words.as_slice() {
+        [first, rest @ ..] => match first_word(first) {
+            None => no_command(),
+            Some(Word::New) => new_of(alloc, rest),
+            Some(word) => match rest {
+                [subject, arguments @ ..] => match handle(subject) {
+                    Some(subject) => verb_of(alloc, subject, word, arguments),
+                    None => no_command(),
+                },
+                [] => no_command(),
+            },
+        },
+        [] => no_command(),
+    }
 }
 
 /// The one command that a line spells.

@@ -1,84 +1,51 @@
 //! Values without parts as they are spelled on a line.
-ghost use Rattle.std.specs.Prelude.{◌≡◌, ◌≤◌, ◌+◌, ◌*◌, ◌^◌, pos, neg_ℤ, true, Some, None, MatchOption};
+ghost use Rattle.std.specs.Prelude.{◌≡◌, ◌≤◌, ◌^◌, pos, neg_ℤ, true, Some, None, MatchOption};
 ghost use Rattle.std.specs.List.{list_all};
-ghost use Rattle.std.specs.Char.{is_ascii_digit};
-ghost use Rattle.std.specs.Str.Parse.{digits_value};
-ghost use Rattle.pybuf_line.specs.Scalars.{constant_in, is_number, below, number_below, handle_in, positive_in, negative_in, whole_in, bytes_decoded, bytes_in, before_end, enclosed_text, is_text_byte, is_text, text_in, plain_in, scalar_in};
+ghost use Rattle.pybuf_line.specs.Scalars.{constant_in, number_below, handle_in, positive_in, negative_in, bytes_in, enclosed_text, is_text_byte, is_text, text_in, plain_in, scalar_in};
 ghost use Rattle.pybuf_line.specs.Reading.{Reads};
-ghost use Rattle.hex.specs.Hex.{decode_of};
 
 use crate::unread::Unread;
-use crate::words::is_word;
 use hex::FromHexError;
 use pybuf_value::{ByteList, Scalar, Text};
 use std::alloc::Global;
 
 /// The names of values.
 #[tactic(auto, unfolding(crate::specs::Scalars::constant_in))]
-fn name(text: &[u8]) -> Option<Scalar>
-    ensures { result ≡ constant_in text.now }
+fn name(text: &[u8]) -> Result<Scalar, Unread>
+    ensures { Reads result (constant_in text.now) }
 {
-    if is_word(text, "None") {
-        return Some(Scalar::None);
+    if text == "None".as_bytes() {
+        return Ok(Scalar::None);
     }
-    if is_word(text, "True") {
-        return Some(Scalar::Bool(true));
+    if text == "True".as_bytes() {
+        return Ok(Scalar::Bool(true));
     }
-    if is_word(text, "False") {
-        return Some(Scalar::Bool(false));
+    if text == "False".as_bytes() {
+        return Ok(Scalar::Bool(false));
     }
-    if is_word(text, "...") {
-        return Some(Scalar::Ellipsis);
+    if text == "...".as_bytes() {
+        return Ok(Scalar::Ellipsis);
     }
-    None
+    Err(Unread::NoCommand)
 }
 
-/// Whether each byte is a decimal digit.
-fn all_digits(text: &[u8]) -> bool
-    ensures { result ≡ list_all is_ascii_digit text.now }
-{
-    text.iter().all(|c| c.is_ascii_digit())
-}
-
-/// Whether a text is one or more decimal digits.
-fn is_digits(text: &[u8]) -> bool
-    ensures { result ≡ is_number text.now }
+/// The number that a text spells in decimal digits, where a machine word holds it.
+pub fn word_number(text: &[u8]) -> Option<u64>
+    ensures { result ≡ number_below (2 ^ 64) text.now }
 {
     if text.is_empty() {
-        return false;
+        return None;
     }
-    all_digits(text)
-}
-
-/// A number with a digit after its own, where there is room for it.
-fn with_digit(number: u128, digit: u8) -> Option<u128>
-    ensures { result ≡ below (2 ^ 128) (number * 10 + digit) }
-{
-    match number.checked_mul(10) {
-        Some(tens) => tens.checked_add(u128::from(digit)),
-        None => None,
-    }
-}
-
-/// The same of a machine word.
-fn word_with_digit(number: u64, digit: u8) -> Option<u64>
-    ensures { result ≡ below (2 ^ 64) (number * 10 + digit) }
-{
-    match number.checked_mul(10) {
-        Some(tens) => tens.checked_add(u64::from(digit)),
-        None => None,
-    }
-}
-
-/// The number of decimal digits, where a machine word holds it.
-fn word_value(text: &[u8]) -> Option<u64>
-    requires { list_all is_ascii_digit text.now ≡ true }
-    ensures { result ≡ below (2 ^ 64) (digits_value 10 text.now) }
-{
     let mut number: u64 = 0;
     for c in text {
-        // a number that is too large stays so, whatever digits follow
-        let Some(longer) = word_with_digit(number, *c - b'0') else {
+        if !c.is_ascii_digit() {
+            return None;
+        }
+        // a number that is too large stays so, whatever follows
+        let Some(tens) = number.checked_mul(10) else {
+            return None;
+        };
+        let Some(longer) = tens.checked_add(u64::from(*c - b'0')) else {
             return None;
         };
         number = longer;
@@ -86,42 +53,28 @@ fn word_value(text: &[u8]) -> Option<u64>
     Some(number)
 }
 
-/// The number that a text spells in decimal digits, where a machine word holds it.
-pub fn word_number(text: &[u8]) -> Option<u64>
-    ensures { result ≡ number_below (2 ^ 64) text.now }
+/// The number that a text spells in decimal digits, where it is below a bound.
+fn number(bound: u128, text: &[u8]) -> Option<u128>
+    ensures { result ≡ number_below bound text.now }
 {
-    if is_digits(text) {
-        word_value(text)
-    } else {
-        None
+    if text.is_empty() {
+        return None;
     }
-}
-
-/// The number of decimal digits, where it is below a bound.
-fn value_below(bound: u128, text: &[u8]) -> Option<u128>
-    requires { list_all is_ascii_digit text.now ≡ true }
-    ensures { result ≡ below bound (digits_value 10 text.now) }
-{
     let mut number: u128 = 0;
     for c in text {
-        // a number that is too large stays so, whatever digits follow
-        let Some(longer) = with_digit(number, *c - b'0') else {
+        if !c.is_ascii_digit() {
+            return None;
+        }
+        // a number that is too large stays so, whatever follows
+        let Some(tens) = number.checked_mul(10) else {
+            return None;
+        };
+        let Some(longer) = tens.checked_add(u128::from(*c - b'0')) else {
             return None;
         };
         number = longer;
     }
     if number < bound { Some(number) } else { None }
-}
-
-/// The number that a text spells in decimal digits, where it is below a bound.
-fn number(bound: u128, text: &[u8]) -> Option<u128>
-    ensures { result ≡ number_below bound text.now }
-{
-    if is_digits(text) {
-        value_below(bound, text)
-    } else {
-        None
-    }
 }
 
 /// The handle that a text spells: `h` and a number below 2^64.
@@ -134,25 +87,17 @@ pub fn handle(text: &[u8]) -> Option<u64>
     }
 }
 
-/// The whole number that any number of digits without a sign spell.
-#[inline(never)]
-fn long_positive(digits: &[u8]) -> Option<Scalar>
-    ensures { result ≡ positive_in digits.now }
-{
-    match number(1 << 127, digits) {
-        Some(number) => Some(Scalar::Int(number as i128)),
-        None => None,
-    }
-}
-
 /// The whole number that digits without a sign spell: most of them by one machine word.
 #[tactic(auto, using(crate::proofs::Digits::wider))]
-fn positive(digits: &[u8]) -> Option<Scalar>
-    ensures { result ≡ positive_in digits.now }
+fn positive(digits: &[u8]) -> Result<Scalar, Unread>
+    ensures { Reads result (positive_in digits.now) }
 {
-    match word_number(digits) {
-        Some(number) => Some(Scalar::Int(i128::from(number))),
-        None => long_positive(digits),
+    if let Some(number) = word_number(digits) {
+        return Ok(Scalar::Int(i128::from(number)));
+    }
+    match number(1 << 127, digits) {
+        Some(number) => Ok(Scalar::Int(number as i128)),
+        None => Err(Unread::NoCommand),
     }
 }
 
@@ -168,54 +113,27 @@ fn negated(number: u128) -> i128
 }
 
 /// The whole number that the digits after `-` spell.
-fn negative(digits: &[u8]) -> Option<Scalar>
-    ensures { result ≡ negative_in digits.now }
+fn negative(digits: &[u8]) -> Result<Scalar, Unread>
+    ensures { Reads result (negative_in digits.now) }
 {
     match number((1 << 127) + 1, digits) {
-        Some(number) => Some(Scalar::Int(negated(number))),
-        None => None,
-    }
-}
-
-/// The whole number of 128 bits that a text spells.
-fn whole(text: &[u8]) -> Option<Scalar>
-    ensures { result ≡ whole_in text.now }
-{
-    match text {
-        [b'-', digits @ ..] => negative(digits),
-        _ => positive(text),
-    }
-}
-
-/// The bytes that pairs of hexadecimal digits spell.
-fn decoded_bytes(alloc: Global, pairs: &[u8]) -> Result<ByteList, Unread>
-    ensures { Reads result (bytes_decoded (decode_of pairs.now)) }
-{
-    match hex::decode(alloc, pairs) {
-        Ok(bytes) => Ok(ByteList::from_vec(bytes)),
-        Err(FromHexError::OutOfMemory) => Err(Unread::NoMemory),
-        Err(_) => Err(Unread::NoCommand),
+        Some(number) => Ok(Scalar::Int(negated(number))),
+        None => Err(Unread::NoCommand),
     }
 }
 
 /// The bytes that a text spells: `x` and pairs of hexadecimal digits, maybe none.
-pub fn bytes(alloc: Global, text: &[u8]) -> Result<Scalar, Unread>
+fn bytes(alloc: Global, text: &[u8]) -> Result<Scalar, Unread>
     ensures { Reads result (bytes_in text.now) }
 {
-    match text {
-        [b'x', pairs @ ..] => {
-            let bytes = decoded_bytes(alloc, pairs)?;
-            Ok(Scalar::Bytes(bytes))
-        }
-        _ => Err(Unread::NoCommand),
+    let [b'x', pairs @ ..] = text else {
+        return Err(Unread::NoCommand);
+    };
+    match hex::decode(alloc, pairs) {
+        Ok(bytes) => Ok(Scalar::Bytes(ByteList::from_vec(bytes))),
+        Err(FromHexError::OutOfMemory) => Err(Unread::NoMemory),
+        Err(_) => Err(Unread::NoCommand),
     }
-}
-
-/// What stands before a last byte.
-fn without_end<'a>(last: u8, text: &'a [u8]) -> Option<&'a [u8]>
-    ensures { MatchOption result (before_end last text.now ≡ None) (λ inner. before_end last text.now ≡ Some inner.now) }
-{
-    text.strip_suffix(&[last])
 }
 
 /// What stands between a first byte and a last one.
@@ -225,7 +143,7 @@ pub fn between(opening: u8, closing: u8, text: &[u8]) -> Option<&[u8]>
     match text {
         [first, rest @ ..] => {
             if *first == opening {
-                without_end(closing, rest)
+                rest.strip_suffix(&[closing])
             } else {
                 None
             }
@@ -293,29 +211,40 @@ fn text(alloc: Global, quoted: &[u8]) -> Result<Scalar, Unread>
     }
 }
 
-/// The scalar other than text that a text spells.
+/// The scalar other than text that a text spells, by its first byte.
 pub fn plain(alloc: Global, text: &[u8]) -> Result<Scalar, Unread>
     ensures { Reads result (plain_in handle_in text.now) }
 {
-    if let Some(named) = name(text) {
-        return Ok(named);
+    let [first, rest @ ..] = text else {
+        return Err(Unread::NoCommand);
+    };
+    if first.is_ascii_digit() {
+        return positive(text);
     }
-    if let Some(number) = whole(text) {
-        return Ok(number);
+    if *first == b'x' {
+        return bytes(alloc, text);
     }
-    if let Some(handle) = handle(text) {
-        return Ok(Scalar::Handle(handle));
+    if *first == b'-' {
+        return negative(rest);
     }
-    bytes(alloc, text)
+    if *first == b'h' {
+        return match handle(text) {
+            Some(handle) => Ok(Scalar::Handle(handle)),
+            None => Err(Unread::NoCommand),
+        };
+    }
+    name(text)
 }
 
-/// The scalar that a text spells.
+/// The scalar that a text spells, which is a text where it begins with a quote.
 pub fn scalar(alloc: Global, spelled: &[u8]) -> Result<Scalar, Unread>
     ensures { Reads result (scalar_in handle_in spelled.now) }
 {
-    match plain(alloc, spelled) {
-        Ok(scalar) => Ok(scalar),
-        Err(Unread::NoCommand) => text(alloc, spelled),
-        Err(Unread::NoMemory) => Err(Unread::NoMemory),
+    let [first, ..] = spelled else {
+        return Err(Unread::NoCommand);
+    };
+    if *first == b'\'' {
+        return text(alloc, spelled);
     }
+    plain(alloc, spelled)
 }

@@ -87,22 +87,6 @@ fn slices(alloc: Global, text: &[u8]) -> Result<SliceList, Unread>
     slices_of(alloc, &parts)
 }
 
-/// A value without parts.
-fn one(alloc: Global, text: &[u8]) -> Result<Value, Unread>
-    ensures { Reads result (one_in handle_in text.now) }
-{
-    let one = scalar(alloc, text)?;
-    Ok(Value::One(one))
-}
-
-/// A slice.
-fn slice_value(alloc: Global, text: &[u8]) -> Result<Value, Unread>
-    ensures { Reads result (slice_value_in handle_in text.now) }
-{
-    let slice = slice(alloc, text)?;
-    Ok(Value::Slice(slice))
-}
-
 /// A tuple of scalars.
 fn tuple(alloc: Global, text: &[u8]) -> Result<Value, Unread>
     ensures { Reads result (tuple_in handle_in text.now) }
@@ -141,9 +125,10 @@ fn tuple_of_slices(alloc: Global, text: &[u8]) -> Result<Value, Unread>
 fn parted(alloc: Global, text: &[u8]) -> Result<Value, Unread>
     ensures { Reads result (slice_value_in handle_in text.now or_else tuple_in handle_in text.now or_else list_in handle_in text.now or_else tuple_of_slices_in handle_in text.now) }
 {
-    match slice_value(alloc, text) {
+    match slice(alloc, text) {
+        Ok(slice) => return Ok(Value::Slice(slice)),
         Err(Unread::NoCommand) => {}
-        read => return read,
+        Err(Unread::NoMemory) => return Err(Unread::NoMemory),
     }
     match tuple(alloc, text) {
         Err(Unread::NoCommand) => {}
@@ -162,17 +147,11 @@ fn parted(alloc: Global, text: &[u8]) -> Result<Value, Unread>
 fn other_value(alloc: Global, text: &[u8]) -> Result<Value, Unread>
     ensures { Reads result (value_in handle_in text.now) }
 {
-    match one(alloc, text) {
+    match scalar(alloc, text) {
+        Ok(one) => Ok(Value::One(one)),
         Err(Unread::NoCommand) => parted(alloc, text),
-        read => read,
+        Err(Unread::NoMemory) => Err(Unread::NoMemory),
     }
-}
-
-/// A whole number as a value.
-fn number_value(number: u64) -> Result<Value, Unread>
-    ensures { Reads result (Some (values.One (scalars_of_values.Int (pos number)))) }
-{
-    Ok(Value::One(Scalar::Int(i128::from(number))))
 }
 
 /// The one value that a word of a line spells.
@@ -182,7 +161,7 @@ pub fn value(alloc: Global, text: &[u8]) -> Result<Value, Unread>
     ensures { Reads result (value_in handle_in text.now) }
 {
     match word_number(text) {
-        Some(number) => number_value(number),
+        Some(number) => Ok(Value::One(Scalar::Int(i128::from(number)))),
         None => other_value(alloc, text),
     }
 }

@@ -127,23 +127,6 @@ fn of_two(
     Ok(Command::Do { subject, verb })
 }
 
-/// A verb by its word and its values.
-fn by_values(
-    alloc: Global,
-    subject: u64,
-    word: Word,
-    arguments: &[&[u8]],
-) -> Result<Command, Unread>
-    ensures { Reads result (asked subject (verb_by_values handle_in word (map (λ word. word.now) arguments.now))) }
-{
-    match arguments {
-        [] => alone(subject, word),
-        [first] => of_one(alloc, subject, word, first),
-        [first, second] => of_two(alloc, subject, word, first, second),
-        _ => no_command(),
-    }
-}
-
 /// A property by its name.
 #[inline(never)]
 fn property_of(subject: u64, arguments: &[&[u8]]) -> Result<Command, Unread>
@@ -242,6 +225,11 @@ pub fn verb_of(
         Word::Compare => comparison_of(alloc, subject, arguments),
         Word::Init => init_of(alloc, subject, arguments),
         Word::Call => call_of(alloc, subject, arguments),
-        _ => by_values(alloc, subject, word, arguments),
+        _ => match arguments {
+            [] => alone(subject, word),
+            [first] => of_one(alloc, subject, word, first),
+            [first, second] => of_two(alloc, subject, word, first, second),
+            _ => no_command(),
+        },
     }
 }

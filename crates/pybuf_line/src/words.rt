@@ -60,25 +60,25 @@ pub fn is_word(text: &[u8], word: &str) -> bool
 fn word_of_three(text: &[u8]) -> Option<Word>
     ensures { result ≡ named_in written_word (words_of_length 3) text.now }
 {
-    if is_word(text, "new") {
+    if text == "new".as_bytes() {
         return Some(Word::New);
     }
-    if is_word(text, "get") {
+    if text == "get".as_bytes() {
         return Some(Word::Get);
     }
-    if is_word(text, "set") {
+    if text == "set".as_bytes() {
         return Some(Word::Set);
     }
-    if is_word(text, "len") {
+    if text == "len".as_bytes() {
         return Some(Word::Len);
     }
-    if is_word(text, "hex") {
+    if text == "hex".as_bytes() {
         return Some(Word::Hex);
     }
-    if is_word(text, "del") {
+    if text == "del".as_bytes() {
         return Some(Word::Del);
     }
-    if is_word(text, "pop") {
+    if text == "pop".as_bytes() {
         return Some(Word::Pop);
     }
     None
@@ -88,49 +88,49 @@ fn word_of_three(text: &[u8]) -> Option<Word>
 fn word_of_four(text: &[u8]) -> Option<Word>
     ensures { result ≡ named_in written_word (words_of_length 4) text.now }
 {
-    if is_word(text, "view") {
+    if text == "view".as_bytes() {
         return Some(Word::View);
     }
-    if is_word(text, "cast") {
+    if text == "cast".as_bytes() {
         return Some(Word::Cast);
     }
-    if is_word(text, "prop") {
+    if text == "prop".as_bytes() {
         return Some(Word::Property);
     }
-    if is_word(text, "exit") {
+    if text == "exit".as_bytes() {
         return Some(Word::Exit);
     }
-    if is_word(text, "hash") {
+    if text == "hash".as_bytes() {
         return Some(Word::Hash);
     }
-    if is_word(text, "repr") {
+    if text == "repr".as_bytes() {
         return Some(Word::Repr);
     }
-    if is_word(text, "iter") {
+    if text == "iter".as_bytes() {
         return Some(Word::Iter);
     }
-    if is_word(text, "next") {
+    if text == "next".as_bytes() {
         return Some(Word::Next);
     }
-    if is_word(text, "hint") {
+    if text == "hint".as_bytes() {
         return Some(Word::LengthHint);
     }
-    if is_word(text, "call") {
+    if text == "call".as_bytes() {
         return Some(Word::Call);
     }
-    if is_word(text, "iadd") {
+    if text == "iadd".as_bytes() {
         return Some(Word::IAdd);
     }
-    if is_word(text, "imul") {
+    if text == "imul".as_bytes() {
         return Some(Word::IMul);
     }
-    if is_word(text, "init") {
+    if text == "init".as_bytes() {
         return Some(Word::Init);
     }
-    if is_word(text, "take") {
+    if text == "take".as_bytes() {
         return Some(Word::Take);
     }
-    if is_word(text, "copy") {
+    if text == "copy".as_bytes() {
         return Some(Word::Copy);
     }
     None
@@ -140,16 +140,16 @@ fn word_of_four(text: &[u8]) -> Option<Word>
 fn word_of_five(text: &[u8]) -> Option<Word>
     ensures { result ≡ named_in written_word (words_of_length 5) text.now }
 {
-    if is_word(text, "bytes") {
+    if text == "bytes".as_bytes() {
         return Some(Word::ToBytes);
     }
-    if is_word(text, "range") {
+    if text == "range".as_bytes() {
         return Some(Word::Range);
     }
-    if is_word(text, "enter") {
+    if text == "enter".as_bytes() {
         return Some(Word::Enter);
     }
-    if is_word(text, "clear") {
+    if text == "clear".as_bytes() {
         return Some(Word::Clear);
     }
     None
@@ -159,22 +159,22 @@ fn word_of_five(text: &[u8]) -> Option<Word>
 fn word_of_six(text: &[u8]) -> Option<Word>
     ensures { result ≡ named_in written_word (words_of_length 6) text.now }
 {
-    if is_word(text, "contig") {
+    if text == "contig".as_bytes() {
         return Some(Word::ToContiguous);
     }
-    if is_word(text, "tolist") {
+    if text == "tolist".as_bytes() {
         return Some(Word::ToList);
     }
-    if is_word(text, "append") {
+    if text == "append".as_bytes() {
         return Some(Word::Append);
     }
-    if is_word(text, "extend") {
+    if text == "extend".as_bytes() {
         return Some(Word::Extend);
     }
-    if is_word(text, "insert") {
+    if text == "insert".as_bytes() {
         return Some(Word::Insert);
     }
-    if is_word(text, "remove") {
+    if text == "remove".as_bytes() {
         return Some(Word::Remove);
     }
     None
@@ -184,13 +184,13 @@ fn word_of_six(text: &[u8]) -> Option<Word>
 fn word_of_seven(text: &[u8]) -> Option<Word>
     ensures { result ≡ named_in written_word (words_of_length 7) text.now }
 {
-    if is_word(text, "release") {
+    if text == "release".as_bytes() {
         return Some(Word::Release);
     }
-    if is_word(text, "compare") {
+    if text == "compare".as_bytes() {
         return Some(Word::Compare);
     }
-    if is_word(text, "reverse") {
+    if text == "reverse".as_bytes() {
         return Some(Word::Reverse);
     }
     None
@@ -200,10 +200,10 @@ fn word_of_seven(text: &[u8]) -> Option<Word>
 fn word_of_eight(text: &[u8]) -> Option<Word>
     ensures { result ≡ named_in written_word (words_of_length 8) text.now }
 {
-    if is_word(text, "setstate") {
+    if text == "setstate".as_bytes() {
         return Some(Word::SetState);
     }
-    if is_word(text, "contains") {
+    if text == "contains".as_bytes() {
         return Some(Word::Contains);
     }
     None
@@ -213,7 +213,7 @@ fn word_of_eight(text: &[u8]) -> Option<Word>
 fn word_of_ten(text: &[u8]) -> Option<Word>
     ensures { result ≡ named_in written_word (words_of_length 10) text.now }
 {
-    if is_word(text, "toreadonly") {
+    if text == "toreadonly".as_bytes() {
         return Some(Word::ToReadonly);
     }
     None
@@ -239,16 +239,16 @@ pub fn first_word(text: &[u8]) -> Option<Word>
 pub fn kind_named(text: &[u8]) -> Option<ExporterKind>
     ensures { result ≡ kind_in text.now }
 {
-    if is_word(text, "bytes") {
+    if text == "bytes".as_bytes() {
         return Some(ExporterKind::Bytes);
     }
-    if is_word(text, "bytearray") {
+    if text == "bytearray".as_bytes() {
         return Some(ExporterKind::ByteArray);
     }
-    if is_word(text, "vector") {
+    if text == "vector".as_bytes() {
         return Some(ExporterKind::Vector { readonly: false });
     }
-    if is_word(text, "rovector") {
+    if text == "rovector".as_bytes() {
         return Some(ExporterKind::Vector { readonly: true });
     }
     None
@@ -258,22 +258,22 @@ pub fn kind_named(text: &[u8]) -> Option<ExporterKind>
 pub fn operator_named(text: &[u8]) -> Option<CompareOp>
     ensures { result ≡ operator_in text.now }
 {
-    if is_word(text, "==") {
+    if text == "==".as_bytes() {
         return Some(CompareOp::Eq);
     }
-    if is_word(text, "!=") {
+    if text == "!=".as_bytes() {
         return Some(CompareOp::Ne);
     }
-    if is_word(text, "<") {
+    if text == "<".as_bytes() {
         return Some(CompareOp::Lt);
     }
-    if is_word(text, "<=") {
+    if text == "<=".as_bytes() {
         return Some(CompareOp::Le);
     }
-    if is_word(text, ">") {
+    if text == ">".as_bytes() {
         return Some(CompareOp::Gt);
     }
-    if is_word(text, ">=") {
+    if text == ">=".as_bytes() {
         return Some(CompareOp::Ge);
     }
     None
@@ -284,43 +284,43 @@ pub fn operator_named(text: &[u8]) -> Option<CompareOp>
 pub fn property_named(text: &[u8]) -> Option<PropertyName>
     ensures { result ≡ property_in text.now }
 {
-    if is_word(text, "exports") {
+    if text == "exports".as_bytes() {
         return Some(PropertyName::Exports);
     }
-    if is_word(text, "obj") {
+    if text == "obj".as_bytes() {
         return Some(PropertyName::Obj);
     }
-    if is_word(text, "nbytes") {
+    if text == "nbytes".as_bytes() {
         return Some(PropertyName::Nbytes);
     }
-    if is_word(text, "readonly") {
+    if text == "readonly".as_bytes() {
         return Some(PropertyName::Readonly);
     }
-    if is_word(text, "itemsize") {
+    if text == "itemsize".as_bytes() {
         return Some(PropertyName::Itemsize);
     }
-    if is_word(text, "ndim") {
+    if text == "ndim".as_bytes() {
         return Some(PropertyName::Ndim);
     }
-    if is_word(text, "shape") {
+    if text == "shape".as_bytes() {
         return Some(PropertyName::Shape);
     }
-    if is_word(text, "strides") {
+    if text == "strides".as_bytes() {
         return Some(PropertyName::Strides);
     }
-    if is_word(text, "suboffsets") {
+    if text == "suboffsets".as_bytes() {
         return Some(PropertyName::Suboffsets);
     }
-    if is_word(text, "format") {
+    if text == "format".as_bytes() {
         return Some(PropertyName::Format);
     }
-    if is_word(text, "contiguous") {
+    if text == "contiguous".as_bytes() {
         return Some(PropertyName::Contiguous);
     }
-    if is_word(text, "c_contiguous") {
+    if text == "c_contiguous".as_bytes() {
         return Some(PropertyName::CContiguous);
     }
-    if is_word(text, "f_contiguous") {
+    if text == "f_contiguous".as_bytes() {
         return Some(PropertyName::FContiguous);
     }
     None

@@ -13,9 +13,9 @@ overflow_add-number c =
 pub loop-line-preserved : goal.loop-line-preserved
 loop-line-preserved c = record {
   commands = (
-    c.loop-line.invariant.commands.0 ++ c.in-Ok.ensures.0 ∷ [],
+    c.loop-line.invariant.commands.0 ++ c.in-Ok.command ∷ [],
     next_command (commands_in handle_in c.args.input.now) c.loop-line.invariant.commands.0 c.loop-line.number c.loop-line.rest.now c.in-Some.line.now
-        c.in-Some.after.now c.in-Ok.ensures.0 c.in-Some.ensures c.in-Ok.ensures.1 c.loop-line.invariant.commands.1,
+        c.in-Some.after.now c.in-Ok.command c.in-Some.ensures c.in-Ok.ensures c.loop-line.invariant.commands.1,
   );
   count = counted c.loop-line.number c.loop-line.rest.now c.in-Some.line.now c.in-Some.after.now c.args.input.now c.in-Some.ensures c.loop-line.invariant.count;
 }
