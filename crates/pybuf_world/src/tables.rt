@@ -310,7 +310,7 @@ impl Tables {
     }
 
     /// What a target does, with the loans by the world as it is.
-    fn work(&mut self, target: Target, verb: &Verb) -> Made<Reply>
+    fn step_of_target(&mut self, target: Target, verb: &Verb) -> Made<Reply>
         requires kept { IsKept self.old }
         ensures ok { IfOk result (λ r. spec.step_of_target (world_of_tables self.old) target verb.now ≡ (world_of_tables self.new, r)) }
         ensures err { OnErr result (world_of_tables self.new ≡ world_of_tables self.old) }
@@ -327,49 +327,6 @@ impl Tables {
         self.answer(target, reply)
     }
 
-    /// The same, where the handles of the exporters stay what they are.
-    fn step_of_target(&mut self, target: Target, verb: &Verb) -> Made<Reply>
-        requires { IsKept self.old }
-        ensures ok { IfOk result (λ r. spec.step_of_target (world_of_tables self.old) target verb.now ≡ (world_of_tables self.new, r)) }
-        ensures err { OnErr result (world_of_tables self.new ≡ world_of_tables self.old) }
-        ensures owned { AreOwners (world_of_tables self.new) self.new.owners.items }
-    {
-        commands_keep_sound();
-        fresh_replies_are_copies();
-        copies_are_faithful();
-        match self.work(target, verb) {
-            Ok(reply) => Ok(reply),
-            Err(NoMemory) => Err(NoMemory),
-        }
-    }
-
-    /// A command on what a handle names.
-    fn step_of_handle(&mut self, handle: u64, verb: &Verb) -> Made<Reply>
-        requires { IsKept self.old }
-        ensures ok { IfOk result (λ r. spec.step_of_handle (world_of_tables self.old) handle verb.now (slice_get (world_of_tables self.old).handles handle) ≡ (world_of_tables self.new, r)) }
-        ensures err { OnErr result (world_of_tables self.new ≡ world_of_tables self.old) }
-        ensures owned { AreOwners (world_of_tables self.new) self.new.owners.items }
-    {
-        let named = self.handles.get(handle as usize).copied();
-        match named {
-            Some(named) => self.step_of_target(named.target(handle), verb),
-            None => Ok(Reply::Refused(Fault::UnknownName)),
-        }
-    }
-
-    /// Carries out a command.
-    fn step_unchecked(&mut self, command: &Command) -> Made<Reply>
-        requires { IsKept self.old }
-        ensures ok { IfOk result (λ r. spec.wstep (world_of_tables self.old) command.now ≡ (world_of_tables self.new, r)) }
-        ensures err { OnErr result (world_of_tables self.new ≡ world_of_tables self.old) }
-        ensures owned { AreOwners (world_of_tables self.new) self.new.owners.items }
-    {
-        match command {
-            Command::New { kind, options } => self.make(*kind, options),
-            Command::Do { subject, verb } => self.step_of_handle(*subject, verb),
-        }
-    }
-
     /// Carries out a command, by which the world stays sound.
     pub fn step(&mut self, command: &Command) -> Made<Reply>
         requires { IsKept self.old }
@@ -380,9 +337,15 @@ impl Tables {
         commands_keep_sound();
         fresh_replies_are_copies();
         copies_are_faithful();
-        match self.step_unchecked(command) {
-            Ok(reply) => Ok(reply),
-            Err(NoMemory) => Err(NoMemory),
+        match command {
+            Command::New { kind, options } => self.make(*kind, options),
+            Command::Do { subject, verb } => {
+                let named = self.handles.get(*subject as usize).copied();
+                match named {
+                    Some(named) => self.step_of_target(named.target(*subject), verb),
+                    None => Ok(Reply::Refused(Fault::UnknownName)),
+                }
+            }
         }
     }
 
