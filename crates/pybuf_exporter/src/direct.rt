@@ -4,20 +4,21 @@ ghost use Rattle.std.specs.Prelude.{◌≡◌, true, false, IfOk, IfErr, OnOk, O
 ghost use Rattle.pybuf_value.specs.declared.faults.Fault.TheVariants as faults;
 ghost use Rattle.pybuf_command.specs.declared.commands.Verb.TheVariants as verbs;
 ghost use Rattle.pybuf_command.specs.declared.kinds.Subject.TheVariants as subjects;
+ghost use Rattle.pybuf_command.specs.Handles.{handle_of_value};
 ghost use Rattle.pybuf_state.specs.Fits.{LoansFit};
 ghost use Rattle.pybuf_state.specs.Exporter.{exports_of};
-ghost use Rattle.pybuf_state.specs.Loans.{are_named};
+ghost use Rattle.pybuf_state.specs.Loans.{are_named, lents_by};
 ghost use Rattle.pybuf_state.specs.Answers.{exporter_of, IsWhole, Answers};
 ghost use Rattle.pybuf_exporter.specs.Step as spec;
 
 use crate::closing::closed;
-use crate::pick;
 use pybuf_command::{
     LoanList, LocalReply, handles_in, handles_in_both, handles_in_option, handles_with_option,
 };
 use pybuf_rows_edits::{append as append_of_own, pop as pop_of_own};
 use pybuf_rows_reads::get;
-use pybuf_rows_views::{cast, release, view};
+use pybuf_rows_views::{cast, release, slice, view};
+use pybuf_rows_writes::{assign, set};
 use pybuf_state::{Names, Parts, are_known};
 use pybuf_value::{Fault, Halt, Made, Value};
 
@@ -31,6 +32,37 @@ fn check_known<N: Names>(parts: &Parts, names: &N, handles: &[u64]) -> Result<()
         return Err(Fault::UnknownName);
     }
     Ok(())
+}
+
+/// `get` of a view: a new view of the items that a slice picks, or the item that any other key names.
+fn row_of_get(parts: &mut Parts, view: usize, key: &Value) -> Result<LocalReply, Halt>
+    requires { IsWhole parts.old }
+    ensures answer { Answers (spec.get_of_view (exporter_of parts.old) view key.now) (exporter_of parts.old) result (exporter_of parts.new) }
+    ensures counted { parts.new.exports ≡ exports_of (exporter_of parts.new) }
+{
+    match key {
+        Value::Slice(slice) => slice::of_view(parts, view, slice),
+        _ => get::of_view(parts, view, key),
+    }
+}
+
+/// `set` of a view: items over those that a slice picks, or the item at an index.
+fn row_of_set<N: Names>(
+    parts: &mut Parts,
+    view: usize,
+    key: &Value,
+    value: &Value,
+    names: &N,
+) -> Result<LocalReply, Halt>
+    requires whole { IsWhole parts.old }
+    requires fit { N.fit names.now }
+    ensures answer { Answers (spec.set_through_view (exporter_of parts.old) view key.now value.now (lents_by (exporter_of parts.old) (N.named names.now) (handle_of_value value.now))) (exporter_of parts.old) result (exporter_of parts.new) }
+    ensures counted { parts.new.exports ≡ exports_of (exporter_of parts.new) }
+{
+    match key {
+        Value::Slice(slice) => assign::of_view(parts, view, slice, value, names),
+        _ => set::of_view(parts, view, key, value, names),
+    }
 }
 
 fn answered_view_of_own(parts: &mut Parts, _loans: &LoanList) -> Result<LocalReply, Halt>
@@ -131,7 +163,7 @@ fn answered_get_of_view(
 {
     let handles = handles_in(parts.alloc, key)?;
     check_known(parts, loans, handles.as_slice())?;
-    pick::get_of_view(parts, view, key)
+    row_of_get(parts, view, key)
 }
 
 /// The item of a view at a key, or a new view of those that a slice picks.
@@ -164,7 +196,7 @@ fn answered_set_through_view(
 {
     let handles = handles_in_both(parts.alloc, key, value)?;
     check_known(parts, loans, handles.as_slice())?;
-    pick::set_through_view(parts, view, key, value, loans)
+    row_of_set(parts, view, key, value, loans)
 }
 
 /// Writes the item of a view at a key, or items over those that a slice picks.

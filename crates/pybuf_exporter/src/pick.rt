@@ -1,7 +1,7 @@
 //! Which row a command has.
 ghost use Rattle.std.specs.Prelude.{◌≡◌, true};
 ghost use Rattle.pybuf_command.specs.declared.kinds.Subject.TheVariants as subjects;
-ghost use Rattle.pybuf_command.specs.Handles.{handle_of_value, handles_read};
+ghost use Rattle.pybuf_command.specs.Handles.{handles_read};
 ghost use Rattle.pybuf_state.specs.Exporter.{exports_of};
 ghost use Rattle.pybuf_state.specs.Loans.{lents_by};
 ghost use Rattle.pybuf_state.specs.Answers.{exporter_of, IsWhole, Answers};
@@ -17,37 +17,6 @@ use pybuf_rows_views::{cast, contiguous, enter, range, release, slice, to_readon
 use pybuf_rows_writes::{assign, set};
 use pybuf_state::{Names, Parts, are_known};
 use pybuf_value::{Fault, Halt, Value};
-
-/// `get` of a view: a new view of the items that a slice picks, or the item that any other key names.
-pub(crate) fn get_of_view(parts: &mut Parts, view: usize, key: &Value) -> Result<LocalReply, Halt>
-    requires { IsWhole parts.old }
-    ensures answer { Answers (spec.get_of_view (exporter_of parts.old) view key.now) (exporter_of parts.old) result (exporter_of parts.new) }
-    ensures counted { parts.new.exports ≡ exports_of (exporter_of parts.new) }
-{
-    match key {
-        Value::Slice(slice) => slice::of_view(parts, view, slice),
-        _ => get::of_view(parts, view, key),
-    }
-}
-
-/// `set` of a view: items over those that a slice picks, or the item at an index.
-pub(crate) fn set_through_view<N: Names>(
-    parts: &mut Parts,
-    view: usize,
-    key: &Value,
-    value: &Value,
-    names: &N,
-) -> Result<LocalReply, Halt>
-    requires whole { IsWhole parts.old }
-    requires fit { N.fit names.now }
-    ensures answer { Answers (spec.set_through_view (exporter_of parts.old) view key.now value.now (lents_by (exporter_of parts.old) (N.named names.now) (handle_of_value value.now))) (exporter_of parts.old) result (exporter_of parts.new) }
-    ensures counted { parts.new.exports ≡ exports_of (exporter_of parts.new) }
-{
-    match key {
-        Value::Slice(slice) => assign::of_view(parts, view, slice, value, names),
-        _ => set::of_view(parts, view, key, value, names),
-    }
-}
 
 /// The row of a verb on the exporter itself. Every further verb is an edit, or none that it has.
 fn row_of_own<N: Names>(parts: &mut Parts, verb: &Verb, names: &N) -> Result<LocalReply, Halt>
@@ -92,8 +61,15 @@ fn row_of_view<N: Names>(
 {
     match verb {
         Verb::View => view::of_view(parts, k),
-        Verb::Get { key } => get_of_view(parts, k, key),
-        Verb::Set { key, value } => set_through_view(parts, k, key, value, names),
+        Verb::Get {
+            key: Value::Slice(slice),
+        } => slice::of_view(parts, k, slice),
+        Verb::Get { key } => get::of_view(parts, k, key),
+        Verb::Set {
+            key: Value::Slice(slice),
+            value,
+        } => assign::of_view(parts, k, slice, value, names),
+        Verb::Set { key, value } => set::of_view(parts, k, key, value, names),
         Verb::Cast { format, shape } => cast::of_view(parts, k, format, shape),
         Verb::ToBytes => to_bytes::of_view(parts, k),
         Verb::Release => release::of_view(parts, k),
