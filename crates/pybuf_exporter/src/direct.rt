@@ -1,23 +1,69 @@
 //! Commands that are called very often, each with its values lent by themselves: no verb is made for it, none is
 //! looked at for its row, and none is dropped. Each is the command of its verb, and answers the same.
-ghost use Rattle.std.specs.Prelude.{◌≡◌, IfOk, OnErr};
+ghost use Rattle.std.specs.Prelude.{◌≡◌, true, false, IfOk, IfErr, OnOk, OnErr};
+ghost use Rattle.pybuf_value.specs.declared.faults.Fault.TheVariants as faults;
 ghost use Rattle.pybuf_command.specs.declared.commands.Verb.TheVariants as verbs;
 ghost use Rattle.pybuf_command.specs.declared.kinds.Subject.TheVariants as subjects;
+ghost use Rattle.pybuf_command.specs.Handles.{handle_of_value};
 ghost use Rattle.pybuf_state.specs.Fits.{LoansFit};
 ghost use Rattle.pybuf_state.specs.Exporter.{exports_of};
+ghost use Rattle.pybuf_state.specs.Loans.{are_named, lents_by};
 ghost use Rattle.pybuf_state.specs.Answers.{exporter_of, IsWhole, Answers};
 ghost use Rattle.pybuf_exporter.specs.Step as spec;
 
 use crate::closing::closed;
-use crate::pick;
 use pybuf_command::{
     LoanList, LocalReply, handles_in, handles_in_both, handles_in_option, handles_with_option,
 };
 use pybuf_rows_edits::{append as append_of_own, pop as pop_of_own};
 use pybuf_rows_reads::get;
-use pybuf_rows_views::{cast, release, view};
-use pybuf_state::Parts;
-use pybuf_value::{Halt, Made, Value};
+use pybuf_rows_views::{cast, release, slice, view};
+use pybuf_rows_writes::{assign, set};
+use pybuf_state::{Names, Parts, are_known};
+use pybuf_value::{Fault, Halt, Made, Value};
+
+/// Refuses a handle that names nothing, with `UnknownName`, before all else.
+fn check_known<N: Names>(parts: &Parts, names: &N, handles: &[u64]) -> Result<(), Fault>
+    ensures known { OnOk result (are_named (exporter_of parts.now) (N.named names.now) handles.now ≡ true) }
+    ensures unknown { OnErr result (are_named (exporter_of parts.now) (N.named names.now) handles.now ≡ false) }
+    ensures refused { IfErr result (λ fault. fault ≡ faults.UnknownName) }
+{
+    if !are_known(parts, names, handles) {
+        return Err(Fault::UnknownName);
+    }
+    Ok(())
+}
+
+/// `get` of a view: a new view of the items that a slice picks, or the item that any other key names.
+fn row_of_get(parts: &mut Parts, view: usize, key: &Value) -> Result<LocalReply, Halt>
+    requires { IsWhole parts.old }
+    ensures answer { Answers (spec.get_of_view (exporter_of parts.old) view key.now) (exporter_of parts.old) result (exporter_of parts.new) }
+    ensures counted { parts.new.exports ≡ exports_of (exporter_of parts.new) }
+{
+    match key {
+        Value::Slice(slice) => slice::of_view(parts, view, slice),
+        _ => get::of_view(parts, view, key),
+    }
+}
+
+/// `set` of a view: items over those that a slice picks, or the item at an index.
+fn row_of_set<N: Names>(
+    parts: &mut Parts,
+    view: usize,
+    key: &Value,
+    value: &Value,
+    names: &N,
+) -> Result<LocalReply, Halt>
+    requires whole { IsWhole parts.old }
+    requires fit { N.fit names.now }
+    ensures answer { Answers (spec.set_through_view (exporter_of parts.old) view key.now value.now (lents_by (exporter_of parts.old) (N.named names.now) (handle_of_value value.now))) (exporter_of parts.old) result (exporter_of parts.new) }
+    ensures counted { parts.new.exports ≡ exports_of (exporter_of parts.new) }
+{
+    match key {
+        Value::Slice(slice) => assign::of_view(parts, view, slice, value, names),
+        _ => set::of_view(parts, view, key, value, names),
+    }
+}
 
 fn answered_view_of_own(parts: &mut Parts, _loans: &LoanList) -> Result<LocalReply, Halt>
     requires { IsWhole parts.old }
@@ -90,7 +136,7 @@ fn answered_get_of_own(parts: &mut Parts, key: &Value, loans: &LoanList) -> Resu
     ensures counted { parts.new.exports ≡ exports_of (exporter_of parts.new) }
 {
     let handles = handles_in(parts.alloc, key)?;
-    pick::check_known(parts, loans, handles.as_slice())?;
+    check_known(parts, loans, handles.as_slice())?;
     get::of_own(parts, key)
 }
 
@@ -116,8 +162,8 @@ fn answered_get_of_view(
     ensures counted { parts.new.exports ≡ exports_of (exporter_of parts.new) }
 {
     let handles = handles_in(parts.alloc, key)?;
-    pick::check_known(parts, loans, handles.as_slice())?;
-    pick::get_of_view(parts, view, key)
+    check_known(parts, loans, handles.as_slice())?;
+    row_of_get(parts, view, key)
 }
 
 /// The item of a view at a key, or a new view of those that a slice picks.
@@ -149,8 +195,8 @@ fn answered_set_through_view(
     ensures counted { parts.new.exports ≡ exports_of (exporter_of parts.new) }
 {
     let handles = handles_in_both(parts.alloc, key, value)?;
-    pick::check_known(parts, loans, handles.as_slice())?;
-    pick::set_through_view(parts, view, key, value, loans)
+    check_known(parts, loans, handles.as_slice())?;
+    row_of_set(parts, view, key, value, loans)
 }
 
 /// Writes the item of a view at a key, or items over those that a slice picks.
@@ -183,7 +229,7 @@ fn answered_cast_of_view(
     ensures counted { parts.new.exports ≡ exports_of (exporter_of parts.new) }
 {
     let handles = handles_with_option(parts.alloc, format, shape)?;
-    pick::check_known(parts, loans, handles.as_slice())?;
+    check_known(parts, loans, handles.as_slice())?;
     cast::of_view(parts, view, format, shape)
 }
 
@@ -210,7 +256,7 @@ fn answered_append(parts: &mut Parts, value: &Value, loans: &LoanList) -> Result
     ensures counted { parts.new.exports ≡ exports_of (exporter_of parts.new) }
 {
     let handles = handles_in(parts.alloc, value)?;
-    pick::check_known(parts, loans, handles.as_slice())?;
+    check_known(parts, loans, handles.as_slice())?;
     append_of_own(parts, value)
 }
 
@@ -235,7 +281,7 @@ fn answered_pop(
     ensures counted { parts.new.exports ≡ exports_of (exporter_of parts.new) }
 {
     let handles = handles_in_option(parts.alloc, index)?;
-    pick::check_known(parts, loans, handles.as_slice())?;
+    check_known(parts, loans, handles.as_slice())?;
     pop_of_own(parts, index)
 }
 

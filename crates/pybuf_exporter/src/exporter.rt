@@ -1,6 +1,7 @@
 //! One exporter with its views and iterators.
 ghost use Rattle.std.specs.Prelude.{◌≡◌, ◌<◌, ◌↔◌, [], Some, IfOk, IfSome, IsSome, IsSomeAnd, IsOk, IfErr, OnErr, MatchResult, MatchOption, true, false, length, slice_get};
 
+use crate::closing::closed;
 use crate::{direct, pick};
 use pybuf_command::{ExporterKind, LoanList, LocalCommand, LocalReply, Subject, Verb};
 use pybuf_desc::BufferDescriptor;
@@ -110,7 +111,8 @@ impl ExporterState {
         ensures err { OnErr result (self.new ≡ self.old) }
         ensures was_sound { IsSoundExporter self.old }
     {
-        pick::carry_out(&mut self.parts, subject, verb, names)
+        crate::laws::steps_keep_sound();
+        closed(pick::answer(&mut self.parts, subject, verb, names))
     }
 
     // The commands that are called very often follow, each with its values lent by themselves: no verb is made for

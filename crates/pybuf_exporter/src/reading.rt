@@ -1,38 +1,16 @@
 //! Commands that read what the handles among their values name, each from where it lies.
-ghost use Rattle.std.specs.Prelude.{◌≡◌, List, true};
+ghost use Rattle.std.specs.Prelude.{◌≡◌, true};
 ghost use Rattle.pybuf_command.specs.Handles.{handles_read};
-ghost use Rattle.pybuf_state.specs.Loans.{Lent, lents_by, snaps_of};
+ghost use Rattle.pybuf_state.specs.Loans.{lents_by};
 ghost use Rattle.pybuf_state.specs.Answers.{exporter_of, IsWhole, Reads};
 ghost use Rattle.pybuf_exporter.specs.Step as spec;
 
 use pybuf_command::{LocalReply, Subject, Verb, handles_read};
-use pybuf_methods::Contents;
 use pybuf_rows_methods::{Reading, call, contains, hex};
 use pybuf_state::{Names, Parts};
 use pybuf_value::{Fault, Halt};
 
-/// The row of such a command.
-fn row_by<C: Contents>(
-    parts: &Parts,
-    subject: Subject,
-    verb: &Verb,
-    contents: &C,
-) -> Result<LocalReply, Halt>
-    requires whole { IsWhole parts.now }
-    requires reads { spec.reads_in_place subject verb.now ≡ true }
-    ensures { (lents : List Lent) → snaps_of lents ≡ C.pairs contents.now → Reads (spec.row (exporter_of parts.now) subject verb.now lents) (exporter_of parts.now) result }
-{
-    match (subject, verb) {
-        (Subject::Own, Verb::Contains { value }) => contains::of_own(parts, value, contents),
-        (Subject::Own, Verb::Call { method }) => call::of_own(parts, method, contents),
-        (Subject::View(view), Verb::Hex { sep, group }) => {
-            hex::of_view(parts, view, sep, group, contents)
-        }
-        _ => Err(Halt::Refused(Fault::UnknownName)),
-    }
-}
-
-/// The same by what its handles name.
+/// The row of such a command, by what its handles name.
 pub fn row_in_place<N: Names>(
     parts: &Parts,
     subject: Subject,
@@ -46,5 +24,12 @@ pub fn row_in_place<N: Names>(
 {
     let handles = handles_read(parts.alloc, subject, verb)?;
     let contents = Reading::new(parts, names, handles.as_slice());
-    row_by(parts, subject, verb, &contents)
+    match (subject, verb) {
+        (Subject::Own, Verb::Contains { value }) => contains::of_own(parts, value, &contents),
+        (Subject::Own, Verb::Call { method }) => call::of_own(parts, method, &contents),
+        (Subject::View(view), Verb::Hex { sep, group }) => {
+            hex::of_view(parts, view, sep, group, &contents)
+        }
+        _ => Err(Halt::Refused(Fault::UnknownName)),
+    }
 }

@@ -1,6 +1,6 @@
 -- Every world after a command is sound, and the handles that the tables keep for the exporters stay theirs.
 use Rattle.std.proofs.Common.{◌≡◌, ℕ, ◌+◌, ◌<◌, Bool, true, false, List, [], ◌∷◌, ◌++◌, length, take, set, ap, sym, ◌∙◌, refl, subst, arith}
-use Rattle.std.specs.Prelude.{Option, Some, None, Result, Ok, Err, slice_get, if◌then◌else◌}
+use Rattle.std.specs.Prelude.{Option, Some, None, Result, Ok, Err, IfOk, OnErr, slice_get, if◌then◌else◌}
 use Rattle.std.proofs.lemmas.Option.{slice_get_within}
 use Rattle.std.proofs.lemmas.List.{length-append, length-set}
 use Rattle.std.proofs.lemmas.List.Elements.{All-push, All-set, All-nil}
@@ -89,7 +89,7 @@ if_given_sound : (w : World) (given : Bool) (after : World × Reply) → IsSound
 if_given_sound w true after sound sound_after = sound_after
 if_given_sound w false after sound sound_after = sound
 
-step_of_new_sound : (w : World) (k : ExporterKind) (options : ByteInnerNewOptions) → IsSoundWorld w → IsSoundWorld (step_of_new w k options).0
+pub step_of_new_sound : (w : World) (k : ExporterKind) (options : ByteInnerNewOptions) → IsSoundWorld w → IsSoundWorld (step_of_new w k options).0
 step_of_new_sound w k options sound =
     let bytes = bytes_of_new w options in
     if_given_sound w (are_given w (handles_of_options options)) (world_with_bytes w k bytes) sound (with_bytes_sound w k bytes sound)
@@ -242,7 +242,7 @@ fresh_by_reply laws e t v loans (local.Refused f) sound is = tt
 fresh_sound : ExporterLaws → (e : Exporter) (t : Target) (v : Verb) (loans : List (ℕ × Loan)) → IsSoundExporter e → IsSoundFresh (estep e t.subject v loans).0 t (estep e t.subject v loans).1
 fresh_sound laws e t v loans sound = fresh_by_reply laws e t v loans (estep e t.subject v loans).1 sound refl
 
-loans_sound : ExporterLaws → (w : World) (t : Target) (v : Verb) (loans : List (ℕ × Loan)) (o : Option Exporter) → slice_get w.exporters t.exporter ≡ o → IsSoundWorld w → IsSoundWorld (step_with_loans w t v loans o).0
+pub loans_sound : ExporterLaws → (w : World) (t : Target) (v : Verb) (loans : List (ℕ × Loan)) (o : Option Exporter) → slice_get w.exporters t.exporter ≡ o → IsSoundWorld w → IsSoundWorld (step_with_loans w t v loans o).0
 loans_sound laws w t v loans (Some e) at sound =
     let sound_e = All-slice_get IsSoundExporter w.exporters t.exporter e sound.exporters_are_sound at in
     after_sound w t (estep e t.subject v loans).0 (estep e t.subject v loans).1 sound (slice_get_within w.exporters t.exporter e at) (laws.keeps e t.subject v loans sound_e) (fresh_sound laws e t v loans sound_e)
@@ -275,15 +275,23 @@ all_sound keeps w (c ∷ cs) sound = all_sound keeps (wstep w c).0 cs (wstep_sou
 pub stays_sound : ExporterLaws → (w : World) (cs : List Command) → IsSoundWorld w → StaysSound w cs
 stays_sound keeps w cs sound k = all_sound keeps w (take k cs) sound
 
-pub sound_after_step : ExporterLaws → (w after : World) (c : Command) (r : Reply) → wstep w c ≡ (after, r) → IsSoundWorld w → IsSoundWorld after
-sound_after_step keeps w after c r is sound = subst IsSoundWorld (ap (λ (p : World × Reply). p.0) is) (wstep_sound keeps w c sound)
+-- ---- where memory runs out
 
-pub owned_after_loans : ExporterLaws → (w after : World) (t : Target) (v : Verb) (loans : List (ℕ × Loan)) (r : Reply) (owners later : List ℕ)
-    → step_with_loans w t v loans (slice_get w.exporters t.exporter) ≡ (after, r) → later ≡ owners_after owners (length w.handles) (local_step w t v loans (slice_get w.exporters t.exporter)).1 → IsSoundWorld w → AreOwners w owners → AreOwners after later
-owned_after_loans laws w after t v loans r owners later is same sound owned =
-    subst (AreOwners after) (sym same)
+-- nothing has changed there, so what is reached is sound in either case
+pub sound_in_either : {E : Type 0} → (w after : World) (stepped : World × Reply) (r : Result Reply E) → IfOk r (λ reply. stepped ≡ (after, reply)) → OnErr r (after ≡ w) → IsSoundWorld w → IsSoundWorld stepped.0 → IsSoundWorld after
+sound_in_either w after stepped (Ok reply) is same sound sound_after = subst IsSoundWorld (ap (λ (p : World × Reply). p.0) is) sound_after
+sound_in_either w after stepped (Err e) is same sound sound_after = subst IsSoundWorld (sym same) sound
+
+-- and so are the handles of the exporters theirs
+pub owned_after_loans : {E : Type 0} → ExporterLaws → (w after : World) (t : Target) (v : Verb) (loans : List (ℕ × Loan)) (r : Result Reply E) (owners later : List ℕ)
+    → IfOk r (λ reply. step_with_loans w t v loans (slice_get w.exporters t.exporter) ≡ (after, reply)) → OnErr r (after ≡ w)
+    → IfOk r (λ _. later ≡ owners_after owners (length w.handles) (local_step w t v loans (slice_get w.exporters t.exporter)).1) → OnErr r (later ≡ owners)
+    → IsSoundWorld w → AreOwners w owners → AreOwners after later
+owned_after_loans laws w after t v loans (Ok reply) owners later is same stepped kept sound owned =
+    subst (AreOwners after) (sym stepped)
     (subst (λ (x : World × Reply). AreOwners x.0 (owners_after owners (length w.handles) (local_step w t v loans (slice_get w.exporters t.exporter)).1)) is
     (loans_owned laws w t v loans (slice_get w.exporters t.exporter) owners refl sound owned))
+owned_after_loans laws w after t v loans (Err e) owners later is same stepped kept sound owned = subst (AreOwners after) (sym kept) (subst (λ (x : World). AreOwners x owners) (sym same) owned)
 
 -- ---- releasing
 

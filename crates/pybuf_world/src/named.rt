@@ -58,10 +58,22 @@ impl Named {
     pub fn target(self, handle: u64) -> Target
         ensures { result ≡ spec.target_of handle self }
     {
-        Target {
-            handle,
-            exporter: self.exporter(),
-            subject: self.subject(),
+        match self {
+            Named::Exporter(exporter) => Target {
+                handle,
+                exporter,
+                subject: Subject::Own,
+            },
+            Named::View { exporter, view } => Target {
+                handle,
+                exporter,
+                subject: Subject::View(view),
+            },
+            Named::Iterator { exporter, iterator } => Target {
+                handle,
+                exporter,
+                subject: Subject::Iter(iterator),
+            },
         }
     }
 }

@@ -62,13 +62,6 @@ fn bytes_without_handles(alloc: Global, options: &ByteInnerNewOptions) -> Tried<
     }
 }
 
-/// The handle of an exporter.
-fn owner_in(owners: &[u64], exporter: usize) -> u64
-    ensures { result ≡ slice_index owners.now exporter }
-{
-    owners.get(exporter).copied().unwrap_or(0)
-}
-
 /// Whether what is made of a copy has a view.
 fn has_view(kind: SnapKind) -> bool
     ensures { result ≡ has_view kind }
@@ -251,15 +244,6 @@ impl Tables {
         answer
     }
 
-    /// The handle of an exporter.
-    fn owner_of(&self, exporter: usize) -> u64
-        requires kept { IsKept self.now }
-        requires there { exporter < length (world_of_tables self.now).exporters }
-        ensures { result ≡ spec.handle_of (world_of_tables self.now) exporter }
-    {
-        owner_in(self.owners.as_slice(), exporter)
-    }
-
     /// An exporter that is made of the copy of a subject, and the handles of it and of its view, where
     /// it has one.
     fn add_copy(&mut self, exporter: usize, subject: Subject, copy: Snap) -> Made<Reply>
@@ -283,9 +267,9 @@ impl Tables {
     /// What is replied to a target whose exporter has stepped: a new view or iterator is given a handle,
     /// and a new exporter one for itself and one for its view, where it has one. Only where an exporter is made may
     /// memory run out.
-    fn answer(&mut self, target: Target, owner: u64, reply: LocalReply) -> Made<Reply>
+    fn answer(&mut self, target: Target, reply: LocalReply) -> Made<Reply>
         requires room { vec_len self.old.handles < vec_capacity self.old.handles }
-        requires owner { owner ≡ spec.handle_of (world_of_tables self.old) target.exporter }
+        requires owner { slice_index self.old.owners.items target.exporter ≡ spec.handle_of (world_of_tables self.old) target.exporter }
         requires copy { IfFresh reply (IsCopyAt (slice_get (world_of_tables self.old).exporters target.exporter) target.subject) }
         ensures ok { IfOk result (λ r. answered (world_of_tables self.old) target reply ≡ (world_of_tables self.new, r)) }
         ensures err { OnErr result (world_of_tables self.new ≡ world_of_tables self.old) }
@@ -294,7 +278,7 @@ impl Tables {
         ensures owners_kept { OnErr result (self.new.owners.items ≡ self.old.owners.items) }
     {
         let exporter = target.exporter;
-        let handle = self.next_handle();
+        let handle = self.handles.len() as u64;
         match reply {
             LocalReply::Ok => Ok(Reply::Ok),
             LocalReply::View(view) => {
@@ -306,7 +290,10 @@ impl Tables {
                 Ok(Reply::Handle(handle))
             }
             LocalReply::Itself => Ok(Reply::Handle(target.handle)),
-            LocalReply::Own => Ok(Reply::Handle(owner)),
+            LocalReply::Own => {
+                let owner = self.owners.get(exporter).copied().unwrap_or(0);
+                Ok(Reply::Handle(owner))
+            }
             LocalReply::Item(item) => Ok(Reply::Item(item)),
             LocalReply::Items { shape, items } => Ok(Reply::Items { shape, items }),
             LocalReply::Bytes(bytes) => Ok(Reply::Bytes(bytes)),
@@ -323,7 +310,7 @@ impl Tables {
     }
 
     /// What a target does, with the loans by the world as it is.
-    fn work(&mut self, target: Target, verb: &Verb) -> Made<Reply>
+    fn step_of_target(&mut self, target: Target, verb: &Verb) -> Made<Reply>
         requires kept { IsKept self.old }
         ensures ok { IfOk result (λ r. spec.step_of_target (world_of_tables self.old) target verb.now ≡ (world_of_tables self.new, r)) }
         ensures err { OnErr result (world_of_tables self.new ≡ world_of_tables self.old) }
@@ -335,53 +322,9 @@ impl Tables {
         if exporter >= self.exporters.len() {
             return Ok(Reply::Refused(Fault::UnknownName));
         }
-        let owner = self.owner_of(exporter);
         self.handles.reserve(1)?;
         let reply = self.local_step(target, verb)?;
-        self.answer(target, owner, reply)
-    }
-
-    /// The same, where the handles of the exporters stay what they are.
-    fn step_of_target(&mut self, target: Target, verb: &Verb) -> Made<Reply>
-        requires { IsKept self.old }
-        ensures ok { IfOk result (λ r. spec.step_of_target (world_of_tables self.old) target verb.now ≡ (world_of_tables self.new, r)) }
-        ensures err { OnErr result (world_of_tables self.new ≡ world_of_tables self.old) }
-        ensures owned { AreOwners (world_of_tables self.new) self.new.owners.items }
-    {
-        commands_keep_sound();
-        fresh_replies_are_copies();
-        copies_are_faithful();
-        match self.work(target, verb) {
-            Ok(reply) => Ok(reply),
-            Err(NoMemory) => Err(NoMemory),
-        }
-    }
-
-    /// A command on what a handle names.
-    fn step_of_handle(&mut self, handle: u64, verb: &Verb) -> Made<Reply>
-        requires { IsKept self.old }
-        ensures ok { IfOk result (λ r. spec.step_of_handle (world_of_tables self.old) handle verb.now (slice_get (world_of_tables self.old).handles handle) ≡ (world_of_tables self.new, r)) }
-        ensures err { OnErr result (world_of_tables self.new ≡ world_of_tables self.old) }
-        ensures owned { AreOwners (world_of_tables self.new) self.new.owners.items }
-    {
-        let named = self.handles.get(handle as usize).copied();
-        match named {
-            Some(named) => self.step_of_target(named.target(handle), verb),
-            None => Ok(Reply::Refused(Fault::UnknownName)),
-        }
-    }
-
-    /// Carries out a command.
-    fn step_unchecked(&mut self, command: &Command) -> Made<Reply>
-        requires { IsKept self.old }
-        ensures ok { IfOk result (λ r. spec.wstep (world_of_tables self.old) command.now ≡ (world_of_tables self.new, r)) }
-        ensures err { OnErr result (world_of_tables self.new ≡ world_of_tables self.old) }
-        ensures owned { AreOwners (world_of_tables self.new) self.new.owners.items }
-    {
-        match command {
-            Command::New { kind, options } => self.make(*kind, options),
-            Command::Do { subject, verb } => self.step_of_handle(*subject, verb),
-        }
+        self.answer(target, reply)
     }
 
     /// Carries out a command, by which the world stays sound.
@@ -394,9 +337,15 @@ impl Tables {
         commands_keep_sound();
         fresh_replies_are_copies();
         copies_are_faithful();
-        match self.step_unchecked(command) {
-            Ok(reply) => Ok(reply),
-            Err(NoMemory) => Err(NoMemory),
+        match command {
+            Command::New { kind, options } => self.make(*kind, options),
+            Command::Do { subject, verb } => {
+                let named = self.handles.get(*subject as usize).copied();
+                match named {
+                    Some(named) => self.step_of_target(named.target(*subject), verb),
+                    None => Ok(Reply::Refused(Fault::UnknownName)),
+                }
+            }
         }
     }
 

@@ -1,8 +1,31 @@
-use Rattle.pybuf_world.proofs.Sound.{sound_after_step}
+use Rattle.std.proofs.Common.{ℕ, List, refl}
+use Rattle.std.specs.Prelude.{slice_get}
+use Rattle.pybuf_command.specs.declared.loans.Loan.{Loan}
+use Rattle.pybuf_world.specs.Tables.{world_of_tables}
+use Rattle.pybuf_world.specs.World.{World, step_of_new, loans_of, step_of_target}
+use Rattle.pybuf_world.proofs.Sound.{ExporterLaws, step_of_new_sound, loans_sound, sound_in_either, owned_after_loans}
 use Rattle.pybuf_world.proofs.tables.Tables.step.Goals as goal
 
-pub returns-in-Ok-clause-kept : goal.returns-in-Ok-clause-kept
-returns-in-Ok-clause-kept c = record {
-  sound = sound_after_step (record { keeps = c.commands_keep_sound.ensures; copies = c.fresh_replies_are_copies.ensures; faithful = c.copies_are_faithful.ensures }) _ _ c.args.command.now _ c.in-Ok.ensures.ok c.requires.sound;
-  owned = c.in-Ok.ensures.owned;
-}
+pub returns-in-New-clause-kept : goal.returns-in-New-clause-kept
+returns-in-New-clause-kept c =
+    let w : World = world_of_tables c.args.self.now in
+    record {
+      sound = sound_in_either w (world_of_tables c.make.new.self) (step_of_new w c.in-New.kind c.in-New.options) c.make.result c.make.ensures.ok c.make.ensures.err c.requires.sound
+          (step_of_new_sound w c.in-New.kind c.in-New.options c.requires.sound);
+      owned = c.make.ensures.owned;
+    }
+
+pub returns-in-Some-clause-kept : goal.returns-in-Some-clause-kept
+returns-in-Some-clause-kept c =
+    let w : World = world_of_tables c.args.self.now in
+    let t = c.target.result in
+    let v = c.in-Do.verb in
+    let after : World = world_of_tables c.step_of_target.new.self in
+    let loans : List (ℕ × Loan) = loans_of w t.exporter v in
+    let laws : ExporterLaws = record { keeps = c.commands_keep_sound.ensures; copies = c.fresh_replies_are_copies.ensures; faithful = c.copies_are_faithful.ensures } in
+    record {
+      sound = sound_in_either w after (step_of_target w t v) c.step_of_target.result c.step_of_target.ensures.ok c.step_of_target.ensures.err c.requires.sound
+          (loans_sound laws w t v loans (slice_get w.exporters t.exporter) refl c.requires.sound);
+      owned = owned_after_loans laws w after t v loans c.step_of_target.result _ _ c.step_of_target.ensures.ok c.step_of_target.ensures.err c.step_of_target.ensures.owners c.step_of_target.ensures.owners_kept
+          c.requires.sound c.requires.owned;
+    }

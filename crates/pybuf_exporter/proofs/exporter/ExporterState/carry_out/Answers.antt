@@ -1,0 +1,14 @@
+use Rattle.pybuf_state.specs.Answers.{exporter_of}
+use Rattle.pybuf_exporter.specs.Step.{answer_by}
+use Rattle.pybuf_exporter.proofs.Every.{closes_sound}
+use Rattle.pybuf_exporter.proofs.exporter.ExporterState.carry_out.Goals as goal
+
+pub invariant_of-self : goal.invariant_of-self
+invariant_of-self g c =
+    let e = exporter_of c.self.inside.parts in
+    let named = g.N.Names.named c.args.names.now in
+    record {
+      counted = c.answer.ensures.counted;
+      sound = closes_sound e (exporter_of c.answer.new.parts) c.answer.result (answer_by e c.args.subject c.args.verb.now named) c.answer.ensures.answer c.self.invariant.sound
+          (c.steps_keep_sound.ensures e c.args.subject c.args.verb.now named c.self.invariant.sound);
+    }
