@@ -2,6 +2,7 @@
 ghost use Rattle.std.specs.Prelude.{◌≡◌};
 ghost use Rattle.pybuf_line.specs.Methods.{search_or_cut_in, method_in};
 
+use crate::words::is_word;
 use pybuf_command::MethodName;
 
 /// The method that a text names.
@@ -9,88 +10,88 @@ use pybuf_command::MethodName;
 pub fn method_named(text: &[u8]) -> Option<MethodName>
     ensures { result ≡ method_in text.now }
 {
-    if text == "add".as_bytes() {
+    if is_word(text, "add") {
         return Some(MethodName::Add);
     }
-    if text == "concat".as_bytes() {
+    if is_word(text, "concat") {
         return Some(MethodName::Concat);
     }
-    if text == "mul".as_bytes() {
+    if is_word(text, "mul") {
         return Some(MethodName::Mul);
     }
-    if text == "isalnum".as_bytes() {
+    if is_word(text, "isalnum") {
         return Some(MethodName::IsAlnum);
     }
-    if text == "isalpha".as_bytes() {
+    if is_word(text, "isalpha") {
         return Some(MethodName::IsAlpha);
     }
-    if text == "isascii".as_bytes() {
+    if is_word(text, "isascii") {
         return Some(MethodName::IsAscii);
     }
-    if text == "isdigit".as_bytes() {
+    if is_word(text, "isdigit") {
         return Some(MethodName::IsDigit);
     }
-    if text == "islower".as_bytes() {
+    if is_word(text, "islower") {
         return Some(MethodName::IsLower);
     }
-    if text == "isspace".as_bytes() {
+    if is_word(text, "isspace") {
         return Some(MethodName::IsSpace);
     }
-    if text == "istitle".as_bytes() {
+    if is_word(text, "istitle") {
         return Some(MethodName::IsTitle);
     }
-    if text == "isupper".as_bytes() {
+    if is_word(text, "isupper") {
         return Some(MethodName::IsUpper);
     }
-    if text == "lower".as_bytes() {
+    if is_word(text, "lower") {
         return Some(MethodName::Lower);
     }
-    if text == "upper".as_bytes() {
+    if is_word(text, "upper") {
         return Some(MethodName::Upper);
     }
-    if text == "swapcase".as_bytes() {
+    if is_word(text, "swapcase") {
         return Some(MethodName::SwapCase);
     }
-    if text == "capitalize".as_bytes() {
+    if is_word(text, "capitalize") {
         return Some(MethodName::Capitalize);
     }
-    if text == "title".as_bytes() {
+    if is_word(text, "title") {
         return Some(MethodName::Title);
     }
-    if text == "hex".as_bytes() {
+    if is_word(text, "hex") {
         return Some(MethodName::Hex);
     }
-    if text == "fromhex".as_bytes() {
+    if is_word(text, "fromhex") {
         return Some(MethodName::FromHex);
     }
-    if text == "center".as_bytes() {
+    if is_word(text, "center") {
         return Some(MethodName::Center);
     }
-    if text == "ljust".as_bytes() {
+    if is_word(text, "ljust") {
         return Some(MethodName::LJust);
     }
-    if text == "rjust".as_bytes() {
+    if is_word(text, "rjust") {
         return Some(MethodName::RJust);
     }
-    if text == "join".as_bytes() {
+    if is_word(text, "join") {
         return Some(MethodName::Join);
     }
-    if text == "maketrans".as_bytes() {
+    if is_word(text, "maketrans") {
         return Some(MethodName::MakeTrans);
     }
-    if text == "translate".as_bytes() {
+    if is_word(text, "translate") {
         return Some(MethodName::Translate);
     }
-    if text == "expandtabs".as_bytes() {
+    if is_word(text, "expandtabs") {
         return Some(MethodName::ExpandTabs);
     }
-    if text == "zfill".as_bytes() {
+    if is_word(text, "zfill") {
         return Some(MethodName::ZFill);
     }
-    if text == "replace".as_bytes() {
+    if is_word(text, "replace") {
         return Some(MethodName::Replace);
     }
-    if text == "decode".as_bytes() {
+    if is_word(text, "decode") {
         return Some(MethodName::Decode);
     }
     search_or_cut_named(text)
@@ -101,55 +102,55 @@ pub fn method_named(text: &[u8]) -> Option<MethodName>
 fn search_or_cut_named(text: &[u8]) -> Option<MethodName>
     ensures { result ≡ search_or_cut_in text.now }
 {
-    if text == "find".as_bytes() {
+    if is_word(text, "find") {
         return Some(MethodName::Find);
     }
-    if text == "rfind".as_bytes() {
+    if is_word(text, "rfind") {
         return Some(MethodName::RFind);
     }
-    if text == "index".as_bytes() {
+    if is_word(text, "index") {
         return Some(MethodName::Index);
     }
-    if text == "rindex".as_bytes() {
+    if is_word(text, "rindex") {
         return Some(MethodName::RIndex);
     }
-    if text == "count".as_bytes() {
+    if is_word(text, "count") {
         return Some(MethodName::Count);
     }
-    if text == "startswith".as_bytes() {
+    if is_word(text, "startswith") {
         return Some(MethodName::StartsWith);
     }
-    if text == "endswith".as_bytes() {
+    if is_word(text, "endswith") {
         return Some(MethodName::EndsWith);
     }
-    if text == "strip".as_bytes() {
+    if is_word(text, "strip") {
         return Some(MethodName::Strip);
     }
-    if text == "lstrip".as_bytes() {
+    if is_word(text, "lstrip") {
         return Some(MethodName::LStrip);
     }
-    if text == "rstrip".as_bytes() {
+    if is_word(text, "rstrip") {
         return Some(MethodName::RStrip);
     }
-    if text == "removeprefix".as_bytes() {
+    if is_word(text, "removeprefix") {
         return Some(MethodName::RemovePrefix);
     }
-    if text == "removesuffix".as_bytes() {
+    if is_word(text, "removesuffix") {
         return Some(MethodName::RemoveSuffix);
     }
-    if text == "split".as_bytes() {
+    if is_word(text, "split") {
         return Some(MethodName::Split);
     }
-    if text == "rsplit".as_bytes() {
+    if is_word(text, "rsplit") {
         return Some(MethodName::RSplit);
     }
-    if text == "partition".as_bytes() {
+    if is_word(text, "partition") {
         return Some(MethodName::Partition);
     }
-    if text == "rpartition".as_bytes() {
+    if is_word(text, "rpartition") {
         return Some(MethodName::RPartition);
     }
-    if text == "splitlines".as_bytes() {
+    if is_word(text, "splitlines") {
         return Some(MethodName::SplitLines);
     }
     None

@@ -5,6 +5,7 @@ ghost use Rattle.pybuf_line.specs.Scalars.{constant_in, number_below, handle_in,
 ghost use Rattle.pybuf_line.specs.Reading.{Reads};
 
 use crate::unread::Unread;
+use crate::words::is_word;
 use hex::FromHexError;
 use pybuf_value::{ByteList, Scalar, Text};
 use std::alloc::Global;
@@ -14,16 +15,16 @@ use std::alloc::Global;
 fn name(text: &[u8]) -> Result<Scalar, Unread>
     ensures { Reads result (constant_in text.now) }
 {
-    if text == "None".as_bytes() {
+    if is_word(text, "None") {
         return Ok(Scalar::None);
     }
-    if text == "True".as_bytes() {
+    if is_word(text, "True") {
         return Ok(Scalar::Bool(true));
     }
-    if text == "False".as_bytes() {
+    if is_word(text, "False") {
         return Ok(Scalar::Bool(false));
     }
-    if text == "...".as_bytes() {
+    if is_word(text, "...") {
         return Ok(Scalar::Ellipsis);
     }
     Err(Unread::NoCommand)

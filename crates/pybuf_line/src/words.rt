@@ -1,4 +1,5 @@
-//! The first words of lines, and the names that stand on them.
+//! The first words of lines, and the names that stand on them. Each line has a first word, so the tests for
+//! these are written out; the other names are compared by `is_word`.
 ghost use Rattle.std.specs.Prelude.{◌≡◌};
 ghost use Rattle.std.specs.Str.{bytes_eq};
 ghost use Rattle.pybuf_line.specs.Words.{named_in, written_word, words_of_length, word_in, kind_in, operator_in, property_in};
@@ -239,16 +240,16 @@ pub fn first_word(text: &[u8]) -> Option<Word>
 pub fn kind_named(text: &[u8]) -> Option<ExporterKind>
     ensures { result ≡ kind_in text.now }
 {
-    if text == "bytes".as_bytes() {
+    if is_word(text, "bytes") {
         return Some(ExporterKind::Bytes);
     }
-    if text == "bytearray".as_bytes() {
+    if is_word(text, "bytearray") {
         return Some(ExporterKind::ByteArray);
     }
-    if text == "vector".as_bytes() {
+    if is_word(text, "vector") {
         return Some(ExporterKind::Vector { readonly: false });
     }
-    if text == "rovector".as_bytes() {
+    if is_word(text, "rovector") {
         return Some(ExporterKind::Vector { readonly: true });
     }
     None
@@ -258,22 +259,22 @@ pub fn kind_named(text: &[u8]) -> Option<ExporterKind>
 pub fn operator_named(text: &[u8]) -> Option<CompareOp>
     ensures { result ≡ operator_in text.now }
 {
-    if text == "==".as_bytes() {
+    if is_word(text, "==") {
         return Some(CompareOp::Eq);
     }
-    if text == "!=".as_bytes() {
+    if is_word(text, "!=") {
         return Some(CompareOp::Ne);
     }
-    if text == "<".as_bytes() {
+    if is_word(text, "<") {
         return Some(CompareOp::Lt);
     }
-    if text == "<=".as_bytes() {
+    if is_word(text, "<=") {
         return Some(CompareOp::Le);
     }
-    if text == ">".as_bytes() {
+    if is_word(text, ">") {
         return Some(CompareOp::Gt);
     }
-    if text == ">=".as_bytes() {
+    if is_word(text, ">=") {
         return Some(CompareOp::Ge);
     }
     None
@@ -284,43 +285,43 @@ pub fn operator_named(text: &[u8]) -> Option<CompareOp>
 pub fn property_named(text: &[u8]) -> Option<PropertyName>
     ensures { result ≡ property_in text.now }
 {
-    if text == "exports".as_bytes() {
+    if is_word(text, "exports") {
         return Some(PropertyName::Exports);
     }
-    if text == "obj".as_bytes() {
+    if is_word(text, "obj") {
         return Some(PropertyName::Obj);
     }
-    if text == "nbytes".as_bytes() {
+    if is_word(text, "nbytes") {
         return Some(PropertyName::Nbytes);
     }
-    if text == "readonly".as_bytes() {
+    if is_word(text, "readonly") {
         return Some(PropertyName::Readonly);
     }
-    if text == "itemsize".as_bytes() {
+    if is_word(text, "itemsize") {
         return Some(PropertyName::Itemsize);
     }
-    if text == "ndim".as_bytes() {
+    if is_word(text, "ndim") {
         return Some(PropertyName::Ndim);
     }
-    if text == "shape".as_bytes() {
+    if is_word(text, "shape") {
         return Some(PropertyName::Shape);
     }
-    if text == "strides".as_bytes() {
+    if is_word(text, "strides") {
         return Some(PropertyName::Strides);
     }
-    if text == "suboffsets".as_bytes() {
+    if is_word(text, "suboffsets") {
         return Some(PropertyName::Suboffsets);
     }
-    if text == "format".as_bytes() {
+    if is_word(text, "format") {
         return Some(PropertyName::Format);
     }
-    if text == "contiguous".as_bytes() {
+    if is_word(text, "contiguous") {
         return Some(PropertyName::Contiguous);
     }
-    if text == "c_contiguous".as_bytes() {
+    if is_word(text, "c_contiguous") {
         return Some(PropertyName::CContiguous);
     }
-    if text == "f_contiguous".as_bytes() {
+    if is_word(text, "f_contiguous") {
         return Some(PropertyName::FContiguous);
     }
     None
