@@ -3,8 +3,8 @@ ghost use Rattle.std.specs.Prelude.{◌≡◌, ◌≤◌, ◌<◌, ◌+◌, ◌-
 ghost use Rattle.std.specs.List.{flat_map};
 ghost use Rattle.pybuf_desc.specs.Segments.{bytes_in};
 
-use crate::steps::Steps;
 use pybuf_desc::Segments;
+use pybuf_value::Steps;
 use std::ops::Range;
 use std::sync::ledger::Ledger;
 

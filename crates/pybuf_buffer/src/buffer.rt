@@ -12,7 +12,6 @@ ghost use Rattle.pybuf_state.specs.Live.{is_live, layout_of, is_writable_run};
 
 use crate::append::append_ranges;
 use crate::lending::{all_bytes, has_writable_run, writable_run};
-use crate::steps::Steps;
 use crate::views::{add_same, described, is_in_first};
 use pybuf_command::{ExporterKind, Subject};
 use pybuf_desc::{
@@ -24,7 +23,7 @@ use pybuf_exporter::ExporterState;
 use pybuf_memoryview::contents_are_whole;
 use pybuf_state::{live_layouts_are_sound, whole_layouts_are_sound};
 use pybuf_struct::FormatSpec;
-use pybuf_value::{ByteList, Fault, Made, Outcome, Tried};
+use pybuf_value::{ByteList, Fault, Made, Outcome, Steps, Tried};
 use std::alloc::Global;
 use std::marker::{Brand, Model};
 use std::ops::Range;

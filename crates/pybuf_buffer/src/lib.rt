@@ -9,11 +9,10 @@ mod buffer;
 mod laws;
 mod lending;
 mod method_step;
-mod steps;
 mod views;
 
 pub use buffer::PyBuffer;
 pub use laws::{range_counts_are_bounded, ranges_are_counted};
 pub use method_step::{step_of, step_without_loans};
-pub use steps::Steps;
+pub use pybuf_value::Steps;
 pub use views::live_descriptor;

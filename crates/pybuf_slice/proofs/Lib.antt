@@ -4,3 +4,4 @@ pub mod EditLemmas
 pub mod PartedLemmas
 pub mod LengthLemmas
 pub mod SetLemmas
+pub mod FrontLemmas

@@ -1,3 +1,5 @@
 pub mod Reads
 pub mod Edits
 pub mod EditLaws
+pub mod FrontContent
+pub mod Front

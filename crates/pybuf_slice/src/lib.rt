@@ -4,6 +4,7 @@
 
 mod edit_ops;
 mod edits;
+mod front;
 mod laws;
 mod repeats;
 mod sequence;
@@ -11,6 +12,7 @@ pub mod slices;
 
 pub use edit_ops::{SequenceExt, SequenceMutExt, SliceableSequenceMutOp};
 pub use edits::close_up;
+pub use front::FrontBytes;
 pub use laws::{
     any_number_takes_the_place, as_many_are_read_back, as_many_keep_the_length,
     reading_and_deleting_part_a_list,

@@ -13,6 +13,8 @@ mod copies;
 #[cfg(test)]
 mod formats;
 #[cfg(test)]
+mod queues;
+#[cfg(test)]
 mod slices;
 #[cfg(test)]
 mod sources;

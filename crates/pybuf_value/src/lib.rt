@@ -14,6 +14,7 @@ mod plain;
 mod quotes;
 mod snaps;
 mod spelling;
+mod steps;
 mod text;
 mod values;
 
@@ -43,5 +44,6 @@ pub use snaps::{Lender, Snap, SnapKind, SnapList};
 pub use spelling::{
     named_repr_text, push_bytes, push_handle, push_number, push_scalar, push_truth, repr_text,
 };
+pub use steps::Steps;
 pub use text::Text;
 pub use values::{CompareOp, Item, PySlice, Scalar, Value};

@@ -1,0 +1,32 @@
+-- Bytes behind room, in the vector that has both.
+use Rattle.std.proofs.Common.{◌≡◌, ℕ, ◌+◌, ◌-◌, ◌≤◌, List, ◌++◌, length, refl, ap, sym, ◌∙◌, arith, take, drop, length-take, length-drop, length-append}
+use Rattle.std.proofs.lemmas.List.{drop-take, drop-drop, drop_at, drop-append-le, take-append-le, length-take-le}
+use Rattle.pybuf_slice.specs.Edits.{replaced_range}
+
+-- what is written behind the room, seen without the room
+pub write_behind : {X : Type 0} → (i n : ℕ) (xs ws : List X) → length xs ≡ n → i ≤ n
+    → drop i (take n ((take i xs ++ (ws ++ drop (length ws) (drop i xs))) ++ drop (length (take i xs ++ (ws ++ drop (length ws) (drop i xs)))) xs))
+      ≡ take (length (drop i xs)) (ws ++ drop (length ws) (drop i xs))
+write_behind i n xs ws e l =
+    let rest = drop i xs in
+    let over = ws ++ drop (length ws) rest in
+    let long = take i xs ++ over in
+    let all = long ++ drop (length long) xs in
+    let count : length rest ≡ n - i = length-drop i xs ∙ ap (λ k. k - i) e in
+    let whole : i + (n - i) ≡ n = omega (arith, l) in
+    let at : length (take i xs) ≡ i = length-take-le i xs (omega (arith, e, l)) in
+    let inner : drop i long ≡ over = drop_at (take i xs) over i at in
+    let early : drop i all ≡ over ++ drop (length long) xs =
+        drop-append-le i long (drop (length long) xs) (omega (arith, at, length-append (take i xs) over)) ∙ ap (λ k. k ++ drop (length long) xs) inner in
+    let enough : length rest ≤ length over = omega (arith, length-append ws (drop (length ws) rest), length-drop (length ws) rest) in
+    ap (λ k. drop i (take k all)) (sym whole) ∙ drop-take i (n - i) all ∙ ap (take (n - i)) early ∙ ap (λ k. take k (over ++ drop (length long) xs)) (sym count) ∙ take-append-le (length rest) over (drop (length long) xs) enough
+
+-- a range behind the room is replaced, seen without the room
+pub replaced_behind : {X : Type 0} → (i start end : ℕ) (xs ys : List X) → i + start ≤ length xs
+    → drop i (replaced_range xs (i + start) (i + end) ys) ≡ replaced_range (drop i xs) start end ys
+replaced_behind i start end xs ys l =
+    let tail = ys ++ drop (i + end) xs in
+    let enough : i ≤ length (take (i + start) xs) = omega (arith, length-take-le (i + start) xs l) in
+    drop-append-le i (take (i + start) xs) tail enough
+    ∙ ap (λ k. k ++ tail) (drop-take i start xs)
+    ∙ ap (λ k. take start (drop i xs) ++ (ys ++ k)) (sym (drop-drop end i xs))

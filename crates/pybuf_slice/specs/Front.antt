@@ -1,0 +1,30 @@
+-- Bytes that are kept behind free room.
+use Rattle.std.specs.Prelude.{ℕ, List, ◌++◌, length, take, drop}
+use Rattle.std.specs.Borrow.{Lends, MutBor, Fml, RattleType, Array, u8}
+use Rattle.std.specs.declared.vec.Vec.{Vec}
+use Rattle.std.specs.declared.alloc.Global.{Global}
+use Rattle.std.specs.contracts.alloc.Global as global
+use Rattle.std.specs.contracts.vec.Vec as vec
+use Rattle.std.specs.contracts.impls.GlobalAllocator.TheImpl.{ghosts}
+use Rattle.pybuf_slice.specs.contracts.front.FrontBytes.{the_row}
+use Rattle.pybuf_slice.specs.FrontContent.{FrontContent}
+
+-- the same room, and these bytes in place of the first, as many as there are
+abbrev pub overwritten : FrontContent → List ℕ → FrontContent
+overwritten f bytes = record f { items = take (length f.items) (bytes ++ drop (length bytes) f.items) }
+
+-- all bytes of a vector, without room
+abbrev pub flat : Vec ℕ Global → FrontContent
+flat bytes = record { items = bytes.items; room = 0 }
+
+-- the bytes end as they are behind the loan, as many as before
+abbrev pub LendsItems : MutBor FrontContent → MutBor (List ℕ) → Fml
+LendsItems s r = Lends the_row (Array u8 0) s r (overwritten s.now)
+
+-- the type of a vector of bytes
+abbrev pub bytes_row : RattleType
+bytes_row = vec.the_row u8 global.the_row ghosts
+
+-- the same where they are lent as a vector, to be changed in any way
+abbrev pub LendsVector : MutBor FrontContent → MutBor (Vec ℕ Global) → Fml
+LendsVector s r = Lends the_row bytes_row s r flat

@@ -1,0 +1,170 @@
+//! Bytes that are kept behind free room, so that the first of them are taken away at no cost.
+ghost use Rattle.std.specs.Prelude.{◌≡◌, ◌≤◌, ◌<◌, ◌+◌, ◌^◌, ◌++◌, drop, length, vec_len, vec_capacity, OnOk, OnErr};
+
+use crate::edit_ops::SliceableSequenceMutOp;
+use pybuf_value::{Made, Steps};
+use std::marker::Model;
+use std::ops::Range;
+use std::sync::ledger::Ledger;
+
+/// Bytes behind free room. A clause sees the bytes, and how many bytes of room lie before them.
+///
+/// A step is one byte that is moved to another place within. What the allocator copies where it makes
+/// more room, and what is written anew, isn't counted.
+#[derive(Debug, Drop)]
+pub struct FrontBytes {
+    bytes: Vec<u8>,
+    room: usize,
+}
+
+impl Model for FrontBytes {
+    ghost use Rattle.std.specs.Prelude.{◌≤◌, drop, vec_len};
+    ghost use Rattle.pybuf_slice.specs.FrontContent.{FrontContent};
+
+    ghost Value = { FrontContent };
+
+    ghost view = { λ f. record { items = drop f.room f.bytes.items; room = f.room } };
+
+    ghost invariant = { λ f. f.room ≤ vec_len f.bytes };
+}
+
+/// Takes the first bytes of a vector out, and keeps its memory.
+fn move_down(bytes: &mut Vec<u8>, start: usize)
+    requires { start ≤ vec_len bytes.old }
+    ensures items { bytes.new.items ≡ drop start bytes.old.items }
+    ensures len { vec_len bytes.new + start ≡ vec_len bytes.old }
+    ensures capacity { vec_capacity bytes.new ≡ vec_capacity bytes.old }
+{
+    let end = bytes.len();
+    bytes.copy_within(start..end, 0);
+    bytes.truncate(end - start);
+}
+
+/// Adds bytes for which there is memory.
+fn append_within(bytes: &mut Vec<u8>, items: &[u8])
+    requires { vec_len bytes.old + length items.now ≤ vec_capacity bytes.old }
+    ensures { bytes.new.items ≡ bytes.old.items ++ items.now }
+{
+    match bytes.extend_from_slice(items) {
+        Ok(()) => {}
+        Err(_) => unreachable!(),
+    }
+}
+
+impl FrontBytes {
+    ghost use Rattle.std.specs.Borrow.{sem};
+    ghost use Rattle.pybuf_slice.specs.Edits.{replaced_range};
+    ghost use Rattle.pybuf_slice.specs.Front.{LendsItems, LendsVector};
+    ghost use Rattle.pybuf_slice.specs.FrontContent.{IsSpare};
+
+    /// The bytes of a vector, without room. Takes no memory.
+    pub fn from(bytes: Vec<u8>) -> FrontBytes
+        ensures items { result.items ≡ bytes.items }
+        ensures room { result.room ≡ 0 }
+    {
+        FrontBytes { bytes, room: 0 }
+    }
+
+    /// The number of bytes, at most `isize::MAX`.
+    pub fn len(&self) -> usize
+        ensures value { result ≡ length self.now.items }
+        ensures small { result < 2 ^ 63 }
+    {
+        self.bytes.len() - self.room
+    }
+
+    /// How many bytes of free room lie before the first.
+    pub fn front_room(&self) -> usize
+        ensures { result ≡ self.now.room }
+    {
+        self.room
+    }
+
+    /// The bytes, lent.
+    pub fn as_slice(&self) -> &[u8]
+        ensures { result.now ≡ self.now.items }
+    {
+        &self.bytes[self.room..]
+    }
+
+    /// The bytes, lent to be written in place. Their number and the room stay.
+    pub fn as_mut_slice(&mut self) -> &mut [u8]
+        ensures* writes_back { sem 𝓛 (LendsItems self.entry result) }
+        ensures value { result.now ≡ self.old.items }
+    {
+        self.bytes.slice_mut(self.room..)
+    }
+
+    /// Takes the first bytes away, so many, and leaves them as room. Nothing moves, and no memory is taken.
+    pub fn drop_front<L: Ledger>(&mut self, n: usize, moved: &mut Steps<L>)
+        requires { n ≤ length self.old.items }
+        ensures items { self.new.items ≡ drop n self.old.items }
+        ensures room { self.new.room ≡ self.old.room + n }
+        ensures counter { moved.new ≡ moved.old }
+    {
+        self.room += n;
+    }
+
+    /// Adds bytes at the end. Where there was as much room as bytes, they are first moved to the start, so
+    /// that afterwards there is no room, or less than there are bytes.
+    ///
+    /// Where memory runs out, bytes, room and counter are as before.
+    pub fn push_all<L: Ledger>(&mut self, items: &[u8], moved: &mut Steps<L>) -> Made<()>
+        ensures items { OnOk result (self.new.items ≡ self.old.items ++ items.now) }
+        ensures counter { OnOk result (moved.new + self.new.room ≤ moved.old + self.old.room) }
+        ensures spare { OnOk result (IsSpare self.new) }
+        ensures err { OnErr result (self.new ≡ self.old) }
+        ensures err_counter { OnErr result (moved.new ≡ moved.old) }
+    {
+        let length = self.len();
+        if self.room < length {
+            self.bytes.extend_from_slice(items)?;
+            return Ok(());
+        }
+        if items.len() > self.room {
+            self.bytes.reserve(items.len() - self.room)?;
+        }
+        move_down(&mut self.bytes, self.room);
+        self.room = 0;
+        moved.add(length);
+        append_within(&mut self.bytes, items);
+        Ok(())
+    }
+
+    /// Puts other bytes in place of those of a range, as many as there are. Those behind the range move
+    /// once, where the number of bytes changes. Where memory runs out, bytes, room and counter are as before.
+    pub fn splice<L: Ledger>(
+        &mut self,
+        range: Range<usize>,
+        items: &[u8],
+        moved: &mut Steps<L>,
+    ) -> Made<()>
+        requires ordered { range.start ≤ range.end }
+        requires inside { range.end ≤ length self.old.items }
+        ensures items { OnOk result (self.new.items ≡ replaced_range self.old.items range.start range.end items.now) }
+        ensures counter { OnOk result (moved.new ≤ moved.old + (length self.old.items + length self.new.items)) }
+        ensures room { self.new.room ≡ self.old.room }
+        ensures err { OnErr result (self.new ≡ self.old) }
+        ensures err_counter { OnErr result (moved.new ≡ moved.old) }
+    {
+        let alloc = *self.bytes.allocator();
+        let behind = self.len() - range.end;
+        let places = self.room + range.start..self.room + range.end;
+        let is_as_long = range.end - range.start == items.len();
+        self.bytes.do_set_range(alloc, places, items)?;
+        if !is_as_long {
+            moved.add(behind);
+        }
+        Ok(())
+    }
+
+    /// The bytes, lent as a vector without room, to be changed in any way. Takes no memory.
+    pub fn make_flat(&mut self) -> &mut Vec<u8>
+        ensures* writes_back { sem 𝓛 (LendsVector self.entry result) }
+        ensures value { result.now.items ≡ self.old.items }
+    {
+        move_down(&mut self.bytes, self.room);
+        self.room = 0;
+        &mut self.bytes
+    }
+}
