@@ -100,6 +100,7 @@ pub use pybuf_search::prefixes_are_removed;
 pub use pybuf_search::suffixes_are_removed;
 pub use pybuf_shaping::padding_keeps_the_bytes;
 pub use pybuf_shaping::tabs_lead_to_stops;
+pub use pybuf_slice::FrontBytes;
 pub use pybuf_slice::SequenceExt;
 pub use pybuf_slice::SequenceMutExt;
 pub use pybuf_slice::SliceableSequenceMutOp;
