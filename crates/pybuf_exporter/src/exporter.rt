@@ -9,7 +9,7 @@ use pybuf_memoryview::KeptLayout;
 use pybuf_rows_views::release;
 use pybuf_state::{
     Names, Other, Parts, Store, content_of_subject, copies_are_faithful, exporter_of_copy,
-    kind_of_subject, new_views_keep, run_of_subject, snap_of_subject,
+    kind_of_subject, new_views_are_sound, run_of_subject, snap_of_subject,
 };
 use pybuf_value::{
     ByteList, Fault, Halt, Lent, Made, NoMemory, Snap, SnapKind, Twin, Value, copy_all,
@@ -395,7 +395,7 @@ impl ExporterState {
         ensures ok { IfOk result (λ view. with_view self.old (layout_at descriptor start) ≡ (self.new, replies.View view)) }
         ensures err { OnErr result (self.new ≡ self.old) }
     {
-        new_views_keep();
+        new_views_are_sound();
         let number = self.view_count();
         match self
             .parts

@@ -11,14 +11,13 @@ use Rattle.pybuf_value.specs.Numbers.{number_of}
 use Rattle.pybuf_value.specs.Refusing.{◌>>=◌, unless, IfDone, done_bind}
 use Rattle.pybuf_command.specs.declared.kinds.Subject.{Subject}
 use Rattle.pybuf_command.specs.declared.kinds.Subject.TheVariants as subject
-use Rattle.pybuf_command.specs.declared.commands.Verb.{Verb}
 use Rattle.pybuf_command.specs.declared.commands.Verb.TheVariants as verb
 use Rattle.pybuf_command.specs.declared.commands.LocalReply.{LocalReply}
 use Rattle.pybuf_command.specs.declared.commands.LocalReply.TheVariants as reply
 use Rattle.pybuf_state.specs.Exporter.{Exporter, Iterator, live_layout, iterator_at, with_iterator, iterator_put}
-use Rattle.pybuf_state.specs.Keeps.{is_answer, is_vector, IsSameOrMoved, IteratorsStay, IsIterated}
+use Rattle.pybuf_state.specs.Keeps.{is_answer, is_vector, IsSameOrMoved, IsIterated}
 use Rattle.pybuf_state.specs.Laws.{NewIteratorsStay, MovedIteratorsStay}
-use Rattle.pybuf_rows_iters.specs.Iterators.{item_over, moved_on, next_unless, is_over_bytes, iterator_over_bytes, clamped, put_at, put_unless, row_of_iterator}
+use Rattle.pybuf_rows_iters.specs.Iterators.{item_over, moved_on, next_unless, is_over_bytes, iterator_over_bytes, clamped, put_unless}
 use Rattle.pybuf_rows_iters.specs.Laws.{IterIsSafe, IteratorsAreSafe}
 
 bind : {A : Type 0} (e : Exporter) (r : Result A Fault) (f : A → Result (Exporter × LocalReply) Fault) → ((a : A) → r ≡ Ok a → IfDone (IsIterated e) (f a)) → IfDone (IsIterated e) (r >>= f)
