@@ -122,11 +122,12 @@ HasViewsOfItemsApart w =
 abbrev pub RunsKeepItemsApart : Type 0
 RunsKeepItemsApart = (commands : List Command) → HasViewsOfItemsApart (world_after_all empty_world commands)
 
--- Releasing by a handle is refused with `UnknownName` where the handle was never given or names no view, and in
--- no other way anywhere.
+-- releasing by a handle is refused exactly where the handle was never given or names no view, and with nothing
+-- but `UnknownName`
 pub record IsRefusedByName (w : World) (handle : ℕ) : Type 0 where
   pub refused : names_view w handle ≡ false → released_by w handle ≡ Err fault.UnknownName
   pub only : (f : Fault) → released_by w handle ≡ Err f → (f ≡ fault.UnknownName) × (names_view w handle ≡ false)
 
+-- so it is of every handle of a sound world
 abbrev pub ReleasesAreRefusedByName : Type 0
 ReleasesAreRefusedByName = (w : World) (handle : ℕ) → IsSoundWorld w → IsRefusedByName w handle
