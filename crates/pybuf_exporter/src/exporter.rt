@@ -47,6 +47,7 @@ impl ExporterState {
     ghost use Rattle.pybuf_desc.specs.Contiguous.{is_contiguous_layout};
     ghost use Rattle.pybuf_desc.specs.Items.{content_of_layout};
     ghost use Rattle.pybuf_value.specs.declared.faults.Fault.{Fault};
+    ghost use Rattle.pybuf_value.specs.declared.faults.Fault.TheVariants as faults;
     ghost use Rattle.pybuf_command.specs.declared.commands.LocalReply.TheVariants as replies;
     ghost use Rattle.pybuf_command.specs.declared.commands.Verb.TheVariants as verbs;
     ghost use Rattle.pybuf_command.specs.declared.kinds.Subject.TheVariants as subjects;
@@ -293,6 +294,8 @@ impl ExporterState {
     /// Refused with `UnknownName` exactly where the view was never given.
     pub fn release_view(&mut self, view: usize) -> Result<(), Fault>
         ensures exact { MatchResult result (λ _. released_in self.old view ≡ Ok self.new) (λ f. released_in self.old view ≡ Err f) }
+        ensures given { IsOk result ↔ (view < length self.old.views) }
+        ensures refused { IfErr result (λ f. f ≡ faults.UnknownName) }
         ensures err { OnErr result (self.new ≡ self.old) }
     {
         release::release(&mut self.parts, view)
