@@ -1,6 +1,7 @@
 -- Every command, by the laws of its row.
-use Rattle.std.proofs.Common.{◌≡◌, ℕ, ◌+◌, ◌≤◌, List, length, Bool, true, false, true≢false, ap, ap₂, sym, ◌∙◌, refl, subst, arith, inl}
-use Rattle.std.specs.Prelude.{◌==◌, ◌&&◌, nat_lt, slice_index, Option, Result, Ok, Err, if◌then◌else◌}
+use Rattle.std.proofs.Common.{◌≡◌, ℕ, ◌+◌, ◌<◌, ◌≤◌, List, [], ◌∷◌, length, get_or, Bool, true, false, true≢false, ap, ap₂, sym, ◌∙◌, refl, subst, arith, inl}
+use Rattle.std.specs.Prelude.{◌==◌, ◌&&◌, nat_lt, slice_get, slice_index, Option, Some, Result, Ok, Err, if◌then◌else◌}
+use Rattle.std.proofs.lemmas.Option.{slice_get-get_or, slice_get_within}
 use Rattle.std.proofs.lemmas.Bool.{eqb-true}
 use Rattle.std.proofs.lemmas.Grind.{common_steps}
 use Rattle.pybuf_value.specs.declared.faults.Fault.{Fault}
@@ -24,13 +25,14 @@ use Rattle.pybuf_command.specs.declared.commands.LocalReply.TheVariants as reply
 use Rattle.pybuf_command.specs.declared.loans.Loan.{Loan}
 use Rattle.pybuf_command.specs.Handles.{handles_of, handles_read}
 use Rattle.pybuf_memoryview.specs.Items.{item_of_values}
-use Rattle.pybuf_state.specs.Exporter.{Exporter, Iterator}
+use Rattle.pybuf_state.specs.Exporter.{Exporter, Iterator, has_subject}
 use Rattle.pybuf_state.specs.Answers.{Answers}
 use Rattle.pybuf_state.specs.Loans.{Lent, are_named, lents_by, names_of, snaps_of}
 use Rattle.pybuf_state.specs.Sound.{IsSoundExporter}
+use Rattle.pybuf_state.specs.Spaced.{IsSpaced}
 use Rattle.pybuf_value.specs.declared.snaps.Snap.{Snap}
 use Rattle.pybuf_state.specs.Fresh.{IsCopyOf}
-use Rattle.pybuf_state.specs.Keeps.{Keeps, LengthsStay, ReadOnlyBytesStay, IteratorsStay, is_one_line, is_answer, IsSafe, RepliesCopy, IsCopied, IsIterated}
+use Rattle.pybuf_state.specs.Keeps.{Keeps, IsSameOrReleased, LengthsStay, ReadOnlyBytesStay, IsSameOrMoved, IteratorsStay, is_one_line, is_answer, IsSafe, RepliesCopy, IsCopied, IsIterated}
 use Rattle.pybuf_state.specs.Laws.{ReadingKeeps, LiveLayoutsAreSound}
 use Rattle.pybuf_rows_views.specs.Laws.{ViewIsSafe, SliceIsSafe, CastIsSafe, ReleaseIsSafe, ToReadonlyIsSafe, RangeIsSafe, EnterIsSafe, ContiguousIsCopied}
 use Rattle.pybuf_rows_reads.specs.Laws.{GetIsSafe, BytesIsSafe, LenIsSafe, PropertyIsSafe, ToListIsSafe}
@@ -41,7 +43,7 @@ use Rattle.pybuf_rows_methods.specs.Laws.{CallIsSafe, ContainsIsSafe, HexIsSafe}
 use Rattle.pybuf_rows_iters.specs.Laws.{IterIsSafe, IteratorsAreSafe}
 use Rattle.pybuf_exporter.specs.Step.{get_of_view, row, answer_by, answer_of, settled_answer, estep, set_in_own, set_through_view}
 use Rattle.pybuf_exporter.specs.Rows.{RowsAreSafe, RowIsSafe, StepsKeepSound}
-use Rattle.pybuf_exporter.specs.Laws.{CommandsKeepSound, LengthsStayUnderCommands, ReadOnlyBytesStayUnderCommands, IteratorsStayUnderCommands, is_of_iterators, OthersLeaveIterators, IterationChangesNothingElse, RefusedCommandsChangeNothing, NamesAlikeDoTheSame, ItemsAreRead, FreshRepliesAreCopies, ShownTextsAreOneLine}
+use Rattle.pybuf_exporter.specs.Laws.{CommandsKeepSound, LengthsStayUnderCommands, ReadOnlyBytesStayUnderCommands, IteratorsStayUnderCommands, is_of_iterators, OthersLeaveIterators, IterationChangesNothingElse, RefusedCommandsChangeNothing, NamesAlikeDoTheSame, ItemsAreRead, FreshRepliesAreCopies, ShownTextsAreOneLine, CommandsKeepItemsApart, NamesItsOwn, RepliedNamesAreThere, SubjectsStay}
 
 -- the laws of the rows
 pub record RowLaws : Type 0 where
@@ -172,12 +174,14 @@ rows_safe laws e (subject.Iter k) v lents = laws.iterators e k v
 
 -- ---- every command
 
--- a reply is no refusal, something fresh is a copy, by which the exporter is as before, and what is shown is
--- one line
+-- a reply is no refusal, something fresh is a copy, by which the exporter is as before, what is shown is one
+-- line, and a view or an iterator that is named is there
 abbrev pub IsReplyTo : Exporter → Subject → Exporter → LocalReply → Type 0
 IsReplyTo e s new (reply.Refused f) = ⊥
 IsReplyTo e s new (reply.Fresh snap) = (new ≡ e) × IsCopyOf e s snap
 IsReplyTo e s new (reply.Shown text) = is_one_line text ≡ true
+IsReplyTo e s new (reply.View k) = has_subject new (subject.View k) ≡ true
+IsReplyTo e s new (reply.Iter k) = has_subject new (subject.Iter k) ≡ true
 IsReplyTo e s new _ = Unit {0}
 
 -- what every command leaves of a sound exporter
@@ -186,6 +190,7 @@ pub record IsLeft (old new : Exporter) : Type 0 where
   pub lengths : LengthsStay old new
   pub readonly_bytes : ReadOnlyBytesStay old new
   pub iterators : IteratorsStay old.iterators new.iterators
+  pub items_apart : IsSpaced old → IsSpaced new
 
 -- what every row owes where it isn't refused
 pub record IsStep (e : Exporter) (s : Subject) (v : Verb) (after : Exporter × LocalReply) : Type 0 where
@@ -203,6 +208,7 @@ left_so old new keeps = record {
   lengths = keeps.lengths;
   readonly_bytes = keeps.readonly_bytes;
   iterators = subst (λ (its : List Iterator). IteratorsStay old.iterators its) (sym keeps.iterators) (same_iterators old.iterators);
+  items_apart = keeps.items_apart;
 }
 
 -- where nothing but iterators changes
@@ -214,13 +220,14 @@ iterated_so reading e new same stay sound =
       lengths = record { views = (reading e sound).lengths.views; bytes = λ live. refl };
       readonly_bytes = λ readonly. inl refl;
       iterators = stay;
+      items_apart = λ spaced. record { views = spaced.views };
     })
 
-ordinary : (e : Exporter) (s : Subject) (new : Exporter) (r : LocalReply) → is_answer r ≡ true → IsReplyTo e s new r
+ordinary : (e : Exporter) (s : Subject) (new : Exporter) (r : LocalReply) → is_answer new r ≡ true → IsReplyTo e s new r
 ordinary e s new (reply.Refused f) is = absurd (true≢false (sym is))
 ordinary e s new (reply.Fresh snap) is = absurd (true≢false (sym is))
 ordinary e s new reply.Ok is = tt
-ordinary e s new (reply.View k) is = tt
+ordinary e s new (reply.View k) is = is
 ordinary e s new reply.Itself is = tt
 ordinary e s new reply.Own is = tt
 ordinary e s new (reply.Item x) is = tt
@@ -230,7 +237,7 @@ ordinary e s new (reply.Text text) is = tt
 ordinary e s new (reply.Shown text) is = is
 ordinary e s new (reply.Truth truth) is = tt
 ordinary e s new reply.NotImplementedReply is = tt
-ordinary e s new (reply.Iter k) is = tt
+ordinary e s new (reply.Iter k) is = is
 ordinary e s new reply.Stop is = tt
 ordinary e s new (reply.Numbers numbers) is = tt
 ordinary e s new (reply.ByteLists lists) is = tt
@@ -239,7 +246,7 @@ copied_reply : (e : Exporter) (s : Subject) (new : Exporter) (r : LocalReply) �
 copied_reply e s new (reply.Fresh snap) same copied = (same, copied)
 copied_reply e s new (reply.Refused f) same copied = copied
 copied_reply e s new reply.Ok same copied = tt
-copied_reply e s new (reply.View k) same copied = tt
+copied_reply e s new (reply.View k) same copied = absurd copied
 copied_reply e s new reply.Itself same copied = tt
 copied_reply e s new reply.Own same copied = tt
 copied_reply e s new (reply.Item x) same copied = tt
@@ -249,7 +256,7 @@ copied_reply e s new (reply.Text text) same copied = tt
 copied_reply e s new (reply.Shown text) same copied = absurd copied
 copied_reply e s new (reply.Truth truth) same copied = tt
 copied_reply e s new reply.NotImplementedReply same copied = tt
-copied_reply e s new (reply.Iter k) same copied = tt
+copied_reply e s new (reply.Iter k) same copied = absurd copied
 copied_reply e s new reply.Stop same copied = tt
 copied_reply e s new (reply.Numbers numbers) same copied = tt
 copied_reply e s new (reply.ByteLists lists) same copied = tt
@@ -432,6 +439,59 @@ settled_shown e s v (Err g) text step is = absurd (cc)
 
 pub shown_are_one_line : RowsAreSafe → ReadingKeeps → ShownTextsAreOneLine
 shown_are_one_line rows reading e s v loans text is = settled_shown e s v (answer_of e s v loans) text (answered_step rows reading e s v loans) is
+
+-- where no two items of a view share a byte
+pub items_stay_apart : RowsAreSafe → ReadingKeeps → CommandsKeepItemsApart
+items_stay_apart rows reading e s v loans sound spaced = (step_leaves rows reading e s v loans sound).items_apart spaced
+
+-- where the reply names a view or an iterator, it is there
+reply_names : (e : Exporter) (s : Subject) (new : Exporter) (r : LocalReply) → IsReplyTo e s new r → NamesItsOwn new r
+reply_names e s new (reply.View k) is = is
+reply_names e s new (reply.Iter k) is = is
+reply_names e s new (reply.Refused f) is = tt
+reply_names e s new (reply.Fresh snap) is = tt
+reply_names e s new reply.Ok is = tt
+reply_names e s new reply.Itself is = tt
+reply_names e s new reply.Own is = tt
+reply_names e s new (reply.Item x) is = tt
+reply_names e s new (reply.Items shape items) is = tt
+reply_names e s new (reply.Bytes bytes) is = tt
+reply_names e s new (reply.Text text) is = tt
+reply_names e s new (reply.Shown text) is = tt
+reply_names e s new (reply.Truth truth) is = tt
+reply_names e s new reply.NotImplementedReply is = tt
+reply_names e s new reply.Stop is = tt
+reply_names e s new (reply.Numbers numbers) is = tt
+reply_names e s new (reply.ByteLists lists) is = tt
+
+settled_names : (e : Exporter) (s : Subject) (v : Verb) (r : Result (Exporter × LocalReply) Fault) → IfDone (IsStep e s v) r → NamesItsOwn (settled_answer e r).0 (settled_answer e r).1
+settled_names e s v (Ok after) step = reply_names e s after.0 after.1 step.replies
+settled_names e s v (Err g) step = tt
+
+pub names_are_there : RowsAreSafe → ReadingKeeps → RepliedNamesAreThere
+names_are_there rows reading e s v loans = settled_names e s v (answer_of e s v loans) (answered_step rows reading e s v loans)
+
+element_at : {X : Type 0} (xs : List X) (k : ℕ) → k < length xs → X
+element_at [] k below = absurd (omega (arith, below))
+element_at (x ∷ xs) k below = x
+
+-- a list that keeps each of its elements by its number has no fewer
+still_there : {X : Type 0} (P : X → X → Type 0) (xs ys : List X) → ((k : ℕ) (x : X) → slice_get xs k ≡ Some x → (y : X) × (slice_get ys k ≡ Some y) × P x y) → (k : ℕ) → nat_lt k (length xs) ≡ true → nat_lt k (length ys) ≡ true
+still_there P xs ys stays k there =
+    let below : k < length xs = grind (arith, there) in
+    let d = element_at xs k below in
+    let found = stays k (get_or xs k d) (slice_get-get_or xs k d below) in
+    let within = slice_get_within ys k found.0 found.1 in
+    grind (arith, within)
+
+has_still : (old new : Exporter) → LengthsStay old new → IteratorsStay old.iterators new.iterators → (s : Subject) → has_subject old s ≡ true → has_subject new s ≡ true
+has_still old new lengths iterators subject.Own has = has
+has_still old new lengths iterators (subject.View k) has = still_there IsSameOrReleased old.views new.views lengths.views k has
+has_still old new lengths iterators (subject.Iter k) has = still_there IsSameOrMoved old.iterators new.iterators iterators k has
+
+pub subjects_stay_so : RowsAreSafe → ReadingKeeps → SubjectsStay
+subjects_stay_so rows reading e s v loans other sound has =
+    let left = step_leaves rows reading e s v loans sound in has_still e (estep e s v loans).0 left.lengths left.iterators other has
 
 pub alike_steps : NamesAlikeDoTheSame
 alike_steps e s v named others alike =

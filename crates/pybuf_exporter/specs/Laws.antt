@@ -16,9 +16,10 @@ use Rattle.pybuf_command.specs.declared.commands.LocalReply.TheVariants as reply
 use Rattle.pybuf_command.specs.declared.loans.Loan.{Loan}
 use Rattle.pybuf_command.specs.Handles.{handles_of, handles_read}
 use Rattle.pybuf_memoryview.specs.Items.{byte_item, item_by}
-use Rattle.pybuf_state.specs.Exporter.{Exporter, Iterator, live_layout}
+use Rattle.pybuf_state.specs.Exporter.{Exporter, Iterator, has_subject, live_layout}
 use Rattle.pybuf_state.specs.Loans.{are_known, are_named, lent_for_each, lents_by}
 use Rattle.pybuf_state.specs.Sound.{IsSoundExporter}
+use Rattle.pybuf_state.specs.Spaced.{IsSpaced}
 use Rattle.pybuf_state.specs.Fresh.{IsCopyOf}
 use Rattle.pybuf_state.specs.Keeps.{LengthsStay, ReadOnlyBytesStay, IteratorsStay, is_one_line}
 use Rattle.pybuf_state.specs.Resizing.{has_exports}
@@ -122,3 +123,23 @@ abbrev pub ResizingIsRefusedWhileExported : Type 0
 ResizingIsRefusedWhileExported =
     (e : Exporter) (v : Verb) (loans : List (ℕ × Loan)) → is_edit v ≡ true → are_known e loans (handles_of v) ≡ true
     → IsRefusedWhileExported e (asks e v (lent_for_each e loans (handles_read subject.Own v))) (estep e subject.Own v loans).1
+
+-- where no two items of any view share a byte, that is so after every command
+abbrev pub CommandsKeepItemsApart : Type 0
+CommandsKeepItemsApart = (e : Exporter) (s : Subject) (v : Verb) (loans : List (ℕ × Loan)) → IsSoundExporter e → IsSpaced e → IsSpaced (estep e s v loans).0
+
+-- a view or an iterator that is replied is one that the exporter has
+abbrev pub NamesItsOwn : Exporter → LocalReply → Type 0
+NamesItsOwn e (reply.View k) = has_subject e (subject.View k) ≡ true
+NamesItsOwn e (reply.Iter k) = has_subject e (subject.Iter k) ≡ true
+NamesItsOwn e r = Unit {0}
+
+-- so it is of the reply to every command, and the exporter after it
+abbrev pub RepliedNamesAreThere : Type 0
+RepliedNamesAreThere = (e : Exporter) (s : Subject) (v : Verb) (loans : List (ℕ × Loan)) → NamesItsOwn (estep e s v loans).0 (estep e s v loans).1
+
+-- a view or an iterator that an exporter has is one that it has after every command
+abbrev pub SubjectsStay : Type 0
+SubjectsStay =
+    (e : Exporter) (s : Subject) (v : Verb) (loans : List (ℕ × Loan)) (other : Subject) → IsSoundExporter e → has_subject e other ≡ true
+    → has_subject (estep e s v loans).0 other ≡ true

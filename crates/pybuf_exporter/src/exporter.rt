@@ -9,7 +9,7 @@ use pybuf_memoryview::KeptLayout;
 use pybuf_rows_views::release;
 use pybuf_state::{
     Names, Other, Parts, Store, content_of_subject, copies_are_faithful, exporter_of_copy,
-    kind_of_subject, new_views_keep, run_of_subject, snap_of_subject,
+    kind_of_subject, new_views_are_sound, run_of_subject, snap_of_subject,
 };
 use pybuf_value::{
     ByteList, Fault, Halt, Lent, Made, NoMemory, Snap, SnapKind, Twin, Value, copy_all,
@@ -47,6 +47,7 @@ impl ExporterState {
     ghost use Rattle.pybuf_desc.specs.Contiguous.{is_contiguous_layout};
     ghost use Rattle.pybuf_desc.specs.Items.{content_of_layout};
     ghost use Rattle.pybuf_value.specs.declared.faults.Fault.{Fault};
+    ghost use Rattle.pybuf_value.specs.declared.faults.Fault.TheVariants as faults;
     ghost use Rattle.pybuf_command.specs.declared.commands.LocalReply.TheVariants as replies;
     ghost use Rattle.pybuf_command.specs.declared.commands.Verb.TheVariants as verbs;
     ghost use Rattle.pybuf_command.specs.declared.kinds.Subject.TheVariants as subjects;
@@ -293,6 +294,8 @@ impl ExporterState {
     /// Refused with `UnknownName` exactly where the view was never given.
     pub fn release_view(&mut self, view: usize) -> Result<(), Fault>
         ensures exact { MatchResult result (λ _. released_in self.old view ≡ Ok self.new) (λ f. released_in self.old view ≡ Err f) }
+        ensures given { IsOk result ↔ (view < length self.old.views) }
+        ensures refused { IfErr result (λ f. f ≡ faults.UnknownName) }
         ensures err { OnErr result (self.new ≡ self.old) }
     {
         release::release(&mut self.parts, view)
@@ -395,7 +398,7 @@ impl ExporterState {
         ensures ok { IfOk result (λ view. with_view self.old (layout_at descriptor start) ≡ (self.new, replies.View view)) }
         ensures err { OnErr result (self.new ≡ self.old) }
     {
-        new_views_keep();
+        new_views_are_sound();
         let number = self.view_count();
         match self
             .parts

@@ -1,5 +1,6 @@
 //! Laws over every command, from the laws of the rows.
 ghost use Rattle.pybuf_exporter.specs.Laws.{CommandsKeepSound, LengthsStayUnderCommands, ReadOnlyBytesStayUnderCommands, IteratorsStayUnderCommands, OthersLeaveIterators, IterationChangesNothingElse, IteratorsGiveTheBytes, ReadingInPlaceChangesNothing, RefusedCommandsChangeNothing, FreshRepliesAreCopies, NamesAlikeDoTheSame, ItemsAreRead, ResizingIsRefusedWhileExported, ShownTextsAreOneLine};
+ghost use Rattle.pybuf_exporter.specs.Laws.{CommandsKeepItemsApart, RepliedNamesAreThere, SubjectsStay};
 ghost use Rattle.pybuf_exporter.specs.Rows.{RowsAreSafe, StepsKeepSound};
 
 /// Each row keeps a sound exporter, or replies a copy.
@@ -151,4 +152,28 @@ pub fn resizing_is_refused_while_exported()
     rows_are_safe();
     pybuf_state::reading_keeps();
     pybuf_rows_edits::edits_ask_before_they_resize();
+}
+
+/// Where no two items of any view of an exporter share a byte, that is so after every command.
+pub fn commands_keep_items_apart()
+    ensures { CommandsKeepItemsApart }
+{
+    rows_are_safe();
+    pybuf_state::reading_keeps();
+}
+
+/// A view or an iterator that a command replies is one that its exporter then has.
+pub fn replied_names_are_there()
+    ensures { RepliedNamesAreThere }
+{
+    rows_are_safe();
+    pybuf_state::reading_keeps();
+}
+
+/// Every view and every iterator that an exporter has it has after every command, by the same number.
+pub fn subjects_stay()
+    ensures { SubjectsStay }
+{
+    rows_are_safe();
+    pybuf_state::reading_keeps();
 }

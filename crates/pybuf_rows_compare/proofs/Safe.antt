@@ -23,18 +23,18 @@ use Rattle.pybuf_rows_compare.proofs.Lines.{bytes_shown, view_shown}
 bind : {A : Type 0} (e : Exporter) (r : Result A Fault) (f : A → Result (Exporter × LocalReply) Fault) → ((a : A) → r ≡ Ok a → IsSafe e (f a)) → IsSafe e (r >>= f)
 bind e r f after = done_bind (IsCarriedOut e) r f after
 
-read : ReadingKeeps → (e : Exporter) (r : LocalReply) → is_answer r ≡ true → IsCarriedOut e (e, r)
+read : ReadingKeeps → (e : Exporter) (r : LocalReply) → is_answer e r ≡ true → IsCarriedOut e (e, r)
 read reading e r answers = record { keeps = λ sound. reading e sound; answers = answers }
 
 -- ---- compare
 
-compared_answers : (bytes : List ℕ) (op : CompareOp) (other : Result (List ℕ) Fault) → is_answer (bytes_compared bytes op other) ≡ true
-compared_answers bytes op (Ok row) = refl
-compared_answers bytes op (Err f) = refl
+compared_answers : (e : Exporter) (bytes : List ℕ) (op : CompareOp) (other : Result (List ℕ) Fault) → is_answer e (bytes_compared bytes op other) ≡ true
+compared_answers e bytes op (Ok row) = refl
+compared_answers e bytes op (Err f) = refl
 
 string_safe : ReadingKeeps → (e : Exporter) (op : CompareOp) (other : Option Snap) → IsSafe e (compare_string e op other)
 string_safe reading e op other =
-    bind e (unless (has_no_order_with e.kind op other) fault.Kind) _ (λ _ _. read reading e _ (compared_answers e.bytes op (content_of other)))
+    bind e (unless (has_no_order_with e.kind op other) fault.Kind) _ (λ _ _. read reading e _ (compared_answers e e.bytes op (content_of other)))
 
 pub compare_safe : ReadingKeeps → CompareIsSafe
 compare_safe reading = (

@@ -58,7 +58,7 @@ passed false f u is = refl
 kept : Ways → (e : Exporter) → IsSafe e (Ok (e, reply.Ok))
 kept ways e = record { keeps = λ sound. ways.reading e sound; answers = refl }
 
-resized_to : Ways → (e : Exporter) (bytes : List ℕ) (r : LocalReply) → has_exports e ≡ false → holds_readonly e.kind ≡ false → is_answer r ≡ true → IsSafe e (Ok (record e { bytes = bytes }, r))
+resized_to : Ways → (e : Exporter) (bytes : List ℕ) (r : LocalReply) → has_exports e ≡ false → holds_readonly e.kind ≡ false → is_answer (record e { bytes = bytes }) r ≡ true → IsSafe e (Ok (record e { bytes = bytes }, r))
 resized_to ways e bytes r free writable is = record { keeps = λ sound. ways.resizing e bytes sound free writable; answers = is }
 
 written : Ways → (e : Exporter) (bytes : List ℕ) → holds_readonly e.kind ≡ false → length bytes ≡ length e.bytes → IsSafe e (Ok (with_bytes e bytes))

@@ -1,6 +1,7 @@
 -- Rows of iterators change nothing but iterators.
-use Rattle.std.proofs.Common.{◌≡◌, ℕ, ◌+◌, List, [], ◌∷◌, ◌++◌, Bool, true, false, true≢false, sym, refl, ◌∙◌, ap}
-use Rattle.std.specs.Prelude.{Option, Some, None, Result, Ok, Err, not, slice_get, length}
+use Rattle.std.proofs.Common.{◌≡◌, ℕ, ◌+◌, List, [], ◌∷◌, ◌++◌, Bool, true, false, true≢false, sym, refl, ◌∙◌, ap, arith}
+use Rattle.std.specs.Prelude.{Option, Some, None, Result, Ok, Err, not, nat_lt, slice_get, length}
+use Rattle.std.proofs.lemmas.List.{length-append}
 use Rattle.std.specs.Option.{ok_or}
 use Rattle.pybuf_value.specs.declared.faults.Fault.{Fault}
 use Rattle.pybuf_value.specs.declared.faults.Fault.TheVariants as fault
@@ -10,14 +11,13 @@ use Rattle.pybuf_value.specs.Numbers.{number_of}
 use Rattle.pybuf_value.specs.Refusing.{◌>>=◌, unless, IfDone, done_bind}
 use Rattle.pybuf_command.specs.declared.kinds.Subject.{Subject}
 use Rattle.pybuf_command.specs.declared.kinds.Subject.TheVariants as subject
-use Rattle.pybuf_command.specs.declared.commands.Verb.{Verb}
 use Rattle.pybuf_command.specs.declared.commands.Verb.TheVariants as verb
 use Rattle.pybuf_command.specs.declared.commands.LocalReply.{LocalReply}
 use Rattle.pybuf_command.specs.declared.commands.LocalReply.TheVariants as reply
 use Rattle.pybuf_state.specs.Exporter.{Exporter, Iterator, live_layout, iterator_at, with_iterator, iterator_put}
-use Rattle.pybuf_state.specs.Keeps.{is_answer, is_vector, IsSameOrMoved, IteratorsStay, IsIterated}
+use Rattle.pybuf_state.specs.Keeps.{is_answer, is_vector, IsSameOrMoved, IsIterated}
 use Rattle.pybuf_state.specs.Laws.{NewIteratorsStay, MovedIteratorsStay}
-use Rattle.pybuf_rows_iters.specs.Iterators.{item_over, moved_on, next_unless, is_over_bytes, iterator_over_bytes, clamped, put_at, put_unless, row_of_iterator}
+use Rattle.pybuf_rows_iters.specs.Iterators.{item_over, moved_on, next_unless, is_over_bytes, iterator_over_bytes, clamped, put_unless}
 use Rattle.pybuf_rows_iters.specs.Laws.{IterIsSafe, IteratorsAreSafe}
 
 bind : {A : Type 0} (e : Exporter) (r : Result A Fault) (f : A → Result (Exporter × LocalReply) Fault) → ((a : A) → r ≡ Ok a → IfDone (IsIterated e) (f a)) → IfDone (IsIterated e) (r >>= f)
@@ -26,15 +26,20 @@ bind e r f after = done_bind (IsIterated e) r f after
 -- ---- the three ways of a row
 
 -- one more iterator
+last_is_there : (its : List Iterator) (it : Iterator) → nat_lt (length its) (length (its ++ it ∷ [])) ≡ true
+last_is_there its it = let more : length (its ++ it ∷ []) ≡ length its + 1 = length-append its (it ∷ []) in grind (arith, more)
+
 made : NewIteratorsStay → (e : Exporter) (s : Subject) → IsIterated e (with_iterator e s)
-made new e s = record { same = refl; iterators = new e.iterators (record { subject = s; position = 0; exhausted = false }); answers = refl }
+made new e s =
+    let it : Iterator = record { subject = s; position = 0; exhausted = false } in
+    record { same = refl; iterators = new e.iterators it; answers = last_is_there e.iterators it }
 
 -- nothing changes
-read : (e : Exporter) (r : LocalReply) → is_answer r ≡ true → IsIterated e (e, r)
+read : (e : Exporter) (r : LocalReply) → is_answer e r ≡ true → IsIterated e (e, r)
 read e r answers = record { same = refl; iterators = λ k it given. (it, given, record { subject = refl; exhausted = λ is. refl }); answers = answers }
 
 -- one that isn't exhausted moves
-moved : MovedIteratorsStay → (e : Exporter) (k : ℕ) (it after : Iterator) (r : LocalReply) → slice_get e.iterators k ≡ Some it → IsSameOrMoved it after → is_answer r ≡ true → IsIterated e (iterator_put e k after, r)
+moved : MovedIteratorsStay → (e : Exporter) (k : ℕ) (it after : Iterator) (r : LocalReply) → slice_get e.iterators k ≡ Some it → IsSameOrMoved it after → is_answer (iterator_put e k after) r ≡ true → IsIterated e (iterator_put e k after, r)
 moved stays e k it after r given move answers = record { same = refl; iterators = stays e.iterators k it after given move; answers = answers }
 
 -- so it may be at any place, and end

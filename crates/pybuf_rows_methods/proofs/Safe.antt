@@ -1,9 +1,8 @@
 -- Rows that read bytes as strings keep a sound exporter.
-use Rattle.std.proofs.Common.{◌≡◌, ℕ, List, true, refl, Ok}
-use Rattle.std.specs.Prelude.{Option, Result}
+use Rattle.std.proofs.Common.{◌≡◌, true, refl, Ok}
+use Rattle.std.specs.Prelude.{Result}
 use Rattle.pybuf_value.specs.declared.faults.Fault.{Fault}
 use Rattle.pybuf_value.specs.declared.faults.Fault.TheVariants as fault
-use Rattle.pybuf_value.specs.declared.snaps.Snap.{Snap}
 use Rattle.pybuf_value.specs.Refusing.{◌>>=◌, unless, done_bind}
 use Rattle.pybuf_bytes.specs.declared.methods.MethodReply.{MethodReply}
 use Rattle.pybuf_bytes.specs.declared.methods.MethodReply.TheVariants as answer
@@ -21,19 +20,19 @@ use Rattle.pybuf_rows_methods.specs.Laws.{CallIsSafe, ContainsIsSafe, HexIsSafe}
 bind : {A : Type 0} (e : Exporter) (r : Result A Fault) (f : A → Result (Exporter × LocalReply) Fault) → ((a : A) → r ≡ Ok a → IsSafe e (f a)) → IsSafe e (r >>= f)
 bind e r f after = done_bind (IsCarriedOut e) r f after
 
-read : ReadingKeeps → (e : Exporter) (r : LocalReply) → is_answer r ≡ true → IsCarriedOut e (e, r)
+read : ReadingKeeps → (e : Exporter) (r : LocalReply) → is_answer e r ≡ true → IsCarriedOut e (e, r)
 read reading e r answers = record { keeps = λ sound. reading e sound; answers = answers }
 
-method_answers : (given : MethodReply) → is_answer (reply_of_answer given) ≡ true
-method_answers (answer.Bytes bytes) = refl
-method_answers (answer.ByteLists lists) = refl
-method_answers (answer.Truth truth) = refl
-method_answers (answer.Number n) = refl
-method_answers (answer.Text text) = refl
+method_answers : (e : Exporter) (given : MethodReply) → is_answer e (reply_of_answer given) ≡ true
+method_answers e (answer.Bytes bytes) = refl
+method_answers e (answer.ByteLists lists) = refl
+method_answers e (answer.Truth truth) = refl
+method_answers e (answer.Number n) = refl
+method_answers e (answer.Text text) = refl
 
 pub call_safe : ReadingKeeps → CallIsSafe
 call_safe reading e call pairs =
-    bind e (unless (is_vector e.kind) fault.UnknownName) _ (λ _ _. bind e (method_reply pairs e.bytes call.name call.args) _ (λ given _. read reading e _ (method_answers given)))
+    bind e (unless (is_vector e.kind) fault.UnknownName) _ (λ _ _. bind e (method_reply pairs e.bytes call.name call.args) _ (λ given _. read reading e _ (method_answers e given)))
 
 pub contains_safe : ReadingKeeps → ContainsIsSafe
 contains_safe reading e v pairs =

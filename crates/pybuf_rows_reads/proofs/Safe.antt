@@ -27,7 +27,7 @@ use Rattle.pybuf_rows_reads.specs.Laws.{GetIsSafe, BytesIsSafe, LenIsSafe, Prope
 bind : {A : Type 0} (e : Exporter) (r : Result A Fault) (f : A → Result (Exporter × LocalReply) Fault) → ((a : A) → r ≡ Ok a → IsSafe e (f a)) → IsSafe e (r >>= f)
 bind e r f after = done_bind (IsCarriedOut e) r f after
 
-read : ReadingKeeps → (e : Exporter) (r : LocalReply) → is_answer r ≡ true → IsCarriedOut e (e, r)
+read : ReadingKeeps → (e : Exporter) (r : LocalReply) → is_answer e r ≡ true → IsCarriedOut e (e, r)
 read reading e r answers = record { keeps = λ sound. reading e sound; answers = answers }
 
 -- ---- get
@@ -89,20 +89,20 @@ own_safe reading e property.CContiguous = tt
 own_safe reading e property.FContiguous = tt
 
 -- what a view shows is no refusal
-shows_answer : (layout : Layout) (name : PropertyName) → IfDone (λ (r : LocalReply). is_answer r ≡ true) (property_of_layout layout name)
-shows_answer layout property.Exports = tt
-shows_answer layout property.Obj = refl
-shows_answer layout property.Nbytes = refl
-shows_answer layout property.Readonly = refl
-shows_answer layout property.Itemsize = refl
-shows_answer layout property.Ndim = refl
-shows_answer layout property.Shape = refl
-shows_answer layout property.Strides = refl
-shows_answer layout property.Suboffsets = refl
-shows_answer layout property.Format = refl
-shows_answer layout property.Contiguous = refl
-shows_answer layout property.CContiguous = refl
-shows_answer layout property.FContiguous = refl
+shows_answer : (e : Exporter) (layout : Layout) (name : PropertyName) → IfDone (λ (r : LocalReply). is_answer e r ≡ true) (property_of_layout layout name)
+shows_answer e layout property.Exports = tt
+shows_answer e layout property.Obj = refl
+shows_answer e layout property.Nbytes = refl
+shows_answer e layout property.Readonly = refl
+shows_answer e layout property.Itemsize = refl
+shows_answer e layout property.Ndim = refl
+shows_answer e layout property.Shape = refl
+shows_answer e layout property.Strides = refl
+shows_answer e layout property.Suboffsets = refl
+shows_answer e layout property.Format = refl
+shows_answer e layout property.Contiguous = refl
+shows_answer e layout property.CContiguous = refl
+shows_answer e layout property.FContiguous = refl
 
 done : {B : Type 0} (P : B → Type 0) (r : Result B Fault) (x : B) → IfDone P r → r ≡ Ok x → P x
 done P (Ok y) x holds is = let same : y ≡ x = cc in subst P same holds
@@ -113,7 +113,7 @@ view_safe reading e k name =
     bind e (unless (is_exports name) fault.UnknownName) _ (λ _ _.
     bind e (live_layout e k) _ (λ layout _.
     bind e (property_of_layout layout name) _ (λ answer found.
-    read reading e answer (done (λ (r : LocalReply). is_answer r ≡ true) (property_of_layout layout name) answer (shows_answer layout name) found))))
+    read reading e answer (done (λ (r : LocalReply). is_answer e r ≡ true) (property_of_layout layout name) answer (shows_answer e layout name) found))))
 
 pub property_safe : ReadingKeeps → PropertyIsSafe
 property_safe reading = (own_safe reading, view_safe reading)

@@ -1,5 +1,5 @@
 -- Each row keeps a sound exporter.
-use Rattle.std.proofs.Common.{◌≡◌, ◌≢◌, ℕ, zero, suc, ◌<◌, ◌≤◌, ◌+◌, ◌-◌, ◌*◌, mul_comm, ap, ◌∙◌, List, [], ◌∷◌, length, Bool, true, false, true≢false, ap₂, sym, refl, subst, arith}
+use Rattle.std.proofs.Common.{◌≡◌, ◌≢◌, ℕ, zero, suc, ◌<◌, ◌≤◌, ◌+◌, ◌-◌, ◌*◌, mul_comm, ap, ◌∙◌, List, [], ◌∷◌, ◌++◌, length, Bool, true, false, true≢false, ap₂, sym, refl, subst, arith}
 use Rattle.pybuf_value.specs.declared.faults.Fault.{Fault}
 use Rattle.pybuf_value.specs.declared.faults.Fault.TheVariants as fault
 use Rattle.pybuf_value.specs.Refusing.{◌>>=◌, unless, IfDone, done_bind}
@@ -8,11 +8,13 @@ use Rattle.pybuf_command.specs.declared.commands.LocalReply.{LocalReply}
 use Rattle.pybuf_command.specs.declared.commands.LocalReply.TheVariants as reply
 use Rattle.pybuf_state.specs.Exporter.{Exporter, View, whole_layout, view_at, live_layout, with_view, released_at, released_in}
 use Rattle.pybuf_state.specs.Sound.{IsSoundExporter}
+use Rattle.pybuf_state.specs.Spaced.{IsSpaced}
 use Rattle.pybuf_command.specs.declared.kinds.Subject.TheVariants as subject
 use Rattle.pybuf_command.specs.Kinds.{holds_readonly}
 use Rattle.pybuf_state.specs.Keeps.{IsCarriedOut, IsSafe, IsCopied}
 use Rattle.std.specs.Prelude.{◌==◌, ◌%◌, ◌&&◌, not, nat_lt, nat_le, min, Option, Some, None, if◌then◌else◌, ℤ, pos, negsuc, Result, Ok, Err}
 use Rattle.std.proofs.lemmas.Int.{ints}
+use Rattle.std.proofs.lemmas.List.{length-append}
 use Rattle.std.proofs.lemmas.Bool.{eq-eqb, eqb-true}
 use Rattle.pybuf_value.specs.declared.values.PySlice.{PySlice}
 use Rattle.pybuf_value.specs.declared.values.Scalar.{Scalar}
@@ -25,11 +27,12 @@ use Rattle.pybuf_struct.specs.Formats.{Format, format_of}
 use Rattle.pybuf_desc.specs.Contiguous.{is_contiguous_layout}
 use Rattle.pybuf_desc.specs.Slices.{slice_of}
 use Rattle.pybuf_desc.specs.Casts.{cast_of}
-use Rattle.pybuf_desc.specs.Laws.{SlicesStayInside, SlicesHaveTheirShape, CastsStayInside, CastsHaveTheirShape, ShapedCastsStayInside, ShapedCastsHaveTheirShape}
+use Rattle.pybuf_desc.specs.Apart.{HasItemsApart}
+use Rattle.pybuf_desc.specs.Laws.{SlicesStayInside, SlicesHaveTheirShape, SlicesLieApart, CastsStayInside, CastsHaveTheirShape, CastsLieApart, ShapedCastsStayInside, ShapedCastsHaveTheirShape, WholeLayoutsLieApart}
 use Rattle.pybuf_memoryview.specs.Sized.{is_size_of}
 use Rattle.pybuf_memoryview.specs.Items.{has_dimensions}
 use Rattle.pybuf_memoryview.specs.Orders.{nbytes_of, has_zero_entry}
-use Rattle.pybuf_state.specs.Laws.{IsSoundLayout, WholeLayoutsAreSound, PartLayoutsAreSound, LiveLayoutsAreSound, ReadingKeeps, NewViewsKeep, ReleasingKeeps}
+use Rattle.pybuf_state.specs.Laws.{IsSoundLayout, WholeLayoutsAreSound, PartLayoutsAreSound, LiveLayoutsAreSound, LiveLayoutsLieApart, ReadingKeeps, NewViewsKeep, ReleasingKeeps}
 use Rattle.pybuf_rows_views.specs.Range.{part_between}
 use Rattle.pybuf_value.specs.Texts.{text_in}
 use Rattle.pybuf_rows_views.specs.Cast.{size_of_format, size_for, entries_of, flat_layout_of, shaped_layout_of, layout_in_shape}
@@ -38,14 +41,21 @@ use Rattle.pybuf_rows_views.specs.Laws.{ViewIsSafe, RangeIsSafe, SliceIsSafe, Ca
 bind : {A : Type 0} (e : Exporter) (r : Result A Fault) (f : A → Result (Exporter × LocalReply) Fault) → ((a : A) → r ≡ Ok a → IsSafe e (f a)) → IsSafe e (r >>= f)
 bind e r f after = done_bind (IsCarriedOut e) r f after
 
--- one more view of a layout that is sound where the exporter is
-new_view : NewViewsKeep → (e : Exporter) (layout : Layout) → (IsSoundExporter e → IsSoundLayout e layout) → IsCarriedOut e (with_view e layout)
-new_view adding e layout made = record { keeps = λ sound. adding e layout sound (made sound); answers = refl }
+last_is_there : (views : List View) (v : View) → nat_lt (length views) (length (views ++ v ∷ [])) ≡ true
+last_is_there views v = let more : length (views ++ v ∷ []) ≡ length views + 1 = length-append views (v ∷ []) in grind (arith, more)
 
-pub view_safe : NewViewsKeep → WholeLayoutsAreSound → LiveLayoutsAreSound → ViewIsSafe
-view_safe adding whole live = (
-  (λ e. new_view adding e (whole_layout e) (λ sound. whole e)),
-  (λ e k. bind e (live_layout e k) _ (λ layout found. new_view adding e layout (λ sound. live e k layout sound found))),
+-- one more view of a layout that is sound where the exporter is, and whose items lie apart where those of its
+-- views do
+new_view : NewViewsKeep → (e : Exporter) (layout : Layout) → (IsSoundExporter e → IsSoundLayout e layout) → (IsSpaced e → HasItemsApart layout) → IsCarriedOut e (with_view e layout)
+new_view adding e layout made apart = record {
+  keeps = λ sound. adding e layout sound (made sound) apart;
+  answers = last_is_there e.views (record { made_at = length e.bytes; layout = layout; released = false });
+}
+
+pub view_safe : NewViewsKeep → WholeLayoutsAreSound → WholeLayoutsLieApart → LiveLayoutsAreSound → LiveLayoutsLieApart → ViewIsSafe
+view_safe adding whole bytes_apart live apart = (
+  (λ e. new_view adding e (whole_layout e) (λ sound. whole e) (λ spaced. bytes_apart.0 (length e.bytes) (holds_readonly e.kind))),
+  (λ e k. bind e (live_layout e k) _ (λ layout found. new_view adding e layout (λ sound. live e k layout sound found) (λ spaced. apart e k layout spaced found))),
 )
 
 -- ---- slices
@@ -106,13 +116,23 @@ sliced inside shapes e layout parts u some moves sound =
       readonly = sound.readonly;
     }
 
-pub slice_safe : NewViewsKeep → LiveLayoutsAreSound → SlicesStayInside → SlicesHaveTheirShape → SliceIsSafe
-slice_safe adding live inside shapes e k slice =
+-- the laws that a slice rests on
+pub record SliceLaws : Type 0 where
+  pub adding : NewViewsKeep
+  pub live : LiveLayoutsAreSound
+  pub inside : SlicesStayInside
+  pub shapes : SlicesHaveTheirShape
+  pub live_apart : LiveLayoutsLieApart
+  pub apart : SlicesLieApart
+
+pub slice_safe : SliceLaws → SliceIsSafe
+slice_safe laws e k slice =
     bind e (live_layout e k) _ (λ layout found.
     bind e (has_dimensions layout) _ (λ u some.
     bind e (saturated_parts_of slice) _ (λ parts given.
-    new_view adding e (slice_of layout parts) (λ sound.
-    sliced inside shapes e layout parts u some (done (λ (p : SliceParts). p.step ≢ pos 0) (saturated_parts_of slice) parts (slice_moves slice) given) (live e k layout sound found)))))
+    let moves : parts.step ≢ pos 0 = done (λ (p : SliceParts). p.step ≢ pos 0) (saturated_parts_of slice) parts (slice_moves slice) given in
+    new_view laws.adding e (slice_of layout parts) (λ sound. sliced laws.inside laws.shapes e layout parts u some moves (laws.live e k layout sound found))
+    (λ spaced. laws.apart layout parts moves (laws.live_apart e k layout spaced found)))))
 
 -- ---- casts
 
@@ -146,6 +166,7 @@ pub record CastLaws : Type 0 where
   pub shapes : CastsHaveTheirShape
   pub shaped_inside : ShapedCastsStayInside
   pub shaped_shapes : ShapedCastsHaveTheirShape
+  pub apart : CastsLieApart
 
 size_last : (n size : ℕ) (part : Bool) → (unless part fault.Kind >>= λ _. Ok n) ≡ Ok size → n ≡ size
 size_last n size true is = absurd (cc)
@@ -204,6 +225,29 @@ in_shape_sound laws e layout text (Some (value.One s)) flat = tt
 in_shape_sound laws e layout text (Some (value.Slice s)) flat = tt
 in_shape_sound laws e layout text (Some (value.Slices s)) flat = tt
 
+-- and the items of what is cast lie apart
+flat_apart : CastsLieApart → (layout : Layout) (text : List ℕ) → IfDone HasItemsApart (flat_layout_of layout text)
+flat_apart apart layout text =
+    done_bind HasItemsApart (unless (not (length layout.shape == 1) && has_zero_entry layout.shape) fault.Kind) _ (λ _ _.
+    done_bind HasItemsApart (size_for (nbytes_of layout) text) _ (λ size _. apart.0 layout text size))
+
+shaped_apart : CastsLieApart → (layout : Layout) (text : List ℕ) (parts : List Scalar) → IfDone HasItemsApart (shaped_layout_of layout text parts)
+shaped_apart apart layout text parts =
+    done_bind HasItemsApart (unless (has_zero_entry layout.shape) fault.Kind) _ (λ _ _.
+    done_bind HasItemsApart (unless (not (length layout.shape == 1) && not (length parts == 1)) fault.Kind) _ (λ _ _.
+    done_bind HasItemsApart (unless (nat_lt 64 (length parts)) fault.Value) _ (λ _ _.
+    done_bind HasItemsApart (size_for (nbytes_of layout) text) _ (λ size _.
+    done_bind HasItemsApart (entries_of size parts) _ (λ entries _.
+    done_bind HasItemsApart (unless (not (size * product entries == nbytes_of layout)) fault.Kind) _ (λ _ _. apart.1 layout text size entries))))))
+
+in_shape_apart : CastsLieApart → (layout : Layout) (text : List ℕ) (shape : Option Value) → IfDone HasItemsApart (layout_in_shape layout text shape)
+in_shape_apart apart layout text None = flat_apart apart layout text
+in_shape_apart apart layout text (Some (value.Tuple parts)) = shaped_apart apart layout text parts
+in_shape_apart apart layout text (Some (value.List parts)) = shaped_apart apart layout text parts
+in_shape_apart apart layout text (Some (value.One s)) = tt
+in_shape_apart apart layout text (Some (value.Slice s)) = tt
+in_shape_apart apart layout text (Some (value.Slices s)) = tt
+
 pub cast_safe : CastLaws → CastIsSafe
 cast_safe laws e k format shape =
     bind e (live_layout e k) _ (λ layout found.
@@ -213,7 +257,8 @@ cast_safe laws e k format shape =
     new_view laws.adding e made (λ sound.
     let flat = not_false (is_contiguous_layout layout) (passed (not (is_contiguous_layout layout)) fault.Kind b is_flat) in
     let P : Layout → Type 0 = λ l. IsSoundLayout e layout → IsSoundLayout e l in
-    done P (layout_in_shape layout text shape) made (in_shape_sound laws e layout text shape flat) given (laws.live e k layout sound found))))))
+    done P (layout_in_shape layout text shape) made (in_shape_sound laws e layout text shape flat) given (laws.live e k layout sound found))
+    (λ spaced. done HasItemsApart (layout_in_shape layout text shape) made (in_shape_apart laws.apart layout text shape) given)))))
 
 -- ---- ranges
 
@@ -227,13 +272,14 @@ part_within count (pos from) (negsuc to) = tt
 part_within count (negsuc from) (pos to) = tt
 part_within count (negsuc from) (negsuc to) = tt
 
-pub range_safe : NewViewsKeep → PartLayoutsAreSound → RangeIsSafe
-range_safe adding part e from to =
+pub range_safe : NewViewsKeep → PartLayoutsAreSound → WholeLayoutsLieApart → RangeIsSafe
+range_safe adding part apart e from to =
     bind e (number_of from) _ (λ first _.
     bind e (number_of to) _ (λ end _.
     bind e (part_between (length e.bytes) first end) _ (λ found is.
     new_view adding e (bytes_layout_from found.0 found.1 (holds_readonly e.kind)) (λ sound.
-    part e found.0 found.1 (done (λ (p : ℕ × ℕ). p.0 + p.1 ≤ length e.bytes) (part_between (length e.bytes) first end) found (part_within (length e.bytes) first end) is)))))
+    part e found.0 found.1 (done (λ (p : ℕ × ℕ). p.0 + p.1 ≤ length e.bytes) (part_between (length e.bytes) first end) found (part_within (length e.bytes) first end) is))
+    (λ spaced. apart.1 found.0 found.1 (holds_readonly e.kind)))))
 
 -- ---- the view itself, and its copy
 
@@ -253,10 +299,10 @@ read_only e layout sound = record {
   readonly = λ _. refl;
 }
 
-pub toreadonly_safe : NewViewsKeep → LiveLayoutsAreSound → ToReadonlyIsSafe
-toreadonly_safe adding live e k =
+pub toreadonly_safe : NewViewsKeep → LiveLayoutsAreSound → LiveLayoutsLieApart → ToReadonlyIsSafe
+toreadonly_safe adding live apart e k =
     bind e (live_layout e k) _ (λ layout found.
-    new_view adding e (record layout { readonly = true }) (λ sound. read_only e layout (live e k layout sound found)))
+    new_view adding e (record layout { readonly = true }) (λ sound. read_only e layout (live e k layout sound found)) (λ spaced. apart e k layout spaced found))
 
 -- ---- releases
 

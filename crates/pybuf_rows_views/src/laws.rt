@@ -9,6 +9,8 @@ pub fn view_is_safe()
     pybuf_state::new_views_keep();
     pybuf_state::whole_layouts_are_sound();
     pybuf_state::live_layouts_are_sound();
+    pybuf_state::live_layouts_lie_apart();
+    pybuf_desc::whole_layouts_lie_apart();
 }
 
 /// `range` keeps a sound exporter.
@@ -17,6 +19,7 @@ pub fn range_is_safe()
 {
     pybuf_state::new_views_keep();
     pybuf_state::part_layouts_are_sound();
+    pybuf_desc::whole_layouts_lie_apart();
 }
 
 /// `get` of a view by a slice keeps a sound exporter.
@@ -25,8 +28,10 @@ pub fn slice_is_safe()
 {
     pybuf_state::new_views_keep();
     pybuf_state::live_layouts_are_sound();
+    pybuf_state::live_layouts_lie_apart();
     pybuf_desc::slices_stay_inside();
     pybuf_desc::slices_have_their_shape();
+    pybuf_desc::slices_lie_apart();
 }
 
 /// `cast` keeps a sound exporter.
@@ -39,6 +44,7 @@ pub fn cast_is_safe()
     pybuf_desc::casts_have_their_shape();
     pybuf_desc::shaped_casts_stay_inside();
     pybuf_desc::shaped_casts_have_their_shape();
+    pybuf_desc::casts_lie_apart();
 }
 
 /// `release` keeps a sound exporter.
@@ -66,6 +72,7 @@ pub fn toreadonly_is_safe()
 {
     pybuf_state::new_views_keep();
     pybuf_state::live_layouts_are_sound();
+    pybuf_state::live_layouts_lie_apart();
 }
 
 /// Releasing a view twice is releasing it once.

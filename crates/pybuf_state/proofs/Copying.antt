@@ -15,7 +15,7 @@ use Rattle.pybuf_state.specs.Snaps.{snap_kind_of, snap_of_exporter}
 use Rattle.pybuf_state.specs.Exporter.{Exporter, new_exporter, live_layout}
 use Rattle.pybuf_state.specs.Fresh.{is_readonly_view, is_readonly_subject, vector_of, made_by_kind, made_of, IsPackedCopy, HoldsCopy}
 use Rattle.pybuf_state.specs.Sound.{IsSoundView, IsSoundExporter}
-use Rattle.pybuf_state.specs.Laws.{IsSoundLayout, LiveLayoutsAreSound, NewViewsKeep, CopiesAreFaithful}
+use Rattle.pybuf_state.specs.Laws.{IsSoundLayout, LiveLayoutsAreSound, NewViewsAreSound, CopiesAreFaithful}
 use Rattle.pybuf_state.proofs.Finding.{live_view}
 
 -- an unreleased view may only be read where its layout says so
@@ -23,15 +23,15 @@ readonly_of_live : (e : Exporter) (k : ℕ) (layout : Layout) → live_layout e 
 readonly_of_live e k layout found =
     let live = live_view e k layout found in ap is_readonly_view live.1.given ∙ ap (λ (l : Layout). l.readonly) live.1.shows
 
-made_sound : NewViewsKeep → (e : Exporter) (layout : Layout) → IsSoundLayout e layout → IsCopiedLayout e.bytes layout (row_major_of layout) → IsSoundExporter (vector_of layout.readonly (snap_of_copy e.bytes layout))
+made_sound : NewViewsAreSound → (e : Exporter) (layout : Layout) → IsSoundLayout e layout → IsCopiedLayout e.bytes layout (row_major_of layout) → IsSoundExporter (vector_of layout.readonly (snap_of_copy e.bytes layout))
 made_sound adding e layout sound copied =
     let plain : Exporter = new_exporter (exporter_kind.Vector layout.readonly) (content_of_layout e.bytes layout) in
-    (adding plain (row_major_of layout) (record { views = All-nil (IsSoundView plain.kind plain.bytes) })
+    adding plain (row_major_of layout) (record { views = All-nil (IsSoundView plain.kind plain.bytes) })
     (record {
       formed = record { sized = sound.formed.sized; counted = copied.counted };
       inside = copied.inside;
       readonly = λ is. is;
-    })).sound
+    })
 
 packed : (e : Exporter) (layout : Layout) → IsCopiedLayout e.bytes layout (row_major_of layout) → IsPackedCopy e.bytes layout (content_of_layout e.bytes layout) (row_major_of layout)
 packed e layout copied = record {
@@ -45,7 +45,7 @@ packed e layout copied = record {
   contiguous = copied.contiguous;
 }
 
-faithful_view : LiveLayoutsAreSound → NewViewsKeep → CopiesHaveTheirBytes → (e : Exporter) (k : ℕ) (layout : Layout) → IsSoundExporter e → live_layout e k ≡ Ok layout
+faithful_view : LiveLayoutsAreSound → NewViewsAreSound → CopiesHaveTheirBytes → (e : Exporter) (k : ℕ) (layout : Layout) → IsSoundExporter e → live_layout e k ≡ Ok layout
     → (IsSoundExporter (vector_of layout.readonly (snap_of_copy e.bytes layout))) × (HoldsCopy e (subject.View k) (vector_of layout.readonly (snap_of_copy e.bytes layout)))
 faithful_view live adding copies e k layout sound found =
     let sound_layout = live e k layout sound found in
@@ -62,7 +62,7 @@ faithful_own e readonly k is made by =
     let same : made ≡ new_exporter exporter_kind.ByteArray e.bytes = by ∙ ap (λ (kind : ExporterKind). made_by_kind (snap_kind_of kind) readonly (snap_of_exporter e)) is in
     (subst IsSoundExporter (sym same) (byte_array_sound e.bytes), same)
 
-pub faithful : LiveLayoutsAreSound → NewViewsKeep → CopiesHaveTheirBytes → CopiesAreFaithful
+pub faithful : LiveLayoutsAreSound → NewViewsAreSound → CopiesHaveTheirBytes → CopiesAreFaithful
 faithful live adding copies e (subject.View k) snap sound copy =
     let holds = faithful_view live adding copies e k copy.0 sound copy.1 in
     let P : Bool → Snap → Type 0 = λ readonly s. (IsSoundExporter (made_of readonly s)) × (HoldsCopy e (subject.View k) (made_of readonly s)) in

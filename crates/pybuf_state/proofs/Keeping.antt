@@ -13,7 +13,8 @@ use Rattle.pybuf_state.specs.Exporter.{Exporter, View, Iterator, is_exported, ex
 use Rattle.pybuf_state.specs.Sound.{IsSoundView, IsSoundExporter}
 use Rattle.pybuf_state.specs.Keeps.{IsSameOrReleased, ViewsStay, LengthsStay, IsSameOrMoved}
 use Rattle.pybuf_state.specs.Resizing.{has_exports}
-use Rattle.pybuf_state.specs.Laws.{IsSoundLayout, WholeLayoutsAreSound, PartLayoutsAreSound, LiveLayoutsAreSound, ReadingKeeps, NewViewsKeep, WritingKeeps, ResizingKeeps, EmptyingKeeps, ReleasingKeeps, NewIteratorsStay, MovedIteratorsStay}
+use Rattle.pybuf_state.specs.Laws.{IsSoundLayout, WholeLayoutsAreSound, PartLayoutsAreSound, LiveLayoutsAreSound, ReadingKeeps, NewViewsKeep, NewViewsAreSound, WritingKeeps, ResizingKeeps, EmptyingKeeps, ReleasingKeeps, NewIteratorsStay, MovedIteratorsStay}
+use Rattle.pybuf_state.proofs.Spacing.{one_more, one_released, same_views}
 use Rattle.pybuf_state.proofs.Finding.{All-slice_get, view_at_given, live_view, slice_get-push, slice_get-set}
 
 -- ---- layouts
@@ -72,6 +73,7 @@ reading e sound = record {
   lengths = record { views = views_same e.views; bytes = λ live. refl };
   readonly_bytes = λ readonly. inl refl;
   iterators = refl;
+  items_apart = λ spaced. spaced;
 }
 
 new_view : (e : Exporter) (layout : Layout) → IsSoundLayout e layout → IsSoundView e.kind e.bytes (record { made_at = length e.bytes; layout = layout; released = false })
@@ -81,15 +83,21 @@ new_view e layout made = record {
   held = λ unreleased. record { inside = made.inside; length_kept = refl };
 }
 
+pub one_more_sound : NewViewsAreSound
+one_more_sound e layout sound made =
+    let v : View = record { made_at = length e.bytes; layout = layout; released = false } in
+    record { views = All-push (IsSoundView e.kind e.bytes) e.views v sound.views (new_view e layout made) }
+
 pub adding : NewViewsKeep
-adding e layout sound made =
+adding e layout sound made apart =
     let v : View = record { made_at = length e.bytes; layout = layout; released = false } in
     record {
       kind = refl;
-      sound = record { views = All-push (IsSoundView e.kind e.bytes) e.views v sound.views (new_view e layout made) };
+      sound = one_more_sound e layout sound made;
       lengths = record { views = λ k w found. (w, slice_get-push e.views v w k found, same w); bytes = λ live. refl };
       readonly_bytes = λ readonly. inl refl;
       iterators = refl;
+      items_apart = λ spaced. one_more e layout spaced (apart spaced);
     }
 
 held_by_length : (k : ExporterKind) (old new : List ℕ) (v : View) → length new ≡ length old → IsSoundView k old v → IsSoundView k new v
@@ -111,6 +119,7 @@ writing e bytes sound writable same_length = record {
   lengths = record { views = views_same e.views; bytes = λ live. same_length };
   readonly_bytes = λ readonly. absurd (true≢false (sym readonly ∙ writable));
   iterators = refl;
+  items_apart = same_views e (record e { bytes = bytes }) refl;
 }
 
 -- where no view is unreleased, none is held
@@ -148,6 +157,7 @@ resizing e bytes sound none writable = record {
   lengths = free_lengths e bytes none;
   readonly_bytes = λ readonly. absurd (true≢false (sym readonly ∙ writable));
   iterators = refl;
+  items_apart = same_views e (record e { bytes = bytes }) refl;
 }
 
 pub emptying : EmptyingKeeps
@@ -157,6 +167,7 @@ emptying e sound none vector = record {
   lengths = free_lengths e [] none;
   readonly_bytes = λ readonly. inr (record { vector = vector; free = free e none; empty = refl });
   iterators = refl;
+  items_apart = same_views e (record e { bytes = [] }) refl;
 }
 
 released_sound : (k : ExporterKind) (bytes : List ℕ) (v : View) → IsSoundView k bytes v → IsSoundView k bytes (record v { released = true })
@@ -178,6 +189,7 @@ releasing e k v sound found =
       lengths = record { views = λ j u there. slice_get-set IsSameOrReleased e.views k j v w u same (inr refl) at there; bytes = λ live. refl };
       readonly_bytes = λ readonly. inl refl;
       iterators = refl;
+      items_apart = λ spaced. one_released e k v spaced found;
     }
 
 -- ---- iterators

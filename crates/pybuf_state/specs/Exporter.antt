@@ -1,6 +1,6 @@
 -- Exporters of bytes, the views of them, and the iterators over them.
 -- A place is the number of a byte in its exporter.
-use Rattle.std.specs.Prelude.{ℕ, List, [], ◌∷◌, ◌++◌, length, set, Bool, true, false, not, Result, Ok, slice_get, count_by}
+use Rattle.std.specs.Prelude.{ℕ, List, [], ◌∷◌, ◌++◌, length, set, Bool, true, false, not, nat_lt, Result, Ok, slice_get, count_by}
 use Rattle.std.specs.Option.{ok_or}
 use Rattle.pybuf_value.specs.declared.faults.Fault.{Fault}
 use Rattle.pybuf_value.specs.declared.faults.Fault.TheVariants as fault
@@ -10,6 +10,7 @@ use Rattle.pybuf_desc.specs.Layouts.{Layout, bytes_layout}
 use Rattle.pybuf_command.specs.declared.kinds.ExporterKind.{ExporterKind}
 use Rattle.pybuf_command.specs.Kinds.{holds_readonly}
 use Rattle.pybuf_command.specs.declared.kinds.Subject.{Subject}
+use Rattle.pybuf_command.specs.declared.kinds.Subject.TheVariants as subject
 use Rattle.pybuf_command.specs.declared.commands.LocalReply.{LocalReply}
 use Rattle.pybuf_command.specs.declared.commands.LocalReply.TheVariants as reply
 
@@ -47,6 +48,12 @@ is_exported v = not v.released
 -- the number of unreleased views
 abbrev pub exports_of : Exporter → ℕ
 exports_of e = count_by is_exported e.views
+
+-- whether an exporter has a subject: itself, or a view or an iterator of that number that was made of it
+abbrev pub has_subject : Exporter → Subject → Bool
+has_subject e subject.Own = true
+has_subject e (subject.View k) = nat_lt k (length e.views)
+has_subject e (subject.Iter k) = nat_lt k (length e.iterators)
 
 -- the view of a number, which was given
 abbrev pub view_at : Exporter → ℕ → Result View Fault

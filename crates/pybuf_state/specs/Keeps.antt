@@ -9,9 +9,11 @@ use Rattle.pybuf_command.specs.declared.commands.LocalReply.TheVariants as reply
 use Rattle.pybuf_command.specs.declared.kinds.ExporterKind.{ExporterKind}
 use Rattle.pybuf_command.specs.declared.kinds.ExporterKind.TheVariants as kind
 use Rattle.pybuf_command.specs.declared.kinds.Subject.{Subject}
+use Rattle.pybuf_command.specs.declared.kinds.Subject.TheVariants as subject
 use Rattle.pybuf_command.specs.Kinds.{holds_readonly}
-use Rattle.pybuf_state.specs.Exporter.{Exporter, View, Iterator, exports_of}
+use Rattle.pybuf_state.specs.Exporter.{Exporter, View, Iterator, exports_of, has_subject}
 use Rattle.pybuf_state.specs.Sound.{IsSoundExporter}
+use Rattle.pybuf_state.specs.Spaced.{IsSpaced}
 use Rattle.pybuf_state.specs.Fresh.{IsCopyOf}
 
 -- a view after a command is as it was, or became released
@@ -50,6 +52,7 @@ pub record Keeps (old new : Exporter) : Type 0 where
   pub lengths : LengthsStay old new
   pub readonly_bytes : ReadOnlyBytesStay old new
   pub iterators : new.iterators ≡ old.iterators
+  pub items_apart : IsSpaced old → IsSpaced new
 
 -- an iterator after a command goes over the same subject, and is as it was where it was exhausted
 pub record IsSameOrMoved (old new : Iterator) : Type 0 where
@@ -64,18 +67,21 @@ IteratorsStay old new = (k : ℕ) (it : Iterator) → slice_get old k ≡ Some i
 abbrev pub is_one_line : List ℕ → Bool
 is_one_line text = not (list_any (λ b. b == byte "\n") text)
 
--- a reply that is no refusal, by which no exporter is made, and which shows nothing but one line
-abbrev pub is_answer : LocalReply → Bool
-is_answer (reply.Refused f) = false
-is_answer (reply.Fresh snap) = false
-is_answer (reply.Shown text) = is_one_line text
-is_answer _ = true
+-- a reply that is no refusal, by which no exporter is made, which shows nothing but one line, and which names
+-- no view and no iterator but those that the exporter has
+abbrev pub is_answer : Exporter → LocalReply → Bool
+is_answer e (reply.Refused f) = false
+is_answer e (reply.Fresh snap) = false
+is_answer e (reply.Shown text) = is_one_line text
+is_answer e (reply.View k) = has_subject e (subject.View k)
+is_answer e (reply.Iter k) = has_subject e (subject.Iter k)
+is_answer e _ = true
 
--- a row that isn't refused keeps all this, replies neither a refusal nor something fresh, and shows one
--- line at most
+-- a row that isn't refused keeps all this, replies neither a refusal nor something fresh, shows one line at
+-- most, and names what its exporter has then
 pub record IsCarriedOut (old : Exporter) (after : Exporter × LocalReply) : Type 0 where
   pub keeps : IsSoundExporter old → Keeps old after.0
-  pub answers : is_answer after.1 ≡ true
+  pub answers : is_answer after.0 after.1 ≡ true
 
 -- the same of a row that may be refused
 abbrev pub IsSafe : Exporter → Result (Exporter × LocalReply) Fault → Type 0
@@ -85,7 +91,7 @@ IsSafe old row = IfDone (IsCarriedOut old) row
 pub record IsIterated (old : Exporter) (after : Exporter × LocalReply) : Type 0 where
   pub same : after.0 ≡ record old { iterators = after.0.iterators }
   pub iterators : IteratorsStay old.iterators after.0.iterators
-  pub answers : is_answer after.1 ≡ true
+  pub answers : is_answer after.0 after.1 ≡ true
 
 -- the reply is a copy of the subject
 abbrev pub RepliesCopy : Exporter → Subject → LocalReply → Type 0

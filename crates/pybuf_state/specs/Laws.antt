@@ -33,9 +33,14 @@ LiveLayoutsAreSound = (e : Exporter) (k : ℕ) (layout : Layout) → IsSoundExpo
 abbrev pub ReadingKeeps : Type 0
 ReadingKeeps = (e : Exporter) → IsSoundExporter e → Keeps e e
 
--- so it is where it gets one more view
+-- so it is where it gets one more view, of which no two items share a byte where that holds of the others
 abbrev pub NewViewsKeep : Type 0
-NewViewsKeep = (e : Exporter) (layout : Layout) → IsSoundExporter e → IsSoundLayout e layout → Keeps e (with_view e layout).0
+NewViewsKeep =
+    (e : Exporter) (layout : Layout) → IsSoundExporter e → IsSoundLayout e layout → (IsSpaced e → HasItemsApart layout) → Keeps e (with_view e layout).0
+
+-- whether its items share bytes or not, the exporter is sound
+abbrev pub NewViewsAreSound : Type 0
+NewViewsAreSound = (e : Exporter) (layout : Layout) → IsSoundExporter e → IsSoundLayout e layout → IsSoundExporter (with_view e layout).0
 
 -- and where bytes that may be written get others in their place, as many as there were
 abbrev pub WritingKeeps : Type 0

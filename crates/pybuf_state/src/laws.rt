@@ -1,5 +1,5 @@
 //! Laws of the definitions that the contracts cite. Each stands on a function with an empty body.
-ghost use Rattle.pybuf_state.specs.Laws.{WholeLayoutsAreSound, PartLayoutsAreSound, LiveLayoutsAreSound, CopiesAreFaithful, ReadingKeeps, NewViewsKeep, WritingKeeps, ResizingKeeps, EmptyingKeeps, ReleasingKeeps, NewIteratorsStay, MovedIteratorsStay, NewExportersAreSpaced, NewViewsStayApart, ReleasedViewsStayApart, SameViewsStayApart, LiveLayoutsLieApart, CopiesAreSpaced};
+ghost use Rattle.pybuf_state.specs.Laws.{WholeLayoutsAreSound, PartLayoutsAreSound, LiveLayoutsAreSound, CopiesAreFaithful, ReadingKeeps, NewViewsKeep, NewViewsAreSound, WritingKeeps, ResizingKeeps, EmptyingKeeps, ReleasingKeeps, NewIteratorsStay, MovedIteratorsStay, NewExportersAreSpaced, NewViewsStayApart, ReleasedViewsStayApart, SameViewsStayApart, LiveLayoutsLieApart, CopiesAreSpaced};
 
 /// A view of all bytes may be made of every exporter.
 pub fn whole_layouts_are_sound()
@@ -22,9 +22,15 @@ pub fn reading_keeps()
     ensures { ReadingKeeps }
 {}
 
-/// An exporter that gets one more view is kept.
+/// An exporter that gets one more view is kept. Where no two items of its views share a byte, none of the new one
+/// may.
 pub fn new_views_keep()
     ensures { NewViewsKeep }
+{}
+
+/// An exporter that gets one more view is sound, also where the items of that view share bytes.
+pub fn new_views_are_sound()
+    ensures { NewViewsAreSound }
 {}
 
 /// An exporter that may be written is kept where as many other bytes take the place of its bytes.
@@ -64,7 +70,7 @@ pub fn copies_are_faithful()
     ensures { CopiesAreFaithful }
 {
     live_layouts_are_sound();
-    new_views_keep();
+    new_views_are_sound();
     pybuf_desc::copies_have_their_bytes();
 }
 

@@ -5,7 +5,6 @@ use Rattle.std.specs.List.{All, position_or_len}
 use Rattle.std.proofs.lemmas.Bool.{eq-eqb, ne_eqb, cases_lt}
 use Rattle.std.proofs.lemmas.Option.{slice_get_within}
 use Rattle.std.proofs.lemmas.List.{get_or_push}
-use Rattle.std.proofs.lemmas.List.Elements.{All-push}
 use Rattle.std.proofs.lemmas.List.Folds.{position_or_len_push}
 use Rattle.std.proofs.lemmas.List.Sums.{position_or_len_is}
 use Rattle.std.proofs.Math.ListN.{get_or-append}
@@ -95,8 +94,3 @@ one_is_first n i handles owners there names counted firsts (inr from) less =
 pub first_with_new : (n : ℕ) (handles : List Named) (owners : List ℕ) → NameExporters n handles → AreNamed n handles → length owners ≡ n → AreFirst n handles owners
     → AreFirst (n + 1) (handles ++ named.Exporter n ∷ []) (owners ++ length handles ∷ [])
 first_with_new n handles owners there names counted firsts i less = one_is_first n i handles owners there names counted firsts (cases_lt i n) less
-
-pub there_with_new : (n : ℕ) (handles : List Named) → NameExporters n handles → NameExporters (n + 1) (handles ++ named.Exporter n ∷ [])
-there_with_new n handles there =
-    All-push (λ name. exporter_of name < n + 1) handles (named.Exporter n)
-    (λ k d below. omega (arith, there k d below)) (omega arith)

@@ -1,8 +1,10 @@
 pub mod Lists
 pub mod Steps
 pub mod Handles
+pub mod Given
 pub mod Making
 pub mod Sound
+pub mod Apart
 pub mod Runs
 pub mod Refusals
 pub mod Stays

@@ -1,5 +1,5 @@
 -- Laws of worlds.
-use Rattle.std.specs.Prelude.{◌≡◌, ◌≢◌, ◌==◌, ℕ, ◌<◌, ◌≤◌, true, List, [], ◌∷◌, ◌++◌, length, slice_get, Some, Ok}
+use Rattle.std.specs.Prelude.{◌≡◌, ◌≢◌, ◌==◌, ℕ, ◌<◌, ◌≤◌, true, false, List, [], ◌∷◌, ◌++◌, length, slice_get, Some, Ok, Err}
 use Rattle.std.specs.List.{list_any}
 use Rattle.pybuf_value.specs.declared.faults.Fault.{Fault}
 use Rattle.pybuf_value.specs.declared.faults.Fault.TheVariants as fault
@@ -9,7 +9,9 @@ use Rattle.pybuf_command.specs.declared.kinds.Subject.{Subject}
 use Rattle.pybuf_command.specs.declared.kinds.Subject.TheVariants as subject
 use Rattle.pybuf_command.specs.declared.commands.Verb.{Verb}
 use Rattle.pybuf_command.specs.Handles.{handles_of_options}
-use Rattle.pybuf_state.specs.Exporter.{Exporter, new_exporter}
+use Rattle.pybuf_desc.specs.Layouts.{Layout}
+use Rattle.pybuf_desc.specs.Apart.{HasItemsApart}
+use Rattle.pybuf_state.specs.Exporter.{Exporter, new_exporter, live_layout}
 use Rattle.pybuf_state.specs.Fresh.{HoldsCopy}
 use Rattle.pybuf_state.specs.Keeps.{LengthsStay, ReadOnlyBytesStay, IteratorsStay, is_one_line}
 use Rattle.pybuf_world.specs.declared.named.Named.TheVariants as named
@@ -17,7 +19,7 @@ use Rattle.pybuf_command.specs.declared.worlds.Command.{Command}
 use Rattle.pybuf_command.specs.declared.worlds.Command.TheVariants as command
 use Rattle.pybuf_command.specs.declared.worlds.Reply.{Reply}
 use Rattle.pybuf_command.specs.declared.worlds.Reply.TheVariants as reply
-use Rattle.pybuf_world.specs.World.{World, empty_world, bytes_of_new, wstep, released_by}
+use Rattle.pybuf_world.specs.World.{World, empty_world, bytes_of_new, wstep, world_after_all, released_by, names_view}
 use Rattle.pybuf_world.specs.Sound.{IsSoundWorld, StaysSound}
 
 -- a refused command leaves the whole world as it was, so no handle is used up
@@ -110,3 +112,22 @@ UnknownSourcesAreRefused =
 -- the world of every run that begins empty is sound after each of its commands
 abbrev pub RunsStaySound : Type 0
 RunsStaySound = (commands : List Command) → StaysSound empty_world commands
+
+-- no two items of an unreleased view of any exporter share a byte
+abbrev pub HasViewsOfItemsApart : World → Type 0
+HasViewsOfItemsApart w =
+    (i k : ℕ) (e : Exporter) (layout : Layout) → slice_get w.exporters i ≡ Some e → live_layout e k ≡ Ok layout → HasItemsApart layout
+
+-- so it is in every world that a run reaches which begins empty
+abbrev pub RunsKeepItemsApart : Type 0
+RunsKeepItemsApart = (commands : List Command) → HasViewsOfItemsApart (world_after_all empty_world commands)
+
+-- releasing by a handle is refused exactly where the handle was never given or names no view, and with nothing
+-- but `UnknownName`
+pub record IsRefusedByName (w : World) (handle : ℕ) : Type 0 where
+  pub refused : names_view w handle ≡ false → released_by w handle ≡ Err fault.UnknownName
+  pub only : (f : Fault) → released_by w handle ≡ Err f → (f ≡ fault.UnknownName) × (names_view w handle ≡ false)
+
+-- so it is of every handle of a sound world
+abbrev pub ReleasesAreRefusedByName : Type 0
+ReleasesAreRefusedByName = (w : World) (handle : ℕ) → IsSoundWorld w → IsRefusedByName w handle

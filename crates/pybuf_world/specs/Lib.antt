@@ -1,5 +1,6 @@
 pub mod World
 pub mod Stepping
 pub mod Sound
+pub mod Exporters
 pub mod Tables
 pub mod Laws

@@ -1,17 +1,27 @@
 -- What holds of every world.
-use Rattle.std.specs.Prelude.{◌≡◌, ℕ, ◌<◌, ◌++◌, List, take, length, Some, slice_get}
+use Rattle.std.specs.Prelude.{◌≡◌, ℕ, ◌<◌, ◌++◌, List, take, length, true, Some, slice_get}
 use Rattle.std.specs.List.{All}
+use Rattle.pybuf_state.specs.Exporter.{Exporter, has_subject}
 use Rattle.pybuf_state.specs.Sound.{IsSoundExporter}
+use Rattle.pybuf_state.specs.Spaced.{IsSpaced}
+use Rattle.pybuf_world.specs.declared.named.Named.{Named}
 use Rattle.pybuf_world.specs.declared.named.Named.TheVariants as named
 use Rattle.pybuf_command.specs.declared.worlds.Command.{Command}
 use Rattle.pybuf_command.specs.declared.worlds.Reply.{Reply}
-use Rattle.pybuf_world.specs.World.{World, exporter_of, handle_of, world_after_all, replies_of}
+use Rattle.pybuf_world.specs.World.{World, exporter_of, subject_of, handle_of, world_after_all, replies_of}
 
--- Each exporter is sound, each handle names an exporter that is there or a view of one, and each
--- exporter is named by its handle.
+-- a name of an exporter that is there, or of a view or an iterator that it has
+pub record IsGiven (exporters : List Exporter) (name : Named) : Type 0 where
+  pub exporter : Exporter
+  pub there : slice_get exporters (exporter_of name) ≡ Some exporter
+  pub has : has_subject exporter (subject_of name) ≡ true
+
+-- Each exporter is sound, and no two items of any view of it share a byte. Each handle names an exporter that
+-- is there, or a view or an iterator that one of them has, and each exporter is named by its handle.
 pub record IsSoundWorld (w : World) : Type 0 where
   pub exporters_are_sound : All IsSoundExporter w.exporters
-  pub handles_name_exporters : All (λ n. exporter_of n < length w.exporters) w.handles
+  pub items_lie_apart : All IsSpaced w.exporters
+  pub names_are_given : All (IsGiven w.exporters) w.handles
   pub exporters_are_named : (i : ℕ) → i < length w.exporters → slice_get w.handles (handle_of w i) ≡ Some (named.Exporter i)
 
 -- the world is sound after each command of the list

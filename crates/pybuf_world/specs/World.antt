@@ -1,6 +1,6 @@
 -- Worlds: exporters, and the handles that name them, their views and their iterators.
 use Rattle.std.specs.Prelude.{ℕ, ◌+◌, ◌==◌, Bool, true, false, List, [], ◌∷◌, ◌++◌, length, map, set, slice_get, nat_lt, Option, Some, None, Result, Ok, Err, if◌then◌else◌}
-use Rattle.std.specs.List.{list_all, flat_map, position_or_len}
+use Rattle.std.specs.List.{list_all, position_or_len}
 use Rattle.pybuf_value.specs.declared.faults.Fault.{Fault}
 use Rattle.pybuf_value.specs.declared.faults.Fault.TheVariants as fault
 use Rattle.pybuf_value.specs.declared.snaps.Snap.{Snap}
@@ -243,3 +243,14 @@ released_by_name w None = Err fault.UnknownName
 -- the world with the view that a handle names released, where it names one
 abbrev pub released_by : World → ℕ → Result World Fault
 released_by w handle = released_by_name w (slice_get w.handles handle)
+
+-- whether a name that was given is that of a view
+abbrev pub is_name_of_view : Option Named → Bool
+is_name_of_view (Some (named.View i k)) = true
+is_name_of_view (Some (named.Exporter i)) = false
+is_name_of_view (Some (named.Iterator i k)) = false
+is_name_of_view None = false
+
+-- whether a handle was given and names a view
+abbrev pub names_view : World → ℕ → Bool
+names_view w handle = is_name_of_view (slice_get w.handles handle)

@@ -1,6 +1,8 @@
 //! Laws over every command on a world, from the laws over every command on one exporter.
 ghost use Rattle.pybuf_rows_views.specs.Laws.{ReleasingTwiceIsOnce};
 ghost use Rattle.pybuf_world.specs.Laws.{RefusalsChangeNothing, HandlesStay, ReleasingByHandleTwiceIsOnce, WorldLengthsStay, WorldReadOnlyBytesStay, WorldIteratorsStay, WorldShownTextsAreOneLine, CopiesAreExportersOfTheirOwn, UnviewedCopiesAreExportersOfTheirOwn, NewExportersStandBehind, UnknownSourcesAreRefused, RunsStaySound};
+ghost use Rattle.pybuf_world.specs.Exporters.{ExporterLaws};
+ghost use Rattle.pybuf_world.specs.Laws.{RunsKeepItemsApart, ReleasesAreRefusedByName};
 
 /// A refused command leaves the whole world as it was, so no handle is used up.
 pub fn refusals_change_nothing()
@@ -80,13 +82,39 @@ pub fn unknown_sources_are_refused()
     ensures { UnknownSourcesAreRefused }
 {}
 
+/// The laws of exporters that those of worlds rest on.
+pub(crate) fn exporter_laws()
+    ensures { ExporterLaws }
+{
+    pybuf_exporter::commands_keep_sound();
+    pybuf_exporter::commands_keep_items_apart();
+    pybuf_exporter::replied_names_are_there();
+    pybuf_exporter::subjects_stay();
+    pybuf_exporter::fresh_replies_are_copies();
+    pybuf_exporter::copies_are_faithful();
+    pybuf_state::copies_are_spaced();
+}
+
 /// A world that begins empty is sound after each of the commands of every list: each byte of each item
 /// of an unreleased view lies inside its exporter, and that exporter is as long as when the view was
-/// made.
+/// made; no two items of a view share a byte; and each handle names something that is there.
 pub fn runs_stay_sound()
     ensures { RunsStaySound }
 {
-    pybuf_exporter::commands_keep_sound();
-    pybuf_exporter::fresh_replies_are_copies();
-    pybuf_exporter::copies_are_faithful();
+    exporter_laws();
 }
+
+/// Whatever commands a world that begins empty carries out, no two items of an unreleased view of any of its
+/// exporters share a byte.
+pub fn runs_keep_items_apart()
+    ensures { RunsKeepItemsApart }
+{
+    runs_stay_sound();
+    pybuf_state::live_layouts_lie_apart();
+}
+
+/// In a sound world releasing by a handle is refused exactly where the handle was never given or names no view,
+/// and with nothing but `UnknownName`.
+pub fn releases_are_refused_by_name()
+    ensures { ReleasesAreRefusedByName }
+{}

@@ -7,6 +7,7 @@ ghost use Rattle.pybuf_value.specs.Snaps.{content_of_named};
 ghost use Rattle.pybuf_bytes.specs.Options.{bytes_of_options};
 ghost use Rattle.pybuf_world.specs.Stepping.{local_step};
 
+use crate::laws::exporter_laws;
 use crate::named::{Named, Target};
 use crate::others::Others;
 use pybuf_bytes::NewOptions;
@@ -14,10 +15,7 @@ use pybuf_command::{
     ByteInnerNewOptions, Command, ExporterKind, LocalReply, Reply, ReplyList, Subject, Verb,
     handle_alone, handles_of_options,
 };
-use pybuf_exporter::{
-    ExporterState, commands_keep_sound, copies_are_faithful, fresh_replies_are_copies,
-    names_alike_do_the_same,
-};
+use pybuf_exporter::{ExporterState, fresh_replies_are_copies, names_alike_do_the_same};
 use pybuf_rows_views::release_is_safe;
 use pybuf_value::{
     ByteList, Fault, Made, NoMemory, Outcome, Snap, SnapKind, SnapList, Tried, push_reserved,
@@ -334,9 +332,7 @@ impl Tables {
         ensures err { OnErr result (world_of_tables self.new ≡ world_of_tables self.old) }
         ensures kept { IsKept self.new }
     {
-        commands_keep_sound();
-        fresh_replies_are_copies();
-        copies_are_faithful();
+        exporter_laws();
         match command {
             Command::New { kind, options } => self.make(*kind, options),
             Command::Do { subject, verb } => {

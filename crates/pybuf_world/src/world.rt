@@ -1,11 +1,10 @@
 //! Worlds of exporters, and the handles that name them and their views.
-ghost use Rattle.std.specs.Prelude.{◌≡◌, ◌++◌, length, IfOk, OnOk, OnErr, MatchResult};
+ghost use Rattle.std.specs.Prelude.{◌≡◌, ◌↔◌, ◌++◌, length, true, IfOk, IsOk, IfErr, OnOk, OnErr, MatchResult};
 
+use crate::laws::{exporter_laws, releases_are_refused_by_name};
 use crate::tables::Tables;
 use pybuf_command::{Command, Reply, ReplyList};
-use pybuf_exporter::{
-    ExporterState, commands_keep_sound, copies_are_faithful, fresh_replies_are_copies,
-};
+use pybuf_exporter::ExporterState;
 use pybuf_value::{Fault, Made, NoMemory};
 use std::alloc::Global;
 use std::marker::Model;
@@ -28,7 +27,8 @@ impl Model for World {
 }
 
 impl World {
-    ghost use Rattle.pybuf_world.specs.World.{empty_world, wstep, world_after_all, replies_of, released_by};
+    ghost use Rattle.pybuf_value.specs.declared.faults.Fault.TheVariants as faults;
+    ghost use Rattle.pybuf_world.specs.World.{empty_world, wstep, world_after_all, replies_of, released_by, names_view};
     ghost use Rattle.pybuf_world.specs.Sound.{IsSoundWorld, StaysSound, StopsAt};
 
     /// A world with nothing in it. Takes no memory.
@@ -68,16 +68,15 @@ impl World {
     ///
     /// Where memory runs out, world and replies are those of the commands that were answered before.
     /// In every case the world is sound after each command: each byte of each item of an unreleased
-    /// view lies inside its exporter, and that exporter is as long as when the view was made.
+    /// view lies inside its exporter, and that exporter is as long as when the view was made; no two items of a
+    /// view share a byte; and each handle names an exporter, a view or an iterator that is there.
     pub fn run(&mut self, commands: &[Command], replies: &mut ReplyList) -> Result<(), NoMemory>
         ensures world { OnOk result (self.new ≡ world_after_all self.old commands.now) }
         ensures replies { OnOk result (replies.new ≡ replies.old ++ replies_of self.old commands.now) }
         ensures stopped { OnErr result (StopsAt self.old commands.now self.new replies.old replies.new) }
         ensures sound { StaysSound self.old commands.now }
     {
-        commands_keep_sound();
-        fresh_replies_are_copies();
-        copies_are_faithful();
+        exporter_laws();
         self.tables.run(commands, replies)
     }
 
@@ -86,8 +85,11 @@ impl World {
     /// Refused with `UnknownName` exactly where the handle was never given, or names no view.
     pub fn release(&mut self, handle: u64) -> Result<(), Fault>
         ensures exact { MatchResult result (λ _. released_by self.old handle ≡ Ok self.new) (λ f. released_by self.old handle ≡ Err f) }
+        ensures named { IsOk result ↔ (names_view self.old handle ≡ true) }
+        ensures refused { IfErr result (λ f. f ≡ faults.UnknownName) }
         ensures err { OnErr result (self.new ≡ self.old) }
     {
+        releases_are_refused_by_name();
         self.tables.release(handle)
     }
 }

@@ -3,6 +3,4 @@ use Rattle.pybuf_world.proofs.Sound.{empty_is_sound, stays_sound}
 use Rattle.pybuf_world.proofs.laws.runs_stay_sound.Goals as goal
 
 pub returns : goal.returns
-returns c =
-    λ commands. stays_sound (record { keeps = c.commands_keep_sound.ensures; copies = c.fresh_replies_are_copies.ensures; faithful = c.copies_are_faithful.ensures })
-    empty_world commands empty_is_sound
+returns c = λ commands. stays_sound c.exporter_laws.ensures empty_world commands empty_is_sound

@@ -12,5 +12,5 @@ invariant_of-self c =
     let asked = subst (λ (x : Exporter). IsSoundLayout x l) (sym c.self.view_is) (subst (IsSoundLayout c.args.self.now) (sym c.of_descriptor.ensures) c.requires.sound) in
     record {
       counted = c.add_view.ensures.counted;
-      sound = sound_after e (exporter_of c.add_view.new.self) l c.add_view.result c.add_view.ensures.answer (c.new_views_keep.ensures e l c.self.invariant.sound asked) c.self.invariant.sound;
+      sound = sound_after e (exporter_of c.add_view.new.self) l c.add_view.result c.add_view.ensures.answer (c.new_views_are_sound.ensures e l c.self.invariant.sound asked) c.self.invariant.sound;
     }

@@ -3,7 +3,8 @@ use Rattle.std.specs.Prelude.{slice_get}
 use Rattle.pybuf_command.specs.declared.loans.Loan.{Loan}
 use Rattle.pybuf_world.specs.Tables.{world_of_tables}
 use Rattle.pybuf_world.specs.World.{World, step_of_new, loans_of, step_of_target}
-use Rattle.pybuf_world.proofs.Sound.{ExporterLaws, step_of_new_sound, loans_sound, sound_in_either, owned_after_loans}
+use Rattle.pybuf_world.specs.Exporters.{ExporterLaws}
+use Rattle.pybuf_world.proofs.Sound.{step_of_new_sound, loans_sound, sound_in_either, owned_after_loans}
 use Rattle.pybuf_world.proofs.tables.Tables.step.Goals as goal
 
 pub returns-in-New-clause-kept : goal.returns-in-New-clause-kept
@@ -22,7 +23,7 @@ returns-in-Some-clause-kept c =
     let v = c.in-Do.verb in
     let after : World = world_of_tables c.step_of_target.new.self in
     let loans : List (ℕ × Loan) = loans_of w t.exporter v in
-    let laws : ExporterLaws = record { keeps = c.commands_keep_sound.ensures; copies = c.fresh_replies_are_copies.ensures; faithful = c.copies_are_faithful.ensures } in
+    let laws : ExporterLaws = c.exporter_laws.ensures in
     record {
       sound = sound_in_either w after (step_of_target w t v) c.step_of_target.result c.step_of_target.ensures.ok c.step_of_target.ensures.err c.requires.sound
           (loans_sound laws w t v loans (slice_get w.exporters t.exporter) refl c.requires.sound);
