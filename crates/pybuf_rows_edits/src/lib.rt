@@ -9,5 +9,8 @@ mod shrinking;
 
 pub use edit_of_verb::{delete_of_view, edit_of_own};
 pub use growing::append;
-pub use laws::{delete_of_view_is_safe, edits_are_safe, edits_ask_before_they_resize};
+pub use laws::{
+    delete_of_view_is_safe, edits_are_safe, edits_ask_before_they_resize,
+    only_adding_itself_is_refused_earlier,
+};
 pub use shrinking::pop;
