@@ -1,6 +1,6 @@
 -- No check before an edit asks for another length gives `BufferError`, but that an exporter is not added to itself.
-use Rattle.std.proofs.Common.{◌≡◌, ℕ, List, [], ◌∷◌, Bool, true, false, true≢false, ap, sym, ◌∙◌, refl}
-use Rattle.std.specs.Prelude.{◌≢◌, ℤ, pos, negsuc, zero, suc, not, ◌&&◌, ◌||◌, ◌==◌, ◌^◌, nat_lt, length, Option, Some, None, Result, Ok, Err, if◌then◌else◌}
+use Rattle.std.proofs.Common.{◌≡◌, ℕ, List, [], ◌∷◌, Bool, true, false, ap, refl}
+use Rattle.std.specs.Prelude.{◌≢◌, ℤ, pos, negsuc, zero, suc, not, ◌&&◌, ◌||◌, nat_lt, Option, Some, None, Result, Ok, Err, if◌then◌else◌}
 use Rattle.pybuf_value.specs.declared.faults.Fault.{Fault}
 use Rattle.pybuf_value.specs.declared.faults.Fault.TheVariants as fault
 use Rattle.pybuf_value.specs.declared.values.Scalar.{Scalar}
@@ -12,12 +12,11 @@ use Rattle.pybuf_value.specs.declared.snaps.Snap.{Snap}
 use Rattle.pybuf_value.specs.declared.snaps.SnapKind.{SnapKind}
 use Rattle.pybuf_value.specs.declared.snaps.SnapKind.TheVariants as snap_kind
 use Rattle.pybuf_value.specs.Refusing.{◌>>=◌, unless}
-use Rattle.pybuf_value.specs.Numbers.{number_in, number_of, is_word, fitted_number, count_in, count_or, byte_of, byte_in}
+use Rattle.pybuf_value.specs.Numbers.{number_in, number_of, is_word, fitted_number, count_in, byte_of, byte_in}
 use Rattle.pybuf_value.specs.Texts.{text_in, is_ascii}
-use Rattle.pybuf_value.specs.Snaps.{snap_of, content_of_view, content_of_kind, content_of, bytes_like, like_in, content_if_unreleased, content_read, content_of_named, byte_in_scalar, bytes_in_parts, bytes_in}
-use Rattle.pybuf_index.specs.Parts.{part_in, nonzero, step_in, parts_of, saturated_parts_of, picks_of}
-use Rattle.pybuf_slice.specs.Edits.{is_one}
-use Rattle.pybuf_bytes.specs.Options.{zeros_of, sized_bytes, bytes_by_number, bytes_of_source, is_utf8_name, is_ascii_name, is_strict, encoded, text_given, bytes_by, bytes_of_options}
+use Rattle.pybuf_value.specs.Snaps.{snap_of, content_of_view, content_of_kind, content_of, like_in, content_read, content_of_named, byte_in_scalar, bytes_in_parts, bytes_in}
+use Rattle.pybuf_index.specs.Parts.{part_in, nonzero, step_in, parts_of, saturated_parts_of}
+use Rattle.pybuf_bytes.specs.Options.{zeros_of, bytes_by_number, is_utf8_name, is_ascii_name, is_strict, encoded, text_given, bytes_by, bytes_of_options}
 use Rattle.pybuf_command.specs.declared.kinds.ExporterKind.{ExporterKind}
 use Rattle.pybuf_command.specs.declared.kinds.ExporterKind.TheVariants as kind
 use Rattle.pybuf_command.specs.declared.commands.Verb.{Verb}
@@ -29,7 +28,7 @@ use Rattle.pybuf_state.specs.Keeps.{is_vector}
 use Rattle.pybuf_state.specs.Loans.{Lent, snaps_of}
 use Rattle.pybuf_rows_edits.specs.Common.{is_itself}
 use Rattle.pybuf_rows_edits.specs.Shrinking.{count_or_last}
-use Rattle.pybuf_rows_edits.specs.Asking.{passed, key_passed, assignment_asks, byte_array_asks, asks}
+use Rattle.pybuf_rows_edits.specs.Asking.{passed, key_passed, assignment_asks, byte_array_asks}
 use Rattle.pybuf_rows_edits.specs.Laws.{IsAddedToItself, OnlyAddingItselfIsRefusedEarlier}
 
 -- ---- checks
@@ -246,8 +245,8 @@ encoded_so : (source : Value) (encoding : List ℕ) (errors : Option (List ℕ))
 encoded_so source encoding errors =
     then_so (text_in source) _ (text_in_so source)
     (λ text. then_so (unless (not (is_utf8_name encoding || is_ascii_name encoding)) fault.Value) _ (unless_so (not (is_utf8_name encoding || is_ascii_name encoding)) fault.Value value_differs)
-        (λ _. then_so (unless (not (is_strict errors)) fault.Value) _ (unless_so (not (is_strict errors)) fault.Value value_differs)
-            (λ _. then_so (unless (is_ascii_name encoding && not (is_ascii text)) fault.Value) _ (unless_so (is_ascii_name encoding && not (is_ascii text)) fault.Value value_differs) (λ _. okay text))))
+    (λ _. then_so (unless (not (is_strict errors)) fault.Value) _ (unless_so (not (is_strict errors)) fault.Value value_differs)
+    (λ _. then_so (unless (is_ascii_name encoding && not (is_ascii text)) fault.Value) _ (unless_so (is_ascii_name encoding && not (is_ascii text)) fault.Value value_differs) (λ _. okay text))))
 
 bytes_by_so : (pairs : List (ℕ × Snap)) (source : Option Value) (encoding errors : Option (List ℕ)) → NoBuffer (bytes_by pairs source encoding errors)
 bytes_by_so pairs None None None = okay []
