@@ -1,8 +1,7 @@
 -- `set` of a view by a slice, as a whole command, is by value.
-use Rattle.std.proofs.Common.{◌≡◌, ℕ, zero, suc, ◌+◌, ◌*◌, ◌<◌, ◌≤◌, List, [], ◌∷◌, ◌++◌, length, Bool, true, false, true≢false, ap, ap₂, sym, ◌∙◌, refl, subst, arith}
+use Rattle.std.proofs.Common.{◌≡◌, ℕ, ◌*◌, ◌<◌, List, [], ◌∷◌, ◌++◌, length, Bool, true, false, true≢false, ap, sym, ◌∙◌, refl, subst, arith}
 use Rattle.std.specs.Prelude.{All, ◌&&◌, ◌==◌, nat_lt, Option, Some, None, Result, Ok, Err, slice_get, IfSome, if◌then◌else◌}
 use Rattle.std.specs.Option.{ok_or, option_map}
-use Rattle.std.specs.List.{list_all}
 use Rattle.std.proofs.lemmas.Bool.{ltb-true}
 use Rattle.std.proofs.lemmas.List.Elements.{All-nil, All-cons, All-append}
 use Rattle.std.proofs.Math.Nat.{lt_of_mul-lt-mul_left}
@@ -11,12 +10,10 @@ use Rattle.pybuf_value.specs.declared.faults.Fault.TheVariants as fault
 use Rattle.pybuf_value.specs.declared.values.Scalar.TheVariants as scalar
 use Rattle.pybuf_value.specs.declared.values.Value.{Value}
 use Rattle.pybuf_value.specs.declared.values.Value.TheVariants as value
-use Rattle.pybuf_value.specs.declared.values.PySlice.{PySlice}
 use Rattle.pybuf_value.specs.declared.snaps.Snap.{Snap}
 use Rattle.pybuf_value.specs.Refusing.{◌>>=◌, unless, IfDone}
 use Rattle.pybuf_value.specs.Snaps.{is_iterator}
 use Rattle.pybuf_struct.specs.Formats.{Format, format_of}
-use Rattle.pybuf_desc.specs.Layouts.{Layout}
 use Rattle.pybuf_desc.specs.Items.{bytes_at, content_of_layout}
 use Rattle.pybuf_desc.specs.Slices.{slice_of}
 use Rattle.pybuf_command.specs.declared.kinds.ExporterKind.TheVariants as kind
@@ -39,9 +36,9 @@ use Rattle.pybuf_state.specs.Keeps.{IsCarriedOut}
 use Rattle.pybuf_state.specs.Laws.{LiveLayoutsAreSound}
 use Rattle.pybuf_state.specs.Live.{layout_in}
 use Rattle.pybuf_state.specs.Loans.{Lent, are_named, given_loan, names_of, lent_as, subject_in, snap_in, lents_by}
-use Rattle.pybuf_state.specs.Snaps.{snap_of_exporter, snap_of_view, iterator_snap, snap_of_subject}
+use Rattle.pybuf_state.specs.Snaps.{snap_of_exporter, snap_of_view, iterator_snap}
 use Rattle.pybuf_state.specs.Sound.{IsSoundExporter}
-use Rattle.pybuf_rows_writes.specs.Assign.{no_iterator, lent_source, source_in, assign_of_view}
+use Rattle.pybuf_rows_writes.specs.Assign.{lent_source, source_in, assign_of_view}
 use Rattle.pybuf_rows_writes.specs.Laws.{AssignIsSafe, AssignmentsAreByValue, ContentsHoldTheItems}
 use Rattle.pybuf_exporter.specs.Step.{settled_answer}
 use Rattle.pybuf_exporter.specs.Assigning.{item_in, item_of_subject, item_of_snap, item_of_loan, item_before, source_before, StepsAssignByValue, SnapsHoldTheItems}
@@ -229,21 +226,23 @@ steps_assign by_value safe fit live hold e new k slice v loans sound loans_fit i
     let layout = made.layout in
     let starts = (slice_of layout made.parts).starts in
     let some : 0 < layout.itemsize = some_byte layout.itemsize (format_of layout.format) (live e k layout sound made.live).formed.sized in
+    let size : made.source.itemsize ≡ layout.itemsize = done.same_size in
+    let reach : (j : ℕ) → j < length starts → j * made.source.itemsize < length made.source.content = λ j below.
+    subst (λ (m : ℕ). j * made.source.itemsize < m) (sym done.as_many) (subst (λ (m : ℕ). j * m < layout.itemsize * length starts) (sym size) (within j (length starts) layout.itemsize some below)) in
     record {
       layout = layout;
       live = made.live;
       parts = made.parts;
       given = made.given;
+      moves = made.moves;
       source = made.source;
       named = named;
       unreleased = made.unreleased;
       same_size = done.same_size;
       as_many = done.as_many;
+      inside = reach;
       items = λ apart j below.
-          let size : made.source.itemsize ≡ layout.itemsize = done.same_size in
-          let inside : j * made.source.itemsize < length made.source.content =
-          subst (λ (m : ℕ). j * made.source.itemsize < m) (sym done.as_many) (subst (λ (m : ℕ). j * m < layout.itemsize * length starts) (sym size) (within j (length starts) layout.itemsize some below)) in
-          done.items apart j below ∙ sym (ap (λ (m : ℕ). bytes_at made.source.content m (j * m)) size) ∙ source_items hold e loans v made.source j sound named made.unreleased inside;
+          done.items apart j below ∙ sym (ap (λ (m : ℕ). bytes_at made.source.content m (j * m)) size) ∙ source_items hold e loans v made.source j sound named made.unreleased (reach j below);
       others = done.others;
       as_long = done.as_long;
       kind = keeps.kind;

@@ -1,5 +1,5 @@
 -- Iterators over views give their items in order and each once, or are refused, or stop.
-use Rattle.std.proofs.Common.{◌≡◌, ◌⊎◌, inl, inr, ℕ, zero, suc, ◌+◌, ◌-◌, ◌<◌, ◌≤◌, List, [], ◌∷◌, ◌++◌, length, take, drop, map, Bool, true, false, ap, ap₂, sym, ◌∙◌, refl, subst, arith, take-append-drop, append_assoc}
+use Rattle.std.proofs.Common.{◌≡◌, ◌⊎◌, inl, inr, ℕ, zero, suc, ◌+◌, ◌-◌, ◌<◌, ◌≤◌, List, [], ◌∷◌, ◌++◌, length, take, drop, map, Bool, true, false, ap, ap₂, sym, ◌∙◌, refl, arith, take-append-drop, append_assoc}
 use Rattle.std.specs.Prelude.{◌≢◌, ◌==◌, not, replicate, Option, Some, None, Result, Ok, Err, slice_get, slice_index, nat_lt, if◌then◌else◌}
 use Rattle.std.specs.Option.{ok_or}
 use Rattle.std.proofs.lemmas.Grind.{common_steps}
@@ -105,7 +105,7 @@ gives (s ∷ rest) before e k n it layout more m count starts at given own goes 
     ap (nexts e k) one_more
     ∙ ap (λ (after : Exporter × LocalReply). after.1 ∷ nexts after.0 k left)
     (next_over_view e k n it (Ok layout) (Ok (Some (item_from e.bytes layout s))) given own goes live
-        (one_entry e layout it.position inside one ∙ ap (λ (i : ℕ). let read : Result (Option Item) Fault = Ok (Some (item_from e.bytes layout i)) in read) start))
+    (one_entry e layout it.position inside one ∙ ap (λ (i : ℕ). let read : Result (Option Item) Fault = Ok (Some (item_from e.bytes layout i)) in read) start))
     ∙ ap (λ (replies : List LocalReply). item_reply e.bytes layout s ∷ replies)
     (gives rest (before ++ s ∷ []) (iterator_put e k moved) k n moved layout more left refl (starts ∙ sym (append_assoc before (s ∷ []) rest)) (grind (arith, common_steps, at)) (get-set e.iterators k it moved given) own goes live one entries)
 

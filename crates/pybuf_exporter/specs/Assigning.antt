@@ -1,5 +1,5 @@
 -- `set` of a view by a slice, as a whole command: which items it copies, and what stands after it.
-use Rattle.std.specs.Prelude.{◌≡◌, ℕ, ◌*◌, ◌<◌, List, [], length, slice_index, false, Option, Some, None, Ok}
+use Rattle.std.specs.Prelude.{◌≡◌, ◌≢◌, ℕ, ◌*◌, ◌<◌, pos, List, [], length, slice_index, false, Option, Some, None, Ok}
 use Rattle.pybuf_value.specs.declared.values.Scalar.TheVariants as scalar
 use Rattle.pybuf_value.specs.declared.values.Value.{Value}
 use Rattle.pybuf_value.specs.declared.values.Value.TheVariants as value
@@ -77,11 +77,13 @@ pub record IsAssignedByValue (e new : Exporter) (k : ℕ) (slice : PySlice) (v :
   pub live : live_layout e k ≡ Ok layout
   pub parts : SliceParts
   pub given : saturated_parts_of slice ≡ Ok parts
+  pub moves : parts.step ≢ pos 0
   pub source : Snap
   pub named : source_before e loans v ≡ Some source
   pub unreleased : source.released ≡ false
   pub same_size : source.itemsize ≡ layout.itemsize
   pub as_many : length source.content ≡ layout.itemsize * length (slice_of layout parts).starts
+  pub inside : (j : ℕ) → j < length (slice_of layout parts).starts → j * source.itemsize < length source.content
   pub items : HasItemsApart (slice_of layout parts) → (j : ℕ) → j < length (slice_of layout parts).starts → item_in new.bytes (slice_of layout parts) j ≡ item_before e loans v j
   pub others : (place count : ℕ) → AreOutside layout.itemsize (slice_of layout parts).starts place count → bytes_at new.bytes count place ≡ bytes_at e.bytes count place
   pub as_long : length new.bytes ≡ length e.bytes

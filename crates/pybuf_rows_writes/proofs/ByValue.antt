@@ -280,6 +280,7 @@ by_value live inside shapes e new k slice v lents r sound fit is =
       live = at.live;
       parts = at.parts;
       given = at.given;
+      moves = slice_moves slice at.parts at.given;
       source = source;
       named = second.1;
       unreleased = was.live;

@@ -1,5 +1,5 @@
 -- The rows keep a sound exporter, and only a refusal is replied as one, and what is written is read.
-use Rattle.std.specs.Prelude.{◌≡◌, ◌⊎◌, ℕ, ◌+◌, ◌*◌, ◌<◌, ◌≤◌, List, [], ◌∷◌, All, length, slice_index, take, drop, true, false, Ok}
+use Rattle.std.specs.Prelude.{◌≡◌, ◌≢◌, ◌⊎◌, ℕ, ◌+◌, ◌*◌, ◌<◌, ◌≤◌, pos, List, [], ◌∷◌, All, length, slice_index, take, drop, true, false, Ok}
 use Rattle.pybuf_value.specs.declared.values.Item.{Item}
 use Rattle.pybuf_value.specs.declared.values.Value.{Value}
 use Rattle.pybuf_value.specs.declared.values.PySlice.{PySlice}
@@ -76,6 +76,7 @@ pub record IsSliceAssignment (e new : Exporter) (k : ℕ) (slice : PySlice) (val
   pub live : live_layout e k ≡ Ok layout
   pub parts : SliceParts
   pub given : saturated_parts_of slice ≡ Ok parts
+  pub moves : parts.step ≢ pos 0
   pub source : Snap
   pub named : source_in value lents ≡ Ok source
   pub unreleased : source.released ≡ false

@@ -3,3 +3,4 @@ pub mod Stepping
 pub mod Sound
 pub mod Tables
 pub mod Laws
+pub mod Assigning
