@@ -3,6 +3,8 @@ use Rattle.std.proofs.Common.{◌≡◌, ◌⊎◌, inl, inr, ℕ, ◌*◌, ◌<
 use Rattle.std.specs.Prelude.{◌≢◌, All, set, ◌&&◌, ◌==◌, Option, Some, None, Ok, Err, slice_get, IfSome, if◌then◌else◌}
 use Rattle.std.proofs.lemmas.Bool.{eq-eqb}
 use Rattle.std.proofs.lemmas.Bool.Decides.{eqb_tells}
+use Rattle.pybuf_value.specs.declared.faults.Fault.{Fault}
+use Rattle.pybuf_value.specs.declared.faults.Fault.TheVariants as fault
 use Rattle.pybuf_value.specs.declared.values.Scalar.TheVariants as scalar
 use Rattle.pybuf_value.specs.declared.values.Value.{Value}
 use Rattle.pybuf_value.specs.declared.values.Value.TheVariants as value
@@ -181,13 +183,13 @@ done_so w new t (after, r) is =
     let changed : (world_after w t (after, local.Ok)).0 ≡ new = ap (λ (x : LocalReply). (world_after w t (after, x)).0) (sym ok) ∙ ap (λ (x : World × Reply). x.0) is in
     record { after = after; replied = ap (λ (x : LocalReply). (after, x)) ok; stands = sym changed }
 
-refused_not : (w new : World) (r : Reply) → ((w, r) ≡ (new, reply.Ok)) → r ≡ reply.Ok
-refused_not w new r is = ap (λ (x : World × Reply). x.1) is
+refused_not : (f : Fault) → reply.Refused f ≡ reply.Ok → ⊥
+refused_not f is = absurd (cc)
 
 by_exporter : StepsAssignByValue → SnapsHoldTheItems → LoansOfWorldsFit → LiveLayoutsLieApart → SlicesLieApart → (w new : World) (handle number k : ℕ) (slice : PySlice) (v : Value) (o : Option Exporter) → IsSoundWorld w
     → All IsSpaced w.exporters → slice_get w.exporters number ≡ o → step_with_loans w (target_of handle (named.View number k)) (verb.Set (value.Slice slice) v) (loans_for w number slice v) o ≡ (new, reply.Ok)
     → IsAssignedInWorld w new number k slice v
-by_exporter steps hold fit apart slices w new handle number k slice v None sound spaced found is = absurd (let never = refused_not w new _ is in cc)
+by_exporter steps hold fit apart slices w new handle number k slice v None sound spaced found is = absurd (refused_not fault.UnknownName (ap (λ (x : World × Reply). x.1) is))
 by_exporter steps hold fit apart slices w new handle number k slice v (Some e) sound spaced found is =
     let t = target_of handle (named.View number k) in
     let loans = loans_for w number slice v in
