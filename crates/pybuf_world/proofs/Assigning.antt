@@ -1,6 +1,6 @@
 -- `set` of a view by a slice, as a command on a world, is by value.
-use Rattle.std.proofs.Common.{◌≡◌, ◌⊎◌, inl, inr, ℕ, ◌*◌, ◌<◌, List, [], ◌∷◌, ◌++◌, length, map, Bool, true, false, ap, ap₂, sym, ◌∙◌, refl, subst, arith}
-use Rattle.std.specs.Prelude.{◌≢◌, All, set, ◌&&◌, ◌==◌, Option, Some, None, Ok, Err, slice_get, IfSome, if◌then◌else◌}
+use Rattle.std.proofs.Common.{◌≡◌, ◌⊎◌, inl, inr, ℕ, ◌*◌, ◌<◌, List, [], ◌∷◌, ◌++◌, length, map, Bool, true, false, ap, ap₂, sym, ◌∙◌, refl, subst}
+use Rattle.std.specs.Prelude.{◌≢◌, All, set, ◌&&◌, ◌==◌, Option, Some, None, slice_get, IfSome, if◌then◌else◌}
 use Rattle.std.proofs.lemmas.Bool.{eq-eqb}
 use Rattle.std.proofs.lemmas.Bool.Decides.{eqb_tells}
 use Rattle.pybuf_value.specs.declared.faults.Fault.{Fault}
@@ -13,14 +13,12 @@ use Rattle.pybuf_value.specs.declared.snaps.Snap.{Snap}
 use Rattle.pybuf_desc.specs.Laws.{SlicesLieApart}
 use Rattle.pybuf_command.specs.declared.kinds.Subject.{Subject}
 use Rattle.pybuf_command.specs.declared.kinds.Subject.TheVariants as subject
-use Rattle.pybuf_command.specs.declared.commands.Verb.{Verb}
 use Rattle.pybuf_command.specs.declared.commands.Verb.TheVariants as verb
 use Rattle.pybuf_command.specs.declared.commands.LocalReply.{LocalReply}
 use Rattle.pybuf_command.specs.declared.commands.LocalReply.TheVariants as local
 use Rattle.pybuf_command.specs.declared.worlds.Reply.{Reply}
 use Rattle.pybuf_command.specs.declared.worlds.Reply.TheVariants as reply
 use Rattle.pybuf_command.specs.declared.loans.Loan.{Loan}
-use Rattle.pybuf_command.specs.declared.loans.Loan.TheVariants as loan
 use Rattle.pybuf_command.specs.Loans.{loan_of}
 use Rattle.pybuf_command.specs.Handles.{handles_in, handles_of}
 use Rattle.pybuf_memoryview.specs.Fits.{fits_snap}
@@ -33,11 +31,11 @@ use Rattle.pybuf_state.specs.Sound.{IsSoundExporter}
 use Rattle.pybuf_state.specs.Spaced.{IsSpaced}
 use Rattle.pybuf_state.specs.Snaps.{snap_of_subject}
 use Rattle.pybuf_exporter.specs.Step.{estep}
-use Rattle.pybuf_exporter.specs.Assigning.{item_of_subject, item_of_snap, item_of_loan, item_before, source_before, StepsAssignByValue, SnapsHoldTheItems}
+use Rattle.pybuf_exporter.specs.Assigning.{item_of_subject, item_of_loan, item_before, source_before, StepsAssignByValue, SnapsHoldTheItems}
 use Rattle.pybuf_world.specs.declared.named.Named.{Named}
 use Rattle.pybuf_world.specs.declared.named.Named.TheVariants as named
 use Rattle.pybuf_world.specs.declared.named.Target.{Target}
-use Rattle.pybuf_world.specs.World.{World, exporter_of, subject_of, loan_of_other, loan_of_name, loan_for, loans_of, has_view, reply_with_copy, reply_after, world_after, step_with_loans, target_of, step_of_handle, wstep}
+use Rattle.pybuf_world.specs.World.{World, exporter_of, subject_of, loan_of_other, loan_of_name, loan_for, loans_of, has_view, reply_with_copy, reply_after, world_after, step_with_loans, target_of, step_of_handle}
 use Rattle.pybuf_world.specs.Sound.{IsSoundWorld}
 use Rattle.pybuf_world.specs.Assigning.{item_of_exporter, item_of_name, item_in_world, LoansOfWorldsFit, IsAssignedInWorld, WorldStepsAssignByValue}
 use Rattle.pybuf_world.proofs.Lists.{All-slice_get}
