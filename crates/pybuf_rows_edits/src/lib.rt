@@ -4,6 +4,7 @@
 mod edit_of_verb;
 mod growing;
 mod laws;
+mod refusals;
 mod replacing;
 mod shrinking;
 
