@@ -67,7 +67,7 @@ pub record IsAssignedInWorld (old new : World) (number k : ℕ) (slice : PySlice
   pub views : after.views ≡ before.views
   pub iterators : after.iterators ≡ before.iterators
 
--- so it is wherever the command isn't refused
+-- so it is wherever the command isn't refused, in a sound world of whose views no two items share a byte
 abbrev pub WorldStepsAssignByValue : Type 0
 WorldStepsAssignByValue =
     (w new : World) (handle number k : ℕ) (slice : PySlice) (v : Value) → IsSoundWorld w → All IsSpaced w.exporters → slice_get w.handles handle ≡ Some (named.View number k)
