@@ -35,9 +35,10 @@ use Rattle.pybuf_exporter.specs.Assigning.{item_of_subject, item_of_loan, item_b
 use Rattle.pybuf_world.specs.declared.named.Named.{Named}
 use Rattle.pybuf_world.specs.declared.named.Named.TheVariants as named
 use Rattle.pybuf_world.specs.declared.named.Target.{Target}
-use Rattle.pybuf_world.specs.World.{World, exporter_of, subject_of, loan_of_other, loan_of_name, loan_for, loans_of, has_view, reply_with_copy, reply_after, world_after, step_with_loans, target_of, step_of_handle}
+use Rattle.pybuf_world.specs.World.{World, exporter_of, subject_of, snap_of_name, loan_of_other, loan_of_name, loan_for, loans_of, has_view, reply_with_copy, reply_after, world_after, step_with_loans, target_of, step_of_handle}
+use Rattle.pybuf_world.specs.World as worlds
 use Rattle.pybuf_world.specs.Sound.{IsSoundWorld}
-use Rattle.pybuf_world.specs.Assigning.{item_of_exporter, item_of_name, item_in_world, LoansOfWorldsFit, IsAssignedInWorld, WorldStepsAssignByValue}
+use Rattle.pybuf_world.specs.Assigning.{item_of_exporter, item_of_name, item_in_world, source_in_world, LoansOfWorldsFit, IsAssignedInWorld, WorldStepsAssignByValue}
 use Rattle.pybuf_world.proofs.Lists.{All-slice_get}
 
 -- ---- what is lent fits
@@ -145,6 +146,48 @@ same_items hold w e i slice (value.Tuple parts) source j sound found named unrel
 same_items hold w e i slice (value.List parts) source j sound found named unreleased below = refl
 same_items hold w e i slice (value.Slices parts) source j sound found named unreleased below = refl
 
+-- ---- the source
+
+own_snap : (e : Exporter) (s : Subject) → snap_in e (Some (loan_of_own s)) ≡ snap_of_subject e s
+own_snap e subject.Own = refl
+own_snap e (subject.View k) = refl
+own_snap e (subject.Iter k) = refl
+
+lent_snap : (e : Exporter) (o : Option Snap) → snap_in e (Some (loan_of_snap o)) ≡ o
+lent_snap e None = refl
+lent_snap e (Some snap) = refl
+
+other_snap : (e : Exporter) (o : Option Exporter) (s : Subject) → snap_in e (Some (loan_of_other o s)) ≡ worlds.snap_in o s
+other_snap e None s = refl
+other_snap e (Some lender) s = lent_snap e (snap_of_subject lender s)
+
+snap_by_lender : (w : World) (e : Exporter) (i : ℕ) (n : Named) → ((exporter_of n == i) ≡ true) × (exporter_of n ≡ i) ⊎ ((exporter_of n == i) ≡ false) × (exporter_of n ≢ i) → slice_get w.exporters i ≡ Some e
+    → snap_in e (Some (loan_of_name w i (Some n))) ≡ snap_of_name w (Some n)
+snap_by_lender w e i n (inl same) found =
+    ap (λ (b : Bool). snap_in e (Some (if b then loan_of_own (subject_of n) else loan_of_other (slice_get w.exporters (exporter_of n)) (subject_of n)))) same.0
+    ∙ own_snap e (subject_of n)
+    ∙ sym (ap (λ (o : Option Exporter). worlds.snap_in o (subject_of n)) (ap (slice_get w.exporters) same.1 ∙ found))
+snap_by_lender w e i n (inr other) found =
+    ap (λ (b : Bool). snap_in e (Some (if b then loan_of_own (subject_of n) else loan_of_other (slice_get w.exporters (exporter_of n)) (subject_of n)))) other.0
+    ∙ other_snap e (slice_get w.exporters (exporter_of n)) (subject_of n)
+
+snap_by_name : (w : World) (e : Exporter) (i : ℕ) (o : Option Named) → slice_get w.exporters i ≡ Some e → snap_in e (Some (loan_of_name w i o)) ≡ snap_of_name w o
+snap_by_name w e i None found = refl
+snap_by_name w e i (Some n) found = snap_by_lender w e i n (eqb_tells (exporter_of n) i) found
+
+same_source : (w : World) (e : Exporter) (i : ℕ) (slice : PySlice) (v : Value) → slice_get w.exporters i ≡ Some e → source_before e (loans_for w i slice v) v ≡ source_in_world w v
+same_source w e i slice (value.One (scalar.Bytes bytes)) found = refl
+same_source w e i slice (value.One (scalar.Handle h)) found = ap (snap_in e) (lent_last w i (handles_in (value.Slice slice)) h) ∙ snap_by_name w e i (slice_get w.handles h) found
+same_source w e i slice (value.One scalar.None) found = refl
+same_source w e i slice (value.One (scalar.Bool b)) found = refl
+same_source w e i slice (value.One (scalar.Int n)) found = refl
+same_source w e i slice (value.One (scalar.Text t)) found = refl
+same_source w e i slice (value.One scalar.Ellipsis) found = refl
+same_source w e i slice (value.Slice s) found = refl
+same_source w e i slice (value.Tuple parts) found = refl
+same_source w e i slice (value.List parts) found = refl
+same_source w e i slice (value.Slices parts) found = refl
+
 -- ---- the step
 
 pair_not : (b : Bool) (n : ℕ) → reply_with_copy b n ≡ reply.Ok → ⊥
@@ -203,6 +246,11 @@ by_exporter steps hold fit apart slices w new handle number k slice v (Some e) s
       live = made.live;
       parts = made.parts;
       given = made.given;
+      source = made.source;
+      named = sym (same_source w e number slice v found) ∙ made.named;
+      unreleased = made.unreleased;
+      same_size = made.same_size;
+      as_many = made.as_many;
       items = λ j below. made.items lie j below ∙ same_items hold w e number slice v made.source j sound found made.named made.unreleased (made.inside j below);
       others = made.others;
       as_long = made.as_long;
