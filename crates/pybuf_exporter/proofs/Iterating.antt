@@ -1,8 +1,11 @@
 -- An iterator over bytes gives each of them once, and then it stops for ever.
-use Rattle.std.proofs.Common.{◌≡◌, ℕ, zero, suc, ◌+◌, ◌-◌, ◌<◌, ◌≤◌, List, [], ◌∷◌, ◌++◌, length, take, drop, map, Bool, true, false, ap, ap₂, sym, ◌∙◌, refl, subst, arith, take-append-drop, append_assoc}
-use Rattle.std.specs.Prelude.{set, replicate, Option, Some, None, Ok, slice_get}
+use Rattle.std.proofs.Common.{◌≡◌, ℕ, zero, suc, ◌+◌, ◌-◌, ◌<◌, ◌≤◌, List, [], ◌∷◌, ◌++◌, length, take, drop, map, Bool, true, false, ap, ap₂, sym, ◌∙◌, refl, arith, take-append-drop, append_assoc}
+use Rattle.std.specs.Prelude.{set, replicate, Option, Some, None, Ok, slice_get, nat_lt}
 use Rattle.std.specs.Option.{ok_or, option_map}
 use Rattle.std.proofs.lemmas.Grind.{common_steps}
+use Rattle.std.proofs.lemmas.Bool.{ltb-true, ltb-false}
+use Rattle.std.proofs.lemmas.Option.{slice_get_past}
+use Rattle.std.proofs.Math.ListN.{drop_of_length-le}
 use Rattle.pybuf_value.specs.declared.faults.Fault.TheVariants as fault
 use Rattle.pybuf_value.specs.declared.values.Item.{Item}
 use Rattle.pybuf_value.specs.Refusing.{◌>>=◌}
@@ -19,25 +22,21 @@ use Rattle.pybuf_exporter.specs.Laws.{nexts, IteratorsGiveTheBytes}
 
 -- ---- lists
 
-get-middle : {X : Type 0} (before : List X) (x : X) (after : List X) → slice_get (before ++ x ∷ after) (length before) ≡ Some x
+pub get-middle : {X : Type 0} (before : List X) (x : X) (after : List X) → slice_get (before ++ x ∷ after) (length before) ≡ Some x
 get-middle [] x after = refl
 get-middle (y ∷ before) x after = get-middle before x after
 
-get-past : {X : Type 0} (xs : List X) → slice_get xs (length xs) ≡ None
-get-past [] = refl
-get-past (x ∷ xs) = get-past xs
-
-get-set : {X : Type 0} (xs : List X) (k : ℕ) (x y : X) → slice_get xs k ≡ Some x → slice_get (set xs k y) k ≡ Some y
+pub get-set : {X : Type 0} (xs : List X) (k : ℕ) (x y : X) → slice_get xs k ≡ Some x → slice_get (set xs k y) k ≡ Some y
 get-set [] k x y given = absurd (cc)
 get-set (z ∷ xs) zero x y given = refl
 get-set (z ∷ xs) (suc k) x y given = get-set xs k x y given
 
 -- ---- one `next`
 
-abbrev after_next : Exporter → ℕ → Exporter × LocalReply
+abbrev pub after_next : Exporter → ℕ → Exporter × LocalReply
 after_next e k = estep e (subject.Iter k) verb.Next []
 
-abbrev by_iterator : Exporter → ℕ → Option Iterator → Exporter × LocalReply
+abbrev pub by_iterator : Exporter → ℕ → Option Iterator → Exporter × LocalReply
 by_iterator e k o = settled_answer e (ok_or o fault.UnknownName >>= λ it. next_unless it.exhausted e k it)
 
 next_exhausted : (e : Exporter) (k : ℕ) (it : Iterator) → slice_get e.iterators k ≡ Some it → it.exhausted ≡ true → after_next e k ≡ (e, reply.Stop)
@@ -52,18 +51,18 @@ next_over_bytes e k it x given own goes found =
 
 -- ---- and so on
 
-stops : (more : ℕ) (e : Exporter) (k : ℕ) (it : Iterator) → slice_get e.iterators k ≡ Some it → it.exhausted ≡ true → nexts e k more ≡ replicate more reply.Stop
+pub stops : (more : ℕ) (e : Exporter) (k : ℕ) (it : Iterator) → slice_get e.iterators k ≡ Some it → it.exhausted ≡ true → nexts e k more ≡ replicate more reply.Stop
 stops zero e k it given is = refl
 stops (suc more) e k it given is =
     ap (λ (after : Exporter × LocalReply). after.1 ∷ nexts after.0 k more) (next_exhausted e k it given is)
     ∙ ap (λ (rest : List LocalReply). reply.Stop ∷ rest) (stops more e k it given is)
 
-ends : (more : ℕ) (e : Exporter) (k : ℕ) (it : Iterator) → slice_get e.iterators k ≡ Some it → it.subject ≡ subject.Own → it.exhausted ≡ false → it.position ≡ length e.bytes → nexts e k more ≡ replicate more reply.Stop
-ends zero e k it given own goes at_end = refl
-ends (suc more) e k it given own goes at_end =
+ends : (more : ℕ) (e : Exporter) (k : ℕ) (it : Iterator) → slice_get e.iterators k ≡ Some it → it.subject ≡ subject.Own → it.exhausted ≡ false → length e.bytes ≤ it.position → nexts e k more ≡ replicate more reply.Stop
+ends zero e k it given own goes past = refl
+ends (suc more) e k it given own goes past =
     let ended : Iterator = record it { exhausted = true } in
     ap (λ (after : Exporter × LocalReply). after.1 ∷ nexts after.0 k more)
-    (next_over_bytes e k it None given own goes (ap (λ (n : ℕ). option_map byte_item (slice_get e.bytes n)) at_end ∙ ap (option_map byte_item) (get-past e.bytes)))
+    (next_over_bytes e k it None given own goes (ap (option_map byte_item) (slice_get_past e.bytes it.position past)))
     ∙ ap (λ (rest : List LocalReply). reply.Stop ∷ rest) (stops more (iterator_put e k ended) k ended (get-set e.iterators k it ended given) refl)
 
 abbrev item_reply : ℕ → LocalReply
@@ -73,7 +72,7 @@ gives : (rest before : List ℕ) (e : Exporter) (k : ℕ) (it : Iterator) (more 
     → it.exhausted ≡ false → nexts e k n ≡ map item_reply rest ++ replicate more reply.Stop
 gives [] before e k it more n count bytes at given own goes =
     let same : n ≡ more = omega (arith, count) in
-    ap (nexts e k) same ∙ ends more e k it given own goes (at ∙ sym (ap (λ (xs : List ℕ). length xs) bytes ∙ grind (arith, common_steps)))
+    ap (nexts e k) same ∙ ends more e k it given own goes (let all : length e.bytes ≡ length before = ap (λ (xs : List ℕ). length xs) bytes ∙ grind (arith, common_steps) in let past : length e.bytes ≤ it.position = omega (arith, all, at) in past)
 gives (b ∷ rest) before e k it more n count bytes at given own goes =
     let moved : Iterator = record it { position = it.position + 1 } in
     let left : ℕ = length rest + more in
@@ -84,8 +83,20 @@ gives (b ∷ rest) before e k it more n count bytes at given own goes =
     ∙ ap (λ (replies : List LocalReply). item_reply b ∷ replies)
     (gives rest (before ++ b ∷ []) (iterator_put e k moved) k moved more left refl (bytes ∙ sym (append_assoc before (b ∷ []) rest)) (grind (arith, common_steps, at)) (get-set e.iterators k it moved given) own goes)
 
-pub gives_the_bytes : IteratorsGiveTheBytes
-gives_the_bytes e k it more given own goes inside =
+-- where the position is past the end, no byte is given
+by_place : (e : Exporter) (k : ℕ) (it : Iterator) (more : ℕ) (b : Bool) → nat_lt (length e.bytes) it.position ≡ b → slice_get e.iterators k ≡ Some it → it.subject ≡ subject.Own → it.exhausted ≡ false
+    → nexts e k (length e.bytes - it.position + more) ≡ map item_reply (drop it.position e.bytes) ++ replicate more reply.Stop
+by_place e k it more true is given own goes =
+    let past : length e.bytes < it.position = ltb-true (length e.bytes) it.position is in
+    let none : length e.bytes - it.position + more ≡ more = omega (arith, past) in
+    let empty : drop it.position e.bytes ≡ [] = drop_of_length-le e.bytes (let less : length e.bytes ≤ it.position = omega (arith, past) in less) in
+    ap (nexts e k) none ∙ ends more e k it given own goes (let less : length e.bytes ≤ it.position = omega (arith, past) in less)
+    ∙ sym (ap (λ (xs : List ℕ). map item_reply xs ++ replicate more reply.Stop) empty)
+by_place e k it more false is given own goes =
+    let inside : it.position ≤ length e.bytes = ltb-false (length e.bytes) it.position is in
     let counted : length e.bytes - it.position + more ≡ length (drop it.position e.bytes) + more = grind (arith, common_steps) in
     let placed : it.position ≡ length (take it.position e.bytes) = grind (arith, common_steps, inside) in
     gives (drop it.position e.bytes) (take it.position e.bytes) e k it more (length e.bytes - it.position + more) counted (sym (take-append-drop it.position e.bytes)) placed given own goes
+
+pub gives_the_bytes : IteratorsGiveTheBytes
+gives_the_bytes e k it more given own goes = by_place e k it more (nat_lt (length e.bytes) it.position) refl given own goes

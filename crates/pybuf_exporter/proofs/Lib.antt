@@ -4,3 +4,5 @@ pub mod Lent
 pub mod Refusing
 pub mod Iterating
 pub mod Unchanged
+pub mod Viewing
+pub mod Assigning

@@ -1,12 +1,16 @@
 -- Laws over every command on one exporter.
-use Rattle.std.specs.Prelude.{◌≡◌, ◌⊎◌, ℕ, zero, suc, ◌+◌, ◌-◌, ◌<◌, ◌≤◌, Bool, true, false, List, [], ◌∷◌, ◌++◌, length, map, drop, replicate, slice_get, slice_index, Option, Result, Ok, Err, Some}
+use Rattle.std.specs.Prelude.{◌≡◌, ◌≢◌, ◌⊎◌, ℕ, zero, suc, ◌+◌, ◌-◌, ◌<◌, Bool, true, false, List, [], ◌∷◌, ◌++◌, length, map, drop, replicate, slice_get, slice_index, Option, Result, Ok, Err, Some}
 use Rattle.pybuf_value.specs.declared.faults.Fault.{Fault}
 use Rattle.pybuf_value.specs.declared.faults.Fault.TheVariants as fault
+use Rattle.pybuf_value.specs.declared.values.Scalar.TheVariants as scalar
+use Rattle.pybuf_value.specs.declared.values.Value.{Value}
+use Rattle.pybuf_value.specs.declared.values.Value.TheVariants as value
 use Rattle.pybuf_value.specs.declared.snaps.Snap.{Snap}
 use Rattle.pybuf_struct.specs.Formats.{Format, format_of}
 use Rattle.pybuf_struct.specs.Values.{item_of, values}
 use Rattle.pybuf_desc.specs.Layouts.{Layout}
 use Rattle.pybuf_desc.specs.Items.{bytes_at}
+use Rattle.pybuf_command.specs.declared.kinds.ExporterKind.TheVariants as kind
 use Rattle.pybuf_command.specs.declared.kinds.Subject.{Subject}
 use Rattle.pybuf_command.specs.declared.kinds.Subject.TheVariants as subject
 use Rattle.pybuf_command.specs.declared.commands.Verb.{Verb}
@@ -14,6 +18,8 @@ use Rattle.pybuf_command.specs.declared.commands.Verb.TheVariants as verb
 use Rattle.pybuf_command.specs.declared.commands.LocalReply.{LocalReply}
 use Rattle.pybuf_command.specs.declared.commands.LocalReply.TheVariants as reply
 use Rattle.pybuf_command.specs.declared.loans.Loan.{Loan}
+use Rattle.pybuf_command.specs.declared.loans.Loan.TheVariants as loan
+use Rattle.pybuf_command.specs.Loans.{loan_of}
 use Rattle.pybuf_command.specs.Handles.{handles_of, handles_read}
 use Rattle.pybuf_memoryview.specs.Items.{byte_item, item_by}
 use Rattle.pybuf_state.specs.Exporter.{Exporter, Iterator, has_subject, live_layout}
@@ -70,7 +76,7 @@ nexts e k (suc n) = (estep e (subject.Iter k) verb.Next []).1 ∷ nexts (estep e
 -- often it is asked again.
 abbrev pub IteratorsGiveTheBytes : Type 0
 IteratorsGiveTheBytes =
-    (e : Exporter) (k : ℕ) (it : Iterator) (more : ℕ) → slice_get e.iterators k ≡ Some it → it.subject ≡ subject.Own → it.exhausted ≡ false → it.position ≤ length e.bytes
+    (e : Exporter) (k : ℕ) (it : Iterator) (more : ℕ) → slice_get e.iterators k ≡ Some it → it.subject ≡ subject.Own → it.exhausted ≡ false
     → nexts e k (length e.bytes - it.position + more) ≡ map (λ b. reply.Item (byte_item b)) (drop it.position e.bytes) ++ replicate more reply.Stop
 
 -- a method, a search and the digits of a view change nothing
@@ -111,18 +117,35 @@ ItemsAreRead =
     → (format : Format) × (format_of layout.format ≡ Ok format) × (format.size ≡ layout.itemsize)
     × (item_by layout.format (bytes_at e.bytes layout.itemsize (slice_index layout.starts i)) ≡ item_of (values format (bytes_at e.bytes layout.itemsize (slice_index layout.starts i))))
 
--- Where an edit asks for another length, once the checks before are passed, the reply is `BufferError` while
--- a view is unreleased. It is so nowhere else, but where a check before gives it: where an exporter is added
--- to itself.
-pub record IsRefusedWhileExported (e : Exporter) (asked : Result Bool Fault) (r : LocalReply) : Type 0 where
+-- a bytearray is added to itself, by `iadd` of a handle that is lent as the exporter itself
+pub record AddsItself (e : Exporter) (v : Verb) (loans : List (ℕ × Loan)) : Type 0 where
+  pub byte_array : e.kind ≡ kind.ByteArray
+  pub handle : ℕ
+  pub added : v ≡ verb.IAdd (value.One (scalar.Handle handle))
+  pub itself : loan_of loans handle ≡ Some loan.Own
+
+-- What an edit replies by what it asks. Where a check before refuses, that is the reply, whether a view is
+-- unreleased or not. Where these are passed and another length is asked for, the reply is `BufferError` while a view
+-- is unreleased. It is so nowhere else, but where a bytearray is added to itself.
+pub record IsRefusedWhileExported (e : Exporter) (v : Verb) (loans : List (ℕ × Loan)) (asked : Result Bool Fault) (r : LocalReply) : Type 0 where
+  pub earlier : (f : Fault) → asked ≡ Err f → r ≡ reply.Refused f
   pub refused : asked ≡ Ok true → has_exports e ≡ true → r ≡ reply.Refused fault.Buffer
-  pub only : r ≡ reply.Refused fault.Buffer → ((asked ≡ Ok true) × (has_exports e ≡ true)) ⊎ (asked ≡ Err fault.Buffer)
+  pub only : r ≡ reply.Refused fault.Buffer → ((asked ≡ Ok true) × (has_exports e ≡ true)) ⊎ AddsItself e v loans
 
 -- so it is of every edit whose handles are known
 abbrev pub ResizingIsRefusedWhileExported : Type 0
 ResizingIsRefusedWhileExported =
     (e : Exporter) (v : Verb) (loans : List (ℕ × Loan)) → is_edit v ≡ true → are_known e loans (handles_of v) ≡ true
-    → IsRefusedWhileExported e (asks e v (lent_for_each e loans (handles_read subject.Own v))) (estep e subject.Own v loans).1
+    → IsRefusedWhileExported e v loans (asks e v (lent_for_each e loans (handles_read subject.Own v))) (estep e subject.Own v loans).1
+
+-- adding a bytearray to itself is refused with `BufferError`, whether a view is unreleased or not
+abbrev pub AddingItselfIsRefused : Type 0
+AddingItselfIsRefused = (e : Exporter) (v : Verb) (loans : List (ℕ × Loan)) → AddsItself e v loans → estep e subject.Own v loans ≡ (e, reply.Refused fault.Buffer)
+
+-- nothing is added to an exporter of another kind, which has no such command
+abbrev pub OnlyByteArraysAreAddedTo : Type 0
+OnlyByteArraysAreAddedTo =
+    (e : Exporter) (v : Value) (loans : List (ℕ × Loan)) → e.kind ≢ kind.ByteArray → estep e subject.Own (verb.IAdd v) loans ≡ (e, reply.Refused fault.UnknownName)
 
 -- where no two items of any view share a byte, that is so after every command
 abbrev pub CommandsKeepItemsApart : Type 0

@@ -2,3 +2,5 @@ pub mod Step
 pub mod Rows
 pub mod Lending
 pub mod Laws
+pub mod Iterating
+pub mod Assigning

@@ -1,5 +1,7 @@
 //! Laws over every command, from the laws of the rows.
-ghost use Rattle.pybuf_exporter.specs.Laws.{CommandsKeepSound, LengthsStayUnderCommands, ReadOnlyBytesStayUnderCommands, IteratorsStayUnderCommands, OthersLeaveIterators, IterationChangesNothingElse, IteratorsGiveTheBytes, ReadingInPlaceChangesNothing, RefusedCommandsChangeNothing, FreshRepliesAreCopies, NamesAlikeDoTheSame, ItemsAreRead, ResizingIsRefusedWhileExported, ShownTextsAreOneLine};
+ghost use Rattle.pybuf_exporter.specs.Laws.{CommandsKeepSound, LengthsStayUnderCommands, ReadOnlyBytesStayUnderCommands, IteratorsStayUnderCommands, OthersLeaveIterators, IterationChangesNothingElse, IteratorsGiveTheBytes, ReadingInPlaceChangesNothing, RefusedCommandsChangeNothing, FreshRepliesAreCopies, NamesAlikeDoTheSame, ItemsAreRead, ResizingIsRefusedWhileExported, AddingItselfIsRefused, OnlyByteArraysAreAddedTo, ShownTextsAreOneLine};
+ghost use Rattle.pybuf_exporter.specs.Iterating.{IteratorsGiveTheItems, ReleasedViewsAreNotIterated, OtherShapesAreNotIterated, IteratorsStopPastTheEntries, ExhaustedIteratorsStop};
+ghost use Rattle.pybuf_exporter.specs.Assigning.{StepsAssignByValue, SnapsHoldTheItems};
 ghost use Rattle.pybuf_exporter.specs.Laws.{CommandsKeepItemsApart, RepliedNamesAreThere, SubjectsStay};
 ghost use Rattle.pybuf_exporter.specs.Rows.{RowsAreSafe, StepsKeepSound};
 
@@ -143,15 +145,63 @@ pub fn items_are_read()
     pybuf_struct::bytes_of_the_size_are_read();
 }
 
-/// An edit that asks for another length, once its earlier checks are passed, is refused with
-/// `BufferError` exactly while a view is unreleased. No other edit is, but that which adds a bytearray
-/// to itself.
+/// Where a check of an edit refuses before it asks for another length, that is the reply, whether a view is unreleased
+/// or not. An edit that asks for another length, once its earlier checks are passed, is refused with `BufferError`
+/// exactly while a view is unreleased. No other edit is, but that which adds a bytearray to itself.
 pub fn resizing_is_refused_while_exported()
     ensures { ResizingIsRefusedWhileExported }
 {
     rows_are_safe();
     pybuf_state::reading_keeps();
     pybuf_rows_edits::edits_ask_before_they_resize();
+    pybuf_rows_edits::only_adding_itself_is_refused_earlier();
+}
+
+/// A bytearray that is added to itself by `iadd` is refused with `BufferError`, whether a view is unreleased or not, and
+/// nothing changes. An exporter that is no bytearray has no `iadd`, and is refused with `UnknownName`.
+pub fn adding_itself_is_refused()
+    ensures itself { AddingItselfIsRefused }
+    ensures others { OnlyByteArraysAreAddedTo }
+{}
+
+/// An iterator over a view of one dimension gives its items from where it stands, as the bytes are now, in order and
+/// each once, and then it stops for ever.
+pub fn iterators_give_the_items()
+    ensures { IteratorsGiveTheItems }
+{
+    pybuf_state::live_layouts_are_sound();
+}
+
+/// An iterator over a released view is refused, and so is one over a view of no dimension or of several while there is
+/// an entry for it; neither moves. Past the last entry it stops for ever, and so it does once it is exhausted.
+pub fn iterators_stop_or_stay()
+    ensures released { ReleasedViewsAreNotIterated }
+    ensures shaped { OtherShapesAreNotIterated }
+    ensures past { IteratorsStopPastTheEntries }
+    ensures exhausted { ExhaustedIteratorsStop }
+{}
+
+/// What is lent of an exporter, of a view or of an iterator holds the items of that, one after the other.
+pub fn snaps_hold_the_items()
+    ensures { SnapsHoldTheItems }
+{
+    pybuf_state::live_layouts_are_sound();
+    pybuf_memoryview::contents_are_whole();
+    pybuf_rows_writes::contents_hold_the_items();
+}
+
+/// `set` of a view by a slice, where it isn't refused, is by value: where no two items of the target share a byte, item
+/// j of the target is afterwards item j of the source as it was before the command, be the source bytes that are given,
+/// the exporter itself, a view of it, or what another lends. Every byte that is of no item of the target stays, and so
+/// do the length, the kind, the views and the iterators.
+pub fn steps_assign_by_value()
+    ensures { StepsAssignByValue }
+{
+    snaps_hold_the_items();
+    pybuf_state::live_layouts_are_sound();
+    pybuf_state::subjects_fit();
+    pybuf_rows_writes::assign_is_safe();
+    pybuf_rows_writes::assignments_are_by_value();
 }
 
 /// Where no two items of any view of an exporter share a byte, that is so after every command.

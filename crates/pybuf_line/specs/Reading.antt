@@ -12,12 +12,6 @@ Reads (Ok x) read = read ≡ Some x
 Reads (Err unread.NoCommand) read = read ≡ None
 Reads (Err unread.NoMemory) read = Unit {0}
 
--- Whether the definition gives anything.
-abbrev pub Tells : {X : Type 0} → Result X Unread → Option Command → Type 0
-Tells (Ok x) read = (command : Command) × (read ≡ Some command)
-Tells (Err unread.NoCommand) read = read ≡ None
-Tells (Err unread.NoMemory) read = Unit {0}
-
 -- Whether all lines of an input are commands, where the number of the first bad line is told. Memory may run out.
 abbrev pub ChecksAll : {X : Type 0} → Result X Misread → Result (List Command) ℕ → Type 0
 ChecksAll (Ok x) read = (commands : List Command) × (read ≡ Ok commands)

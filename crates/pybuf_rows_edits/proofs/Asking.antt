@@ -37,28 +37,32 @@ Row = Result (Exporter × LocalReply) Fault
 abbrev is_buffer : Row → Type 0
 is_buffer row = row ≡ Err fault.Buffer
 
+-- a check that refuses decides
+refused_so : (e : Exporter) (f : Fault) → IsAsked e (Err f) (Err f)
+refused_so e f = record {
+  earlier = λ g is. ap (λ (y : Fault). let gone : Row = Err y in gone) (let same : f ≡ g = cc in same);
+  refused = λ is live. absurd (cc);
+  only = λ is. inr (let same : f ≡ fault.Buffer = cc in ap (λ (y : Fault). let gone : Result Bool Fault = Err y in gone) same);
+}
+
 -- what follows a check
 checked : {A : Type 0} (e : Exporter) (r : Result A Fault) (f : A → Result Bool Fault) (g : A → Row) → ((a : A) → IsAsked e (f a) (g a)) → IsAsked e (r >>= f) (r >>= g)
 checked e (Ok a) f g after = after a
-checked e (Err x) f g after = record { refused = λ is live. absurd (cc); only = λ is. inr (let same : x ≡ fault.Buffer = cc in ap (λ (y : Fault). let gone : Result Bool Fault = Err y in gone) same) }
+checked e (Err x) f g after = refused_so e x
 
 -- a check after which another length is asked for
 passing : {A : Type 0} (e : Exporter) (r : Result A Fault) (g : A → Row) → ((a : A) → IsAsked e (Ok true) (g a)) → IsAsked e (passed r) (r >>= g)
 passing e (Ok a) g after = after a
-passing e (Err x) g after = record { refused = λ is live. absurd (cc); only = λ is. inr (let same : x ≡ fault.Buffer = cc in ap (λ (y : Fault). let gone : Result Bool Fault = Err y in gone) same) }
+passing e (Err x) g after = refused_so e x
 
 -- what asks for nothing is never refused so
 never : (e : Exporter) (row : Row) → (is_buffer row → ⊥) → IsAsked e (Ok false) row
-never e row other = record { refused = λ is live. absurd (cc); only = λ is. absurd (other is) }
-
--- and what is refused by another check isn't either
-refused_so : (e : Exporter) (f : Fault) → IsAsked e (Err f) (Err f)
-refused_so e f = record { refused = λ is live. absurd (cc); only = λ is. inr (let same : f ≡ fault.Buffer = cc in ap (λ (y : Fault). let gone : Result Bool Fault = Err y in gone) same) }
+never e row other = record { earlier = λ f is. absurd (cc); refused = λ is live. absurd (cc); only = λ is. absurd (other is) }
 
 -- what is asked is refused while a view is unreleased, and what comes after it refuses in other ways
 asking_when : (e : Exporter) (b : Bool) (g : Bool → Row) → has_exports e ≡ b → ((u : Bool) → is_buffer (g u) → ⊥) → IsAsked e (Ok true) (unless b fault.Buffer >>= g)
-asking_when e true g is after = record { refused = λ asked live. refl; only = λ refusal. inl (refl, is) }
-asking_when e false g is after = record { refused = λ asked live. absurd (true≢false (sym live ∙ is)); only = λ refusal. absurd (after true refusal) }
+asking_when e true g is after = record { earlier = λ f is. absurd (cc); refused = λ asked live. refl; only = λ refusal. inl (refl, is) }
+asking_when e false g is after = record { earlier = λ f is. absurd (cc); refused = λ asked live. absurd (true≢false (sym live ∙ is)); only = λ refusal. absurd (after true refusal) }
 
 asking : (e : Exporter) (g : Bool → Row) → ((u : Bool) → is_buffer (g u) → ⊥) → IsAsked e (Ok true) (resizable e >>= g)
 asking e g after = asking_when e (has_exports e) g refl after
@@ -153,9 +157,9 @@ taking e false = never e (Err fault.UnknownName) (λ is. absurd (cc))
 
 -- a slice asks where it gets another number of bytes than it picks
 of_count : (e : Exporter) (b other : Bool) (row : Row) → has_exports e ≡ b → (is_buffer row → ⊥) → IsAsked e (Ok other) (unless (b && other) fault.Buffer >>= λ _. row)
-of_count e true true row is after = record { refused = λ asked live. refl; only = λ refusal. inl (refl, is) }
+of_count e true true row is after = record { earlier = λ f is. absurd (cc); refused = λ asked live. refl; only = λ refusal. inl (refl, is) }
 of_count e true false row is after = never e row after
-of_count e false true row is after = record { refused = λ asked live. absurd (true≢false (sym live ∙ is)); only = λ refusal. absurd (after refusal) }
+of_count e false true row is after = record { earlier = λ f is. absurd (cc); refused = λ asked live. absurd (true≢false (sym live ∙ is)); only = λ refusal. absurd (after refusal) }
 of_count e false false row is after = never e row after
 
 assigning_parts : (e : Exporter) (parts : SliceParts) (bytes : List ℕ) → IsAsked e (Ok (not (length (picks_of (length e.bytes) parts) == length bytes))) (assigned e parts bytes)

@@ -1,5 +1,6 @@
 pub mod Asking
 pub mod Assigning
 pub mod Lending
+pub mod OwnBuffer
 pub mod Repeating
 pub mod Safe

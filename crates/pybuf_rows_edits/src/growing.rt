@@ -11,6 +11,7 @@ ghost use Rattle.pybuf_state.specs.Answers.{exporter_of, IsWhole, Answers};
 ghost use Rattle.pybuf_rows_edits.specs.Growing as spec;
 ghost use Rattle.pybuf_rows_edits.specs.LentBytes as lent_spec;
 
+use crate::refusals::{refuse_iterator, refuse_view};
 use pybuf_command::{ExporterKind, LocalReply, Subject};
 use pybuf_index::SequenceIndexOp;
 use pybuf_state::{Meaning, Names, Other, Parts, content_of_other, run_of_other};
@@ -148,24 +149,6 @@ fn add(parts: &mut Parts, bytes: &[u8]) -> Result<LocalReply, Halt>
     Ok(LocalReply::Ok)
 }
 
-/// Adds the bytes of a view of the exporter itself. Nothing is read: such a view is released, or it is one
-/// because of which nothing can be added.
-fn extend_by_view(parts: &Parts, view: usize) -> Result<LocalReply, Halt>
-    requires { IsWhole parts.now }
-    ensures { Answers (lent_spec.extended_by (exporter_of parts.now) (snap_of_subject (exporter_of parts.now) (subjects.View view))) (exporter_of parts.now) result (exporter_of parts.now) }
-{
-    parts.live_layout(view)?;
-    Err(Halt::Refused(Fault::Buffer))
-}
-
-/// Adds nothing: an iterator has no bytes.
-fn extend_by_iterator(parts: &Parts, iterator: usize) -> Result<LocalReply, Halt>
-    ensures { Answers (lent_spec.extended_by (exporter_of parts.now) (snap_of_subject (exporter_of parts.now) (subjects.Iter iterator))) (exporter_of parts.now) result (exporter_of parts.now) }
-{
-    parts.iterator(iterator)?;
-    Err(Halt::Refused(Fault::Kind))
-}
-
 /// Adds the bytes of something of another exporter.
 fn extend_by_other(parts: &mut Parts, other: Other<'_>) -> Result<LocalReply, Halt>
     requires whole { IsWhole parts.old }
@@ -187,8 +170,8 @@ fn extend_by_meaning(parts: &mut Parts, meaning: Meaning<'_>) -> Result<LocalRep
 {
     match meaning {
         Meaning::Own(Subject::Own) => repeat(parts, 2),
-        Meaning::Own(Subject::View(view)) => extend_by_view(parts, view),
-        Meaning::Own(Subject::Iter(iterator)) => extend_by_iterator(parts, iterator),
+        Meaning::Own(Subject::View(view)) => refuse_view(parts, view),
+        Meaning::Own(Subject::Iter(iterator)) => refuse_iterator(parts, iterator),
         Meaning::Other(other) => extend_by_other(parts, other),
         Meaning::Nothing => Err(Halt::Refused(Fault::UnknownName)),
     }

@@ -16,6 +16,7 @@ ghost use Rattle.pybuf_rows_edits.specs.Common as common;
 ghost use Rattle.pybuf_rows_edits.specs.LentBytes as lent_spec;
 ghost use Rattle.pybuf_rows_edits.specs.Replacing as spec;
 
+use crate::refusals::{refuse_iterator, refuse_view};
 use pybuf_bytes::NewOptions;
 use pybuf_command::{ByteInnerNewOptions, ExporterKind, LocalReply, Subject, handle_alone};
 use pybuf_index::SaturatedSlice;
@@ -232,24 +233,6 @@ fn init_by_own(parts: &Parts) -> Result<LocalReply, Halt>
     Ok(LocalReply::Ok)
 }
 
-/// By a view of the exporter itself. Nothing is read: such a view is released, or it is one because of
-/// which the length stays.
-fn init_by_view(parts: &Parts, view: usize) -> Result<LocalReply, Halt>
-    requires { IsWhole parts.now }
-    ensures { Answers (lent_spec.initialized_by (exporter_of parts.now) (snap_of_subject (exporter_of parts.now) (subjects.View view))) (exporter_of parts.now) result (exporter_of parts.now) }
-{
-    parts.live_layout(view)?;
-    Err(Halt::Refused(Fault::Buffer))
-}
-
-/// By an iterator, which has no bytes.
-fn init_by_iterator(parts: &Parts, iterator: usize) -> Result<LocalReply, Halt>
-    ensures { Answers (lent_spec.initialized_by (exporter_of parts.now) (snap_of_subject (exporter_of parts.now) (subjects.Iter iterator))) (exporter_of parts.now) result (exporter_of parts.now) }
-{
-    parts.iterator(iterator)?;
-    Err(Halt::Refused(Fault::Kind))
-}
-
 /// By something of another exporter, whose bytes are copied once, and only where the length may change.
 fn init_by_other(parts: &mut Parts, other: Other<'_>) -> Result<LocalReply, Halt>
     requires whole { IsWhole parts.old }
@@ -274,8 +257,8 @@ fn init_by_meaning(parts: &mut Parts, meaning: Meaning<'_>) -> Result<LocalReply
 {
     match meaning {
         Meaning::Own(Subject::Own) => init_by_own(parts),
-        Meaning::Own(Subject::View(view)) => init_by_view(parts, view),
-        Meaning::Own(Subject::Iter(iterator)) => init_by_iterator(parts, iterator),
+        Meaning::Own(Subject::View(view)) => refuse_view(parts, view),
+        Meaning::Own(Subject::Iter(iterator)) => refuse_iterator(parts, iterator),
         Meaning::Other(other) => init_by_other(parts, other),
         Meaning::Nothing => Err(Halt::Refused(Fault::UnknownName)),
     }

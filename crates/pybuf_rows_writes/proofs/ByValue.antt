@@ -28,7 +28,7 @@ use Rattle.pybuf_rows_writes.specs.Laid.{bytes_with, laid}
 use Rattle.pybuf_rows_writes.specs.Assign.{no_iterator, lent_source, source_in, has_form_of, assign_target, assigned, assigned_of_value}
 use Rattle.pybuf_desc.specs.Items.{bytes_at, bytes_of_items, content_of_layout}
 use Rattle.pybuf_desc.specs.Apart.{AreApart}
-use Rattle.pybuf_rows_writes.specs.Laws.{AreOutside, IsAssigned, AssignmentsAreByValue}
+use Rattle.pybuf_rows_writes.specs.Laws.{AreOutside, IsAssigned, AssignmentsAreByValue, ContentsHoldTheItems}
 use Rattle.pybuf_rows_writes.proofs.Bytes.{taken, dropped, between}
 use Rattle.pybuf_rows_writes.proofs.LaidLengths.{piece_short, rest_inside, length-laid}
 use Rattle.pybuf_rows_writes.proofs.Safe.{done}
@@ -199,6 +199,8 @@ pub assigned_is : (e : Exporter) (target : Layout) (source : Snap) → LiesInsid
 assigned_is e target source inside long size = record {
   views = refl;
   as_long = length-laid e.bytes target.itemsize target.starts source.content inside;
+  same_size = size;
+  as_many = long;
   others = λ place count outside. stays e.bytes target.itemsize target.starts source.content place count inside outside;
   items = λ apart k below. item_is e.bytes target.itemsize target.starts source.content k inside long apart below;
   items_of_view = λ bytes layout of lies apart k below.
@@ -278,7 +280,12 @@ by_value live inside shapes e new k slice v lents r sound fit is =
       live = at.live;
       parts = at.parts;
       given = at.given;
+      moves = slice_moves slice at.parts at.given;
       source = source;
       named = second.1;
+      unreleased = was.live;
       done = subst (λ (t : Layout). IsAssigned e new t source) at.is (subst (λ (x : Exporter). IsAssigned e x target source) (sym (ap (λ (after : Exporter × LocalReply). after.0) was.is)) made);
     }
+
+pub contents_hold : ContentsHoldTheItems
+contents_hold bytes layout k inside below = item_of_content bytes layout.itemsize layout.starts k inside below

@@ -1,5 +1,5 @@
 -- The rows keep a sound exporter, and only a refusal is replied as one, and what is written is read.
-use Rattle.std.specs.Prelude.{◌≡◌, ◌⊎◌, ℕ, ◌+◌, ◌*◌, ◌<◌, ◌≤◌, List, [], ◌∷◌, All, length, slice_index, take, drop, true, false, Ok}
+use Rattle.std.specs.Prelude.{◌≡◌, ◌≢◌, ◌⊎◌, ℕ, ◌+◌, ◌*◌, ◌<◌, ◌≤◌, pos, List, [], ◌∷◌, All, length, slice_index, take, drop, true, false, Ok}
 use Rattle.pybuf_value.specs.declared.values.Item.{Item}
 use Rattle.pybuf_value.specs.declared.values.Value.{Value}
 use Rattle.pybuf_value.specs.declared.values.PySlice.{PySlice}
@@ -13,7 +13,7 @@ use Rattle.pybuf_desc.specs.Slices.{slice_of}
 use Rattle.pybuf_desc.specs.Apart.{AreApart}
 use Rattle.pybuf_memoryview.specs.Fits.{fits_snap}
 use Rattle.pybuf_memoryview.specs.Snaps.{snap_of_layout}
-use Rattle.pybuf_desc.specs.Items.{bytes_at}
+use Rattle.pybuf_desc.specs.Items.{bytes_at, content_of_layout}
 use Rattle.pybuf_command.specs.declared.commands.LocalReply.{LocalReply}
 use Rattle.pybuf_memoryview.specs.Items.{item_by, scalar_in}
 use Rattle.pybuf_state.specs.Exporter.{Exporter, live_layout}
@@ -55,13 +55,15 @@ abbrev pub AreOutside : ℕ → List ℕ → ℕ → ℕ → Type 0
 AreOutside size starts place count =
     (i : ℕ) → i < length starts → (slice_index starts i + size ≤ place) ⊎ (place + count ≤ slice_index starts i)
 
--- Items were copied over those of a target. The views stay, and the length, and every byte that is of
--- none of the target's items. Where no two of these share a byte, item k of them is afterwards item k of
+-- Items were copied over those of a target, from as many of the same size. The views stay, and the length, and
+-- every byte that is of none of the target's items. Where no two of these share a byte, item k of them is afterwards item k of
 -- the source; and where the source was a view of bytes, it is item k of this view as it was in those
 -- bytes, whatever the strides of both are, and also where the two overlap or are one.
 pub record IsAssigned (e new : Exporter) (target : Layout) (source : Snap) : Type 0 where
   pub views : new.views ≡ e.views
   pub as_long : length new.bytes ≡ length e.bytes
+  pub same_size : source.itemsize ≡ target.itemsize
+  pub as_many : length source.content ≡ target.itemsize * length target.starts
   pub others : (place count : ℕ) → AreOutside target.itemsize target.starts place count → bytes_at new.bytes count place ≡ bytes_at e.bytes count place
   pub items : AreApart target.itemsize target.starts → (k : ℕ) → k < length target.starts
       → bytes_at new.bytes target.itemsize (slice_index target.starts k) ≡ bytes_at source.content target.itemsize (k * target.itemsize)
@@ -74,8 +76,10 @@ pub record IsSliceAssignment (e new : Exporter) (k : ℕ) (slice : PySlice) (val
   pub live : live_layout e k ≡ Ok layout
   pub parts : SliceParts
   pub given : saturated_parts_of slice ≡ Ok parts
+  pub moves : parts.step ≢ pos 0
   pub source : Snap
   pub named : source_in value lents ≡ Ok source
+  pub unreleased : source.released ≡ false
   pub done : IsAssigned e new (slice_of layout parts) source
 
 -- an assignment that isn't refused, with what fits lent to it, is by value
@@ -83,3 +87,9 @@ abbrev pub AssignmentsAreByValue : Type 0
 AssignmentsAreByValue =
     (e new : Exporter) (k : ℕ) (slice : PySlice) (value : Value) (lents : List Lent) (r : LocalReply) → IsSoundExporter e → All (λ (l : Lent). fits_snap l.snap ≡ true) lents
     → assign_of_view e k slice value lents ≡ Ok (new, r) → IsSliceAssignment e new k slice value lents
+
+-- the content of a view holds its items, one after the other
+abbrev pub ContentsHoldTheItems : Type 0
+ContentsHoldTheItems =
+    (bytes : List ℕ) (layout : Layout) (k : ℕ) → LiesInside (length bytes) layout → k < length layout.starts
+    → bytes_at (content_of_layout bytes layout) layout.itemsize (k * layout.itemsize) ≡ bytes_at bytes layout.itemsize (slice_index layout.starts k)

@@ -1,5 +1,5 @@
 //! Laws of the definitions that the contracts cite.
-ghost use Rattle.pybuf_rows_writes.specs.Laws.{SetIsSafe, AssignIsSafe, WritesAreSeen, AssignmentsAreByValue};
+ghost use Rattle.pybuf_rows_writes.specs.Laws.{SetIsSafe, AssignIsSafe, WritesAreSeen, AssignmentsAreByValue, ContentsHoldTheItems};
 
 /// `set` keeps a sound exporter.
 pub fn set_is_safe()
@@ -41,3 +41,8 @@ pub fn assignments_are_by_value()
     pybuf_desc::slices_stay_inside();
     pybuf_desc::slices_have_their_shape();
 }
+
+/// The bytes of a view whose items lie inside are those of its items, one item after the other.
+pub fn contents_hold_the_items()
+    ensures { ContentsHoldTheItems }
+{}

@@ -6,4 +6,6 @@ mod laid;
 mod laws;
 pub mod set;
 
-pub use laws::{assign_is_safe, assignments_are_by_value, set_is_safe, writes_are_seen};
+pub use laws::{
+    assign_is_safe, assignments_are_by_value, contents_hold_the_items, set_is_safe, writes_are_seen,
+};

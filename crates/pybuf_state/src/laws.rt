@@ -1,4 +1,5 @@
 //! Laws of the definitions that the contracts cite. Each stands on a function with an empty body.
+ghost use Rattle.pybuf_state.specs.Fits.{SubjectsFit};
 ghost use Rattle.pybuf_state.specs.Laws.{WholeLayoutsAreSound, PartLayoutsAreSound, LiveLayoutsAreSound, CopiesAreFaithful, ReadingKeeps, NewViewsKeep, NewViewsAreSound, WritingKeeps, ResizingKeeps, EmptyingKeeps, ReleasingKeeps, NewIteratorsStay, MovedIteratorsStay, NewExportersAreSpaced, NewViewsStayApart, ReleasedViewsStayApart, SameViewsStayApart, LiveLayoutsLieApart, CopiesAreSpaced};
 
 /// A view of all bytes may be made of every exporter.
@@ -16,6 +17,13 @@ pub fn part_layouts_are_sound()
 pub fn live_layouts_are_sound()
     ensures { LiveLayoutsAreSound }
 {}
+
+/// What is lent of a sound exporter fits, be it the exporter itself, a view or an iterator.
+pub fn subjects_fit()
+    ensures { SubjectsFit }
+{
+    pybuf_memoryview::contents_are_whole();
+}
 
 /// An exporter that is only read is kept.
 pub fn reading_keeps()

@@ -25,7 +25,7 @@ pub use laws::{
     live_layouts_lie_apart, moved_iterators_stay, new_exporters_are_spaced, new_iterators_stay,
     new_views_are_sound, new_views_keep, new_views_stay_apart, part_layouts_are_sound,
     reading_keeps, released_views_stay_apart, releasing_keeps, resizing_keeps,
-    same_views_stay_apart, whole_layouts_are_sound, writing_keeps,
+    same_views_stay_apart, subjects_fit, whole_layouts_are_sound, writing_keeps,
 };
 pub use loans::FitLoans;
 pub use names::{Meaning, Names, Other, are_known};

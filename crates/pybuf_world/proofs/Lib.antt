@@ -12,3 +12,4 @@ pub mod Among
 pub mod Releases
 pub mod Copies
 pub mod Shown
+pub mod Assigning

@@ -4,3 +4,4 @@ pub mod Sound
 pub mod Exporters
 pub mod Tables
 pub mod Laws
+pub mod Assigning

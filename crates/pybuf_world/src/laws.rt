@@ -3,6 +3,7 @@ ghost use Rattle.pybuf_rows_views.specs.Laws.{ReleasingTwiceIsOnce};
 ghost use Rattle.pybuf_world.specs.Laws.{RefusalsChangeNothing, HandlesStay, ReleasingByHandleTwiceIsOnce, WorldLengthsStay, WorldReadOnlyBytesStay, WorldIteratorsStay, WorldShownTextsAreOneLine, CopiesAreExportersOfTheirOwn, UnviewedCopiesAreExportersOfTheirOwn, NewExportersStandBehind, UnknownSourcesAreRefused, RunsStaySound};
 ghost use Rattle.pybuf_world.specs.Exporters.{ExporterLaws};
 ghost use Rattle.pybuf_world.specs.Laws.{RunsKeepItemsApart, ReleasesAreRefusedByName};
+ghost use Rattle.pybuf_world.specs.Assigning.{LoansOfWorldsFit, WorldStepsAssignByValue};
 
 /// A refused command leaves the whole world as it was, so no handle is used up.
 pub fn refusals_change_nothing()
@@ -118,3 +119,24 @@ pub fn runs_keep_items_apart()
 pub fn releases_are_refused_by_name()
     ensures { ReleasesAreRefusedByName }
 {}
+
+/// What the other exporters of a sound world lend to one for a command fits.
+pub fn loans_of_worlds_fit()
+    ensures { LoansOfWorldsFit }
+{
+    pybuf_state::subjects_fit();
+}
+
+/// `set` of a view by a slice, where it isn't refused, is by value on a sound world: item j of the target is afterwards
+/// item j of the source as it was before the command, for all strides of both, be the source bytes that are given, the same exporter or a view of it, or another exporter or a view of that. Every
+/// byte that is of no item of the target stays, and so do the length, the kind, the views and the iterators; and nothing
+/// else of the world changes.
+pub fn world_steps_assign_by_value()
+    ensures { WorldStepsAssignByValue }
+{
+    loans_of_worlds_fit();
+    pybuf_exporter::steps_assign_by_value();
+    pybuf_exporter::snaps_hold_the_items();
+    pybuf_state::live_layouts_lie_apart();
+    pybuf_desc::slices_lie_apart();
+}
