@@ -4,40 +4,9 @@ ghost use Rattle.pybuf_command.specs.Arity as spec;
 
 use crate::methods::MethodName;
 
-/// The fewest arguments that a method takes.
-pub fn fewest(name: MethodName) -> usize
-    ensures { result ≡ spec.fewest name }
-{
-    match name {
-        MethodName::Add
-        | MethodName::Concat
-        | MethodName::Mul
-        | MethodName::FromHex
-        | MethodName::Center
-        | MethodName::LJust
-        | MethodName::RJust
-        | MethodName::Find
-        | MethodName::RFind
-        | MethodName::Index
-        | MethodName::RIndex
-        | MethodName::Count
-        | MethodName::StartsWith
-        | MethodName::EndsWith
-        | MethodName::Join
-        | MethodName::Translate
-        | MethodName::RemovePrefix
-        | MethodName::RemoveSuffix
-        | MethodName::Partition
-        | MethodName::RPartition
-        | MethodName::ZFill => 1,
-        MethodName::MakeTrans | MethodName::Replace => 2,
-        _ => 0,
-    }
-}
-
-/// The most arguments that a method takes.
-pub fn most(name: MethodName) -> usize
-    ensures { result ≡ spec.most name }
+/// The fewest arguments that a method takes, and the most.
+fn arity(name: MethodName) -> (usize, usize)
+    ensures { result ≡ (spec.fewest name, spec.most name) }
 {
     match name {
         MethodName::Add
@@ -45,34 +14,30 @@ pub fn most(name: MethodName) -> usize
         | MethodName::Mul
         | MethodName::FromHex
         | MethodName::Join
-        | MethodName::Strip
-        | MethodName::LStrip
-        | MethodName::RStrip
         | MethodName::RemovePrefix
         | MethodName::RemoveSuffix
         | MethodName::Partition
         | MethodName::RPartition
-        | MethodName::ExpandTabs
-        | MethodName::SplitLines
-        | MethodName::ZFill => 1,
-        MethodName::Hex
-        | MethodName::Center
-        | MethodName::LJust
-        | MethodName::RJust
-        | MethodName::MakeTrans
-        | MethodName::Translate
-        | MethodName::Split
-        | MethodName::RSplit
-        | MethodName::Decode => 2,
+        | MethodName::ZFill => (1, 1),
+        MethodName::Center | MethodName::LJust | MethodName::RJust | MethodName::Translate => {
+            (1, 2)
+        }
         MethodName::Find
         | MethodName::RFind
         | MethodName::Index
         | MethodName::RIndex
         | MethodName::Count
         | MethodName::StartsWith
-        | MethodName::EndsWith
-        | MethodName::Replace => 3,
-        _ => 0,
+        | MethodName::EndsWith => (1, 3),
+        MethodName::MakeTrans => (2, 2),
+        MethodName::Replace => (2, 3),
+        MethodName::Strip
+        | MethodName::LStrip
+        | MethodName::RStrip
+        | MethodName::ExpandTabs
+        | MethodName::SplitLines => (0, 1),
+        MethodName::Hex | MethodName::Split | MethodName::RSplit | MethodName::Decode => (0, 2),
+        _ => (0, 0),
     }
 }
 
@@ -80,5 +45,6 @@ pub fn most(name: MethodName) -> usize
 pub fn takes(name: MethodName, count: usize) -> bool
     ensures { result ≡ spec.takes name count }
 {
-    fewest(name) <= count && count <= most(name)
+    let (fewest, most) = arity(name);
+    fewest <= count && count <= most
 }

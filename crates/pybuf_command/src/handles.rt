@@ -194,44 +194,6 @@ pub fn handles_of(alloc: Global, verb: &Verb) -> Made<Vec<u64>>
     Ok(handles)
 }
 
-/// The handles of a value, in order.
-pub fn handles_in(alloc: Global, value: &Value) -> Made<Vec<u64>>
-    ensures { IfOk result (λ handles. handles.items ≡ spec.handles_in value.now) }
-{
-    let mut handles = Vec::new(alloc);
-    push_value(&mut handles, value)?;
-    Ok(handles)
-}
-
-/// The handles of two values, in order.
-pub fn handles_in_both(alloc: Global, first: &Value, second: &Value) -> Made<Vec<u64>>
-    ensures { IfOk result (λ handles. handles.items ≡ spec.handles_in first.now ++ spec.handles_in second.now) }
-{
-    let mut handles = Vec::new(alloc);
-    push_value(&mut handles, first)?;
-    push_value(&mut handles, second)?;
-    Ok(handles)
-}
-
-/// The handles of a value that may not be given, in order.
-pub fn handles_in_option(alloc: Global, value: &Option<Value>) -> Made<Vec<u64>>
-    ensures { IfOk result (λ handles. handles.items ≡ spec.handles_in_option value.now) }
-{
-    let mut handles = Vec::new(alloc);
-    push_option(&mut handles, value)?;
-    Ok(handles)
-}
-
-/// The handles of a value, and then of one that may not be given, in order.
-pub fn handles_with_option(alloc: Global, first: &Value, second: &Option<Value>) -> Made<Vec<u64>>
-    ensures { IfOk result (λ handles. handles.items ≡ spec.handles_in first.now ++ spec.handles_in_option second.now) }
-{
-    let mut handles = Vec::new(alloc);
-    push_value(&mut handles, first)?;
-    push_option(&mut handles, second)?;
-    Ok(handles)
-}
-
 /// The handles of what a new exporter's bytes are made of, in order.
 pub fn handles_of_options(alloc: Global, options: &ByteInnerNewOptions) -> Made<Vec<u64>>
     ensures { IfOk result (λ handles. handles.items ≡ spec.handles_of_options options.now) }

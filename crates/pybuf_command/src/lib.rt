@@ -12,12 +12,9 @@ mod methods;
 mod options;
 mod worlds;
 
-pub use arity::{fewest, most, takes};
+pub use arity::takes;
 pub use commands::{LocalCommand, LocalReply, PropertyName, Verb};
-pub use handles::{
-    handle_alone, handles_in, handles_in_both, handles_in_option, handles_of, handles_of_options,
-    handles_read, handles_with_option, loan_of,
-};
+pub use handles::{handle_alone, handles_of, handles_of_options, handles_read, loan_of};
 pub use kinds::{ExporterKind, Subject};
 pub use loans::{Loan, LoanList};
 pub use methods::{MethodCall, MethodName};

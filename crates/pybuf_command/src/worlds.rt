@@ -20,33 +20,31 @@ pub enum Command {
     },
 }
 
-/// Lets go of a verb that none of the words below begins.
+/// Lets go of a verb that `Command::let_go` doesn't take apart.
 #[inline(never)]
-fn let_any_verb_go(verb: Verb) {
+fn let_verb_go(verb: Verb) {
     drop(verb)
 }
 
-/// Lets go of a verb. What ends with its scope spells out all its variants there, with room for the values of
-/// each, so the verbs that lines ask most often are taken apart by themselves.
-fn let_verb_go(verb: Verb) {
-    match verb {
-        Verb::Get { key } => drop(key),
-        Verb::Set { key, value } => {
-            drop(key);
-            drop(value);
-        }
-        Verb::Append { value } => drop(value),
-        Verb::View | Verb::ToBytes | Verb::Release | Verb::Len | Verb::Next => {}
-        other => let_any_verb_go(other),
-    }
-}
-
 impl Command {
-    /// Lets go of the command: the same as where it ends with its scope, in less time.
+    /// Lets go of the command: the same as where it ends with its scope, in less time. What ends with its scope
+    /// spells out all its variants there, with room for the values of each, so the verbs that lines ask most often
+    /// are taken apart by themselves.
     pub fn let_go(self) {
         match self {
             Command::New { kind: _, options } => drop(options),
-            Command::Do { subject: _, verb } => let_verb_go(verb),
+            Command::Do { subject: _, verb } => match verb {
+                Verb::Get { key } => drop(key),
+                Verb::Set { key, value } => {
+                    drop(key);
+                    drop(value);
+                }
+                Verb::Append { value } => drop(value),
+                Verb::Call { method } => drop(method),
+                Verb::View | Verb::ToBytes | Verb::Release | Verb::Len | Verb::Iter | Verb::Next =>
+                    {}
+                other => let_verb_go(other),
+            },
         }
     }
 }

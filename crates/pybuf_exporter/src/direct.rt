@@ -11,28 +11,13 @@ ghost use Rattle.pybuf_state.specs.Loans.{are_named, lents_by};
 ghost use Rattle.pybuf_state.specs.Answers.{exporter_of, IsWhole, Answers};
 ghost use Rattle.pybuf_exporter.specs.Step as spec;
 
-use crate::closing::closed;
-use pybuf_command::{
-    LoanList, LocalReply, handles_in, handles_in_both, handles_in_option, handles_with_option,
-};
+use pybuf_command::{LoanList, LocalReply};
 use pybuf_rows_edits::{append as append_of_own, pop as pop_of_own};
 use pybuf_rows_reads::get;
 use pybuf_rows_views::{cast, release, slice, view};
 use pybuf_rows_writes::{assign, set};
-use pybuf_state::{Names, Parts, are_known};
-use pybuf_value::{Fault, Halt, Made, Value};
-
-/// Refuses a handle that names nothing, with `UnknownName`, before all else.
-fn check_known<N: Names>(parts: &Parts, names: &N, handles: &[u64]) -> Result<(), Fault>
-    ensures known { OnOk result (are_named (exporter_of parts.now) (N.named names.now) handles.now ≡ true) }
-    ensures unknown { OnErr result (are_named (exporter_of parts.now) (N.named names.now) handles.now ≡ false) }
-    ensures refused { IfErr result (λ fault. fault ≡ faults.UnknownName) }
-{
-    if !are_known(parts, names, handles) {
-        return Err(Fault::UnknownName);
-    }
-    Ok(())
-}
+use pybuf_state::{Names, Parts, is_option_known, is_value_known};
+use pybuf_value::{Fault, Halt, Value};
 
 /// `get` of a view: a new view of the items that a slice picks, or the item that any other key names.
 fn row_of_get(parts: &mut Parts, view: usize, key: &Value) -> Result<LocalReply, Halt>
@@ -65,7 +50,8 @@ fn row_of_set<N: Names>(
     }
 }
 
-fn answered_view_of_own(parts: &mut Parts, _loans: &LoanList) -> Result<LocalReply, Halt>
+/// A new view of all bytes.
+pub fn view_of_own(parts: &mut Parts, _loans: &LoanList) -> Result<LocalReply, Halt>
     requires { IsWhole parts.old }
     ensures answer { Answers (spec.answer_of (exporter_of parts.old) subjects.Own verbs.View _loans.now) (exporter_of parts.old) result (exporter_of parts.new) }
     ensures counted { parts.new.exports ≡ exports_of (exporter_of parts.new) }
@@ -73,22 +59,8 @@ fn answered_view_of_own(parts: &mut Parts, _loans: &LoanList) -> Result<LocalRep
     view::of_own(parts)
 }
 
-/// A new view of all bytes.
-pub fn view_of_own(parts: &mut Parts, loans: &LoanList) -> Made<LocalReply>
-    requires { IsWhole parts.old }
-    ensures ok { IfOk result (λ r. spec.estep (exporter_of parts.old) subjects.Own verbs.View loans.now ≡ (exporter_of parts.new, r)) }
-    ensures err { OnErr result (exporter_of parts.new ≡ exporter_of parts.old) }
-    ensures whole { IsWhole parts.new }
-{
-    crate::laws::commands_keep_sound();
-    closed(answered_view_of_own(parts, loans))
-}
-
-fn answered_view_of_view(
-    parts: &mut Parts,
-    view: usize,
-    _loans: &LoanList,
-) -> Result<LocalReply, Halt>
+/// A new view of the items of a view.
+pub fn view_of_view(parts: &mut Parts, view: usize, _loans: &LoanList) -> Result<LocalReply, Halt>
     requires { IsWhole parts.old }
     ensures answer { Answers (spec.answer_of (exporter_of parts.old) (subjects.View view) verbs.View _loans.now) (exporter_of parts.old) result (exporter_of parts.new) }
     ensures counted { parts.new.exports ≡ exports_of (exporter_of parts.new) }
@@ -96,22 +68,8 @@ fn answered_view_of_view(
     view::of_view(parts, view)
 }
 
-/// A new view of the items of a view.
-pub fn view_of_view(parts: &mut Parts, view: usize, loans: &LoanList) -> Made<LocalReply>
-    requires { IsWhole parts.old }
-    ensures ok { IfOk result (λ r. spec.estep (exporter_of parts.old) (subjects.View view) verbs.View loans.now ≡ (exporter_of parts.new, r)) }
-    ensures err { OnErr result (exporter_of parts.new ≡ exporter_of parts.old) }
-    ensures whole { IsWhole parts.new }
-{
-    crate::laws::commands_keep_sound();
-    closed(answered_view_of_view(parts, view, loans))
-}
-
-fn answered_exit_of_view(
-    parts: &mut Parts,
-    view: usize,
-    _loans: &LoanList,
-) -> Result<LocalReply, Halt>
+/// A view is released, as `with view` ends.
+pub fn exit_of_view(parts: &mut Parts, view: usize, _loans: &LoanList) -> Result<LocalReply, Halt>
     requires { IsWhole parts.old }
     ensures answer { Answers (spec.answer_of (exporter_of parts.old) (subjects.View view) verbs.Exit _loans.now) (exporter_of parts.old) result (exporter_of parts.new) }
     ensures counted { parts.new.exports ≡ exports_of (exporter_of parts.new) }
@@ -119,39 +77,20 @@ fn answered_exit_of_view(
     release::of_view(parts, view)
 }
 
-/// A view is released, as `with view` ends.
-pub fn exit_of_view(parts: &mut Parts, view: usize, loans: &LoanList) -> Made<LocalReply>
-    requires { IsWhole parts.old }
-    ensures ok { IfOk result (λ r. spec.estep (exporter_of parts.old) (subjects.View view) verbs.Exit loans.now ≡ (exporter_of parts.new, r)) }
-    ensures err { OnErr result (exporter_of parts.new ≡ exporter_of parts.old) }
-    ensures whole { IsWhole parts.new }
-{
-    crate::laws::commands_keep_sound();
-    closed(answered_exit_of_view(parts, view, loans))
-}
-
-fn answered_get_of_own(parts: &mut Parts, key: &Value, loans: &LoanList) -> Result<LocalReply, Halt>
+/// The byte of an exporter at an index, or the bytes that a slice picks.
+pub fn get_of_own(parts: &mut Parts, key: &Value, loans: &LoanList) -> Result<LocalReply, Halt>
     requires { IsWhole parts.old }
     ensures answer { Answers (spec.answer_of (exporter_of parts.old) subjects.Own (verbs.Get key.now) loans.now) (exporter_of parts.old) result (exporter_of parts.new) }
     ensures counted { parts.new.exports ≡ exports_of (exporter_of parts.new) }
 {
-    let handles = handles_in(parts.alloc, key)?;
-    check_known(parts, loans, handles.as_slice())?;
+    if !is_value_known(parts, loans, key) {
+        return Err(Halt::Refused(Fault::UnknownName));
+    }
     get::of_own(parts, key)
 }
 
-/// The byte of an exporter at an index, or the bytes that a slice picks.
-pub fn get_of_own(parts: &mut Parts, key: &Value, loans: &LoanList) -> Made<LocalReply>
-    requires { IsWhole parts.old }
-    ensures ok { IfOk result (λ r. spec.estep (exporter_of parts.old) subjects.Own (verbs.Get key.now) loans.now ≡ (exporter_of parts.new, r)) }
-    ensures err { OnErr result (exporter_of parts.new ≡ exporter_of parts.old) }
-    ensures whole { IsWhole parts.new }
-{
-    crate::laws::commands_keep_sound();
-    closed(answered_get_of_own(parts, key, loans))
-}
-
-fn answered_get_of_view(
+/// The item of a view at a key, or a new view of those that a slice picks.
+pub fn get_of_view(
     parts: &mut Parts,
     view: usize,
     key: &Value,
@@ -161,28 +100,14 @@ fn answered_get_of_view(
     ensures answer { Answers (spec.answer_of (exporter_of parts.old) (subjects.View view) (verbs.Get key.now) loans.now) (exporter_of parts.old) result (exporter_of parts.new) }
     ensures counted { parts.new.exports ≡ exports_of (exporter_of parts.new) }
 {
-    let handles = handles_in(parts.alloc, key)?;
-    check_known(parts, loans, handles.as_slice())?;
+    if !is_value_known(parts, loans, key) {
+        return Err(Halt::Refused(Fault::UnknownName));
+    }
     row_of_get(parts, view, key)
 }
 
-/// The item of a view at a key, or a new view of those that a slice picks.
-pub fn get_of_view(
-    parts: &mut Parts,
-    view: usize,
-    key: &Value,
-    loans: &LoanList,
-) -> Made<LocalReply>
-    requires { IsWhole parts.old }
-    ensures ok { IfOk result (λ r. spec.estep (exporter_of parts.old) (subjects.View view) (verbs.Get key.now) loans.now ≡ (exporter_of parts.new, r)) }
-    ensures err { OnErr result (exporter_of parts.new ≡ exporter_of parts.old) }
-    ensures whole { IsWhole parts.new }
-{
-    crate::laws::commands_keep_sound();
-    closed(answered_get_of_view(parts, view, key, loans))
-}
-
-fn answered_set_through_view(
+/// Writes the item of a view at a key, or items over those that a slice picks.
+pub fn set_through_view(
     parts: &mut Parts,
     view: usize,
     key: &Value,
@@ -194,30 +119,17 @@ fn answered_set_through_view(
     ensures answer { Answers (spec.answer_of (exporter_of parts.old) (subjects.View view) (verbs.Set key.now value.now) loans.now) (exporter_of parts.old) result (exporter_of parts.new) }
     ensures counted { parts.new.exports ≡ exports_of (exporter_of parts.new) }
 {
-    let handles = handles_in_both(parts.alloc, key, value)?;
-    check_known(parts, loans, handles.as_slice())?;
+    if !is_value_known(parts, loans, key) {
+        return Err(Halt::Refused(Fault::UnknownName));
+    }
+    if !is_value_known(parts, loans, value) {
+        return Err(Halt::Refused(Fault::UnknownName));
+    }
     row_of_set(parts, view, key, value, loans)
 }
 
-/// Writes the item of a view at a key, or items over those that a slice picks.
-pub fn set_through_view(
-    parts: &mut Parts,
-    view: usize,
-    key: &Value,
-    value: &Value,
-    loans: &LoanList,
-) -> Made<LocalReply>
-    requires whole { IsWhole parts.old }
-    requires fit { LoansFit loans.now }
-    ensures ok { IfOk result (λ r. spec.estep (exporter_of parts.old) (subjects.View view) (verbs.Set key.now value.now) loans.now ≡ (exporter_of parts.new, r)) }
-    ensures err { OnErr result (exporter_of parts.new ≡ exporter_of parts.old) }
-    ensures whole { IsWhole parts.new }
-{
-    crate::laws::commands_keep_sound();
-    closed(answered_set_through_view(parts, view, key, value, loans))
-}
-
-fn answered_cast_of_view(
+/// A new view of the bytes of a view, with items of another format.
+pub fn cast_of_view(
     parts: &mut Parts,
     view: usize,
     format: &Value,
@@ -228,70 +140,35 @@ fn answered_cast_of_view(
     ensures answer { Answers (spec.answer_of (exporter_of parts.old) (subjects.View view) (verbs.Cast format.now shape.now) loans.now) (exporter_of parts.old) result (exporter_of parts.new) }
     ensures counted { parts.new.exports ≡ exports_of (exporter_of parts.new) }
 {
-    let handles = handles_with_option(parts.alloc, format, shape)?;
-    check_known(parts, loans, handles.as_slice())?;
+    if !is_value_known(parts, loans, format) {
+        return Err(Halt::Refused(Fault::UnknownName));
+    }
+    if !is_option_known(parts, loans, shape) {
+        return Err(Halt::Refused(Fault::UnknownName));
+    }
     cast::of_view(parts, view, format, shape)
 }
 
-/// A new view of the bytes of a view, with items of another format.
-pub fn cast_of_view(
-    parts: &mut Parts,
-    view: usize,
-    format: &Value,
-    shape: &Option<Value>,
-    loans: &LoanList,
-) -> Made<LocalReply>
-    requires { IsWhole parts.old }
-    ensures ok { IfOk result (λ r. spec.estep (exporter_of parts.old) (subjects.View view) (verbs.Cast format.now shape.now) loans.now ≡ (exporter_of parts.new, r)) }
-    ensures err { OnErr result (exporter_of parts.new ≡ exporter_of parts.old) }
-    ensures whole { IsWhole parts.new }
-{
-    crate::laws::commands_keep_sound();
-    closed(answered_cast_of_view(parts, view, format, shape, loans))
-}
-
-fn answered_append(parts: &mut Parts, value: &Value, loans: &LoanList) -> Result<LocalReply, Halt>
+/// Adds a byte at the end.
+pub fn append(parts: &mut Parts, value: &Value, loans: &LoanList) -> Result<LocalReply, Halt>
     requires { IsWhole parts.old }
     ensures answer { Answers (spec.answer_of (exporter_of parts.old) subjects.Own (verbs.Append value.now) loans.now) (exporter_of parts.old) result (exporter_of parts.new) }
     ensures counted { parts.new.exports ≡ exports_of (exporter_of parts.new) }
 {
-    let handles = handles_in(parts.alloc, value)?;
-    check_known(parts, loans, handles.as_slice())?;
+    if !is_value_known(parts, loans, value) {
+        return Err(Halt::Refused(Fault::UnknownName));
+    }
     append_of_own(parts, value)
 }
 
-/// Adds a byte at the end.
-pub fn append(parts: &mut Parts, value: &Value, loans: &LoanList) -> Made<LocalReply>
-    requires { IsWhole parts.old }
-    ensures ok { IfOk result (λ r. spec.estep (exporter_of parts.old) subjects.Own (verbs.Append value.now) loans.now ≡ (exporter_of parts.new, r)) }
-    ensures err { OnErr result (exporter_of parts.new ≡ exporter_of parts.old) }
-    ensures whole { IsWhole parts.new }
-{
-    crate::laws::commands_keep_sound();
-    closed(answered_append(parts, value, loans))
-}
-
-fn answered_pop(
-    parts: &mut Parts,
-    index: &Option<Value>,
-    loans: &LoanList,
-) -> Result<LocalReply, Halt>
+/// Takes the byte at an index out.
+pub fn pop(parts: &mut Parts, index: &Option<Value>, loans: &LoanList) -> Result<LocalReply, Halt>
     requires { IsWhole parts.old }
     ensures answer { Answers (spec.answer_of (exporter_of parts.old) subjects.Own (verbs.Pop index.now) loans.now) (exporter_of parts.old) result (exporter_of parts.new) }
     ensures counted { parts.new.exports ≡ exports_of (exporter_of parts.new) }
 {
-    let handles = handles_in_option(parts.alloc, index)?;
-    check_known(parts, loans, handles.as_slice())?;
+    if !is_option_known(parts, loans, index) {
+        return Err(Halt::Refused(Fault::UnknownName));
+    }
     pop_of_own(parts, index)
-}
-
-/// Takes the byte at an index out.
-pub fn pop(parts: &mut Parts, index: &Option<Value>, loans: &LoanList) -> Made<LocalReply>
-    requires { IsWhole parts.old }
-    ensures ok { IfOk result (λ r. spec.estep (exporter_of parts.old) subjects.Own (verbs.Pop index.now) loans.now ≡ (exporter_of parts.new, r)) }
-    ensures err { OnErr result (exporter_of parts.new ≡ exporter_of parts.old) }
-    ensures whole { IsWhole parts.new }
-{
-    crate::laws::commands_keep_sound();
-    closed(answered_pop(parts, index, loans))
 }

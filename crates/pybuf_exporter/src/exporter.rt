@@ -50,6 +50,7 @@ impl ExporterState {
     ghost use Rattle.pybuf_value.specs.declared.faults.Fault.TheVariants as faults;
     ghost use Rattle.pybuf_command.specs.declared.commands.LocalReply.TheVariants as replies;
     ghost use Rattle.pybuf_command.specs.declared.commands.Verb.TheVariants as verbs;
+    ghost use Rattle.pybuf_command.specs.declared.kinds.ExporterKind.TheVariants as kinds;
     ghost use Rattle.pybuf_command.specs.declared.kinds.Subject.TheVariants as subjects;
     ghost use Rattle.pybuf_desc.specs.Places.{layout_at};
     ghost use Rattle.pybuf_desc.specs.Valid.{IsPlaced};
@@ -78,6 +79,22 @@ impl ExporterState {
             parts: Parts {
                 kind,
                 bytes: Store::from_vec(bytes.into_vec()),
+                views: Vec::new(alloc),
+                iterators: Vec::new(alloc),
+                exports: 0,
+                alloc,
+            },
+        }
+    }
+
+    /// An exporter of no bytes. Takes no memory.
+    pub fn empty(alloc: Global) -> ExporterState
+        ensures { result ≡ new_exporter kinds.Bytes [] }
+    {
+        ExporterState {
+            parts: Parts {
+                kind: ExporterKind::Bytes,
+                bytes: Store::from_vec(Vec::new(alloc)),
                 views: Vec::new(alloc),
                 iterators: Vec::new(alloc),
                 exports: 0,
@@ -124,7 +141,8 @@ impl ExporterState {
         ensures ok { IfOk result (λ r. estep self.old subjects.Own verbs.View loans.now ≡ (self.new, r)) }
         ensures err { OnErr result (self.new ≡ self.old) }
     {
-        direct::view_of_own(&mut self.parts, loans)
+        crate::laws::commands_keep_sound();
+        closed(direct::view_of_own(&mut self.parts, loans))
     }
 
     /// A new view of the items of a view, as `Verb::View` of it. The reply is its number.
@@ -134,7 +152,8 @@ impl ExporterState {
         ensures ok { IfOk result (λ r. estep self.old (subjects.View view) verbs.View loans.now ≡ (self.new, r)) }
         ensures err { OnErr result (self.new ≡ self.old) }
     {
-        direct::view_of_view(&mut self.parts, view, loans)
+        crate::laws::commands_keep_sound();
+        closed(direct::view_of_view(&mut self.parts, view, loans))
     }
 
     /// Releases a view, as `Verb::Exit`. The second time changes nothing, and isn't refused.
@@ -144,7 +163,8 @@ impl ExporterState {
         ensures ok { IfOk result (λ r. estep self.old (subjects.View view) verbs.Exit loans.now ≡ (self.new, r)) }
         ensures err { OnErr result (self.new ≡ self.old) }
     {
-        direct::exit_of_view(&mut self.parts, view, loans)
+        crate::laws::commands_keep_sound();
+        closed(direct::exit_of_view(&mut self.parts, view, loans))
     }
 
     /// The byte at an index, or the bytes that a slice picks, as `Verb::Get` of the exporter itself.
@@ -157,7 +177,8 @@ impl ExporterState {
         ensures ok { IfOk result (λ r. estep self.old subjects.Own (verbs.Get key.now) loans.now ≡ (self.new, r)) }
         ensures err { OnErr result (self.new ≡ self.old) }
     {
-        direct::get_of_own(&mut self.parts, key, loans)
+        crate::laws::commands_keep_sound();
+        closed(direct::get_of_own(&mut self.parts, key, loans))
     }
 
     /// The item of a view at a key, or a new view of the items that a slice picks, as `Verb::Get` of it.
@@ -168,7 +189,8 @@ impl ExporterState {
         ensures ok { IfOk result (λ r. estep self.old (subjects.View view) (verbs.Get key.now) loans.now ≡ (self.new, r)) }
         ensures err { OnErr result (self.new ≡ self.old) }
     {
-        direct::get_of_view(&mut self.parts, view, key, loans)
+        crate::laws::commands_keep_sound();
+        closed(direct::get_of_view(&mut self.parts, view, key, loans))
     }
 
     /// Writes the item of a view at a key, or items over those that a slice picks, as `Verb::Set` of it.
@@ -187,7 +209,8 @@ impl ExporterState {
         ensures ok { IfOk result (λ r. estep self.old (subjects.View view) (verbs.Set key.now value.now) loans.now ≡ (self.new, r)) }
         ensures err { OnErr result (self.new ≡ self.old) }
     {
-        direct::set_through_view(&mut self.parts, view, key, value, loans)
+        crate::laws::commands_keep_sound();
+        closed(direct::set_through_view(&mut self.parts, view, key, value, loans))
     }
 
     /// A new view of the bytes of a view with items of another format, as `Verb::Cast`. The reply is its number.
@@ -205,7 +228,8 @@ impl ExporterState {
         ensures ok { IfOk result (λ r. estep self.old (subjects.View view) (verbs.Cast format.now shape.now) loans.now ≡ (self.new, r)) }
         ensures err { OnErr result (self.new ≡ self.old) }
     {
-        direct::cast_of_view(&mut self.parts, view, format, shape, loans)
+        crate::laws::commands_keep_sound();
+        closed(direct::cast_of_view(&mut self.parts, view, format, shape, loans))
     }
 
     /// Adds a byte at the end, as `Verb::Append`.
@@ -217,7 +241,8 @@ impl ExporterState {
         ensures ok { IfOk result (λ r. estep self.old subjects.Own (verbs.Append value.now) loans.now ≡ (self.new, r)) }
         ensures err { OnErr result (self.new ≡ self.old) }
     {
-        direct::append(&mut self.parts, value, loans)
+        crate::laws::commands_keep_sound();
+        closed(direct::append(&mut self.parts, value, loans))
     }
 
     /// Takes the byte at an index out, the last where none is given, as `Verb::Pop`. The reply is that byte.
@@ -229,7 +254,8 @@ impl ExporterState {
         ensures ok { IfOk result (λ r. estep self.old subjects.Own (verbs.Pop index.now) loans.now ≡ (self.new, r)) }
         ensures err { OnErr result (self.new ≡ self.old) }
     {
-        direct::pop(&mut self.parts, index, loans)
+        crate::laws::commands_keep_sound();
+        closed(direct::pop(&mut self.parts, index, loans))
     }
 
     /// The exporter that is made of a copy: of this bytearray, another one of its bytes, with no view;

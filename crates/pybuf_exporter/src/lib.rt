@@ -6,7 +6,6 @@ mod direct;
 mod exporter;
 mod laws;
 mod pick;
-mod reading;
 
 pub use exporter::ExporterState;
 pub use laws::{

@@ -1,26 +1,33 @@
 //! Which row a command has.
 ghost use Rattle.std.specs.Prelude.{◌≡◌, true};
 ghost use Rattle.pybuf_command.specs.declared.kinds.Subject.TheVariants as subjects;
-ghost use Rattle.pybuf_command.specs.Handles.{handles_read};
+ghost use Rattle.pybuf_command.specs.Handles.{handles_of, handles_read};
 ghost use Rattle.pybuf_state.specs.Exporter.{exports_of};
 ghost use Rattle.pybuf_state.specs.Loans.{lents_by};
 ghost use Rattle.pybuf_state.specs.Answers.{exporter_of, IsWhole, Answers};
 ghost use Rattle.pybuf_exporter.specs.Step as spec;
 
-use crate::reading::row_in_place;
-use pybuf_command::{LocalReply, Subject, Verb, handles_of};
+use pybuf_command::{LocalReply, Subject, Verb, handles_of, handles_read};
 use pybuf_rows_compare::{compare, hash, repr};
 use pybuf_rows_edits::{delete_of_view, edit_of_own};
 use pybuf_rows_iters::{making, stepping};
+use pybuf_rows_methods::{Reading, call, contains, hex};
 use pybuf_rows_reads::{get, len, property, to_bytes, to_list};
 use pybuf_rows_views::{cast, contiguous, enter, range, release, slice, to_readonly, view};
 use pybuf_rows_writes::{assign, set};
 use pybuf_state::{Names, Parts, are_known};
 use pybuf_value::{Fault, Halt, Value};
 
-/// The row of a verb on the exporter itself. Every further verb is an edit, or none that it has.
-fn row_of_own<N: Names>(parts: &mut Parts, verb: &Verb, names: &N) -> Result<LocalReply, Halt>
+/// The row of a verb on the exporter itself, with the handles among its values. Every further verb is an edit, or
+/// none that it has.
+fn row_of_own<N: Names>(
+    parts: &mut Parts,
+    verb: &Verb,
+    handles: &[u64],
+    names: &N,
+) -> Result<LocalReply, Halt>
     requires whole { IsWhole parts.old }
+    requires given { handles.now ≡ handles_of verb.now }
     requires fit { N.fit names.now }
     ensures answer { Answers (spec.row_of_own (exporter_of parts.old) verb.now (lents_by (exporter_of parts.old) (N.named names.now) (handles_read subjects.Own verb.now))) (exporter_of parts.old) result (exporter_of parts.new) }
     ensures counted { parts.new.exports ≡ exports_of (exporter_of parts.new) }
@@ -41,8 +48,12 @@ fn row_of_own<N: Names>(parts: &mut Parts, verb: &Verb, names: &N) -> Result<Loc
         Verb::Hash => hash::of_own(parts),
         Verb::Repr => repr::of_own(parts),
         Verb::Iter => making::of_own(parts),
-        Verb::Contains { value: _ } => row_in_place(parts, Subject::Own, verb, names),
-        Verb::Call { method: _ } => row_in_place(parts, Subject::Own, verb, names),
+        Verb::Contains { value } => {
+            let read = handles_read(parts.alloc, Subject::Own, verb)?;
+            contains::of_own(parts, value, &Reading::new(parts, names, read.as_slice()))
+        }
+        // a method reads what each of its handles names
+        Verb::Call { method } => call::of_own(parts, method, &Reading::new(parts, names, handles)),
         _ => edit_of_own(parts, verb, names),
     }
 }
@@ -85,7 +96,16 @@ fn row_of_view<N: Names>(
         Verb::Hash => hash::of_view(parts, k),
         Verb::Repr => repr::of_view(parts, k),
         Verb::Iter => making::of_view(parts, k),
-        Verb::Hex { sep: _, group: _ } => row_in_place(parts, Subject::View(k), verb, names),
+        Verb::Hex { sep, group } => {
+            let read = handles_read(parts.alloc, Subject::View(k), verb)?;
+            hex::of_view(
+                parts,
+                k,
+                sep,
+                group,
+                &Reading::new(parts, names, read.as_slice()),
+            )
+        }
         _ => Err(Halt::Refused(Fault::UnknownName)),
     }
 }
@@ -108,7 +128,7 @@ pub fn answer<N: Names>(
         return Err(Halt::Refused(Fault::UnknownName));
     }
     match subject {
-        Subject::Own => row_of_own(parts, verb, names),
+        Subject::Own => row_of_own(parts, verb, handles.as_slice(), names),
         Subject::View(k) => row_of_view(parts, k, verb, names),
         Subject::Iter(k) => stepping::of_iterator(parts, k, verb),
     }

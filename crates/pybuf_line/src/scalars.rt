@@ -5,7 +5,6 @@ ghost use Rattle.pybuf_line.specs.Scalars.{constant_in, number_below, handle_in,
 ghost use Rattle.pybuf_line.specs.Reading.{Reads};
 
 use crate::unread::Unread;
-use crate::words::is_word;
 use hex::FromHexError;
 use pybuf_value::{ByteList, Scalar, Text};
 use std::alloc::Global;
@@ -15,16 +14,16 @@ use std::alloc::Global;
 fn name(text: &[u8]) -> Result<Scalar, Unread>
     ensures { Reads result (constant_in text.now) }
 {
-    if is_word(text, "None") {
+    if text == "None".as_bytes() {
         return Ok(Scalar::None);
     }
-    if is_word(text, "True") {
+    if text == "True".as_bytes() {
         return Ok(Scalar::Bool(true));
     }
-    if is_word(text, "False") {
+    if text == "False".as_bytes() {
         return Ok(Scalar::Bool(false));
     }
-    if is_word(text, "...") {
+    if text == "...".as_bytes() {
         return Ok(Scalar::Ellipsis);
     }
     Err(Unread::NoCommand)

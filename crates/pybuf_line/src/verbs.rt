@@ -200,7 +200,7 @@ fn call_of(alloc: Global, subject: u64, arguments: &[&[u8]]) -> Result<Command, 
         return Err(Unread::NoCommand);
     };
     let args = values_of(alloc, arguments)?;
-    if takes(name, args.len()) {
+    if takes(name, args.as_slice().len()) {
         let method = MethodCall { name, args };
         Ok(Command::Do {
             subject,

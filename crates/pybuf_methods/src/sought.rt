@@ -14,7 +14,7 @@ use pybuf_bytes::MethodReply;
 use pybuf_search::{
     adjust_indices, first_place_in_range, holds_needle, last_place_in_range, number_in_range,
 };
-use pybuf_value::{ByteOr, Fault, Halt, Lent, Value, index_of};
+use pybuf_value::{Fault, Halt, Lent, Scalar, Value, value_from_object};
 use std::alloc::Global;
 
 /// One byte.
@@ -28,12 +28,12 @@ fn one_byte<'a>(alloc: Global, byte: u8) -> Result<Lent<'a>, Halt>
 fn sought<'a, N: Contents>(alloc: Global, value: &'a Value, names: &'a N) -> Result<Lent<'a>, Halt>
     ensures { Lends (spec.sought_in (N.pairs names.now) value.now) result }
 {
-    match index_of(value) {
-        Ok(number) => {
-            let byte = number.byte_or()?;
+    match value {
+        Value::One(Scalar::Int(_) | Scalar::Bool(_)) => {
+            let byte = value_from_object(value)?;
             one_byte(alloc, byte)
         }
-        Err(_) => bytes_of(alloc, value, names),
+        _ => bytes_of(alloc, value, names),
     }
 }
 
@@ -53,37 +53,6 @@ pub fn contains_in<N: Contents>(
     Ok(holds_needle(bytes, needle.as_slice()))
 }
 
-/// The first place between bounds, from the front of the bytes.
-fn first_between(
-    bytes: &[u8],
-    needle: &[u8],
-    start: Option<i128>,
-    end: Option<i128>,
-) -> Option<usize>
-    ensures { result ≡ place_in_range places.first_place bytes.now needle.now (adjusted start end (length bytes.now)) }
-{
-    first_place_in_range(bytes, needle, adjust_indices(start, end, bytes.len()))
-}
-
-/// The last place between bounds, from the front of the bytes.
-fn last_between(
-    bytes: &[u8],
-    needle: &[u8],
-    start: Option<i128>,
-    end: Option<i128>,
-) -> Option<usize>
-    ensures { result ≡ place_in_range places.last_place bytes.now needle.now (adjusted start end (length bytes.now)) }
-{
-    last_place_in_range(bytes, needle, adjust_indices(start, end, bytes.len()))
-}
-
-/// The number of matches between bounds, of which no two overlap.
-fn matches_between(bytes: &[u8], needle: &[u8], start: Option<i128>, end: Option<i128>) -> usize
-    ensures { result ≡ number_in_range bytes.now needle.now (adjusted start end (length bytes.now)) }
-{
-    number_in_range(bytes, needle, adjust_indices(start, end, bytes.len()))
-}
-
 /// The first place between the bounds.
 fn place<N: Contents>(
     alloc: Global,
@@ -97,7 +66,11 @@ fn place<N: Contents>(
     let needle = sought(alloc, sub, names)?;
     let start = bound_given(start)?;
     let end = bound_given(end)?;
-    Ok(first_between(bytes, needle.as_slice(), start, end))
+    Ok(first_place_in_range(
+        bytes,
+        needle.as_slice(),
+        adjust_indices(start, end, bytes.len()),
+    ))
 }
 
 /// The last place between the bounds.
@@ -113,7 +86,11 @@ fn rplace<N: Contents>(
     let needle = sought(alloc, sub, names)?;
     let start = bound_given(start)?;
     let end = bound_given(end)?;
-    Ok(last_between(bytes, needle.as_slice(), start, end))
+    Ok(last_place_in_range(
+        bytes,
+        needle.as_slice(),
+        adjust_indices(start, end, bytes.len()),
+    ))
 }
 
 /// A place as a number: -1 where nothing was found.
@@ -203,7 +180,11 @@ pub(crate) fn count<N: Contents>(
     let needle = sought(alloc, sub, names)?;
     let start = bound_given(start)?;
     let end = bound_given(end)?;
-    let number = matches_between(bytes, needle.as_slice(), start, end);
+    let number = number_in_range(
+        bytes,
+        needle.as_slice(),
+        adjust_indices(start, end, bytes.len()),
+    );
     Ok(MethodReply::Number(number as i128))
 }
 

@@ -21,28 +21,19 @@ use pybuf_value::{
 };
 use std::alloc::Global;
 
-fn append_byte(parts: &mut Parts, value: &Value) -> Result<LocalReply, Halt>
-    requires { IsWhole parts.old }
-    ensures answer { Answers (spec.appended (exporter_of parts.old) value.now) (exporter_of parts.old) result (exporter_of parts.new) }
-    ensures counted { parts.new.exports ≡ exports_of (exporter_of parts.new) }
-{
-    let byte = value_from_object(value)?;
-    parts.resizable()?;
-    let end = parts.bytes.len();
-    parts.replace_range(end, end, [byte].as_slice())?;
-    Ok(LocalReply::Ok)
-}
-
 /// Adds a byte at the end of a bytearray.
 pub fn append(parts: &mut Parts, value: &Value) -> Result<LocalReply, Halt>
     requires { IsWhole parts.old }
     ensures answer { Answers (spec.append_of_own (exporter_of parts.old) value.now) (exporter_of parts.old) result (exporter_of parts.new) }
     ensures counted { parts.new.exports ≡ exports_of (exporter_of parts.new) }
 {
-    match parts.kind {
-        ExporterKind::ByteArray => append_byte(parts, value),
-        _ => Err(Halt::Refused(Fault::UnknownName)),
-    }
+    let ExporterKind::ByteArray = parts.kind else {
+        return Err(Halt::Refused(Fault::UnknownName));
+    };
+    let byte = value_from_object(value)?;
+    parts.resizable()?;
+    parts.append([byte].as_slice())?;
+    Ok(LocalReply::Ok)
 }
 
 fn insert_byte(parts: &mut Parts, index: &Value, value: &Value) -> Result<LocalReply, Halt>
@@ -144,8 +135,7 @@ fn add(parts: &mut Parts, bytes: &[u8]) -> Result<LocalReply, Halt>
     ensures counted { parts.new.exports ≡ exports_of (exporter_of parts.new) }
 {
     parts.resizable()?;
-    let end = parts.bytes.len();
-    parts.replace_range(end, end, bytes)?;
+    parts.append(bytes)?;
     Ok(LocalReply::Ok)
 }
 

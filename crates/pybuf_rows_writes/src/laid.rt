@@ -14,20 +14,6 @@ use pybuf_desc::{Segments, ZipSegments};
 use pybuf_memoryview::{KeptLayout, first_place};
 use std::ops::Range;
 
-/// Copies a piece over the bytes from a place on.
-fn copy_over(bytes: &mut [u8], place: usize, piece: &[u8])
-    requires { place + length piece.now ≤ length bytes.old }
-    ensures { bytes.new ≡ spec.bytes_with bytes.old place piece.now }
-{
-    let end = place + piece.len();
-    if piece.len() == 1 {
-        // one byte costs less by itself than as a run
-        bytes[place] = piece[0];
-        return;
-    }
-    bytes[place..end].copy_from_slice(piece);
-}
-
 /// Copies bytes from a place on over those of a range, as many as that has. Answers the place after them.
 fn copy_range(bytes: &mut [u8], range: Range<usize>, content: &[u8], from: usize) -> usize
     requires inside { range.start < range.end → range.end ≤ length bytes.old }
@@ -35,12 +21,17 @@ fn copy_range(bytes: &mut [u8], range: Range<usize>, content: &[u8], from: usize
     ensures copied { bytes.new ≡ spec.bytes_with bytes.old range.start (take (range.end - range.start) (drop from content.now)) }
     ensures next { result ≡ from + (range.end - range.start) }
 {
-    if range.start < range.end {
-        let next = from + (range.end - range.start);
-        copy_over(bytes, range.start, &content[from..next]);
+    if range.start >= range.end {
+        return from;
+    }
+    let next = from + (range.end - range.start);
+    if next == from + 1 {
+        // one byte costs less by itself than as a run
+        bytes[range.start] = content[from];
         return next;
     }
-    from
+    bytes[range].copy_from_slice(&content[from..next]);
+    next
 }
 
 /// Lays bytes over those of ranges, one range after the other.

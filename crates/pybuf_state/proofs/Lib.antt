@@ -5,3 +5,4 @@ pub mod Copying
 pub mod Spacing
 pub mod Meanings
 pub mod Counts
+pub mod Parted

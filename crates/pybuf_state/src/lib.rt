@@ -28,7 +28,7 @@ pub use laws::{
     same_views_stay_apart, subjects_fit, whole_layouts_are_sound, writing_keeps,
 };
 pub use loans::FitLoans;
-pub use names::{Meaning, Names, Other, are_known};
+pub use names::{Meaning, Names, Other, are_known, is_option_known, is_value_known};
 pub use parts::Parts;
 pub use runs::{bytes_in_a_row, given, run_of};
 pub use snaps::{lent_to, snap_of_subject};

@@ -1,6 +1,8 @@
 //! What the handles of a command name, asked one at a time.
 ghost use Rattle.std.specs.Prelude.{◌≡◌, ℕ, Option, Some, true};
+ghost use Rattle.std.specs.List.{list_all};
 ghost use Rattle.std.specs.Option.{option_copied, ForSome};
+ghost use Rattle.pybuf_command.specs.Handles.{handles_in_scalar, handles_in_slice, handles_in, handles_in_option};
 ghost use Rattle.pybuf_command.specs.declared.loans.Loan.{Loan};
 ghost use Rattle.pybuf_state.specs.Fits.{LoansFit, fits};
 ghost use Rattle.pybuf_state.specs.Answers.{exporter_of};
@@ -9,7 +11,7 @@ ghost use Rattle.pybuf_state.specs.Names as spec;
 
 use crate::parts::Parts;
 use pybuf_command::{Loan, LoanList, Subject, loan_of};
-use pybuf_value::Snap;
+use pybuf_value::{PySlice, Scalar, Snap, Value};
 
 /// Something of another exporter.
 #[derive(Debug, Drop)]
@@ -111,4 +113,67 @@ pub fn are_known<N: Names>(parts: &Parts, names: &N, handles: &[u64]) -> bool
     ensures { result ≡ are_named (exporter_of parts.now) (N.named names.now) handles.now }
 {
     handles.iter().all(|handle| is_known(parts, names, *handle))
+}
+
+/// The same of the handle that a part of a value is.
+fn is_scalar_known<N: Names>(parts: &Parts, names: &N, scalar: &Scalar) -> bool
+    ensures { result ≡ are_named (exporter_of parts.now) (N.named names.now) (handles_in_scalar scalar.now) }
+{
+    match scalar {
+        Scalar::Handle(handle) => is_known(parts, names, *handle),
+        _ => true,
+    }
+}
+
+/// The same of the handles that the parts of a slice are.
+#[tactic(auto, using(crate::proofs::Parted::slice_named))]
+fn is_slice_known<N: Names>(parts: &Parts, names: &N, slice: &PySlice) -> bool
+    ensures { result ≡ are_named (exporter_of parts.now) (N.named names.now) (handles_in_slice slice.now) }
+{
+    is_scalar_known(parts, names, &slice.start)
+        && is_scalar_known(parts, names, &slice.stop)
+        && is_scalar_known(parts, names, &slice.step)
+}
+
+/// The same of the handles that values without parts are.
+fn are_scalars_known<N: Names>(parts: &Parts, names: &N, scalars: &[Scalar]) -> bool
+    ensures { result ≡ list_all (λ scalar. are_named (exporter_of parts.now) (N.named names.now) (handles_in_scalar scalar)) scalars.now }
+{
+    scalars
+        .iter()
+        .all(|scalar| is_scalar_known(parts, names, scalar))
+}
+
+/// The same of the handles in slices.
+fn are_slices_known<N: Names>(parts: &Parts, names: &N, slices: &[PySlice]) -> bool
+    ensures { result ≡ list_all (λ slice. are_named (exporter_of parts.now) (N.named names.now) (handles_in_slice slice)) slices.now }
+{
+    slices
+        .iter()
+        .all(|slice| is_slice_known(parts, names, slice))
+}
+
+/// Whether each handle in a value names something that is there. No list of them is made.
+#[tactic(auto, using(crate::proofs::Parted::scalars_named, crate::proofs::Parted::slices_named))]
+pub fn is_value_known<N: Names>(parts: &Parts, names: &N, value: &Value) -> bool
+    ensures { result ≡ are_named (exporter_of parts.now) (N.named names.now) (handles_in value.now) }
+{
+    match value {
+        Value::One(Scalar::Handle(handle)) => is_known(parts, names, *handle),
+        Value::One(_) => true,
+        Value::Slice(slice) => is_slice_known(parts, names, slice),
+        Value::Tuple(scalars) => are_scalars_known(parts, names, scalars.as_slice()),
+        Value::List(scalars) => are_scalars_known(parts, names, scalars.as_slice()),
+        Value::Slices(slices) => are_slices_known(parts, names, slices.as_slice()),
+    }
+}
+
+/// The same of a value that may not be given.
+pub fn is_option_known<N: Names>(parts: &Parts, names: &N, value: &Option<Value>) -> bool
+    ensures { result ≡ are_named (exporter_of parts.now) (N.named names.now) (handles_in_option value.now) }
+{
+    match value {
+        Some(value) => is_value_known(parts, names, value),
+        None => true,
+    }
 }

@@ -62,10 +62,10 @@ impl Parts {
         ensures sound { IfOk result (λ l. IsSoundLayout (exporter_of self.now) l.now) }
     {
         let view = self.view(view)?;
-        if view.is_released() {
+        if view.released {
             return Err(Fault::Value);
         }
-        Ok(view.layout())
+        Ok(&view.layout)
     }
 
     /// One more view, which is unreleased and made now. The reply is its number.
@@ -127,8 +127,18 @@ impl Parts {
         Ok(())
     }
 
-    /// Puts other bytes in place of those from one place up to another, as many as there are. With
-    /// `replace_bytes` it is the call by which the length of an exporter changes. The bytes behind move
+    /// Adds bytes at the end, so that none moves. Where memory runs out, all is as before.
+    pub fn append(&mut self, bytes: &[u8]) -> Made<()>
+        requires free { has_exports (exporter_of self.old) ≡ false }
+        ensures ok { OnOk result (exporter_of self.new ≡ resized (exporter_of self.old) (length self.old.bytes.items) (length self.old.bytes.items) bytes.now) }
+        ensures err { OnErr result (exporter_of self.new ≡ exporter_of self.old) }
+        ensures exports { self.new.exports ≡ self.old.exports }
+    {
+        self.bytes.append(bytes)
+    }
+
+    /// Puts other bytes in place of those from one place up to another, as many as there are. With `append`
+    /// and `replace_bytes` it is the call by which the length of an exporter changes. The bytes behind move
     /// once, and none moves where bytes are added at the end. Where memory runs out, all is as before.
     pub fn replace_range(&mut self, start: usize, end: usize, bytes: &[u8]) -> Made<()>
         requires free { has_exports (exporter_of self.old) ≡ false }

@@ -11,8 +11,8 @@ use std::marker::Model;
 #[derive(Debug, Drop)]
 pub struct StoredView {
     made_at: usize,
-    layout: KeptLayout,
-    released: bool,
+    pub(crate) layout: KeptLayout,
+    pub(crate) released: bool,
 }
 
 impl Model for StoredView {

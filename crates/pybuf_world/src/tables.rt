@@ -226,11 +226,7 @@ impl Tables {
         ensures handles { self.new.handles ≡ self.old.handles }
     {
         names_alike_do_the_same();
-        let nothing = ExporterState::new(
-            self.alloc,
-            ExporterKind::Bytes,
-            ByteList::new(self.alloc),
-        );
+        let nothing = ExporterState::empty(self.alloc);
         let mut worker = mem::replace(&mut self.exporters[target.exporter], nothing);
         let others = Others {
             exporters: self.exporters.as_slice(),

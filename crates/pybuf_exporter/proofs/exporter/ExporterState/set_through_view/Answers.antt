@@ -1,0 +1,15 @@
+use Rattle.pybuf_command.specs.declared.commands.Verb.TheVariants as verbs
+use Rattle.pybuf_command.specs.declared.kinds.Subject.TheVariants as subjects
+use Rattle.pybuf_state.specs.Answers.{exporter_of}
+use Rattle.pybuf_exporter.specs.Step.{answer_of}
+use Rattle.pybuf_exporter.proofs.Every.{closes_sound}
+use Rattle.pybuf_exporter.proofs.exporter.ExporterState.set_through_view.Goals as goal
+
+pub invariant_of-self : goal.invariant_of-self
+invariant_of-self c =
+    let e = exporter_of c.self.inside.parts in
+    record {
+      counted = c.set_through_view.ensures.counted;
+      sound = closes_sound e (exporter_of c.set_through_view.new.parts) c.set_through_view.result (answer_of e (subjects.View c.args.view) (verbs.Set c.args.key.now c.args.value.now) c.args.loans.now) c.set_through_view.ensures.answer c.self.invariant.sound
+          (c.commands_keep_sound.ensures e (subjects.View c.args.view) (verbs.Set c.args.key.now c.args.value.now) c.args.loans.now c.self.invariant.sound);
+    }

@@ -1,0 +1,15 @@
+use Rattle.pybuf_command.specs.declared.commands.Verb.TheVariants as verbs
+use Rattle.pybuf_command.specs.declared.kinds.Subject.TheVariants as subjects
+use Rattle.pybuf_state.specs.Answers.{exporter_of}
+use Rattle.pybuf_exporter.specs.Step.{answer_of}
+use Rattle.pybuf_exporter.proofs.Every.{closes_sound}
+use Rattle.pybuf_exporter.proofs.exporter.ExporterState.view_of_own.Goals as goal
+
+pub invariant_of-self : goal.invariant_of-self
+invariant_of-self c =
+    let e = exporter_of c.self.inside.parts in
+    record {
+      counted = c.view_of_own.ensures.counted;
+      sound = closes_sound e (exporter_of c.view_of_own.new.parts) c.view_of_own.result (answer_of e subjects.Own verbs.View c.args.loans.now) c.view_of_own.ensures.answer c.self.invariant.sound
+          (c.commands_keep_sound.ensures e subjects.Own verbs.View c.args.loans.now c.self.invariant.sound);
+    }
