@@ -4,6 +4,7 @@ use Rattle.std.specs.Global.{Vec}
 use Rattle.pybuf_value.specs.declared.faults.Fault.{Fault}
 use Rattle.pybuf_value.specs.declared.faults.Outcome.{Outcome}
 use Rattle.pybuf_value.specs.declared.faults.Outcome.TheVariants as outcome
+use Rattle.pybuf_copy.specs.declared.memory.NoMemory.{NoMemory}
 use Rattle.pybuf_value.specs.declared.halt.Halt.{Halt}
 use Rattle.pybuf_value.specs.declared.halt.Halt.TheVariants as halt
 
@@ -27,3 +28,19 @@ items_of (outcome.Refused f) = outcome.Refused f
 abbrev pub refusal_of : {A : Type 0} → Result A Fault → Result (Unit {0}) Fault
 refusal_of (Ok x) = Ok tt
 refusal_of (Err f) = Err f
+
+-- ---- answers as one result
+
+abbrev pub settled_outcome : {X : Type 0} → Outcome X → Result X Halt
+settled_outcome (outcome.Done x) = Ok x
+settled_outcome (outcome.Refused f) = Err (halt.Refused f)
+
+-- what a call answers that may be refused, or fail for want of memory
+abbrev pub done_of : {X : Type 0} → Result (Outcome X) NoMemory → Result X Halt
+done_of (Ok o) = settled_outcome o
+done_of (Err _) = Err halt.NoMemory
+
+-- what a call answers that may be refused alone
+abbrev pub stopped_by : {X : Type 0} → Result X Fault → Result X Halt
+stopped_by (Ok x) = Ok x
+stopped_by (Err f) = Err (halt.Refused f)

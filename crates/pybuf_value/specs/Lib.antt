@@ -11,4 +11,5 @@ pub mod Quotes
 pub mod Unquoted
 pub mod Spelling
 pub mod Halting
+pub mod Making
 pub mod Laws
