@@ -2,3 +2,4 @@ pub mod Kinds
 pub mod Loans
 pub mod Arity
 pub mod Handles
+pub mod Replies

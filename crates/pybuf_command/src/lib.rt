@@ -10,6 +10,7 @@ mod kinds;
 mod loans;
 mod methods;
 mod options;
+mod replies;
 mod worlds;
 
 pub use arity::{fewest, most, takes};

@@ -31,16 +31,17 @@ refusal_of (Err f) = Err f
 
 -- ---- answers as one result
 
-abbrev pub settled_outcome : {X : Type 0} → Outcome X → Result X Halt
-settled_outcome (outcome.Done x) = Ok x
-settled_outcome (outcome.Refused f) = Err (halt.Refused f)
+-- what a call answers that may be refused, as a result
+abbrev pub given_by : {X : Type 0} → Outcome X → Result X Fault
+given_by (outcome.Done x) = Ok x
+given_by (outcome.Refused f) = Err f
 
--- what a call answers that may be refused, or fail for want of memory
-abbrev pub done_of : {X : Type 0} → Result (Outcome X) NoMemory → Result X Halt
-done_of (Ok o) = settled_outcome o
-done_of (Err _) = Err halt.NoMemory
-
--- what a call answers that may be refused alone
+-- the same, a refusal among what stops a row
 abbrev pub stopped_by : {X : Type 0} → Result X Fault → Result X Halt
 stopped_by (Ok x) = Ok x
 stopped_by (Err f) = Err (halt.Refused f)
+
+-- what a call answers that may also fail for want of memory
+abbrev pub done_by : {O X : Type 0} → (O → Result X Fault) → Result O NoMemory → Result X Halt
+done_by given (Ok o) = stopped_by (given o)
+done_by given (Err _) = Err halt.NoMemory

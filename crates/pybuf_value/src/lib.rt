@@ -19,7 +19,7 @@ mod spelling;
 mod text;
 mod values;
 
-pub use answers::Answer;
+pub use answers::{Answer, Refusable};
 pub use contents::{bytes_alone, bytes_from_object, bytes_like, text_in, try_as_bytes};
 pub use equality::{identical_or_equal, item_eq, scalar_eq};
 pub use faults::{Fault, Outcome, Tried};
