@@ -12,4 +12,5 @@ pub mod Unquoted
 pub mod Spelling
 pub mod Halting
 pub mod Making
+pub mod Settling
 pub mod Laws

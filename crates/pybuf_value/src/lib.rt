@@ -10,6 +10,7 @@ mod halt;
 mod laws;
 mod lent;
 mod list;
+mod no_handles;
 mod numbers;
 mod order;
 mod plain;
@@ -34,6 +35,7 @@ pub use list::{
     ByteList, ByteLists, CountList, DimList, ItemList, Items, NumberList, ScalarList, SliceList,
     ValueList, push_reserved,
 };
+pub use no_handles::NoHandles;
 pub use numbers::{
     ByteOr, count_in, count_or, fit_count, fit_index, index_of, number_in, saturate,
     value_from_object,
