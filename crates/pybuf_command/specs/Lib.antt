@@ -3,3 +3,4 @@ pub mod Loans
 pub mod Arity
 pub mod Handles
 pub mod Replies
+pub mod Laws

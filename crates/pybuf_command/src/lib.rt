@@ -7,6 +7,7 @@ mod arity;
 mod commands;
 mod handles;
 mod kinds;
+mod laws;
 mod loans;
 mod methods;
 mod options;
@@ -19,6 +20,7 @@ pub use handles::{
     handle_alone, handles_in, handles_in_both, handles_in_option, handles_of, handles_of_options,
     handles_read, handles_with_option, loan_of,
 };
+pub use laws::equal_replies_are_the_same;
 pub use kinds::{ExporterKind, Subject};
 pub use loans::{Loan, LoanList};
 pub use methods::{MethodCall, MethodName};
