@@ -29,7 +29,7 @@ fn answers_are_one_result(rt: HostRuntime) -> Result<(), Fail> {
         Err(Halt::Refused(Fault::Index))
     );
     let middle = cut(alloc, &mut array, PySlice::from(1..3))?;
-    assert!(rt; matches!(middle, Some(bytes) if bytes.as_slice() == b"bc"));
+    assert!(rt; matches!(middle, Some(bytes) if bytes.as_slice() == b"bc".as_slice()));
     Ok(())
 }
 
