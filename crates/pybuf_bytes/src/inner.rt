@@ -9,8 +9,10 @@ use pybuf_value::{
     CompareOp, Exact, Made, Text, Tried, Twin, compare_bytes, named_repr_text, repr_text,
 };
 use std::alloc::Global;
+use std::convert::AsSlice;
 use std::hash::Hasher;
 use std::marker::Model;
+use std::ops::DerefSlice;
 
 /// A string of bytes, as the value of Python's `bytes` and `bytearray`. A clause sees the list of its
 /// bytes.
@@ -96,6 +98,32 @@ impl PyBytesInner {
         ensures { IfOk result (λ outcome. outcome ≡ outcome_of (fitted (repr_of (class_name.now ++ codes "(b") self.now (codes ")")))) }
     {
         named_repr_text(alloc, class_name.as_str(), self.bytes.as_slice())
+    }
+}
+
+impl From<Vec<u8>> for PyBytesInner {
+    ghost from_gives = { λ bytes inner. inner ≡ bytes.items };
+
+    fn from(bytes: Vec<u8>) -> PyBytesInner {
+        PyBytesInner { bytes }
+    }
+}
+
+impl DerefSlice for PyBytesInner {
+    type Elem = u8;
+
+    ghost deref_gives = { λ inner bytes. bytes ≡ inner };
+
+    fn deref(&self) -> &[u8] {
+        self.bytes.as_slice()
+    }
+}
+
+impl AsSlice<u8> for PyBytesInner {
+    ghost items = { λ inner. inner };
+
+    fn as_slice(&self) -> &[u8] {
+        self.bytes.as_slice()
     }
 }
 

@@ -2,6 +2,7 @@
 #![tactic(auto)]
 
 mod arguments;
+mod byte_str;
 mod decoding;
 mod inner;
 mod letters;
@@ -13,6 +14,7 @@ mod searching;
 mod shaping;
 
 pub use arguments::{ByteInnerFindOptions, ByteInnerSplitOptions};
+pub use byte_str::ByteStr;
 pub use decoding::{DecodeArgs, bytes_decode, decode_text};
 pub use inner::PyBytesInner;
 pub use letters::SplitLinesArgs;

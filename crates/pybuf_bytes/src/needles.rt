@@ -5,7 +5,7 @@ ghost use Rattle.pybuf_bytes.specs.Needles as spec;
 
 use crate::inner::PyBytesInner;
 use pybuf_value::{
-    ByteOr, Fault, Halt, Lender, Outcome, Tried, Value, bytes_from_object, index_of, tried,
+    Answer, ByteOr, Fault, Halt, Lender, Tried, Value, bytes_from_object, index_of, tried,
 };
 use std::alloc::Global;
 
@@ -25,10 +25,10 @@ fn needle_in<L: Lender>(alloc: Global, value: &Value, lender: &L) -> Result<Need
             let _byte = number.byte_or()?;
             Ok(Needle::Number(number))
         }
-        Err(_) => match bytes_from_object(alloc, value, lender)? {
-            Outcome::Done(bytes) => Ok(Needle::Bytes(PyBytesInner::from(bytes.into_vec()))),
-            Outcome::Refused(fault) => Err(Halt::Refused(fault)),
-        },
+        Err(_) => {
+            let bytes = bytes_from_object(alloc, value, lender).done()?;
+            Ok(Needle::Bytes(PyBytesInner::from(bytes.into_vec())))
+        }
     }
 }
 

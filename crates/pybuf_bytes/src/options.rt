@@ -9,7 +9,7 @@ ghost use Rattle.pybuf_bytes.specs.Options as spec;
 use crate::inner::PyBytesInner;
 use pybuf_command::ByteInnerNewOptions;
 use pybuf_value::{
-    Fault, Halt, Lender, Outcome, Text, Tried, Value, bytes_from_object, fit_count, index_of,
+    Answer, Fault, Halt, Lender, Text, Tried, Value, bytes_from_object, fit_count, index_of,
     is_ascii, text_in, tried,
 };
 use std::alloc::Global;
@@ -67,10 +67,10 @@ fn bytes_of_source<L: Lender>(
 {
     match index_of(source) {
         Ok(number) => zeros(alloc, number),
-        Err(_) => match bytes_from_object(alloc, source, lender)? {
-            Outcome::Done(bytes) => Ok(PyBytesInner::from(bytes.into_vec())),
-            Outcome::Refused(fault) => Err(Halt::Refused(fault)),
-        },
+        Err(_) => {
+            let bytes = bytes_from_object(alloc, source, lender).done()?;
+            Ok(PyBytesInner::from(bytes.into_vec()))
+        }
     }
 }
 

@@ -2,3 +2,5 @@ pub mod Kinds
 pub mod Loans
 pub mod Arity
 pub mod Handles
+pub mod Replies
+pub mod Laws

@@ -176,7 +176,7 @@ pub struct LocalCommand {
 }
 
 /// The reply of one exporter.
-#[derive(Debug, Drop)]
+#[derive(Debug, Drop, PartialEq)]
 pub enum LocalReply {
     /// Done, and there is nothing to say.
     Ok,

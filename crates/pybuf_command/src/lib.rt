@@ -7,14 +7,17 @@ mod arity;
 mod commands;
 mod handles;
 mod kinds;
+mod laws;
 mod loans;
 mod methods;
 mod options;
+mod replies;
 mod worlds;
 
 pub use arity::takes;
 pub use commands::{LocalCommand, LocalReply, PropertyName, Verb};
 pub use handles::{handle_alone, handles_of, handles_of_options, handles_read, loan_of};
+pub use laws::equal_replies_are_the_same;
 pub use kinds::{ExporterKind, Subject};
 pub use loans::{Loan, LoanList};
 pub use methods::{MethodCall, MethodName};

@@ -26,6 +26,22 @@ fn values_are_packed_and_unpacked(rt: HostRuntime) -> Result<(), Fail> {
     Ok(())
 }
 
+#[test]
+fn records_are_read_and_written(rt: HostRuntime) -> Result<(), Fail> {
+    let alloc = rt.alloc();
+    let format = FormatSpec::from_str(alloc, "<hI")?;
+    let bytes = format.pack_values(alloc, &[Scalar::from(-2), Scalar::from(258)])?;
+    let values = format.unpack_values(alloc, bytes.as_slice())?;
+    assert_eq!(rt; values.numbers::<2>(), Ok([-2, 258]));
+    assert_eq!(rt; values.get(1), Some(&Scalar::Int(258)));
+    let later = format.unpack_from(alloc, b"ab\x01\x00\x02\x00\x00\x00", 2)?;
+    assert_eq!(rt; later.numbers::<2>(), Ok([1, 2]));
+    let mut room = [0u8; 8];
+    assert_eq!(rt; format.pack_at(&mut room, 2, later.as_slice()), Ok(()));
+    assert_eq!(rt; format.pack_at(&mut room, 3, later.as_slice()), Err(Fault::Struct));
+    Ok(())
+}
+
 /// Why a text is no format.
 fn refusal(alloc: Global, format: &[u8]) -> Result<Option<Fault>, Fail> {
     match FormatSpec::parse(alloc, format)? {

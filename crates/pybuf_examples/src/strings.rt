@@ -1,7 +1,9 @@
 //! The methods of strings of bytes, by the type that has them and by their names.
 use crate::telling::{Told, done, has, tell};
 use crate::values::bytes;
-use pybuf_view::{LoanList, MethodCall, MethodName, PyBytes, PyBytesInner, ValueList};
+use pybuf_view::{
+    ByteList, ByteStr, Fault, LoanList, MethodCall, MethodName, PyBytes, PyBytesInner, ValueList,
+};
 use std::alloc::Global;
 use std::test::Fail;
 
@@ -23,6 +25,24 @@ fn strings_have_methods(rt: HostRuntime) -> Result<(), Fail> {
     assert_eq!(rt; replaced.as_slice(), b" key: value ".as_slice());
     let digits = done(sign.hex(alloc, None, None))?;
     assert_eq!(rt; digits.as_slice(), b"3d".as_slice());
+    Ok(())
+}
+
+#[test]
+fn lent_bytes_have_plain_methods(rt: HostRuntime) -> Result<(), Fail> {
+    let alloc = rt.alloc();
+    let line = ByteStr::new(b"key=a,b");
+    assert_eq!(rt; line.find(b"=", None, None), Some(3));
+    assert_eq!(rt; line.rfind(b"=", Some(4), None), None);
+    assert_eq!(rt; line.index(b";", None, None), Err(Fault::Value));
+    assert_eq!(rt; line.count(b",", Some(-3), None), 1);
+    assert!(rt; line.startswith(b"key", None, None));
+    let parts = line.split(alloc, Some(b","), Some(1))?;
+    assert_eq!(rt; parts.get(1), Some(&ByteList::from_slice(alloc, b"b")?));
+    let replaced = line.replace(alloc, b",", b", ", None)?;
+    assert_eq!(rt; replaced.as_slice(), b"key=a, b".as_slice());
+    let text = ByteStr::new(b"\xc3\xa9").decode(alloc, None, None)?;
+    assert_eq!(rt; text.as_str(), "é");
     Ok(())
 }
 

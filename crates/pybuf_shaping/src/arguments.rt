@@ -11,7 +11,7 @@ use crate::padding::{center, justify_left, justify_right};
 use crate::tables::{identity_table, translate};
 use crate::tabs::tab_size;
 use pybuf_value::{
-    ByteList, Fault, Halt, Lender, NoMemory, Outcome, Scalar, Tried, Value, bytes_from_object,
+    Answer, ByteList, Fault, Halt, Lender, NoMemory, Outcome, Scalar, Tried, Value, bytes_from_object,
     tried, try_as_bytes,
 };
 use std::alloc::Global;
@@ -142,10 +142,7 @@ pub struct ByteInnerTranslateOptions {
 fn bytes_in<L: Lender>(alloc: Global, value: &Value, lender: &L) -> Result<ByteList, Halt>
     ensures { Gives (bytes_in (L.pairs lender.now) value.now) result }
 {
-    match bytes_from_object(alloc, value, lender)? {
-        Outcome::Done(bytes) => Ok(bytes),
-        Outcome::Refused(fault) => Err(Halt::Refused(fault)),
-    }
+    bytes_from_object(alloc, value, lender).done()
 }
 
 /// The table that a value is read as.

@@ -7,3 +7,4 @@ pub mod Cursor
 pub mod FormatTexts
 pub mod Laws
 pub mod Singles
+pub mod Offsets

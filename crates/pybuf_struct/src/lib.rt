@@ -9,6 +9,7 @@ mod pack;
 mod parse;
 mod single;
 mod table;
+mod typed;
 mod unpack;
 
 pub use format::{FormatCode, FormatSpec};

@@ -234,14 +234,36 @@ fn write_all<L: Lender>(
 
 impl FormatSpec {
     /// Why values are refused, if they are.
-    fn check<L: Lender>(&self, args: &ScalarList, lender: &L) -> Result<(), Fault>
+    fn check<L: Lender>(&self, args: &[Scalar], lender: &L) -> Result<(), Fault>
         ensures { result ≡ refusal_of (packed_bytes self.now (L.pairs lender.now) args.now) }
     {
         let _ = self.size();
         if args.len() != self.arg_count() {
             return Err(Fault::Struct);
         }
-        check_all(self.endianness(), self.codes(), args.as_slice(), lender)
+        check_all(self.endianness(), self.codes(), args, lender)
+    }
+
+    /// Puts the bytes of the values in place of as many; a refusal comes before a byte is written.
+    pub(crate) fn fill<L: Lender>(
+        &self,
+        room: &mut [u8],
+        args: &[Scalar],
+        lender: &L,
+    ) -> Result<(), Fault>
+        requires { length room.old ≡ self.now.size }
+        ensures refusal { result ≡ refusal_of (packed_bytes self.now (L.pairs lender.now) args.now) }
+        ensures ok { OnOk result (packed_bytes self.now (L.pairs lender.now) args.now ≡ Ok room.new) }
+        ensures err { OnErr result (room.new ≡ room.old) }
+    {
+        let answer = self.check(args, lender);
+        if answer.is_err() {
+            return answer;
+        }
+        let _ = self.size();
+        room.fill(0);
+        write_all(self.endianness(), self.codes(), args, lender, room);
+        Ok(())
     }
 
     /// The bytes of the values, one for each field: as many bytes as the format's size, with zeros
@@ -264,7 +286,7 @@ impl FormatSpec {
     pub fn pack<L: Lender>(&self, alloc: Global, args: &ScalarList, lender: &L) -> Tried<Vec<u8>>
         ensures { IfOk result (λ o. items_of o ≡ outcome_of (packed_bytes self.now (L.pairs lender.now) args.now)) }
     {
-        if let Err(fault) = self.check(args, lender) {
+        if let Err(fault) = self.check(args.as_slice(), lender) {
             return Ok(Outcome::Refused(fault));
         }
         let mut room = vec![in alloc; 0u8; self.size()]?;
@@ -294,19 +316,6 @@ impl FormatSpec {
         ensures ok { OnOk result (packed_bytes self.now (L.pairs lender.now) args.now ≡ Ok room.new) }
         ensures err { OnErr result (room.new ≡ room.old) }
     {
-        let answer = self.check(args, lender);
-        if answer.is_err() {
-            return answer;
-        }
-        let _ = self.size();
-        room.fill(0);
-        write_all(
-            self.endianness(),
-            self.codes(),
-            args.as_slice(),
-            lender,
-            room,
-        );
-        Ok(())
+        self.fill(room, args.as_slice(), lender)
     }
 }

@@ -13,7 +13,15 @@ mod copies;
 #[cfg(test)]
 mod formats;
 #[cfg(test)]
+mod plain_formats;
+#[cfg(test)]
+mod plain_strings;
+#[cfg(test)]
+mod plain_values;
+#[cfg(test)]
 mod queues;
+#[cfg(test)]
+mod replies;
 #[cfg(test)]
 mod slices;
 #[cfg(test)]

@@ -35,7 +35,7 @@ from_same scalar.Ellipsis scalar.Ellipsis h = refl
 from_same (scalar.Handle m) (scalar.Handle n) h = ap scalar.Handle ((Decides-eqb m n).0 h)
 from_same _ _ h = absurd (false≢true h)
 
-decides_same : (s t : Scalar) → Decides (identical s t) (s ≡ t)
+pub decides_same : (s t : Scalar) → Decides (identical s t) (s ≡ t)
 decides_same s t = (from_same s t, λ p. subst (λ u. identical s u ≡ true) p (same_itself s))
 
 pub scalars_decided : EqualWhereTheSame counted same_scalar

@@ -4,6 +4,7 @@ use Rattle.std.specs.Global.{Vec}
 use Rattle.pybuf_value.specs.declared.faults.Fault.{Fault}
 use Rattle.pybuf_value.specs.declared.faults.Outcome.{Outcome}
 use Rattle.pybuf_value.specs.declared.faults.Outcome.TheVariants as outcome
+use Rattle.pybuf_copy.specs.declared.memory.NoMemory.{NoMemory}
 use Rattle.pybuf_value.specs.declared.halt.Halt.{Halt}
 use Rattle.pybuf_value.specs.declared.halt.Halt.TheVariants as halt
 
@@ -27,3 +28,20 @@ items_of (outcome.Refused f) = outcome.Refused f
 abbrev pub refusal_of : {A : Type 0} → Result A Fault → Result (Unit {0}) Fault
 refusal_of (Ok x) = Ok tt
 refusal_of (Err f) = Err f
+
+-- ---- answers as one result
+
+-- what a call answers that may be refused, as a result
+abbrev pub given_by : {X : Type 0} → Outcome X → Result X Fault
+given_by (outcome.Done x) = Ok x
+given_by (outcome.Refused f) = Err f
+
+-- the same, a refusal among what stops a row
+abbrev pub stopped_by : {X : Type 0} → Result X Fault → Result X Halt
+stopped_by (Ok x) = Ok x
+stopped_by (Err f) = Err (halt.Refused f)
+
+-- what a call answers that may also fail for want of memory
+abbrev pub done_by : {O X : Type 0} → (O → Result X Fault) → Result O NoMemory → Result X Halt
+done_by given (Ok o) = stopped_by (given o)
+done_by given (Err _) = Err halt.NoMemory

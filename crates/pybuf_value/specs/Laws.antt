@@ -9,6 +9,15 @@ use Rattle.std.specs.declared.cmp.Ordering.TheVariants.{Less, Equal}
 use Rattle.pybuf_value.specs.declared.values.Scalar.{Scalar}
 use Rattle.pybuf_value.specs.declared.values.Item.{Item}
 use Rattle.pybuf_value.specs.declared.values.Item.TheVariants as item
+use Rattle.pybuf_value.specs.declared.values.PySlice.{PySlice}
+use Rattle.pybuf_value.specs.declared.values.Value.{Value}
+use Rattle.pybuf_value.specs.declared.snaps.Snap.{Snap}
+use Rattle.pybuf_value.specs.contracts.text.TextPartialEq.TheImpl as text_eq
+use Rattle.pybuf_value.specs.contracts.values.ScalarPartialEq.TheImpl as scalar_eq
+use Rattle.pybuf_value.specs.contracts.values.PySlicePartialEq.TheImpl as slice_eq
+use Rattle.pybuf_value.specs.contracts.values.ValuePartialEq.TheImpl as value_eq
+use Rattle.pybuf_value.specs.contracts.values.ItemPartialEq.TheImpl as item_eq
+use Rattle.pybuf_value.specs.contracts.snaps.SnapPartialEq.TheImpl as snap_eq
 use Rattle.pybuf_value.specs.declared.values.CompareOp.TheVariants as op
 use Rattle.pybuf_value.specs.Equality.{counted, same_scalar, same_item}
 use Rattle.pybuf_value.specs.Order.{answers}
@@ -38,6 +47,16 @@ ItemEqualityIsEquivalence = IsEquality same_item
 -- two values are equal exactly where they are the same once truth values are counted
 abbrev pub EqualWhereTheSame : {A : Type 0} → (A → A) → (A → A → Bool) → Type 0
 EqualWhereTheSame {A} count equal = (x y : A) → Decides (equal x y) (count x ≡ count y)
+
+-- Rust's `==` holds of two values exactly where they are the same: a truth value isn't the number that
+-- it counts as.
+pub record EqualExactly : Type 0 where
+  pub texts : (x y : List ℕ) → Decides (text_eq.eq-value.it x y) (x ≡ y)
+  pub scalars : (x y : Scalar) → Decides (scalar_eq.eq-value.it x y) (x ≡ y)
+  pub slices : (x y : PySlice) → Decides (slice_eq.eq-value.it x y) (x ≡ y)
+  pub values : (x y : Value) → Decides (value_eq.eq-value.it x y) (x ≡ y)
+  pub items : (x y : Item) → Decides (item_eq.eq-value.it x y) (x ≡ y)
+  pub snaps : (x y : Snap) → Decides (snap_eq.eq-value.it x y) (x ≡ y)
 
 -- ---- order
 

@@ -11,4 +11,6 @@ pub mod Quotes
 pub mod Unquoted
 pub mod Spelling
 pub mod Halting
+pub mod Making
+pub mod Settling
 pub mod Laws

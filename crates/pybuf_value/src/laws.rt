@@ -4,7 +4,7 @@ ghost use Rattle.pybuf_value.specs.declared.values.Scalar.{Scalar};
 ghost use Rattle.std.specs.declared.cmp.Ordering.{Ordering};
 ghost use Rattle.pybuf_value.specs.Equality.{counted, same_scalar, same_item};
 ghost use Rattle.pybuf_value.specs.Order.{order_of};
-ghost use Rattle.pybuf_value.specs.Laws.{ScalarEqualityIsEquivalence, ItemEqualityIsEquivalence, EqualWhereTheSame, counted_item, OrdersAll, OperatorsAgree, ReadBack, SpelledInAscii};
+ghost use Rattle.pybuf_value.specs.Laws.{ScalarEqualityIsEquivalence, ItemEqualityIsEquivalence, EqualWhereTheSame, counted_item, OrdersAll, OperatorsAgree, ReadBack, SpelledInAscii, EqualExactly};
 
 /// Two values without parts are equal exactly where they are the same once each truth value is the
 /// number that it counts as.
@@ -49,4 +49,9 @@ pub fn quoted_texts_read_back()
 /// The text of each value without parts has bytes of ASCII alone.
 pub fn values_are_spelled_in_ascii()
     ensures { (s : Scalar) → SpelledInAscii s }
+{}
+
+/// Values are equal by `==` exactly where they are the same.
+pub fn equal_values_are_the_same()
+    ensures { EqualExactly }
 {}

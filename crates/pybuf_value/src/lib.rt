@@ -1,13 +1,16 @@
 //! Values, refusals, lists and the conversions of numbers that every crate of `pybuf` stands on.
 #![tactic(auto)]
 
+mod answers;
 mod contents;
+mod conversions;
 mod equality;
 mod faults;
 mod halt;
 mod laws;
 mod lent;
 mod list;
+mod no_handles;
 mod numbers;
 mod order;
 mod plain;
@@ -18,13 +21,14 @@ mod steps;
 mod text;
 mod values;
 
+pub use answers::{Answer, Refusable};
 pub use contents::{bytes_alone, bytes_from_object, bytes_like, text_in, try_as_bytes};
 pub use equality::{identical_or_equal, item_eq, scalar_eq};
 pub use faults::{Fault, Outcome, Tried};
 pub use halt::{Halt, as_vec, tried};
 pub use laws::{
-    equal_items_count_alike, equal_scalars_count_alike, item_equality_is_equivalence,
-    operators_agree, order_of_bytes_is_total, quoted_texts_read_back,
+    equal_items_count_alike, equal_scalars_count_alike, equal_values_are_the_same,
+    item_equality_is_equivalence, operators_agree, order_of_bytes_is_total, quoted_texts_read_back,
     scalar_equality_is_equivalence, values_are_spelled_in_ascii,
 };
 pub use lent::{Lent, content_of_snap, run_of_snap};
@@ -32,6 +36,7 @@ pub use list::{
     ByteList, ByteLists, CountList, DimList, ItemList, Items, NumberList, ScalarList, SliceList,
     ValueList, push_reserved,
 };
+pub use no_handles::NoHandles;
 pub use numbers::{
     ByteOr, count_in, count_or, fit_count, fit_index, index_of, number_in, saturate,
     value_from_object,

@@ -1,10 +1,12 @@
 //! Lists that contracts see as lists.
 ghost use Rattle.std.specs.Prelude.{◌≡◌, ◌==◌, ◌<◌, ◌^◌, List, [], ◌∷◌, ◌++◌, length, IfOk, OnOk, OnErr, vec_len, vec_capacity};
+ghost use Rattle.std.specs.Cmp.Lexicographic.{pointwise, lists_per};
 
 use crate::values::{Item, PySlice, Scalar, Value};
 use pybuf_copy::{Exact, Made, Twin, copy_all};
 use std::alloc::Global;
 use std::marker::Model;
+use std::ops::DerefSlice;
 
 /// A list of items. A clause sees the list of its items, and no capacity.
 #[derive(Debug, Drop)]
@@ -74,6 +76,37 @@ impl<T> Items<T> {
     {
         let Items { items } = self;
         items
+    }
+}
+
+impl<T: Exact> Items<T> {
+    /// Copies of the items, in order.
+    pub fn from_slice(alloc: Global, items: &[T]) -> Made<Items<T>>
+        ensures { IfOk result (λ list. list ≡ items.now) }
+    {
+        Ok(Items {
+            items: copy_all(alloc, items)?,
+        })
+    }
+}
+
+impl<T: PartialEq> PartialEq for Items<T> {
+    ghost eq = { pointwise T.eq };
+
+    ghost laws = { lists_per T.laws };
+
+    fn eq(&self, other: &Items<T>) -> bool {
+        self.items.as_slice() == other.items.as_slice()
+    }
+}
+
+impl<T> DerefSlice for Items<T> {
+    type Elem = T;
+
+    ghost deref_gives = { λ list items. items ≡ list };
+
+    fn deref(&self) -> &[T] {
+        self.items.as_slice()
     }
 }
 

@@ -37,7 +37,7 @@ impl SnapKind {
 }
 
 /// What a handle names, as it stands at one moment.
-#[derive(Debug, Drop)]
+#[derive(Debug, Drop, PartialEq)]
 pub struct Snap {
     pub kind: SnapKind,
     /// The format of an item.

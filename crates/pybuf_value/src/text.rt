@@ -1,7 +1,9 @@
 //! Text, which contracts see as the list of its UTF-8 bytes.
 ghost use Rattle.std.specs.Prelude.{◌≡◌, ◌==◌, ◌<◌, ◌^◌, ◌++◌, List, [], ℕ, length, OnOk, OnErr, encode_utf8};
 ghost use Rattle.std.specs.String.{string_bytes};
-ghost use Rattle.std.specs.Str.{IsUtf8};
+ghost use Rattle.std.specs.Str.{IsUtf8, bytes_eq};
+ghost use Rattle.std.specs.Cmp.{partial_equiv_from_equiv};
+ghost use Rattle.std.specs.Cmp.Lexicographic.{nat_list_eq_equiv};
 
 use pybuf_copy::{Exact, Made, Twin};
 use std::alloc::Global;
@@ -90,6 +92,16 @@ impl Text {
     {
         let Text { text } = self;
         text
+    }
+}
+
+impl PartialEq for Text {
+    ghost eq = { bytes_eq };
+
+    ghost laws = { partial_equiv_from_equiv nat_list_eq_equiv };
+
+    fn eq(&self, other: &Text) -> bool {
+        self.text.as_bytes() == other.text.as_bytes()
     }
 }
 

@@ -5,7 +5,7 @@ use pybuf_copy::{Exact, Made, Twin};
 use std::alloc::Global;
 
 /// A value that has no parts.
-#[derive(Debug, Drop)]
+#[derive(Debug, Drop, PartialEq)]
 pub enum Scalar {
     /// Python's `None`.
     None,
@@ -24,7 +24,7 @@ pub enum Scalar {
 }
 
 /// A slice, as Python's `slice(start, stop, step)`.
-#[derive(Debug, Drop)]
+#[derive(Debug, Drop, PartialEq)]
 pub struct PySlice {
     pub start: Scalar,
     pub stop: Scalar,
@@ -32,7 +32,7 @@ pub struct PySlice {
 }
 
 /// An argument of a command.
-#[derive(Debug, Drop)]
+#[derive(Debug, Drop, PartialEq)]
 pub enum Value {
     /// A value without parts.
     One(Scalar),
@@ -47,7 +47,7 @@ pub enum Value {
 }
 
 /// An item of a view: one value, or as many as its format says.
-#[derive(Debug, Drop)]
+#[derive(Debug, Drop, PartialEq)]
 pub enum Item {
     /// The one value of a format with one field.
     One(Scalar),

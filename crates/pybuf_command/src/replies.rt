@@ -1,0 +1,84 @@
+//! What is read of a reply.
+ghost use Rattle.std.specs.Prelude.{◌≡◌, option_map};
+ghost use Rattle.std.specs.Option.{option_copied};
+ghost use Rattle.pybuf_command.specs.Replies.{number_told, truth_told, view_told, refusal_told, text_told, bytes_told, reply_given};
+
+use crate::commands::LocalReply;
+use pybuf_value::{Fault, Item, Refusable, Scalar};
+
+impl LocalReply {
+    /// The number of a reply that is a single whole number: an item, a byte, a length or a place.
+    pub fn number(&self) -> Option<i128>
+        ensures { result ≡ number_told self.now }
+    {
+        match self {
+            LocalReply::Item(Item::One(Scalar::Int(number))) => Some(*number),
+            _ => None,
+        }
+    }
+
+    /// The truth value of a reply that is one, also as an item.
+    pub fn truth(&self) -> Option<bool>
+        ensures { result ≡ truth_told self.now }
+    {
+        match self {
+            LocalReply::Truth(truth) => Some(*truth),
+            LocalReply::Item(Item::One(Scalar::Bool(truth))) => Some(*truth),
+            _ => None,
+        }
+    }
+
+    /// The number of the view that was made.
+    pub fn view(&self) -> Option<usize>
+        ensures { result ≡ view_told self.now }
+    {
+        match self {
+            LocalReply::View(view) => Some(*view),
+            _ => None,
+        }
+    }
+
+    /// Why it was refused, if it was.
+    pub fn refusal(&self) -> Option<Fault>
+        ensures { result ≡ refusal_told self.now }
+    {
+        match self {
+            LocalReply::Refused(fault) => Some(*fault),
+            _ => None,
+        }
+    }
+
+    /// The text of a reply that is one, lent.
+    pub fn text(&self) -> Option<&str>
+        ensures { option_copied result ≡ text_told self.now }
+    {
+        match self {
+            LocalReply::Text(text) => Some(text.as_str()),
+            LocalReply::Shown(text) => Some(text.as_str()),
+            _ => None,
+        }
+    }
+
+    /// The bytes of a reply that is bytes. Takes no memory.
+    pub fn into_bytes(self) -> Option<Vec<u8>>
+        ensures { option_map (λ bytes. bytes.items) result ≡ bytes_told self }
+    {
+        match self {
+            LocalReply::Bytes(bytes) => Some(bytes.into_vec()),
+            _ => None,
+        }
+    }
+}
+
+impl Refusable for LocalReply {
+    type Given = LocalReply;
+
+    ghost given = { reply_given };
+
+    fn into_result(self) -> Result<LocalReply, Fault> {
+        match self {
+            LocalReply::Refused(fault) => Err(fault),
+            reply => Ok(reply),
+        }
+    }
+}
