@@ -78,12 +78,7 @@ impl<'a> ByteStr<'a> {
     /// The place that `find` gives.
     ///
     /// Refused with `ValueError` exactly where it gives none.
-    pub fn index(
-        self,
-        sub: &[u8],
-        start: Option<isize>,
-        end: Option<isize>,
-    ) -> Result<usize, Fault>
+    pub fn index(self, sub: &[u8], start: Option<isize>, end: Option<isize>) -> Result<usize, Fault>
         ensures { result ≡ ok_or (place_in_range first_place (str_bytes self.entry) sub.now (adjusted start end (length (str_bytes self.entry)))) faults.Fault.Value }
     {
         match self.find(sub, start, end) {

@@ -20,8 +20,8 @@ pub use handles::{
     handle_alone, handles_in, handles_in_both, handles_in_option, handles_of, handles_of_options,
     handles_read, handles_with_option, loan_of,
 };
-pub use laws::equal_replies_are_the_same;
 pub use kinds::{ExporterKind, Subject};
+pub use laws::equal_replies_are_the_same;
 pub use loans::{Loan, LoanList};
 pub use methods::{MethodCall, MethodName};
 pub use options::ByteInnerNewOptions;
