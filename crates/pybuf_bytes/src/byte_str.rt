@@ -1,5 +1,5 @@
 //! Bytes that are lent, with Python's methods of strings of bytes by plain arguments.
-ghost use Rattle.std.specs.Prelude.{◌≡◌, ℤ, negsuc, [], length, Ok, IfOk, ok_or, unwrap_or};
+ghost use Rattle.std.specs.Prelude.{◌≡◌, [], length, Ok, IfOk, ok_or};
 ghost use Rattle.std.specs.Option.{option_copied};
 ghost use Rattle.pybuf_value.specs.declared.faults.Fault as faults;
 ghost use Rattle.pybuf_value.specs.declared.values.Scalar.TheVariants as scalars;
@@ -11,16 +11,17 @@ ghost use Rattle.pybuf_search.specs.Bounds.{adjusted};
 ghost use Rattle.pybuf_search.specs.Places.{first_place, last_place};
 ghost use Rattle.pybuf_search.specs.Ranges.{place_in_range, number_in_range};
 ghost use Rattle.pybuf_shaping.specs.Replacing.{count_given, replacement};
-ghost use Rattle.pybuf_bytes.specs.Searching.{split_of, rsplit_of};
+ghost use Rattle.pybuf_bytes.specs.ByteStrs.{str_bytes};
+ghost use Rattle.pybuf_bytes.specs.Searching.{split_of};
 ghost use Rattle.pybuf_bytes.specs.Shaping.{decoded};
 
-use crate::decoding::decode_text;
-use pybuf_letters::{rsplit_at_blanks, split_at_blanks};
+use crate::decoding::{DecodeArgs, bytes_decode};
+use pybuf_letters::split_at_blanks;
 use pybuf_search::{
     adjust_indices, begins_with, between, ends_with, first_place_in_range, last_place_in_range,
     number_in_range,
 };
-use pybuf_value::{Answer, ByteLists, Fault, Halt, Text};
+use pybuf_value::{Answer, ByteLists, Fault, Halt, Made, Text};
 use std::alloc::Global;
 
 /// Bytes that are lent. They have the methods of Python's `bytes` with plain arguments (Library
@@ -41,8 +42,8 @@ fn wide(bound: Option<isize>) -> Option<i128>
 }
 
 /// The text of a name, if one is given.
-fn name_given(alloc: Global, name: Option<&str>) -> Result<Option<Text>, Halt>
-    ensures { IfOk result (λ text. text ≡ option_copied name) }
+fn name_given(alloc: Global, name: Option<&str>) -> Made<Option<Text>>
+    ensures { IfOk result (λ text. text ≡ option_copied name.entry) }
 {
     match name {
         None => Ok(None),
@@ -53,14 +54,14 @@ fn name_given(alloc: Global, name: Option<&str>) -> Result<Option<Text>, Halt>
 impl<'a> ByteStr<'a> {
     /// These bytes.
     pub fn new(bytes: &'a [u8]) -> ByteStr<'a>
-        ensures { result.bytes.now ≡ bytes.now }
+        ensures { str_bytes result ≡ bytes.now }
     {
         ByteStr { bytes }
     }
 
     /// The first place between the bounds where `sub` stands, None where it stands at none.
     pub fn find(self, sub: &[u8], start: Option<isize>, end: Option<isize>) -> Option<usize>
-        ensures { result ≡ place_in_range first_place self.bytes.now sub.now (adjusted start end (length self.bytes.now)) }
+        ensures { result ≡ place_in_range first_place (str_bytes self.entry) sub.now (adjusted start end (length (str_bytes self.entry))) }
     {
         let range = adjust_indices(wide(start), wide(end), self.bytes.len());
         first_place_in_range(self.bytes, sub, range)
@@ -68,7 +69,7 @@ impl<'a> ByteStr<'a> {
 
     /// The last such place.
     pub fn rfind(self, sub: &[u8], start: Option<isize>, end: Option<isize>) -> Option<usize>
-        ensures { result ≡ place_in_range last_place self.bytes.now sub.now (adjusted start end (length self.bytes.now)) }
+        ensures { result ≡ place_in_range last_place (str_bytes self.entry) sub.now (adjusted start end (length (str_bytes self.entry))) }
     {
         let range = adjust_indices(wide(start), wide(end), self.bytes.len());
         last_place_in_range(self.bytes, sub, range)
@@ -77,13 +78,8 @@ impl<'a> ByteStr<'a> {
     /// The place that `find` gives.
     ///
     /// Refused with `ValueError` exactly where it gives none.
-    pub fn index(
-        self,
-        sub: &[u8],
-        start: Option<isize>,
-        end: Option<isize>,
-    ) -> Result<usize, Fault>
-        ensures { result ≡ ok_or (place_in_range first_place self.bytes.now sub.now (adjusted start end (length self.bytes.now))) faults.Fault.Value }
+    pub fn index(self, sub: &[u8], start: Option<isize>, end: Option<isize>) -> Result<usize, Fault>
+        ensures { result ≡ ok_or (place_in_range first_place (str_bytes self.entry) sub.now (adjusted start end (length (str_bytes self.entry)))) faults.Fault.Value }
     {
         match self.find(sub, start, end) {
             Some(place) => Ok(place),
@@ -93,7 +89,7 @@ impl<'a> ByteStr<'a> {
 
     /// The number of matches of `sub` between the bounds, of which no two overlap.
     pub fn count(self, sub: &[u8], start: Option<isize>, end: Option<isize>) -> usize
-        ensures { result ≡ number_in_range self.bytes.now sub.now (adjusted start end (length self.bytes.now)) }
+        ensures { result ≡ number_in_range (str_bytes self.entry) sub.now (adjusted start end (length (str_bytes self.entry))) }
     {
         let range = adjust_indices(wide(start), wide(end), self.bytes.len());
         number_in_range(self.bytes, sub, range)
@@ -101,7 +97,7 @@ impl<'a> ByteStr<'a> {
 
     /// Whether the bytes between the bounds begin with the prefix.
     pub fn startswith(self, prefix: &[u8], start: Option<isize>, end: Option<isize>) -> bool
-        ensures { startswith_of [] (values.One (scalars.Bytes prefix.now)) start end self.bytes.now ≡ Ok result }
+        ensures { startswith_of [] (values.One (scalars.Bytes prefix.now)) start end (str_bytes self.entry) ≡ Ok result }
     {
         match between(self.bytes, wide(start), wide(end)) {
             None => false,
@@ -111,7 +107,7 @@ impl<'a> ByteStr<'a> {
 
     /// Whether the bytes between the bounds end with the suffix.
     pub fn endswith(self, suffix: &[u8], start: Option<isize>, end: Option<isize>) -> bool
-        ensures { endswith_of [] (values.One (scalars.Bytes suffix.now)) start end self.bytes.now ≡ Ok result }
+        ensures { endswith_of [] (values.One (scalars.Bytes suffix.now)) start end (str_bytes self.entry) ≡ Ok result }
     {
         match between(self.bytes, wide(start), wide(end)) {
             None => false,
@@ -129,7 +125,7 @@ impl<'a> ByteStr<'a> {
         separator: Option<&[u8]>,
         most: Option<isize>,
     ) -> Result<ByteLists, Halt>
-        ensures { Gives (split_of (option_copied separator) (count_given most) self.bytes.now) result }
+        ensures { Gives (split_of (option_copied separator.entry) (count_given most) (str_bytes self.entry)) result }
     {
         let most = most.unwrap_or(-1);
         match separator {
@@ -150,7 +146,7 @@ impl<'a> ByteStr<'a> {
         new: &[u8],
         most: Option<isize>,
     ) -> Result<Vec<u8>, Halt>
-        ensures { GivesItems (replacement (count_given most) old.now new.now self.bytes.now) result }
+        ensures { GivesItems (replacement (count_given most) old.now new.now (str_bytes self.entry)) result }
     {
         let most = most.unwrap_or(-1);
         let bytes = pybuf_shaping::replace(alloc, self.bytes, old, new, most).done()?;
@@ -167,10 +163,12 @@ impl<'a> ByteStr<'a> {
         encoding: Option<&str>,
         errors: Option<&str>,
     ) -> Result<Text, Halt>
-        ensures { Gives (decoded self.bytes.now (option_copied encoding) (option_copied errors)) result }
+        ensures { Gives (decoded (str_bytes self.entry) (option_copied encoding.entry) (option_copied errors.entry)) result }
     {
-        let encoding = name_given(alloc, encoding)?;
-        let errors = name_given(alloc, errors)?;
-        decode_text(alloc, self.bytes, encoding.as_ref(), errors.as_ref()).done()
+        let args = DecodeArgs {
+            encoding: name_given(alloc, encoding)?,
+            errors: name_given(alloc, errors)?,
+        };
+        bytes_decode(alloc, self.bytes, &args).done()
     }
 }

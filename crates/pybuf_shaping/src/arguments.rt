@@ -11,8 +11,8 @@ use crate::padding::{center, justify_left, justify_right};
 use crate::tables::{identity_table, translate};
 use crate::tabs::tab_size;
 use pybuf_value::{
-    Answer, ByteList, Fault, Halt, Lender, NoMemory, Outcome, Scalar, Tried, Value, bytes_from_object,
-    tried, try_as_bytes,
+    Answer, ByteList, Fault, Halt, Lender, NoMemory, Outcome, Scalar, Tried, Value,
+    bytes_from_object, tried, try_as_bytes,
 };
 use std::alloc::Global;
 
