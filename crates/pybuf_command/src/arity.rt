@@ -4,9 +4,9 @@ ghost use Rattle.pybuf_command.specs.Arity as spec;
 
 use crate::methods::MethodName;
 
-/// The fewest arguments that a method takes, and the most.
-fn arity(name: MethodName) -> (usize, usize)
-    ensures { result ≡ (spec.fewest name, spec.most name) }
+/// Whether a method takes so many arguments.
+pub fn takes(name: MethodName, count: usize) -> bool
+    ensures { result ≡ spec.takes name count }
 {
     match name {
         MethodName::Add
@@ -18,9 +18,9 @@ fn arity(name: MethodName) -> (usize, usize)
         | MethodName::RemoveSuffix
         | MethodName::Partition
         | MethodName::RPartition
-        | MethodName::ZFill => (1, 1),
+        | MethodName::ZFill => count == 1,
         MethodName::Center | MethodName::LJust | MethodName::RJust | MethodName::Translate => {
-            (1, 2)
+            1 <= count && count <= 2
         }
         MethodName::Find
         | MethodName::RFind
@@ -28,23 +28,15 @@ fn arity(name: MethodName) -> (usize, usize)
         | MethodName::RIndex
         | MethodName::Count
         | MethodName::StartsWith
-        | MethodName::EndsWith => (1, 3),
-        MethodName::MakeTrans => (2, 2),
-        MethodName::Replace => (2, 3),
+        | MethodName::EndsWith => 1 <= count && count <= 3,
+        MethodName::MakeTrans => count == 2,
+        MethodName::Replace => 2 <= count && count <= 3,
         MethodName::Strip
         | MethodName::LStrip
         | MethodName::RStrip
         | MethodName::ExpandTabs
-        | MethodName::SplitLines => (0, 1),
-        MethodName::Hex | MethodName::Split | MethodName::RSplit | MethodName::Decode => (0, 2),
-        _ => (0, 0),
+        | MethodName::SplitLines => count <= 1,
+        MethodName::Hex | MethodName::Split | MethodName::RSplit | MethodName::Decode => count <= 2,
+        _ => count == 0,
     }
-}
-
-/// Whether a method takes so many arguments.
-pub fn takes(name: MethodName, count: usize) -> bool
-    ensures { result ≡ spec.takes name count }
-{
-    let (fewest, most) = arity(name);
-    fewest <= count && count <= most
 }

@@ -60,6 +60,6 @@ impl BufferDescriptor {
         if last.1 < 0 {
             return false;
         }
-        last.1 as usize == self.itemsize()
+        last.1 as usize == self.itemsize
     }
 }

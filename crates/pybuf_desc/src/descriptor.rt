@@ -17,10 +17,10 @@ use std::marker::Model;
 /// and its suboffset, which is 0 in a valid descriptor.
 #[derive(Debug, Drop)]
 pub struct BufferDescriptor {
-    len: usize,
-    readonly: bool,
-    itemsize: usize,
-    format: Text,
+    pub len: usize,
+    pub readonly: bool,
+    pub itemsize: usize,
+    pub format: Text,
     dim_desc: Dims,
 }
 

@@ -137,7 +137,7 @@ impl BufferDescriptor {
         ensures bytes { flat_map bytes_of result ≡ item_bytes self.now (pos start) }
     {
         let dims = self.dim_desc();
-        let itemsize = self.itemsize();
+        let itemsize = self.itemsize;
         match dims.split_last() {
             None => walk(dims, start, 0, 1, itemsize),
             Some((last, rows)) => {
@@ -156,13 +156,6 @@ impl BufferDescriptor {
     }
 }
 
-/// The indices of the first row: 0 for each dimension that a descriptor can have.
-fn first_indices() -> [usize; 64]
-    ensures { result ≡ replicate 64 0 }
-{
-    [0; 64]
-}
-
 /// A walk over whole rows.
 fn walk(
     rows: &[(usize, isize, isize)],
@@ -176,7 +169,7 @@ fn walk(
 {
     Segments {
         rows,
-        indices: first_indices(),
+        indices: [0; 64],
         row_place: start,
         has_row: true,
         place: 0,
@@ -193,7 +186,7 @@ fn no_segments(rows: &[(usize, isize, isize)], size: usize) -> Segments<'_>
 {
     Segments {
         rows,
-        indices: first_indices(),
+        indices: [0; 64],
         row_place: 0,
         has_row: false,
         place: 0,

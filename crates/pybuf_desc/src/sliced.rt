@@ -75,7 +75,7 @@ impl BufferDescriptor {
         let shape = dims[0].0;
         let stride = dims[0].1;
         let (range, step, count) = slice.adjust_indices(shape);
-        let len = len_of_entries(self.len(), shape, count);
+        let len = len_of_entries(self.len, shape, count);
         let descriptor = self.with_first(alloc, len, count, stride_after(stride, step))?;
         if count == 0 {
             return Ok((descriptor, start));

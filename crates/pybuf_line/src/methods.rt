@@ -2,7 +2,6 @@
 ghost use Rattle.std.specs.Prelude.{◌≡◌};
 ghost use Rattle.pybuf_line.specs.Methods.{search_or_cut_in, method_in};
 
-use crate::words::is_word;
 use pybuf_command::MethodName;
 
 /// The method that a text names.
@@ -10,88 +9,88 @@ use pybuf_command::MethodName;
 pub fn method_named(text: &[u8]) -> Option<MethodName>
     ensures { result ≡ method_in text.now }
 {
-    if is_word(text, "add") {
+    if text == "add".as_bytes() {
         return Some(MethodName::Add);
     }
-    if is_word(text, "concat") {
+    if text == "concat".as_bytes() {
         return Some(MethodName::Concat);
     }
-    if is_word(text, "mul") {
+    if text == "mul".as_bytes() {
         return Some(MethodName::Mul);
     }
-    if is_word(text, "isalnum") {
+    if text == "isalnum".as_bytes() {
         return Some(MethodName::IsAlnum);
     }
-    if is_word(text, "isalpha") {
+    if text == "isalpha".as_bytes() {
         return Some(MethodName::IsAlpha);
     }
-    if is_word(text, "isascii") {
+    if text == "isascii".as_bytes() {
         return Some(MethodName::IsAscii);
     }
-    if is_word(text, "isdigit") {
+    if text == "isdigit".as_bytes() {
         return Some(MethodName::IsDigit);
     }
-    if is_word(text, "islower") {
+    if text == "islower".as_bytes() {
         return Some(MethodName::IsLower);
     }
-    if is_word(text, "isspace") {
+    if text == "isspace".as_bytes() {
         return Some(MethodName::IsSpace);
     }
-    if is_word(text, "istitle") {
+    if text == "istitle".as_bytes() {
         return Some(MethodName::IsTitle);
     }
-    if is_word(text, "isupper") {
+    if text == "isupper".as_bytes() {
         return Some(MethodName::IsUpper);
     }
-    if is_word(text, "lower") {
+    if text == "lower".as_bytes() {
         return Some(MethodName::Lower);
     }
-    if is_word(text, "upper") {
+    if text == "upper".as_bytes() {
         return Some(MethodName::Upper);
     }
-    if is_word(text, "swapcase") {
+    if text == "swapcase".as_bytes() {
         return Some(MethodName::SwapCase);
     }
-    if is_word(text, "capitalize") {
+    if text == "capitalize".as_bytes() {
         return Some(MethodName::Capitalize);
     }
-    if is_word(text, "title") {
+    if text == "title".as_bytes() {
         return Some(MethodName::Title);
     }
-    if is_word(text, "hex") {
+    if text == "hex".as_bytes() {
         return Some(MethodName::Hex);
     }
-    if is_word(text, "fromhex") {
+    if text == "fromhex".as_bytes() {
         return Some(MethodName::FromHex);
     }
-    if is_word(text, "center") {
+    if text == "center".as_bytes() {
         return Some(MethodName::Center);
     }
-    if is_word(text, "ljust") {
+    if text == "ljust".as_bytes() {
         return Some(MethodName::LJust);
     }
-    if is_word(text, "rjust") {
+    if text == "rjust".as_bytes() {
         return Some(MethodName::RJust);
     }
-    if is_word(text, "join") {
+    if text == "join".as_bytes() {
         return Some(MethodName::Join);
     }
-    if is_word(text, "maketrans") {
+    if text == "maketrans".as_bytes() {
         return Some(MethodName::MakeTrans);
     }
-    if is_word(text, "translate") {
+    if text == "translate".as_bytes() {
         return Some(MethodName::Translate);
     }
-    if is_word(text, "expandtabs") {
+    if text == "expandtabs".as_bytes() {
         return Some(MethodName::ExpandTabs);
     }
-    if is_word(text, "zfill") {
+    if text == "zfill".as_bytes() {
         return Some(MethodName::ZFill);
     }
-    if is_word(text, "replace") {
+    if text == "replace".as_bytes() {
         return Some(MethodName::Replace);
     }
-    if is_word(text, "decode") {
+    if text == "decode".as_bytes() {
         return Some(MethodName::Decode);
     }
     search_or_cut_named(text)
@@ -102,55 +101,55 @@ pub fn method_named(text: &[u8]) -> Option<MethodName>
 fn search_or_cut_named(text: &[u8]) -> Option<MethodName>
     ensures { result ≡ search_or_cut_in text.now }
 {
-    if is_word(text, "find") {
+    if text == "find".as_bytes() {
         return Some(MethodName::Find);
     }
-    if is_word(text, "rfind") {
+    if text == "rfind".as_bytes() {
         return Some(MethodName::RFind);
     }
-    if is_word(text, "index") {
+    if text == "index".as_bytes() {
         return Some(MethodName::Index);
     }
-    if is_word(text, "rindex") {
+    if text == "rindex".as_bytes() {
         return Some(MethodName::RIndex);
     }
-    if is_word(text, "count") {
+    if text == "count".as_bytes() {
         return Some(MethodName::Count);
     }
-    if is_word(text, "startswith") {
+    if text == "startswith".as_bytes() {
         return Some(MethodName::StartsWith);
     }
-    if is_word(text, "endswith") {
+    if text == "endswith".as_bytes() {
         return Some(MethodName::EndsWith);
     }
-    if is_word(text, "strip") {
+    if text == "strip".as_bytes() {
         return Some(MethodName::Strip);
     }
-    if is_word(text, "lstrip") {
+    if text == "lstrip".as_bytes() {
         return Some(MethodName::LStrip);
     }
-    if is_word(text, "rstrip") {
+    if text == "rstrip".as_bytes() {
         return Some(MethodName::RStrip);
     }
-    if is_word(text, "removeprefix") {
+    if text == "removeprefix".as_bytes() {
         return Some(MethodName::RemovePrefix);
     }
-    if is_word(text, "removesuffix") {
+    if text == "removesuffix".as_bytes() {
         return Some(MethodName::RemoveSuffix);
     }
-    if is_word(text, "split") {
+    if text == "split".as_bytes() {
         return Some(MethodName::Split);
     }
-    if is_word(text, "rsplit") {
+    if text == "rsplit".as_bytes() {
         return Some(MethodName::RSplit);
     }
-    if is_word(text, "partition") {
+    if text == "partition".as_bytes() {
         return Some(MethodName::Partition);
     }
-    if is_word(text, "rpartition") {
+    if text == "rpartition".as_bytes() {
         return Some(MethodName::RPartition);
     }
-    if is_word(text, "splitlines") {
+    if text == "splitlines".as_bytes() {
         return Some(MethodName::SplitLines);
     }
     None

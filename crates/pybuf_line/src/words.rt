@@ -1,5 +1,5 @@
-//! The first words of lines, and the names that stand on them. Each line has a first word, so the tests for
-//! these are written out; the other names are compared by `is_word`.
+//! The first words of lines, and the names that stand on them. The tests for what many lines have, which are the
+//! first words, the methods and the names of values, are written out; the other names are compared by `is_word`.
 ghost use Rattle.std.specs.Prelude.{◌≡◌};
 ghost use Rattle.std.specs.Str.{bytes_eq};
 ghost use Rattle.pybuf_line.specs.Words.{named_in, written_word, words_of_length, word_in, kind_in, operator_in, property_in};

@@ -273,14 +273,14 @@ impl KeptLayout {
     pub fn itemsize(&self) -> usize
         ensures { result ≡ self.now.itemsize }
     {
-        self.descriptor.itemsize()
+        self.descriptor.itemsize
     }
 
     /// Whether the items may only be read.
     pub fn is_readonly(&self) -> bool
         ensures { result ≡ self.now.readonly }
     {
-        self.descriptor.readonly()
+        self.descriptor.readonly
     }
 
     /// Whether the items lie one after the other.
@@ -295,7 +295,7 @@ impl KeptLayout {
     pub fn nbytes(&self) -> usize
         ensures { result ≡ nbytes_of self.now }
     {
-        self.descriptor.len()
+        self.descriptor.len
     }
 
     /// The number of dimensions.
@@ -303,7 +303,7 @@ impl KeptLayout {
         ensures value { result ≡ length self.now.shape }
         ensures few { result ≤ 64 }
     {
-        self.descriptor.ndim()
+        self.descriptor.dim_desc().len()
     }
 
     /// Whether a dimension has no entry.
@@ -345,7 +345,7 @@ impl KeptLayout {
     pub fn format_text(&self) -> &Text
         ensures { result.now ≡ self.now.format }
     {
-        self.descriptor.format_text()
+        &self.descriptor.format
     }
 
     /// Whether the items lie one after the other in the order of Fortran, too.

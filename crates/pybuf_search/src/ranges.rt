@@ -6,7 +6,6 @@ ghost use Rattle.pybuf_search.specs.Places as places;
 ghost use Rattle.pybuf_search.specs.Ranges.{IsSearch};
 ghost use Rattle.pybuf_search.specs.Ranges as spec;
 
-use crate::bounds::StringRange;
 use crate::places::{first_place, last_place, number_of_matches};
 use std::ops::Range;
 
@@ -24,7 +23,7 @@ pub fn place_in_range<F: Fn(&[u8], &[u8]) -> Option<usize>>(
     ensures function { (search : List ℕ → List ℕ → Option ℕ) → IsSearch (F.post find) search → result ≡ spec.place_in_range search bytes.now needle.now range }
     ensures call { spec.IsPlaceInRange (FnReturnsAtPair F.Fn find) bytes.now needle.now range result }
 {
-    if !range.is_normal() {
+    if range.start > range.end {
         return None;
     }
     let start = range.start;
@@ -58,7 +57,7 @@ pub fn number_in_range(bytes: &[u8], needle: &[u8], range: Range<usize>) -> usiz
     requires { range.end ≤ length bytes.now }
     ensures { result ≡ spec.number_in_range bytes.now needle.now range }
 {
-    if !range.is_normal() {
+    if range.start > range.end {
         return 0;
     }
     number_of_matches(&bytes[range], needle)

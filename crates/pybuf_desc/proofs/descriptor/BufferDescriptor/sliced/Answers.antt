@@ -1,5 +1,6 @@
 use Rattle.std.proofs.Common.{rules, arith, ◌≡◌, ◌<◌, ◌^◌, ◌*◌, pos, ◌+ℤ◌, ◌*ℤ◌, ◌≤ℤ◌, ◌<ℤ◌, SFits, w64, sym, ap, ◌∙◌, subst, pos_of_ne-zero}
 use Rattle.pybuf_index.specs.Parts.{nearest_word}
+use Rattle.pybuf_desc.specs.Descriptor.{Descriptor}
 use Rattle.pybuf_desc.specs.Places.{Stands}
 use Rattle.pybuf_desc.specs.Valid.{IsValid}
 use Rattle.pybuf_desc.specs.Slices.{slice_of}
@@ -47,7 +48,7 @@ returns-then-count-eq0-clause-valid c =
     descriptor_is c.args.self.now c.in_ok-descriptor.descriptor c.len_of_entries-len.result c.adjust_indices-step.result.2 (bits c.stride_after.result) (nearest_word ((dim_at c.args.self.now.dims 0).1 *ℤ c.args.slice.now.step)) stride c.in_ok-descriptor.ensures in
     λ room valid.
     subst (λ d. IsValid d c.args.start room) made
-    (made_valid c.args.self.now c.args.start c.args.slice.now c.adjust_indices-step.result.0.start c.adjust_indices-step.result.0.end c.adjust_indices-step.result.2 c.args.start c.len_of_entries-len.result call (λ h. absurd (omega (arith, h, c.if-count-eq0.true))) (λ entry e. c.len_of_entries-len.ensures entry (c.len.ensures ∙ e ∙ ap (λ ds. (dim_at ds 0).0 * entry) (sym c.dim_desc-dims.ensures))) room valid)
+    (made_valid c.args.self.now c.args.start c.args.slice.now c.adjust_indices-step.result.0.start c.adjust_indices-step.result.0.end c.adjust_indices-step.result.2 c.args.start c.len_of_entries-len.result call (λ h. absurd (omega (arith, h, c.if-count-eq0.true))) (λ entry e. c.len_of_entries-len.ensures entry (ap (λ (d : Descriptor). d.len) c.self.view_is ∙ e ∙ ap (λ ds. (dim_at ds 0).0 * entry) (sym c.dim_desc-dims.ensures))) room valid)
 
 pub first_of_span-first-requires : goal.first_of_span-first-requires
 first_of_span-first-requires c =
@@ -158,7 +159,7 @@ returns-clause-valid c =
     next_is c.args.self.now c.dim_desc-dims.result.now c.args.start c.entry_place-next.result c.first_of_span-first.result (span_first c.adjust_indices-step.result.0.start c.adjust_indices-step.result.0.end c.args.slice.now.step) c.dim_desc-dims.ensures fs first c.entry_place-next.ensures in
     λ room valid.
     subst (λ d. IsValid d c.entry_place-next.result room) made
-    (made_valid c.args.self.now c.args.start c.args.slice.now c.adjust_indices-step.result.0.start c.adjust_indices-step.result.0.end c.adjust_indices-step.result.2 c.entry_place-next.result c.len_of_entries-len.result call (λ _. next) (λ entry e. c.len_of_entries-len.ensures entry (c.len.ensures ∙ e ∙ ap (λ ds. (dim_at ds 0).0 * entry) (sym c.dim_desc-dims.ensures))) room valid)
+    (made_valid c.args.self.now c.args.start c.args.slice.now c.adjust_indices-step.result.0.start c.adjust_indices-step.result.0.end c.adjust_indices-step.result.2 c.entry_place-next.result c.len_of_entries-len.result call (λ _. next) (λ entry e. c.len_of_entries-len.ensures entry (ap (λ (d : Descriptor). d.len) c.self.view_is ∙ e ∙ ap (λ ds. (dim_at ds 0).0 * entry) (sym c.dim_desc-dims.ensures))) room valid)
 
 pub returns-clause-exact : goal.returns-clause-exact
 returns-clause-exact c =
