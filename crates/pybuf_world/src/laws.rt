@@ -127,9 +127,10 @@ pub fn loans_of_worlds_fit()
     pybuf_state::subjects_fit();
 }
 
-/// `set` of a view by a slice, where it isn't refused, is by value on a sound world: item j of the target is afterwards
-/// item j of the source as it was before the command, for all strides of both, be the source bytes that are given, the same exporter or a view of it, or another exporter or a view of that. Every
-/// byte that is of no item of the target stays, and so do the length, the kind, the views and the iterators; and nothing
+/// `set` of a view by a slice, where it isn't refused, is by value on a sound world: item j of the target is
+/// afterwards item j of the source as it was before the command, for all strides of both, be the source bytes
+/// that are given, the same exporter or a view of it, or another exporter or a view of that. Every byte that is
+/// of no item of the target stays, and so do the length, the kind, the views and the iterators; and nothing
 /// else of the world changes.
 pub fn world_steps_assign_by_value()
     ensures { WorldStepsAssignByValue }
