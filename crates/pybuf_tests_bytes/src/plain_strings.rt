@@ -86,9 +86,13 @@ fn bytes_are_replaced_and_decoded(rt: HostRuntime) -> Result<(), Fail> {
     assert_eq!(rt; between.as_slice(), b".k.ey=a,b,,c=key".as_slice());
     let text = ByteStr::new(b"\xc3\xa9").decode(alloc, None, None)?;
     assert_eq!(rt; text.as_str(), "é");
-    let ascii = ByteStr::new(b"\xc3\xa9").decode(alloc, Some("ascii"), Some("strict")).err();
+    let ascii = ByteStr::new(b"\xc3\xa9")
+        .decode(alloc, Some("ascii"), Some("strict"))
+        .err();
     assert_eq!(rt; ascii, Some(Halt::Refused(Fault::Value)));
-    let none = ByteStr::new(b"\xff").decode(alloc, Some("utf-8"), None).err();
+    let none = ByteStr::new(b"\xff")
+        .decode(alloc, Some("utf-8"), None)
+        .err();
     assert_eq!(rt; none, Some(Halt::Refused(Fault::Value)));
     Ok(())
 }
