@@ -1,6 +1,6 @@
 //! Values made of Rust's, and answers as one result.
 use pybuf_view::{
-    Answer, Fault, Halt, Loan, LoanList, PyByteArray, PySlice, Scalar, Subject, Value,
+    Answer, Fault, FitLoans, Halt, Loan, LoanList, PyByteArray, PySlice, Scalar, Subject, Value,
 };
 use std::alloc::Global;
 use std::test::Fail;
@@ -45,6 +45,9 @@ fn assign(
     };
     let mut loans = LoanList::new(alloc);
     loans.push((7, Loan::Other(snap)))?;
+    if !loans.fit(alloc)? {
+        return Err(Halt::Refused(Fault::Value));
+    }
     let named = Value::One(Scalar::Handle(7));
     array.setitem(Value::from(slice), named, loans).done()?;
     Ok(())

@@ -38,7 +38,10 @@ fn records_are_read_and_written(rt: HostRuntime) -> Result<(), Fail> {
     assert_eq!(rt; later.numbers::<2>(), Ok([1, 2]));
     let mut room = [0u8; 8];
     assert_eq!(rt; format.pack_at(&mut room, 2, later.as_slice()), Ok(()));
-    assert_eq!(rt; format.pack_at(&mut room, 3, later.as_slice()), Err(Fault::Struct));
+    assert_eq!(rt;
+        format.pack_at(&mut room, 3, later.as_slice()),
+        Err(Fault::Struct)
+    );
     Ok(())
 }
 

@@ -76,9 +76,15 @@ fn refusals_are_one_result(rt: HostRuntime) -> Result<(), Fail> {
     let struct_error = Halt::Refused(Fault::Struct);
     assert_eq!(rt; FormatSpec::from_str(alloc, "<n").err(), Some(struct_error));
     let format = FormatSpec::from_str(alloc, "<H")?;
-    assert_eq!(rt; format.unpack_values(alloc, b"abc").err(), Some(struct_error));
+    assert_eq!(rt;
+        format.unpack_values(alloc, b"abc").err(),
+        Some(struct_error)
+    );
     let number = [Scalar::from(70000)];
-    assert_eq!(rt; format.pack_values(alloc, &number).err(), Some(struct_error));
+    assert_eq!(rt;
+        format.pack_values(alloc, &number).err(),
+        Some(struct_error)
+    );
     assert_eq!(rt; format.pack_values(alloc, &[]).err(), Some(struct_error));
     let mut room = *b"abc";
     assert_eq!(rt; format.pack_at(&mut room, 1, &number), Err(Fault::Struct));

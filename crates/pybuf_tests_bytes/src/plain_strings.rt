@@ -1,6 +1,7 @@
 //! The methods of strings of bytes with plain arguments. What is expected is what CPython 3.11 answers.
-use pybuf_bytes::ByteStr;
+use pybuf_bytes::{ByteStr, PyBytesInner};
 use pybuf_value::{ByteLists, Fault, Halt};
+use std::convert::AsSlice;
 use std::test::Fail;
 
 /// What is searched for in `TEXT`, the bounds, and what `find`, `rfind`, `count`, `startswith` and
@@ -86,9 +87,26 @@ fn bytes_are_replaced_and_decoded(rt: HostRuntime) -> Result<(), Fail> {
     assert_eq!(rt; between.as_slice(), b".k.ey=a,b,,c=key".as_slice());
     let text = ByteStr::new(b"\xc3\xa9").decode(alloc, None, None)?;
     assert_eq!(rt; text.as_str(), "é");
-    let ascii = ByteStr::new(b"\xc3\xa9").decode(alloc, Some("ascii"), Some("strict")).err();
+    let ascii = ByteStr::new(b"\xc3\xa9")
+        .decode(alloc, Some("ascii"), Some("strict"))
+        .err();
     assert_eq!(rt; ascii, Some(Halt::Refused(Fault::Value)));
-    let none = ByteStr::new(b"\xff").decode(alloc, Some("utf-8"), None).err();
+    let none = ByteStr::new(b"\xff")
+        .decode(alloc, Some("utf-8"), None)
+        .err();
     assert_eq!(rt; none, Some(Halt::Refused(Fault::Value)));
+    Ok(())
+}
+
+fn length_of<S: AsSlice<u8>>(bytes: &S) -> usize {
+    bytes.as_slice().len()
+}
+
+#[test]
+fn strings_are_slices(rt: HostRuntime) -> Result<(), Fail> {
+    let vec = Vec::from_slice(rt.alloc(), b"ab")?;
+    let string: PyBytesInner = vec.into();
+    assert_eq!(rt; string.first(), Some(&97));
+    assert_eq!(rt; length_of(&string), 2);
     Ok(())
 }

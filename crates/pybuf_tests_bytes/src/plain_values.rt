@@ -34,7 +34,10 @@ fn ranges_are_slices(rt: HostRuntime) -> Result<(), Fail> {
     assert_eq!(rt; Value::slice(1..5), Value::Slice(part));
     let back = PySlice::new(None, None, Some(-2));
     assert_eq!(rt; back.step, Scalar::Int(-2));
-    assert_eq!(rt; Value::from(back), Value::slice(PySlice::new(None, None, Some(-2))));
+    assert_eq!(rt;
+        Value::from(back),
+        Value::slice(PySlice::new(None, None, Some(-2)))
+    );
     Ok(())
 }
 
@@ -43,7 +46,10 @@ fn bytes_and_texts_are_values(rt: HostRuntime) -> Result<(), Fail> {
     let alloc = rt.alloc();
     let bytes = ByteList::from_slice(alloc, b"ab")?;
     assert_eq!(rt; bytes[1], 98);
-    assert_eq!(rt; Value::bytes(alloc, b"ab")?, Value::One(Scalar::Bytes(bytes)));
+    assert_eq!(rt;
+        Value::bytes(alloc, b"ab")?,
+        Value::One(Scalar::Bytes(bytes))
+    );
     let text = Text::from_string(String::from_str(alloc, "H")?);
     assert_eq!(rt; Value::text(alloc, "H")?, Value::One(Scalar::Text(text)));
     assert!(rt; Value::text(alloc, "H")? != Value::bytes(alloc, b"H")?);
