@@ -10,7 +10,7 @@ ghost use Rattle.pybuf_cli.specs.declared.devices.PutFault.{PutFault};
 use crate::devices::{PutFault, Sink};
 use crate::loops::{PIECE, write_all};
 use pybuf_command::Command;
-use pybuf_line::{Unread, command_of_line, next_line, push_reply};
+use pybuf_line::{Unread, command_of_line, let_go, next_line, push_reply_line};
 use pybuf_value::{Made, NoMemory};
 use pybuf_world::World;
 use std::alloc::Global;
@@ -34,11 +34,7 @@ fn answer_command(world: &mut World, command: &Command, text: &mut Vec<u8>) -> M
     ensures { OnOk result (IsCarriedOut world.old command.now text.old.items world.new text.new.items) }
 {
     match world.step(command) {
-        Ok(reply) => {
-            push_reply(text, &reply)?;
-            text.push(b'\n')?;
-            Ok(())
-        }
+        Ok(reply) => push_reply_line(text, &reply),
         Err(NoMemory) => Err(NoMemory),
     }
 }
@@ -61,9 +57,7 @@ fn answer_line<'a>(
         Err(Unread::NoMemory) => Err(NoMemory),
         Err(Unread::NoCommand) => unreachable!(),
     };
-    if let Ok(command) = read {
-        command.let_go();
-    }
+    let_go(read);
     answered
 }
 

@@ -20,10 +20,10 @@ pub enum Command {
     },
 }
 
-/// Lets go of a verb that `Command::let_go` doesn't take apart.
+/// Lets go of a command that `Command::let_go` doesn't take apart.
 #[inline(never)]
-fn let_verb_go(verb: Verb) {
-    drop(verb)
+fn let_any_go(command: Command) {
+    drop(command)
 }
 
 impl Command {
@@ -32,19 +32,31 @@ impl Command {
     /// are taken apart by themselves.
     pub fn let_go(self) {
         match self {
-            Command::New { kind: _, options } => drop(options),
-            Command::Do { subject: _, verb } => match verb {
-                Verb::Get { key } => drop(key),
-                Verb::Set { key, value } => {
-                    drop(key);
-                    drop(value);
-                }
-                Verb::Append { value } => drop(value),
-                Verb::Call { method } => drop(method),
-                Verb::View | Verb::ToBytes | Verb::Release | Verb::Len | Verb::Iter | Verb::Next =>
-                    {}
-                other => let_verb_go(other),
-            },
+            Command::Do {
+                subject: _,
+                verb: Verb::Get { key },
+            } => drop(key),
+            Command::Do {
+                subject: _,
+                verb: Verb::Set { key, value },
+            } => {
+                drop(key);
+                drop(value);
+            }
+            Command::Do {
+                subject: _,
+                verb: Verb::Append { value },
+            } => drop(value),
+            Command::Do {
+                subject: _,
+                verb: Verb::View
+                | Verb::ToBytes
+                | Verb::Release
+                | Verb::Len
+                | Verb::Iter
+                | Verb::Next,
+            } => {}
+            other => let_any_go(other),
         }
     }
 }

@@ -6,7 +6,15 @@ ghost use Rattle.pybuf_line.specs.Reading.{ChecksAll};
 use crate::parsing::command_of_line;
 use crate::splitting::next_line;
 use crate::unread::{Misread, Unread};
+use pybuf_command::Command;
 use std::alloc::Global;
+
+/// Lets go of a command that was read.
+pub fn let_go(read: Result<Command, Unread>) {
+    if let Ok(command) = read {
+        command.let_go();
+    }
+}
 
 /// That each line of an input is a command, or the first line that is none.
 pub fn check_lines(alloc: Global, input: &[u8]) -> Result<(), Misread>

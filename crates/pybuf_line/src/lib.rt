@@ -14,7 +14,7 @@ mod unread;
 mod verbs;
 mod words;
 
-pub use inputs::check_lines;
+pub use inputs::{check_lines, let_go};
 pub use laws::{
     commands_are_of_lines, commands_read_back, enclosed_is_between, items_stand_in_order,
     kinds_read_back, lines_are_the_input, method_names_read_back, nesting_is_the_shape,
@@ -23,6 +23,6 @@ pub use laws::{
 };
 pub use parsing::{command, command_of_line};
 pub use splitting::next_line;
-pub use texts::{push_bad_line, push_reply};
+pub use texts::{push_bad_line, push_reply, push_reply_line};
 pub use unread::{Misread, Unread};
 pub use words::is_word;

@@ -3,7 +3,7 @@ ghost use Rattle.std.specs.Prelude.{◌≡◌, ◌++◌, List, ℕ, OnOk, decima
 ghost use Rattle.std.specs.Fmt.{signed_decimal};
 ghost use Rattle.std.specs.List.{flat_map};
 ghost use Rattle.pybuf_value.specs.Spelling.{bytes_text, handle_text, scalar_text};
-ghost use Rattle.pybuf_line.specs.Replies.{next_part_text, tuple_text, item_text, list_text, nested_text, reply_text, bad_line_text};
+ghost use Rattle.pybuf_line.specs.Replies.{next_part_text, tuple_text, item_text, list_text, nested_text, reply_text, reply_line, bad_line_text};
 
 use itoa::Buffer;
 use pybuf_command::Reply;
@@ -165,6 +165,15 @@ pub fn push_reply(out: &mut Vec<u8>, reply: &Reply) -> Made<()>
             out.extend_from_slice(fault.python_name().as_bytes())?;
         }
     }
+    Ok(())
+}
+
+/// Adds a reply and its line feed.
+pub fn push_reply_line(out: &mut Vec<u8>, reply: &Reply) -> Made<()>
+    ensures { OnOk result (out.new.items ≡ out.old.items ++ reply_line handle_text reply.now) }
+{
+    push_reply(out, reply)?;
+    out.push(b'\n')?;
     Ok(())
 }
 

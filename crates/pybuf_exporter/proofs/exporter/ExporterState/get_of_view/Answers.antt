@@ -13,3 +13,9 @@ invariant_of-self c =
       sound = closes_sound e (exporter_of c.get_of_view.new.parts) c.get_of_view.result (answer_of e (subjects.View c.args.view) (verbs.Get c.args.key.now) c.args.loans.now) c.get_of_view.ensures.answer c.self.invariant.sound
           (c.commands_keep_sound.ensures e (subjects.View c.args.view) (verbs.Get c.args.key.now) c.args.loans.now c.self.invariant.sound);
     }
+
+pub returns-clause-ok : goal.returns-clause-ok
+returns-clause-ok c =
+    let e = exporter_of c.self.inside.parts in
+    rw (← c.self.view_is)
+    (c.closed.ensures.ok (answer_of e (subjects.View c.args.view) (verbs.Get c.args.key.now) c.args.loans.now) e (exporter_of c.get_of_view.new.parts) c.get_of_view.ensures.answer)

@@ -13,3 +13,9 @@ invariant_of-self c =
       sound = closes_sound e (exporter_of c.pop.new.parts) c.pop.result (answer_of e subjects.Own (verbs.Pop c.args.index.now) c.args.loans.now) c.pop.ensures.answer c.self.invariant.sound
           (c.commands_keep_sound.ensures e subjects.Own (verbs.Pop c.args.index.now) c.args.loans.now c.self.invariant.sound);
     }
+
+pub returns-clause-ok : goal.returns-clause-ok
+returns-clause-ok c =
+    let e = exporter_of c.self.inside.parts in
+    rw (← c.self.view_is)
+    (c.closed.ensures.ok (answer_of e subjects.Own (verbs.Pop c.args.index.now) c.args.loans.now) e (exporter_of c.pop.new.parts) c.pop.ensures.answer)
