@@ -6,7 +6,7 @@ use Rattle.pybuf_slice.specs.Edits.{replaced_range}
 -- what is written behind the room, seen without the room
 pub write_behind : {X : Type 0} → (i n : ℕ) (xs ws : List X) → length xs ≡ n → i ≤ n
     → drop i (take n ((take i xs ++ (ws ++ drop (length ws) (drop i xs))) ++ drop (length (take i xs ++ (ws ++ drop (length ws) (drop i xs)))) xs))
-      ≡ take (length (drop i xs)) (ws ++ drop (length ws) (drop i xs))
+    ≡ take (length (drop i xs)) (ws ++ drop (length ws) (drop i xs))
 write_behind i n xs ws e l =
     let rest = drop i xs in
     let over = ws ++ drop (length ws) rest in
@@ -17,7 +17,7 @@ write_behind i n xs ws e l =
     let at : length (take i xs) ≡ i = length-take-le i xs (omega (arith, e, l)) in
     let inner : drop i long ≡ over = drop_at (take i xs) over i at in
     let early : drop i all ≡ over ++ drop (length long) xs =
-        drop-append-le i long (drop (length long) xs) (omega (arith, at, length-append (take i xs) over)) ∙ ap (λ k. k ++ drop (length long) xs) inner in
+    drop-append-le i long (drop (length long) xs) (omega (arith, at, length-append (take i xs) over)) ∙ ap (λ k. k ++ drop (length long) xs) inner in
     let enough : length rest ≤ length over = omega (arith, length-append ws (drop (length ws) rest), length-drop (length ws) rest) in
     ap (λ k. drop i (take k all)) (sym whole) ∙ drop-take i (n - i) all ∙ ap (take (n - i)) early ∙ ap (λ k. take k (over ++ drop (length long) xs)) (sym count) ∙ take-append-le (length rest) over (drop (length long) xs) enough
 
