@@ -1,13 +1,22 @@
--- A law of what a run writes.
-use Rattle.std.specs.Prelude.{ℕ, List}
+-- Laws of what a run writes, and of scripts.
+use Rattle.std.specs.Prelude.{◌≡◌, ℕ, ◌≤◌, List, Ok}
 use Rattle.std.specs.List.{AllByRecursion}
 use Rattle.pybuf_command.specs.declared.worlds.Command.{Command}
 use Rattle.pybuf_world.specs.World.{World, replies_of}
+use Rattle.pybuf_make.specs.Script.{script}
+use Rattle.pybuf_line.specs.Scalars.{handle_in}
+use Rattle.pybuf_line.specs.Lines.{commands_in}
 use Rattle.pybuf_line.specs.Replies.{reply_text}
 use Rattle.pybuf_line.specs.Laws.{IsOneLine}
+use Rattle.pybuf_cli.specs.Scripts.{script_text}
 
 -- The text of each reply of a run is one line, of whatever commands in whatever world and whatever the names of handles
 -- are, if each of these is one line. So there is one line for each reply.
 abbrev pub RunsStaySingle : Type 0
 RunsStaySingle = (name : ℕ → List ℕ) → ((n : ℕ) → IsOneLine (name n)) → (w : World) (commands : List Command) →
     AllByRecursion (λ r. IsOneLine (reply_text name r)) (replies_of w commands)
+
+-- The lines of a script's text are commands, and they are those of the script. So what is told of a script's run is what
+-- counting the replies to that text would give.
+abbrev pub ScriptsAreSpelled : Type 0
+ScriptsAreSpelled = (n : ℕ) → n ≤ 4096 → commands_in handle_in (script_text n) ≡ Ok (script n)
