@@ -7,3 +7,4 @@ pub mod OneForm
 pub mod ReplyLaws
 pub mod ScriptLaws
 pub mod ScriptNumbers
+pub mod ScriptLengths
