@@ -22,7 +22,6 @@ fn first_bytes(world: &World) -> &[u8]
 fn sum(bytes: &[u8]) -> u128
     ensures { result ≡ sum bytes.now }
 {
-    let _ = bytes.len();
     bytes.iter().map(|&b| u128::from(b)).sum()
 }
 
