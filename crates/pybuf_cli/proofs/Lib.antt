@@ -5,3 +5,6 @@ pub mod Sending
 pub mod Running
 pub mod OneForm
 pub mod ReplyLaws
+pub mod ScriptLaws
+pub mod ScriptNumbers
+pub mod ScriptLengths

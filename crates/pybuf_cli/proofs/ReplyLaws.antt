@@ -1,5 +1,5 @@
 -- Each reply of a run is one line.
-use Rattle.std.proofs.Common.{◌≡◌, ℕ, Bool, true, false, List, [], ◌∷◌, ◌==◌, not, refl}
+use Rattle.std.proofs.Common.{◌≡◌, Bool, true, false, [], ◌∷◌, ◌==◌, not, refl}
 use Rattle.std.specs.List.{list_any}
 use Rattle.pybuf_command.specs.declared.worlds.Command.{Command}
 use Rattle.pybuf_world.specs.World.{World, wstep}

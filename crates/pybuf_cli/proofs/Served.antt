@@ -86,3 +86,6 @@ quiet_front f input told held_before held out same empty kept front =
       omega (arith, front.1, ap (λ x. length (text_due f x)) same),
       kept ∙ (held_is held_before held (take n (text_due f told)) empty front.2 ∙ ap (λ x. take n (text_due f x)) same),
     )
+
+pub quiet_made : (text held_before held out : List ℕ) → held_before ≡ [] → out ≡ held → Put (Some held_before) text (Some held) → out ≡ text
+quiet_made text held_before held out empty kept put = kept ∙ held_is held_before held text empty put

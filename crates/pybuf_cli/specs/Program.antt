@@ -1,9 +1,11 @@
 -- What the program does with its words and its input.
-use Rattle.std.specs.Prelude.{◌≡◌, ◌≢◌, ◌↔◌, ◌⊎◌, ℕ, ◌<◌, ◌≤◌, suc, List, [], ◌∷◌, length, drop, codes, nat_lt, Option, Some, None, Result, Ok, Err, if◌then◌else◌}
+use Rattle.std.specs.Prelude.{◌≡◌, ◌≢◌, ◌↔◌, ◌⊎◌, ℕ, ◌<◌, ◌≤◌, suc, List, [], ◌∷◌, length, drop, codes, nat_lt, nat_le, ◌&&◌, decimal, Option, Some, None, Result, Ok, Err, if◌then◌else◌}
 use Rattle.std.specs.Str.{bytes_eq}
+use Rattle.std.specs.Str.Parse.{digits_value}
 use Rattle.pybuf_command.specs.declared.worlds.Command.{Command}
 use Rattle.pybuf_world.specs.World.{empty_world, replies_of}
 use Rattle.pybuf_world.specs.Sound.{StaysSound}
+use Rattle.pybuf_make.specs.Summary.{summary}
 use Rattle.pybuf_cli.specs.declared.forms.Form.{Form}
 use Rattle.pybuf_cli.specs.declared.forms.Form.TheVariants as form
 use Rattle.pybuf_cli.specs.declared.status.Status.{Status}
@@ -18,11 +20,25 @@ use Rattle.pybuf_cli.specs.Devices.{Put, PutPrefix, Rose}
 abbrev pub most : ℕ
 most = 1_048_576
 
--- What the words ask for: a run with none, or with the one word `run`. Other words are no form.
+-- a number, where it is from 1 to 4,096 and the word writes it
+abbrev pub written_number : List ℕ → ℕ → Option ℕ
+written_number word n = if nat_le 1 n && nat_le n 4096 && bytes_eq word (decimal n) then Some n else None
+
+-- The number of a script that a word writes in decimal digits: `decimal` writes no sign and no leading zeros.
+unfoldable pub script_number_in : List ℕ → Option ℕ
+script_number_in word = written_number word (digits_value 10 word)
+
+abbrev pub made : Option ℕ → Option Form
+made (Some n) = Some (form.Make n)
+made None = None
+
+-- What the words ask for: a run with none, or with the one word `run`; with the word `make` and a number, what is told of
+-- the script of that number. Other words are no form.
 abbrev pub form_of : List (List ℕ) → Option Form
 form_of [] = Some form.Run
 form_of (word ∷ []) = if bytes_eq word (codes "run") then Some form.Run else None
-form_of (word ∷ next ∷ more) = None
+form_of (word ∷ number ∷ []) = if bytes_eq word (codes "make") then made (script_number_in number) else None
+form_of (word ∷ number ∷ further ∷ more) = None
 
 -- The program: a line for each reply of a world that begins empty.
 abbrev pub program : List Command → List ℕ
@@ -37,12 +53,15 @@ abbrev pub ending_for : Result (List Command) ℕ → Status
 ending_for (Ok commands) = status.Done
 ending_for (Err n) = status.BadLine
 
--- the text that is due for an input: none for one that is too long
+-- the text that is due for a form and an input: for a run none where the input is too long; a script's summary is due
+-- whatever the input is, which isn't read
 abbrev pub text_due : Form → List ℕ → List ℕ
+text_due (form.Make n) input = summary n
 text_due form.Run input = if nat_lt most (length input) then [] else due_for (commands_in handle_in input)
 
 -- how a form ends over an input where memory suffices and neither source nor sink fails
 abbrev pub ending : Form → List ℕ → Status
+ending (form.Make n) input = status.Done
 ending form.Run input = if nat_lt most (length input) then status.TooLong else ending_for (commands_in handle_in input)
 
 -- All of an input was read, each of its lines is a command, and the text of the replies was put, no
@@ -87,6 +106,12 @@ pub record Serves {S K : Type 0} (words : List (List ℕ)) (result : Status)
       IsBadLine input (bytes_left source) (bytes_held sink_before) (bytes_held sink)
   pub too_long : form_of words ≡ Some form.Run → result ≡ status.TooLong → (input : List ℕ) → bytes_left source_before ≡ Some input →
       IsTooLong input (bytes_left source)
+  -- The form `make`, whatever the source tells: it isn't read.
+  pub made : (n : ℕ) → form_of words ≡ Some (form.Make n) → result ≡ status.Done → Put (bytes_held sink_before) (summary n) (bytes_held sink)
+  pub made_prefix : (n : ℕ) → form_of words ≡ Some (form.Make n) → PutPrefix (bytes_held sink_before) (summary n) (bytes_held sink)
+  pub made_reads_nothing : (n : ℕ) → form_of words ≡ Some (form.Make n) → source ≡ source_before
+  pub made_ends : (n : ℕ) → form_of words ≡ Some (form.Make n) →
+      (result ≡ status.Done) ⊎ ((result ≡ status.NoMemory) ⊎ (result ≡ status.WriteFault))
   -- Each form, where the source tells its bytes.
   pub prefix : (f : Form) → form_of words ≡ Some f → (input : List ℕ) → bytes_left source_before ≡ Some input →
       PutPrefix (bytes_held sink_before) (text_due f input) (bytes_held sink)

@@ -1,7 +1,8 @@
 //! What the words after the program's name ask for.
 ghost use Rattle.std.specs.Prelude.{◌≡◌};
-ghost use Rattle.pybuf_cli.specs.Program.{form_of};
+ghost use Rattle.pybuf_cli.specs.Program.{script_number_in, form_of};
 
+use itoa::Buffer;
 use pybuf_line::is_word;
 use pybuf_value::Text;
 
@@ -10,6 +11,33 @@ use pybuf_value::Text;
 pub enum Form {
     /// To run the commands of its input, a line each.
     Run,
+    /// To run the script of a number, from 1 to 4,096, and to tell of its run.
+    Make(u16),
+}
+
+/// The greatest number of a script.
+const MOST_ROUNDS: u16 = 4096;
+
+/// The number of a script that a word writes in decimal digits, without a sign and without leading
+/// zeros.
+fn script_number(word: &Text) -> Option<u16>
+    ensures { result ≡ script_number_in word.now }
+{
+    let Ok(number) = word.as_str().parse::<u16>() else {
+        return None;
+    };
+    if number == 0 {
+        return None;
+    }
+    if number > MOST_ROUNDS {
+        return None;
+    }
+    // a sign and leading zeros are read too, and never written
+    let mut buffer = Buffer::new();
+    if is_word(word.as_slice(), buffer.format(number)) {
+        return Some(number);
+    }
+    None
 }
 
 /// What the words ask for: `None` exactly where they are none that the program knows.
@@ -21,6 +49,15 @@ pub fn form_named(words: &[Text]) -> Option<Form>
         [word] => {
             if is_word(word.as_slice(), "run") {
                 return Some(Form::Run);
+            }
+            None
+        }
+        [word, number] => {
+            if is_word(word.as_slice(), "make") {
+                return match script_number(number) {
+                    Some(number) => Some(Form::Make(number)),
+                    None => None,
+                };
             }
             None
         }

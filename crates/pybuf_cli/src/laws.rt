@@ -1,7 +1,7 @@
 //! Laws of the definitions that the contracts cite. Each stands on a function that only calls other laws.
-ghost use Rattle.pybuf_cli.specs.Laws.{RunsStaySingle};
+ghost use Rattle.pybuf_cli.specs.Laws.{RunsStaySingle, ScriptsAreSpelled, ScriptsAreRun};
 
-use pybuf_line::replies_are_single_lines;
+use pybuf_line::{commands_read_back, replies_are_single_lines};
 use pybuf_world::world_shown_texts_are_one_line;
 
 /// The text of each reply of a run is one line, of whatever commands in whatever world and whatever the
@@ -11,4 +11,14 @@ pub fn runs_reply_single_lines()
 {
     replies_are_single_lines();
     world_shown_texts_are_one_line();
+}
+
+/// The commands of a script are those of the lines of its text, which isn't too long to be read. So
+/// `make` with a number tells what counting the replies of `run` on that text would give.
+pub fn scripts_are_spelled()
+    ensures spelled { ScriptsAreSpelled }
+    ensures run { ScriptsAreRun }
+{
+    commands_read_back();
+    replies_are_single_lines();
 }

@@ -14,7 +14,7 @@ mod writing;
 pub use adapters::{ReaderSource, WriterSink};
 pub use devices::{Failed, PutFault, Sink, Source};
 pub use forms::{Form, form_named};
-pub use laws::runs_reply_single_lines;
+pub use laws::{runs_reply_single_lines, scripts_are_spelled};
 pub use memory::{QuietSink, QuietSource};
 pub use serving::{serve, serve_alone, serve_bytes};
 pub use status::Status;

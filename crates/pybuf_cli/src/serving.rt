@@ -7,6 +7,7 @@ ghost use Rattle.pybuf_cli.specs.Devices.{Put, PutPrefix, Rose};
 ghost use Rattle.pybuf_line.specs.Scalars.{handle_in};
 ghost use Rattle.pybuf_line.specs.Lines.{commands_in};
 ghost use Rattle.pybuf_line.specs.Replies.{bad_line_text};
+ghost use Rattle.pybuf_make.specs.Summary.{summary};
 ghost use Rattle.pybuf_cli.specs.declared.forms.Form.{Form};
 ghost use Rattle.pybuf_cli.specs.Running.{AreSpelled};
 ghost use Rattle.pybuf_cli.specs.Program.{form_of, program, due_for, ending_for, text_due, ending, IsDone, IsBadLine, IsTooLong, Serves};
@@ -18,6 +19,7 @@ use crate::memory::{QuietSink, QuietSource};
 use crate::status::Status;
 use crate::writing::run_lines;
 use pybuf_line::{Misread, check_lines, push_bad_line};
+use pybuf_make::make_summary;
 use pybuf_value::{ByteList, Made, Text};
 use pybuf_world::runs_stay_sound;
 use std::alloc::Global;
@@ -112,12 +114,33 @@ fn run<S: Source, K: Sink>(alloc: Global, source: &mut S, sink: &mut K) -> Statu
     }
 }
 
+/// Runs the script of a number, and puts what is told of its run.
+fn make<K: Sink>(alloc: Global, sink: &mut K, number: u16) -> Status
+    ensures put { result ≡ Status.Done → Put (K.bytes_held sink.old) (summary number) (K.bytes_held sink.new) }
+    ensures prefix { PutPrefix (K.bytes_held sink.old) (summary number) (K.bytes_held sink.new) }
+    ensures rose { result ≡ Status.WriteFault → Rose (K.faults sink.old) (K.faults sink.new) }
+    ensures ending { (result ≡ Status.Done) ⊎ ((result ≡ Status.NoMemory) ⊎ (result ≡ Status.WriteFault)) }
+{
+    match make_summary(alloc, number) {
+        Ok(text) => match write_all(sink, text.as_slice()) {
+            Ok(()) => Status::Done,
+            Err(PutFault::Failed) => Status::WriteFault,
+            Err(PutFault::NoMemory) => Status::NoMemory,
+        },
+        Err(_) => Status::NoMemory,
+    }
+}
+
 /// Does all that the program `pybuf` does, but for forms of words that need more than one thread.
 ///
 /// With no word, or with the one word `run`, it reads the whole input, at most 1,048,576 bytes,
 /// looks whether each line is a command, runs them in order in a new world, and puts one line for
 /// each reply. What it needs more memory for is given up with `NoMemory` at any point; what was put then
-/// is the front of what was due. Other words are refused with `Usage`.
+/// is the front of what was due.
+///
+/// With the word `make` and a number from 1 to 4,096 it reads nothing: it makes the script of that
+/// number command by command, runs it in a new world, and puts the five lines that tell of its run.
+/// Other words are refused with `Usage`.
 ///
 /// It ends where each call of the source and of the sink does.
 pub fn serve_alone<S: Source, K: Sink>(
@@ -131,6 +154,7 @@ pub fn serve_alone<S: Source, K: Sink>(
     match form_named(words) {
         None => Status::Usage,
         Some(Form::Run) => run(alloc, source, sink),
+        Some(Form::Make(number)) => make(alloc, sink, number),
     }
 }
 
@@ -143,6 +167,7 @@ pub fn serve_bytes(alloc: Global, words: &[Text], input: ByteList) -> (ByteList,
         (commands : List Command) × (commands_in handle_in input ≡ Ok commands) × (result.0 ≡ program commands) }
     ensures bad_line { form_of words.now ≡ Some Form.Run → result.1 ≡ Status.BadLine →
         (line : ℕ) × (commands_in handle_in input ≡ Err line) × (result.0 ≡ bad_line_text line) }
+    ensures made { (n : ℕ) → form_of words.now ≡ Some (Form.Make n) → result.1 ≡ Status.Done → result.0 ≡ summary n }
     ensures prefix { (f : Form) → form_of words.now ≡ Some f →
         (count : ℕ) × (count ≤ length (text_due f input)) × (result.0 ≡ take count (text_due f input)) }
     ensures complete { (f : Form) → form_of words.now ≡ Some f →

@@ -1,0 +1,3 @@
+pub mod Script
+pub mod Summary
+pub mod Counting
