@@ -20,6 +20,7 @@ import sys
 
 sys.dont_write_bytecode = True
 
+import case_files
 from python_objects import NATIVE_CODES, AsWritten, World
 
 CASES = pathlib.Path(__file__).parent.parent / "cases"
@@ -6360,24 +6361,5 @@ def files():
     yield CASES / "differences.txt", text(table)
 
 
-def main():
-    made = dict(files())
-    # (what else lies in `cases/` itself is not made here)
-    beside = {path for folder in {path.parent for path in made} - {CASES} for path in folder.glob("*")}
-    old = {path for path in {*made, *beside} if path.is_file()}
-    changed = sorted(path for path in {*made, *old} if path not in old or path not in made or path.read_text() != made[path])
-    for path in changed:
-        print(path.relative_to(CASES.parent))
-        if "--check" in sys.argv:
-            continue
-        if path in made:
-            path.parent.mkdir(parents=True, exist_ok=True)
-            path.write_text(made[path])
-        else:
-            path.unlink()
-    print(f"{len(made)} files, {len(changed)} of them changed")
-    return 1 if changed and "--check" in sys.argv else 0
-
-
 if __name__ == "__main__":
-    sys.exit(main())
+    sys.exit(case_files.put(dict(files()), CASES))

@@ -13,6 +13,8 @@ import sys
 
 sys.dont_write_bytecode = True
 
+import case_files
+
 CASES = pathlib.Path(__file__).resolve().parent.parent / "cases/summaries"
 MOST = 4096
 
@@ -75,22 +77,5 @@ def files():
         yield CASES / f"{name}.stdout", summary(number)
 
 
-def main():
-    made = dict(files())
-    old = set(CASES.glob("*"))
-    changed = sorted(path for path in {*made, *old} if path not in old or path not in made or path.read_text() != made[path])
-    for path in changed:
-        print(path.relative_to(CASES.parent))
-        if "--check" in sys.argv:
-            continue
-        if path in made:
-            path.parent.mkdir(parents=True, exist_ok=True)
-            path.write_text(made[path])
-        else:
-            path.unlink()
-    print(f"{len(made)} files, {len(changed)} of them changed")
-    return 1 if changed and "--check" in sys.argv else 0
-
-
 if __name__ == "__main__":
-    sys.exit(main())
+    sys.exit(case_files.put(dict(files()), CASES.parent))
