@@ -1,12 +1,14 @@
 -- Calls with plain arguments are commands: each changes what its command changes, and its answer is that command's
 -- reply in another form.
-use Rattle.std.specs.Prelude.{◌≡◌, ℕ, ◌<◌, ℤ, pos, true, List, [], Option, None, Some, Result, Ok, Err}
+use Rattle.std.specs.Prelude.{◌≡◌, ℕ, ◌<◌, ℤ, pos, true, false, List, [], Option, None, Some, Result, Ok, Err}
 use Rattle.pybuf_value.specs.declared.faults.Fault.{Fault}
 use Rattle.pybuf_value.specs.declared.faults.Fault.TheVariants as fault
 use Rattle.pybuf_value.specs.declared.values.Scalar.TheVariants as scalar
 use Rattle.pybuf_value.specs.declared.values.Value.{Value}
 use Rattle.pybuf_value.specs.declared.values.Value.TheVariants as value
 use Rattle.pybuf_value.specs.Numbers.{is_word}
+use Rattle.pybuf_value.specs.Making.{slice_of}
+use Rattle.pybuf_value.specs.Refusing.{◌>>=◌}
 use Rattle.pybuf_command.specs.declared.kinds.Subject.TheVariants as subject
 use Rattle.pybuf_command.specs.declared.commands.Verb.{Verb}
 use Rattle.pybuf_command.specs.declared.commands.Verb.TheVariants as verb
@@ -14,8 +16,9 @@ use Rattle.pybuf_command.specs.declared.commands.LocalReply.{LocalReply}
 use Rattle.pybuf_command.specs.declared.commands.LocalReply.TheVariants as reply
 use Rattle.pybuf_memoryview.specs.Items.{byte_item}
 use Rattle.pybuf_state.specs.Exporter.{Exporter}
+use Rattle.pybuf_state.specs.Keeps.{is_vector}
 use Rattle.pybuf_exporter.specs.Step.{estep, settled_answer}
-use Rattle.pybuf_object.specs.Plain.{pushed, extended_by, inserted_at, removed_at, popped_last, emptied}
+use Rattle.pybuf_object.specs.Plain.{byte_at, bytes_of_slice, pushed, extended_by, inserted_at, removed_at, popped_last, emptied, put_at}
 
 -- a whole number as a value
 abbrev pub number_value : ℤ → Value
@@ -65,3 +68,20 @@ PopLastPops = (e : Exporter) → IsCommand byte_or_refusal e (verb.Pop None) (po
 -- `clear`
 abbrev pub ClearAllClears : Type 0
 ClearAllClears = (e : Exporter) → IsCommand done_reply e verb.Clear (emptied e)
+
+-- `set` of an index
+abbrev pub SetSets : Type 0
+SetSets = (e : Exporter) (index : ℤ) (byte : ℕ) → is_word index ≡ true → byte < 256 → IsCommand done_reply e (verb.Set (number_value index) (number_value (pos byte))) (put_at e index byte)
+
+-- `get` of an index: a vector has no such command
+abbrev pub GetGets : Type 0
+GetGets = (e : Exporter) (index : ℤ) → is_word index ≡ true → is_vector e.kind ≡ false → IsCommand byte_or_refusal e (verb.Get (number_value index)) (Ok (e, byte_at e.bytes index))
+
+abbrev pub with_exporter : {X : Type 0} → Exporter → Result X Fault → Result (Exporter × X) Fault
+with_exporter e answer = do
+  x ← answer
+  Ok (e, x)
+
+-- `get` of a slice
+abbrev pub SlicesGet : Type 0
+SlicesGet = (e : Exporter) (start stop step : Option ℤ) → is_vector e.kind ≡ false → IsCommand reply.Bytes e (verb.Get (value.Slice (slice_of start stop step))) (with_exporter e (bytes_of_slice e.bytes start stop step))

@@ -15,4 +15,4 @@ pub use byte_array::PyByteArray;
 pub use bytes::PyBytes;
 pub use guard::BufferResizeGuard;
 pub use iterators::{PyByteArrayIterator, PyBytesIterator};
-pub use laws::plain_edits_are_commands;
+pub use laws::{plain_edits_are_commands, plain_reads_are_commands, plain_writes_are_commands};
