@@ -1,8 +1,7 @@
 //! `PyByteArray`, as Python's `bytearray`.
 use crate::telling::{Told, tell};
 use crate::values::{bytes, int, part};
-use pybuf_view::{ExporterKind, Fault, Halt, LoanList, PyByteArray, place_of_byte};
-use std::alloc::Global;
+use pybuf_view::{ExporterKind, Fault, Halt, LoanList, PyByteArray};
 use std::test::Fail;
 
 #[test]
@@ -61,28 +60,6 @@ fn the_bytes_are_lent_as_a_vector(rt: HostRuntime) -> Result<(), Fail> {
     array.as_buffer(LoanList::new(alloc))?;
     assert!(rt; !end_line(&mut array)?);
     assert_eq!(rt; array.borrow_buf(), b"abc\n".as_slice());
-    Ok(())
-}
-
-/// Takes the first line out of what came in so far, as a protocol does.
-fn next_line(alloc: Global, input: &mut PyByteArray) -> Result<Option<Vec<u8>>, Halt> {
-    let Some(end) = place_of_byte(input.as_slice(), b'\n') else {
-        return Ok(None);
-    };
-    let line = input.slice(alloc, None, Some(end as isize), None)?;
-    input.drain_front(end + 1)?;
-    Ok(Some(line))
-}
-
-#[test]
-fn lines_are_taken_from_the_front(rt: HostRuntime) -> Result<(), Fail> {
-    let alloc = rt.alloc();
-    let mut input = PyByteArray::from_slice(alloc, b"ab\nc")?;
-    input.push(b'd')?;
-    let line = next_line(alloc, &mut input)?;
-    assert!(rt; matches!(line, Some(line) if line.as_slice() == b"ab".as_slice()));
-    assert_eq!(rt; input.as_slice(), b"cd".as_slice());
-    assert_eq!(rt; input.get(-1), Some(b'd'));
     Ok(())
 }
 
