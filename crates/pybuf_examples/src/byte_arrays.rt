@@ -1,7 +1,7 @@
 //! `PyByteArray`, as Python's `bytearray`.
 use crate::telling::{Told, tell};
 use crate::values::{bytes, int, part};
-use pybuf_view::{ExporterKind, Fault, LoanList, PyByteArray};
+use pybuf_view::{ExporterKind, Fault, Halt, LoanList, PyByteArray};
 use std::test::Fail;
 
 #[test]
@@ -60,5 +60,19 @@ fn the_bytes_are_lent_as_a_vector(rt: HostRuntime) -> Result<(), Fail> {
     array.as_buffer(LoanList::new(alloc))?;
     assert!(rt; !end_line(&mut array)?);
     assert_eq!(rt; array.borrow_buf(), b"abc\n".as_slice());
+    Ok(())
+}
+
+#[test]
+fn plain_edits_wait_for_views(rt: HostRuntime) -> Result<(), Fail> {
+    let alloc = rt.alloc();
+    let mut array = PyByteArray::from_slice(alloc, b"abc")?;
+    array.as_buffer(LoanList::new(alloc))?;
+    assert_eq!(rt; array.push(100), Err(Halt::Refused(Fault::Buffer)));
+    array.set(0, b'A')?;
+    assert!(rt; array.state_mut().release_view(0).is_ok());
+    array.push(100)?;
+    assert_eq!(rt; array.pop_last()?, Some(100));
+    assert_eq!(rt; array.as_slice(), b"Abc".as_slice());
     Ok(())
 }

@@ -31,7 +31,7 @@ use std::marker::Model;
 /// The loans have to fit, as `FitLoans::fit` tells.
 #[derive(Debug, Drop)]
 pub struct PyByteArray {
-    exporter: ExporterState,
+    pub(crate) exporter: ExporterState,
 }
 
 impl Model for PyByteArray {

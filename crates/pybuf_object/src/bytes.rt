@@ -25,7 +25,7 @@ use std::marker::Model;
 /// The loans have to fit, as `FitLoans::fit` tells.
 #[derive(Debug, Drop)]
 pub struct PyBytes {
-    exporter: ExporterState,
+    pub(crate) exporter: ExporterState,
 }
 
 impl Model for PyBytes {

@@ -6,8 +6,13 @@ mod byte_array;
 mod bytes;
 mod guard;
 mod iterators;
+mod laws;
+mod plain_byte_array;
+mod plain_bytes;
+mod slices;
 
 pub use byte_array::PyByteArray;
 pub use bytes::PyBytes;
 pub use guard::BufferResizeGuard;
 pub use iterators::{PyByteArrayIterator, PyBytesIterator};
+pub use laws::{plain_edits_are_commands, plain_reads_are_commands, plain_writes_are_commands};

@@ -16,6 +16,8 @@ mod exporters;
 #[cfg(test)]
 mod memory_views;
 #[cfg(test)]
+mod plain_calls;
+#[cfg(test)]
 mod vectors;
 #[cfg(test)]
 mod view_methods;

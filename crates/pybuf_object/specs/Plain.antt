@@ -1,0 +1,118 @@
+-- Calls on bytes and bytearrays with plain arguments: no value, no loan and no reply.
+use Rattle.std.specs.Prelude.{◌≡◌, ℕ, suc, Bool, ℤ, negsuc, List, [], ◌∷◌, ◌++◌, length, take, drop, slice_get, slice_index, slice_set, Option, None, Some, Result, Ok, Err}
+use Rattle.std.specs.Option.{option_and_then}
+use Rattle.std.specs.Global.{Vec}
+use Rattle.pybuf_value.specs.declared.faults.Fault.{Fault}
+use Rattle.pybuf_value.specs.declared.halt.Halt.{Halt}
+use Rattle.pybuf_value.specs.declared.halt.Halt.TheVariants as halt
+use Rattle.pybuf_value.specs.Refusing.{◌>>=◌}
+use Rattle.pybuf_value.specs.Making.{slice_of}
+use Rattle.pybuf_index.specs.Parts.{saturated_parts_of, picks_of}
+use Rattle.pybuf_index.specs.Places.{saturated_place, item_place, entry_in}
+use Rattle.pybuf_slice.specs.Edits.{replaced_range}
+use Rattle.pybuf_slice.specs.Reads.{elements_at}
+use Rattle.pybuf_command.specs.Kinds.{of_byte_array}
+use Rattle.pybuf_state.specs.Exporter.{Exporter}
+use Rattle.pybuf_state.specs.Resizing.{resizable}
+
+-- ---- answers
+
+-- The answer is what a definition says, with the exporter after it, or its refusal and the exporter as before.
+-- Where memory runs out, the exporter is as before.
+abbrev pub Settles : {X : Type 0} → Result (Exporter × X) Fault → Exporter → Result X Halt → Exporter → Type 0
+Settles wanted old (Ok x) new = wanted ≡ Ok (new, x)
+Settles wanted old (Err (halt.Refused f)) new = (wanted ≡ Err f) × (new ≡ old)
+Settles wanted old (Err halt.NoMemory) new = new ≡ old
+
+-- the same of a call that takes no memory
+abbrev pub SettlesAtOnce : {X : Type 0} → Result (Exporter × X) Fault → Exporter → Result X Halt → Exporter → Type 0
+SettlesAtOnce wanted old (Ok x) new = wanted ≡ Ok (new, x)
+SettlesAtOnce wanted old (Err (halt.Refused f)) new = (wanted ≡ Err f) × (new ≡ old)
+SettlesAtOnce wanted old (Err halt.NoMemory) new = ⊥
+
+-- the answer is these bytes, or the refusal, unless memory runs out
+abbrev pub GivesBytes : Result (List ℕ) Fault → Result (Vec ℕ) Halt → Type 0
+GivesBytes wanted (Ok bytes) = wanted ≡ Ok bytes.items
+GivesBytes wanted (Err (halt.Refused f)) = wanted ≡ Err f
+GivesBytes wanted (Err halt.NoMemory) = Unit {0}
+
+-- ---- what is read
+
+-- the byte that a number names, if there is one; a negative one counts from the end
+abbrev pub byte_at : List ℕ → ℤ → Option ℕ
+byte_at bytes index = option_and_then (slice_get bytes) (item_place (length bytes) index)
+
+-- the bytes that a slice picks
+abbrev pub bytes_of_slice : List ℕ → Option ℤ → Option ℤ → Option ℤ → Result (List ℕ) Fault
+bytes_of_slice bytes start stop step = do
+  parts ← saturated_parts_of (slice_of start stop step)
+  Ok (elements_at bytes (picks_of (length bytes) parts))
+
+-- ---- what is changed
+
+-- whether the number of bytes may change: not of another kind than a bytearray, and not while a view is unreleased
+abbrev pub may_resize : Exporter → Result Bool Fault
+may_resize e = of_byte_array e.kind (resizable e)
+
+-- other bytes in place of all, of any number, where that may be
+abbrev pub resized_to : {X : Type 0} → Exporter → List ℕ → X → Result (Exporter × X) Fault
+resized_to e bytes answer = do
+  _ ← may_resize e
+  Ok (record e { bytes = bytes }, answer)
+
+-- a byte more at the end
+abbrev pub pushed : Exporter → ℕ → Result (Exporter × Unit {0}) Fault
+pushed e byte = resized_to e (e.bytes ++ byte ∷ []) tt
+
+-- bytes more at the end
+abbrev pub extended_by : Exporter → List ℕ → Result (Exporter × Unit {0}) Fault
+extended_by e others = resized_to e (e.bytes ++ others) tt
+
+-- a byte more, before the place that is nearest to a number
+abbrev pub inserted_at : Exporter → ℤ → ℕ → Result (Exporter × Unit {0}) Fault
+inserted_at e index byte = resized_to e (replaced_range e.bytes (saturated_place (length e.bytes) index) (saturated_place (length e.bytes) index) (byte ∷ [])) tt
+
+-- the bytes without the one at a place
+abbrev pub without : List ℕ → ℕ → List ℕ
+without bytes place = replaced_range bytes place (suc place) []
+
+-- without the byte that a number names, which is the answer
+abbrev pub removed_at : Exporter → ℤ → Result (Exporter × ℕ) Fault
+removed_at e index = do
+  _ ← may_resize e
+  place ← entry_in (length e.bytes) index
+  Ok (record e { bytes = without e.bytes place }, slice_index e.bytes place)
+
+-- without the byte at a place, if there is one, which is the answer
+abbrev pub out_at : Exporter → Option ℕ → Exporter × Option ℕ
+out_at e None = (e, None)
+out_at e (Some place) = (record e { bytes = without e.bytes place }, Some (slice_index e.bytes place))
+
+-- without the last byte, if there is one, which is the answer
+abbrev pub popped_last : Exporter → Result (Exporter × Option ℕ) Fault
+popped_last e = do
+  _ ← may_resize e
+  Ok (out_at e (item_place (length e.bytes) (negsuc 0)))
+
+-- as many bytes from the first on, all where there are no more
+abbrev pub truncated : Exporter → ℕ → Result (Exporter × Unit {0}) Fault
+truncated e count = resized_to e (take count e.bytes) tt
+
+-- without as many bytes from the first on, without all where there are no more
+abbrev pub drained_front : Exporter → ℕ → Result (Exporter × Unit {0}) Fault
+drained_front e count = resized_to e (drop count e.bytes) tt
+
+-- no bytes
+abbrev pub emptied : Exporter → Result (Exporter × Unit {0}) Fault
+emptied e = resized_to e [] tt
+
+-- another byte in place of the one that a number names; views don't matter
+abbrev pub put_at : Exporter → ℤ → ℕ → Result (Exporter × Unit {0}) Fault
+put_at e index byte = of_byte_array e.kind (do
+  place ← entry_in (length e.bytes) index
+  Ok (record e { bytes = slice_set e.bytes place byte }, tt))
+
+-- stopped by just this refusal
+abbrev pub IsRefusal : {X : Type 0} → Result X Fault → Halt → Type 0
+IsRefusal answer (halt.Refused f) = answer ≡ Err f
+IsRefusal answer halt.NoMemory = ⊥
