@@ -9,19 +9,6 @@ use pybuf_methods::{Contents, reply_of};
 use pybuf_state::Parts;
 use pybuf_value::{Halt, Item, Scalar};
 
-/// What a method answers, as a reply.
-fn reply_of_answer(answer: MethodReply) -> LocalReply
-    ensures { result ≡ spec.reply_of_answer answer }
-{
-    match answer {
-        MethodReply::Bytes(bytes) => LocalReply::Bytes(bytes),
-        MethodReply::ByteLists(lists) => LocalReply::ByteLists(lists),
-        MethodReply::Truth(truth) => LocalReply::Truth(truth),
-        MethodReply::Number(number) => LocalReply::Item(Item::One(Scalar::Int(number))),
-        MethodReply::Text(text) => LocalReply::Text(text),
-    }
-}
-
 /// What a method answers (Python's library reference, "Bytes and Bytearray Operations"). The bytes are read
 /// where they lie, and so is what the handles among the arguments name.
 ///
@@ -43,5 +30,11 @@ pub fn of_own<C: Contents>(
         method.args.as_slice(),
         contents,
     )?;
-    Ok(reply_of_answer(answer))
+    match answer {
+        MethodReply::Bytes(bytes) => Ok(LocalReply::Bytes(bytes)),
+        MethodReply::ByteLists(lists) => Ok(LocalReply::ByteLists(lists)),
+        MethodReply::Truth(truth) => Ok(LocalReply::Truth(truth)),
+        MethodReply::Number(number) => Ok(LocalReply::Item(Item::One(Scalar::Int(number)))),
+        MethodReply::Text(text) => Ok(LocalReply::Text(text)),
+    }
 }
