@@ -53,27 +53,4 @@ impl Named {
             } => Subject::Iter(iterator),
         }
     }
-
-    /// What a command on a handle of this name is asked of.
-    pub fn target(self, handle: u64) -> Target
-        ensures { result ≡ spec.target_of handle self }
-    {
-        match self {
-            Named::Exporter(exporter) => Target {
-                handle,
-                exporter,
-                subject: Subject::Own,
-            },
-            Named::View { exporter, view } => Target {
-                handle,
-                exporter,
-                subject: Subject::View(view),
-            },
-            Named::Iterator { exporter, iterator } => Target {
-                handle,
-                exporter,
-                subject: Subject::Iter(iterator),
-            },
-        }
-    }
 }

@@ -332,11 +332,22 @@ impl Tables {
         match command {
             Command::New { kind, options } => self.make(*kind, options),
             Command::Do { subject, verb } => {
-                let named = self.handles.get(*subject as usize).copied();
-                match named {
-                    Some(named) => self.step_of_target(named.target(*subject), verb),
-                    None => Ok(Reply::Refused(Fault::UnknownName)),
-                }
+                let handle = *subject;
+                let (exporter, subject) = match self.handles.get(handle as usize) {
+                    Some(Named::Exporter(exporter)) => (*exporter, Subject::Own),
+                    Some(Named::View { exporter, view }) => (*exporter, Subject::View(*view)),
+                    Some(Named::Iterator { exporter, iterator }) => (
+                        *exporter,
+                        Subject::Iter(*iterator),
+                    ),
+                    None => return Ok(Reply::Refused(Fault::UnknownName)),
+                };
+                let target = Target {
+                    handle,
+                    exporter,
+                    subject,
+                };
+                self.step_of_target(target, verb)
             }
         }
     }
