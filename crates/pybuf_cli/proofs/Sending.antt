@@ -29,8 +29,12 @@ put_then_front old mid new text first second rest e before after =
     e ∙ (ap (λ x. (first ++ x) ++ rest) (sym (take-append-drop n second)) ∙ ends first (take n second) (drop n second) rest) in
     put_front old new text (first ++ take n second) (drop n second ++ rest) split (put_both old mid new first (take n second) before after.2)
 
+-- nothing is put, and the whole text waits
+pub sends_later : (old : Option (List ℕ)) (text : List ℕ) → Sends old text text old
+sends_later old text = record { sent = []; whole = refl; put = put_nothing old }
+
 pub sends_nothing : (old : Option (List ℕ)) → Sends old [] [] old
-sends_nothing old = record { sent = []; whole = refl; put = put_nothing old }
+sends_nothing old = sends_later old []
 
 -- one line more, of which a part is sent
 pub sends_more : (old mid new : Option (List ℕ)) (text waiting line longer sent rest : List ℕ) → Sends old text waiting mid →

@@ -15,17 +15,15 @@ use pybuf_value::{Made, NoMemory};
 use pybuf_world::World;
 use std::alloc::Global;
 
-/// Puts the text once it is as long as a piece, and leaves what waits.
-fn send_full<K: Sink>(sink: &mut K, text: &mut Vec<u8>) -> Result<(), PutFault>
+/// Puts the text, and leaves none to wait.
+fn send<K: Sink>(sink: &mut K, text: &mut Vec<u8>) -> Result<(), PutFault>
     ensures sent { OnOk result (Sends (K.bytes_held sink.old) text.old.items text.new.items (K.bytes_held sink.new)) }
     ensures prefix { OnErr result (PutPrefix (K.bytes_held sink.old) text.old.items (K.bytes_held sink.new)) }
     ensures rose { IfErr result (λ fault. fault ≡ PutFault.Failed → Rose (K.faults sink.old) (K.faults sink.new)) }
     ensures later { K.faults sink.old ≤ K.faults sink.new }
 {
-    if text.len() >= PIECE {
-        write_all(sink, text.as_slice())?;
-        text.clear();
-    }
+    write_all(sink, text.as_slice())?;
+    text.clear();
     Ok(())
 }
 
@@ -76,7 +74,9 @@ pub fn run_lines<K: Sink>(alloc: Global, sink: &mut K, input: &[u8]) -> Result<(
     let mut rest = input;
     'running: while let Some((line, after)) = next_line(rest) {
         answer_line(alloc, &mut world, &mut words, line, &mut text)?;
-        send_full(sink, &mut text)?;
+        if text.len() >= PIECE {
+            send(sink, &mut text)?;
+        }
         rest = after;
     }
     write_all(sink, text.as_slice())
