@@ -12,7 +12,7 @@ ghost use Rattle.pybuf_state.specs.Answers.{exporter_of, IsWhole, Answers};
 ghost use Rattle.pybuf_exporter.specs.Step as spec;
 
 use pybuf_command::{LoanList, LocalReply};
-use pybuf_rows_edits::{append as append_of_own, pop as pop_of_own};
+use pybuf_rows_edits::pop as pop_of_own;
 use pybuf_rows_reads::get;
 use pybuf_rows_views::{cast, release, slice, view};
 use pybuf_rows_writes::{assign, set};
@@ -147,18 +147,6 @@ pub fn cast_of_view(
         return Err(Halt::Refused(Fault::UnknownName));
     }
     cast::of_view(parts, view, format, shape)
-}
-
-/// Adds a byte at the end.
-pub fn append(parts: &mut Parts, value: &Value, loans: &LoanList) -> Result<LocalReply, Halt>
-    requires { IsWhole parts.old }
-    ensures answer { Answers (spec.answer_of (exporter_of parts.old) subjects.Own (verbs.Append value.now) loans.now) (exporter_of parts.old) result (exporter_of parts.new) }
-    ensures counted { parts.new.exports ≡ exports_of (exporter_of parts.new) }
-{
-    if !is_value_known(parts, loans, value) {
-        return Err(Halt::Refused(Fault::UnknownName));
-    }
-    append_of_own(parts, value)
 }
 
 /// Takes the byte at an index out.

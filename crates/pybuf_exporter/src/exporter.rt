@@ -6,10 +6,11 @@ use crate::{direct, pick};
 use pybuf_command::{ExporterKind, LoanList, LocalCommand, LocalReply, Subject, Verb};
 use pybuf_desc::BufferDescriptor;
 use pybuf_memoryview::KeptLayout;
+use pybuf_rows_edits::append;
 use pybuf_rows_views::release;
 use pybuf_state::{
     Names, Other, Parts, Store, content_of_subject, copies_are_faithful, exporter_of_copy,
-    kind_of_subject, new_views_are_sound, run_of_subject, snap_of_subject,
+    is_value_known, kind_of_subject, new_views_are_sound, run_of_subject, snap_of_subject,
 };
 use pybuf_value::{
     ByteList, Fault, Halt, Lent, Made, NoMemory, Snap, SnapKind, Twin, Value, copy_all,
@@ -242,7 +243,10 @@ impl ExporterState {
         ensures err { OnErr result (self.new ≡ self.old) }
     {
         crate::laws::commands_keep_sound();
-        closed(direct::append(&mut self.parts, value, loans))
+        if !is_value_known(&self.parts, loans, value) {
+            return Ok(LocalReply::Refused(Fault::UnknownName));
+        }
+        closed(append(&mut self.parts, value))
     }
 
     /// Takes the byte at an index out, the last where none is given, as `Verb::Pop`. The reply is that byte.
