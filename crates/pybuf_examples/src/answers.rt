@@ -19,6 +19,22 @@ fn cut(alloc: Global, array: &mut PyByteArray, slice: PySlice) -> Result<Option<
     Ok(reply.into_bytes())
 }
 
+#[test]
+fn answers_are_one_result(rt: HostRuntime) -> Result<(), Fail> {
+    let alloc = rt.alloc();
+    let mut array = PyByteArray::new_ref(alloc, Vec::from_slice(alloc, b"abcd")?);
+    assert_eq!(rt; number_at(alloc, &mut array, -1)?, Some(100));
+    assert_eq!(rt;
+        number_at(alloc, &mut array, 4),
+        Err(Halt::Refused(Fault::Index))
+    );
+    let Some(middle) = cut(alloc, &mut array, PySlice::from(1..3))? else {
+        return Err(Fail::from("no bytes"));
+    };
+    assert_eq!(rt; middle.as_slice(), b"bc".as_slice());
+    Ok(())
+}
+
 /// Puts the bytes of another bytearray in place of a slice, as Python's `array[slice] = other`.
 fn assign(
     alloc: Global,
