@@ -1,9 +1,9 @@
 -- Commands that read in place change nothing.
-use Rattle.std.proofs.Common.{◌≡◌, ℕ, List, Bool, true, false, Ok, Err, refl}
+use Rattle.std.proofs.Common.{◌≡◌, List, Bool, true, false, Ok, Err, refl}
 use Rattle.std.specs.Prelude.{Result, if◌then◌else◌}
 use Rattle.pybuf_value.specs.declared.faults.Fault.{Fault}
 use Rattle.pybuf_value.specs.declared.faults.Fault.TheVariants as fault
-use Rattle.pybuf_value.specs.Refusing.{◌>>=◌, unless, IfDone, done_bind}
+use Rattle.pybuf_value.specs.Refusing.{unless, IfDone, done_bind}
 use Rattle.pybuf_methods.specs.Methods.{method_reply}
 use Rattle.pybuf_methods.specs.Sought.{contains_in}
 use Rattle.pybuf_methods.specs.Shaped.{hex_of}

@@ -2,6 +2,7 @@
 ghost use Rattle.std.specs.Prelude.{◌≡◌, ◌<◌, ◌↔◌, [], Some, IfOk, IfSome, IsSome, IsSomeAnd, IsOk, IfErr, OnErr, MatchResult, MatchOption, true, false, length, slice_get};
 
 use crate::closing::closed;
+use crate::copying::{copy_of_reply, twice};
 use crate::{direct, pick};
 use pybuf_command::{ExporterKind, LoanList, LocalCommand, LocalReply, Subject, Verb};
 use pybuf_desc::BufferDescriptor;
@@ -65,6 +66,7 @@ impl ExporterState {
     ghost use Rattle.pybuf_value.specs.Snaps.{content_of, content_of_named};
     ghost use Rattle.pybuf_value.specs.Lent.{Lends, kind_of_named};
     ghost use Rattle.pybuf_exporter.specs.Step.{estep, estep_by};
+    ghost use Rattle.pybuf_exporter.specs.Owning.{reply_owns};
     ghost use Rattle.pybuf_state.specs.Names.{IsSoundOther, snap_of_other};
     ghost use Rattle.pybuf_memoryview.specs.Fits.{fits_snap};
     ghost use Rattle.pybuf_state.specs.Fits.{LoansFit};
@@ -132,6 +134,85 @@ impl ExporterState {
     {
         crate::laws::steps_keep_sound();
         closed(pick::answer(&mut self.parts, subject, verb, names))
+    }
+
+    /// Carries out a command, as `step`, and gives its reply twice. Where memory runs out, also for the second reply,
+    /// nothing is changed.
+    ///
+    /// A second exporter is never made: what owns memory is replied by commands that change nothing, but for `take`,
+    /// whose bytes are copied before, and `next`, whose iterator is put back.
+    pub fn step_copied(&mut self, command: &LocalCommand) -> Made<(LocalReply, LocalReply)>
+        requires { LoansFit command.now.loans }
+        ensures ok { IfOk result (λ r. estep self.old command.now.subject command.now.verb command.now.loans ≡ (self.new, r.0)) }
+        ensures twice { IfOk result (λ r. r.1 ≡ r.0) }
+        ensures err { OnErr result (self.new ≡ self.old) }
+    {
+        match (command.subject, &command.verb) {
+            (Subject::Own, Verb::Take) => self.take_copied(command),
+            (Subject::Iter(iterator), Verb::Next) => self.next_copied(iterator, command),
+            _ => {
+                crate::laws::owning_replies_change_nothing();
+                self.read_copied(command)
+            }
+        }
+    }
+
+    /// The same of a command whose reply owns no memory, or which changes nothing.
+    fn read_copied(&mut self, command: &LocalCommand) -> Made<(LocalReply, LocalReply)>
+        requires fit { LoansFit command.now.loans }
+        requires same { reply_owns (estep self.old command.now.subject command.now.verb command.now.loans).1 ≡ true → (estep self.old command.now.subject command.now.verb command.now.loans).0 ≡ self.old }
+        ensures ok { IfOk result (λ r. estep self.old command.now.subject command.now.verb command.now.loans ≡ (self.new, r.0)) }
+        ensures twice { IfOk result (λ r. r.1 ≡ r.0) }
+        ensures err { OnErr result (self.new ≡ self.old) }
+    {
+        let reply = self.step(command)?;
+        twice(self.parts.alloc, reply)
+    }
+
+    /// The same of `take`: the bytes that are replied are copied before.
+    fn take_copied(&mut self, command: &LocalCommand) -> Made<(LocalReply, LocalReply)>
+        requires fit { LoansFit command.now.loans }
+        requires subject { command.now.subject ≡ subjects.Own }
+        requires verb { command.now.verb ≡ verbs.Take }
+        ensures ok { IfOk result (λ r. estep self.old command.now.subject command.now.verb command.now.loans ≡ (self.new, r.0)) }
+        ensures twice { IfOk result (λ r. r.1 ≡ r.0) }
+        ensures err { OnErr result (self.new ≡ self.old) }
+    {
+        crate::laws::taken_bytes_are_all();
+        let bytes = ByteList::from_slice(self.parts.alloc, self.parts.bytes.as_slice())?;
+        let reply = self.step(command)?;
+        let copy = match &reply {
+            LocalReply::Bytes(_) => LocalReply::Bytes(bytes),
+            other => copy_of_reply(self.parts.alloc, other)?,
+        };
+        Ok((reply, copy))
+    }
+
+    /// The same of `next`: where there is no memory for the second reply, the iterator is put as it was.
+    fn next_copied(
+        &mut self,
+        iterator: usize,
+        command: &LocalCommand,
+    ) -> Made<(LocalReply, LocalReply)>
+        requires fit { LoansFit command.now.loans }
+        requires subject { command.now.subject ≡ subjects.Iter iterator }
+        requires verb { command.now.verb ≡ verbs.Next }
+        ensures ok { IfOk result (λ r. estep self.old command.now.subject command.now.verb command.now.loans ≡ (self.new, r.0)) }
+        ensures twice { IfOk result (λ r. r.1 ≡ r.0) }
+        ensures err { OnErr result (self.new ≡ self.old) }
+    {
+        crate::laws::next_is_undone();
+        let Ok(before) = self.parts.iterator(iterator) else {
+            return self.read_copied(command);
+        };
+        let reply = self.step(command)?;
+        match twice(self.parts.alloc, reply) {
+            Ok(replies) => Ok(replies),
+            Err(NoMemory) => {
+                self.parts.put_iterator(iterator, before);
+                Err(NoMemory)
+            }
+        }
     }
 
     // The commands that are called very often follow, each with its values lent by themselves: no verb is made for

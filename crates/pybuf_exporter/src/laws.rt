@@ -3,6 +3,7 @@ ghost use Rattle.pybuf_exporter.specs.Laws.{CommandsKeepSound, LengthsStayUnderC
 ghost use Rattle.pybuf_exporter.specs.Iterating.{IteratorsGiveTheItems, ReleasedViewsAreNotIterated, OtherShapesAreNotIterated, IteratorsStopPastTheEntries, ExhaustedIteratorsStop};
 ghost use Rattle.pybuf_exporter.specs.Assigning.{StepsAssignByValue, SnapsHoldTheItems};
 ghost use Rattle.pybuf_exporter.specs.Laws.{CommandsKeepItemsApart, RepliedNamesAreThere, SubjectsStay};
+ghost use Rattle.pybuf_exporter.specs.Owning.{OwningRepliesChangeNothing, TakenBytesAreAll, NextIsUndone, NoIteratorHasNoNext};
 ghost use Rattle.pybuf_exporter.specs.Rows.{RowsAreSafe, StepsKeepSound};
 
 /// Each row keeps a sound exporter, or replies a copy.
@@ -227,3 +228,19 @@ pub fn subjects_stay()
     rows_are_safe();
     pybuf_state::reading_keeps();
 }
+
+/// A command whose reply owns memory changes nothing, but for `take` of a vector and `next`.
+pub fn owning_replies_change_nothing()
+    ensures { OwningRepliesChangeNothing }
+{}
+
+/// `take` replies all bytes, or what owns no memory.
+pub(crate) fn taken_bytes_are_all()
+    ensures { TakenBytesAreAll }
+{}
+
+/// `next` is undone where its iterator is put as it was, and changes nothing where there is no such iterator.
+pub(crate) fn next_is_undone()
+    ensures undone { NextIsUndone }
+    ensures none { NoIteratorHasNoNext }
+{}

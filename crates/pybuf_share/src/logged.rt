@@ -1,0 +1,163 @@
+//! What lies under the lock of a shared exporter: the exporter beside its history, and the book that counts the calls.
+ghost use Rattle.std.specs.Prelude.{◌≡◌, ◌+◌, ◌<◌, ◌≤◌, ◌^◌, [], ◌∷◌, ◌++◌, length, IfOk, OnOk, OnErr};
+
+use crate::entries::{Entry, Receipt};
+use crate::session::Session;
+use pybuf_command::{ExporterKind, LocalCommand};
+use pybuf_exporter::ExporterState;
+use pybuf_value::{ByteList, Made, Twin, push_reserved};
+use std::alloc::Global;
+use std::marker::Model;
+use std::sync::ledger::{Blank, Book, Ledger, Share};
+
+/// An exporter with its history.
+///
+/// A clause sees its kind and its bytes at the beginning, and all entries since. The exporter is what one thread
+/// gets by carrying out the commands of the entries in their order (`replay`), each entry holds the reply that the
+/// exporter gives there (`IsLegal`), and the ledger has counted as many calls as there are entries.
+#[derive(Drop)]
+pub struct Logged<L: Ledger> {
+    kind: ExporterKind,
+    opening: ByteList,
+    state: ExporterState,
+    history: Vec<Entry>,
+    calls: Book<L>,
+    alloc: Global,
+}
+
+impl<L: Ledger> Model for Logged<L> {
+    ghost use Rattle.pybuf_share.specs.History.{Log, IsKept};
+
+    ghost Value = { Log };
+
+    ghost view = { λ l. record { kind = l.kind; opening = l.opening; entries = l.history.items } };
+
+    ghost invariant = { λ l. IsKept (record { kind = l.kind; opening = l.opening; entries = l.history.items }) l.state l.calls.total };
+}
+
+impl<L: Ledger> Logged<L> {
+    ghost use Rattle.pybuf_state.specs.Fits.{LoansFit};
+    ghost use Rattle.pybuf_share.specs.History.{state_of, IsLegalLog, noted, receipt_now};
+    ghost use Rattle.pybuf_share.specs.Sessions.{sessions_from, received};
+
+    /// An exporter of a kind and of these bytes with no entry, and so many sessions, numbered from 0, each of which has
+    /// one part of the ledger.
+    pub fn start(
+        alloc: Global,
+        blank: Blank,
+        kind: ExporterKind,
+        bytes: ByteList,
+        sessions: usize,
+    ) -> Made<(Logged<L>, Vec<Session<L>>)>
+        requires some { 0 < sessions }
+        requires most { sessions ≤ 1024 }
+        requires name { blank.name ≡ L.name }
+        requires parts { blank.parts ≡ L.parts }
+        requires each { blank.parts ≡ sessions }
+        ensures log { IfOk result (λ r. r.0 ≡ record { kind = kind; opening = bytes; entries = [] }) }
+        ensures sessions { IfOk result (λ r. r.1.items ≡ sessions_from 0 sessions) }
+    {
+        let opening = bytes.copy(alloc)?;
+        let (calls, mut share) = blank.open::<L>();
+        let mut made = Vec::new(alloc);
+        for number in 0..sessions {
+            let part = share.split_off(1, 0);
+            made.push(Session::new(alloc, number as u64, part))?;
+        }
+        let logged = Logged {
+            kind,
+            opening,
+            state: ExporterState::new(alloc, kind, bytes),
+            history: Vec::new(alloc),
+            calls,
+            alloc,
+        };
+        Ok((logged, made))
+    }
+
+    /// The kind of the exporter.
+    pub fn kind(&self) -> ExporterKind
+        ensures { result ≡ self.now.kind }
+    {
+        self.kind
+    }
+
+    /// The bytes that the exporter had at the beginning.
+    pub fn opening(&self) -> &[u8]
+        ensures { result.now ≡ self.now.opening }
+    {
+        self.opening.as_slice()
+    }
+
+    /// All entries, in order: a history that one thread could have made.
+    pub fn entries(&self) -> &[Entry]
+        ensures value { result.now ≡ self.now.entries }
+        ensures legal { IsLegalLog self.now }
+    {
+        self.history.as_slice()
+    }
+
+    /// The exporter as it is: what one thread gets by carrying out the commands of the entries.
+    pub fn state(&self) -> &ExporterState
+        ensures { result.now ≡ state_of self.now }
+    {
+        &self.state
+    }
+
+    /// Carries out a command of a session, and notes it: one more entry, and one more on the book and on the share.
+    /// The receipt has the number that the entry has in the history. Where memory runs out, nothing is changed.
+    pub fn note_step(
+        &mut self,
+        session: u64,
+        share: &mut Share<L>,
+        command: &LocalCommand,
+    ) -> Made<Receipt>
+        requires fit { LoansFit command.now.loans }
+        requires part { 0 < share.old.parts }
+        requires room { share.old.amount < 2 ^ 63 }
+        ensures receipt { IfOk result (λ r. r ≡ receipt_now self.old session command.now) }
+        ensures noted { OnOk result (self.new ≡ noted self.old session command.now) }
+        ensures amount { OnOk result (share.new.amount ≡ share.old.amount + 1) }
+        ensures parts { share.new.parts ≡ share.old.parts }
+        ensures err { OnErr result (self.new ≡ self.old) }
+        ensures err_amount { OnErr result (share.new.amount ≡ share.old.amount) }
+    {
+        let kept = command.copy(self.alloc)?;
+        let own = command.copy(self.alloc)?;
+        self.history.reserve(1)?;
+        let at = self.history.len() as u64;
+        let (reply, copy) = self.state.step_copied(command)?;
+        push_reserved(
+            &mut self.history,
+            Entry {
+                session,
+                command: kept,
+                reply,
+            },
+        );
+        self.calls.add(share, 1);
+        Ok(Receipt {
+            at,
+            entry: Entry {
+                session,
+                command: own,
+                reply: copy,
+            },
+        })
+    }
+
+    /// Carries out a command of a session and notes it, with the number and the share of the session, whose last
+    /// receipt it becomes. Where memory runs out, nothing is changed.
+    pub fn note_call(&mut self, session: &mut Session<L>, command: LocalCommand) -> Made<()>
+        requires { LoansFit command.loans }
+        ensures noted { OnOk result (self.new ≡ noted self.old session.old.number command) }
+        ensures received { OnOk result (session.new ≡ received session.old (receipt_now self.old session.old.number command)) }
+        ensures err { OnErr result (self.new ≡ self.old) }
+        ensures err_session { OnErr result (session.new ≡ session.old) }
+    {
+        let noted = session.ask(self, &command);
+        // let go by a call, since a command that ends with its scope spells out all its variants
+        drop(command);
+        noted
+    }
+}

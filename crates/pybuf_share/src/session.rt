@@ -1,0 +1,173 @@
+//! Who asks commands of a shared exporter.
+ghost use Rattle.std.specs.Prelude.{◌≡◌, ◌+◌, ◌<◌, ◌≤◌, ◌^◌, [], ◌∷◌, ◌++◌, length, true, false, Some, None, slice_get, IfSome, IfNone, OnOk, OnErr, vec_len, vec_capacity};
+ghost use Rattle.std.specs.Option.{option_copied};
+ghost use Rattle.pybuf_share.specs.Sessions.{view_given, iterator_given};
+
+use crate::entries::Receipt;
+use crate::logged::Logged;
+use pybuf_command::{LocalCommand, LocalReply};
+use pybuf_value::{Made, push_reserved};
+use std::alloc::Global;
+use std::marker::Model;
+use std::sync::ledger::{Ledger, Share};
+
+/// A session: its number, and its receipts. It belongs to the exporter that its ledger names.
+///
+/// A clause sees its number, its receipts, its parts of the ledger, and whether each receipt came from a call.
+#[derive(Drop)]
+pub struct Session<L: Ledger> {
+    number: u64,
+    share: Share<L>,
+    receipts: Vec<Receipt>,
+    views: Vec<usize>,
+    iterators: Vec<usize>,
+    is_plain: bool,
+}
+
+impl<L: Ledger> Model for Session<L> {
+    ghost use Rattle.std.specs.Prelude.{◌≡◌, ◌<◌, ◌≤◌, length, true};
+    ghost use Rattle.pybuf_share.specs.Sessions.{Asker, IsAsked};
+
+    ghost Value = { Asker };
+
+    ghost view = { λ s. record { number = s.number; receipts = s.receipts.items; parts = s.share.parts; is_plain = s.is_plain } };
+
+    ghost invariant = { λ s. IsAsked s.receipts.items s.views.items s.iterators.items s.share.parts s.share.amount s.is_plain };
+}
+
+impl<L: Ledger> Session<L> {
+    ghost use Rattle.pybuf_state.specs.Fits.{LoansFit};
+    ghost use Rattle.pybuf_share.specs.History.{noted, receipt_now};
+    ghost use Rattle.pybuf_share.specs.Sessions.{new_session, received, views_given, iterators_given, last_reply};
+
+    /// A session of a number, with no receipt, and a part of the ledger. Takes no memory.
+    pub(crate) fn new(alloc: Global, number: u64, share: Share<L>) -> Session<L>
+        requires part { share.parts ≡ 1 }
+        requires nothing { share.amount ≡ 0 }
+        ensures { result ≡ new_session number }
+    {
+        Session {
+            number,
+            share,
+            receipts: Vec::new(alloc),
+            views: Vec::new(alloc),
+            iterators: Vec::new(alloc),
+            is_plain: true,
+        }
+    }
+
+    /// The number of the session.
+    pub fn number(&self) -> u64
+        ensures { result ≡ self.now.number }
+    {
+        self.number
+    }
+
+    /// What it has to show for its calls, in order.
+    pub fn receipts(&self) -> &[Receipt]
+        ensures { result.now ≡ self.now.receipts }
+    {
+        self.receipts.as_slice()
+    }
+
+    /// The number of the view that it was given as its k-th, counted from 0. None exactly where it was given fewer.
+    pub fn mine(&self, k: usize) -> Option<usize>
+        ensures { result ≡ slice_get (views_given self.now.receipts) k }
+    {
+        match self.views.get(k) {
+            Some(view) => Some(*view),
+            None => None,
+        }
+    }
+
+    /// The number of the iterator that it was given as its k-th, counted from 0. None exactly where it was given fewer.
+    pub fn my_iter(&self, k: usize) -> Option<usize>
+        ensures { result ≡ slice_get (iterators_given self.now.receipts) k }
+    {
+        match self.iterators.get(k) {
+            Some(iterator) => Some(*iterator),
+            None => None,
+        }
+    }
+
+    /// Whether each of its receipts came from a call.
+    pub fn is_plain(&self) -> bool
+        ensures { result ≡ self.now.is_plain }
+    {
+        self.is_plain
+    }
+
+    /// The reply of its last receipt. None exactly where it has none.
+    pub fn last(&self) -> Option<&LocalReply>
+        ensures { option_copied result ≡ last_reply self.now.receipts }
+    {
+        match self.receipts.last() {
+            Some(receipt) => Some(&receipt.entry.reply),
+            None => None,
+        }
+    }
+
+    /// Adds a receipt that no call gave, by which the session is no longer plain. It makes no call, and leaves the
+    /// ledger as it is. It is there so that a test can hand in a receipt that the history doesn't have. Where memory
+    /// runs out, nothing is changed.
+    pub fn add_receipt(&mut self, receipt: Receipt) -> Made<()>
+        ensures ok { OnOk result (self.new ≡ record (received self.old receipt) { is_plain = false }) }
+        ensures err { OnErr result (self.new ≡ self.old) }
+    {
+        self.receipts.reserve(1)?;
+        self.views.reserve(1)?;
+        self.iterators.reserve(1)?;
+        self.is_plain = false;
+        receive(
+            &mut self.receipts,
+            &mut self.views,
+            &mut self.iterators,
+            receipt,
+        );
+        Ok(())
+    }
+
+    /// Asks a command of the exporter, with the number and the share of the session; the receipt becomes its last.
+    /// Where memory runs out, nothing is changed.
+    pub(crate) fn ask(&mut self, logged: &mut Logged<L>, command: &LocalCommand) -> Made<()>
+        requires { LoansFit command.now.loans }
+        ensures noted { OnOk result (logged.new ≡ noted logged.old self.old.number command.now) }
+        ensures received { OnOk result (self.new ≡ received self.old (receipt_now logged.old self.old.number command.now)) }
+        ensures err { OnErr result (logged.new ≡ logged.old) }
+        ensures err_session { OnErr result (self.new ≡ self.old) }
+    {
+        self.receipts.reserve(1)?;
+        self.views.reserve(1)?;
+        self.iterators.reserve(1)?;
+        let receipt = logged.note_step(self.number, &mut self.share, command)?;
+        receive(
+            &mut self.receipts,
+            &mut self.views,
+            &mut self.iterators,
+            receipt,
+        );
+        Ok(())
+    }
+}
+
+/// Adds a receipt, and the view or the iterator that it gives, where room was reserved for all.
+fn receive(
+    receipts: &mut Vec<Receipt>,
+    views: &mut Vec<usize>,
+    iterators: &mut Vec<usize>,
+    receipt: Receipt,
+)
+    requires receipts { vec_len receipts.old < vec_capacity receipts.old }
+    requires views { vec_len views.old < vec_capacity views.old }
+    requires iterators { vec_len iterators.old < vec_capacity iterators.old }
+    ensures receipts { receipts.new.items ≡ receipts.old.items ++ receipt ∷ [] }
+    ensures views { views.new.items ≡ views.old.items ++ view_given receipt.entry.reply }
+    ensures iterators { iterators.new.items ≡ iterators.old.items ++ iterator_given receipt.entry.reply }
+{
+    match &receipt.entry.reply {
+        LocalReply::View(view) => push_reserved(views, *view),
+        LocalReply::Iter(iterator) => push_reserved(iterators, *iterator),
+        _ => {}
+    }
+    push_reserved(receipts, receipt);
+}
