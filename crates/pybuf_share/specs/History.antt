@@ -31,6 +31,11 @@ replay k opening entries = after_entries (new_exporter k opening) entries
 abbrev pub IsLegal : ExporterKind → List ℕ → List Entry → Type 0
 IsLegal k opening entries = map (λ x. x.reply) entries ≡ replies_along (new_exporter k opening) entries
 
+-- The kind and the bytes that an exporter begins with.
+pub record Opening : Type 0 where
+  pub kind : ExporterKind
+  pub bytes : List ℕ
+
 -- What is kept under the lock: kind and bytes at the beginning, and all entries since.
 pub record Log : Type 0 where
   pub kind : ExporterKind

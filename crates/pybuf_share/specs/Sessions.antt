@@ -1,6 +1,7 @@
 -- Sessions: who asks commands of a shared exporter, and what each has to show for them.
 use Rattle.std.specs.Prelude.{◌≡◌, ◌<◌, ◌≤◌, length, ℕ, zero, suc, Bool, true, List, [], ◌∷◌, ◌++◌, ◌-◌, Option, slice_get}
 use Rattle.std.specs.Option.{option_map}
+use Rattle.pybuf_command.specs.declared.commands.LocalCommand.{LocalCommand}
 use Rattle.pybuf_command.specs.declared.commands.LocalReply.{LocalReply}
 use Rattle.pybuf_command.specs.declared.commands.LocalReply.TheVariants as reply
 use Rattle.pybuf_share.specs.declared.entries.Receipt.{Receipt}
@@ -25,6 +26,13 @@ sessions_from k (suc n) = new_session k ∷ sessions_from (suc k) n
 -- a session with one more receipt
 abbrev pub received : Asker → Receipt → Asker
 received s r = record s { receipts = s.receipts ++ r ∷ [] }
+
+-- A session after a call: it has one more receipt, with its number, the command, and some reply at some place of the
+-- history.
+pub record IsAnswered (before : Asker) (command : LocalCommand) (after : Asker) : Type 0 where
+  pub at : ℕ
+  pub reply : LocalReply
+  pub same : after ≡ received before (record { at = at; entry = record { session = before.number; command = command; reply = reply } })
 
 -- the reply of the last receipt
 abbrev pub last_reply : List Receipt → Option LocalReply

@@ -3,9 +3,13 @@
 #![tactic(auto)]
 
 mod entries;
+mod gate;
 mod logged;
 mod session;
+mod shared;
 
 pub use entries::{Entry, EntryList, Receipt, ReceiptList};
+pub use gate::{Gate, OpenGate};
 pub use logged::Logged;
 pub use session::Session;
+pub use shared::SharedExporter;

@@ -5,7 +5,7 @@ use crate::entries::{Entry, Receipt};
 use crate::session::Session;
 use pybuf_command::{ExporterKind, LocalCommand};
 use pybuf_exporter::ExporterState;
-use pybuf_value::{ByteList, Made, Twin, push_reserved};
+use pybuf_value::{ByteList, Made, NoMemory, Twin, push_reserved};
 use std::alloc::Global;
 use std::marker::Model;
 use std::sync::ledger::{Blank, Book, Ledger, Share};
@@ -33,6 +33,21 @@ impl<L: Ledger> Model for Logged<L> {
     ghost view = { λ l. record { kind = l.kind; opening = l.opening; entries = l.history.items } };
 
     ghost invariant = { λ l. IsKept (record { kind = l.kind; opening = l.opening; entries = l.history.items }) l.state l.calls.total };
+}
+
+/// A command twice.
+fn copied_twice(alloc: Global, command: &LocalCommand) -> Made<(LocalCommand, LocalCommand)>
+    ensures { IfOk result (λ r. (r.0 ≡ command.now) × (r.1 ≡ command.now)) }
+{
+    let kept = command.copy(alloc)?;
+    match command.copy(alloc) {
+        Ok(own) => Ok((kept, own)),
+        Err(NoMemory) => {
+            // by a call, since a command that ends with its scope spells out all its variants
+            drop(kept);
+            Err(NoMemory)
+        }
+    }
 }
 
 impl<L: Ledger> Logged<L> {
@@ -122,11 +137,33 @@ impl<L: Ledger> Logged<L> {
         ensures err { OnErr result (self.new ≡ self.old) }
         ensures err_amount { OnErr result (share.new.amount ≡ share.old.amount) }
     {
-        let kept = command.copy(self.alloc)?;
-        let own = command.copy(self.alloc)?;
+        match copied_twice(self.alloc, command) {
+            Ok((kept, own)) => self.note_kept(session, share, kept, own),
+            Err(NoMemory) => Err(NoMemory),
+        }
+    }
+
+    /// The same of a command that is there twice: for the history, and for the receipt.
+    pub(crate) fn note_kept(
+        &mut self,
+        session: u64,
+        share: &mut Share<L>,
+        kept: LocalCommand,
+        own: LocalCommand,
+    ) -> Made<Receipt>
+        requires fit { LoansFit own.loans }
+        requires same { kept ≡ own }
+        requires part { 0 < share.old.parts }
+        ensures receipt { IfOk result (λ r. r ≡ receipt_now self.old session own) }
+        ensures noted { OnOk result (self.new ≡ noted self.old session own) }
+        ensures amount { OnOk result (share.new.amount ≡ share.old.amount + 1) }
+        ensures parts { share.new.parts ≡ share.old.parts }
+        ensures err { OnErr result (self.new ≡ self.old) }
+        ensures err_amount { OnErr result (share.new.amount ≡ share.old.amount) }
+    {
         self.history.reserve(1)?;
         let at = self.history.len() as u64;
-        let (reply, copy) = self.state.step_copied(command)?;
+        let (reply, copy) = self.state.step_copied(&own)?;
         push_reserved(
             &mut self.history,
             Entry {
@@ -155,9 +192,13 @@ impl<L: Ledger> Logged<L> {
         ensures err { OnErr result (self.new ≡ self.old) }
         ensures err_session { OnErr result (session.new ≡ session.old) }
     {
-        let noted = session.ask(self, &command);
-        // let go by a call, since a command that ends with its scope spells out all its variants
-        drop(command);
-        noted
+        match session.prepare(self.alloc, &command) {
+            Ok(kept) => session.ask(self, kept, command),
+            Err(NoMemory) => {
+                // by a call, since a command that ends with its scope spells out all its variants
+                drop(command);
+                Err(NoMemory)
+            }
+        }
     }
 }

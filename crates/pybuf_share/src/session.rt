@@ -1,12 +1,12 @@
 //! Who asks commands of a shared exporter.
-ghost use Rattle.std.specs.Prelude.{◌≡◌, ◌+◌, ◌<◌, ◌≤◌, ◌^◌, [], ◌∷◌, ◌++◌, length, true, false, Some, None, slice_get, IfSome, IfNone, OnOk, OnErr, vec_len, vec_capacity};
+ghost use Rattle.std.specs.Prelude.{◌≡◌, ◌+◌, ◌<◌, ◌≤◌, ◌^◌, [], ◌∷◌, ◌++◌, length, true, false, Some, None, slice_get, IfOk, IfSome, IfNone, OnOk, OnErr, vec_len, vec_capacity};
 ghost use Rattle.std.specs.Option.{option_copied};
 ghost use Rattle.pybuf_share.specs.Sessions.{view_given, iterator_given};
 
 use crate::entries::Receipt;
 use crate::logged::Logged;
 use pybuf_command::{LocalCommand, LocalReply};
-use pybuf_value::{Made, push_reserved};
+use pybuf_value::{Made, Twin, push_reserved};
 use std::alloc::Global;
 use std::marker::Model;
 use std::sync::ledger::{Ledger, Share};
@@ -127,19 +127,38 @@ impl<L: Ledger> Session<L> {
         Ok(())
     }
 
-    /// Asks a command of the exporter, with the number and the share of the session; the receipt becomes its last.
-    /// Where memory runs out, nothing is changed.
-    pub(crate) fn ask(&mut self, logged: &mut Logged<L>, command: &LocalCommand) -> Made<()>
-        requires { LoansFit command.now.loans }
-        ensures noted { OnOk result (logged.new ≡ noted logged.old self.old.number command.now) }
-        ensures received { OnOk result (self.new ≡ received self.old (receipt_now logged.old self.old.number command.now)) }
-        ensures err { OnErr result (logged.new ≡ logged.old) }
-        ensures err_session { OnErr result (self.new ≡ self.old) }
+    /// Takes the memory for one more receipt, and a copy of the command for the history, so that nobody waits for
+    /// either while the lock is held. The session is as before in every case.
+    pub(crate) fn prepare(&mut self, alloc: Global, command: &LocalCommand) -> Made<LocalCommand>
+        ensures copy { IfOk result (λ kept. kept ≡ command.now) }
+        ensures same { self.new ≡ self.old }
     {
         self.receipts.reserve(1)?;
         self.views.reserve(1)?;
         self.iterators.reserve(1)?;
-        let receipt = logged.note_step(self.number, &mut self.share, command)?;
+        command.copy(alloc)
+    }
+
+    /// Asks a command of the exporter, with the number and the share of the session; the receipt becomes its last.
+    /// Where memory runs out, nothing is changed.
+    pub(crate) fn ask(
+        &mut self,
+        logged: &mut Logged<L>,
+        kept: LocalCommand,
+        own: LocalCommand,
+    ) -> Made<()>
+        requires fit { LoansFit own.loans }
+        requires same { kept ≡ own }
+        ensures noted { OnOk result (logged.new ≡ noted logged.old self.old.number own) }
+        ensures received { OnOk result (self.new ≡ received self.old (receipt_now logged.old self.old.number own)) }
+        ensures err { OnErr result (logged.new ≡ logged.old) }
+        ensures err_session { OnErr result (self.new ≡ self.old) }
+    {
+        // there is room already where it was prepared
+        self.receipts.reserve(1)?;
+        self.views.reserve(1)?;
+        self.iterators.reserve(1)?;
+        let receipt = logged.note_kept(self.number, &mut self.share, kept, own)?;
         receive(
             &mut self.receipts,
             &mut self.views,

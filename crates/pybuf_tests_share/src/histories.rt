@@ -26,7 +26,11 @@ fn ask<L: Ledger>(
 }
 
 /// Adds whether the last reply of a session is this one.
-fn tell_last<L: Ledger>(told: &mut Vec<u8>, session: &Session<L>, reply: &LocalReply) -> Made<()> {
+pub(crate) fn tell_last<L: Ledger>(
+    told: &mut Vec<u8>,
+    session: &Session<L>,
+    reply: &LocalReply,
+) -> Made<()> {
     let same = match session.last() {
         Some(last) => *last == *reply,
         None => false,
@@ -35,7 +39,7 @@ fn tell_last<L: Ledger>(told: &mut Vec<u8>, session: &Session<L>, reply: &LocalR
     Ok(())
 }
 
-fn append(byte: i128) -> Verb {
+pub(crate) fn append(byte: i128) -> Verb {
     Verb::Append {
         value: Value::One(Scalar::Int(byte)),
     }
@@ -100,7 +104,7 @@ fn tell_numbers<L: Ledger>(told: &mut Vec<u8>, session: &Session<L>) -> Made<()>
         b'-'
     })?;
     for receipt in session.receipts() {
-        told.push(b'0'.wrapping_add(receipt.at as u8))?;
+        told.push(b'0'.wrapping_add((receipt.at % 10) as u8))?;
     }
     Ok(())
 }
@@ -121,7 +125,7 @@ fn talk<L: Ledger>(
     told.extend_from_slice(logged.opening())?;
     told.push(b' ')?;
     told.extend_from_slice(logged.state().bytes())?;
-    told.push(b'0'.wrapping_add(logged.entries().len() as u8))?;
+    told.push(b'0'.wrapping_add((logged.entries().len() % 10) as u8))?;
     Ok(())
 }
 
@@ -138,8 +142,10 @@ fn two_sessions<L: Ledger>(alloc: Global, blank: Blank, told: &mut Vec<u8>) -> M
         bytes,
         2,
     )?;
-    if let [first, second] = sessions.as_mut_slice() {
-        talk(&mut logged, first, second, alloc, told)?;
+    let both = sessions.as_mut_slice();
+    if both.len() == 2 {
+        let (first, second) = both.split_at_mut(1);
+        talk(&mut logged, &mut first[0], &mut second[0], alloc, told)?;
     }
     Ok(())
 }

@@ -17,7 +17,7 @@ invariant_of-self-2 g c =
     record {
       views = views_kept inside.receipts.items c.receive.new.receipts.items r inside.views.items c.receive.new.views.items more views c.self.invariant.views;
       iterators = iterators_kept inside.receipts.items c.receive.new.receipts.items r inside.iterators.items c.receive.new.iterators.items more iterators c.self.invariant.iterators;
-      has_part = let parts = c.note_step.ensures.parts in let before = c.self.invariant.has_part in omega (arith, parts, before);
+      has_part = let parts = c.note_kept.ensures.parts in let before = c.self.invariant.has_part in omega (arith, parts, before);
       bounded = let before = c.self.invariant.bounded in omega (arith, longer, before, amount);
       counted = λ is. let before = c.self.invariant.counted is in omega (arith, longer, before, amount);
     }

@@ -1,0 +1,123 @@
+//! One exporter that threads share.
+ghost use Rattle.std.specs.Prelude.{◌≡◌, ◌<◌, ◌≤◌, IfOk, OnOk, OnErr};
+
+use crate::gate::{Gate, OpenGate};
+use crate::logged::Logged;
+use crate::session::Session;
+use pybuf_command::{ExporterKind, LocalCommand};
+use pybuf_value::{ByteList, Made, NoMemory, Twin};
+use std::alloc::Global;
+use std::marker::Model;
+use std::sync::ledger::{Blank, Ledger};
+use std::sync::{Mutex, Wait};
+
+/// An exporter that threads share: it lies under a lock with its history (`Logged`). One call is one step, with the
+/// lock held.
+///
+/// A clause sees the kind and the bytes that it was made with. Of what lies under the lock no clause of a call can
+/// speak, since other threads may ask for it at any time; a receipt tells what was replied.
+#[derive(Drop)]
+pub struct SharedExporter<L: Ledger> {
+    kind: ExporterKind,
+    opening: ByteList,
+    alloc: Global,
+    locked: Mutex<Logged<L>>,
+}
+
+impl<L: Ledger> Model for SharedExporter<L> {
+    ghost use Rattle.pybuf_share.specs.History.{Opening};
+
+    ghost Value = { Opening };
+
+    ghost view = { λ s. record { kind = s.kind; bytes = s.opening } };
+}
+
+impl<L: Ledger> SharedExporter<L> {
+    ghost use Rattle.pybuf_state.specs.Fits.{LoansFit};
+    ghost use Rattle.pybuf_share.specs.Sessions.{sessions_from, IsAnswered};
+
+    /// An exporter of a kind and of these bytes, and so many sessions, numbered from 0, each of which has one part of
+    /// the ledger.
+    pub fn start(
+        alloc: Global,
+        blank: Blank,
+        kind: ExporterKind,
+        bytes: ByteList,
+        sessions: usize,
+    ) -> Made<(SharedExporter<L>, Vec<Session<L>>)>
+        requires some { 0 < sessions }
+        requires most { sessions ≤ 1024 }
+        requires name { blank.name ≡ L.name }
+        requires parts { blank.parts ≡ L.parts }
+        requires each { blank.parts ≡ sessions }
+        ensures opening { IfOk result (λ r. r.0 ≡ record { kind = kind; bytes = bytes }) }
+        ensures sessions { IfOk result (λ r. r.1.items ≡ sessions_from 0 sessions) }
+    {
+        let opening = bytes.copy(alloc)?;
+        let (logged, made) = Logged::start(alloc, blank, kind, bytes, sessions)?;
+        let shared = SharedExporter {
+            kind,
+            opening,
+            alloc,
+            locked: Mutex::new(logged),
+        };
+        Ok((shared, made))
+    }
+
+    /// Carries out a command of a session, with the lock held, and gives the session a receipt with its number, the
+    /// command, and the reply. It waits while another call holds the lock.
+    ///
+    /// Where memory runs out, the session is as before, and the exporter and its history too.
+    pub fn call<R: Wait>(&self, rt: &R, session: &mut Session<L>, command: LocalCommand) -> Made<()>
+        requires { LoansFit command.loans }
+        ensures ok { OnOk result (IsAnswered session.old command session.new) }
+        ensures err { OnErr result (session.new ≡ session.old) }
+    {
+        self.call_gated(rt, session, command, &OpenGate)
+    }
+
+    /// The same, by a gate: `before` is called without the lock, and `inside` with it held, each with the session's
+    /// number and the number of its receipts so far.
+    pub fn call_gated<R: Wait, G: Gate>(
+        &self,
+        rt: &R,
+        session: &mut Session<L>,
+        command: LocalCommand,
+        gate: &G,
+    ) -> Made<()>
+        requires { LoansFit command.loans }
+        ensures ok { OnOk result (IsAnswered session.old command session.new) }
+        ensures err { OnErr result (session.new ≡ session.old) }
+    {
+        match session.prepare(self.alloc, &command) {
+            Ok(kept) => self.call_prepared(rt, session, kept, command, gate),
+            Err(NoMemory) => {
+                // by a call, since a command that ends with its scope spells out all its variants
+                drop(command);
+                Err(NoMemory)
+            }
+        }
+    }
+
+    /// The same of a command that is there twice: for the history, and for the receipt.
+    fn call_prepared<R: Wait, G: Gate>(
+        &self,
+        rt: &R,
+        session: &mut Session<L>,
+        kept: LocalCommand,
+        own: LocalCommand,
+        gate: &G,
+    ) -> Made<()>
+        requires fit { LoansFit own.loans }
+        requires same { kept ≡ own }
+        ensures ok { OnOk result (IsAnswered session.old own session.new) }
+        ensures err { OnErr result (session.new ≡ session.old) }
+    {
+        let number = session.number();
+        let turn = session.receipts().len() as u64;
+        gate.before(number, turn);
+        let mut logged = self.locked.lock(rt);
+        gate.inside(number, turn);
+        session.ask(&mut logged, kept, own)
+    }
+}
