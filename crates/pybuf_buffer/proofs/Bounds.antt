@@ -1,13 +1,12 @@
 -- How many ranges there are at most.
-use Rattle.std.proofs.Common.{◌≡◌, ℕ, zero, suc, ◌-◌, ◌*◌, ◌<◌, ◌≤◌, ℤ, pos, true, false, true≢false, List, [], ◌∷◌, length, take, drop, le_refl, mul-le-mul_left, mul-pos, zero-mul, pos_of_ne-zero, refl, ap, sym, ◌∙◌, subst, arith}
-use Rattle.std.specs.Prelude.{slice_get, Option, None, Some, ◌==◌, if◌then◌else◌}
-use Rattle.std.specs.Ordering.{int_eq}
+use Rattle.std.proofs.Common.{◌≡◌, ℕ, zero, suc, ◌-◌, ◌*◌, ◌<◌, ◌≤◌, ℤ, pos, true, List, [], ◌∷◌, length, take, drop, le_refl, mul-le-mul_left, mul-pos, zero-mul, pos_of_ne-zero, refl, ap, sym, ◌∙◌, subst, arith}
+use Rattle.std.specs.Prelude.{slice_get, ◌==◌, if◌then◌else◌}
 use Rattle.std.proofs.lemmas.Bool.Decides.{Decides-int_eq}
 use Rattle.pybuf_desc.specs.Layouts.{Layout, product}
 use Rattle.pybuf_desc.specs.Strides.{AreRowMajor}
 use Rattle.pybuf_desc.specs.Tails.{tail_of_layout}
 use Rattle.pybuf_desc.specs.Laws.{IsTail, TailsAreGreatest}
-use Rattle.pybuf_buffer.specs.Appending.{range_count, shape_before_tail}
+use Rattle.pybuf_buffer.specs.Appending.{shape_before_tail}
 use Rattle.pybuf_buffer.specs.Laws.{RangeCountsAreBounded, RangeCountsAreBoundedByRows, has_joined_rows, is_stride}
 
 -- ---- none, or a number
@@ -47,6 +46,10 @@ all_first (x ∷ xs) = ap (λ (ys : List ℕ). x ∷ ys) (all_first xs)
 none_first : (k : ℕ) (xs : List ℕ) → k ≡ 0 → product (take k xs) ≡ 1
 none_first zero xs e = refl
 none_first (suc k) xs e = absurd (omega (arith, e))
+
+nothing_first : (k : ℕ) → product (take k []) ≤ 1
+nothing_first zero = le_refl 1
+nothing_first (suc k) = le_refl 1
 
 -- ---- by the tail
 
@@ -103,7 +106,9 @@ are_bounded_by_rows greatest view long = record {
   apart =
       at_most (product view.shape) (product (shape_before_tail view)) (product view.shape)
       (λ some.
-          subst (λ (xs : List ℕ). product (shape_before_tail view) ≤ product xs) (all_first view.shape)
-          (fewer_first (length view.shape - tail_of_layout view) (length view.shape) view.shape (omega arith) some));
-  alone = λ e. subst (λ (shape : List ℕ). (if product shape == 0 then 0 else product (take (length shape - tail_of_layout view) shape)) ≤ 1) (sym e) (le_refl 1);
+      subst (λ (xs : List ℕ). product (shape_before_tail view) ≤ product xs) (all_first view.shape)
+      (fewer_first (length view.shape - tail_of_layout view) (length view.shape) view.shape (omega arith) some));
+  alone = λ e.
+      at_most (product view.shape) (product (shape_before_tail view)) 1
+      (λ _. subst (λ (shape : List ℕ). product (take (length view.shape - tail_of_layout view) shape) ≤ 1) (sym e) (nothing_first (length view.shape - tail_of_layout view)));
 }
