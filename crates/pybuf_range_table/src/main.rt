@@ -41,10 +41,8 @@ fn stride_before(shape: &[u8]) -> isize {
 /// Items one after the other in a shape, from place 0 on.
 fn row_major(alloc: Global, shape: &[u8]) -> Made<BufferDescriptor> {
     let mut dims = DimList::new(alloc);
-    let mut later = shape;
-    while let Some((n, rest)) = later.split_first() {
-        dims.push((*n as usize, stride_before(rest), 0))?;
-        later = rest;
+    for k in 0..shape.len() {
+        dims.push((shape[k] as usize, stride_before(&shape[k + 1..]), 0))?;
     }
     Ok(BufferDescriptor::raw(
         bytes_of(shape),
@@ -128,28 +126,25 @@ fn push_shape(alloc: Global, text: &mut String, shape: &[u8]) -> Made<()> {
     Ok(())
 }
 
-/// The next shape of as many dimensions, and whether there was one: the last entry goes up, and where
-/// it is 3, it goes back to 0 and the one before it goes up.
-fn next_shape(shape: &mut [u8]) -> bool {
-    let mut k = shape.len();
-    while k > 0 {
-        k -= 1;
-        if shape[k] < 3 {
-            shape[k] += 1;
-            return true;
-        }
-        shape[k] = 0;
+/// Adds the lines of the shapes of four dimensions that begin with an entry.
+fn push_deepest(alloc: Global, text: &mut String, first: u8) -> Made<()> {
+    for n in 0u8..64 {
+        push_shape(alloc, text, [first, n / 16, n / 4 % 4, n % 4].as_slice())?;
     }
-    false
+    Ok(())
 }
 
-/// Adds the lines of the shapes of so many dimensions.
-fn push_shapes(alloc: Global, text: &mut String, shape: &mut [u8]) -> Made<()> {
-    for _ in 0..256 {
-        push_shape(alloc, text, shape)?;
-        if !next_shape(shape) {
-            return Ok(());
-        }
+/// Adds the lines of the shapes of three dimensions and of fewer.
+fn push_shallow(alloc: Global, text: &mut String) -> Made<()> {
+    push_shape(alloc, text, [].as_slice())?;
+    for n in 0u8..4 {
+        push_shape(alloc, text, [n].as_slice())?;
+    }
+    for n in 0u8..16 {
+        push_shape(alloc, text, [n / 4, n % 4].as_slice())?;
+    }
+    for n in 0u8..64 {
+        push_shape(alloc, text, [n / 16, n / 4 % 4, n % 4].as_slice())?;
     }
     Ok(())
 }
@@ -157,11 +152,10 @@ fn push_shapes(alloc: Global, text: &mut String, shape: &mut [u8]) -> Made<()> {
 /// All lines.
 fn all(alloc: Global) -> Made<String> {
     let mut text = String::new(alloc);
-    push_shapes(alloc, &mut text, [].as_mut_slice())?;
-    push_shapes(alloc, &mut text, [0].as_mut_slice())?;
-    push_shapes(alloc, &mut text, [0, 0].as_mut_slice())?;
-    push_shapes(alloc, &mut text, [0, 0, 0].as_mut_slice())?;
-    push_shapes(alloc, &mut text, [0, 0, 0, 0].as_mut_slice())?;
+    push_shallow(alloc, &mut text)?;
+    for first in 0u8..4 {
+        push_deepest(alloc, &mut text, first)?;
+    }
     Ok(text)
 }
 
