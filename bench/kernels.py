@@ -3,7 +3,8 @@
 The words are a kernel, or `all`; how often it is called; the bytes of a kernel over bytes; the items of a
 kernel over items; the seed of the bytes; and `time`, where the time is to be told. For each kernel its name and
 a check sum are printed, and with `time` the nanoseconds of processor time that all calls took. The kernel
-`copy` copies so many bytes from one place to another, and nothing else.
+`copy` copies so many bytes from one place to another, and nothing else. A kernel behind `numpy-` is what numpy does
+of it, and `numpy-names` alone prints which there are.
 """
 import ctypes
 import struct
@@ -392,6 +393,58 @@ KERNELS = {
 }
 
 
+# what numpy does of the same, where it is installed: `tobytes` of its arrays, and their assignments
+
+
+def numpy_kernels():
+    try:
+        import numpy
+    except ImportError:
+        return {}
+
+    def array(plan, size):
+        return numpy.frombuffer(bytearray(drawn(plan, size)), dtype=numpy.uint8)
+
+    def in_numpy_planes(array):
+        return array.reshape(len(array) // PLANE, 256, 16)
+
+    def told(array):
+        return Kernel(array.tobytes, mark_of_bytes)
+
+    def put_in(target, source):
+        def call():
+            target[...] = source
+
+        return Kernel(call, no_answer)
+
+    def equal(plan):
+        one = array(plan, plan.size)
+        other = one.copy()
+        return Kernel(lambda: numpy.array_equal(one, other), as_number)
+
+    def overlapping(plan):
+        whole = array(plan, plan.size)
+        return put_in(whole[1:], whole[:-1])
+
+    def itself(plan):
+        whole = array(plan, plan.size)
+        return put_in(whole[::-1], whole)
+
+    return {
+        "tobytes-contiguous": lambda plan: told(array(plan, plan.size)),
+        "tobytes-stepped": lambda plan: told(array(plan, 2 * plan.size)[::2]),
+        "tobytes-reversed": lambda plan: told(array(plan, plan.size)[::-1]),
+        "tobytes-planes": lambda plan: told(in_numpy_planes(array(plan, 2 * plan.size))[::2]),
+        "set-contiguous": lambda plan: put_in(array(plan, plan.size), array(plan, plan.size)),
+        "set-stepped": lambda plan: put_in(array(plan, 2 * plan.size)[::2], array(plan, 2 * plan.size)[::2]),
+        "set-reversed": lambda plan: put_in(array(plan, plan.size), array(plan, plan.size)[::-1]),
+        "set-planes": lambda plan: put_in(array(plan, plan.size).reshape(-1, 256, 16), in_numpy_planes(array(plan, 2 * plan.size))[::2]),
+        "set-overlapping": overlapping,
+        "set-itself": itself,
+        "compare-beside": equal,
+    }
+
+
 class Plan:
     """The sizes of the kernels."""
 
@@ -400,8 +453,15 @@ class Plan:
 
 
 def main():
+    if sys.argv[1] == "numpy-names":
+        print(*numpy_kernels())
+        return
     name, calls, size, count, seed = sys.argv[1], *map(int, sys.argv[2:6])
     plan = Plan(size, count, seed)
+    if name.startswith("numpy-"):
+        mark, taken = numpy_kernels()[name.removeprefix("numpy-")](plan).measure(calls)
+        print(name, mark, taken)
+        return
     for each, kernel in {**KERNELS, "copy": copy}.items():
         if name == each or name == "all" and each != "copy":
             mark, taken = kernel(plan).measure(calls)

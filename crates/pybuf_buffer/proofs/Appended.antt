@@ -1,5 +1,5 @@
 -- What a walk that appends its ranges keeps.
-use Rattle.std.proofs.Common.{◌≡◌, ℕ, suc, ◌+◌, ◌-◌, ◌*◌, ◌≤◌, List, ◌∷◌, ◌++◌, length, drop, arith, append_assoc, ap, ap₂, sym, subst, ◌∙◌}
+use Rattle.std.proofs.Common.{◌≡◌, ℕ, suc, ◌+◌, ◌-◌, ◌*◌, ◌≤◌, List, ◌∷◌, ◌++◌, length, drop, le_refl, arith, append_assoc, ap, ap₂, sym, subst, ◌∙◌}
 use Rattle.std.specs.Prelude.{All, pos, true}
 use Rattle.std.specs.declared.ops.Range.{Range}
 use Rattle.std.specs.List.{flat_map}
@@ -63,5 +63,5 @@ one_step_more range ranges rest old new total same grown so_far = let long : len
 pub walk_long : RangesHaveTheContent → ContentsAreWhole → (d : Descriptor) (start : ℕ) (layout : Layout) (bytes : List ℕ) → IsPlaced d start → IsValid d start (length bytes) → Stands d start layout → HasItemsOfItsShape layout → LiesInside (length bytes) layout
     → length (flat_map (bytes_in bytes) (ranges_of d (pos start) (joined_count d true))) ≡ d.len
 walk_long content whole d start layout bytes placed valid stands items inside =
-    ap length (content d start true layout bytes placed stands) ∙ whole bytes layout inside ∙ ap (λ (n : ℕ). layout.itemsize * n) items
+    ap length (content d start (joined_count d true) layout bytes placed (le_refl (joined_count d true)) stands) ∙ whole bytes layout inside ∙ ap (λ (n : ℕ). layout.itemsize * n) items
     ∙ ap₂ (λ (size : ℕ) (shape : List ℕ). size * product shape) (sym stands.itemsize) (sym stands.shape) ∙ valid.len

@@ -1,22 +1,20 @@
 -- The ranges of the joined walk over the items of a view: how many there are, and where they lie.
-use Rattle.std.proofs.Common.{◌≡◌, ℕ, zero, suc, ◌+◌, ◌*◌, ◌-◌, ◌<◌, ◌≤◌, ℤ, pos, Bool, true, false, List, [], ◌∷◌, length, map, take, drop, ap, ap₂, sym, ◌∙◌, refl, subst, true≢false, arith}
-use Rattle.std.specs.Prelude.{All, Option, Some, None, slice_get, slice_index_or, ◌==◌, ◌&&◌, ◌+ℤ◌, ◌*ℤ◌, if◌then◌else◌}
-use Rattle.std.specs.Ordering.{int_eq}
-use Rattle.std.specs.Option.{option_map}
+use Rattle.std.proofs.Common.{◌≡◌, ℕ, zero, suc, ◌+◌, ◌*◌, ◌-◌, ◌<◌, ◌≤◌, ℤ, pos, Bool, true, false, List, [], ◌∷◌, length, map, take, drop, ap, ap₂, sym, ◌∙◌, refl, true≢false, arith}
+use Rattle.std.specs.Prelude.{All, slice_index_or, ◌==◌, ◌+ℤ◌, ◌*ℤ◌, if◌then◌else◌}
 use Rattle.std.specs.List.{flat_map, range_with_len}
 use Rattle.std.specs.declared.ops.Range.{Range}
-use Rattle.std.proofs.lemmas.Option.{slice_get-map, slice_get_within, get_or_from_slice_get}
-use Rattle.std.proofs.lemmas.List.{take-map, take_all, length-map, length-append}
+use Rattle.std.proofs.lemmas.List.{take-map, length-map, length-append}
 use Rattle.std.proofs.lemmas.List.FromFn.{length-range_with_len}
 use Rattle.std.proofs.lemmas.List.Elements.{All-map, All-nil}
 use Rattle.pybuf_desc.specs.Layouts.{Layout, product}
 use Rattle.pybuf_desc.specs.Descriptor.{Descriptor, shape_of, strides_of}
 use Rattle.pybuf_desc.specs.Places.{places, Stands}
 use Rattle.pybuf_desc.specs.Valid.{IsPlaced}
-use Rattle.pybuf_desc.specs.Segments.{range_at, ranges_of, joined_count, joined_dims, outer_dims, is_row_contiguous, last_dim}
+use Rattle.pybuf_desc.specs.Tails.{tail_of, tail_of_strides}
+use Rattle.pybuf_desc.specs.Segments.{range_at, ranges_of, joined_count, joined_dims, outer_dims}
 use Rattle.std.proofs.Math.Nat.{mul-pos}
 use Rattle.pybuf_buffer.specs.Laws.{RangesAreCounted}
-use Rattle.pybuf_buffer.specs.Appending.{range_count, is_stride, outer_shape}
+use Rattle.pybuf_buffer.specs.Appending.{range_count}
 
 -- ---- how many
 
@@ -32,45 +30,26 @@ length-places (dim ∷ dims) start =
     each_long (λ index. places dims (start +ℤ pos index *ℤ dim.1)) (product (shape_of dims)) (range_with_len 0 dim.0) (λ i. length-places dims (start +ℤ pos i *ℤ dim.1))
     ∙ ap (λ (n : ℕ). n * product (shape_of dims)) (length-range_with_len 0 dim.0)
 
-and_true : (b : Bool) → b && true ≡ b
-and_true true = refl
-and_true false = refl
-
-same_row : (itemsize : ℕ) (o : Option (ℕ × ℤ × ℤ)) → ((dim : ℕ × ℤ × ℤ) → o ≡ Some dim → dim.2 ≡ pos 0) → is_row_contiguous itemsize o ≡ is_stride itemsize (option_map (λ dim. dim.1) o)
-same_row itemsize None direct = refl
-same_row itemsize (Some dim) direct =
-    ap (λ (offset : ℤ). int_eq dim.1 (pos itemsize) && int_eq offset (pos 0)) (direct dim refl) ∙ and_true (int_eq dim.1 (pos itemsize))
-
-direct_at : (dims : List (ℕ × ℤ × ℤ)) (k : ℕ) (dim : ℕ × ℤ × ℤ) → All (λ dim. dim.2 ≡ pos 0) dims → slice_get dims k ≡ Some dim → dim.2 ≡ pos 0
-direct_at dims k dim all at = subst (λ (d : ℕ × ℤ × ℤ). d.2 ≡ pos 0) (get_or_from_slice_get dims k dim dim at) (all k dim (slice_get_within dims k dim at))
-
-row_is_joined : (d : Descriptor) → All (λ dim. dim.2 ≡ pos 0) d.dims → is_row_contiguous d.itemsize (last_dim d.dims) ≡ is_stride d.itemsize (slice_get (strides_of d.dims) (length (strides_of d.dims) - 1))
-row_is_joined d all =
-    same_row d.itemsize (last_dim d.dims) (λ dim at. direct_at d.dims (length d.dims - 1) dim all at)
-    ∙ ap (is_stride d.itemsize) (sym (slice_get-map (λ (dim : ℕ × ℤ × ℤ). dim.1) d.dims (length d.dims - 1)))
-    ∙ ap (λ (n : ℕ). is_stride d.itemsize (slice_get (strides_of d.dims) (n - 1))) (sym (length-map d.dims (λ (dim : ℕ × ℤ × ℤ). dim.1)))
-
-outer_is : (dims : List (ℕ × ℤ × ℤ)) (joined : Bool) → product (shape_of (outer_dims (if joined then 1 else 0) dims)) ≡ (if joined then product (outer_shape (shape_of dims)) else product (shape_of dims))
-outer_is dims true = ap product (sym (take-map (λ (dim : ℕ × ℤ × ℤ). dim.0) (length dims - 1) dims) ∙ ap (λ (n : ℕ). take (n - 1) (shape_of dims)) (sym (length-map dims (λ (dim : ℕ × ℤ × ℤ). dim.0))))
-outer_is dims false = let all : length dims - 0 ≡ length dims = omega arith in ap (λ (n : ℕ). product (shape_of (take n dims))) all ∙ ap (λ (ds : List (ℕ × ℤ × ℤ)). product (shape_of ds)) (take_all (length dims) dims (omega arith))
+outer_is : (dims : List (ℕ × ℤ × ℤ)) (joined : ℕ) → product (shape_of (outer_dims joined dims)) ≡ product (take (length (shape_of dims) - joined) (shape_of dims))
+outer_is dims joined =
+    ap product (sym (take-map (λ (dim : ℕ × ℤ × ℤ). dim.0) (length dims - joined) dims) ∙ ap (λ (n : ℕ). take (n - joined) (shape_of dims)) (sym (length-map dims (λ (dim : ℕ × ℤ × ℤ). dim.0))))
 
 counted : (empty : Bool) (f : ℤ → Range ℕ) (ps : List ℤ) (n : ℕ) → length ps ≡ n → length (if empty then [] else map f ps) ≡ (if empty then 0 else n)
 counted true f ps n same = refl
 counted false f ps n same = length-map ps f ∙ same
 
 -- of a descriptor
-ranges_counted : (d : Descriptor) (start : ℤ) (joined : Bool) → length (ranges_of d start (if joined then 1 else 0)) ≡ (if product (shape_of d.dims) == 0 then 0 else if joined then product (outer_shape (shape_of d.dims)) else product (shape_of d.dims))
+ranges_counted : (d : Descriptor) (start : ℤ) (joined : ℕ) → length (ranges_of d start joined) ≡ (if product (shape_of d.dims) == 0 then 0 else product (take (length (shape_of d.dims) - joined) (shape_of d.dims)))
 ranges_counted d start joined =
-    counted (product (shape_of d.dims) == 0) (range_at (product (shape_of (joined_dims (if joined then 1 else 0) d.dims)) * d.itemsize)) (places (outer_dims (if joined then 1 else 0) d.dims) start)
-    (if joined then product (outer_shape (shape_of d.dims)) else product (shape_of d.dims)) (length-places (outer_dims (if joined then 1 else 0) d.dims) start ∙ outer_is d.dims joined)
+    counted (product (shape_of d.dims) == 0) (range_at (product (shape_of (joined_dims joined d.dims)) * d.itemsize)) (places (outer_dims joined d.dims) start)
+    (product (take (length (shape_of d.dims) - joined) (shape_of d.dims))) (length-places (outer_dims joined d.dims) start ∙ outer_is d.dims joined)
 
 -- of the view that it stands for
 pub ranges_are_counted : (d : Descriptor) (start : ℕ) (layout : Layout) → IsPlaced d start → Stands d start layout → length (ranges_of d (pos start) (joined_count d true)) ≡ range_count layout
 ranges_are_counted d start layout placed stands =
-    ranges_counted d (pos start) (is_row_contiguous d.itemsize (last_dim d.dims))
-    ∙ ap (λ (joined : Bool). if product (shape_of d.dims) == 0 then 0 else if joined then product (outer_shape (shape_of d.dims)) else product (shape_of d.dims)) (row_is_joined d placed.valid.suboffsets)
-    ∙ ap (λ (shape : List ℕ). if product shape == 0 then 0 else if is_stride d.itemsize (slice_get (strides_of d.dims) (length (strides_of d.dims) - 1)) then product (outer_shape shape) else product shape) stands.shape
-    ∙ ap₂ (λ (size : ℕ) (strides : List ℤ). if product layout.shape == 0 then 0 else if is_stride size (slice_get strides (length strides - 1)) then product (outer_shape layout.shape) else product layout.shape) stands.itemsize stands.strides
+    ranges_counted d (pos start) (tail_of d)
+    ∙ ap (λ (shape : List ℕ). if product shape == 0 then 0 else product (take (length shape - tail_of_strides d.itemsize shape (strides_of d.dims)) shape)) stands.shape
+    ∙ ap₂ (λ (size : ℕ) (strides : List ℤ). if product layout.shape == 0 then 0 else product (take (length layout.shape - tail_of_strides size layout.shape strides) layout.shape)) stands.itemsize stands.strides
 
 -- ---- where
 

@@ -202,9 +202,9 @@ impl PyBuffer {
         Ok((state, PyBuffer { view }))
     }
 
-    /// Appends the bytes of the buffer's items, in order. A row of items that lie one after the other
-    /// is one step, any other item is one. Where memory runs out, nothing is appended, and no step
-    /// taken.
+    /// Appends the bytes of the buffer's items, in order. A block of items that lie one after the other
+    /// is one step, as the walk with `join` has it. Where memory runs out, nothing is appended, and no
+    /// step taken.
     pub fn append_to<L: Ledger>(
         &self,
         state: &ExporterState,

@@ -172,11 +172,11 @@ same_anywhere d start other view other_view stands stands_too =
 
 -- ---- by strides
 
-to_layout : (size : ℕ) (dims : List (ℕ × ℤ × ℤ)) → AreRowMajorStrides size dims → AreRowMajor size (shape_of dims) (strides_of dims)
+pub to_layout : (size : ℕ) (dims : List (ℕ × ℤ × ℤ)) → AreRowMajorStrides size dims → AreRowMajor size (shape_of dims) (strides_of dims)
 to_layout size [] fit = tt
 to_layout size (dim ∷ dims) fit = (fit.0, to_layout size dims fit.1)
 
-from_layout : (size : ℕ) (dims : List (ℕ × ℤ × ℤ)) → AreRowMajor size (shape_of dims) (strides_of dims) → AreRowMajorStrides size dims
+pub from_layout : (size : ℕ) (dims : List (ℕ × ℤ × ℤ)) → AreRowMajor size (shape_of dims) (strides_of dims) → AreRowMajorStrides size dims
 from_layout size [] fit = tt
 from_layout size (dim ∷ dims) fit = (fit.0, from_layout size dims fit.1)
 

@@ -23,6 +23,7 @@ pub mod ItemRuns
 pub mod ItemsApart
 pub mod SliceLayouts
 pub mod DescribedLayouts
+pub mod Tails
 pub mod RangeLaws
 pub mod PairFacts
 pub mod ShapedCasts

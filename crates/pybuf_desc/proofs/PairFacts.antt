@@ -1,6 +1,5 @@
 -- Two walks side by side.
-use Rattle.std.proofs.Common.{◌≡◌, ℕ, zero, suc, ◌+◌, ◌-◌, ◌*◌, ℤ, pos, nat_abs, Bool, true, false, cond, ◌&&◌, eqb, List, [], ◌∷◌, ◌++◌, length, map, take, drop, flat_map, refl, ap, ap₂, sym, ◌∙◌, subst, arith, Option, Some, None, Some, None}
-use Rattle.std.specs.Prelude.{◌==◌}
+use Rattle.std.proofs.Common.{◌≡◌, ℕ, zero, suc, ◌+◌, ◌-◌, ◌*◌, ◌<◌, ◌≤◌, ℤ, pos, nat_abs, Bool, true, false, cond, eqb, List, [], ◌∷◌, ◌++◌, length, map, take, drop, flat_map, refl, ap, ap₂, sym, ◌∙◌, subst, arith, Option, Some, None, Some, None}
 use Rattle.std.specs.Iterator.{YieldsFirst}
 use Rattle.std.specs.List.{zip}
 use Rattle.std.specs.declared.ops.Range.{Range}
@@ -10,36 +9,11 @@ use Rattle.pybuf_desc.specs.Layouts.{product}
 use Rattle.pybuf_desc.specs.Descriptor.{Descriptor, shape_of}
 use Rattle.pybuf_desc.specs.Places.{places}
 use Rattle.pybuf_desc.specs.Valid.{IsPlaced}
-use Rattle.pybuf_desc.specs.Segments.{range_at, ranges_of, joined_count, joined_dims, outer_dims, is_row_contiguous, last_dim, bytes_of, item_bytes}
-use Rattle.pybuf_desc.specs.Pairs.{are_rows_alike, joined_count_of_both, pairs_of}
+use Rattle.pybuf_desc.specs.Tails.{tail_of}
+use Rattle.pybuf_desc.specs.Segments.{range_at, ranges_of, joined_dims, outer_dims, bytes_of, item_bytes}
+use Rattle.pybuf_desc.specs.Pairs.{joined_count_of_both, pairs_of}
 use Rattle.pybuf_desc.proofs.Steps.{length-places}
-use Rattle.pybuf_desc.proofs.RangeLaws.{range_bytes}
-
--- ---- what both walks join
-
-one_side_joins : (join size one other : Bool) → (join && (size && (one && other))) && one ≡ join && (size && (one && other))
-one_side_joins false size one other = refl
-one_side_joins true false one other = refl
-one_side_joins true true false other = refl
-one_side_joins true true true false = refl
-one_side_joins true true true true = refl
-
-other_side_joins : (join size one other : Bool) → (join && (size && (one && other))) && other ≡ join && (size && (one && other))
-other_side_joins false size one other = refl
-other_side_joins true false one other = refl
-other_side_joins true true false other = refl
-other_side_joins true true true false = refl
-other_side_joins true true true true = refl
-
-pub one_count : (d other : Descriptor) (join : Bool) → joined_count d (join && are_rows_alike d other) ≡ joined_count_of_both d other join
-one_count d other join =
-    ap (λ (b : Bool). cond b 1 0)
-    (one_side_joins join (d.itemsize == other.itemsize) (is_row_contiguous d.itemsize (last_dim d.dims)) (is_row_contiguous other.itemsize (last_dim other.dims)))
-
-pub other_count : (d other : Descriptor) (join : Bool) → joined_count other (join && are_rows_alike d other) ≡ joined_count_of_both d other join
-other_count d other join =
-    ap (λ (b : Bool). cond b 1 0)
-    (other_side_joins join (d.itemsize == other.itemsize) (is_row_contiguous d.itemsize (last_dim d.dims)) (is_row_contiguous other.itemsize (last_dim other.dims)))
+use Rattle.pybuf_desc.proofs.SegmentFacts.{asked, range_bytes}
 
 -- ---- as many ranges on both sides
 
@@ -146,21 +120,23 @@ pub record ArePairs (d other : Descriptor) (start other_start : ℕ) (join : Boo
   pub other_bytes : flat_map bytes_of (map (λ pair. pair.1) pairs) ≡ item_bytes other (pos other_start)
   pub byte_by_byte : d.itemsize ≡ other.itemsize → flat_map (λ pair. zip (bytes_of pair.0) (bytes_of pair.1)) pairs ≡ zip (item_bytes d (pos start)) (item_bytes other (pos other_start))
 
-pub pairs_from : (d other : Descriptor) (start other_start : ℕ) (join found : Bool) (pairs : List (Range ℕ × Range ℕ)) → IsPlaced d start → IsPlaced other other_start → shape_of d.dims ≡ shape_of other.dims
-    → found ≡ join && are_rows_alike d other → pairs ≡ zip (ranges_of d (pos start) (joined_count d found)) (ranges_of other (pos other_start) (joined_count other found))
+pub pairs_from : (d other : Descriptor) (start other_start found : ℕ) (join : Bool) (pairs : List (Range ℕ × Range ℕ)) → IsPlaced d start → IsPlaced other other_start → shape_of d.dims ≡ shape_of other.dims
+    → found ≤ tail_of d → found ≤ tail_of other → (0 < product (shape_of d.dims) → 0 < product (shape_of other.dims) → found ≡ joined_count_of_both d other join)
+    → pairs ≡ zip (ranges_of d (pos start) found) (ranges_of other (pos other_start) found)
     → ArePairs d other start other_start join pairs
-pairs_from d other start other_start join found pairs placed other_placed same told made =
+pairs_from d other start other_start found join pairs placed other_placed same few other_few told made =
     let j : ℕ = joined_count_of_both d other join in
-    let one : joined_count d found ≡ j = ap (joined_count d) told ∙ one_count d other join in
-    let two : joined_count other found ≡ j = ap (joined_count other) told ∙ other_count d other join in
+    let one : ranges_of d (pos start) found ≡ ranges_of d (pos start) j = asked (product (shape_of d.dims)) d (pos start) found j refl (λ some. told some (subst (λ (n : ℕ). 0 < n) (ap product same) some)) in
+    let two : ranges_of other (pos other_start) found ≡ ranges_of other (pos other_start) j =
+    asked (product (shape_of other.dims)) other (pos other_start) found j refl (λ some. told (subst (λ (n : ℕ). 0 < n) (sym (ap product same)) some) some) in
     let xs : List (Range ℕ) = ranges_of d (pos start) j in
     let ys : List (Range ℕ) = ranges_of other (pos other_start) j in
-    let are : pairs ≡ zip xs ys = made ∙ ap₂ (λ (m n : ℕ). zip (ranges_of d (pos start) m) (ranges_of other (pos other_start) n)) one two in
+    let are : pairs ≡ zip xs ys = made ∙ ap₂ (λ (ms ns : List (Range ℕ)). zip ms ns) one two in
     let many : length xs ≡ length ys = same_number d other (pos start) (pos other_start) j same in
     let firsts : map (λ pair. pair.0) pairs ≡ xs = ap (map (λ (pair : Range ℕ × Range ℕ). pair.0)) are ∙ zip_firsts xs ys many in
     let seconds : map (λ pair. pair.1) pairs ≡ ys = ap (map (λ (pair : Range ℕ × Range ℕ). pair.1)) are ∙ zip_seconds xs ys many in
-    let bytes : flat_map bytes_of xs ≡ item_bytes d (pos start) = subst (λ (n : ℕ). flat_map bytes_of (ranges_of d (pos start) n) ≡ item_bytes d (pos start)) one (range_bytes d start found placed) in
-    let other_bytes : flat_map bytes_of ys ≡ item_bytes other (pos other_start) = subst (λ (n : ℕ). flat_map bytes_of (ranges_of other (pos other_start) n) ≡ item_bytes other (pos other_start)) two (range_bytes other other_start found other_placed) in
+    let bytes : flat_map bytes_of xs ≡ item_bytes d (pos start) = ap (λ (rs : List (Range ℕ)). flat_map bytes_of rs) (sym one) ∙ range_bytes d start found placed few in
+    let other_bytes : flat_map bytes_of ys ≡ item_bytes other (pos other_start) = ap (λ (rs : List (Range ℕ)). flat_map bytes_of rs) (sym two) ∙ range_bytes other other_start found other_placed other_few in
     record {
       pairs_are = are;
       first = firsts;

@@ -1,47 +1,22 @@
 -- The ranges of a walk and the view that it goes over.
-use Rattle.std.proofs.Common.{◌≡◌, ℕ, zero, suc, ◌+◌, ◌-◌, ◌*◌, ◌<◌, ◌≤◌, ℤ, pos, nat_abs, Bool, true, false, cond, List, [], ◌∷◌, ◌++◌, length, map, take, drop, take-append-drop, flat_map, refl, ap, ap₂, sym, ◌∙◌, subst, arith, mul-pos, true≢false, Option, Some, None, slice_get, eqb}
+use Rattle.std.proofs.Common.{◌≡◌, ℕ, zero, suc, ◌+◌, ◌-◌, ◌*◌, ◌<◌, ◌≤◌, ℤ, pos, nat_abs, cond, List, [], ◌∷◌, ◌++◌, length, map, take, drop, flat_map, refl, ap, ap₂, sym, ◌∙◌, subst, arith, mul-pos, slice_get, eqb}
 use Rattle.std.specs.Prelude.{All}
 use Rattle.std.specs.List.{range_with_len, cons_option, filter_map}
 use Rattle.std.specs.declared.ops.Range.{Range}
 use Rattle.std.proofs.lemmas.Grind.{common_steps}
 use Rattle.std.proofs.lemmas.List.Elements.{filter_map-append, All-append, All-nil, All-cons, All-head, All-tail, All-from_recursion, recursion_from_All}
 use Rattle.std.proofs.lemmas.List.FromFn.{length-range_with_len, get_or-range_with_len}
-use Rattle.pybuf_desc.specs.Layouts.{Layout, LiesInside, product}
-use Rattle.pybuf_desc.specs.Items.{bytes_of_items, content_of_layout}
-use Rattle.pybuf_desc.specs.Descriptor.{Descriptor, shape_of}
-use Rattle.pybuf_desc.specs.Places.{places, Stands}
-use Rattle.pybuf_desc.specs.Valid.{IsPlaced}
-use Rattle.pybuf_desc.specs.Segments.{range_at, ranges_of, joined_count, joined_dims, outer_dims, is_row_contiguous, last_dim, bytes_of, bytes_in, item_bytes}
+use Rattle.pybuf_desc.specs.Layouts.{product}
+use Rattle.pybuf_desc.specs.Items.{bytes_of_items}
+use Rattle.pybuf_desc.specs.Descriptor.{shape_of}
+use Rattle.pybuf_desc.specs.Places.{places}
+use Rattle.pybuf_desc.specs.Segments.{range_at, ranges_of, joined_dims, outer_dims, bytes_of, bytes_in, item_bytes}
+use Rattle.pybuf_desc.specs.Laws.{RangesHaveTheContent, RangesStayInside}
 use Rattle.pybuf_desc.proofs.Inside.{ByRec-left, ByRec-right}
 use Rattle.pybuf_desc.proofs.Products.{AreNonzero, product-pos}
 use Rattle.pybuf_desc.proofs.Strides.{some_entries}
 use Rattle.pybuf_desc.proofs.DescribedLayouts.{starts_of_stands}
-use Rattle.pybuf_desc.proofs.SegmentFacts as segment
-use Rattle.pybuf_desc.proofs.SegmentFacts.{IsRows, none_joined, one_joined, asked_none, bytes_none, last_joined, ranges_of_rows, bytes_of_rows, row_gap, not_none}
-
--- ---- put end to end, the ranges have the places of the items' bytes
-
-rows_and_last : (dims : List (ℕ × ℤ × ℤ)) (last : ℕ × ℤ × ℤ) → last_dim dims ≡ Some last → dims ≡ outer_dims 1 dims ++ last ∷ []
-rows_and_last dims last e = sym (ap (λ (ds : List (ℕ × ℤ × ℤ)). outer_dims 1 dims ++ ds) (sym (last_joined dims last e)) ∙ take-append-drop (length dims - 1) dims)
-
-joined_bytes : (n : ℕ) (d : Descriptor) (start : ℕ) (last : ℕ × ℤ × ℤ) → product (shape_of d.dims) ≡ n → last_dim d.dims ≡ Some last → is_row_contiguous d.itemsize (last_dim d.dims) ≡ true → IsPlaced d start
-    → flat_map bytes_of (ranges_of d (pos start) 1) ≡ item_bytes d (pos start)
-joined_bytes zero d start last none e fit placed = ap (λ (rs : List (Range ℕ)). flat_map bytes_of rs) (asked_none d (pos start) 1 none) ∙ bytes_none d (pos start) none
-joined_bytes (suc n) d start last count e fit placed =
-    let some : 0 < product (shape_of d.dims) = omega (arith, count) in
-    let r : IsRows d start (outer_dims 1 d.dims) last = record { placed = placed; dims = rows_and_last d.dims last e; some = some_entries d.dims some } in
-    ap (λ (rs : List (Range ℕ)). flat_map bytes_of rs) (one_joined d (pos start) fit ∙ sym (ranges_of_rows d start (outer_dims 1 d.dims) last r))
-    ∙ bytes_of_rows d start (outer_dims 1 d.dims) last r (row_gap d.itemsize (last_dim d.dims) last e fit)
-
-by_row : (d : Descriptor) (start : ℕ) (b : Bool) (o : Option (ℕ × ℤ × ℤ)) → is_row_contiguous d.itemsize o ≡ b → last_dim d.dims ≡ o → IsPlaced d start
-    → flat_map bytes_of (ranges_of d (pos start) (cond b 1 0)) ≡ item_bytes d (pos start)
-by_row d start false o fit e placed = ap (λ (rs : List (Range ℕ)). flat_map bytes_of rs) (none_joined d (pos start)) ∙ segment.bytes_of_items d (pos start)
-by_row d start true None fit e placed = absurd (true≢false (sym fit))
-by_row d start true (Some last) fit e placed = joined_bytes (product (shape_of d.dims)) d start last refl e (ap (is_row_contiguous d.itemsize) e ∙ fit) placed
-
-pub range_bytes : (d : Descriptor) (start : ℕ) (join : Bool) → IsPlaced d start → flat_map bytes_of (ranges_of d (pos start) (joined_count d join)) ≡ item_bytes d (pos start)
-range_bytes d start false placed = ap (λ (rs : List (Range ℕ)). flat_map bytes_of rs) (none_joined d (pos start)) ∙ segment.bytes_of_items d (pos start)
-range_bytes d start true placed = by_row d start (is_row_contiguous d.itemsize (last_dim d.dims)) (last_dim d.dims) refl refl placed
+use Rattle.pybuf_desc.proofs.SegmentFacts.{not_none, range_bytes}
 
 -- ---- and so the bytes of the items
 
@@ -73,11 +48,10 @@ bytes_of_places bytes size (p ∷ ps) =
     filter_map-append (slice_get bytes) (range_with_len (nat_abs p) size) (flat_map (λ place. range_with_len (nat_abs place) size) ps)
     ∙ ap₂ (λ (xs ys : List ℕ). xs ++ ys) (run_of_bytes bytes (nat_abs p) size) (bytes_of_places bytes size ps)
 
-pub ranges_content : (d : Descriptor) (start : ℕ) (join : Bool) (view : Layout) (bytes : List ℕ) → IsPlaced d start → Stands d start view
-    → flat_map (λ range. bytes_in bytes range) (ranges_of d (pos start) (joined_count d join)) ≡ content_of_layout bytes view
-ranges_content d start join view bytes placed stands =
-    bytes_of_ranges bytes (ranges_of d (pos start) (joined_count d join))
-    ∙ ap (bytes_at_places bytes) (range_bytes d start join placed) ∙ bytes_of_places bytes d.itemsize (places d.dims (pos start))
+pub ranges_content : RangesHaveTheContent
+ranges_content d start joined view bytes placed few stands =
+    bytes_of_ranges bytes (ranges_of d (pos start) joined)
+    ∙ ap (bytes_at_places bytes) (range_bytes d start joined placed few) ∙ bytes_of_places bytes d.itemsize (places d.dims (pos start))
     ∙ ap₂ (λ (size : ℕ) (starts : List ℕ). bytes_of_items bytes size starts) stands.itemsize (starts_of_stands d start view stands)
 
 -- ---- inside
@@ -128,12 +102,10 @@ some_drop zero dims some = some
 some_drop (suc k) [] some = tt
 some_drop (suc k) (dim ∷ dims) some = some_drop k dims some.1
 
-pub ranges_inside : (d : Descriptor) (start : ℕ) (join : Bool) (view : Layout) (room : ℕ) → IsPlaced d start → Stands d start view → LiesInside room view
-    → All (λ (range : Range ℕ). range.end ≤ room) (ranges_of d (pos start) (joined_count d join))
-ranges_inside d start join view room placed stands inside =
-    let joined : ℕ = joined_count d join in
+pub ranges_inside : RangesStayInside
+ranges_inside d start joined view room placed few stands inside =
     let places_are : item_bytes d (pos start) ≡ flat_map (λ place. range_with_len (nat_abs place) view.itemsize) (map (λ x. pos x) view.starts) =
     ap₂ (λ (size : ℕ) (ps : List ℤ). flat_map (λ place. range_with_len (nat_abs place) size) ps) stands.itemsize stands.starts in
     by_items (product (shape_of d.dims)) room (product (shape_of (joined_dims joined d.dims)) * d.itemsize) (places (outer_dims joined d.dims) (pos start))
     (λ some. mul-pos (product-pos (joined_dims joined d.dims) (some_drop (length d.dims - joined) d.dims (some_entries d.dims some))) placed.valid.some_size)
-    (subst (All (λ place. place < room)) (sym (range_bytes d start join placed ∙ places_are)) (items_inside room view.itemsize view.starts inside))
+    (subst (All (λ place. place < room)) (sym (range_bytes d start joined placed few ∙ places_are)) (items_inside room view.itemsize view.starts inside))

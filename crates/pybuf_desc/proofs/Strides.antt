@@ -36,7 +36,7 @@ next_size size k dims h g =
 pub strides_step : (size k : ℕ) (dims : List (ℕ × ℤ × ℤ)) → 0 < k → k ≤ length dims → (1 < (dim_at dims (k - 1)).0 → (dim_at dims (k - 1)).1 ≡ pos (size * product (shape_of (drop k dims)))) → AreRowMajorStrides size (drop k dims) → AreRowMajorStrides size (drop (k - 1) dims)
 strides_step size k dims h g fit later = subst (AreRowMajorStrides size) (sym (drop_before dims k h g)) (fit, later)
 
-strides-drop : (size k : ℕ) (dims : List (ℕ × ℤ × ℤ)) → AreRowMajorStrides size dims → AreRowMajorStrides size (drop k dims)
+pub strides-drop : (size k : ℕ) (dims : List (ℕ × ℤ × ℤ)) → AreRowMajorStrides size dims → AreRowMajorStrides size (drop k dims)
 strides-drop size zero dims h = h
 strides-drop size (suc k) [] h = tt
 strides-drop size (suc k) (dim ∷ dims) h = strides-drop size k dims h.1
@@ -88,3 +88,19 @@ bytes_fit d can some = subst (λ n. d.itemsize * n < 2 ^ 63) (sym (product-exten
 
 pub no_item : (d : Descriptor) → IsPlaceable d → d.len ≡ 0 → product (shape_of d.dims) ≡ 0
 no_item d can e = no_product d.itemsize (product (shape_of d.dims)) d.len can.placed.valid.len can.placed.valid.some_size e
+
+one_of : (n : ℕ) → 0 < n → (1 < n → ⊥) → 1 ≡ n
+one_of zero more few = absurd (omega (arith, more))
+one_of (suc zero) more few = refl
+one_of (suc (suc n)) more few = absurd (few (omega arith))
+
+-- a dimension of one entry leads nowhere
+pub entry_alone : (size k : ℕ) (dims : List (ℕ × ℤ × ℤ)) → 0 < k → k ≤ length dims → All (λ dim. 0 < dim.0) dims → (1 < (dim_at dims (k - 1)).0 → ⊥)
+    → (size * product (shape_of (drop k dims)) ≡ size * product (shape_of (drop (k - 1) dims))) × (AreRowMajorStrides size (drop k dims) → AreRowMajorStrides size (drop (k - 1) dims))
+entry_alone size k dims h g some few =
+    let below : k - 1 < length dims = omega (arith, h, g) in
+    let more : 0 < (dim_at dims (k - 1)).0 = some (k - 1) (0, pos 0, pos 0) below in
+    let whole : ℕ = size * product (shape_of (drop k dims)) in
+    let one : 1 ≡ (dim_at dims (k - 1)).0 = one_of (dim_at dims (k - 1)).0 more few in
+    let once : whole ≡ whole * 1 = omega arith in
+    (once ∙ ap (λ (n : ℕ). whole * n) one ∙ next_size size k dims h g, strides_step size k dims h g (λ two. absurd (few two)))

@@ -1,5 +1,5 @@
 -- What holds of views, and of the descriptors that stand for them.
-use Rattle.std.specs.Prelude.{◌≡◌, ◌≢◌, ◌↔◌, ℕ, ◌+◌, ◌*◌, ◌%◌, ◌^◌, ◌<◌, ℤ, pos, negsuc, ◌+ℤ◌, ◌≤ℤ◌, ◌<ℤ◌, ◌≤◌, nat_abs, Bool, List, [], ◌∷◌, length, slice_get, slice_index, true, None, Some}
+use Rattle.std.specs.Prelude.{◌≡◌, ◌≢◌, ◌↔◌, ℕ, ◌+◌, ◌-◌, ◌*◌, ◌%◌, ◌^◌, ◌<◌, ℤ, pos, negsuc, ◌+ℤ◌, ◌≤ℤ◌, ◌<ℤ◌, ◌≤◌, nat_abs, Bool, List, [], ◌∷◌, length, drop, slice_get, slice_index, true, None, Some}
 use Rattle.std.specs.List.{All, flat_map}
 use Rattle.std.specs.declared.ops.Range.{Range}
 use Rattle.pybuf_index.specs.Parts.{SliceParts}
@@ -7,7 +7,7 @@ use Rattle.pybuf_desc.specs.Layouts.{Layout, HasItemsOfItsShape, LiesInside, pro
 use Rattle.pybuf_desc.specs.Apart.{HasItemsApart}
 use Rattle.pybuf_desc.specs.Items.{content_of_layout}
 use Rattle.pybuf_desc.specs.Contiguous.{is_contiguous_layout}
-use Rattle.pybuf_desc.specs.Strides.{HasRowMajorStrides}
+use Rattle.pybuf_desc.specs.Strides.{AreRowMajor, HasRowMajorStrides}
 use Rattle.pybuf_desc.specs.Casts.{cast_count, cast_of}
 use Rattle.pybuf_desc.specs.ShapedCasts.{cast_to}
 use Rattle.pybuf_desc.specs.Packed.{row_major_of}
@@ -16,7 +16,8 @@ use Rattle.pybuf_desc.specs.Descriptor.{Descriptor}
 use Rattle.pybuf_desc.specs.Places.{Stands, layout_at}
 use Rattle.pybuf_desc.specs.Valid.{IsValid, IsPlaced}
 use Rattle.pybuf_desc.specs.Positions.{AreIndices, offset_of, number_of_item}
-use Rattle.pybuf_desc.specs.Segments.{ranges_of, joined_count, bytes_in}
+use Rattle.pybuf_desc.specs.Tails.{tail_of, tail_of_strides}
+use Rattle.pybuf_desc.specs.Segments.{ranges_of, bytes_in}
 
 -- ---- casts
 
@@ -163,15 +164,26 @@ PositionsArePlaces =
     (d : Descriptor) (start : ℕ) (view : Layout) (indices : List ℕ) → IsPlaced d start → Stands d start view → AreIndices indices d.dims
     → IsPosition view start (number_of_item indices d.dims) (offset_of indices d.dims)
 
--- ---- the ranges of a walk, whose rows may be joined
+-- ---- the tail, and the ranges of a walk that may join dimensions of it
+
+-- of the last `t` dimensions each that has more than one entry has as stride the item size times the
+-- product of the entries after it, and of no more of them
+pub record IsTail (itemsize : ℕ) (shape : List ℕ) (strides : List ℤ) (t : ℕ) : Type 0 where
+  pub few : t ≤ length shape
+  pub packed : AreRowMajor itemsize (drop (length shape - t) shape) (drop (length shape - t) strides)
+  pub greatest : (more : ℕ) → more ≤ length shape → AreRowMajor itemsize (drop (length shape - more) shape) (drop (length shape - more) strides) → more ≤ t
+
+abbrev pub TailsAreGreatest : Type 0
+TailsAreGreatest =
+    (itemsize : ℕ) (shape : List ℕ) (strides : List ℤ) → length shape ≡ length strides → IsTail itemsize shape strides (tail_of_strides itemsize shape strides)
 
 -- the bytes at the ranges, end to end, are those of the items in order
 abbrev pub RangesHaveTheContent : Type 0
 RangesHaveTheContent =
-    (d : Descriptor) (start : ℕ) (join : Bool) (view : Layout) (bytes : List ℕ) → IsPlaced d start → Stands d start view
-    → flat_map (λ range. bytes_in bytes range) (ranges_of d (pos start) (joined_count d join)) ≡ content_of_layout bytes view
+    (d : Descriptor) (start joined : ℕ) (view : Layout) (bytes : List ℕ) → IsPlaced d start → joined ≤ tail_of d → Stands d start view
+    → flat_map (λ range. bytes_in bytes range) (ranges_of d (pos start) joined) ≡ content_of_layout bytes view
 
 abbrev pub RangesStayInside : Type 0
 RangesStayInside =
-    (d : Descriptor) (start : ℕ) (join : Bool) (view : Layout) (room : ℕ) → IsPlaced d start → Stands d start view → LiesInside room view
-    → All (λ (range : Range ℕ). range.end ≤ room) (ranges_of d (pos start) (joined_count d join))
+    (d : Descriptor) (start joined : ℕ) (view : Layout) (room : ℕ) → IsPlaced d start → joined ≤ tail_of d → Stands d start view → LiesInside room view
+    → All (λ (range : Range ℕ). range.end ≤ room) (ranges_of d (pos start) joined)

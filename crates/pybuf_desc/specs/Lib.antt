@@ -13,6 +13,7 @@ pub mod RowMajor
 pub mod Packed
 pub mod PackedDescriptor
 pub mod Positions
+pub mod Tails
 pub mod Segments
 pub mod Laws
 pub mod Pairs

@@ -1,10 +1,10 @@
 -- The bytes of the items as ranges.
-use Rattle.std.specs.Prelude.{◌≡◌, ℕ, zero, suc, ◌+◌, ◌-◌, ◌*◌, Bool, true, false, ◌&&◌, ◌==◌, ℤ, pos, ◌+ℤ◌, ◌-ℤ◌, nat_abs, List, [], ◌∷◌, ◌++◌, length, take, drop, ◌^◌, ◌<◌, ◌≤◌, map, Option, None, Some, slice_get, if◌then◌else◌, ⊤}
-use Rattle.std.specs.Ordering.{int_eq}
+use Rattle.std.specs.Prelude.{◌≡◌, ℕ, zero, suc, ◌+◌, ◌-◌, ◌*◌, Bool, true, false, ◌==◌, ℤ, pos, ◌+ℤ◌, ◌-ℤ◌, nat_abs, List, [], ◌∷◌, ◌++◌, length, take, drop, ◌^◌, ◌<◌, ◌≤◌, map, if◌then◌else◌, ⊤}
 use Rattle.std.specs.List.{flat_map, range_with_len, AllByRecursion}
 use Rattle.std.specs.declared.ops.Range.{Range}
 use Rattle.pybuf_desc.specs.Layouts.{product}
 use Rattle.pybuf_desc.specs.Descriptor.{Descriptor, shape_of}
+use Rattle.pybuf_desc.specs.Tails.{tail_of}
 use Rattle.pybuf_desc.specs.Places.{places}
 use Rattle.pybuf_desc.specs.Positions.{offset_of, number_of_item}
 use Rattle.pybuf_desc.specs.Valid.{IsInside}
@@ -13,18 +13,9 @@ use Rattle.pybuf_desc.specs.Valid.{IsInside}
 abbrev pub range_at : ℕ → ℤ → Range ℕ
 range_at size place = record { start = nat_abs place; end = nat_abs place + size }
 
--- whether the items of a row lie one after the other
-abbrev pub is_row_contiguous : ℕ → Option (ℕ × ℤ × ℤ) → Bool
-is_row_contiguous itemsize None = false
-is_row_contiguous itemsize (Some last) = int_eq last.1 (pos itemsize) && int_eq last.2 (pos 0)
-
-abbrev pub last_dim : List (ℕ × ℤ × ℤ) → Option (ℕ × ℤ × ℤ)
-last_dim dims = slice_get dims (length dims - 1)
-
--- how many of the last dimensions a walk joins: one where it is asked to join rows, and the items of a
--- row lie one after the other
+-- how many of the last dimensions a walk joins: those of the tail where it is asked to join, else none
 abbrev pub joined_count : Descriptor → Bool → ℕ
-joined_count d join = if join && is_row_contiguous d.itemsize (last_dim d.dims) then 1 else 0
+joined_count d join = if join then tail_of d else 0
 
 -- so many of the last dimensions, and the dimensions before them
 abbrev pub joined_dims : ℕ → List (ℕ × ℤ × ℤ) → List (ℕ × ℤ × ℤ)

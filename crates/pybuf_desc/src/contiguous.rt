@@ -1,12 +1,14 @@
 //! Items one after the other without a gap.
-ghost use Rattle.std.specs.Prelude.{◌≡◌, ℕ, ◌*◌, ◌-◌, ◌^◌, ◌<◌, ◌↔◌, ℤ, pos, length, All, IsTrue, IsSomeAnd, slice_get};
+ghost use Rattle.std.specs.Prelude.{◌≡◌, ℕ, ◌*◌, ◌-◌, ◌^◌, ◌<◌, ◌≤◌, ◌↔◌, ℤ, pos, length, drop, All, IsTrue, IsSomeAnd, slice_get};
 ghost use Rattle.pybuf_desc.specs.Layouts.{Layout, product};
 ghost use Rattle.pybuf_desc.specs.Contiguous.{is_contiguous_layout};
 ghost use Rattle.pybuf_desc.specs.Descriptor.{shape_of};
 ghost use Rattle.pybuf_desc.specs.Places.{places, Stands};
 ghost use Rattle.pybuf_desc.specs.Valid.{IsPlaceable};
 ghost use Rattle.pybuf_desc.specs.RowMajor.{IsContiguous, AreRowMajorStrides};
+ghost use Rattle.pybuf_desc.specs.Tails.{tail_of};
 
+use crate::checks::has_zero;
 use crate::descriptor::BufferDescriptor;
 
 /// Whether each dimension of more than one entry has as stride the item size times the number of
@@ -31,7 +33,46 @@ fn has_row_major_strides(dims: &[(usize, isize, isize)], itemsize: usize) -> boo
     true
 }
 
+/// The number of dimensions before the greatest number of last ones of which each that has more than
+/// one entry has as stride the item size times the number of items of the later dimensions.
+fn dims_before_tail(dims: &[(usize, isize, isize)], itemsize: usize) -> usize
+    requires entries { All (λ dim. 0 < dim.0) dims.now }
+    requires fits { itemsize * product (shape_of dims.now) < 2 ^ 63 }
+    ensures few { result ≤ length dims.now }
+    ensures packed { AreRowMajorStrides itemsize (drop result dims.now) }
+    ensures greatest { 0 < result → AreRowMajorStrides itemsize (drop (result - 1) dims.now) → ⊥ }
+{
+    let mut size = itemsize;
+    let mut k = dims.len();
+    while k > 0 {
+        let shape = dims[k - 1].0;
+        if shape > 1 {
+            if dims[k - 1].1 != size as isize {
+                return k;
+            }
+            size *= shape;
+        }
+        k -= 1;
+    }
+    0
+}
+
 impl BufferDescriptor {
+    /// The tail: the greatest number of last dimensions of which each that has more than one entry has
+    /// as stride the item size times the product of the entries after it, where there are items. Takes
+    /// no memory.
+    pub(crate) fn tail(&self) -> usize
+        requires { IsPlaceable self.now }
+        ensures few { result ≤ tail_of self.now }
+        ensures whole { 0 < product (shape_of self.now.dims) → result ≡ tail_of self.now }
+    {
+        let dims = self.dim_desc();
+        if has_zero(dims) {
+            return 0;
+        }
+        dims.len() - dims_before_tail(dims, self.itemsize())
+    }
+
     /// Whether the items lie one after the other, row-major, without a gap: C-contiguous, as
     /// Python's C API has it under "Buffer Protocol", "Contiguity requests". Without items this is
     /// so. Takes no memory.

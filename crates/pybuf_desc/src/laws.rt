@@ -1,5 +1,5 @@
 //! Laws of the definitions that the contracts cite. Each stands on a function with an empty body.
-ghost use Rattle.pybuf_desc.specs.Laws.{CastsShareTheirBytes, CastsStayInside, CastsHaveTheirShape, CastsAreContiguous, FlatCastsHaveOneDimension, ShapedCastsShareTheirBytes, ShapedCastsStayInside, ShapedCastsHaveTheirShape, CopiesHaveTheirBytes, SlicesStayInside, SlicesHaveTheirShape, SlicingBackTwiceIsNothing, WholeLayoutsLieApart, SlicesLieApart, CastsLieApart, RowMajorLayoutsLieApart, PlacedDescriptorsStand, DescriptorsStandForOneView, DescribedViewsHaveTheirShape, ValidWhereItemsLieInside, ContiguityIsOfStrides, ContiguityIsTheSameAnywhere, PositionsArePlaces, RangesHaveTheContent, RangesStayInside};
+ghost use Rattle.pybuf_desc.specs.Laws.{CastsShareTheirBytes, CastsStayInside, CastsHaveTheirShape, CastsAreContiguous, FlatCastsHaveOneDimension, ShapedCastsShareTheirBytes, ShapedCastsStayInside, ShapedCastsHaveTheirShape, CopiesHaveTheirBytes, SlicesStayInside, SlicesHaveTheirShape, SlicingBackTwiceIsNothing, WholeLayoutsLieApart, SlicesLieApart, CastsLieApart, RowMajorLayoutsLieApart, PlacedDescriptorsStand, DescriptorsStandForOneView, DescribedViewsHaveTheirShape, ValidWhereItemsLieInside, ContiguityIsOfStrides, ContiguityIsTheSameAnywhere, PositionsArePlaces, TailsAreGreatest, RangesHaveTheContent, RangesStayInside};
 
 /// The items of a cast of a contiguous view have the view's bytes in their order: its items lie one
 /// new item size apart from the view's first place on, and make up all its bytes.
@@ -125,13 +125,20 @@ pub fn positions_are_places()
     ensures { PositionsArePlaces }
 {}
 
+/// The tail is the greatest number of last dimensions of which each that has more than one entry has as
+/// stride the item size times the product of the entries after it.
+pub fn tails_are_greatest()
+    ensures { TailsAreGreatest }
+{}
+
 /// The bytes at the ranges of a walk, one range after the other, are those of the items in order,
-/// whether rows are joined or not.
+/// however many dimensions of the tail are joined.
 pub fn ranges_have_the_content()
     ensures { RangesHaveTheContent }
 {}
 
-/// Where the items of a view lie inside, so do the ranges of a walk over them.
+/// Where the items of a view lie inside, so do the ranges of a walk over them, however many dimensions
+/// of the tail are joined.
 pub fn ranges_stay_inside()
     ensures { RangesStayInside }
 {}

@@ -22,7 +22,7 @@ pub use laws::{
     ranges_have_the_content, ranges_stay_inside, row_major_layouts_lie_apart,
     shaped_casts_have_their_shape, shaped_casts_share_their_bytes, shaped_casts_stay_inside,
     slices_have_their_shape, slices_lie_apart, slices_stay_inside, slicing_back_twice_is_nothing,
-    valid_where_items_lie_inside, whole_layouts_lie_apart,
+    tails_are_greatest, valid_where_items_lie_inside, whole_layouts_lie_apart,
 };
 pub use pairs::ZipSegments;
 pub use segments::Segments;

@@ -1,11 +1,13 @@
 //! The walk over the items of two views of one shape.
-ghost use Rattle.std.specs.Prelude.{◌≡◌, ◌&&◌, pos, length, map};
+ghost use Rattle.std.specs.Prelude.{◌≡◌, ◌<◌, ◌≤◌, pos, map};
 ghost use Rattle.std.specs.Iterator.{YieldsFirst, item_count};
 ghost use Rattle.std.specs.List.{flat_map, zip};
 ghost use Rattle.pybuf_desc.specs.Descriptor.{shape_of};
-ghost use Rattle.pybuf_desc.specs.Valid.{IsPlaced};
+ghost use Rattle.pybuf_desc.specs.Layouts.{product};
+ghost use Rattle.pybuf_desc.specs.Valid.{IsPlaced, IsPlaceable};
+ghost use Rattle.pybuf_desc.specs.Tails.{tail_of};
 ghost use Rattle.pybuf_desc.specs.Segments.{ranges_of, item_bytes, bytes_of};
-ghost use Rattle.pybuf_desc.specs.Pairs.{are_rows_alike, joined_count_of_both, pairs_of};
+ghost use Rattle.pybuf_desc.specs.Pairs.{joined_count_of_both, pairs_of};
 
 use crate::descriptor::BufferDescriptor;
 use crate::segments::Segments;
@@ -43,33 +45,33 @@ impl<'a> Iterator for ZipSegments<'a> {
     }
 }
 
-/// Whether rows are to be joined, the items of both have one size, and the rows of both lie without
-/// a gap.
-fn joins_rows(one: &BufferDescriptor, other: &BufferDescriptor, join: bool) -> bool
-    requires { length one.now.dims ≡ length other.now.dims }
-    ensures { result ≡ (join && are_rows_alike one.now other.now) }
+/// How many of the last dimensions are joined on both sides, where there are items: those of the lesser
+/// of the two tails, where dimensions are to be joined and the items of both have one size.
+fn joined_of_both(one: &BufferDescriptor, other: &BufferDescriptor, join: bool) -> usize
+    requires one_placed { IsPlaceable one.now }
+    requires other_placed { IsPlaceable other.now }
+    ensures few { result ≤ tail_of one.now }
+    ensures other_few { result ≤ tail_of other.now }
+    ensures whole { 0 < product (shape_of one.now.dims) → 0 < product (shape_of other.now.dims) → result ≡ joined_count_of_both one.now other.now join }
 {
     if !join {
-        return false;
+        return 0;
     }
     if one.itemsize() != other.itemsize() {
-        return false;
+        return 0;
     }
-    if one.ndim() == 0 {
-        return false;
-    }
-    if !one.is_last_dim_contiguous() {
-        return false;
-    }
-    other.is_last_dim_contiguous()
+    let tail = one.tail();
+    let other_tail = other.tail();
+    if tail < other_tail { tail } else { other_tail }
 }
 
 impl BufferDescriptor {
     /// The bytes of the items that start at `start` beside those of another descriptor of the same
     /// shape, whose items start at `other_start`: pairs of ranges, row-major. Takes no memory.
     ///
-    /// Each pair is one item of each, by its own strides. With `join` it is one row of each, where
-    /// the items of both have one size and the rows of both lie without a gap.
+    /// Each pair is one item of each, by its own strides. With `join`, and where the items of both have
+    /// one size, it is a block of each: that of an index of the dimensions before the lesser of the two
+    /// tails.
     pub fn zip_segments<'a>(
         &'a self,
         start: usize,
@@ -87,10 +89,10 @@ impl BufferDescriptor {
         ensures other_bytes { flat_map bytes_of (map (λ pair. pair.1) result) ≡ item_bytes other.now (pos other_start) }
         ensures byte_by_byte { self.now.itemsize ≡ other.now.itemsize → flat_map (λ pair. zip (bytes_of pair.0) (bytes_of pair.1)) result ≡ zip (item_bytes self.now (pos start)) (item_bytes other.now (pos other_start)) }
     {
-        let join = joins_rows(self, other, join);
+        let joined = joined_of_both(self, other, join);
         ZipSegments {
-            one: self.segments(start, join),
-            other: other.segments(other_start, join),
+            one: self.joined_segments(start, joined),
+            other: other.joined_segments(other_start, joined),
         }
     }
 }

@@ -1,10 +1,14 @@
 //! The walk over the bytes of the items.
-ghost use Rattle.std.specs.Prelude.{◌≡◌, ◌*◌, ◌^◌, ◌<◌, ℤ, pos, ◌+ℤ◌, ◌-ℤ◌, ◌*ℤ◌, ◌≤ℤ◌, ◌<ℤ◌, FitsSigned, true, [], ◌∷◌, map, replicate};
+ghost use Rattle.std.specs.Prelude.{◌≡◌, ◌*◌, ◌^◌, ◌<◌, ℤ, pos, ◌+ℤ◌, ◌-ℤ◌, ◌*ℤ◌, ◌≤ℤ◌, ◌<ℤ◌, FitsSigned, ◌≤◌, All, length, true, [], ◌∷◌, map, replicate};
 ghost use Rattle.std.specs.Int.{w64};
 ghost use Rattle.std.specs.Iterator.{YieldsFirst, item_count};
-ghost use Rattle.std.specs.List.{flat_map};
-ghost use Rattle.pybuf_desc.specs.Valid.{IsPlaced};
-ghost use Rattle.pybuf_desc.specs.Segments.{IsRow, AreRows, rows_left, row_places, range_at, ranges_of, joined_count, item_bytes, bytes_of};
+ghost use Rattle.std.specs.List.{flat_map, AllByRecursion};
+ghost use Rattle.pybuf_desc.specs.Layouts.{product};
+ghost use Rattle.pybuf_desc.specs.Descriptor.{shape_of};
+ghost use Rattle.pybuf_desc.specs.Places.{places};
+ghost use Rattle.pybuf_desc.specs.Valid.{IsPlaced, IsInside};
+ghost use Rattle.pybuf_desc.specs.Tails.{tail_of};
+ghost use Rattle.pybuf_desc.specs.Segments.{IsRow, AreRows, HasPlaces, rows_left, row_places, range_at, ranges_of, joined_count, item_bytes, bytes_of};
 
 use crate::checks::has_zero;
 use crate::descriptor::BufferDescriptor;
@@ -69,8 +73,8 @@ fn next_place(place: usize, stride: isize, left: usize) -> usize
 
 /// The ranges of bytes that a walk over the items has left. A clause sees the list of them.
 ///
-/// The rows, which the dimensions before the last lead to, are walked one after the other, by an
-/// index for each of these dimensions, and each row in equal steps. A range costs one addition. The
+/// Rows of ranges, which differ in their last index alone, are walked one after the other, by an index
+/// for each of the dimensions before, and each row in equal steps. A range costs one addition. The
 /// next row costs one more, and a step back for each index that returns to 0.
 #[derive(Debug, Drop)]
 pub struct Segments<'a> {
@@ -126,33 +130,63 @@ impl<'a> Iterator for Segments<'a> {
     }
 }
 
+/// A walk over blocks of so many bytes, one for each index of the dimensions. The blocks of a row, which
+/// differ in the last index alone, are walked in equal steps.
+fn walk_blocks(outer: &[(usize, isize, isize)], start: usize, size: usize) -> Segments<'_>
+    requires few { length outer.now ≤ 64 }
+    requires placed { HasPlaces outer.now (pos start) }
+    requires inside { AllByRecursion (IsInside size 9223372036854775807) (places outer.now (pos start)) }
+    ensures { result ≡ map (range_at size) (places outer.now (pos start)) }
+{
+    match outer.split_last() {
+        None => walk(outer, start, 0, 1, size),
+        Some((last, rows)) => walk(rows, start, last.1, last.0, size),
+    }
+}
+
+/// The bytes of a block of the dimensions.
+fn block_size(dims: &[(usize, isize, isize)], itemsize: usize) -> usize
+    requires entries { All (λ dim. 0 < dim.0) dims.now }
+    requires fits { itemsize * product (shape_of dims.now) < 2 ^ 63 }
+    ensures { result ≡ itemsize * product (shape_of dims.now) }
+{
+    let mut size = itemsize;
+    let mut k = dims.len();
+    while k > 0 {
+        k -= 1;
+        size *= dims[k].0;
+    }
+    size
+}
+
 impl BufferDescriptor {
     /// The bytes of the items that start at `start`, as ranges, row-major. Takes no memory.
     ///
-    /// Each range is one item, or, with `join`, one row where the items of a row lie one after the
-    /// other. There is no range where a dimension has no entry.
+    /// Each range is one item, or, with `join`, the whole block of an index of the dimensions before
+    /// the tail. There is no range where a dimension has no entry.
     pub fn segments(&self, start: usize, join: bool) -> Segments<'_>
         requires { IsPlaced self.now start }
         ensures ranges { result ≡ ranges_of self.now (pos start) (joined_count self.now join) }
         ensures bytes { flat_map bytes_of result ≡ item_bytes self.now (pos start) }
     {
+        let joined = if join { self.tail() } else { 0 };
+        self.joined_segments(start, joined)
+    }
+
+    /// The same, where so many of the last dimensions are joined.
+    pub(crate) fn joined_segments(&self, start: usize, joined: usize) -> Segments<'_>
+        requires placed { IsPlaced self.now start }
+        requires few { joined ≤ tail_of self.now }
+        ensures ranges { result ≡ ranges_of self.now (pos start) joined }
+        ensures bytes { flat_map bytes_of result ≡ item_bytes self.now (pos start) }
+    {
         let dims = self.dim_desc();
-        let itemsize = self.itemsize;
-        match dims.split_last() {
-            None => walk(dims, start, 0, 1, itemsize),
-            Some((last, rows)) => {
-                if has_zero(dims) {
-                    return no_segments(rows, itemsize);
-                }
-                if !join {
-                    return walk(rows, start, last.1, last.0, itemsize);
-                }
-                if !self.is_last_dim_contiguous() {
-                    return walk(rows, start, last.1, last.0, itemsize);
-                }
-                walk(rows, start, 0, 1, last.0 * itemsize)
-            }
+        let size = self.itemsize();
+        if has_zero(dims) {
+            return no_segments(dims, size);
         }
+        let (outer, block) = dims.split_at(dims.len() - joined);
+        walk_blocks(outer, start, block_size(block, size))
     }
 }
 

@@ -1,15 +1,17 @@
 -- Two views that are walked side by side.
 use Rattle.std.proofs.Common.{◌≡◌, ℕ, zero, suc, ◌+◌, ◌*◌, ◌-◌, ◌≤◌, ℤ, pos, nat_abs, Bool, true, false, List, [], ◌∷◌, length, map, take, drop, ap, ap₂, sym, ◌∙◌, refl, subst, arith}
-use Rattle.std.specs.Prelude.{All, bytes_eq, ◌==◌, ◌&&◌, if◌then◌else◌}
+use Rattle.std.specs.Prelude.{All, bytes_eq, min, ◌==◌, ◌&&◌, if◌then◌else◌}
 use Rattle.std.specs.List.{flat_map}
+use Rattle.std.proofs.Math.Nat.{min-le_left, min-le_right}
 use Rattle.std.specs.declared.ops.Range.{Range}
 use Rattle.std.proofs.lemmas.Bool.{eqb-true}
 use Rattle.std.proofs.lemmas.List.Elements.{All-head, All-tail, All-nil, All-cons}
 use Rattle.std.proofs.lemmas.List.{drop-map, length-map, length-take-le, length-drop, take_all, drop_all}
 use Rattle.pybuf_value.specs.declared.values.Item.{Item}
 use Rattle.pybuf_desc.specs.Descriptor.{Descriptor, shape_of}
-use Rattle.pybuf_desc.specs.Segments.{range_at, ranges_of, is_row_contiguous, last_dim, joined_count, joined_dims, outer_dims, bytes_in}
-use Rattle.pybuf_desc.specs.Pairs.{are_rows_alike, joined_count_of_both}
+use Rattle.pybuf_desc.specs.Tails.{tail_of}
+use Rattle.pybuf_desc.specs.Segments.{range_at, ranges_of, joined_dims, outer_dims, bytes_in}
+use Rattle.pybuf_desc.specs.Pairs.{joined_count_of_both}
 use Rattle.pybuf_desc.specs.Layouts.{Layout, LiesInside, HasItemsOfItsShape, product}
 use Rattle.pybuf_desc.specs.Items.{bytes_at, content_of_layout}
 use Rattle.pybuf_desc.specs.Places.{places, Stands}
@@ -31,25 +33,21 @@ firsts pairs = map (λ pair. pair.0) pairs
 abbrev pub seconds : List (Range ℕ × Range ℕ) → List (Range ℕ)
 seconds pairs = map (λ pair. pair.1) pairs
 
--- ---- the rows of both are joined, or of none
+-- ---- as many dimensions are joined on both sides as both tails have
 
-one_joined : (a b c : Bool) → ◌≡◌ {A = ℕ} (if a && (b && c) then 1 else 0) (if (a && (b && c)) && b then 1 else 0)
-one_joined true true true = refl
-one_joined true true false = refl
-one_joined true false c = refl
-one_joined false b c = refl
+least_left : (b : Bool) (m n : ℕ) → (if b then min m n else 0) ≤ m
+least_left true m n = min-le_left m n
+least_left false m n = omega arith
 
-other_joined : (a b c : Bool) → ◌≡◌ {A = ℕ} (if a && (b && c) then 1 else 0) (if (a && (b && c)) && c then 1 else 0)
-other_joined true true true = refl
-other_joined true true false = refl
-other_joined true false c = refl
-other_joined false b c = refl
+least_right : (b : Bool) (m n : ℕ) → (if b then min m n else 0) ≤ n
+least_right true m n = min-le_right m n
+least_right false m n = omega arith
 
-pub joined_of_one : (d o : Descriptor) → joined_count_of_both d o true ≡ joined_count d (are_rows_alike d o)
-joined_of_one d o = one_joined (d.itemsize == o.itemsize) (is_row_contiguous d.itemsize (last_dim d.dims)) (is_row_contiguous o.itemsize (last_dim o.dims))
+pub joined_of_one : (d o : Descriptor) → joined_count_of_both d o true ≤ tail_of d
+joined_of_one d o = least_left (d.itemsize == o.itemsize) (tail_of d) (tail_of o)
 
-pub joined_of_other : (d o : Descriptor) → joined_count_of_both d o true ≡ joined_count o (are_rows_alike d o)
-joined_of_other d o = other_joined (d.itemsize == o.itemsize) (is_row_contiguous d.itemsize (last_dim d.dims)) (is_row_contiguous o.itemsize (last_dim o.dims))
+pub joined_of_other : (d o : Descriptor) → joined_count_of_both d o true ≤ tail_of o
+joined_of_other d o = least_right (d.itemsize == o.itemsize) (tail_of d) (tail_of o)
 
 -- ---- ranges that lie inside
 
@@ -210,15 +208,10 @@ other_pairs P pair pairs rest same all = All-tail P pair rest (subst (All P) sam
 
 -- ---- rows
 
-inside_joined : RangesStayInside → (d : Descriptor) (start : ℕ) (layout : Layout) (room joined : ℕ) (join : Bool) → IsPlaced d start → Stands d start layout → LiesInside room layout → joined ≡ joined_count d join
-    → All (λ (range : Range ℕ). range.end ≤ room) (ranges_of d (pos start) joined)
-inside_joined law d start layout room joined join placed stands inside same =
-    subst (λ (k : ℕ). All (λ (range : Range ℕ). range.end ≤ room) (ranges_of d (pos start) k)) (sym same) (law d start join layout room placed stands inside)
-
-gathered : RangesHaveTheContent → (d : Descriptor) (start : ℕ) (layout : Layout) (bytes : List ℕ) (joined : ℕ) (join : Bool) (ranges : List (Range ℕ)) → IsPlaced d start → Stands d start layout
-    → ranges ≡ ranges_of d (pos start) joined → joined ≡ joined_count d join → flat_map (λ range. bytes_in bytes range) ranges ≡ content_of_layout bytes layout
-gathered law d start layout bytes joined join ranges placed stands is same =
-    ap (flat_map (λ (range : Range ℕ). bytes_in bytes range)) (is ∙ ap (ranges_of d (pos start)) same) ∙ law d start join layout bytes placed stands
+gathered : RangesHaveTheContent → (d : Descriptor) (start : ℕ) (layout : Layout) (bytes : List ℕ) (joined : ℕ) (ranges : List (Range ℕ)) → IsPlaced d start → joined ≤ tail_of d → Stands d start layout
+    → ranges ≡ ranges_of d (pos start) joined → flat_map (λ range. bytes_in bytes range) ranges ≡ content_of_layout bytes layout
+gathered law d start layout bytes joined ranges placed few stands is =
+    ap (flat_map (λ (range : Range ℕ). bytes_in bytes range)) is ∙ law d start joined layout bytes placed few stands
 
 -- two views with a descriptor and a start each, of one shape and with items of one size
 pub record AreWalked (d o : Descriptor) (start other_start : ℕ) (layout other_layout : Layout) (bytes other : List ℕ) : Type 0 where
@@ -234,15 +227,15 @@ pub rows_paired : RangesStayInside → (d o : Descriptor) (start other_start : �
 rows_paired stays d o start other_start layout other_layout bytes other pairs are is other_is =
     let joined : ℕ = joined_count_of_both d o true in
     are_paired d o (pos start) (pos other_start) joined joined (length bytes) (length other) pairs is other_is
-    (inside_joined stays d start layout (length bytes) joined (are_rows_alike d o) are.placed are.stands are.inside (joined_of_one d o))
-    (inside_joined stays o other_start other_layout (length other) joined (are_rows_alike d o) are.other_placed are.other_stands are.other_inside (joined_of_other d o))
+    (stays d start joined layout (length bytes) are.placed (joined_of_one d o) are.stands are.inside)
+    (stays o other_start joined other_layout (length other) are.other_placed (joined_of_other d o) are.other_stands are.other_inside)
 
 pub items_paired : RangesStayInside → (d o : Descriptor) (start other_start : ℕ) (layout other_layout : Layout) (bytes other : List ℕ) (pairs : List (Range ℕ × Range ℕ)) → AreWalked d o start other_start layout other_layout bytes other
     → firsts pairs ≡ ranges_of d (pos start) 0 → seconds pairs ≡ ranges_of o (pos other_start) 0 → ArePaired (length bytes) (length other) pairs
 items_paired stays d o start other_start layout other_layout bytes other pairs are is other_is =
     are_paired d o (pos start) (pos other_start) 0 0 (length bytes) (length other) pairs is other_is
-    (stays d start false layout (length bytes) are.placed are.stands are.inside)
-    (stays o other_start false other_layout (length other) are.other_placed are.other_stands are.other_inside)
+    (stays d start 0 layout (length bytes) are.placed (omega arith) are.stands are.inside)
+    (stays o other_start 0 other_layout (length other) are.other_placed (omega arith) are.other_stands are.other_inside)
 
 pub rows_compared : RangesStayInside → RangesHaveTheContent → (d o : Descriptor) (start other_start : ℕ) (layout other_layout : Layout) (bytes other : List ℕ) (pairs : List (Range ℕ × Range ℕ)) → AreWalked d o start other_start layout other_layout bytes other
     → layout.shape ≡ other_layout.shape → layout.itemsize ≡ other_layout.itemsize
@@ -252,5 +245,5 @@ rows_compared stays whole d o start other_start layout other_layout bytes other 
     let joined : ℕ = joined_count_of_both d o true in
     let alike = ranges_alike d o (pos start) (pos other_start) joined pairs (are.stands.shape ∙ shape ∙ sym are.other_stands.shape) (are.stands.itemsize ∙ size ∙ sym are.other_stands.itemsize) is other_is in
     ranges_compared bytes other alike.0 pairs (rows_paired stays d o start other_start layout other_layout bytes other pairs are is other_is) alike.1 alike.2
-    ∙ ap₂ bytes_eq (gathered whole d start layout bytes joined (are_rows_alike d o) (firsts pairs) are.placed are.stands is (joined_of_one d o))
-    (gathered whole o other_start other_layout other joined (are_rows_alike d o) (seconds pairs) are.other_placed are.other_stands other_is (joined_of_other d o))
+    ∙ ap₂ bytes_eq (gathered whole d start layout bytes joined (firsts pairs) are.placed (joined_of_one d o) are.stands is)
+    (gathered whole o other_start other_layout other joined (seconds pairs) are.other_placed (joined_of_other d o) are.other_stands other_is)

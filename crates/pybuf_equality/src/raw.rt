@@ -51,8 +51,8 @@ fn equal_runs(bytes: &[u8], layout: &KeptLayout, other: &[u8], other_layout: &Ke
     run == other_run
 }
 
-/// The same of any two views of one shape, by their rows where these have no gap, and else by their
-/// items.
+/// The same of any two views of one shape, by their blocks where the items of these have no gap, and
+/// else by their items.
 fn equal_rows(bytes: &[u8], layout: &KeptLayout, other: &[u8], other_layout: &KeptLayout) -> bool
     requires inside { LiesInside (length bytes.now) layout.now }
     requires other_inside { LiesInside (length other.now) other_layout.now }

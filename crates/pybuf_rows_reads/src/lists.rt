@@ -74,7 +74,7 @@ fn items_of_ranges(
     Ok(ItemList::from_vec(items))
 }
 
-/// All items of a view, in order. The format is read once, and a row of items that lie one after the
+/// All items of a view, in order. The format is read once, and a block of items that lie one after the
 /// other is walked as one.
 pub(crate) fn items_of(alloc: Global, bytes: &[u8], layout: &KeptLayout) -> Made<ItemList>
     requires { LiesInside (length bytes.now) layout.now }

@@ -100,6 +100,16 @@ fn items_reversed_by_python(rt: HostRuntime) -> Result<(), Fail> {
     Ok(())
 }
 
+/// Of 24 bytes in the shape (4, 3, 2) the planes 1 and 3, `m[1:4:2]`, which lie at 6..12 and 18..24.
+#[test]
+fn planes_are_whole_ranges(rt: HostRuntime) -> Result<(), Fail> {
+    assert_eq!(rt;
+        range_sums(rt.alloc(), 12, [(2, 12), (3, 2), (2, 1)].as_slice(), 6, true)?,
+        (2, 1548)
+    );
+    Ok(())
+}
+
 #[test]
 fn no_items_without_an_entry(rt: HostRuntime) -> Result<(), Fail> {
     assert_eq!(rt;

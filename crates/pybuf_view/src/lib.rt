@@ -13,6 +13,7 @@ pub use pybuf_borrow::try_rw_bytes_like;
 pub use pybuf_buffer::PyBuffer;
 pub use pybuf_buffer::Steps;
 pub use pybuf_buffer::range_counts_are_bounded;
+pub use pybuf_buffer::range_counts_are_bounded_by_rows;
 pub use pybuf_buffer::ranges_are_counted;
 pub use pybuf_bytes::ByteInnerFindOptions;
 pub use pybuf_bytes::ByteInnerPaddingOptions;

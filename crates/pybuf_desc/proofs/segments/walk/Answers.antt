@@ -1,4 +1,4 @@
-use Rattle.std.proofs.Common.{refl, ℕ, replicate, w64, to_z, of_z, sym, ap, ◌∙◌, subst, map, true}
+use Rattle.std.proofs.Common.{refl, replicate, w64, to_z, of_z, sym, ap, ◌∙◌, subst, map, true}
 use Rattle.std.proofs.lemmas.Int.{to_z-of_z}
 use Rattle.pybuf_desc.specs.Segments.{IsWalk, range_at, row_places}
 use Rattle.pybuf_desc.proofs.WalkLemmas.{walk_begins, walk_places}

@@ -1,4 +1,4 @@
-use Rattle.std.proofs.Common.{◌≡◌, ℕ, ◌+◌, List, ◌++◌, length, true, sym, subst, ap, ◌∙◌, arith}
+use Rattle.std.proofs.Common.{◌≡◌, ℕ, ◌+◌, List, ◌++◌, length, true, le_refl, sym, subst, ap, ◌∙◌, arith}
 use Rattle.std.specs.Prelude.{pos}
 use Rattle.std.specs.List.{flat_map}
 use Rattle.std.specs.declared.ops.Range.{Range}
@@ -24,7 +24,7 @@ append_ranges-requires-clause-inside g c =
     let d = c.described-start.ensures in
     subst (EndInside (length c.bytes.result.now)) (sym c.segments.ensures.ranges)
     (subst (λ (bytes : List ℕ). EndInside (length bytes) (ranges_of c.described-start.result.0.now (pos c.described-start.result.1) (joined_count c.described-start.result.0.now true))) (sym c.bytes.ensures)
-    (c.ranges_stay_inside.ensures c.described-start.result.0.now c.described-start.result.1 true (layout_of e k) (length e.bytes) d.placed d.stands sound.inside))
+    (c.ranges_stay_inside.ensures c.described-start.result.0.now c.described-start.result.1 (joined_count c.described-start.result.0.now true) (layout_of e k) (length e.bytes) d.placed (le_refl (joined_count c.described-start.result.0.now true)) d.stands sound.inside))
 
 pub append_ranges-requires-clause-room : goal.append_ranges-requires-clause-room
 append_ranges-requires-clause-room g c =
@@ -45,7 +45,7 @@ returns-clause-bytes g c =
     let d = c.described-start.ensures in
     c.append_ranges.ensures.bytes ∙ ap (λ (xs : List ℕ). xs ++ flat_map (bytes_in c.bytes.result.now) c.segments.result) c.reserve.ensures.items
     ∙ ap (λ (rs : List (Range ℕ)). old ++ flat_map (bytes_in c.bytes.result.now) rs) c.segments.ensures.ranges
-    ∙ ap (λ (xs : List ℕ). old ++ xs) (c.ranges_have_the_content.ensures c.described-start.result.0.now c.described-start.result.1 true (layout_of e c.self.inside.view) c.bytes.result.now d.placed d.stands)
+    ∙ ap (λ (xs : List ℕ). old ++ xs) (c.ranges_have_the_content.ensures c.described-start.result.0.now c.described-start.result.1 (joined_count c.described-start.result.0.now true) (layout_of e c.self.inside.view) c.bytes.result.now d.placed (le_refl (joined_count c.described-start.result.0.now true)) d.stands)
     ∙ ap (λ (bytes : List ℕ). old ++ content_of_layout bytes (layout_of e c.self.inside.view)) c.bytes.ensures
     ∙ ap (λ (n : ℕ). old ++ content_of_layout e.bytes (layout_of e n)) c.self.view_is
 
