@@ -12,9 +12,7 @@ mod method_step;
 mod views;
 
 pub use buffer::PyBuffer;
-pub use laws::{
-    range_counts_are_bounded, range_counts_are_bounded_by_rows, ranges_are_counted,
-};
+pub use laws::{range_counts_are_bounded, range_counts_are_bounded_by_rows, ranges_are_counted};
 pub use method_step::{step_of, step_without_loans};
 pub use pybuf_value::Steps;
 pub use views::live_descriptor;

@@ -44,13 +44,7 @@ fn row_major(alloc: Global, shape: &[u8]) -> Made<BufferDescriptor> {
     for k in 0..shape.len() {
         dims.push((shape[k] as usize, stride_before(&shape[k + 1..]), 0))?;
     }
-    Ok(BufferDescriptor::raw(
-        bytes_of(shape),
-        true,
-        SIZE as usize,
-        Text::new(alloc),
-        dims,
-    ))
+    Ok(BufferDescriptor::raw(bytes_of(shape), true, SIZE as usize, Text::new(alloc), dims))
 }
 
 /// Adds the ranges of a walk, or that the descriptor isn't valid.

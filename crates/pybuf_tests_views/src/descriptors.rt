@@ -104,7 +104,13 @@ fn items_reversed_by_python(rt: HostRuntime) -> Result<(), Fail> {
 #[test]
 fn planes_are_whole_ranges(rt: HostRuntime) -> Result<(), Fail> {
     assert_eq!(rt;
-        range_sums(rt.alloc(), 12, [(2, 12), (3, 2), (2, 1)].as_slice(), 6, true)?,
+        range_sums(
+            rt.alloc(),
+            12,
+            [(2, 12), (3, 2), (2, 1)].as_slice(),
+            6,
+            true
+        )?,
         (2, 1548)
     );
     Ok(())
