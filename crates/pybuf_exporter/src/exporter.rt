@@ -2,11 +2,11 @@
 ghost use Rattle.std.specs.Prelude.{◌≡◌, ◌<◌, ◌↔◌, [], Some, IfOk, IfSome, IsSome, IsSomeAnd, IsOk, IfErr, OnErr, MatchResult, MatchOption, true, false, length, slice_get};
 
 use crate::closing::closed;
-use crate::{direct, pick};
+use crate::uncounted::{answer, append};
+use crate::direct;
 use pybuf_command::{ExporterKind, LoanList, LocalCommand, LocalReply, Subject, Verb};
 use pybuf_desc::BufferDescriptor;
 use pybuf_memoryview::KeptLayout;
-use pybuf_rows_edits::append;
 use pybuf_rows_views::release;
 use pybuf_state::{
     Names, Other, Parts, Store, content_of_subject, copies_are_faithful, exporter_of_copy,
@@ -131,7 +131,7 @@ impl ExporterState {
         ensures was_sound { IsSoundExporter self.old }
     {
         crate::laws::steps_keep_sound();
-        closed(pick::answer(&mut self.parts, subject, verb, names))
+        closed(answer(&mut self.parts, subject, verb, names))
     }
 
     // The commands that are called very often follow, each with its values lent by themselves: no verb is made for
