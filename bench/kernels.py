@@ -261,6 +261,21 @@ def append_pop(plan):
     return Kernel(call, mark)
 
 
+def queue(size):
+    def kernel(plan):
+        object = bytearray(drawn(plan, size))
+
+        def call():
+            for place in range(plan.count):
+                object.append(place % 251)
+                # `pop(0)` moves all other bytes
+                del object[:1]
+
+        return Kernel(call, no_answer, object)
+
+    return kernel
+
+
 # comparisons
 
 
@@ -368,6 +383,8 @@ KERNELS = {
     "unpack": lambda plan: unpacked(plan, True),
     "pack-into": packed,
     "append-pop": append_pop,
+    "queue-long": queue(100_000),
+    "queue-short": queue(10),
     "compare": compare,
     "compare-beside": compare_beside,
     "find-byte": of_text(as_number, "find", b"z"),

@@ -14,6 +14,7 @@ mod kernels;
 mod keys;
 mod making;
 mod plan;
+mod queues;
 mod records;
 mod strings;
 mod viewed;
