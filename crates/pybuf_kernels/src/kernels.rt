@@ -1,5 +1,6 @@
 //! The kernels by their names.
 
+use crate::drawn_queue::DrawnQueue;
 use crate::items::{AppendPop, Form};
 use crate::kernel::{Measured, Stop, measure};
 use crate::making::{MakeViews, Making};
@@ -27,12 +28,14 @@ pub enum Work {
     Grow,
     /// Bytes go through a bytearray of this length, from its end to its front.
     Queue(usize),
+    /// Drawn commands are carried out on a bytearray that is used as a queue.
+    DrawnQueue,
     /// A method of a string of bytes is called.
     Call(Method),
 }
 
 /// All kernels, in the order in which they are measured. `z` and `cba` stand nowhere in a drawn text.
-pub const KERNELS: [(&str, Work); 46] = [
+pub const KERNELS: [(&str, Work); 47] = [
     (
         "tobytes-contiguous",
         Work::Views(Doing::ToBytes(Part::Whole)),
@@ -67,6 +70,7 @@ pub const KERNELS: [(&str, Work); 46] = [
     ("append-pop", Work::Grow),
     ("queue-long", Work::Queue(100_000)),
     ("queue-short", Work::Queue(10)),
+    ("queue-drawn", Work::DrawnQueue),
     ("compare", Work::Views(Doing::Compare)),
     ("compare-beside", Work::Beside(Question::Compare)),
     ("find-byte", Work::Call(Method::Find(b"z"))),
@@ -104,6 +108,7 @@ pub fn measure_work<R: CpuClock + AllocGlobal>(
         Work::Records(packing) => measure(rt, plan, Records::of(alloc, plan, packing)?),
         Work::Grow => measure(rt, plan, AppendPop { count: plan.count }),
         Work::Queue(size) => measure(rt, plan, Queue::of(alloc, plan, size)?),
+        Work::DrawnQueue => measure(rt, plan, DrawnQueue { seed: plan.seed }),
         Work::Call(method) => measure(rt, plan, Call::of(alloc, plan, method)?),
     }
 }

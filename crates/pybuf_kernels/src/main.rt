@@ -8,6 +8,7 @@
 
 mod answers;
 mod data;
+mod drawn_queue;
 mod items;
 mod kernel;
 mod kernels;
