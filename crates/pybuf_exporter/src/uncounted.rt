@@ -3,8 +3,8 @@ ghost use Rattle.std.specs.Prelude.{◌≡◌};
 ghost use Rattle.pybuf_state.specs.Exporter.{exports_of};
 ghost use Rattle.pybuf_state.specs.Answers.{exporter_of, IsWhole, Answers};
 ghost use Rattle.pybuf_exporter.specs.Step as spec;
-ghost use Rattle.pybuf_rows_edits.specs.Growing.{append_of_own};
-ghost use Rattle.pybuf_rows_edits.specs.Shrinking.{pop_of_own};
+ghost use Rattle.pybuf_rows_edits.specs.Growing as growing;
+ghost use Rattle.pybuf_rows_edits.specs.Shrinking as shrinking;
 
 use crate::pick;
 use pybuf_command::{LocalReply, Subject, Verb};
@@ -53,7 +53,7 @@ fn append_by<L: Ledger>(parts: &mut Parts, value: &Value, blank: Blank) -> Resul
     requires name { blank.name ≡ L.name }
     requires parts { blank.parts ≡ L.parts }
     requires one { blank.parts ≡ 1 }
-    ensures answer { Answers (append_of_own (exporter_of parts.old) value.now) (exporter_of parts.old) result (exporter_of parts.new) }
+    ensures answer { Answers (growing.append_of_own (exporter_of parts.old) value.now) (exporter_of parts.old) result (exporter_of parts.new) }
     ensures counted { parts.new.exports ≡ exports_of (exporter_of parts.new) }
 {
     let mut moved = Steps::<L>::new(blank);
@@ -63,7 +63,7 @@ fn append_by<L: Ledger>(parts: &mut Parts, value: &Value, blank: Blank) -> Resul
 /// Adds a byte at the end of a bytearray.
 pub fn append(parts: &mut Parts, value: &Value) -> Result<LocalReply, Halt>
     requires { IsWhole parts.old }
-    ensures answer { Answers (append_of_own (exporter_of parts.old) value.now) (exporter_of parts.old) result (exporter_of parts.new) }
+    ensures answer { Answers (growing.append_of_own (exporter_of parts.old) value.now) (exporter_of parts.old) result (exporter_of parts.new) }
     ensures counted { parts.new.exports ≡ exports_of (exporter_of parts.new) }
 {
     append_by::<Brand>(parts, value, Blank::new(1))
@@ -78,7 +78,7 @@ fn pop_by<L: Ledger>(
     requires name { blank.name ≡ L.name }
     requires parts { blank.parts ≡ L.parts }
     requires one { blank.parts ≡ 1 }
-    ensures answer { Answers (pop_of_own (exporter_of parts.old) index.now) (exporter_of parts.old) result (exporter_of parts.new) }
+    ensures answer { Answers (shrinking.pop_of_own (exporter_of parts.old) index.now) (exporter_of parts.old) result (exporter_of parts.new) }
     ensures counted { parts.new.exports ≡ exports_of (exporter_of parts.new) }
 {
     let mut moved = Steps::<L>::new(blank);
@@ -88,7 +88,7 @@ fn pop_by<L: Ledger>(
 /// Takes the byte of a bytearray at an index out.
 pub fn pop(parts: &mut Parts, index: &Option<Value>) -> Result<LocalReply, Halt>
     requires { IsWhole parts.old }
-    ensures answer { Answers (pop_of_own (exporter_of parts.old) index.now) (exporter_of parts.old) result (exporter_of parts.new) }
+    ensures answer { Answers (shrinking.pop_of_own (exporter_of parts.old) index.now) (exporter_of parts.old) result (exporter_of parts.new) }
     ensures counted { parts.new.exports ≡ exports_of (exporter_of parts.new) }
 {
     pop_by::<Brand>(parts, index, Blank::new(1))
