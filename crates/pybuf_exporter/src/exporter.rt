@@ -2,8 +2,8 @@
 ghost use Rattle.std.specs.Prelude.{◌≡◌, ◌<◌, ◌↔◌, [], Some, IfOk, IfSome, IsSome, IsSomeAnd, IsOk, IfErr, OnErr, MatchResult, MatchOption, true, false, length, slice_get};
 
 use crate::closing::closed;
-use crate::uncounted::{answer, append};
 use crate::direct;
+use crate::uncounted::{answer, append};
 use pybuf_command::{ExporterKind, LoanList, LocalCommand, LocalReply, Subject, Verb};
 use pybuf_desc::BufferDescriptor;
 use pybuf_memoryview::KeptLayout;

@@ -144,11 +144,7 @@ pub fn imul(parts: &mut Parts, count: &Value) -> Result<LocalReply, Halt>
 }
 
 /// Adds bytes that lie outside the exporter.
-fn add<L: Ledger>(
-    parts: &mut Parts,
-    bytes: &[u8],
-    moved: &mut Steps<L>,
-) -> Result<LocalReply, Halt>
+fn add<L: Ledger>(parts: &mut Parts, bytes: &[u8], moved: &mut Steps<L>) -> Result<LocalReply, Halt>
     requires { IsWhole parts.old }
     ensures answer { Answers (lent_spec.bytes_added (exporter_of parts.old) bytes.now) (exporter_of parts.old) result (exporter_of parts.new) }
     ensures counted { parts.new.exports ≡ exports_of (exporter_of parts.new) }
@@ -223,7 +219,11 @@ fn extend_by_value<N: Names, L: Ledger>(
 {
     match value {
         Value::One(Scalar::Bytes(bytes)) => add(parts, bytes.as_slice(), moved),
-        Value::One(Scalar::Handle(handle)) => extend_by_meaning(parts, names.meaning(*handle), moved),
+        Value::One(Scalar::Handle(handle)) => extend_by_meaning(
+            parts,
+            names.meaning(*handle),
+            moved,
+        ),
         _ => extend_by_parts(parts, value, moved),
     }
 }

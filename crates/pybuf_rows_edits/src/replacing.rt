@@ -184,7 +184,12 @@ fn put_value<N: Names, L: Ledger>(
 {
     match value {
         Value::One(Scalar::Bytes(bytes)) => put(parts, slice, bytes.as_slice(), moved),
-        Value::One(Scalar::Handle(handle)) => put_meaning(parts, slice, names.meaning(*handle), moved),
+        Value::One(Scalar::Handle(handle)) => put_meaning(
+            parts,
+            slice,
+            names.meaning(*handle),
+            moved,
+        ),
         _ => put_parts(parts, slice, value, moved),
     }
 }

@@ -36,7 +36,7 @@ replaced_behind i start end xs ys l =
 pub write_within : {X : Type 0} → (r s n : ℕ) (xs ws : List X) → length xs ≡ n → r + s ≤ n
     → drop r (take n ((take (r + s) xs ++ (ws ++ drop (length ws) (drop (r + s) xs))) ++ drop (length (take (r + s) xs ++ (ws ++ drop (length ws) (drop (r + s) xs)))) xs))
     ≡ take (length (drop r xs))
-        ((take s (drop r xs) ++ (ws ++ drop (length ws) (drop s (drop r xs)))) ++ drop (length (take s (drop r xs) ++ (ws ++ drop (length ws) (drop s (drop r xs))))) (drop r xs))
+    ((take s (drop r xs) ++ (ws ++ drop (length ws) (drop s (drop r xs)))) ++ drop (length (take s (drop r xs) ++ (ws ++ drop (length ws) (drop s (drop r xs))))) (drop r xs))
 write_within r s n xs ws e l =
     let rest = drop r xs in
     let over = ws ++ drop (length ws) (drop (r + s) xs) in

@@ -152,12 +152,7 @@ impl Store {
     }
 
     /// Takes the bytes from one place up to another out. Takes no memory: the bytes behind move once.
-    pub(crate) fn remove_range<L: Ledger>(
-        &mut self,
-        start: usize,
-        end: usize,
-        moved: &mut Steps<L>,
-    )
+    pub(crate) fn remove_range<L: Ledger>(&mut self, start: usize, end: usize, moved: &mut Steps<L>)
         requires ordered { start ≤ end }
         requires inside { end ≤ length self.old.items }
         ensures items { self.new.items ≡ replaced_range self.old.items start end [] }

@@ -1,5 +1,5 @@
 -- A range behind the room is taken out, seen without the room.
-use Rattle.std.proofs.Common.{◌≡◌, ℕ, ◌+◌, List, [], length, ap, sym, ◌∙◌, arith, drop, length-drop}
+use Rattle.std.proofs.Common.{[], length, ap, ◌∙◌, arith, drop, length-drop}
 use Rattle.pybuf_slice.specs.Edits.{replaced_range}
 use Rattle.pybuf_slice.specs.FrontContent.{FrontContent}
 use Rattle.pybuf_slice.proofs.FrontLemmas.{replaced_behind}

@@ -19,7 +19,7 @@ returns c =
         refl,
         λ w. ap (λ (items : List ℕ). record { items = items; room = front.room })
             (write_within front.room start front.bytes.len front.bytes.items w long (omega (arith, c.self.invariant, long, c.requires.ordered, c.requires.inside, count, inside)))
-          ∙ ap (λ (now : FrontContent). overwritten_from now start w) seen,
+            ∙ ap (λ (now : FrontContent). overwritten_from now start w) seen,
       ),
       record { writes_back = tt; value = c.slice_mut.ensures.value ∙ between_behind front.room start end front.bytes.items ∙ ap (λ (now : FrontContent). slice_range now.items start end) seen },
     )
