@@ -262,6 +262,82 @@ def append_pop(plan):
     return Kernel(call, mark)
 
 
+def queue(size):
+    def kernel(plan):
+        object = bytearray(drawn(plan, size))
+
+        def call():
+            for place in range(plan.count):
+                object.append(place % 251)
+                # `pop(0)` moves all other bytes
+                del object[:1]
+
+        return Kernel(call, no_answer, object)
+
+    return kernel
+
+
+COMMANDS = 10_000
+
+
+def queue_drawn(plan):
+    """Drawn commands on a queue: what they reply, and the bytes after each."""
+    bytes_drawn = drawn(plan, 4 * COMMANDS)
+
+    def carry_out(object, live, kind, byte, count, rare):
+        """The queue after a command, its view, and what stands for the reply."""
+        if kind < 5:
+            object.append(byte)
+        elif kind == 5:
+            object.extend(bytes([byte]) * (count % 40 + 1))
+        elif kind == 6:
+            object.insert(0, byte)
+        elif kind < 11:
+            return object, live, object.pop(0) + 2
+        elif kind == 11:
+            del object[: count % 12 + 1]
+        elif kind == 12:
+            del object[count % 12 :: -1]
+        elif kind == 13:
+            object.remove(object[0] if object else byte)
+        elif kind == 14 and live:
+            live.release()
+            live = None
+        elif kind == 14 and object:
+            return object, memoryview(object), 300
+        elif kind == 15 and rare == 0:
+            object.__init__(bytes([byte]) * count)
+        elif kind == 15 and rare == 1 and not live:
+            object = object.copy()
+        elif kind == 15 and rare == 2:
+            object.clear()
+        elif kind == 15 and rare == 3:
+            object[0 : count % 9] = bytes([byte]) * (count % 7)
+        elif kind == 15 and rare == 4:
+            del object[0]
+        elif kind == 15 and rare > 4:
+            return object, live, object.pop() + 2
+        return object, live, 1
+
+    def call():
+        object, live, mark = bytearray(), None, 0
+        for place in range(0, 4 * COMMANDS, 4):
+            kind, byte, count, rare = bytes_drawn[place : place + 4]
+            try:
+                object, live, reply = carry_out(object, live, kind % 16, byte, count, rare % 8)
+            except BufferError:
+                reply = 302
+            except ValueError:
+                reply = 303
+            except IndexError:
+                reply = 304
+            mark = mark * 31 + reply & MASK
+            mark = mark * 31 + mark_of_bytes(object) & MASK
+        return mark
+
+    return Kernel(call, as_number)
+
+
 # comparisons
 
 
@@ -369,6 +445,10 @@ KERNELS = {
     "unpack": lambda plan: unpacked(plan, True),
     "pack-into": packed,
     "append-pop": append_pop,
+    "queue-long": queue(100_000),
+    "queue-short": queue(10),
+    # ten thousand commands, however many there are of others
+    "queue-drawn": queue_drawn,
     "compare": compare,
     "compare-beside": compare_beside,
     "find-byte": of_text(as_number, "find", b"z"),

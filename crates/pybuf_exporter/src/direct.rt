@@ -11,8 +11,8 @@ ghost use Rattle.pybuf_state.specs.Loans.{are_named, lents_by};
 ghost use Rattle.pybuf_state.specs.Answers.{exporter_of, IsWhole, Answers};
 ghost use Rattle.pybuf_exporter.specs.Step as spec;
 
+use crate::uncounted::pop as pop_of_own;
 use pybuf_command::{LoanList, LocalReply};
-use pybuf_rows_edits::pop as pop_of_own;
 use pybuf_rows_reads::get;
 use pybuf_rows_views::{cast, release, slice, view};
 use pybuf_rows_writes::{assign, set};

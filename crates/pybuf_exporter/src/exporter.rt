@@ -3,11 +3,11 @@ ghost use Rattle.std.specs.Prelude.{◌≡◌, ◌<◌, ◌↔◌, [], Some, IfO
 
 use crate::closing::closed;
 use crate::copying::{copy_of_reply, twice};
-use crate::{direct, pick};
+use crate::direct;
+use crate::uncounted::{answer, append};
 use pybuf_command::{ExporterKind, LoanList, LocalCommand, LocalReply, Subject, Verb};
 use pybuf_desc::BufferDescriptor;
 use pybuf_memoryview::KeptLayout;
-use pybuf_rows_edits::append;
 use pybuf_rows_views::release;
 use pybuf_state::{
     Names, Other, Parts, Store, content_of_subject, copies_are_faithful, exporter_of_copy,
@@ -133,7 +133,7 @@ impl ExporterState {
         ensures was_sound { IsSoundExporter self.old }
     {
         crate::laws::steps_keep_sound();
-        closed(pick::answer(&mut self.parts, subject, verb, names))
+        closed(answer(&mut self.parts, subject, verb, names))
     }
 
     /// Carries out a command, as `step`, and gives its reply twice. Where memory runs out, also for the second reply,

@@ -7,6 +7,7 @@ mod direct;
 mod exporter;
 mod laws;
 mod pick;
+mod uncounted;
 
 pub use exporter::ExporterState;
 pub use laws::{

@@ -16,15 +16,17 @@ use pybuf_rows_reads::{get, len, property, to_bytes, to_list};
 use pybuf_rows_views::{cast, contiguous, enter, range, release, slice, to_readonly, view};
 use pybuf_rows_writes::{assign, set};
 use pybuf_state::{Names, Parts, are_known};
-use pybuf_value::{Fault, Halt, Value};
+use pybuf_value::{Fault, Halt, Steps, Value};
+use std::sync::ledger::Ledger;
 
 /// The row of a verb on the exporter itself, with the handles among its values. Every further verb is an edit, or
 /// none that it has.
-fn row_of_own<N: Names>(
+fn row_of_own<N: Names, L: Ledger>(
     parts: &mut Parts,
     verb: &Verb,
     handles: &[u64],
     names: &N,
+    moved: &mut Steps<L>,
 ) -> Result<LocalReply, Halt>
     requires whole { IsWhole parts.old }
     requires given { handles.now ≡ handles_of verb.now }
@@ -39,7 +41,7 @@ fn row_of_own<N: Names>(
         Verb::Set {
             key: Value::Slice(_),
             value: _,
-        } => edit_of_own(parts, verb, names),
+        } => edit_of_own(parts, verb, names, moved),
         Verb::Set { key, value } => set::of_own(parts, key, value),
         Verb::ToBytes => to_bytes::of_own(parts),
         Verb::Len => len::of_own(parts),
@@ -54,7 +56,7 @@ fn row_of_own<N: Names>(
         }
         // a method reads what each of its handles names
         Verb::Call { method } => call::of_own(parts, method, &Reading::new(parts, names, handles)),
-        _ => edit_of_own(parts, verb, names),
+        _ => edit_of_own(parts, verb, names, moved),
     }
 }
 
@@ -112,11 +114,12 @@ fn row_of_view<N: Names>(
 
 /// What a command answers: what the row of the subject and the verb does. A handle that names nothing is refused
 /// with `UnknownName`, before all else.
-pub fn answer<N: Names>(
+pub fn answer<N: Names, L: Ledger>(
     parts: &mut Parts,
     subject: Subject,
     verb: &Verb,
     names: &N,
+    moved: &mut Steps<L>,
 ) -> Result<LocalReply, Halt>
     requires whole { IsWhole parts.old }
     requires fit { N.fit names.now }
@@ -128,7 +131,7 @@ pub fn answer<N: Names>(
         return Err(Halt::Refused(Fault::UnknownName));
     }
     match subject {
-        Subject::Own => row_of_own(parts, verb, handles.as_slice(), names),
+        Subject::Own => row_of_own(parts, verb, handles.as_slice(), names, moved),
         Subject::View(k) => row_of_view(parts, k, verb, names),
         Subject::Iter(k) => stepping::of_iterator(parts, k, verb),
     }

@@ -1,9 +1,11 @@
 //! The kernels by their names.
 
+use crate::drawn_queue::DrawnQueue;
 use crate::items::{AppendPop, Form};
 use crate::kernel::{Measured, Stop, measure};
 use crate::making::{MakeViews, Making};
 use crate::plan::Plan;
+use crate::queues::Queue;
 use crate::records::{Packing, Records};
 use crate::strings::{Call, Method};
 use crate::viewed::Part;
@@ -24,12 +26,16 @@ pub enum Work {
     Records(Packing),
     /// A bytearray grows and shrinks.
     Grow,
+    /// Bytes go through a bytearray of this length, from its end to its front.
+    Queue(usize),
+    /// Drawn commands are carried out on a bytearray that is used as a queue.
+    DrawnQueue,
     /// A method of a string of bytes is called.
     Call(Method),
 }
 
 /// All kernels, in the order in which they are measured. `z` and `cba` stand nowhere in a drawn text.
-pub const KERNELS: [(&str, Work); 44] = [
+pub const KERNELS: [(&str, Work); 47] = [
     (
         "tobytes-contiguous",
         Work::Views(Doing::ToBytes(Part::Whole)),
@@ -62,6 +68,9 @@ pub const KERNELS: [(&str, Work); 44] = [
     ("unpack", Work::Records(Packing::Unpack)),
     ("pack-into", Work::Records(Packing::PackInto)),
     ("append-pop", Work::Grow),
+    ("queue-long", Work::Queue(100_000)),
+    ("queue-short", Work::Queue(10)),
+    ("queue-drawn", Work::DrawnQueue),
     ("compare", Work::Views(Doing::Compare)),
     ("compare-beside", Work::Beside(Question::Compare)),
     ("find-byte", Work::Call(Method::Find(b"z"))),
@@ -98,6 +107,8 @@ pub fn measure_work<R: CpuClock + AllocGlobal>(
         Work::Make(making) => measure(rt, plan, MakeViews { making, plan }),
         Work::Records(packing) => measure(rt, plan, Records::of(alloc, plan, packing)?),
         Work::Grow => measure(rt, plan, AppendPop { count: plan.count }),
+        Work::Queue(size) => measure(rt, plan, Queue::of(alloc, plan, size)?),
+        Work::DrawnQueue => measure(rt, plan, DrawnQueue { seed: plan.seed }),
         Work::Call(method) => measure(rt, plan, Call::of(alloc, plan, method)?),
     }
 }

@@ -8,12 +8,14 @@
 
 mod answers;
 mod data;
+mod drawn_queue;
 mod items;
 mod kernel;
 mod kernels;
 mod keys;
 mod making;
 mod plan;
+mod queues;
 mod records;
 mod strings;
 mod viewed;

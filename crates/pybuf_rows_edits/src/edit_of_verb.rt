@@ -11,27 +11,33 @@ ghost use Rattle.pybuf_rows_edits.specs.Shrinking as shrinking_spec;
 use crate::{growing, replacing, shrinking};
 use pybuf_command::{LocalReply, Verb};
 use pybuf_state::{Names, Parts};
-use pybuf_value::{Fault, Halt, Value};
+use pybuf_value::{Fault, Halt, Steps, Value};
+use std::sync::ledger::Ledger;
 
 /// The edit of a verb on the exporter itself.
 ///
 /// Refused with `UnknownName` where the verb is no edit, and where the kind of the exporter hasn't it.
-pub fn edit_of_own<N: Names>(parts: &mut Parts, verb: &Verb, names: &N) -> Result<LocalReply, Halt>
+pub fn edit_of_own<N: Names, L: Ledger>(
+    parts: &mut Parts,
+    verb: &Verb,
+    names: &N,
+    moved: &mut Steps<L>,
+) -> Result<LocalReply, Halt>
     requires whole { IsWhole parts.old }
     requires fit { N.fit names.now }
     ensures answer { Answers (spec.edit_of_own (exporter_of parts.old) verb.now (lents_by (exporter_of parts.old) (N.named names.now) (handles_read subjects.Own verb.now))) (exporter_of parts.old) result (exporter_of parts.new) }
     ensures counted { parts.new.exports ≡ exports_of (exporter_of parts.new) }
 {
     match verb {
-        Verb::Append { value } => growing::append(parts, value),
-        Verb::Extend { value } => growing::extend(parts, value, names),
-        Verb::Insert { index, value } => growing::insert(parts, index, value),
-        Verb::Pop { index } => shrinking::pop(parts, index),
-        Verb::Remove { value } => shrinking::remove(parts, value),
+        Verb::Append { value } => growing::append(parts, value, moved),
+        Verb::Extend { value } => growing::extend(parts, value, names, moved),
+        Verb::Insert { index, value } => growing::insert(parts, index, value, moved),
+        Verb::Pop { index } => shrinking::pop(parts, index, moved),
+        Verb::Remove { value } => shrinking::remove(parts, value, moved),
         Verb::Clear => shrinking::clear(parts),
         Verb::Reverse => replacing::reverse(parts),
-        Verb::Del { key } => shrinking::delete(parts, key),
-        Verb::IAdd { value } => growing::iadd(parts, value, names),
+        Verb::Del { key } => shrinking::delete(parts, key, moved),
+        Verb::IAdd { value } => growing::iadd(parts, value, names, moved),
         Verb::IMul { count } => growing::imul(parts, count),
         Verb::Init { options } => replacing::init(parts, options, names),
         Verb::Take => shrinking::take(parts),
@@ -39,7 +45,7 @@ pub fn edit_of_own<N: Names>(parts: &mut Parts, verb: &Verb, names: &N) -> Resul
         Verb::Set {
             key: Value::Slice(slice),
             value,
-        } => replacing::assign(parts, slice, value, names),
+        } => replacing::assign(parts, slice, value, names, moved),
         _ => Err(Halt::Refused(Fault::UnknownName)),
     }
 }

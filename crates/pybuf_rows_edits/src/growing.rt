@@ -16,13 +16,18 @@ use pybuf_command::{ExporterKind, LocalReply, Subject};
 use pybuf_index::SequenceIndexOp;
 use pybuf_state::{Meaning, Names, Other, Parts, content_of_other, run_of_other};
 use pybuf_value::{
-    Fault, Halt, Made, Outcome, Scalar, SnapList, Value, bytes_from_object, count_in,
+    Fault, Halt, Made, Outcome, Scalar, SnapList, Steps, Value, bytes_from_object, count_in,
     value_from_object,
 };
 use std::alloc::Global;
+use std::sync::ledger::Ledger;
 
 /// Adds a byte at the end of a bytearray.
-pub fn append(parts: &mut Parts, value: &Value) -> Result<LocalReply, Halt>
+pub fn append<L: Ledger>(
+    parts: &mut Parts,
+    value: &Value,
+    moved: &mut Steps<L>,
+) -> Result<LocalReply, Halt>
     requires { IsWhole parts.old }
     ensures answer { Answers (spec.append_of_own (exporter_of parts.old) value.now) (exporter_of parts.old) result (exporter_of parts.new) }
     ensures counted { parts.new.exports ≡ exports_of (exporter_of parts.new) }
@@ -32,11 +37,16 @@ pub fn append(parts: &mut Parts, value: &Value) -> Result<LocalReply, Halt>
     };
     let byte = value_from_object(value)?;
     parts.resizable()?;
-    parts.append([byte].as_slice())?;
+    parts.append([byte].as_slice(), moved)?;
     Ok(LocalReply::Ok)
 }
 
-fn insert_byte(parts: &mut Parts, index: &Value, value: &Value) -> Result<LocalReply, Halt>
+fn insert_byte<L: Ledger>(
+    parts: &mut Parts,
+    index: &Value,
+    value: &Value,
+    moved: &mut Steps<L>,
+) -> Result<LocalReply, Halt>
     requires { IsWhole parts.old }
     ensures answer { Answers (spec.inserted (exporter_of parts.old) index.now value.now) (exporter_of parts.old) result (exporter_of parts.new) }
     ensures counted { parts.new.exports ≡ exports_of (exporter_of parts.new) }
@@ -45,19 +55,24 @@ fn insert_byte(parts: &mut Parts, index: &Value, value: &Value) -> Result<LocalR
     let byte = value_from_object(value)?;
     parts.resizable()?;
     let place = number.saturated_at(parts.bytes.len());
-    parts.replace_range(place, place, [byte].as_slice())?;
+    parts.replace_range(place, place, [byte].as_slice(), moved)?;
     Ok(LocalReply::Ok)
 }
 
 /// Puts a byte before the place of a bytearray that is nearest to an index, where a negative index counts
 /// from the end.
-pub fn insert(parts: &mut Parts, index: &Value, value: &Value) -> Result<LocalReply, Halt>
+pub fn insert<L: Ledger>(
+    parts: &mut Parts,
+    index: &Value,
+    value: &Value,
+    moved: &mut Steps<L>,
+) -> Result<LocalReply, Halt>
     requires { IsWhole parts.old }
     ensures answer { Answers (spec.insert_of_own (exporter_of parts.old) index.now value.now) (exporter_of parts.old) result (exporter_of parts.new) }
     ensures counted { parts.new.exports ≡ exports_of (exporter_of parts.new) }
 {
     match parts.kind {
-        ExporterKind::ByteArray => insert_byte(parts, index, value),
+        ExporterKind::ByteArray => insert_byte(parts, index, value, moved),
         _ => Err(Halt::Refused(Fault::UnknownName)),
     }
 }
@@ -129,30 +144,38 @@ pub fn imul(parts: &mut Parts, count: &Value) -> Result<LocalReply, Halt>
 }
 
 /// Adds bytes that lie outside the exporter.
-fn add(parts: &mut Parts, bytes: &[u8]) -> Result<LocalReply, Halt>
+fn add<L: Ledger>(parts: &mut Parts, bytes: &[u8], moved: &mut Steps<L>) -> Result<LocalReply, Halt>
     requires { IsWhole parts.old }
     ensures answer { Answers (lent_spec.bytes_added (exporter_of parts.old) bytes.now) (exporter_of parts.old) result (exporter_of parts.new) }
     ensures counted { parts.new.exports ≡ exports_of (exporter_of parts.new) }
 {
     parts.resizable()?;
-    parts.append(bytes)?;
+    parts.append(bytes, moved)?;
     Ok(LocalReply::Ok)
 }
 
 /// Adds the bytes of something of another exporter.
-fn extend_by_other(parts: &mut Parts, other: Other<'_>) -> Result<LocalReply, Halt>
+fn extend_by_other<L: Ledger>(
+    parts: &mut Parts,
+    other: Other<'_>,
+    moved: &mut Steps<L>,
+) -> Result<LocalReply, Halt>
     requires whole { IsWhole parts.old }
     requires sound { names_spec.IsSoundOther other }
     ensures answer { Answers (lent_spec.extended_by (exporter_of parts.old) (names_spec.snap_of_other other.entry)) (exporter_of parts.old) result (exporter_of parts.new) }
     ensures counted { parts.new.exports ≡ exports_of (exporter_of parts.new) }
 {
     let bytes = content_of_other(parts.alloc, other)?;
-    add(parts, bytes.as_slice())
+    add(parts, bytes.as_slice(), moved)
 }
 
 /// Adds the bytes of what a handle names: those of the exporter itself stand there once more.
 #[tactic(auto, using(crate::proofs::Lending::other_extends))]
-fn extend_by_meaning(parts: &mut Parts, meaning: Meaning<'_>) -> Result<LocalReply, Halt>
+fn extend_by_meaning<L: Ledger>(
+    parts: &mut Parts,
+    meaning: Meaning<'_>,
+    moved: &mut Steps<L>,
+) -> Result<LocalReply, Halt>
     requires whole { IsWhole parts.old }
     requires sound { names_spec.IsSoundMeaning meaning }
     ensures answer { Answers (lent_spec.extended_as (exporter_of parts.old) (names_spec.meant meaning.entry)) (exporter_of parts.old) result (exporter_of parts.new) }
@@ -162,27 +185,32 @@ fn extend_by_meaning(parts: &mut Parts, meaning: Meaning<'_>) -> Result<LocalRep
         Meaning::Own(Subject::Own) => repeat(parts, 2),
         Meaning::Own(Subject::View(view)) => refuse_view(parts, view),
         Meaning::Own(Subject::Iter(iterator)) => refuse_iterator(parts, iterator),
-        Meaning::Other(other) => extend_by_other(parts, other),
+        Meaning::Other(other) => extend_by_other(parts, other, moved),
         Meaning::Nothing => Err(Halt::Refused(Fault::UnknownName)),
     }
 }
 
 /// Adds the bytes that the parts of a list or a tuple are.
-fn extend_by_parts(parts: &mut Parts, value: &Value) -> Result<LocalReply, Halt>
+fn extend_by_parts<L: Ledger>(
+    parts: &mut Parts,
+    value: &Value,
+    moved: &mut Steps<L>,
+) -> Result<LocalReply, Halt>
     requires { IsWhole parts.old }
     ensures answer { Answers (spec.extended (exporter_of parts.old) value.now []) (exporter_of parts.old) result (exporter_of parts.new) }
     ensures counted { parts.new.exports ≡ exports_of (exporter_of parts.new) }
 {
     match bytes_from_object(parts.alloc, value, &SnapList::new(parts.alloc))? {
-        Outcome::Done(bytes) => add(parts, bytes.as_slice()),
+        Outcome::Done(bytes) => add(parts, bytes.as_slice(), moved),
         Outcome::Refused(fault) => Err(Halt::Refused(fault)),
     }
 }
 
-fn extend_by_value<N: Names>(
+fn extend_by_value<N: Names, L: Ledger>(
     parts: &mut Parts,
     value: &Value,
     names: &N,
+    moved: &mut Steps<L>,
 ) -> Result<LocalReply, Halt>
     requires whole { IsWhole parts.old }
     requires fit { N.fit names.now }
@@ -190,22 +218,31 @@ fn extend_by_value<N: Names>(
     ensures counted { parts.new.exports ≡ exports_of (exporter_of parts.new) }
 {
     match value {
-        Value::One(Scalar::Bytes(bytes)) => add(parts, bytes.as_slice()),
-        Value::One(Scalar::Handle(handle)) => extend_by_meaning(parts, names.meaning(*handle)),
-        _ => extend_by_parts(parts, value),
+        Value::One(Scalar::Bytes(bytes)) => add(parts, bytes.as_slice(), moved),
+        Value::One(Scalar::Handle(handle)) => extend_by_meaning(
+            parts,
+            names.meaning(*handle),
+            moved,
+        ),
+        _ => extend_by_parts(parts, value, moved),
     }
 }
 
 /// Adds bytes at the end of a bytearray: those of a bytes value, of what a handle names, whose items may
 /// lie apart, and those that the parts of a list or a tuple are. By itself it is twice what it was.
-pub fn extend<N: Names>(parts: &mut Parts, value: &Value, names: &N) -> Result<LocalReply, Halt>
+pub fn extend<N: Names, L: Ledger>(
+    parts: &mut Parts,
+    value: &Value,
+    names: &N,
+    moved: &mut Steps<L>,
+) -> Result<LocalReply, Halt>
     requires whole { IsWhole parts.old }
     requires fit { N.fit names.now }
     ensures answer { Answers (spec.extend_of_own (exporter_of parts.old) value.now (lents_by (exporter_of parts.old) (N.named names.now) (handle_of_value value.now))) (exporter_of parts.old) result (exporter_of parts.new) }
     ensures counted { parts.new.exports ≡ exports_of (exporter_of parts.new) }
 {
     match parts.kind {
-        ExporterKind::ByteArray => extend_by_value(parts, value, names),
+        ExporterKind::ByteArray => extend_by_value(parts, value, names, moved),
         _ => Err(Halt::Refused(Fault::UnknownName)),
     }
 }
@@ -231,19 +268,27 @@ fn add_iterator(parts: &Parts, iterator: usize) -> Result<LocalReply, Halt>
 }
 
 /// Adds the bytes of something of another exporter, which must lie one after the other.
-fn add_other(parts: &mut Parts, other: Other<'_>) -> Result<LocalReply, Halt>
+fn add_other<L: Ledger>(
+    parts: &mut Parts,
+    other: Other<'_>,
+    moved: &mut Steps<L>,
+) -> Result<LocalReply, Halt>
     requires whole { IsWhole parts.old }
     requires sound { names_spec.IsSoundOther other }
     ensures answer { Answers (lent_spec.added_by (exporter_of parts.old) (names_spec.snap_of_other other.entry)) (exporter_of parts.old) result (exporter_of parts.new) }
     ensures counted { parts.new.exports ≡ exports_of (exporter_of parts.new) }
 {
     let bytes = run_of_other(other)?;
-    add(parts, bytes)
+    add(parts, bytes, moved)
 }
 
 /// Adds the bytes of what a handle names, and never those of the exporter itself.
 #[tactic(auto, using(crate::proofs::Lending::other_adds))]
-fn add_meaning(parts: &mut Parts, meaning: Meaning<'_>) -> Result<LocalReply, Halt>
+fn add_meaning<L: Ledger>(
+    parts: &mut Parts,
+    meaning: Meaning<'_>,
+    moved: &mut Steps<L>,
+) -> Result<LocalReply, Halt>
     requires whole { IsWhole parts.old }
     requires sound { names_spec.IsSoundMeaning meaning }
     ensures answer { Answers (lent_spec.added_as (exporter_of parts.old) (names_spec.meant meaning.entry)) (exporter_of parts.old) result (exporter_of parts.new) }
@@ -253,34 +298,44 @@ fn add_meaning(parts: &mut Parts, meaning: Meaning<'_>) -> Result<LocalReply, Ha
         Meaning::Own(Subject::Own) => Err(Halt::Refused(Fault::Buffer)),
         Meaning::Own(Subject::View(view)) => add_view(parts, view),
         Meaning::Own(Subject::Iter(iterator)) => add_iterator(parts, iterator),
-        Meaning::Other(other) => add_other(parts, other),
+        Meaning::Other(other) => add_other(parts, other, moved),
         Meaning::Nothing => Err(Halt::Refused(Fault::UnknownName)),
     }
 }
 
-fn add_value<N: Names>(parts: &mut Parts, value: &Value, names: &N) -> Result<LocalReply, Halt>
+fn add_value<N: Names, L: Ledger>(
+    parts: &mut Parts,
+    value: &Value,
+    names: &N,
+    moved: &mut Steps<L>,
+) -> Result<LocalReply, Halt>
     requires whole { IsWhole parts.old }
     requires fit { N.fit names.now }
     ensures answer { Answers (spec.added (exporter_of parts.old) value.now (lents_by (exporter_of parts.old) (N.named names.now) (handle_of_value value.now))) (exporter_of parts.old) result (exporter_of parts.new) }
     ensures counted { parts.new.exports ≡ exports_of (exporter_of parts.new) }
 {
     match value {
-        Value::One(Scalar::Bytes(bytes)) => add(parts, bytes.as_slice()),
-        Value::One(Scalar::Handle(handle)) => add_meaning(parts, names.meaning(*handle)),
+        Value::One(Scalar::Bytes(bytes)) => add(parts, bytes.as_slice(), moved),
+        Value::One(Scalar::Handle(handle)) => add_meaning(parts, names.meaning(*handle), moved),
         _ => Err(Halt::Refused(Fault::Kind)),
     }
 }
 
 /// Adds bytes that lie one after the other at the end of a bytearray: those of a bytes value, or of what a
 /// handle names. The bytearray itself is refused with `BufferError`.
-pub fn iadd<N: Names>(parts: &mut Parts, value: &Value, names: &N) -> Result<LocalReply, Halt>
+pub fn iadd<N: Names, L: Ledger>(
+    parts: &mut Parts,
+    value: &Value,
+    names: &N,
+    moved: &mut Steps<L>,
+) -> Result<LocalReply, Halt>
     requires whole { IsWhole parts.old }
     requires fit { N.fit names.now }
     ensures answer { Answers (spec.iadd_of_own (exporter_of parts.old) value.now (lents_by (exporter_of parts.old) (N.named names.now) (handle_of_value value.now))) (exporter_of parts.old) result (exporter_of parts.new) }
     ensures counted { parts.new.exports ≡ exports_of (exporter_of parts.new) }
 {
     match parts.kind {
-        ExporterKind::ByteArray => add_value(parts, value, names),
+        ExporterKind::ByteArray => add_value(parts, value, names, moved),
         _ => Err(Halt::Refused(Fault::UnknownName)),
     }
 }

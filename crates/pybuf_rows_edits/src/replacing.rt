@@ -24,9 +24,10 @@ use pybuf_memoryview::content_of;
 use pybuf_slice::slices;
 use pybuf_state::{Meaning, Names, Other, Parts, content_of_other, snap_of_subject};
 use pybuf_value::{
-    Fault, Halt, Lent, Made, Outcome, PySlice, Scalar, SnapList, Value, bytes_from_object,
+    Fault, Halt, Lent, Made, Outcome, PySlice, Scalar, SnapList, Steps, Value, bytes_from_object,
 };
 use std::alloc::Global;
+use std::sync::ledger::Ledger;
 
 // ---- `set` by a slice
 
@@ -44,7 +45,12 @@ fn write_slice(parts: &mut Parts, slice: SaturatedSlice, bytes: &[u8]) -> Made<(
 }
 
 /// Puts bytes in place of those that a slice picks: where they are as many, they are written in place.
-fn put(parts: &mut Parts, slice: SaturatedSlice, bytes: &[u8]) -> Result<LocalReply, Halt>
+fn put<L: Ledger>(
+    parts: &mut Parts,
+    slice: SaturatedSlice,
+    bytes: &[u8],
+    moved: &mut Steps<L>,
+) -> Result<LocalReply, Halt>
     requires { IsWhole parts.old }
     ensures answer { Answers (spec.assigned (exporter_of parts.old) slice bytes.now) (exporter_of parts.old) result (exporter_of parts.new) }
     ensures counted { parts.new.exports ≡ exports_of (exporter_of parts.new) }
@@ -58,18 +64,22 @@ fn put(parts: &mut Parts, slice: SaturatedSlice, bytes: &[u8]) -> Result<LocalRe
     if step != 1 {
         return Err(Halt::Refused(Fault::Value));
     }
-    parts.replace_range(range.start, range.end, bytes)?;
+    parts.replace_range(range.start, range.end, bytes, moved)?;
     Ok(LocalReply::Ok)
 }
 
 /// Puts all bytes of the exporter itself there, as they were before the first is written.
-fn put_own(parts: &mut Parts, slice: SaturatedSlice) -> Result<LocalReply, Halt>
+fn put_own<L: Ledger>(
+    parts: &mut Parts,
+    slice: SaturatedSlice,
+    moved: &mut Steps<L>,
+) -> Result<LocalReply, Halt>
     requires { IsWhole parts.old }
     ensures answer { Answers (lent_spec.assigned_by (exporter_of parts.old) slice (snap_of_subject (exporter_of parts.old) subjects.Own)) (exporter_of parts.old) result (exporter_of parts.new) }
     ensures counted { parts.new.exports ≡ exports_of (exporter_of parts.new) }
 {
     let content = Vec::from_slice(parts.alloc, parts.bytes.as_slice())?;
-    put(parts, slice, content.as_slice())
+    put(parts, slice, content.as_slice(), moved)
 }
 
 /// A copy of the bytes of a view of the exporter.
@@ -83,13 +93,18 @@ fn content_of_view(parts: &Parts, view: usize) -> Result<Vec<u8>, Halt>
 }
 
 /// Puts the items of a view of the exporter itself there, as they were before the first byte is written.
-fn put_view(parts: &mut Parts, slice: SaturatedSlice, view: usize) -> Result<LocalReply, Halt>
+fn put_view<L: Ledger>(
+    parts: &mut Parts,
+    slice: SaturatedSlice,
+    view: usize,
+    moved: &mut Steps<L>,
+) -> Result<LocalReply, Halt>
     requires { IsWhole parts.old }
     ensures answer { Answers (lent_spec.assigned_by (exporter_of parts.old) slice (snap_of_subject (exporter_of parts.old) (subjects.View view))) (exporter_of parts.old) result (exporter_of parts.new) }
     ensures counted { parts.new.exports ≡ exports_of (exporter_of parts.new) }
 {
     let content = content_of_view(parts, view)?;
-    put(parts, slice, content.as_slice())
+    put(parts, slice, content.as_slice(), moved)
 }
 
 /// Puts nothing there: an iterator has no bytes.
@@ -101,22 +116,28 @@ fn put_iterator(parts: &Parts, slice: SaturatedSlice, iterator: usize) -> Result
 }
 
 /// Puts the bytes of something of another exporter there.
-fn put_other(parts: &mut Parts, slice: SaturatedSlice, other: Other<'_>) -> Result<LocalReply, Halt>
+fn put_other<L: Ledger>(
+    parts: &mut Parts,
+    slice: SaturatedSlice,
+    other: Other<'_>,
+    moved: &mut Steps<L>,
+) -> Result<LocalReply, Halt>
     requires whole { IsWhole parts.old }
     requires sound { names_spec.IsSoundOther other }
     ensures answer { Answers (lent_spec.assigned_by (exporter_of parts.old) slice (names_spec.snap_of_other other.entry)) (exporter_of parts.old) result (exporter_of parts.new) }
     ensures counted { parts.new.exports ≡ exports_of (exporter_of parts.new) }
 {
     let bytes = content_of_other(parts.alloc, other)?;
-    put(parts, slice, bytes.as_slice())
+    put(parts, slice, bytes.as_slice(), moved)
 }
 
 /// Puts the bytes of what a handle names there.
 #[tactic(auto, using(crate::proofs::Lending::other_snap))]
-fn put_meaning(
+fn put_meaning<L: Ledger>(
     parts: &mut Parts,
     slice: SaturatedSlice,
     meaning: Meaning<'_>,
+    moved: &mut Steps<L>,
 ) -> Result<LocalReply, Halt>
     requires whole { IsWhole parts.old }
     requires sound { names_spec.IsSoundMeaning meaning }
@@ -124,31 +145,37 @@ fn put_meaning(
     ensures counted { parts.new.exports ≡ exports_of (exporter_of parts.new) }
 {
     match meaning {
-        Meaning::Own(Subject::Own) => put_own(parts, slice),
-        Meaning::Own(Subject::View(view)) => put_view(parts, slice, view),
+        Meaning::Own(Subject::Own) => put_own(parts, slice, moved),
+        Meaning::Own(Subject::View(view)) => put_view(parts, slice, view, moved),
         Meaning::Own(Subject::Iter(iterator)) => put_iterator(parts, slice, iterator),
-        Meaning::Other(other) => put_other(parts, slice, other),
+        Meaning::Other(other) => put_other(parts, slice, other, moved),
         Meaning::Nothing => Err(Halt::Refused(Fault::UnknownName)),
     }
 }
 
 /// Puts the bytes there that the parts of a list or a tuple are.
-fn put_parts(parts: &mut Parts, slice: SaturatedSlice, value: &Value) -> Result<LocalReply, Halt>
+fn put_parts<L: Ledger>(
+    parts: &mut Parts,
+    slice: SaturatedSlice,
+    value: &Value,
+    moved: &mut Steps<L>,
+) -> Result<LocalReply, Halt>
     requires { IsWhole parts.old }
     ensures answer { Answers (spec.assigned_from (exporter_of parts.old) slice value.now []) (exporter_of parts.old) result (exporter_of parts.new) }
     ensures counted { parts.new.exports ≡ exports_of (exporter_of parts.new) }
 {
     match bytes_from_object(parts.alloc, value, &SnapList::new(parts.alloc))? {
-        Outcome::Done(bytes) => put(parts, slice, bytes.as_slice()),
+        Outcome::Done(bytes) => put(parts, slice, bytes.as_slice(), moved),
         Outcome::Refused(fault) => Err(Halt::Refused(fault)),
     }
 }
 
-fn put_value<N: Names>(
+fn put_value<N: Names, L: Ledger>(
     parts: &mut Parts,
     slice: SaturatedSlice,
     value: &Value,
     names: &N,
+    moved: &mut Steps<L>,
 ) -> Result<LocalReply, Halt>
     requires whole { IsWhole parts.old }
     requires fit { N.fit names.now }
@@ -156,17 +183,23 @@ fn put_value<N: Names>(
     ensures counted { parts.new.exports ≡ exports_of (exporter_of parts.new) }
 {
     match value {
-        Value::One(Scalar::Bytes(bytes)) => put(parts, slice, bytes.as_slice()),
-        Value::One(Scalar::Handle(handle)) => put_meaning(parts, slice, names.meaning(*handle)),
-        _ => put_parts(parts, slice, value),
+        Value::One(Scalar::Bytes(bytes)) => put(parts, slice, bytes.as_slice(), moved),
+        Value::One(Scalar::Handle(handle)) => put_meaning(
+            parts,
+            slice,
+            names.meaning(*handle),
+            moved,
+        ),
+        _ => put_parts(parts, slice, value, moved),
     }
 }
 
-fn set_slice<N: Names>(
+fn set_slice<N: Names, L: Ledger>(
     parts: &mut Parts,
     slice: &PySlice,
     value: &Value,
     names: &N,
+    moved: &mut Steps<L>,
 ) -> Result<LocalReply, Halt>
     requires whole { IsWhole parts.old }
     requires fit { N.fit names.now }
@@ -174,18 +207,19 @@ fn set_slice<N: Names>(
     ensures counted { parts.new.exports ≡ exports_of (exporter_of parts.new) }
 {
     let slice = SaturatedSlice::with_slice(slice)?;
-    put_value(parts, slice, value, names)
+    put_value(parts, slice, value, names, moved)
 }
 
 /// Puts bytes in place of those of a bytearray that a slice picks: those of a bytes value, of what a
 /// handle names, whose items may lie apart, and those that the parts of a list or a tuple are. A slice
 /// of step 1 takes any number of them; any other takes as many as it picks, and is refused with
 /// `ValueError` where there are not as many. (Library reference, "Mutable Sequence Types".)
-pub fn assign<N: Names>(
+pub fn assign<N: Names, L: Ledger>(
     parts: &mut Parts,
     slice: &PySlice,
     value: &Value,
     names: &N,
+    moved: &mut Steps<L>,
 ) -> Result<LocalReply, Halt>
     requires whole { IsWhole parts.old }
     requires fit { N.fit names.now }
@@ -193,7 +227,7 @@ pub fn assign<N: Names>(
     ensures counted { parts.new.exports ≡ exports_of (exporter_of parts.new) }
 {
     match parts.kind {
-        ExporterKind::ByteArray => set_slice(parts, slice, value, names),
+        ExporterKind::ByteArray => set_slice(parts, slice, value, names, moved),
         _ => Err(Halt::Refused(Fault::UnknownName)),
     }
 }

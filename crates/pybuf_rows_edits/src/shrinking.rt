@@ -10,8 +10,9 @@ use pybuf_memoryview::{byte_item, index_in};
 use pybuf_slice::close_up;
 use pybuf_state::Parts;
 use pybuf_value::{
-    ByteList, Fault, Halt, PySlice, Value, count_or, place_of_byte, value_from_object,
+    ByteList, Fault, Halt, PySlice, Steps, Value, count_or, place_of_byte, value_from_object,
 };
+use std::sync::ledger::Ledger;
 
 /// The number of an index, which is that of the last byte where none is given.
 fn count_or_last(index: &Option<Value>) -> Result<isize, Fault>
@@ -20,7 +21,11 @@ fn count_or_last(index: &Option<Value>) -> Result<isize, Fault>
     count_or(-1, index.as_ref())
 }
 
-fn pop_byte(parts: &mut Parts, index: &Option<Value>) -> Result<LocalReply, Halt>
+fn pop_byte<L: Ledger>(
+    parts: &mut Parts,
+    index: &Option<Value>,
+    moved: &mut Steps<L>,
+) -> Result<LocalReply, Halt>
     requires { IsWhole parts.old }
     ensures answer { Answers (spec.popped (exporter_of parts.old) index.now) (exporter_of parts.old) result (exporter_of parts.new) }
     ensures counted { parts.new.exports ≡ exports_of (exporter_of parts.new) }
@@ -29,24 +34,32 @@ fn pop_byte(parts: &mut Parts, index: &Option<Value>) -> Result<LocalReply, Halt
     parts.resizable()?;
     let place = entry_in(parts.bytes.len(), number)?;
     let byte = parts.bytes.as_slice()[place];
-    parts.remove_range(place, place + 1);
+    parts.remove_range(place, place + 1, moved);
     Ok(LocalReply::Item(byte_item(byte)))
 }
 
 /// Takes the byte of a bytearray at an index out, the last one where no index is given. The reply is that
 /// byte.
-pub fn pop(parts: &mut Parts, index: &Option<Value>) -> Result<LocalReply, Halt>
+pub fn pop<L: Ledger>(
+    parts: &mut Parts,
+    index: &Option<Value>,
+    moved: &mut Steps<L>,
+) -> Result<LocalReply, Halt>
     requires { IsWhole parts.old }
     ensures answer { Answers (spec.pop_of_own (exporter_of parts.old) index.now) (exporter_of parts.old) result (exporter_of parts.new) }
     ensures counted { parts.new.exports ≡ exports_of (exporter_of parts.new) }
 {
     match parts.kind {
-        ExporterKind::ByteArray => pop_byte(parts, index),
+        ExporterKind::ByteArray => pop_byte(parts, index, moved),
         _ => Err(Halt::Refused(Fault::UnknownName)),
     }
 }
 
-fn remove_byte(parts: &mut Parts, value: &Value) -> Result<LocalReply, Halt>
+fn remove_byte<L: Ledger>(
+    parts: &mut Parts,
+    value: &Value,
+    moved: &mut Steps<L>,
+) -> Result<LocalReply, Halt>
     requires { IsWhole parts.old }
     ensures answer { Answers (spec.removed (exporter_of parts.old) value.now) (exporter_of parts.old) result (exporter_of parts.new) }
     ensures counted { parts.new.exports ≡ exports_of (exporter_of parts.new) }
@@ -56,20 +69,24 @@ fn remove_byte(parts: &mut Parts, value: &Value) -> Result<LocalReply, Halt>
     match place_of_byte(parts.bytes.as_slice(), byte) {
         None => Err(Halt::Refused(Fault::Value)),
         Some(place) => {
-            parts.remove_range(place, place + 1);
+            parts.remove_range(place, place + 1, moved);
             Ok(LocalReply::Ok)
         }
     }
 }
 
 /// Takes the first byte of a value out of a bytearray.
-pub fn remove(parts: &mut Parts, value: &Value) -> Result<LocalReply, Halt>
+pub fn remove<L: Ledger>(
+    parts: &mut Parts,
+    value: &Value,
+    moved: &mut Steps<L>,
+) -> Result<LocalReply, Halt>
     requires { IsWhole parts.old }
     ensures answer { Answers (spec.remove_of_own (exporter_of parts.old) value.now) (exporter_of parts.old) result (exporter_of parts.new) }
     ensures counted { parts.new.exports ≡ exports_of (exporter_of parts.new) }
 {
     match parts.kind {
-        ExporterKind::ByteArray => remove_byte(parts, value),
+        ExporterKind::ByteArray => remove_byte(parts, value, moved),
         _ => Err(Halt::Refused(Fault::UnknownName)),
     }
 }
@@ -80,8 +97,7 @@ fn remove_all(parts: &mut Parts) -> Result<LocalReply, Halt>
     ensures counted { parts.new.exports ≡ exports_of (exporter_of parts.new) }
 {
     parts.resizable()?;
-    let end = parts.bytes.len();
-    parts.remove_range(0, end);
+    parts.replace_bytes(Vec::new(parts.alloc));
     Ok(LocalReply::Ok)
 }
 
@@ -97,7 +113,11 @@ pub fn clear(parts: &mut Parts) -> Result<LocalReply, Halt>
     }
 }
 
-fn delete_byte(parts: &mut Parts, key: &Value) -> Result<LocalReply, Halt>
+fn delete_byte<L: Ledger>(
+    parts: &mut Parts,
+    key: &Value,
+    moved: &mut Steps<L>,
+) -> Result<LocalReply, Halt>
     requires { IsWhole parts.old }
     ensures answer { Answers (spec.byte_deleted (exporter_of parts.old) key.now) (exporter_of parts.old) result (exporter_of parts.new) }
     ensures counted { parts.new.exports ≡ exports_of (exporter_of parts.new) }
@@ -105,43 +125,57 @@ fn delete_byte(parts: &mut Parts, key: &Value) -> Result<LocalReply, Halt>
     let index = index_in(key)?;
     parts.resizable()?;
     let place = entry_in(parts.bytes.len(), index)?;
-    parts.remove_range(place, place + 1);
+    parts.remove_range(place, place + 1, moved);
     Ok(LocalReply::Ok)
 }
 
 /// The bytes that stay move to the front of the slice's span, and then what is left of it goes.
-fn delete_slice(parts: &mut Parts, slice: &PySlice) -> Result<LocalReply, Halt>
+fn delete_slice<L: Ledger>(
+    parts: &mut Parts,
+    slice: &PySlice,
+    moved: &mut Steps<L>,
+) -> Result<LocalReply, Halt>
     requires { IsWhole parts.old }
     ensures answer { Answers (spec.slice_deleted (exporter_of parts.old) slice.now) (exporter_of parts.old) result (exporter_of parts.new) }
     ensures counted { parts.new.exports ≡ exports_of (exporter_of parts.new) }
 {
     let slice = SaturatedSlice::with_slice(slice)?;
     parts.resizable()?;
+    let (span, _step, count) = slice.adjust_indices(parts.bytes.len());
     let left = close_up(parts.bytes.as_mut_slice(), slice);
-    parts.remove_range(left.start, left.end);
+    moved.add((span.end - span.start).saturating_sub(count));
+    parts.remove_range(left.start, left.end, moved);
     Ok(LocalReply::Ok)
 }
 
-fn delete_at(parts: &mut Parts, key: &Value) -> Result<LocalReply, Halt>
+fn delete_at<L: Ledger>(
+    parts: &mut Parts,
+    key: &Value,
+    moved: &mut Steps<L>,
+) -> Result<LocalReply, Halt>
     requires { IsWhole parts.old }
     ensures answer { Answers (spec.deleted (exporter_of parts.old) key.now) (exporter_of parts.old) result (exporter_of parts.new) }
     ensures counted { parts.new.exports ≡ exports_of (exporter_of parts.new) }
 {
     match key {
-        Value::Slice(slice) => delete_slice(parts, slice),
-        _ => delete_byte(parts, key),
+        Value::Slice(slice) => delete_slice(parts, slice, moved),
+        _ => delete_byte(parts, key, moved),
     }
 }
 
 /// Takes the byte of a bytearray at an index out, or those that a slice picks. Each byte that stays moves
 /// at most once.
-pub fn delete(parts: &mut Parts, key: &Value) -> Result<LocalReply, Halt>
+pub fn delete<L: Ledger>(
+    parts: &mut Parts,
+    key: &Value,
+    moved: &mut Steps<L>,
+) -> Result<LocalReply, Halt>
     requires { IsWhole parts.old }
     ensures answer { Answers (spec.delete_of_own (exporter_of parts.old) key.now) (exporter_of parts.old) result (exporter_of parts.new) }
     ensures counted { parts.new.exports ≡ exports_of (exporter_of parts.new) }
 {
     match parts.kind {
-        ExporterKind::ByteArray => delete_at(parts, key),
+        ExporterKind::ByteArray => delete_at(parts, key, moved),
         _ => Err(Halt::Refused(Fault::UnknownName)),
     }
 }
@@ -153,8 +187,7 @@ fn take_all(parts: &mut Parts) -> Result<LocalReply, Halt>
 {
     parts.resizable()?;
     let bytes = Vec::from_slice(parts.alloc, parts.bytes.as_slice())?;
-    let end = parts.bytes.len();
-    parts.remove_range(0, end);
+    parts.replace_bytes(Vec::new(parts.alloc));
     Ok(LocalReply::Bytes(ByteList::from_vec(bytes)))
 }
 

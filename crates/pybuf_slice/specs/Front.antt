@@ -13,6 +13,10 @@ use Rattle.pybuf_slice.specs.FrontContent.{FrontContent}
 abbrev pub overwritten : FrontContent → List ℕ → FrontContent
 overwritten f bytes = record f { items = take (length f.items) (bytes ++ drop (length bytes) f.items) }
 
+-- the same from a place on, and not past the end
+abbrev pub overwritten_from : FrontContent → ℕ → List ℕ → FrontContent
+overwritten_from f place bytes = overwritten f (take place f.items ++ (bytes ++ drop (length bytes) (drop place f.items)))
+
 -- all bytes of a vector, without room
 abbrev pub flat : Vec ℕ Global → FrontContent
 flat bytes = record { items = bytes.items; room = 0 }
@@ -20,6 +24,10 @@ flat bytes = record { items = bytes.items; room = 0 }
 -- the bytes end as they are behind the loan, as many as before
 abbrev pub LendsItems : MutBor FrontContent → MutBor (List ℕ) → Fml
 LendsItems s r = Lends the_row (Array u8 0) s r (overwritten s.now)
+
+-- the same where those from a place on are lent
+abbrev pub LendsItemsFrom : MutBor FrontContent → ℕ → MutBor (List ℕ) → Fml
+LendsItemsFrom s place r = Lends the_row (Array u8 0) s r (overwritten_from s.now place)
 
 -- the type of a vector of bytes
 abbrev pub bytes_row : RattleType

@@ -1,5 +1,5 @@
 //! Bytes that are kept behind free room, so that the first of them are taken away at no cost.
-ghost use Rattle.std.specs.Prelude.{◌≡◌, ◌≤◌, ◌<◌, ◌+◌, ◌^◌, ◌++◌, drop, length, vec_len, vec_capacity, OnOk, OnErr};
+ghost use Rattle.std.specs.Prelude.{◌≡◌, ◌≤◌, ◌<◌, ◌+◌, ◌^◌, ◌++◌, [], drop, length, slice_range, vec_len, vec_capacity, OnOk, OnErr};
 
 use crate::edit_ops::SliceableSequenceMutOp;
 use pybuf_value::{Made, Steps};
@@ -54,7 +54,7 @@ fn append_within(bytes: &mut Vec<u8>, items: &[u8])
 impl FrontBytes {
     ghost use Rattle.std.specs.Borrow.{sem};
     ghost use Rattle.pybuf_slice.specs.Edits.{replaced_range};
-    ghost use Rattle.pybuf_slice.specs.Front.{LendsItems, LendsVector};
+    ghost use Rattle.pybuf_slice.specs.Front.{LendsItems, LendsItemsFrom, LendsVector};
     ghost use Rattle.pybuf_slice.specs.FrontContent.{IsSpare};
 
     /// The bytes of a vector, without room. Takes no memory.
@@ -95,6 +95,16 @@ impl FrontBytes {
         self.bytes.slice_mut(self.room..)
     }
 
+    /// The bytes from one place up to another, lent to be written in place.
+    pub fn run_mut(&mut self, start: usize, end: usize) -> &mut [u8]
+        requires ordered { start ≤ end }
+        requires inside { end ≤ length self.old.items }
+        ensures* writes_back { sem 𝓛 (LendsItemsFrom self.entry start result) }
+        ensures value { result.now ≡ slice_range self.old.items start end }
+    {
+        self.bytes.slice_mut(self.room + start..self.room + end)
+    }
+
     /// Takes the first bytes away, so many, and leaves them as room. Nothing moves, and no memory is taken.
     pub fn drop_front<L: Ledger>(&mut self, n: usize, moved: &mut Steps<L>)
         requires { n ≤ length self.old.items }
@@ -112,6 +122,7 @@ impl FrontBytes {
     pub fn push_all<L: Ledger>(&mut self, items: &[u8], moved: &mut Steps<L>) -> Made<()>
         ensures items { OnOk result (self.new.items ≡ self.old.items ++ items.now) }
         ensures counter { OnOk result (moved.new + self.new.room ≤ moved.old + self.old.room) }
+        ensures few { OnOk result (moved.new ≤ moved.old + length self.old.items) }
         ensures spare { OnOk result (IsSpare self.new) }
         ensures err { OnErr result (self.new ≡ self.old) }
         ensures err_counter { OnErr result (moved.new ≡ moved.old) }
@@ -158,13 +169,32 @@ impl FrontBytes {
         Ok(())
     }
 
+    /// Takes the bytes of a range out. Those behind it move once, where it has any. Takes no memory.
+    pub fn remove<L: Ledger>(&mut self, range: Range<usize>, moved: &mut Steps<L>)
+        requires ordered { range.start ≤ range.end }
+        requires inside { range.end ≤ length self.old.items }
+        ensures items { self.new.items ≡ replaced_range self.old.items range.start range.end [] }
+        ensures counter { moved.new ≤ moved.old + length self.old.items }
+        ensures room { self.new.room ≡ self.old.room }
+    {
+        let behind = self.bytes.len() - self.room - range.end;
+        let places = self.room + range.start..self.room + range.end;
+        let is_empty = range.start == range.end;
+        self.bytes.do_delete_range(places);
+        if !is_empty {
+            moved.add(behind);
+        }
+    }
+
     /// The bytes, lent as a vector without room, to be changed in any way. Takes no memory.
     pub fn make_flat(&mut self) -> &mut Vec<u8>
         ensures* writes_back { sem 𝓛 (LendsVector self.entry result) }
         ensures value { result.now.items ≡ self.old.items }
     {
-        move_down(&mut self.bytes, self.room);
-        self.room = 0;
+        if self.room > 0 {
+            move_down(&mut self.bytes, self.room);
+            self.room = 0;
+        }
         &mut self.bytes
     }
 }

@@ -6,15 +6,15 @@ use Rattle.pybuf_state.specs.contracts.store.Store.{the_row}
 
 -- the store with these bytes in place of its first, as many as it has
 abbrev pub overwritten : StoreContent → List ℕ → StoreContent
-overwritten s bytes = record { items = take (length s.items) (bytes ++ drop (length bytes) s.items) }
+overwritten s bytes = record s { items = take (length s.items) (bytes ++ drop (length bytes) s.items) }
 
 -- the store with these bytes in place of its own from a place on, and not past its end
 abbrev pub overwritten_from : StoreContent → ℕ → List ℕ → StoreContent
 overwritten_from s place bytes = overwritten s (take place s.items ++ (bytes ++ drop (length bytes) (drop place s.items)))
 
--- the store with the bytes of a vector
+-- the store with the bytes of a vector, without room
 abbrev pub exchanged : Bytes → StoreContent
-exchanged bytes = record { items = bytes.items }
+exchanged bytes = record { items = bytes.items; room = 0 }
 
 -- the store ends with the last bytes behind the loan, as many as before
 abbrev pub LendsItems : MutBor StoreContent → MutBor (List ℕ) → Fml

@@ -1,13 +1,14 @@
 //! What is kept of an exporter.
-ghost use Rattle.std.specs.Prelude.{◌≡◌, ◌≤◌, ◌<◌, [], Ok, Err, length, true, false, IfOk, IsOk, OnOk, OnErr, MatchResult};
+ghost use Rattle.std.specs.Prelude.{◌≡◌, ◌≤◌, ◌<◌, ◌+◌, [], Ok, Err, length, true, false, IfOk, IsOk, OnOk, OnErr, MatchResult};
 
 use crate::iterators::StoredIterator;
 use crate::store::Store;
 use crate::stored::StoredView;
 use pybuf_command::{ExporterKind, LocalReply, Subject};
 use pybuf_memoryview::KeptLayout;
-use pybuf_value::{Fault, Halt, Made};
+use pybuf_value::{Fault, Halt, Made, Steps};
 use std::alloc::Global;
+use std::sync::ledger::Ledger;
 
 /// The parts of an exporter: the number of unreleased views is kept beside the views, so that
 /// nothing goes through all views ever made.
@@ -24,6 +25,7 @@ pub struct Parts {
 impl Parts {
     ghost use Rattle.pybuf_value.specs.declared.faults.Fault.TheVariants as faults;
     ghost use Rattle.pybuf_value.specs.Refusing.{unless};
+    ghost use Rattle.pybuf_slice.specs.FrontContent.{IsSpare};
     ghost use Rattle.pybuf_state.specs.Keeps as keeps;
     ghost use Rattle.pybuf_state.specs.Exporter.{view_at, live_layout, with_view, released_in, exports_of, resized, iterator_at, with_iterator, iterator_put};
     ghost use Rattle.pybuf_state.specs.Answers.{exporter_of, IsWhole, Answers};
@@ -73,6 +75,7 @@ impl Parts {
         requires { IsWhole self.old }
         ensures answer { Answers (Ok (with_view (exporter_of self.old) layout)) (exporter_of self.old) result (exporter_of self.new) }
         ensures counted { self.new.exports ≡ exports_of (exporter_of self.new) }
+        ensures bytes { self.new.bytes ≡ self.old.bytes }
     {
         let number = self.views.len();
         self.views.push(StoredView::new(self.bytes.len(), layout))?;
@@ -98,6 +101,7 @@ impl Parts {
         requires { IsWhole self.old }
         ensures answer { Answers (Ok (with_iterator (exporter_of self.old) subject)) (exporter_of self.old) result (exporter_of self.new) }
         ensures counted { self.new.exports ≡ exports_of (exporter_of self.new) }
+        ensures bytes { self.new.bytes ≡ self.old.bytes }
     {
         let number = self.iterators.len();
         self.iterators.push(StoredIterator::new(subject))?;
@@ -110,6 +114,7 @@ impl Parts {
         requires given { iterator < length self.old.iterators.items }
         ensures same { exporter_of self.new ≡ iterator_put (exporter_of self.old) iterator put }
         ensures counted { self.new.exports ≡ exports_of (exporter_of self.new) }
+        ensures bytes { self.new.bytes ≡ self.old.bytes }
     {
         self.iterators[iterator] = put;
     }
@@ -127,53 +132,77 @@ impl Parts {
         Ok(())
     }
 
-    /// Adds bytes at the end, so that none moves. Where memory runs out, all is as before.
-    pub fn append(&mut self, bytes: &[u8]) -> Made<()>
+    /// Adds bytes at the end. Where there was as much room before the bytes as there are bytes, they are first
+    /// moved to the start; else none moves. Where memory runs out, all is as before.
+    pub fn append<L: Ledger>(&mut self, bytes: &[u8], moved: &mut Steps<L>) -> Made<()>
         requires free { has_exports (exporter_of self.old) ≡ false }
         ensures ok { OnOk result (exporter_of self.new ≡ resized (exporter_of self.old) (length self.old.bytes.items) (length self.old.bytes.items) bytes.now) }
         ensures err { OnErr result (exporter_of self.new ≡ exporter_of self.old) }
         ensures exports { self.new.exports ≡ self.old.exports }
+        ensures counter { OnOk result (moved.new + self.new.bytes.room ≤ moved.old + self.old.bytes.room) }
+        ensures few { OnOk result (moved.new ≤ moved.old + length self.old.bytes.items) }
+        ensures spare { OnOk result (IsSpare self.new.bytes) }
+        ensures err_room { OnErr result (self.new.bytes.room ≡ self.old.bytes.room) }
+        ensures err_counter { OnErr result (moved.new ≡ moved.old) }
     {
-        self.bytes.append(bytes)
+        self.bytes.append(bytes, moved)
     }
 
     /// Puts other bytes in place of those from one place up to another, as many as there are. With `append`
     /// and `replace_bytes` it is the call by which the length of an exporter changes. The bytes behind move
-    /// once, and none moves where bytes are added at the end. Where memory runs out, all is as before.
-    pub fn replace_range(&mut self, start: usize, end: usize, bytes: &[u8]) -> Made<()>
+    /// once, and none where bytes are taken from the front. Where memory runs out, all is as before.
+    pub fn replace_range<L: Ledger>(
+        &mut self,
+        start: usize,
+        end: usize,
+        bytes: &[u8],
+        moved: &mut Steps<L>,
+    ) -> Made<()>
         requires free { has_exports (exporter_of self.old) ≡ false }
         requires ordered { start ≤ end }
         requires inside { end ≤ length self.old.bytes.items }
         ensures ok { OnOk result (exporter_of self.new ≡ resized (exporter_of self.old) start end bytes.now) }
         ensures err { OnErr result (exporter_of self.new ≡ exporter_of self.old) }
         ensures exports { self.new.exports ≡ self.old.exports }
+        ensures counter { OnOk result (moved.new ≤ moved.old + (length self.old.bytes.items + length self.new.bytes.items)) }
+        ensures err_room { OnErr result (self.new.bytes.room ≡ self.old.bytes.room) }
+        ensures err_counter { OnErr result (moved.new ≡ moved.old) }
     {
         if start == self.bytes.len() {
-            return self.bytes.append(bytes);
+            return self.bytes.append(bytes, moved);
         }
         if bytes.is_empty() {
-            self.remove_range(start, end);
+            self.remove_range(start, end, moved);
             return Ok(());
         }
-        self.bytes.replace_range(self.alloc, start, end, bytes)
+        self.bytes.replace_range(start, end, bytes, moved)
     }
 
-    /// `replace_range` by no bytes, which takes no memory: the bytes behind move once.
-    pub fn remove_range(&mut self, start: usize, end: usize)
+    /// `replace_range` by no bytes, which takes no memory. Bytes at the front become room, and none moves;
+    /// else the bytes behind move once.
+    pub fn remove_range<L: Ledger>(&mut self, start: usize, end: usize, moved: &mut Steps<L>)
         requires free { has_exports (exporter_of self.old) ≡ false }
         requires ordered { start ≤ end }
         requires inside { end ≤ length self.old.bytes.items }
         ensures same { exporter_of self.new ≡ resized (exporter_of self.old) start end [] }
         ensures exports { self.new.exports ≡ self.old.exports }
+        ensures counter { moved.new ≤ moved.old + length self.old.bytes.items }
+        ensures front_room { start ≡ 0 → self.new.bytes.room ≡ self.old.bytes.room + end }
+        ensures front_counter { start ≡ 0 → moved.new ≡ moved.old }
     {
-        self.bytes.remove_range(start, end);
+        if start == 0 {
+            self.bytes.drop_front(end, moved);
+        } else {
+            self.bytes.remove_range(start, end, moved);
+        }
     }
 
-    /// Puts a vector in place of all bytes, as it is: nothing is copied, and no memory is taken.
+    /// Puts a vector in place of all bytes, as it is, without room: nothing is copied, and no memory is taken.
     pub fn replace_bytes(&mut self, bytes: Vec<u8>)
         requires free { has_exports (exporter_of self.old) ≡ false }
         ensures same { exporter_of self.new ≡ record (exporter_of self.old) { bytes = bytes.items } }
         ensures exports { self.new.exports ≡ self.old.exports }
+        ensures room { self.new.bytes.room ≡ 0 }
     {
         self.bytes = Store::from_vec(bytes);
     }
@@ -186,6 +215,7 @@ impl Parts {
         ensures exact { MatchResult result (λ _. released_in (exporter_of self.old) view ≡ Ok (exporter_of self.new)) (λ f. released_in (exporter_of self.old) view ≡ Err f) }
         ensures err { OnErr result (exporter_of self.new ≡ exporter_of self.old) }
         ensures counted { self.new.exports ≡ exports_of (exporter_of self.new) }
+        ensures bytes { self.new.bytes ≡ self.old.bytes }
     {
         if view >= self.views.len() {
             return Err(Fault::UnknownName);

@@ -1,16 +1,15 @@
 //! Where the bytes of an exporter are kept. Nothing else touches them.
-ghost use Rattle.std.specs.Prelude.{◌≡◌, ◌≤◌, ◌<◌, ◌^◌, ◌==◌, ◌++◌, [], length, reverse, set, slice_get, slice_range, IfSome, OnOk, OnErr};
+ghost use Rattle.std.specs.Prelude.{◌≡◌, ◌≤◌, ◌<◌, ◌+◌, ◌^◌, ◌==◌, ◌++◌, [], length, reverse, set, slice_get, slice_range, IfSome, OnOk, OnErr};
 
-use pybuf_slice::SliceableSequenceMutOp;
-use pybuf_value::Made;
-use std::alloc::Global;
+use pybuf_slice::FrontBytes;
+use pybuf_value::{Made, Steps};
 use std::marker::Model;
-use std_alloc::vec::run_mut;
+use std::sync::ledger::Ledger;
 
-/// The bytes of an exporter. A clause sees them as a list.
+/// The bytes of an exporter, behind free room. A clause sees them as a list, with the number of bytes of room.
 #[derive(Debug, Drop)]
 pub struct Store {
-    bytes: Vec<u8>,
+    bytes: FrontBytes,
 }
 
 impl Model for Store {
@@ -18,19 +17,23 @@ impl Model for Store {
 
     ghost Value = { StoreContent };
 
-    ghost view = { λ s. record { items = s.bytes.items } };
+    ghost view = { λ s. s.bytes };
 }
 
 impl Store {
     ghost use Rattle.std.specs.Borrow.{sem};
     ghost use Rattle.pybuf_slice.specs.Edits.{replaced_range};
+    ghost use Rattle.pybuf_slice.specs.FrontContent.{IsSpare};
     ghost use Rattle.pybuf_state.specs.Store.{LendsItems, LendsItemsFrom, LendsVector};
 
-    /// The bytes of a vector. Takes no memory.
+    /// The bytes of a vector, without room. Takes no memory.
     pub fn from_vec(bytes: Vec<u8>) -> Store
-        ensures { result.items ≡ bytes.items }
+        ensures items { result.items ≡ bytes.items }
+        ensures room { result.room ≡ 0 }
     {
-        Store { bytes }
+        Store {
+            bytes: FrontBytes::from(bytes),
+        }
     }
 
     /// The number of bytes, at most `isize::MAX`.
@@ -45,7 +48,14 @@ impl Store {
     pub fn is_empty(&self) -> bool
         ensures { result ≡ (length self.now.items == 0) }
     {
-        self.bytes.is_empty()
+        self.bytes.len() == 0
+    }
+
+    /// How many bytes of free room lie before the first.
+    pub fn front_room(&self) -> usize
+        ensures { result ≡ self.now.room }
+    {
+        self.bytes.front_room()
     }
 
     /// The bytes, lent.
@@ -55,7 +65,7 @@ impl Store {
         self.bytes.as_slice()
     }
 
-    /// The bytes, lent to be written in place.
+    /// The bytes, lent to be written in place. Their number and the room stay.
     pub fn as_mut_slice(&mut self) -> &mut [u8]
         ensures* writes_back { sem 𝓛 (LendsItems self.entry result) }
         ensures value { result.now ≡ self.old.items }
@@ -70,15 +80,15 @@ impl Store {
         ensures* writes_back { sem 𝓛 (LendsItemsFrom self.entry start result) }
         ensures value { result.now ≡ slice_range self.old.items start end }
     {
-        run_mut(&mut self.bytes, start, end)
+        self.bytes.run_mut(start, end)
     }
 
-    /// The bytes, lent as a vector, to be changed in any way, in number too. Takes no memory.
+    /// The bytes, lent as a vector without room, to be changed in any way, in number too. Takes no memory.
     pub fn as_vec_mut(&mut self) -> &mut Vec<u8>
         ensures* writes_back { sem 𝓛 (LendsVector self.entry result) }
         ensures value { result.now.items ≡ self.old.items }
     {
-        &mut self.bytes
+        self.bytes.make_flat()
     }
 
     /// The byte at a place, none past the end.
@@ -87,7 +97,7 @@ impl Store {
         ensures small { IfSome result (λ _. place < 2 ^ 63) }
     {
         if place < self.bytes.len() {
-            return Some(self.bytes[place]);
+            return Some(self.bytes.as_slice()[place]);
         }
         None
     }
@@ -95,50 +105,69 @@ impl Store {
     /// Writes a byte at a place.
     pub fn put(&mut self, place: usize, byte: u8)
         requires { place < length self.old.items }
-        ensures { self.new.items ≡ set self.old.items place byte }
+        ensures items { self.new.items ≡ set self.old.items place byte }
+        ensures room { self.new.room ≡ self.old.room }
     {
-        self.bytes[place] = byte;
+        self.bytes.as_mut_slice()[place] = byte;
     }
 
     /// Puts the bytes in the other order, from the last to the first.
     pub fn reverse(&mut self)
-        ensures { self.new.items ≡ reverse self.old.items }
+        ensures items { self.new.items ≡ reverse self.old.items }
+        ensures room { self.new.room ≡ self.old.room }
     {
-        self.bytes.reverse();
+        self.bytes.as_mut_slice().reverse();
     }
 
-    /// Adds bytes at the end. Where memory runs out, all is as before.
-    pub(crate) fn append(&mut self, bytes: &[u8]) -> Made<()>
+    /// Adds bytes at the end. Where there was as much room as bytes, they are first moved to the start. Where
+    /// memory runs out, all is as before.
+    pub(crate) fn append<L: Ledger>(&mut self, bytes: &[u8], moved: &mut Steps<L>) -> Made<()>
         ensures ok { OnOk result (self.new.items ≡ self.old.items ++ bytes.now) }
-        ensures err { OnErr result (self.new.items ≡ self.old.items) }
+        ensures counter { OnOk result (moved.new + self.new.room ≤ moved.old + self.old.room) }
+        ensures few { OnOk result (moved.new ≤ moved.old + length self.old.items) }
+        ensures spare { OnOk result (IsSpare self.new) }
+        ensures err { OnErr result (self.new ≡ self.old) }
+        ensures err_counter { OnErr result (moved.new ≡ moved.old) }
     {
-        self.bytes.extend_from_slice(bytes)?;
-        Ok(())
+        self.bytes.push_all(bytes, moved)
     }
 
     /// Puts other bytes in place of those from one place up to another, as many as there are. The bytes
     /// behind move once. Where memory runs out, all is as before.
-    pub(crate) fn replace_range(
+    pub(crate) fn replace_range<L: Ledger>(
         &mut self,
-        alloc: Global,
         start: usize,
         end: usize,
         bytes: &[u8],
+        moved: &mut Steps<L>,
     ) -> Made<()>
         requires ordered { start ≤ end }
         requires inside { end ≤ length self.old.items }
         ensures ok { OnOk result (self.new.items ≡ replaced_range self.old.items start end bytes.now) }
-        ensures err { OnErr result (self.new.items ≡ self.old.items) }
+        ensures counter { OnOk result (moved.new ≤ moved.old + (length self.old.items + length self.new.items)) }
+        ensures err { OnErr result (self.new ≡ self.old) }
+        ensures err_counter { OnErr result (moved.new ≡ moved.old) }
     {
-        self.bytes.do_set_range(alloc, start..end, bytes)
+        self.bytes.splice(start..end, bytes, moved)
     }
 
     /// Takes the bytes from one place up to another out. Takes no memory: the bytes behind move once.
-    pub(crate) fn remove_range(&mut self, start: usize, end: usize)
+    pub(crate) fn remove_range<L: Ledger>(&mut self, start: usize, end: usize, moved: &mut Steps<L>)
         requires ordered { start ≤ end }
         requires inside { end ≤ length self.old.items }
-        ensures { self.new.items ≡ replaced_range self.old.items start end [] }
+        ensures items { self.new.items ≡ replaced_range self.old.items start end [] }
+        ensures counter { moved.new ≤ moved.old + length self.old.items }
     {
-        self.bytes.do_delete_range(start..end);
+        self.bytes.remove(start..end, moved);
+    }
+
+    /// Takes the first bytes out, so many, and leaves them as room. Nothing moves, and no memory is taken.
+    pub(crate) fn drop_front<L: Ledger>(&mut self, n: usize, moved: &mut Steps<L>)
+        requires { n ≤ length self.old.items }
+        ensures items { self.new.items ≡ replaced_range self.old.items 0 n [] }
+        ensures room { self.new.room ≡ self.old.room + n }
+        ensures counter { moved.new ≡ moved.old }
+    {
+        self.bytes.drop_front(n, moved);
     }
 }
