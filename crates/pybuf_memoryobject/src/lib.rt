@@ -4,6 +4,7 @@
 
 mod iterator;
 mod memory_view;
+mod plain_view;
 mod vec_buffer;
 mod view_methods;
 mod views;
