@@ -60,6 +60,7 @@ fn size_for(alloc: Global, len: usize, text: &str) -> Result<usize, Halt>
 fn entry_of_number(size: usize, number: i128) -> Result<usize, Fault>
     requires { 0 < size }
     ensures exact { result ≡ spec.entry_of size (scalars.Int number) }
+    ensures same { IfOk result (λ entry. pos entry ≡ number) }
     ensures some { IfOk result (λ entry. 0 < entry) }
     ensures fits { IfOk result (λ entry. size * entry < 2 ^ 63) }
 {
@@ -112,11 +113,13 @@ fn product_of(size: usize, shape: &[usize]) -> Result<usize, Fault>
     ensures entries { IfOk result (λ _. All (λ n. 0 < n) shape.now) }
     ensures product { IfOk result (λ r. r ≡ size * product shape.now) }
 {
-    let mut product = size;
-    for entry in shape {
-        product *= entry_of_number(product, *entry as i128)?;
+    match shape {
+        [] => Ok(size),
+        [first, rest @ ..] => {
+            let entry = entry_of_number(size, *first as i128)?;
+            product_of(size * entry, rest)
+        }
     }
-    Ok(product)
 }
 
 /// The items in one dimension.
