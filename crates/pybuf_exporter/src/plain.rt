@@ -15,14 +15,17 @@ ghost use Rattle.pybuf_rows_views.specs.Cast.{cast_of_view};
 ghost use Rattle.pybuf_rows_reads.specs.Get.{item_of_view};
 ghost use Rattle.pybuf_rows_reads.specs.ToBytes.{bytes_of_view};
 ghost use Rattle.pybuf_rows_reads.specs.Property.{property_of_view};
-ghost use Rattle.pybuf_rows_writes.specs.Set.{set_of_view};
 ghost use Rattle.pybuf_rows_writes.specs.Assign.{assign_of_view, assign_of_lent};
+ghost use Rattle.pybuf_command.specs.declared.commands.Verb.TheVariants as verbs;
+ghost use Rattle.pybuf_exporter.specs.Step.{estep};
+ghost use Rattle.pybuf_exporter.specs.Telling.{TellsRefusal};
 
 use crate::exporter::ExporterState;
+use pybuf_command::{LoanList, LocalReply};
 use pybuf_rows_reads::{get, property, to_bytes};
 use pybuf_rows_views::{cast, slice, view};
-use pybuf_rows_writes::{assign, set};
-use pybuf_value::{Halt, Item, PySlice};
+use pybuf_rows_writes::assign;
+use pybuf_value::{Halt, Item, PySlice, Scalar, Value};
 
 impl ExporterState {
     /// One more view, of all bytes. The answer is its number. Never refused.
@@ -69,12 +72,17 @@ impl ExporterState {
         get::item(&self.parts, view, index)
     }
 
-    /// Writes a number as the item of a view at an index.
+    /// Writes a number as the item of a view at an index. It is the command `set` with the two as values.
     pub fn put_number(&mut self, view: usize, index: isize, number: i128) -> Result<(), Halt>
-        ensures { Answers (set_of_view self.old view (values.One (scalars.Int index)) (values.One (scalars.Int number)) []) self.old (result_map_both (λ _. replies.Ok) (λ halt. halt) result) self.new }
+        ensures { TellsRefusal (estep self.old (subjects.View view) (verbs.Set (values.One (scalars.Int index)) (values.One (scalars.Int number))) []) self.old result self.new }
     {
-        pybuf_rows_writes::set_is_safe();
-        set::put_number(&mut self.parts, view, index, number)
+        let loans = LoanList::new(self.parts.alloc);
+        let key = Value::One(Scalar::Int(index as i128));
+        let value = Value::One(Scalar::Int(number));
+        match self.set_through_view(view, &key, &value, &loans)? {
+            LocalReply::Refused(fault) => Err(Halt::Refused(fault)),
+            _ => Ok(()),
+        }
     }
 
     /// The bytes of a view's items, in order.

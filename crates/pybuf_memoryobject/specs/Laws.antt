@@ -1,6 +1,6 @@
 -- Calls on memoryviews with plain arguments are commands: each changes what its command changes, and its answer is that
 -- command's reply in another form.
-use Rattle.std.specs.Prelude.{◌≡◌, ℕ, pos, ℤ, true, List, [], ◌∷◌, map, Option, None, Some, Result}
+use Rattle.std.specs.Prelude.{◌≡◌, ℕ, ℤ, List, [], ◌∷◌, Option, None, Result}
 use Rattle.pybuf_value.specs.declared.faults.Fault.{Fault}
 use Rattle.pybuf_value.specs.declared.snaps.Snap.{Snap}
 use Rattle.pybuf_value.specs.declared.values.Scalar.TheVariants as scalar
@@ -22,7 +22,6 @@ use Rattle.pybuf_rows_views.specs.Release.{release_of_view}
 use Rattle.pybuf_rows_reads.specs.Get.{item_of_view}
 use Rattle.pybuf_rows_reads.specs.ToBytes.{bytes_of_view}
 use Rattle.pybuf_rows_reads.specs.Property.{property_of_view}
-use Rattle.pybuf_rows_writes.specs.Set.{set_of_view}
 use Rattle.pybuf_rows_writes.specs.Assign.{assign_of_view, assign_of_lent}
 use Rattle.pybuf_exporter.specs.Step.{estep, settled_answer}
 
@@ -37,10 +36,6 @@ number_value n = value.One (scalar.Int n)
 -- a text as a value
 abbrev pub text_value : List ℕ → Value
 text_value text = value.One (scalar.Text text)
-
--- the shape of these entries as a value
-abbrev pub shape_value : List ℕ → Value
-shape_value shape = value.Tuple (map (λ n. scalar.Int (pos n)) shape)
 
 -- `view`
 abbrev pub AllIsViewed : Type 0
@@ -75,11 +70,6 @@ ShapesAreShown = (e : Exporter) (k : ℕ) → IsCommand e (subject.View k) (verb
 -- `prop` of the strides
 abbrev pub StridesAreShown : Type 0
 StridesAreShown = (e : Exporter) (k : ℕ) → IsCommand e (subject.View k) (verb.Property name.Strides) (property_of_view e k name.Strides)
-
--- `set` of an index
-abbrev pub IndicesSet : Type 0
-IndicesSet = (e : Exporter) (k : ℕ) (index number : ℤ) →
-    IsCommand e (subject.View k) (verb.Set (number_value index) (number_value number)) (set_of_view e k (number_value index) (number_value number) [])
 
 -- `set` of a slice to bytes
 abbrev pub BytesAreAssigned : Type 0

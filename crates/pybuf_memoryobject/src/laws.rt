@@ -1,5 +1,5 @@
 //! Laws of the definitions that the contracts cite. Each stands on a function with an empty body.
-ghost use Rattle.pybuf_memoryobject.specs.Laws.{AllIsViewed, SlicesAreMade, CastsAreMade, ReleasesRelease, IndicesGet, VectorsAreBytes, ShapesAreShown, StridesAreShown, IndicesSet, BytesAreAssigned, LentIsAssigned};
+ghost use Rattle.pybuf_memoryobject.specs.Laws.{AllIsViewed, SlicesAreMade, CastsAreMade, ReleasesRelease, IndicesGet, VectorsAreBytes, ShapesAreShown, StridesAreShown, BytesAreAssigned, LentIsAssigned};
 
 /// The calls of a memoryview with plain arguments that make and release views do what the commands `view`, `get`, `cast`
 /// and `release` do, and answer what those reply.
@@ -20,7 +20,6 @@ pub fn plain_items_are_commands()
 
 /// Items are written by plain arguments as the command `set` writes them.
 pub fn plain_assignments_are_commands()
-    ensures number { IndicesSet }
     ensures bytes { BytesAreAssigned }
     ensures lent { LentIsAssigned }
 {}

@@ -16,7 +16,9 @@ ghost use Rattle.pybuf_rows_views.specs.Release.{release_of_view};
 ghost use Rattle.pybuf_rows_reads.specs.Get.{item_of_view};
 ghost use Rattle.pybuf_rows_reads.specs.ToBytes.{bytes_of_view};
 ghost use Rattle.pybuf_rows_reads.specs.Property.{property_of_view};
-ghost use Rattle.pybuf_rows_writes.specs.Set.{set_of_view};
+ghost use Rattle.pybuf_command.specs.declared.commands.Verb.TheVariants as verbs;
+ghost use Rattle.pybuf_exporter.specs.Step.{estep};
+ghost use Rattle.pybuf_exporter.specs.Telling.{TellsRefusal};
 ghost use Rattle.pybuf_rows_writes.specs.Assign.{assign_of_view, assign_of_lent};
 
 use crate::memory_view::PyMemoryView;
@@ -63,7 +65,7 @@ impl PyMemoryView {
     /// Refused with `ValueError` for a released view, then with `TypeError` where it may only be read, then as `index`
     /// refuses the index, and then with `TypeError` where the format of the items doesn't take the number.
     pub fn set(&self, state: &mut ExporterState, index: isize, number: i128) -> Result<(), Halt>
-        ensures { Answers (set_of_view state.old self.now (values.One (scalars.Int index)) (values.One (scalars.Int number)) []) state.old (result_map_both (λ _. replies.Ok) (λ halt. halt) result) state.new }
+        ensures { TellsRefusal (estep state.old (subjects.View self.now) (verbs.Set (values.One (scalars.Int index)) (values.One (scalars.Int number))) []) state.old result state.new }
     {
         state.put_number(self.number(), index, number)
     }

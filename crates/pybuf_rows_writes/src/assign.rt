@@ -3,13 +3,12 @@ ghost use Rattle.std.specs.Prelude.{◌≡◌, [], ◌∷◌, true, false, lengt
 ghost use Rattle.std.specs.Result.{result_map_both};
 ghost use Rattle.pybuf_value.specs.Halting.{Gives};
 ghost use Rattle.pybuf_value.specs.declared.values.Scalar.TheVariants as scalars;
-ghost use Rattle.pybuf_value.specs.declared.values.Value.{Value};
 ghost use Rattle.pybuf_value.specs.declared.values.Value.TheVariants as values;
-ghost use Rattle.pybuf_memoryview.specs.Items.{is_none};
 ghost use Rattle.pybuf_command.specs.declared.commands.LocalReply.TheVariants as replies;
 ghost use Rattle.pybuf_value.specs.Snaps.{is_iterator};
 ghost use Rattle.pybuf_desc.specs.Layouts.{Layout, LiesInside};
 ghost use Rattle.pybuf_command.specs.declared.kinds.ExporterKind.{ExporterKind};
+ghost use Rattle.pybuf_command.specs.declared.kinds.ExporterKind.TheVariants as kinds;
 ghost use Rattle.pybuf_command.specs.declared.kinds.Subject.TheVariants as subjects;
 ghost use Rattle.pybuf_command.specs.Handles.{handle_of_value};
 ghost use Rattle.pybuf_memoryview.specs.Fits.{fits_snap};
@@ -29,19 +28,16 @@ use pybuf_memoryview::{KeptLayout, content_of, first_place, is_byte_format, is_n
 use pybuf_state::{Meaning, Names, Other, Parts};
 use pybuf_value::{Fault, Halt, PySlice, Scalar, Snap, Value};
 
-/// The layout of the items that are written, by a value that is `None` or isn't.
-fn target(parts: &Parts, view: usize, slice: &PySlice, by_none: bool) -> Result<KeptLayout, Halt>
+/// The layout of the items that something is written over, which isn't `None`.
+fn written(parts: &Parts, view: usize, slice: &PySlice) -> Result<KeptLayout, Halt>
     requires { IsWhole parts.now }
-    ensures exact { (value : Value) → is_none value ≡ by_none → Gives (spec.assign_target (exporter_of parts.now) view slice.now value) result }
+    ensures exact { Gives (spec.assign_target (exporter_of parts.now) view slice.now (values.One scalars.Ellipsis)) result }
     ensures one_dimension { IfOk result (λ target. length target.shape ≡ 1) }
     ensures inside { IfOk result (λ target. LiesInside (length parts.now.bytes.items) target) }
 {
     pybuf_desc::slices_stay_inside();
     let layout = parts.live_layout(view)?;
     if layout.is_readonly() {
-        return Err(Halt::Refused(Fault::Kind));
-    }
-    if by_none {
         return Err(Halt::Refused(Fault::Kind));
     }
     if layout.ndim() == 0 {
@@ -53,6 +49,20 @@ fn target(parts: &Parts, view: usize, slice: &PySlice, by_none: bool) -> Result<
     let slice = SaturatedSlice::with_slice(slice)?;
     let target = layout.sliced(parts.alloc, slice)?;
     Ok(target)
+}
+
+/// The layout of the items that a value is written over.
+fn target(parts: &Parts, view: usize, slice: &PySlice, value: &Value) -> Result<KeptLayout, Halt>
+    requires { IsWhole parts.now }
+    ensures exact { Gives (spec.assign_target (exporter_of parts.now) view slice.now value.now) result }
+    ensures one_dimension { IfOk result (λ target. length target.shape ≡ 1) }
+    ensures inside { IfOk result (λ target. LiesInside (length parts.now.bytes.items) target) }
+{
+    if is_none(value) {
+        parts.live_layout(view)?;
+        return Err(Halt::Refused(Fault::Kind));
+    }
+    written(parts, view, slice)
 }
 
 /// Whether items have the format, the item size and the shape of those that are written.
@@ -89,6 +99,7 @@ fn from_bytes(parts: &mut Parts, target: &KeptLayout, bytes: &[u8]) -> Result<Lo
     requires one_dimension { length target.now.shape ≡ 1 }
     requires inside { LiesInside (length parts.old.bytes.items) target.now }
     ensures answer { (kind : ExporterKind) → Answers (spec.assigned (exporter_of parts.old) target.now (snap_of_exporter (new_exporter kind bytes.now))) (exporter_of parts.old) result (exporter_of parts.new) }
+    ensures as_bytes { Answers (spec.assigned (exporter_of parts.old) target.now (snap_of_exporter (new_exporter kinds.Bytes bytes.now))) (exporter_of parts.old) result (exporter_of parts.new) }
     ensures counted { parts.new.exports ≡ exports_of (exporter_of parts.new) }
 {
     if !takes_bytes(target, bytes.len()) {
@@ -305,7 +316,7 @@ pub fn of_view<N: Names>(
     ensures answer { Answers (spec.assign_of_view (exporter_of parts.old) view slice.now value.now (lents_by (exporter_of parts.old) (N.named names.now) (handle_of_value value.now))) (exporter_of parts.old) result (exporter_of parts.new) }
     ensures counted { parts.new.exports ≡ exports_of (exporter_of parts.new) }
 {
-    let target = target(parts, view, slice, is_none(value))?;
+    let target = target(parts, view, slice, value)?;
     from_value(parts, &target, value, names)
 }
 
@@ -320,7 +331,7 @@ pub fn put_bytes(
     ensures answer { Answers (spec.assign_of_view (exporter_of parts.old) view slice.now (values.One (scalars.Bytes bytes.now)) []) (exporter_of parts.old) (result_map_both (λ _. replies.Ok) (λ halt. halt) result) (exporter_of parts.new) }
     ensures counted { parts.new.exports ≡ exports_of (exporter_of parts.new) }
 {
-    let target = target(parts, view, slice, false)?;
+    let target = written(parts, view, slice)?;
     from_bytes(parts, &target, bytes)?;
     Ok(())
 }
@@ -340,7 +351,7 @@ pub fn put_from(
     ensures counted { parts.new.exports ≡ exports_of (exporter_of parts.new) }
 {
     lender.view(source)?;
-    let target = target(parts, view, slice, false)?;
+    let target = written(parts, view, slice)?;
     from_view_across(parts, &target, lender, source)?;
     Ok(())
 }
@@ -357,7 +368,7 @@ pub fn put_within(
     ensures counted { parts.new.exports ≡ exports_of (exporter_of parts.new) }
 {
     parts.view(source)?;
-    let target = target(parts, view, slice, false)?;
+    let target = written(parts, view, slice)?;
     from_view(parts, &target, source)?;
     Ok(())
 }

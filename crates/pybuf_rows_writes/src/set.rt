@@ -1,11 +1,6 @@
 //! `set`: the item at a key is written.
 ghost use Rattle.std.specs.Prelude.{◌≡◌, ◌+◌, ◌<◌, ◌≤◌, [], ◌∷◌, length, slice_index, true, false, Ok, Err, IfOk, IfSome, OnErr, MatchResult, ℕ, List};
-ghost use Rattle.std.specs.Result.{result_map_both};
 ghost use Rattle.pybuf_value.specs.declared.faults.Fault.{Fault};
-ghost use Rattle.pybuf_value.specs.declared.values.Value.TheVariants as values;
-ghost use Rattle.pybuf_command.specs.declared.commands.LocalReply.TheVariants as replies;
-ghost use Rattle.pybuf_memoryview.specs.Keys.{item_of_key};
-ghost use Rattle.pybuf_memoryview.specs.KeyPlaces.{IsStartOf};
 ghost use Rattle.pybuf_value.specs.declared.snaps.Snap.{Snap};
 ghost use Rattle.pybuf_struct.specs.Singles.{is_as_long, numeric_code};
 ghost use Rattle.pybuf_value.specs.declared.values.Scalar.TheVariants as scalar;
@@ -25,10 +20,7 @@ use pybuf_memoryview::{
 };
 use pybuf_state::{Names, Parts, lent_to};
 use pybuf_struct::{FormatSpec, is_numeric_letter, pack_single};
-use pybuf_value::{
-    ByteOr, Fault, Halt, Made, Scalar, ScalarList, SnapList, Value, value_from_object,
-};
-use std::alloc::Global;
+use pybuf_value::{Fault, Halt, Scalar, ScalarList, SnapList, Value, value_from_object};
 
 #[tactic(auto, using(crate::proofs::Bytes::bytes_with_one))]
 fn set_byte(parts: &mut Parts, key: &Value, value: &Value) -> Result<LocalReply, Halt>
@@ -167,122 +159,6 @@ fn write_number(
     } else {
         Err(Fault::Kind)
     }
-}
-
-/// Where the item at an index starts.
-fn place_of_index(layout: &KeptLayout, index: isize) -> Result<usize, Fault>
-    ensures { MatchResult result (λ place. IsStartOf layout.now (item_of_key layout.now.shape (values.One (scalar.Int index))) place) (λ fault. item_of_key layout.now.shape (values.One (scalar.Int index)) ≡ Err fault) }
-{
-    if layout.ndim() == 0 {
-        return Err(Fault::Kind);
-    }
-    if layout.ndim() != 1 {
-        return Err(Fault::NotImplemented);
-    }
-    let entry = entry_in(layout.first_entry(), index)?;
-    Ok(layout.place(entry))
-}
-
-/// The layout of the view, and where the item at an index starts, which a number is written over.
-fn numbered_target(
-    parts: &Parts,
-    view: usize,
-    index: isize,
-    number: i128,
-) -> Result<(&KeptLayout, usize), Fault>
-    requires { IsWhole parts.now }
-    ensures exact { MatchResult result (λ target. IsStartOfTarget (set_target (exporter_of parts.now) view (values.One (scalar.Int index)) (values.One (scalar.Int number))) target.0.now target.1) (λ fault. set_target (exporter_of parts.now) view (values.One (scalar.Int index)) (values.One (scalar.Int number)) ≡ Err fault) }
-    ensures formed { IfOk result (λ target. IsFormed target.0.now) }
-    ensures inside { IfOk result (λ target. target.1 + target.0.now.itemsize ≤ length parts.now.bytes.items) }
-{
-    let layout = parts.live_layout(view)?;
-    if layout.is_readonly() {
-        return Err(Fault::Kind);
-    }
-    let place = place_of_index(layout, index)?;
-    Ok((layout, place))
-}
-
-/// Writes a number as an item of the format `B`.
-#[tactic(auto, using(crate::proofs::Bytes::bytes_with_one))]
-fn put_byte(parts: &mut Parts, place: usize, number: i128) -> Result<(), Halt>
-    requires whole { IsWhole parts.old }
-    requires inside { place < length parts.old.bytes.items }
-    ensures answer { Answers (single_byte_set (exporter_of parts.old) place (values.One (scalar.Int number))) (exporter_of parts.old) (result_map_both (λ _. replies.Ok) (λ halt. halt) result) (exporter_of parts.new) }
-    ensures counted { parts.new.exports ≡ exports_of (exporter_of parts.new) }
-{
-    match number.byte_or() {
-        Ok(byte) => {
-            parts.bytes.put(place, byte);
-            Ok(())
-        }
-        Err(_) => Err(Halt::Refused(Fault::Kind)),
-    }
-}
-
-/// Writes a number into the room of an item by the letter of its format, and says whether it did.
-fn put_scalar(letter: u8, room: &mut [u8], number: i128) -> bool
-    requires numeric { is_as_long (numeric_code (letter ∷ [])) (length room.old) ≡ true }
-    ensures written { result ≡ true → (pairs : List (ℕ × Snap)) → piece_by (letter ∷ []) pairs (values.One (scalar.Int number)) ≡ Ok room.new }
-    ensures refused { result ≡ false → (pairs : List (ℕ × Snap)) → piece_by (letter ∷ []) pairs (values.One (scalar.Int number)) ≡ Err Fault.Kind }
-    ensures left { result ≡ false → room.new ≡ room.old }
-{
-    pack_single(&[letter], room, &Scalar::Int(number))
-}
-
-/// Writes a number at a place by the letter of the item's format.
-fn put_by_letter(
-    bytes: &mut [u8],
-    place: usize,
-    size: usize,
-    letter: u8,
-    number: i128,
-) -> Result<(), Fault>
-    requires numeric { is_as_long (numeric_code (letter ∷ [])) size ≡ true }
-    requires inside { place + size ≤ length bytes.old }
-    ensures exact { (pairs : List (ℕ × Snap)) → MatchResult result (λ _. bytes_by_letter bytes.old place letter pairs (values.One (scalar.Int number)) ≡ Ok bytes.new) (λ fault. bytes_by_letter bytes.old place letter pairs (values.One (scalar.Int number)) ≡ Err fault) }
-    ensures err { OnErr result (bytes.new ≡ bytes.old) }
-{
-    let end = place + size;
-    if put_scalar(letter, &mut bytes[place..end], number) {
-        Ok(())
-    } else {
-        Err(Fault::Kind)
-    }
-}
-
-/// A number as the one value of a format.
-fn number_args(alloc: Global, number: i128) -> Made<ScalarList>
-    ensures { IfOk result (λ list. list ≡ scalar.Int number ∷ []) }
-{
-    let mut list = ScalarList::new(alloc);
-    list.push(Scalar::Int(number))?;
-    Ok(list)
-}
-
-/// Writes a number as the item of a view at an index. A byte of the format `B`, which most views have, and numbers
-/// of a format of one letter are written without parsing it.
-pub fn put_number(parts: &mut Parts, view: usize, index: isize, number: i128) -> Result<(), Halt>
-    requires { IsWhole parts.old }
-    ensures answer { Answers (set_of_view (exporter_of parts.old) view (values.One (scalar.Int index)) (values.One (scalar.Int number)) []) (exporter_of parts.old) (result_map_both (λ _. replies.Ok) (λ halt. halt) result) (exporter_of parts.new) }
-    ensures counted { parts.new.exports ≡ exports_of (exporter_of parts.new) }
-{
-    pybuf_memoryview::byte_items_are_their_byte();
-    let (layout, place) = numbered_target(parts, view, index, number)?;
-    if is_byte_format(layout.format_text().as_slice()) {
-        return put_byte(parts, place, number);
-    }
-    if let Some(letter) = numeric_letter(layout) {
-        let size = layout.itemsize();
-        put_by_letter(parts.bytes.as_mut_slice(), place, size, letter, number)?;
-        return Ok(());
-    }
-    let format = format_of(parts.alloc, layout)?;
-    let args = number_args(parts.alloc, number)?;
-    let pairs = SnapList::new(parts.alloc);
-    let bytes = parts.bytes.as_mut_slice();
-    write_item(bytes, place, &format, &args, &pairs)?;
-    Ok(())
 }
 
 /// Writes the item of a view at a key. A byte of the format `B`, which most views have, and numbers of
