@@ -321,12 +321,7 @@ pub fn of_view<N: Names>(
 }
 
 /// Copies bytes over the items that a slice of a view picks.
-pub fn put_bytes(
-    parts: &mut Parts,
-    view: usize,
-    slice: &PySlice,
-    bytes: &[u8],
-) -> Result<(), Halt>
+pub fn put_bytes(parts: &mut Parts, view: usize, slice: &PySlice, bytes: &[u8]) -> Result<(), Halt>
     requires { IsWhole parts.old }
     ensures answer { Answers (spec.assign_of_view (exporter_of parts.old) view slice.now (values.One (scalars.Bytes bytes.now)) []) (exporter_of parts.old) (result_map_both (λ _. replies.Ok) (λ halt. halt) result) (exporter_of parts.new) }
     ensures counted { parts.new.exports ≡ exports_of (exporter_of parts.new) }
