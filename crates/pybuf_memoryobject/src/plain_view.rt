@@ -1,5 +1,5 @@
 //! `PyMemoryView` by plain arguments: each call makes no value, no loan and no reply.
-ghost use Rattle.std.specs.Prelude.{◌≡◌, ◌×◌, [], map, pos, None, Some};
+ghost use Rattle.std.specs.Prelude.{◌≡◌, [], map, pos, None, Some};
 ghost use Rattle.std.specs.Result.{result_map_both};
 ghost use Rattle.pybuf_value.specs.declared.values.PySlice as slices;
 ghost use Rattle.pybuf_value.specs.declared.values.Scalar.TheVariants as scalars;
