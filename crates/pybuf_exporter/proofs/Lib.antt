@@ -7,3 +7,4 @@ pub mod Unchanged
 pub mod Viewing
 pub mod Assigning
 pub mod Owning
+pub mod Sounding

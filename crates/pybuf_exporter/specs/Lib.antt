@@ -5,3 +5,4 @@ pub mod Laws
 pub mod Iterating
 pub mod Assigning
 pub mod Owning
+pub mod Telling

@@ -7,6 +7,7 @@ mod direct;
 mod exporter;
 mod laws;
 mod pick;
+mod plain;
 mod uncounted;
 
 pub use exporter::ExporterState;
