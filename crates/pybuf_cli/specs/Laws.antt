@@ -6,7 +6,7 @@ use Rattle.pybuf_world.specs.World.{World, replies_of}
 use Rattle.pybuf_make.specs.Script.{script}
 use Rattle.pybuf_line.specs.Scalars.{handle_in}
 use Rattle.pybuf_line.specs.Lines.{commands_in}
-use Rattle.pybuf_line.specs.Replies.{reply_text}
+use Rattle.pybuf_command.specs.Shown.{reply_text}
 use Rattle.pybuf_line.specs.Laws.{IsOneLine}
 use Rattle.pybuf_cli.specs.declared.forms.Form.TheVariants as form
 use Rattle.pybuf_cli.specs.declared.status.Status.TheVariants as status

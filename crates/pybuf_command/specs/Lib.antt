@@ -3,4 +3,5 @@ pub mod Loans
 pub mod Arity
 pub mod Handles
 pub mod Replies
+pub mod Shown
 pub mod Laws

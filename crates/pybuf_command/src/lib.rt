@@ -12,6 +12,7 @@ mod loans;
 mod methods;
 mod options;
 mod replies;
+mod shown;
 mod worlds;
 
 pub use arity::takes;

@@ -1,6 +1,5 @@
 //! `FormatSpec`, as Python's `struct`.
-use crate::telling::done;
-use pybuf_view::{Fault, FormatSpec, Outcome, Scalar, ScalarList, SnapList};
+use pybuf_view::{Answer, Fault, FormatSpec, Outcome, Scalar, ScalarList, SnapList};
 use std::alloc::Global;
 use std::test::Fail;
 
@@ -14,14 +13,14 @@ fn first_number(values: &ScalarList) -> Option<i128> {
 #[test]
 fn values_are_packed_and_unpacked(rt: HostRuntime) -> Result<(), Fail> {
     let alloc = rt.alloc();
-    let format = done(FormatSpec::parse(alloc, b"<hI"))?;
+    let format = FormatSpec::parse(alloc, b"<hI").done()?;
     assert_eq!(rt; format.size(), 6);
     let mut values = ScalarList::new(alloc);
     values.push(Scalar::Int(-2))?;
     values.push(Scalar::Int(258))?;
-    let bytes = done(format.pack(alloc, &values, &SnapList::new(alloc)))?;
+    let bytes = format.pack(alloc, &values, &SnapList::new(alloc)).done()?;
     assert_eq!(rt; bytes.as_slice(), b"\xfe\xff\x02\x01\x00\x00".as_slice());
-    let read = done(format.unpack(alloc, bytes.as_slice()))?;
+    let read = format.unpack(alloc, bytes.as_slice()).done()?;
     assert_eq!(rt; first_number(&read), Some(-2));
     Ok(())
 }

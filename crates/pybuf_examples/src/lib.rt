@@ -23,7 +23,11 @@ mod slices;
 #[cfg(test)]
 mod strings;
 #[cfg(test)]
+mod tasks;
+#[cfg(test)]
 mod telling;
+#[cfg(test)]
+mod traits;
 #[cfg(test)]
 mod values;
 #[cfg(test)]

@@ -1,8 +1,9 @@
 //! The methods of strings of bytes, by the type that has them and by their names.
-use crate::telling::{Told, done, has, tell};
+use crate::telling::{Told, has, tell};
 use crate::values::bytes;
 use pybuf_view::{
-    ByteList, ByteStr, Fault, LoanList, MethodCall, MethodName, PyBytes, PyBytesInner, ValueList,
+    Answer, ByteList, ByteStr, Fault, LoanList, MethodCall, MethodName, PyBytes, PyBytesInner,
+    ValueList,
 };
 use std::alloc::Global;
 use std::test::Fail;
@@ -21,9 +22,9 @@ fn strings_have_methods(rt: HostRuntime) -> Result<(), Fail> {
     );
     assert_eq!(rt; name.upper(alloc)?.as_slice(), b" KEY=VALUE ".as_slice());
     let (sign, colon) = (string(alloc, b"=")?, string(alloc, b": ")?);
-    let replaced = done(name.replace(alloc, &sign, &colon, None))?;
+    let replaced = name.replace(alloc, &sign, &colon, None).done()?;
     assert_eq!(rt; replaced.as_slice(), b" key: value ".as_slice());
-    let digits = done(sign.hex(alloc, None, None))?;
+    let digits = sign.hex(alloc, None, None).done()?;
     assert_eq!(rt; digits.as_slice(), b"3d".as_slice());
     Ok(())
 }

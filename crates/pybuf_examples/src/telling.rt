@@ -1,14 +1,5 @@
-//! What the examples read of a reply, or of an answer that may be refused.
-use pybuf_view::{Fault, Item, LocalReply, Outcome, Scalar, Tried};
-use std::test::Fail;
-
-/// What a call answers that isn't refused.
-pub(crate) fn done<T>(answer: Tried<T>) -> Result<T, Fail> {
-    match answer? {
-        Outcome::Done(value) => Ok(value),
-        Outcome::Refused(fault) => Err(Fail::new(fault)),
-    }
-}
+//! What the examples read of a reply.
+use pybuf_view::{Fault, Item, LocalReply, Scalar};
 
 /// What is told by a reply that is no list, as the examples compare it.
 #[derive(Clone, Copy, Debug, PartialEq, Eq)]

@@ -1,5 +1,5 @@
--- How slices compare, and what they are as texts: Python compares them as the tuples of their parts.
-use Rattle.std.specs.Prelude.{ℕ, Bool, not, ◌&&◌, List, ◌++◌, codes, Result, Ok, if◌then◌else◌}
+-- How slices compare: Python compares them as the tuples of their parts.
+use Rattle.std.specs.Prelude.{Bool, not, ◌&&◌, Result, Ok, if◌then◌else◌}
 use Rattle.std.specs.declared.cmp.Ordering.{Ordering}
 use Rattle.std.specs.declared.cmp.Ordering.TheVariants.{Equal}
 use Rattle.pybuf_value.specs.declared.faults.Fault.{Fault}
@@ -9,7 +9,6 @@ use Rattle.pybuf_value.specs.declared.values.CompareOp.{CompareOp}
 use Rattle.pybuf_value.specs.declared.values.CompareOp.TheVariants as op
 use Rattle.pybuf_value.specs.Equality.{same_scalar}
 use Rattle.pybuf_value.specs.Order.{order_of_scalars, answers}
-use Rattle.pybuf_value.specs.Spelling.{scalar_text, handle_text}
 
 -- equal by parts
 abbrev pub same_slice : PySlice → PySlice → Bool
@@ -30,8 +29,3 @@ compared_slices op.Ne left right = Ok (not (same_slice left right))
 compared_slices operator left right = do
   order ← order_of_slices left right
   Ok (answers operator order)
-
--- the text of a slice
-abbrev pub slice_text : PySlice → List ℕ
-slice_text s =
-    codes "slice(" ++ scalar_text handle_text s.start ++ codes ", " ++ scalar_text handle_text s.stop ++ codes ", " ++ scalar_text handle_text s.step ++ codes ")"

@@ -1,6 +1,7 @@
 //! Slices compared, as texts, and hashed.
 ghost use Rattle.std.specs.Prelude.{◌≡◌, IfOk};
-ghost use Rattle.pybuf_index.specs.Compared.{same_slice, order_of_slices, compared_slices, slice_text};
+ghost use Rattle.pybuf_value.specs.Spelling.{slice_text};
+ghost use Rattle.pybuf_index.specs.Compared.{same_slice, order_of_slices, compared_slices};
 ghost use Rattle.pybuf_index.specs.Lanes.{mixed, hash_of};
 
 use pybuf_value::{

@@ -4,7 +4,8 @@ ghost use Rattle.pybuf_value.specs.declared.faults.Fault.{Fault};
 ghost use Rattle.pybuf_index.specs.Parts.{SliceParts, saturated_parts_of};
 ghost use Rattle.pybuf_index.specs.Places.{saturated_place, item_place, entry_in, bound_in, bounds_in};
 ghost use Rattle.pybuf_value.specs.declared.values.PySlice.{PySlice};
-ghost use Rattle.pybuf_index.specs.Compared.{compared_slices, slice_text};
+ghost use Rattle.pybuf_value.specs.Spelling.{slice_text};
+ghost use Rattle.pybuf_index.specs.Compared.{compared_slices};
 ghost use Rattle.pybuf_index.specs.Indices.{indices_of, sequence_index_of};
 
 use crate::compared::{compare_slices, text_of};

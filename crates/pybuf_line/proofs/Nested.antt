@@ -5,8 +5,8 @@ use Rattle.std.proofs.lemmas.List.{append_assoc, append-nil}
 use Rattle.std.proofs.Math.Seq.{take-length}
 use Rattle.std.proofs.Math.Nat.{mul-div-le}
 use Rattle.pybuf_value.specs.declared.values.Item.{Item}
-use Rattle.pybuf_value.specs.Spelling.{handle_text}
-use Rattle.pybuf_line.specs.Replies.{item_text, list_text, next_part_text, cut, nested_text}
+use Rattle.pybuf_value.specs.Spelling.{handle_text, item_text, list_text, next_part_text}
+use Rattle.pybuf_command.specs.Shown.{cut, nested_text}
 
 -- the text of a block by the shape of each
 abbrev pub block_text : List ℕ → List Item → List ℕ

@@ -6,8 +6,8 @@ use Rattle.std.proofs.lemmas.List.{take-append-drop, length-take-le, length-drop
 use Rattle.std.proofs.lemmas.Grind.{flat_map-append}
 use Rattle.pybuf_value.specs.declared.values.Item.{Item}
 use Rattle.pybuf_desc.specs.Layouts.{product}
-use Rattle.pybuf_value.specs.Spelling.{handle_text}
-use Rattle.pybuf_line.specs.Replies.{item_text, list_text, next_part_text, cut, blocks, nested_text}
+use Rattle.pybuf_value.specs.Spelling.{handle_text, item_text, list_text, next_part_text}
+use Rattle.pybuf_command.specs.Shown.{cut, blocks, nested_text}
 use Rattle.pybuf_line.specs.Nesting.{AreBlocks, BlocksAreTheItems, NestingIsTheShape, piece_text, item_of, IsPiece, HasItemsInOrder, ItemsStandInOrder}
 
 -- ---- blocks

@@ -13,8 +13,8 @@ use Rattle.pybuf_value.specs.declared.values.Item.{Item}
 use Rattle.pybuf_value.specs.declared.values.Item.TheVariants as item
 use Rattle.pybuf_command.specs.declared.worlds.Reply.TheVariants as reply
 use Rattle.pybuf_value.specs.Quotes.{quote_of, escaped_byte, quoted_text}
-use Rattle.pybuf_value.specs.Spelling.{bytes_text, truth_text, handle_text, scalar_text}
-use Rattle.pybuf_line.specs.Replies.{next_part_text, tuple_text, item_text, list_text, blocks, nested_text}
+use Rattle.pybuf_value.specs.Spelling.{bytes_text, truth_text, handle_text, scalar_text, next_part_text, tuple_text, item_text, list_text}
+use Rattle.pybuf_command.specs.Shown.{blocks, nested_text}
 use Rattle.pybuf_line.specs.Laws.{IsOneLine, ShowsOneLine, RepliesAreSingle, NamesStaySingle}
 
 both : (xs ys : List ℕ) → IsOneLine xs → IsOneLine ys → IsOneLine (xs ++ ys)

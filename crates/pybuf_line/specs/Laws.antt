@@ -25,7 +25,7 @@ use Rattle.pybuf_line.specs.Scalars.{enclosed_text, is_text, scalar_in, handle_i
 use Rattle.pybuf_line.specs.Spellings.{value_in, written_value}
 use Rattle.pybuf_line.specs.Commands.{values_of, command_in, written_command}
 use Rattle.pybuf_line.specs.Lines.{lines, commands_in}
-use Rattle.pybuf_line.specs.Replies.{reply_text}
+use Rattle.pybuf_command.specs.Shown.{reply_text}
 
 -- a line with its line feed
 abbrev pub ended_line : List ℕ → List ℕ

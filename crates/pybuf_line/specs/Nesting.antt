@@ -5,7 +5,8 @@ use Rattle.std.specs.List.{flat_map, join_by, AllByRecursion}
 use mathlib.Core.Logic.{inl, inr}
 use Rattle.pybuf_value.specs.declared.values.Item.{Item}
 use Rattle.pybuf_desc.specs.Layouts.{product}
-use Rattle.pybuf_line.specs.Replies.{item_text, list_text, blocks, nested_text}
+use Rattle.pybuf_value.specs.Spelling.{item_text, list_text}
+use Rattle.pybuf_command.specs.Shown.{blocks, nested_text}
 
 -- Blocks of items: put end to end they are the items, there are as many as was asked, and each has as many items as was asked.
 pub record AreBlocks (n size : ℕ) (items : List Item) (cuts : List (List Item)) : Type 0 where

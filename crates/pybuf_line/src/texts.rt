@@ -2,8 +2,9 @@
 ghost use Rattle.std.specs.Prelude.{◌≡◌, ◌++◌, List, ℕ, OnOk, decimal};
 ghost use Rattle.std.specs.Fmt.{signed_decimal};
 ghost use Rattle.std.specs.List.{flat_map};
-ghost use Rattle.pybuf_value.specs.Spelling.{bytes_text, handle_text, scalar_text};
-ghost use Rattle.pybuf_line.specs.Replies.{next_part_text, tuple_text, item_text, list_text, nested_text, reply_text, reply_line, bad_line_text};
+ghost use Rattle.pybuf_value.specs.Spelling.{bytes_text, handle_text, scalar_text, next_part_text, tuple_text, item_text, list_text};
+ghost use Rattle.pybuf_command.specs.Shown.{nested_text, reply_text};
+ghost use Rattle.pybuf_line.specs.Replies.{reply_line, bad_line_text};
 
 use itoa::Buffer;
 use pybuf_command::Reply;

@@ -5,18 +5,14 @@ ghost use Rattle.pybuf_value.specs.declared.faults.Outcome.TheVariants as outcom
 ghost use Rattle.pybuf_methods.specs.Given as spec;
 ghost use Rattle.pybuf_methods.specs.Given.{IsStopped};
 
-use pybuf_value::{Fault, Halt, Outcome, Scalar, Tried, Value, index_of, text_in};
+use pybuf_value::{Answer, Fault, Halt, Scalar, Tried, Value, index_of, text_in};
 
 /// What an answer is, where it is neither refused nor wanting memory.
 pub(crate) fn done<T>(answer: Tried<T>) -> Result<T, Halt>
     ensures ok { IfOk result (λ value. answer ≡ Ok (outcomes.Done value)) }
     ensures stopped { IfErr result (λ halt. IsStopped answer halt) }
 {
-    match answer {
-        Ok(Outcome::Done(value)) => Ok(value),
-        Ok(Outcome::Refused(fault)) => Err(Halt::Refused(fault)),
-        Err(_) => Err(Halt::NoMemory),
-    }
+    answer.done()
 }
 
 /// No argument.

@@ -1,5 +1,5 @@
 -- Calls on bytes and bytearrays with plain arguments: no value, no loan and no reply.
-use Rattle.std.specs.Prelude.{◌≡◌, ℕ, suc, Bool, ℤ, negsuc, List, [], ◌∷◌, ◌++◌, length, take, drop, slice_get, slice_index, slice_set, Option, None, Some, Result, Ok, Err}
+use Rattle.std.specs.Prelude.{◌≡◌, IsOk, ℕ, suc, Bool, ℤ, negsuc, List, [], ◌∷◌, ◌++◌, length, take, drop, slice_get, slice_index, slice_set, Option, None, Some, Result, Ok, Err}
 use Rattle.std.specs.Option.{option_and_then}
 use Rattle.std.specs.Global.{Vec}
 use Rattle.pybuf_value.specs.declared.faults.Fault.{Fault}
@@ -18,11 +18,11 @@ use Rattle.pybuf_state.specs.Resizing.{resizable}
 -- ---- answers
 
 -- The answer is what a definition says, with the exporter after it, or its refusal and the exporter as before.
--- Where memory runs out, the exporter is as before.
+-- Where memory runs out, it isn't refused, and the exporter is as before.
 abbrev pub Settles : {X : Type 0} → Result (Exporter × X) Fault → Exporter → Result X Halt → Exporter → Type 0
 Settles wanted old (Ok x) new = wanted ≡ Ok (new, x)
 Settles wanted old (Err (halt.Refused f)) new = (wanted ≡ Err f) × (new ≡ old)
-Settles wanted old (Err halt.NoMemory) new = new ≡ old
+Settles wanted old (Err halt.NoMemory) new = IsOk wanted × (new ≡ old)
 
 -- the same of a call that takes no memory
 abbrev pub SettlesAtOnce : {X : Type 0} → Result (Exporter × X) Fault → Exporter → Result X Halt → Exporter → Type 0

@@ -10,6 +10,7 @@ mod laws;
 mod plain_byte_array;
 mod plain_bytes;
 mod slices;
+mod traits;
 
 pub use byte_array::PyByteArray;
 pub use bytes::PyBytes;

@@ -8,7 +8,7 @@ ghost use Rattle.pybuf_rows_compare.specs.Repr as spec;
 use itoa::Buffer;
 use pybuf_command::{ExporterKind, LocalReply};
 use pybuf_state::Parts;
-use pybuf_value::{Fault, Halt, Made, Outcome, Text, repr_text};
+use pybuf_value::{Answer, Fault, Halt, Made, Text, repr_text};
 use std::alloc::Global;
 
 /// Shows the bytes of an exporter between quotes, after one text and before another.
@@ -17,10 +17,8 @@ fn shown_between(parts: &Parts, before: &[u8], after: &[u8]) -> Result<LocalRepl
     requires after { IsTrue (is_ascii after.now) }
     ensures { Reads (spec.shown (exporter_of parts.now) (repr_of before.now parts.now.bytes.items after.now)) (exporter_of parts.now) result }
 {
-    match repr_text(parts.alloc, before, parts.bytes.as_slice(), after)? {
-        Outcome::Done(text) => Ok(LocalReply::Shown(text)),
-        Outcome::Refused(fault) => Err(Halt::Refused(fault)),
-    }
+    let text = repr_text(parts.alloc, before, parts.bytes.as_slice(), after).done()?;
+    Ok(LocalReply::Shown(text))
 }
 
 /// The bytes between quotes, as they are written in Python: `b'..'` or `bytearray(b'..')`.

@@ -16,7 +16,7 @@ use pybuf_command::{ExporterKind, LocalReply, Subject};
 use pybuf_index::SequenceIndexOp;
 use pybuf_state::{Meaning, Names, Other, Parts, content_of_other, run_of_other};
 use pybuf_value::{
-    Fault, Halt, Made, Outcome, Scalar, SnapList, Steps, Value, bytes_from_object, count_in,
+    Answer, Fault, Halt, Made, Scalar, SnapList, Steps, Value, bytes_from_object, count_in,
     value_from_object,
 };
 use std::alloc::Global;
@@ -200,10 +200,8 @@ fn extend_by_parts<L: Ledger>(
     ensures answer { Answers (spec.extended (exporter_of parts.old) value.now []) (exporter_of parts.old) result (exporter_of parts.new) }
     ensures counted { parts.new.exports ≡ exports_of (exporter_of parts.new) }
 {
-    match bytes_from_object(parts.alloc, value, &SnapList::new(parts.alloc))? {
-        Outcome::Done(bytes) => add(parts, bytes.as_slice(), moved),
-        Outcome::Refused(fault) => Err(Halt::Refused(fault)),
-    }
+    let bytes = bytes_from_object(parts.alloc, value, &SnapList::new(parts.alloc)).done()?;
+    add(parts, bytes.as_slice(), moved)
 }
 
 fn extend_by_value<N: Names, L: Ledger>(

@@ -24,7 +24,7 @@ use pybuf_memoryview::content_of;
 use pybuf_slice::slices;
 use pybuf_state::{Meaning, Names, Other, Parts, content_of_other, snap_of_subject};
 use pybuf_value::{
-    Fault, Halt, Lent, Made, Outcome, PySlice, Scalar, SnapList, Steps, Value, bytes_from_object,
+    Answer, Fault, Halt, Lent, Made, PySlice, Scalar, SnapList, Steps, Value, bytes_from_object,
 };
 use std::alloc::Global;
 use std::sync::ledger::Ledger;
@@ -164,10 +164,8 @@ fn put_parts<L: Ledger>(
     ensures answer { Answers (spec.assigned_from (exporter_of parts.old) slice value.now []) (exporter_of parts.old) result (exporter_of parts.new) }
     ensures counted { parts.new.exports ≡ exports_of (exporter_of parts.new) }
 {
-    match bytes_from_object(parts.alloc, value, &SnapList::new(parts.alloc))? {
-        Outcome::Done(bytes) => put(parts, slice, bytes.as_slice(), moved),
-        Outcome::Refused(fault) => Err(Halt::Refused(fault)),
-    }
+    let bytes = bytes_from_object(parts.alloc, value, &SnapList::new(parts.alloc)).done()?;
+    put(parts, slice, bytes.as_slice(), moved)
 }
 
 fn put_value<N: Names, L: Ledger>(
@@ -304,10 +302,9 @@ fn init_by_options(parts: &mut Parts, options: &ByteInnerNewOptions) -> Result<L
     ensures answer { Answers (spec.initialized (exporter_of parts.old) options.now []) (exporter_of parts.old) result (exporter_of parts.new) }
     ensures counted { parts.new.exports ≡ exports_of (exporter_of parts.new) }
 {
-    match options.get_bytearray_inner(parts.alloc, &SnapList::new(parts.alloc))? {
-        Outcome::Done(bytes) => replace_all(parts, bytes.into_vec()),
-        Outcome::Refused(fault) => Err(Halt::Refused(fault)),
-    }
+    let nothing = SnapList::new(parts.alloc);
+    let bytes = options.get_bytearray_inner(parts.alloc, &nothing).done()?;
+    replace_all(parts, bytes.into_vec())
 }
 
 fn initialize<N: Names>(

@@ -7,19 +7,14 @@ use std::test::Fail;
 
 #[test]
 fn numbers_grow_once_nothing_is_lent(rt: HostRuntime) -> Result<(), Fail> {
-    let alloc = rt.alloc();
-    let mut numbers = NumberArray::new(alloc);
-    assert!(rt; numbers.is_empty());
+    let mut numbers = NumberArray::new(rt.alloc());
     numbers.push(258)?;
-    numbers.push(7)?;
-    let view = numbers.lend(alloc)?;
+    let view = numbers.lend(rt.alloc())?;
     assert_eq!(rt; numbers.push(8), Err(Halt::Refused(Fault::Buffer)));
-    assert_eq!(rt; numbers.len(), 2);
     numbers.give_back(view);
     numbers.push(8)?;
-    assert_eq!(rt; numbers.get(0), Some(258));
-    assert_eq!(rt; numbers.get(2), Some(8));
-    assert_eq!(rt; numbers.get(3), None);
+    assert_eq!(rt; numbers.get(1), Some(8));
+    assert_eq!(rt; numbers.get(2), None);
     Ok(())
 }
 
@@ -44,7 +39,7 @@ const LOG: &[u8; 24] =
 #[test]
 fn a_log_is_read(rt: HostRuntime) -> Result<(), Fail> {
     let alloc = rt.alloc();
-    let mut log = WeatherLog::open(alloc, Vec::from_slice(alloc, LOG)?)?;
+    let log = WeatherLog::open(alloc, Vec::from_slice(alloc, LOG)?)?;
     assert_eq!(rt;
         log.header(),
         Header {
@@ -120,37 +115,17 @@ fn told(reply: Reply) -> i128 {
     number
 }
 
-fn bytes(alloc: Global, bytes: &[u8]) -> Result<ByteList, Fail> {
-    Ok(ByteList::from_vec(Vec::from_slice(alloc, bytes)?))
-}
-
 #[test]
 fn statements_are_answered(rt: HostRuntime) -> Result<(), Fail> {
     let alloc = rt.alloc();
     let mut python = Interpreter::new(alloc);
-    let bytes = bytes(alloc, b"\x01\x00\x02\x00")?;
-    assert_eq!(rt; told(python.step(Statement::ByteArray { bytes })?), 0);
-    assert_eq!(rt; told(python.step(Statement::MemoryView { object: 0 })?), 1);
-    let mut format = Text::new(alloc);
-    format.push('H')?;
-    assert_eq!(rt;
-        told(python.step(Statement::Cast { object: 1, format })?),
-        2
-    );
-    assert_eq!(rt;
-        told(python.step(Statement::GetItem {
-            object: 2,
-            index: -1
-        })?),
-        2
-    );
-    assert_eq!(rt;
-        told(python.step(Statement::Append {
-            object: 0,
-            value: 5
-        })?),
-        -2
-    );
+    let bytes = ByteList::from_slice(alloc, b"\x01\x00\x02\x00")?;
+    assert_eq!(rt; told(python.step(Statement::ByteArray(bytes))?), 0);
+    assert_eq!(rt; told(python.step(Statement::MemoryView(0))?), 1);
+    let format = Text::from_string(String::from_str(alloc, "H")?);
+    assert_eq!(rt; told(python.step(Statement::Cast(1, format))?), 2);
+    assert_eq!(rt; told(python.step(Statement::GetItem(2, -1))?), 2);
+    assert_eq!(rt; told(python.step(Statement::Append(0, 5))?), -2);
     Ok(())
 }
 
@@ -158,21 +133,12 @@ fn statements_are_answered(rt: HostRuntime) -> Result<(), Fail> {
 fn a_program_is_run(rt: HostRuntime) -> Result<(), Fail> {
     let alloc = rt.alloc();
     let program = vec![in alloc;
-        Statement::ByteArray {
-            bytes: bytes(alloc, b"abc")?
-        },
-        Statement::MemoryView { object: 0 },
-        Statement::SetItem {
-            object: 1,
-            index: 0,
-            value: 65
-        },
-        Statement::Release { object: 1 },
-        Statement::GetItem {
-            object: 1,
-            index: 0
-        },
-        Statement::Bytes { object: 0 },
+        Statement::ByteArray(ByteList::from_slice(alloc, b"abc")?),
+        Statement::MemoryView(0),
+        Statement::SetItem(1, 0, 65),
+        Statement::Release(1),
+        Statement::GetItem(1, 0),
+        Statement::Bytes(0),
     ]?;
     let answers = Interpreter::new(alloc).run(program)?;
     let mut told_all = Vec::new(alloc);

@@ -23,6 +23,8 @@ mod queues;
 #[cfg(test)]
 mod replies;
 #[cfg(test)]
+mod shown;
+#[cfg(test)]
 mod slices;
 #[cfg(test)]
 mod sources;

@@ -74,3 +74,20 @@ fn bytes_are_read_by_plain_calls(rt: HostRuntime) -> Result<(), Fail> {
     );
     Ok(())
 }
+
+#[test]
+fn bytes_are_gone_over_in_order(rt: HostRuntime) -> Result<(), Fail> {
+    let array = PyByteArray::from(Vec::from_slice(rt.alloc(), b"adcb")?);
+    let mut last = 0;
+    for byte in &array {
+        last = *byte;
+    }
+    assert_eq!(rt; last, b'b');
+    let object = PyBytes::from(array.into_vec(rt.alloc())?);
+    let mut greatest = 0;
+    for byte in &object {
+        greatest = greatest.max(*byte);
+    }
+    assert_eq!(rt; greatest, b'd');
+    Ok(())
+}

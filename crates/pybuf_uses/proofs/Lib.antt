@@ -1,9 +1,9 @@
 mod NumberLemmas
 mod OutLemmas
+mod PushLemmas
 mod DigitLemmas
 mod PlaceLemmas
 mod SpanLemmas
 mod RoomLemmas
 mod LogLemmas
-mod ViewLemmas
 mod WorldLemmas

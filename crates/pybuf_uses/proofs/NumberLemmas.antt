@@ -1,7 +1,5 @@
 -- Numbers of two bytes each.
 use Rattle.std.proofs.Common.{◌≡◌, ℕ, suc, zero, ◌+◌, ◌*◌, ◌<◌, ◌/◌, ◌%◌, ◌^◌, List, [], ◌∷◌, ◌++◌, length, refl, ap, sym, ◌∙◌, arith, slice_index, slice_get, set, Some}
-use Rattle.std.specs.Prelude.{Result, Ok, Err, OnOk, is_ok, if◌then◌else◌}
-use Rattle.std.proofs.Common.{length-append}
 use Rattle.std.proofs.Math.Nat.{mod-eq_of_lt}
 use Rattle.pybuf_uses.specs.Numbers.{numbers_of}
 
@@ -36,20 +34,8 @@ pub two_bytes : (n : ℕ) → n < 2 ^ 16 → n % 256 + 256 * (n / 256 % 256) ≡
 two_bytes n small = let high : n / 256 % 256 ≡ n / 256 = mod-eq_of_lt (omega arith) in rw high (omega arith)
 
 -- a number's two bytes behind others are the number behind theirs
-numbers_of-low_high : (bytes : List ℕ) (n : ℕ) → n < 2 ^ 16 → length bytes ≡ 2 * length (numbers_of bytes) → numbers_of (bytes ++ n % 256 ∷ n / 256 % 256 ∷ []) ≡ numbers_of bytes ++ n ∷ []
+pub numbers_of-low_high : (bytes : List ℕ) (n : ℕ) → n < 2 ^ 16 → length bytes ≡ 2 * length (numbers_of bytes) → numbers_of (bytes ++ n % 256 ∷ n / 256 % 256 ∷ []) ≡ numbers_of bytes ++ n ∷ []
 numbers_of-low_high bytes n small even = numbers_of-append bytes _ _ even ∙ ap (λ m. numbers_of bytes ++ m ∷ []) (two_bytes n small)
-
-module _ {T E : Type 0} where
-  pub pushed : (r : Result T E) (old new : List ℕ) (n : ℕ) → n < 2 ^ 16 → length old ≡ 2 * length (numbers_of old) → new ≡ (if is_ok r then old ++ n % 256 ∷ n / 256 % 256 ∷ [] else old) → OnOk r (numbers_of new ≡ numbers_of old ++ n ∷ [])
-  pushed (Ok x) old new n small even is = ap numbers_of is ∙ numbers_of-low_high old n small even
-  pushed (Err y) old new n small even is = tt
-
-  pub pushed_pairs : (r : Result T E) (old new : List ℕ) (n : ℕ) → n < 2 ^ 16 → length old ≡ 2 * length (numbers_of old) → new ≡ (if is_ok r then old ++ n % 256 ∷ n / 256 % 256 ∷ [] else old) → length new ≡ 2 * length (numbers_of new)
-  pushed_pairs (Ok x) old new n small even is =
-      let more : length (numbers_of new) ≡ length (numbers_of old) + 1 = ap (λ ns. length ns) (ap numbers_of is ∙ numbers_of-low_high old n small even) ∙ length-append (numbers_of old) (n ∷ []) in
-      let long : length new ≡ length old + 2 = ap (λ bs. length bs) is ∙ length-append old (n % 256 ∷ n / 256 % 256 ∷ []) in
-      omega arith
-  pushed_pairs (Err y) old new n small even is = rw is even
 
 -- the number that the two bytes at an index are read as
 pub number_read : (bytes : List ℕ) (i n : ℕ) → i < length (numbers_of bytes) → n ≡ slice_index bytes (2 * i) + slice_index bytes (2 * i + 1) * 256 → Some n ≡ slice_get (numbers_of bytes) i

@@ -43,8 +43,3 @@ in_row_together start (suc count) =
     let from : start + 0 ≡ start = omega arith in
     same_bytes (range_with_len start (suc count)) _
     (sym (ap (λ n. map (λ k. start + k * 1) (range_with_len 0 n)) long ∙ (shifted start 0 (suc count) ∙ ap (λ n. range_with_len n (suc count)) from)))
-
--- what was added last
-pub slice_get-last : {X : Type 0} (xs : List X) (x : X) → slice_get (xs ++ x ∷ []) (length xs) ≡ Some x
-slice_get-last [] x = refl
-slice_get-last (y ∷ xs) x = slice_get-last xs x

@@ -1,31 +1,13 @@
 -- Logs of a weather station: a header of ten bytes, and then readings of seven bytes each.
-use Rattle.std.specs.Prelude.{◌≡◌, ◌+◌, ◌*◌, ◌==◌, ℕ, ℤ, pos, true, false, not, Option, Some, None, List, [], ◌∷◌, length, codes, bytes_eq, take, nat_lt, Result, Ok}
+use Rattle.std.specs.Prelude.{◌≡◌, ◌+◌, ◌*◌, ◌==◌, ℕ, true, false, not, List, length, codes, bytes_eq, take, nat_lt, Result, Ok}
 use Rattle.pybuf_value.specs.declared.faults.Fault.{Fault}
 use Rattle.pybuf_value.specs.declared.faults.Fault.TheVariants as fault
-use Rattle.pybuf_value.specs.declared.values.Scalar.{Scalar}
-use Rattle.pybuf_value.specs.declared.values.Scalar.TheVariants as scalar
-use Rattle.pybuf_value.specs.declared.values.Value.{Value}
-use Rattle.pybuf_value.specs.declared.values.Value.TheVariants as value
 use Rattle.pybuf_value.specs.Refusing.{◌>>=◌, unless}
 use Rattle.pybuf_struct.specs.Digits.{little_endian, number}
 use Rattle.pybuf_desc.specs.Items.{bytes_at}
 use Rattle.pybuf_state.specs.Exporter.{Exporter}
 use Rattle.pybuf_uses.specs.declared.weather_log.Header.{Header}
 use Rattle.pybuf_uses.specs.declared.weather_log.Reading.{Reading}
-
--- the bytes and the two numbers that values are
-abbrev pub bytes_and_two : List Scalar → Option (List ℕ × ℤ × ℤ)
-bytes_and_two (scalar.Bytes bytes ∷ scalar.Int first ∷ scalar.Int second ∷ []) = Some (bytes, first, second)
-bytes_and_two _ = None
-
--- the three numbers that values are
-abbrev pub three : List Scalar → Option (ℤ × ℤ × ℤ)
-three (scalar.Int first ∷ scalar.Int second ∷ scalar.Int third ∷ []) = Some (first, second, third)
-three _ = None
-
--- a place as a value of a command
-abbrev pub place_value : ℕ → Value
-place_value place = value.One (scalar.Int (pos place))
 
 -- The header: after four bytes that say what the file is, the year in two bytes and the number of readings in
 -- four, each with the low byte first.

@@ -2,7 +2,7 @@
 ghost use Rattle.std.specs.Prelude.{◌≡◌, ◌<◌, ℕ, map, take, length, slice_get, IfOk, OnOk, OnErr};
 ghost use Rattle.pybuf_command.specs.declared.worlds.Reply.TheVariants as replies;
 ghost use Rattle.pybuf_value.specs.declared.faults.Fault as faults;
-ghost use Rattle.pybuf_uses.specs.Program.{command_of, number_value};
+ghost use Rattle.pybuf_uses.specs.Program.{command_of};
 
 use pybuf_view::{
     ByteInnerNewOptions, ByteList, Command, ExporterKind, Made, Reply, ReplyList, Scalar, Text,
@@ -15,103 +15,62 @@ use std::marker::Model;
 #[derive(Debug, Drop)]
 pub enum Statement {
     /// `bytearray(bytes)`
-    ByteArray {
-        bytes: ByteList,
-    },
+    ByteArray(ByteList),
     /// `memoryview(object)`
-    MemoryView {
-        object: u64,
-    },
+    MemoryView(u64),
     /// `object.cast(format)`
-    Cast {
-        object: u64,
-        format: Text,
-    },
+    Cast(u64, Text),
     /// `object[index]`
-    GetItem {
-        object: u64,
-        index: i128,
-    },
+    GetItem(u64, i128),
     /// `object[index] = value`
-    SetItem {
-        object: u64,
-        index: i128,
-        value: i128,
-    },
+    SetItem(u64, i128, i128),
     /// `object.append(value)`
-    Append {
-        object: u64,
-        value: i128,
-    },
+    Append(u64, i128),
     /// `bytes(object)`
-    Bytes {
-        object: u64,
-    },
+    Bytes(u64),
     /// `object.release()`
-    Release {
-        object: u64,
-    },
-}
-
-/// A whole number as a value.
-fn number(number: i128) -> Value
-    ensures { result ≡ number_value number }
-{
-    Value::One(Scalar::Int(number))
-}
-
-/// A command on an object.
-fn ask(object: u64, verb: Verb) -> Command
-    ensures { result ≡ Command.Do object verb }
-{
-    Command::Do {
-        subject: object,
-        verb,
-    }
+    Release(u64),
 }
 
 /// The command that a statement is.
 fn command(statement: Statement) -> Command
     ensures { result ≡ command_of statement }
 {
-    match statement {
-        Statement::ByteArray { bytes } => Command::New {
-            kind: ExporterKind::ByteArray,
-            options: ByteInnerNewOptions {
-                source: Some(Value::One(Scalar::Bytes(bytes))),
-                encoding: None,
-                errors: None,
-            },
-        },
-        Statement::MemoryView { object } => ask(object, Verb::View),
-        Statement::Cast { object, format } => ask(
-            object,
-            Verb::Cast {
-                format: Value::One(Scalar::Text(format)),
-                shape: None,
-            },
-        ),
-        Statement::GetItem { object, index } => ask(object, Verb::Get { key: number(index) }),
-        Statement::SetItem {
-            object,
-            index,
-            value,
-        } => ask(
-            object,
-            Verb::Set {
-                key: number(index),
-                value: number(value),
-            },
-        ),
-        Statement::Append { object, value } => ask(
-            object,
-            Verb::Append {
-                value: number(value),
-            },
-        ),
-        Statement::Bytes { object } => ask(object, Verb::ToBytes),
-        Statement::Release { object } => ask(object, Verb::Release),
-    }
+    let (subject, verb) = match statement {
+        Statement::ByteArray(bytes) => {
+            let (kind, source) = (
+                ExporterKind::ByteArray,
+                Some(Value::One(Scalar::Bytes(bytes))),
+            );
+            let (encoding, errors) = (None, None);
+            let options = ByteInnerNewOptions {
+                source,
+                encoding,
+                errors,
+            };
+            return Command::New { kind, options };
+        }
+        Statement::MemoryView(object) => (object, Verb::View),
+        Statement::Cast(object, format) => {
+            let (format, shape) = (Value::One(Scalar::Text(format)), None);
+            (object, Verb::Cast { format, shape })
+        }
+        Statement::GetItem(object, index) => {
+            let key = Value::from(index);
+            (object, Verb::Get { key })
+        }
+        Statement::SetItem(object, index, value) => {
+            let (key, value) = (Value::from(index), Value::from(value));
+            (object, Verb::Set { key, value })
+        }
+        Statement::Append(object, value) => {
+            let value = Value::from(value);
+            (object, Verb::Append { value })
+        }
+        Statement::Bytes(object) => (object, Verb::ToBytes),
+        Statement::Release(object) => (object, Verb::Release),
+    };
+    Command::Do { subject, verb }
 }
 
 /// The commands that statements are.

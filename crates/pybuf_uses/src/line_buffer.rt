@@ -4,7 +4,7 @@ ghost use Rattle.pybuf_uses.specs.Lines.{IsSpanned, line_len_of, answer_of, over
 ghost use Rattle.std.specs.Borrow.{sem};
 ghost use Rattle.pybuf_exporter.specs.Lending.{LendsBytes};
 
-use pybuf_view::{ExporterState, LoanList, LocalReply, Made, PyByteArray, place_of_byte};
+use pybuf_view::{Answer, ExporterState, Halt, PyByteArray, PyMemoryView, Subject, place_of_byte};
 use std::alloc::Global;
 use std::marker::Model;
 
@@ -30,13 +30,6 @@ impl Model for LineBuffer {
     ghost view = { λ buffer. lines_in buffer.room.bytes buffer.begin buffer.end };
 
     ghost invariant = { λ buffer. IsLineBuffer buffer.room buffer.view buffer.begin buffer.end };
-}
-
-/// The number of bytes before the first line feed; None exactly where there is none.
-fn line_len(bytes: &[u8]) -> Option<usize>
-    ensures { result ≡ line_len_of bytes.now }
-{
-    place_of_byte(bytes, b'\n')
 }
 
 /// The bytes of a view that spans all of them, lent to be written.
@@ -78,19 +71,17 @@ impl LineBuffer {
     ghost use Rattle.pybuf_uses.specs.Lines.{empty_lines, received, next_line, answered, sent};
 
     /// A buffer with room for so many bytes.
-    pub fn new(alloc: Global, size: usize) -> Made<LineBuffer>
+    pub fn new(alloc: Global, size: usize) -> Result<LineBuffer, Halt>
         ensures { IfOk result (λ buffer. buffer ≡ empty_lines size) }
     {
-        let mut room = PyByteArray::new_ref(alloc, vec![in alloc; 0u8; size]?);
-        match room.as_buffer(LoanList::new(alloc))? {
-            LocalReply::View(view) => Ok(LineBuffer {
-                room,
-                view,
-                begin: 0,
-                end: 0,
-            }),
-            _ => unreachable!(),
-        }
+        let mut room = PyByteArray::from_vec(alloc, vec![in alloc; 0u8; size]?);
+        let view = PyMemoryView::from_object(alloc, room.state_mut(), Subject::Own).done()?;
+        Ok(LineBuffer {
+            room,
+            view: view.number(),
+            begin: 0,
+            end: 0,
+        })
     }
 
     /// Takes bytes that came in, as many as there is room for. The result is how many.
@@ -98,7 +89,7 @@ impl LineBuffer {
         ensures count { result ≡ min (length bytes.now) self.old.free }
         ensures after { self.new ≡ received self.old (take result bytes.now) }
     {
-        let count = bytes.len().min(self.room.borrow_buf().len() - self.end);
+        let count = bytes.len().min(self.room.byte_count() - self.end);
         let room = room_of(self.room.state_mut(), self.view);
         put_at(room, self.end, &bytes[..count]);
         self.end += count;
@@ -109,11 +100,9 @@ impl LineBuffer {
     pub fn line(&self) -> Option<&[u8]>
         ensures { MatchOption result (next_line self.now ≡ None) (λ line. next_line self.now ≡ Some line.now) }
     {
-        let waiting = &self.room.borrow_buf()[self.begin..self.end];
-        match line_len(waiting) {
-            Some(len) => Some(&waiting[..len]),
-            None => None,
-        }
+        let waiting = &self.room.as_slice()[self.begin..self.end];
+        let len = place_of_byte(waiting, b'\n')?;
+        Some(&waiting[..len])
     }
 
     /// Answers that line: its answer lies in its place then. Without such a line nothing is done.
@@ -121,22 +110,21 @@ impl LineBuffer {
         ensures value { result ≡ is_some (next_line self.old) }
         ensures after { self.new ≡ answered self.old }
     {
-        match line_len(&self.room.borrow_buf()[self.begin..self.end]) {
-            Some(len) => {
-                let end = self.begin + len + 1;
-                raise(room_of(self.room.state_mut(), self.view), self.begin, end);
-                self.begin = end;
-                true
-            }
-            None => false,
-        }
+        let waiting = &self.room.as_slice()[self.begin..self.end];
+        let Some(len) = place_of_byte(waiting, b'\n') else {
+            return false;
+        };
+        let end = self.begin + len + 1;
+        raise(room_of(self.room.state_mut(), self.view), self.begin, end);
+        self.begin = end;
+        true
     }
 
     /// The answers that weren't sent.
     pub fn answers(&self) -> &[u8]
         ensures { result.now ≡ self.now.answers }
     {
-        &self.room.borrow_buf()[..self.begin]
+        &self.room.as_slice()[..self.begin]
     }
 
     /// Drops the answers, which were sent, and makes room.

@@ -4,10 +4,8 @@ ghost use Rattle.pybuf_value.specs.declared.halt.Halt.{Halt};
 ghost use Rattle.pybuf_value.specs.declared.faults.Fault.{Fault};
 ghost use Rattle.pybuf_uses.specs.Numbers.{numbers_of};
 
-use pybuf_view::{
-    ExporterState, Fault, Halt, LoanList, LocalReply, Made, PyByteArray, PyMemoryView,
-};
-use std::alloc::{AllocError, Global};
+use pybuf_view::{Answer, ExporterState, Fault, Halt, PyByteArray, PyMemoryView, Subject};
+use std::alloc::Global;
 use std::marker::Model;
 
 /// Numbers from 0 to 65,535, as Python's `array('H')`: they lie one after the other in a bytearray, two bytes
@@ -51,16 +49,6 @@ fn at(bytes: &[u8], index: usize) -> Option<u16>
     Some(u16::from_le_bytes([bytes[2 * index], bytes[2 * index + 1]]))
 }
 
-/// Adds a number behind bytes. Where memory runs out, they are as before.
-fn append(bytes: &mut Vec<u8>, number: u16) -> Result<(), AllocError>
-    requires { length bytes.old.items ≡ 2 * length (numbers_of bytes.old.items) }
-    ensures ok { OnOk result (numbers_of bytes.new.items ≡ numbers_of bytes.old.items ++ number ∷ []) }
-    ensures pairs { length bytes.new.items ≡ 2 * length (numbers_of bytes.new.items) }
-    ensures err { OnErr result (bytes.new.items ≡ bytes.old.items) }
-{
-    bytes.extend_from_slice(&number.to_le_bytes())
-}
-
 impl NumberArray {
     ghost use Rattle.pybuf_uses.specs.Numbers.{no_numbers, numbers_in, IsLent};
 
@@ -68,9 +56,8 @@ impl NumberArray {
     pub fn new(alloc: Global) -> NumberArray
         ensures { result ≡ no_numbers }
     {
-        NumberArray {
-            bytes: PyByteArray::new_ref(alloc, Vec::new(alloc)),
-        }
+        let bytes = PyByteArray::from_vec(alloc, Vec::new(alloc));
+        NumberArray { bytes }
     }
 
     /// The exporter, from which the views that are lent are read.
@@ -84,7 +71,7 @@ impl NumberArray {
     pub fn len(&self) -> usize
         ensures { result ≡ length self.now.numbers }
     {
-        self.bytes.borrow_buf().len() / 2
+        self.bytes.byte_count() / 2
     }
 
     /// Whether there is no number.
@@ -98,7 +85,7 @@ impl NumberArray {
     pub fn get(&self, index: usize) -> Option<u16>
         ensures { result ≡ slice_get self.now.numbers index }
     {
-        at(self.bytes.borrow_buf(), index)
+        at(self.bytes.as_slice(), index)
     }
 
     /// Puts a number in place of that at an index. This is done also while views are out: they show it.
@@ -125,21 +112,17 @@ impl NumberArray {
         ensures lent { (result ≡ Err (Halt.Refused Fault.Buffer)) ↔ IsLent self.old }
         ensures err { OnErr result (self.new ≡ self.old) }
     {
-        append(self.bytes.try_resizable()?, number)?;
-        Ok(())
+        self.bytes.extend_from_slice(&number.to_le_bytes())
     }
 
     /// A memoryview of all the numbers' bytes. It is out until it is given back. Where memory runs out, nothing
     /// is changed.
-    pub fn lend(&mut self, alloc: Global) -> Made<PyMemoryView>
+    pub fn lend(&mut self, alloc: Global) -> Result<PyMemoryView, Halt>
         ensures view { IfOk result (λ view. view ≡ length self.old.out) }
         ensures ok { OnOk result (self.new ≡ record self.old { out = self.old.out ++ true ∷ [] }) }
         ensures err { OnErr result (self.new ≡ self.old) }
     {
-        match self.bytes.as_buffer(LoanList::new(alloc))? {
-            LocalReply::View(view) => Ok(PyMemoryView::of(view)),
-            _ => unreachable!(),
-        }
+        PyMemoryView::from_object(alloc, self.bytes.state_mut(), Subject::Own).done()
     }
 
     /// Takes a view back. One that was taken back before changes nothing. Takes no memory.

@@ -6,6 +6,8 @@ use Rattle.pybuf_value.specs.Refusing.{◌>>=◌, unless}
 use Rattle.pybuf_value.specs.Numbers.{number_in}
 use Rattle.pybuf_value.specs.declared.values.Scalar.{Scalar}
 use Rattle.pybuf_value.specs.declared.values.Scalar.TheVariants as scalar
+use Rattle.pybuf_value.specs.declared.values.Item.{Item}
+use Rattle.pybuf_value.specs.declared.values.Item.TheVariants as item
 use Rattle.pybuf_value.specs.declared.values.PySlice.{PySlice}
 
 -- a bound of a slice, which may not be written
@@ -30,3 +32,8 @@ abbrev pub so_many_numbers : ℕ → List Scalar → Result (List ℤ) Fault
 so_many_numbers count values = do
   _ ← unless (not (length values == count)) fault.Value
   numbers_in values
+
+-- the number that an item is
+abbrev pub number_of_item : Item → Option ℤ
+number_of_item (item.One (scalar.Int number)) = Some number
+number_of_item _ = None

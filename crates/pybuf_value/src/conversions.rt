@@ -4,13 +4,13 @@ ghost use Rattle.pybuf_value.specs.declared.values.Scalar as scalars;
 ghost use Rattle.pybuf_value.specs.declared.values.Scalar.TheVariants as scalar;
 ghost use Rattle.pybuf_value.specs.declared.values.PySlice as slices;
 ghost use Rattle.pybuf_value.specs.declared.values.Value.TheVariants as value;
-ghost use Rattle.pybuf_value.specs.Making.{bound_of, slice_of, numbers_in, so_many_numbers};
+ghost use Rattle.pybuf_value.specs.Making.{bound_of, slice_of, numbers_in, so_many_numbers, number_of_item};
 
 use crate::faults::Fault;
 use crate::list::{ByteList, ScalarList};
 use crate::numbers::number_in;
 use crate::text::Text;
-use crate::values::{PySlice, Scalar, Value};
+use crate::values::{Item, PySlice, Scalar, Value};
 use pybuf_copy::Made;
 use std::alloc::Global;
 use std::ops::{Range, RangeFrom, RangeFull, RangeTo};
@@ -131,6 +131,18 @@ fn put_numbers(values: &[Scalar], places: &mut [i128]) -> Result<(), Fault>
         places[at] = number_in(&values[at])?;
     }
     Ok(())
+}
+
+impl Item {
+    /// The number of an item that is a single whole number.
+    pub fn number(&self) -> Option<i128>
+        ensures { result ≡ number_of_item self.now }
+    {
+        match self {
+            Item::One(Scalar::Int(number)) => Some(*number),
+            _ => None,
+        }
+    }
 }
 
 /// A bound of a slice, or none.

@@ -15,6 +15,7 @@ mod numbers;
 mod order;
 mod plain;
 mod quotes;
+mod shown;
 mod snaps;
 mod spelling;
 mod steps;
@@ -45,6 +46,7 @@ pub use order::{compare_bytes, is_order, scalar_cmp};
 pub use plain::{is_ascii, place_of_byte};
 pub use pybuf_copy::{Exact, Made, NoMemory, Twin, copy_all};
 pub use quotes::{escaped, push_escaped, push_quoted, quote};
+pub use shown::{Shown, write_bytes, write_list, write_quoted, write_truth, write_tuple};
 pub use snaps::{Lender, Snap, SnapKind, SnapList};
 pub use spelling::{
     named_repr_text, push_bytes, push_handle, push_number, push_scalar, push_truth, repr_text,

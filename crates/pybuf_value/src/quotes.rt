@@ -1,5 +1,5 @@
 //! Bytes between quotes, as Python's `repr` writes them.
-ghost use Rattle.std.specs.Prelude.{◌≡◌, ◌==◌, ◌++◌, ◌∷◌, [], ◌+◌, ◌*◌, ◌≤◌, OnOk, OnErr, codes, length, take};
+ghost use Rattle.std.specs.Prelude.{◌≡◌, ◌==◌, ◌++◌, ◌∷◌, [], ◌+◌, ◌*◌, ◌≤◌, ◌<◌, OnOk, OnErr, codes, length, take};
 ghost use Rattle.std.specs.List.{flat_map, list_any};
 ghost use Rattle.hex.specs.Hex.{encode_lower};
 ghost use Rattle.pybuf_value.specs.Quotes.{quote_of, is_plain, escaped_byte, quoted_text};
@@ -20,7 +20,8 @@ fn holds(bytes: &[u8], byte: u8) -> bool
 /// The quote that Python's `repr` writes round the bytes: a double one where they hold a single
 /// quote and no double one, and else a single one.
 pub fn quote(bytes: &[u8]) -> u8
-    ensures { result ≡ quote_of bytes.now }
+    ensures value { result ≡ quote_of bytes.now }
+    ensures ascii { result < 128 }
 {
     if holds(bytes, b'\'') {
         if !holds(bytes, b'"') {

@@ -5,8 +5,7 @@ use Rattle.std.specs.Str.{IsUtf8}
 use Rattle.std.proofs.lemmas.Bool.Decides.{nat_tests}
 use Rattle.std.proofs.lemmas.Grind.{common_steps}
 use Rattle.std.proofs.lemmas.Str.{IsUtf8-from_ascii, IsUtf8-append}
-use Rattle.pybuf_value.specs.Spelling.{scalar_text, handle_text}
-use Rattle.pybuf_index.specs.Compared.{slice_text}
+use Rattle.pybuf_value.specs.Spelling.{scalar_text, handle_text, slice_text}
 use Rattle.pybuf_index.proofs.compared.text_of.Goals as goal
 
 byte_ascii : (xs : List ℕ) (k : ℕ) → list_all (λ b. nat_lt b 128) xs ≡ true → slice_index xs k < 128

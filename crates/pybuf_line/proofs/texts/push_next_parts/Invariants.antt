@@ -1,6 +1,6 @@
 use Rattle.std.proofs.Common.{◌≡◌, ◌++◌, take}
 use Rattle.std.specs.List.{flat_map}
-use Rattle.pybuf_line.specs.Replies.{next_part_text}
+use Rattle.pybuf_value.specs.Spelling.{next_part_text}
 use Rattle.pybuf_line.proofs.texts.push_next_parts.Given as goal
 
 abbrev pub invariant-loop-part : goal.invariant-loop-part

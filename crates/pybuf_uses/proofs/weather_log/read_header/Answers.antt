@@ -1,19 +1,38 @@
-use Rattle.std.proofs.Common.{arith}
+use Rattle.std.proofs.Common.{arith, sym}
 use Rattle.std.proofs.lemmas.Int.{ints}
-use Rattle.pybuf_uses.proofs.LogLemmas.{header_found, number_fits}
+use Rattle.std.proofs.lemmas.List.{length-take-le}
+use Rattle.pybuf_uses.proofs.LogLemmas.{header_is_read, told_numbers, first_of, second_of, number_fits}
 use Rattle.pybuf_uses.proofs.weather_log.read_header.Goals as goal
 
-pub overflow_cast-result : goal.overflow_cast-result
-overflow_cast-result c =
-    grind (arith, ints, header_found c.args.file.now c.in_ok-values.values (omega arith), number_fits c.args.file.now c.type_inv.file 2 4 (omega arith))
+pub slice_bounds-ne-end : goal.slice_bounds-ne-end
+slice_bounds-ne-end c =
+    let file = c.args.file.now in
+    let read = header_is_read file c.in_ok-format.format c.in_ok-unpack_from.field-0 c.in_ok-format.ensures c.in_ok-unpack_from.ensures in
+    sym (length-take-le 4 file (omega (arith, read.0)))
 
-pub overflow_cast-result-in-Some : goal.overflow_cast-result-in-Some
-overflow_cast-result-in-Some c =
-    grind (arith, ints, header_found c.args.file.now c.in_ok-values.values (omega arith), number_fits c.args.file.now c.type_inv.file 4 6 (omega arith))
+pub returns-then-ne : goal.returns-then-ne
+returns-then-ne c =
+    let file = c.args.file.now in
+    let read = header_is_read file c.in_ok-format.format c.in_ok-unpack_from.field-0 c.in_ok-format.ensures c.in_ok-unpack_from.ensures in
+    grind (arith, read.0)
+
+pub overflow_cast-year : goal.overflow_cast-year
+overflow_cast-year c =
+    let file = c.args.file.now in
+    let read = header_is_read file c.in_ok-format.format c.in_ok-unpack_from.field-0 c.in_ok-format.ensures c.in_ok-unpack_from.ensures in
+    let are = told_numbers c.in_ok-unpack_from.field-0 2 c.in_ok-year.field-0 _ c.in_ok-year.ensures read.1 in
+    grind (arith, ints, first_of _ _ _ are, number_fits file c.type_inv.file 2 4 (omega (arith, read.0)))
+
+pub overflow_cast-count : goal.overflow_cast-count
+overflow_cast-count c =
+    let file = c.args.file.now in
+    let read = header_is_read file c.in_ok-format.format c.in_ok-unpack_from.field-0 c.in_ok-format.ensures c.in_ok-unpack_from.ensures in
+    let are = told_numbers c.in_ok-unpack_from.field-0 2 c.in_ok-year.field-0 _ c.in_ok-year.ensures read.1 in
+    grind (arith, ints, second_of _ _ _ _ are, number_fits file c.type_inv.file 4 6 (omega (arith, read.0)))
 
 pub returns : goal.returns
 returns c =
-    grind (arith, ints, header_found c.args.file.now c.in_ok-values.values (omega arith), number_fits c.args.file.now c.type_inv.file 2 4 (omega arith), number_fits c.args.file.now c.type_inv.file 4 6 (omega arith))
-
-pub returns-then-not-is_log : goal.returns-then-not-is_log
-returns-then-not-is_log c = grind (arith, header_found c.args.file.now c.in_ok-values.values (omega arith))
+    let file = c.args.file.now in
+    let read = header_is_read file c.in_ok-format.format c.in_ok-unpack_from.field-0 c.in_ok-format.ensures c.in_ok-unpack_from.ensures in
+    let are = told_numbers c.in_ok-unpack_from.field-0 2 c.in_ok-year.field-0 _ c.in_ok-year.ensures read.1 in
+    grind (arith, ints, read.0, first_of _ _ _ are, second_of _ _ _ _ are, number_fits file c.type_inv.file 2 4 (omega (arith, read.0)), number_fits file c.type_inv.file 4 6 (omega (arith, read.0)))

@@ -1,24 +1,32 @@
-use Rattle.std.proofs.Common.{arith, ◌≡◌, length}
+use Rattle.std.proofs.Common.{arith}
 use Rattle.std.proofs.lemmas.Int.{ints}
-use Rattle.pybuf_uses.proofs.LogLemmas.{reading_found, number_fits, signed_fits, reading_of_seven}
+use Rattle.pybuf_uses.proofs.LogLemmas.{reading_is_read, told_numbers, first_of, second_of, third_of, number_fits, signed_fits}
 use Rattle.pybuf_uses.proofs.weather_log.read_reading.Goals as goal
 
 pub overflow_cast-result : goal.overflow_cast-result
 overflow_cast-result c =
-    let seven : length c.args.bytes.now ≡ 7 = reading_of_seven c.args.bytes.now c.in_ok-values.values c.in_ok-values.ensures in
-    grind (arith, ints, reading_found c.args.bytes.now c.in_ok-values.values seven, number_fits c.args.bytes.now c.type_inv.bytes 4 0 (omega arith))
+    let bytes = c.args.bytes.now in
+    let read = reading_is_read bytes c.in_ok-format.format c.in_ok-unpack_values.field-0 c.in_ok-format.ensures c.in_ok-unpack_values.ensures in
+    let are = told_numbers c.in_ok-unpack_values.field-0 3 c.in_ok-second.field-0 _ c.in_ok-second.ensures read.1 in
+    grind (arith, ints, first_of _ _ _ are, number_fits bytes c.type_inv.bytes 4 0 (omega (arith, read.0)))
 
-pub overflow_cast-result-in-Some : goal.overflow_cast-result-in-Some
-overflow_cast-result-in-Some c =
-    let seven : length c.args.bytes.now ≡ 7 = reading_of_seven c.args.bytes.now c.in_ok-values.values c.in_ok-values.ensures in
-    grind (arith, ints, reading_found c.args.bytes.now c.in_ok-values.values seven, signed_fits c.args.bytes.now c.type_inv.bytes 4 (omega arith))
+pub overflow_cast-result-2 : goal.overflow_cast-result-2
+overflow_cast-result-2 c =
+    let bytes = c.args.bytes.now in
+    let read = reading_is_read bytes c.in_ok-format.format c.in_ok-unpack_values.field-0 c.in_ok-format.ensures c.in_ok-unpack_values.ensures in
+    let are = told_numbers c.in_ok-unpack_values.field-0 3 c.in_ok-second.field-0 _ c.in_ok-second.ensures read.1 in
+    grind (arith, ints, second_of _ _ _ _ are, signed_fits bytes c.type_inv.bytes 4 (omega (arith, read.0)))
 
-pub overflow_cast-result-in-Some-2 : goal.overflow_cast-result-in-Some-2
-overflow_cast-result-in-Some-2 c =
-    let seven : length c.args.bytes.now ≡ 7 = reading_of_seven c.args.bytes.now c.in_ok-values.values c.in_ok-values.ensures in
-    grind (arith, ints, reading_found c.args.bytes.now c.in_ok-values.values seven, number_fits c.args.bytes.now c.type_inv.bytes 1 6 (omega arith))
+pub overflow_cast-result-3 : goal.overflow_cast-result-3
+overflow_cast-result-3 c =
+    let bytes = c.args.bytes.now in
+    let read = reading_is_read bytes c.in_ok-format.format c.in_ok-unpack_values.field-0 c.in_ok-format.ensures c.in_ok-unpack_values.ensures in
+    let are = told_numbers c.in_ok-unpack_values.field-0 3 c.in_ok-second.field-0 _ c.in_ok-second.ensures read.1 in
+    grind (arith, ints, third_of _ _ _ _ _ are, number_fits bytes c.type_inv.bytes 1 6 (omega (arith, read.0)))
 
 pub returns : goal.returns
 returns c =
-    let seven : length c.args.bytes.now ≡ 7 = reading_of_seven c.args.bytes.now c.in_ok-values.values c.in_ok-values.ensures in
-    grind (arith, ints, reading_found c.args.bytes.now c.in_ok-values.values seven, number_fits c.args.bytes.now c.type_inv.bytes 4 0 (omega arith), signed_fits c.args.bytes.now c.type_inv.bytes 4 (omega arith), number_fits c.args.bytes.now c.type_inv.bytes 1 6 (omega arith))
+    let bytes = c.args.bytes.now in
+    let read = reading_is_read bytes c.in_ok-format.format c.in_ok-unpack_values.field-0 c.in_ok-format.ensures c.in_ok-unpack_values.ensures in
+    let are = told_numbers c.in_ok-unpack_values.field-0 3 c.in_ok-second.field-0 _ c.in_ok-second.ensures read.1 in
+    grind (arith, ints, read.0, first_of _ _ _ are, second_of _ _ _ _ are, third_of _ _ _ _ _ are, number_fits bytes c.type_inv.bytes 4 0 (omega (arith, read.0)), signed_fits bytes c.type_inv.bytes 4 (omega (arith, read.0)), number_fits bytes c.type_inv.bytes 1 6 (omega (arith, read.0)))

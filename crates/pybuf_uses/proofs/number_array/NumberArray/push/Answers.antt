@@ -1,24 +1,20 @@
-use Rattle.std.proofs.Common.{refl}
-use Rattle.std.proofs.lemmas.Bool.{false≢true}
-use Rattle.std.proofs.lemmas.Result.{err_from_is_err_and}
-use Rattle.pybuf_uses.proofs.OutLemmas.{lent_by, lent_none}
+use Rattle.pybuf_uses.proofs.PushLemmas.{pushed}
 use Rattle.pybuf_uses.proofs.number_array.NumberArray.push.Goals as goal
 
-pub returns-in_err-try_resizable-clause-lent : goal.returns-in_err-try_resizable-clause-lent
-returns-in_err-try_resizable-clause-lent c =
-    let exact = c.in_err-try_resizable.ensures.exact in
-    let refused = c.in_err-try_resizable.ensures.refused in
-    let answer = err_from_is_err_and c.from_residual.result c.from_residual.ensures.1 in
-    let is = answer.1 in
-    let gives = answer.2 in
-    (λ _. lent_by _ c.self.inside.bytes c.self.view_is (λ none. false≢true (exact.1 none)), λ _. cc)
-
-pub returns-in_err-append-clause-lent : goal.returns-in_err-append-clause-lent
-returns-in_err-append-clause-lent c =
-    let answer = err_from_is_err_and c.from_residual-in_err-append.result c.from_residual-in_err-append.ensures.1 in
-    let is = answer.1 in
-    let gives = answer.2 in
-    (λ refused. absurd cc, λ lent. absurd (lent_none _ c.self.inside.bytes c.self.view_is (c.in_ok-try_resizable.ensures.exact.0 refl) lent))
+pub returns-clause-ok : goal.returns-clause-ok
+returns-clause-ok c =
+    (pushed _ c.self.inside.bytes _ c.args.number c.self.invariant c.self.view_is c.ranges.number.fits c.extend_from_slice.result (rw (c.to_le_bytes.ensures) at c.extend_from_slice.ensures)).ok
 
 pub returns-clause-lent : goal.returns-clause-lent
-returns-clause-lent c = (λ refused. absurd cc, λ lent. absurd (lent_none _ c.self.inside.bytes c.self.view_is (c.in_ok-try_resizable.ensures.exact.0 refl) lent))
+returns-clause-lent c =
+    let facts =
+    pushed _ c.self.inside.bytes _ c.args.number c.self.invariant c.self.view_is c.ranges.number.fits c.extend_from_slice.result (rw (c.to_le_bytes.ensures) at c.extend_from_slice.ensures) in
+    (facts.refused, facts.lent)
+
+pub returns-clause-err : goal.returns-clause-err
+returns-clause-err c =
+    (pushed _ c.self.inside.bytes _ c.args.number c.self.invariant c.self.view_is c.ranges.number.fits c.extend_from_slice.result (rw (c.to_le_bytes.ensures) at c.extend_from_slice.ensures)).err
+
+pub invariant_of-self : goal.invariant_of-self
+invariant_of-self c =
+    (pushed _ c.self.inside.bytes _ c.args.number c.self.invariant c.self.view_is c.ranges.number.fits c.extend_from_slice.result (rw (c.to_le_bytes.ensures) at c.extend_from_slice.ensures)).sound

@@ -1,0 +1,26 @@
+//! Things that are asked often, as the pages show them beside Python's.
+use pybuf_view::{ByteStr, FormatSpec, PyByteArray};
+use std::test::Fail;
+
+#[test]
+fn a_byte_is_added(rt: HostRuntime) -> Result<(), Fail> {
+    let mut array = PyByteArray::from_slice(rt.alloc(), b"abc")?;
+    array.push(100)?;
+    assert_eq!(rt; array.as_slice(), b"abcd".as_slice());
+    Ok(())
+}
+
+#[test]
+fn a_record_is_unpacked(rt: HostRuntime) -> Result<(), Fail> {
+    let (alloc, record) = (rt.alloc(), b"\xfe\xff\x02\x01\x00\x00");
+    let format = FormatSpec::from_str(alloc, "<hI")?;
+    let [delta, count] = format.unpack_values(alloc, record)?.numbers::<2>()?;
+    assert_eq!(rt; (delta, count), (-2, 258));
+    Ok(())
+}
+
+#[test]
+fn a_place_is_found(rt: HostRuntime) {
+    let place = ByteStr::new(b"key=value").find(b"=", None, None);
+    assert_eq!(rt; place, Some(3));
+}

@@ -1,0 +1,148 @@
+//! The traits of Rust's library that bytes and bytearrays have.
+ghost use Rattle.std.specs.Prelude.{◌≡◌, ℕ, Some};
+ghost use Rattle.std.specs.Io.{ReadsAtMost, WritesAtMost};
+ghost use Rattle.std.specs.Io.KnownBytes.{Keeps, ReadConsumes, WriteAppends};
+ghost use Rattle.std.specs.Iterator.Runs.{EveryRun, ItemsMapTo};
+ghost use Rattle.std.specs.Slice.Iter.{iter_rest, iter_steps};
+ghost use Rattle.pybuf_command.specs.declared.kinds.ExporterKind.TheVariants as kinds;
+ghost use Rattle.pybuf_state.specs.Exporter.{new_exporter};
+
+use crate::byte_array::PyByteArray;
+use crate::bytes::PyBytes;
+use pybuf_value::Halt;
+use std::convert::AsSlice;
+use std::io::{Error, ErrorKind, Read, Write};
+use std::ops::DerefSlice;
+use std::{io, slice};
+
+/// The `bytes` of a vector. Takes no memory.
+impl From<Vec<u8>> for PyBytes {
+    ghost from_gives = { λ bytes made. made ≡ new_exporter kinds.Bytes bytes.items };
+
+    fn from(bytes: Vec<u8>) -> PyBytes {
+        let alloc = *bytes.allocator();
+        PyBytes::from_vec(alloc, bytes)
+    }
+}
+
+/// The `bytearray` of a vector. Takes no memory.
+impl From<Vec<u8>> for PyByteArray {
+    ghost from_gives = { λ bytes made. made ≡ new_exporter kinds.ByteArray bytes.items };
+
+    fn from(bytes: Vec<u8>) -> PyByteArray {
+        let alloc = *bytes.allocator();
+        PyByteArray::from_vec(alloc, bytes)
+    }
+}
+
+impl AsSlice<u8> for PyBytes {
+    ghost items = { λ b. b.bytes };
+
+    fn as_slice(&self) -> &[u8] {
+        PyBytes::as_slice(self)
+    }
+}
+
+impl AsSlice<u8> for PyByteArray {
+    ghost items = { λ b. b.bytes };
+
+    fn as_slice(&self) -> &[u8] {
+        PyByteArray::as_slice(self)
+    }
+}
+
+/// So `b[0]` and `&b[1..3]` are those of a slice.
+impl DerefSlice for PyBytes {
+    type Elem = u8;
+
+    ghost deref_gives = { λ b bytes. bytes ≡ b.bytes };
+
+    fn deref(&self) -> &[u8] {
+        PyBytes::as_slice(self)
+    }
+}
+
+/// So `a[0]` and `&a[1..3]` are those of a slice.
+impl DerefSlice for PyByteArray {
+    type Elem = u8;
+
+    ghost deref_gives = { λ b bytes. bytes ≡ b.bytes };
+
+    fn deref(&self) -> &[u8] {
+        PyByteArray::as_slice(self)
+    }
+}
+
+impl<'a> IntoIterator for &'a PyBytes {
+    type Item = &'a u8;
+
+    type IntoIter = slice::Iter<'a, u8>;
+
+    ghost into_iter_gives = { λ b it. (iter_rest it ≡ b.now.bytes)
+        × EveryRun (iter_steps {A = ℕ}) (λ p. ItemsMapTo p (λ byte. byte.now) (iter_rest p.from)) };
+
+    fn into_iter(self) -> slice::Iter<'a, u8> {
+        PyBytes::as_slice(self).iter()
+    }
+}
+
+impl<'a> IntoIterator for &'a PyByteArray {
+    type Item = &'a u8;
+
+    type IntoIter = slice::Iter<'a, u8>;
+
+    ghost into_iter_gives = { λ b it. (iter_rest it ≡ b.now.bytes)
+        × EveryRun (iter_steps {A = ℕ}) (λ p. ItemsMapTo p (λ byte. byte.now) (iter_rest p.from)) };
+
+    fn into_iter(self) -> slice::Iter<'a, u8> {
+        PyByteArray::as_slice(self).iter()
+    }
+}
+
+/// The error of a device that a refusal is, or want of memory.
+fn error_of(halt: Halt) -> Error {
+    match halt {
+        Halt::NoMemory => Error::from(ErrorKind::OutOfMemory),
+        Halt::Refused(_) => Error::from(ErrorKind::ResourceBusy),
+    }
+}
+
+/// A queue: what is read is taken from the front. Refused with `ResourceBusy` while a view is unreleased, or where
+/// another kind of exporter was put in; nothing is taken then.
+impl Read for PyByteArray {
+    ghost remaining = { λ b. Some b.bytes };
+
+    fn read(&mut self, buf: &mut [u8]) -> io::Result<usize>
+        ensures bound { ReadsAtMost result buf.new }
+        ensures bytes { ReadConsumes (Some self.old.bytes) (Some self.new.bytes) result buf.new }
+    {
+        let count = buf.len().min(self.byte_count());
+        buf[..count].copy_from_slice(&self.as_slice()[..count]);
+        match self.drain_front(count) {
+            Ok(()) => Ok(count),
+            Err(halt) => Err(error_of(halt)),
+        }
+    }
+}
+
+/// A queue: what is written is added at the end. Refused with `ResourceBusy` while a view is unreleased, or where
+/// another kind of exporter was put in, and with `OutOfMemory` for want of memory; nothing is added then.
+impl Write for PyByteArray {
+    ghost contents = { λ b. Some b.bytes };
+
+    fn write(&mut self, buf: &[u8]) -> io::Result<usize>
+        ensures bound { WritesAtMost result buf.now }
+        ensures bytes { WriteAppends (Some self.old.bytes) (Some self.new.bytes) result buf.now }
+    {
+        match self.extend_from_slice(buf) {
+            Ok(()) => Ok(buf.len()),
+            Err(halt) => Err(error_of(halt)),
+        }
+    }
+
+    fn flush(&mut self) -> io::Result<()>
+        ensures bytes { Keeps (Some self.old.bytes) (Some self.new.bytes) }
+    {
+        Ok(())
+    }
+}
