@@ -17,6 +17,8 @@ mod iterators;
 #[cfg(test)]
 mod memory_views;
 #[cfg(test)]
+mod plain_views;
+#[cfg(test)]
 mod slices;
 #[cfg(test)]
 mod strings;

@@ -6,3 +6,4 @@ pub mod Iterating
 pub mod Unchanged
 pub mod Viewing
 pub mod Assigning
+pub mod Sounding

@@ -4,3 +4,4 @@ pub mod Lending
 pub mod Laws
 pub mod Iterating
 pub mod Assigning
+pub mod Telling

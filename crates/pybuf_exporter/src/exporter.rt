@@ -25,7 +25,7 @@ use std::marker::Model;
 /// was made.
 #[derive(Debug, Drop)]
 pub struct ExporterState {
-    parts: Parts,
+    pub(crate) parts: Parts,
 }
 
 impl Model for ExporterState {

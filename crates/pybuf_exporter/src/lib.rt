@@ -6,6 +6,7 @@ mod direct;
 mod exporter;
 mod laws;
 mod pick;
+mod plain;
 
 pub use exporter::ExporterState;
 pub use laws::{

@@ -1,7 +1,7 @@
 //! What a kernel answers, and its check sum.
 
 use pybuf_command::LocalReply;
-use pybuf_value::{ByteList, ByteLists, Made, Outcome, Tried};
+use pybuf_value::{ByteList, ByteLists, Halt, Made, NoMemory, Outcome, Tried};
 use std::alloc::Global;
 
 /// What a call of a kernel answers. `Refused` is no answer of a kernel that works as it should.
@@ -50,6 +50,15 @@ impl Answer {
         match answer? {
             Outcome::Done(bytes) => Ok(Answer::Bytes(bytes)),
             Outcome::Refused(_) => Ok(Answer::Refused),
+        }
+    }
+
+    /// The answer of calls by plain arguments, which may be refused.
+    pub fn of_plain(answer: Result<Answer, Halt>) -> Made<Answer> {
+        match answer {
+            Ok(answer) => Ok(answer),
+            Err(Halt::Refused(_)) => Ok(Answer::Refused),
+            Err(Halt::NoMemory) => Err(NoMemory),
         }
     }
 

@@ -8,7 +8,7 @@ use crate::plan::Plan;
 use crate::viewed::Viewed;
 use pybuf_command::{LoanList, LocalReply};
 use pybuf_object::PyByteArray;
-use pybuf_value::{Item, Made, Scalar};
+use pybuf_value::{Halt, Item, Made, Scalar};
 use std::alloc::Global;
 
 /// What the items are.
@@ -49,10 +49,17 @@ pub fn count_of_values(values: &[Scalar]) -> i128 {
 }
 
 /// What an item counts.
-fn count_of_item(reply: &LocalReply) -> i128 {
+fn count_of_item(item: &Item) -> i128 {
+    match item {
+        Item::One(value) => count_of(value),
+        Item::Many(values) => count_of_values(values.as_slice()),
+    }
+}
+
+/// What the item of a reply counts.
+fn count_of_reply(reply: &LocalReply) -> i128 {
     match reply {
-        LocalReply::Item(Item::One(value)) => count_of(value),
-        LocalReply::Item(Item::Many(values)) => count_of_values(values.as_slice()),
+        LocalReply::Item(item) => count_of_item(item),
         _ => -1,
     }
 }
@@ -77,7 +84,7 @@ fn get(alloc: Global, viewed: &mut Viewed, place: usize) -> Made<i128> {
     let state = viewed.object.state_mut();
     let loans = LoanList::new(alloc);
     let reply = viewed.view.getitem(state, number(place), loans)?;
-    Ok(count_of_item(&reply))
+    Ok(count_of_reply(&reply))
 }
 
 /// `view[k]` for each item.
@@ -108,6 +115,38 @@ pub fn set_all(alloc: Global, viewed: &mut Viewed, count: usize, limit: usize) -
     Ok(Answer::Nothing)
 }
 
+/// What one item counts, by plain arguments.
+fn get_plainly(viewed: &Viewed, place: usize) -> Result<i128, Halt> {
+    let index = place.min(isize::MAX as usize) as isize;
+    let item = viewed.view.index(viewed.object.state(), index)?;
+    Ok(count_of_item(&item))
+}
+
+/// `view[k]` for each item, by plain arguments.
+pub fn get_all_plainly(viewed: &Viewed, count: usize) -> Result<Answer, Halt> {
+    let mut sum = 0i128;
+    for place in 0..count {
+        sum = sum.wrapping_add(get_plainly(viewed, place)?);
+    }
+    Ok(Answer::Number(sum))
+}
+
+/// Writes one item by plain arguments.
+fn set_plainly(viewed: &mut Viewed, place: usize, limit: usize) -> Result<(), Halt> {
+    let index = place.min(isize::MAX as usize) as isize;
+    let number = place.checked_rem(limit).unwrap_or(0);
+    let state = viewed.object.state_mut();
+    viewed.view.set(state, index, number as i128)
+}
+
+/// `view[k] = k % limit` for each item, by plain arguments.
+pub fn set_all_plainly(viewed: &mut Viewed, count: usize, limit: usize) -> Result<Answer, Halt> {
+    for place in 0..count {
+        set_plainly(viewed, place, limit)?;
+    }
+    Ok(Answer::Nothing)
+}
+
 /// So many bytes appended to an empty bytearray, and popped again.
 #[derive(Clone, Copy)]
 pub struct AppendPop {
@@ -127,7 +166,7 @@ fn pop_all(alloc: Global, object: &mut PyByteArray, count: usize) -> Made<Answer
     let mut sum = 0i128;
     for _ in 0..count {
         let reply = object.pop(None, LoanList::new(alloc))?;
-        sum = sum.wrapping_add(count_of_item(&reply));
+        sum = sum.wrapping_add(count_of_reply(&reply));
     }
     Ok(Answer::Number(sum))
 }

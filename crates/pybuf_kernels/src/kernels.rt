@@ -2,7 +2,7 @@
 
 use crate::items::{AppendPop, Form};
 use crate::kernel::{Measured, Stop, measure};
-use crate::making::{MakeViews, Making};
+use crate::making::{MakePlainViews, MakeViews, Making};
 use crate::plan::Plan;
 use crate::records::{Packing, Records};
 use crate::strings::{Call, Method};
@@ -20,6 +20,8 @@ pub enum Work {
     Beside(Question),
     /// Views are made and released.
     Make(Making),
+    /// Views are made and released by plain arguments.
+    MakePlainly(Making),
     /// Records are read or written.
     Records(Packing),
     /// A bytearray grows and shrinks.
@@ -29,7 +31,7 @@ pub enum Work {
 }
 
 /// All kernels, in the order in which they are measured. `z` and `cba` stand nowhere in a drawn text.
-pub const KERNELS: [(&str, Work); 44] = [
+pub const KERNELS: [(&str, Work); 53] = [
     (
         "tobytes-contiguous",
         Work::Views(Doing::ToBytes(Part::Whole)),
@@ -58,6 +60,27 @@ pub const KERNELS: [(&str, Work); 44] = [
     ("get-record", Work::Views(Doing::Get(Form::Record))),
     ("set-B", Work::Views(Doing::Set(Form::Byte, 251))),
     ("set-i", Work::Views(Doing::Set(Form::Number, 1_000_003))),
+    ("plain-views", Work::MakePlainly(Making::View)),
+    ("plain-slices", Work::MakePlainly(Making::Slice)),
+    (
+        "plain-slices-planes",
+        Work::MakePlainly(Making::SliceOfPlanes),
+    ),
+    ("plain-casts", Work::MakePlainly(Making::Cast)),
+    ("plain-get-B", Work::Views(Doing::GetPlainly(Form::Byte))),
+    ("plain-get-i", Work::Views(Doing::GetPlainly(Form::Number))),
+    (
+        "plain-get-record",
+        Work::Views(Doing::GetPlainly(Form::Record)),
+    ),
+    (
+        "plain-set-B",
+        Work::Views(Doing::SetPlainly(Form::Byte, 251)),
+    ),
+    (
+        "plain-set-i",
+        Work::Views(Doing::SetPlainly(Form::Number, 1_000_003)),
+    ),
     ("set-record", Work::Records(Packing::Set)),
     ("unpack", Work::Records(Packing::Unpack)),
     ("pack-into", Work::Records(Packing::PackInto)),
@@ -96,6 +119,7 @@ pub fn measure_work<R: CpuClock + AllocGlobal>(
         Work::Views(doing) => measure(rt, plan, Views::of(alloc, plan, doing)?),
         Work::Beside(question) => measure(rt, plan, Beside::of(alloc, plan, question)?),
         Work::Make(making) => measure(rt, plan, MakeViews { making, plan }),
+        Work::MakePlainly(making) => measure(rt, plan, MakePlainViews { making, plan }),
         Work::Records(packing) => measure(rt, plan, Records::of(alloc, plan, packing)?),
         Work::Grow => measure(rt, plan, AppendPop { count: plan.count }),
         Work::Call(method) => measure(rt, plan, Call::of(alloc, plan, method)?),

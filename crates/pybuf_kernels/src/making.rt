@@ -7,7 +7,8 @@ use crate::keys::{slice, text};
 use crate::plan::Plan;
 use crate::viewed::{PLANE, Viewed, view_of};
 use pybuf_command::{LoanList, LocalReply};
-use pybuf_value::Made;
+use pybuf_memoryobject::PyMemoryView;
+use pybuf_value::{Halt, Made};
 use std::alloc::Global;
 
 /// How a view is made.
@@ -72,6 +73,43 @@ impl Making {
         }
         let made = viewed.object.state().view_count().saturating_sub(before);
         Ok(Answer::Number(made as i128))
+    }
+}
+
+/// The same by plain arguments.
+#[derive(Clone, Copy)]
+pub struct MakePlainViews {
+    pub making: Making,
+    pub plan: Plan,
+}
+
+impl Making {
+    /// One more view by plain arguments, which is released.
+    fn make_plainly(self, viewed: &mut Viewed) -> Result<(), Halt> {
+        let state = viewed.object.state_mut();
+        let made = match self {
+            Making::View => PyMemoryView::of_all(state)?,
+            Making::Slice | Making::SliceOfPlanes => viewed.view.slice(state, 1..)?,
+            Making::Cast => viewed.view.cast_to(state, "H")?,
+        };
+        made.try_release(state)
+    }
+
+    /// So many views by plain arguments, and how many there were.
+    fn make_all_plainly(self, viewed: &mut Viewed, count: usize) -> Result<Answer, Halt> {
+        let before = viewed.object.state().view_count();
+        for _ in 0..count {
+            self.make_plainly(viewed)?;
+        }
+        let made = viewed.object.state().view_count().saturating_sub(before);
+        Ok(Answer::Number(made as i128))
+    }
+}
+
+impl Kernel for MakePlainViews {
+    fn call(&mut self, alloc: Global) -> Made<Answer> {
+        let mut viewed = self.making.start(alloc, self.plan.seed)?;
+        Answer::of_plain(self.making.make_all_plainly(&mut viewed, self.plan.count))
     }
 }
 

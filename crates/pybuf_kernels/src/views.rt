@@ -2,7 +2,7 @@
 
 use crate::answers::{Answer, mark_of_bytes};
 use crate::data::drawn;
-use crate::items::{Form, get_all, set_all};
+use crate::items::{Form, get_all, get_all_plainly, set_all, set_all_plainly};
 use crate::kernel::Kernel;
 use crate::keys::{handle, slice};
 use crate::plan::Plan;
@@ -21,6 +21,10 @@ pub enum Doing {
     Get(Form),
     /// `view[k] = k % limit` for each item.
     Set(Form, usize),
+    /// `view[k]` for each item, by plain arguments.
+    GetPlainly(Form),
+    /// `view[k] = k % limit` for each item, by plain arguments.
+    SetPlainly(Form, usize),
     /// `view[1:] = view[:-1]`, so that the two overlap.
     Shift,
     /// `view[::-1] = view`.
@@ -51,6 +55,7 @@ fn viewed_for(alloc: Global, plan: Plan, doing: Doing) -> Made<Viewed> {
     match doing {
         Doing::ToBytes(part) => Viewed::part(alloc, plan, part),
         Doing::Get(form) | Doing::Set(form, _) => form.viewed(alloc, plan),
+        Doing::GetPlainly(form) | Doing::SetPlainly(form, _) => form.viewed(alloc, plan),
         Doing::Shift | Doing::Reverse => Viewed::whole(alloc, drawn(alloc, plan.seed, plan.size)?),
         Doing::Compare => Viewed::whole(alloc, twins(alloc, plan)?),
     }
@@ -115,6 +120,10 @@ impl Kernel for Views {
             Doing::ToBytes(_) => copy(alloc, viewed),
             Doing::Get(_) => get_all(alloc, viewed, self.count),
             Doing::Set(_, limit) => set_all(alloc, viewed, self.count, limit),
+            Doing::GetPlainly(_) => Answer::of_plain(get_all_plainly(viewed, self.count)),
+            Doing::SetPlainly(_, limit) => {
+                Answer::of_plain(set_all_plainly(viewed, self.count, limit))
+            }
             Doing::Shift => assign(alloc, viewed, slice(Some(1), None, None), &self.other),
             Doing::Reverse => assign(alloc, viewed, slice(None, None, Some(-1)), &self.other),
             Doing::Compare => compare(alloc, viewed, &self.other),
@@ -123,7 +132,7 @@ impl Kernel for Views {
 
     fn written(&self) -> i128 {
         match self.doing {
-            Doing::ToBytes(_) | Doing::Get(_) => 0,
+            Doing::ToBytes(_) | Doing::Get(_) | Doing::GetPlainly(_) => 0,
             _ => mark_of_bytes(self.viewed.object.borrow_buf()),
         }
     }

@@ -1,3 +1,4 @@
 pub mod Blocks
 pub mod Viewing
 pub mod Lending
+pub mod Laws

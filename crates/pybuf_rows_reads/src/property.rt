@@ -1,5 +1,8 @@
 //! `prop`: a property of an exporter or of a view.
-ghost use Rattle.std.specs.Prelude.{◌≡◌};
+ghost use Rattle.std.specs.Prelude.{◌≡◌, map, pos, IfOk};
+ghost use Rattle.std.specs.Result.{result_map_both};
+ghost use Rattle.pybuf_command.specs.declared.commands.LocalReply.TheVariants as replies;
+ghost use Rattle.pybuf_command.specs.declared.commands.PropertyName.TheVariants as names;
 ghost use Rattle.pybuf_value.specs.Halting.{Gives};
 ghost use Rattle.pybuf_state.specs.Answers.{exporter_of, IsWhole, Reads};
 ghost use Rattle.pybuf_rows_reads.specs.Property.{is_exports, property_of_layout, property_of_own, property_of_view};
@@ -8,7 +11,7 @@ use crate::len::count_item;
 use pybuf_command::{LocalReply, PropertyName};
 use pybuf_memoryview::KeptLayout;
 use pybuf_state::Parts;
-use pybuf_value::{Fault, Halt, Twin};
+use pybuf_value::{Fault, Halt, Made, Twin};
 use std::alloc::Global;
 
 /// The number of unreleased views.
@@ -51,6 +54,36 @@ fn is_exports(name: PropertyName) -> bool
         PropertyName::Exports => true,
         _ => false,
     }
+}
+
+/// The stride of each dimension.
+fn strides_of(alloc: Global, dims: &[(usize, isize, isize)]) -> Made<Vec<isize>>
+    ensures { IfOk result (λ strides. strides.items ≡ map (λ dim. dim.1) dims.now) }
+{
+    let mut strides = Vec::with_capacity(alloc, dims.len())?;
+    for dim in dims {
+        strides.push(dim.1)?;
+    }
+    Ok(strides)
+}
+
+/// The number of entries of each dimension of a view.
+pub fn shape(parts: &Parts, view: usize) -> Result<Vec<usize>, Halt>
+    requires { IsWhole parts.now }
+    ensures { Reads (property_of_view (exporter_of parts.now) view names.Shape) (exporter_of parts.now) (result_map_both (λ shape. replies.Numbers (map (λ n. pos n) shape.items)) (λ halt. halt) result) }
+{
+    let layout = parts.live_layout(view)?;
+    Ok(layout.counts(parts.alloc)?.into_vec())
+}
+
+/// The stride of each dimension of a view.
+pub fn strides(parts: &Parts, view: usize) -> Result<Vec<isize>, Halt>
+    requires { IsWhole parts.now }
+    ensures { Reads (property_of_view (exporter_of parts.now) view names.Strides) (exporter_of parts.now) (result_map_both (λ strides. replies.Numbers strides.items) (λ halt. halt) result) }
+{
+    let layout = parts.live_layout(view)?;
+    let (descriptor, _start) = layout.placed();
+    Ok(strides_of(parts.alloc, descriptor.dim_desc())?)
 }
 
 /// A property of a view.

@@ -1,4 +1,6 @@
 //! `bytes`: the subject's bytes.
+ghost use Rattle.std.specs.Result.{result_map_both};
+ghost use Rattle.pybuf_command.specs.declared.commands.LocalReply.TheVariants as replies;
 ghost use Rattle.pybuf_state.specs.Answers.{exporter_of, IsWhole, Reads};
 ghost use Rattle.pybuf_rows_reads.specs.ToBytes.{bytes_of_own, bytes_of_view};
 
@@ -15,12 +17,20 @@ pub fn of_own(parts: &Parts) -> Result<LocalReply, Halt>
     Ok(LocalReply::Bytes(ByteList::from_vec(bytes)))
 }
 
+/// The bytes of a view's items, in order, as a vector.
+pub fn content(parts: &Parts, view: usize) -> Result<Vec<u8>, Halt>
+    requires { IsWhole parts.now }
+    ensures { Reads (bytes_of_view (exporter_of parts.now) view) (exporter_of parts.now) (result_map_both (λ bytes. replies.Bytes bytes.items) (λ halt. halt) result) }
+{
+    let layout = parts.live_layout(view)?;
+    Ok(content_of(parts.alloc, parts.bytes.as_slice(), layout)?)
+}
+
 /// The bytes of a view's items, in order.
 pub fn of_view(parts: &Parts, view: usize) -> Result<LocalReply, Halt>
     requires { IsWhole parts.now }
     ensures { Reads (bytes_of_view (exporter_of parts.now) view) (exporter_of parts.now) result }
 {
-    let layout = parts.live_layout(view)?;
-    let bytes = content_of(parts.alloc, parts.bytes.as_slice(), layout)?;
+    let bytes = content(parts, view)?;
     Ok(LocalReply::Bytes(ByteList::from_vec(bytes)))
 }

@@ -1,8 +1,12 @@
 //! `cast`: a new view of the same bytes, with items of another format, in one dimension or in those of
 //! a shape.
-ghost use Rattle.std.specs.Prelude.{◌≡◌, ◌<◌, ◌≤◌, ◌*◌, ◌^◌, All, length, true, IfOk};
+ghost use Rattle.std.specs.Prelude.{◌≡◌, ◌<◌, ◌≤◌, ◌*◌, ◌^◌, All, length, map, pos, true, None, Some, Ok, Err, IfOk, MatchResult};
 ghost use Rattle.std.specs.Prelude.{◌%◌, ◌==◌, ◌&&◌, not};
+ghost use Rattle.std.specs.Result.{result_map_both};
 ghost use Rattle.pybuf_value.specs.Halting.{Gives};
+ghost use Rattle.pybuf_value.specs.declared.values.Scalar.TheVariants as scalars;
+ghost use Rattle.pybuf_value.specs.declared.values.Value.TheVariants as values;
+ghost use Rattle.pybuf_command.specs.declared.commands.LocalReply.TheVariants as replies;
 ghost use Rattle.pybuf_desc.specs.Layouts.{product};
 ghost use Rattle.pybuf_desc.specs.Contiguous.{is_contiguous_layout};
 ghost use Rattle.pybuf_memoryview.specs.Orders.{nbytes_of};
@@ -16,26 +20,26 @@ use pybuf_memoryview::KeptLayout;
 use pybuf_state::Parts;
 use pybuf_struct::{FormatSpec, single_size};
 use pybuf_value::{
-    CountList, Fault, Halt, Outcome, Scalar, Text, Twin, Value, fit_count, number_in, text_in,
+    CountList, Fault, Halt, Outcome, Scalar, Text, Value, fit_count, number_in, text_in,
 };
 use std::alloc::Global;
 
 /// The size of a format's items. That of a format of one letter is told without parsing it.
-fn size_of(alloc: Global, text: &Text) -> Result<usize, Halt>
+fn size_of(alloc: Global, text: &str) -> Result<usize, Halt>
     ensures size { Gives (spec.size_of_format text.now) result }
     ensures fits { IfOk result (λ size. size < 2 ^ 63) }
 {
-    if let Some(size) = single_size(text.as_slice()) {
+    if let Some(size) = single_size(text.as_bytes()) {
         return Ok(size);
     }
-    match FormatSpec::parse(alloc, text.as_slice())? {
+    match FormatSpec::parse(alloc, text.as_bytes())? {
         Outcome::Done(format) => Ok(format.size()),
         Outcome::Refused(fault) => Err(Halt::Refused(fault)),
     }
 }
 
 /// The size of the items of a format that make up so many bytes.
-fn size_for(alloc: Global, len: usize, text: &Text) -> Result<usize, Halt>
+fn size_for(alloc: Global, len: usize, text: &str) -> Result<usize, Halt>
     ensures size { Gives (spec.size_for len text.now) result }
     ensures some { IfOk result (λ size. 0 < size) }
     ensures fits { IfOk result (λ size. size < 2 ^ 63) }
@@ -53,13 +57,13 @@ fn size_for(alloc: Global, len: usize, text: &Text) -> Result<usize, Halt>
 
 /// An entry of a shape, which must be above 0 and at most the greatest word divided by the product
 /// so far.
-fn entry_of(size: usize, part: &Scalar) -> Result<usize, Fault>
+fn entry_of_number(size: usize, number: i128) -> Result<usize, Fault>
     requires { 0 < size }
-    ensures exact { result ≡ spec.entry_of size part.now }
+    ensures exact { result ≡ spec.entry_of size (scalars.Int number) }
+    ensures same { IfOk result (λ entry. pos entry ≡ number) }
     ensures some { IfOk result (λ entry. 0 < entry) }
     ensures fits { IfOk result (λ entry. size * entry < 2 ^ 63) }
 {
-    let number = number_in(part)?;
     let word = fit_count(number)?;
     if word <= 0 {
         return Err(Fault::Value);
@@ -69,6 +73,17 @@ fn entry_of(size: usize, part: &Scalar) -> Result<usize, Fault>
         return Err(Fault::Value);
     }
     Ok(entry)
+}
+
+/// The same of a value.
+fn entry_of(size: usize, part: &Scalar) -> Result<usize, Fault>
+    requires { 0 < size }
+    ensures exact { result ≡ spec.entry_of size part.now }
+    ensures some { IfOk result (λ entry. 0 < entry) }
+    ensures fits { IfOk result (λ entry. size * entry < 2 ^ 63) }
+{
+    let number = number_in(part)?;
+    entry_of_number(size, number)
 }
 
 /// The entries of a shape, in order, and the product of them all and the size of an item.
@@ -90,8 +105,25 @@ fn entries_of(alloc: Global, size: usize, parts: &[Scalar]) -> Result<(CountList
     Ok((entries, product))
 }
 
+/// The product of the size of an item and the entries of a shape, each of which must be above 0. Takes no memory.
+fn product_of(size: usize, shape: &[usize]) -> Result<usize, Fault>
+    requires some { 0 < size }
+    requires fits { size < 2 ^ 63 }
+    ensures exact { MatchResult result (λ _. spec.entries_of size (map (λ n. scalars.Int (pos n)) shape.now) ≡ Ok shape.now) (λ fault. spec.entries_of size (map (λ n. scalars.Int (pos n)) shape.now) ≡ Err fault) }
+    ensures entries { IfOk result (λ _. All (λ n. 0 < n) shape.now) }
+    ensures product { IfOk result (λ r. r ≡ size * product shape.now) }
+{
+    match shape {
+        [] => Ok(size),
+        [first, rest @ ..] => {
+            let entry = entry_of_number(size, *first as i128)?;
+            product_of(size * entry, rest)
+        }
+    }
+}
+
 /// The items in one dimension.
-fn flat_layout_of(alloc: Global, layout: &KeptLayout, text: &Text) -> Result<KeptLayout, Halt>
+fn flat_layout_of(alloc: Global, layout: &KeptLayout, text: &str) -> Result<KeptLayout, Halt>
     requires { is_contiguous_layout layout.now ≡ true }
     ensures { Gives (spec.flat_layout_of layout.now text.now) result }
 {
@@ -101,7 +133,7 @@ fn flat_layout_of(alloc: Global, layout: &KeptLayout, text: &Text) -> Result<Kep
         }
     }
     let size = size_for(alloc, layout.nbytes(), text)?;
-    let text = text.copy(alloc)?;
+    let text = Text::from_string(String::from_str(alloc, text)?);
     let cast = layout.cast(alloc, text, size)?;
     Ok(cast)
 }
@@ -120,7 +152,7 @@ fn is_neither_flat(dimensions: usize, entries: usize) -> bool
 fn shaped_layout_of(
     alloc: Global,
     layout: &KeptLayout,
-    text: &Text,
+    text: &str,
     parts: &[Scalar],
 ) -> Result<KeptLayout, Halt>
     requires { is_contiguous_layout layout.now ≡ true }
@@ -140,8 +172,37 @@ fn shaped_layout_of(
     if product != layout.nbytes() {
         return Err(Halt::Refused(Fault::Kind));
     }
-    let text = text.copy(alloc)?;
+    let text = Text::from_string(String::from_str(alloc, text)?);
     let cast = layout.cast_shape(alloc, text, size, entries.as_slice())?;
+    Ok(cast)
+}
+
+/// The same in the dimensions of plain numbers.
+fn shaped_layout_by(
+    alloc: Global,
+    layout: &KeptLayout,
+    text: &str,
+    shape: &[usize],
+) -> Result<KeptLayout, Halt>
+    requires { is_contiguous_layout layout.now ≡ true }
+    ensures { Gives (spec.shaped_layout_of layout.now text.now (map (λ n. scalars.Int (pos n)) shape.now)) result }
+{
+    if layout.has_zero() {
+        return Err(Halt::Refused(Fault::Kind));
+    }
+    if is_neither_flat(layout.ndim(), shape.len()) {
+        return Err(Halt::Refused(Fault::Kind));
+    }
+    if shape.len() > 64 {
+        return Err(Halt::Refused(Fault::Value));
+    }
+    let size = size_for(alloc, layout.nbytes(), text)?;
+    let product = product_of(size, shape)?;
+    if product != layout.nbytes() {
+        return Err(Halt::Refused(Fault::Kind));
+    }
+    let text = Text::from_string(String::from_str(alloc, text)?);
+    let cast = layout.cast_shape(alloc, text, size, shape)?;
     Ok(cast)
 }
 
@@ -149,7 +210,7 @@ fn shaped_layout_of(
 fn layout_in_shape(
     alloc: Global,
     layout: &KeptLayout,
-    text: &Text,
+    text: &str,
     shape: &Option<Value>,
 ) -> Result<KeptLayout, Halt>
     requires { is_contiguous_layout layout.now ≡ true }
@@ -161,6 +222,44 @@ fn layout_in_shape(
         Some(Value::List(parts)) => shaped_layout_of(alloc, layout, text, parts.as_slice()),
         Some(_) => Err(Halt::Refused(Fault::Kind)),
     }
+}
+
+/// A view of the bytes of a view, with items of another format in one dimension. The answer is its number.
+pub fn add_flat(parts: &mut Parts, view: usize, format: &str) -> Result<usize, Halt>
+    requires { IsWhole parts.old }
+    ensures answer { Answers (spec.cast_of_view (exporter_of parts.old) view (values.One (scalars.Text format.now)) None) (exporter_of parts.old) (result_map_both replies.View (λ halt. halt) result) (exporter_of parts.new) }
+    ensures counted { parts.new.exports ≡ exports_of (exporter_of parts.new) }
+{
+    let layout = parts.live_layout(view)?;
+    if !layout.is_contiguous() {
+        return Err(Halt::Refused(Fault::Kind));
+    }
+    let layout = flat_layout_of(parts.alloc, layout, format)?;
+    let number = parts.views.len();
+    parts.add_view(layout)?;
+    Ok(number)
+}
+
+/// A view of the bytes of a view, with items of another format in the dimensions of a shape. The answer is its
+/// number.
+pub fn add_shaped(
+    parts: &mut Parts,
+    view: usize,
+    format: &str,
+    shape: &[usize],
+) -> Result<usize, Halt>
+    requires { IsWhole parts.old }
+    ensures answer { Answers (spec.cast_of_view (exporter_of parts.old) view (values.One (scalars.Text format.now)) (Some (values.Tuple (map (λ n. scalars.Int (pos n)) shape.now)))) (exporter_of parts.old) (result_map_both replies.View (λ halt. halt) result) (exporter_of parts.new) }
+    ensures counted { parts.new.exports ≡ exports_of (exporter_of parts.new) }
+{
+    let layout = parts.live_layout(view)?;
+    if !layout.is_contiguous() {
+        return Err(Halt::Refused(Fault::Kind));
+    }
+    let layout = shaped_layout_by(parts.alloc, layout, format, shape)?;
+    let number = parts.views.len();
+    parts.add_view(layout)?;
+    Ok(number)
 }
 
 /// A view of the bytes of a view, with items of another format, in one dimension or in those of a
@@ -180,6 +279,6 @@ pub fn of_view(
         return Err(Halt::Refused(Fault::Kind));
     }
     let text = text_in(format)?;
-    let layout = layout_in_shape(parts.alloc, layout, text, shape)?;
+    let layout = layout_in_shape(parts.alloc, layout, text.as_str(), shape)?;
     parts.add_view(layout)
 }

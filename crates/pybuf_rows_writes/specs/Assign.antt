@@ -1,6 +1,7 @@
 -- `set` of a view by a slice: the items that the slice picks get the bytes of as many other items, as
 -- these were before the command.
 use Rattle.std.specs.Prelude.{ℕ, ◌==◌, Bool, ◌&&◌, not, List, [], ◌∷◌, length, slice_index, bytes_eq, Option, Some, None, Result, Ok, Err}
+use Rattle.std.specs.Option.{ok_or}
 use Rattle.pybuf_value.specs.declared.faults.Fault.{Fault}
 use Rattle.pybuf_value.specs.declared.faults.Fault.TheVariants as fault
 use Rattle.pybuf_value.specs.declared.values.Value.{Value}
@@ -19,7 +20,7 @@ use Rattle.pybuf_command.specs.declared.commands.LocalReply.TheVariants as reply
 use Rattle.pybuf_memoryview.specs.Fits.{is_row_of}
 use Rattle.pybuf_memoryview.specs.Items.{has_dimensions, is_none}
 use Rattle.pybuf_state.specs.Exporter.{Exporter, new_exporter, live_layout}
-use Rattle.pybuf_state.specs.Loans.{Lent}
+use Rattle.pybuf_state.specs.Loans.{Lent, lent_as}
 use Rattle.pybuf_state.specs.Snaps.{snap_of_exporter}
 use Rattle.pybuf_rows_writes.specs.Laid.{laid}
 
@@ -86,3 +87,9 @@ abbrev pub assign_of_view : Exporter → ℕ → PySlice → Value → List Lent
 assign_of_view e k slice value lents = do
   target ← assign_target e k slice value
   assigned_of_value e target value lents
+
+-- the same with what is lent for a handle by itself, if it is there
+abbrev pub assign_of_lent : Exporter → ℕ → PySlice → Option Snap → Result (Exporter × LocalReply) Fault
+assign_of_lent e k slice lent = do
+  snap ← ok_or lent fault.UnknownName
+  assign_of_view e k slice (value.One (scalar.Handle 0)) (lent_as 0 None (Some snap))

@@ -1,9 +1,14 @@
 //! `set` of a view by a slice: items are copied over those that the slice picks.
 ghost use Rattle.std.specs.Prelude.{◌≡◌, [], ◌∷◌, true, false, length, codes, Some, Ok, Err, IfOk, MatchResult};
+ghost use Rattle.std.specs.Result.{result_map_both};
 ghost use Rattle.pybuf_value.specs.Halting.{Gives};
+ghost use Rattle.pybuf_value.specs.declared.values.Scalar.TheVariants as scalars;
+ghost use Rattle.pybuf_value.specs.declared.values.Value.TheVariants as values;
+ghost use Rattle.pybuf_command.specs.declared.commands.LocalReply.TheVariants as replies;
 ghost use Rattle.pybuf_value.specs.Snaps.{is_iterator};
 ghost use Rattle.pybuf_desc.specs.Layouts.{Layout, LiesInside};
 ghost use Rattle.pybuf_command.specs.declared.kinds.ExporterKind.{ExporterKind};
+ghost use Rattle.pybuf_command.specs.declared.kinds.ExporterKind.TheVariants as kinds;
 ghost use Rattle.pybuf_command.specs.declared.kinds.Subject.TheVariants as subjects;
 ghost use Rattle.pybuf_command.specs.Handles.{handle_of_value};
 ghost use Rattle.pybuf_memoryview.specs.Fits.{fits_snap};
@@ -23,19 +28,16 @@ use pybuf_memoryview::{KeptLayout, content_of, first_place, is_byte_format, is_n
 use pybuf_state::{Meaning, Names, Other, Parts};
 use pybuf_value::{Fault, Halt, PySlice, Scalar, Snap, Value};
 
-/// The layout of the items that are written.
-fn target(parts: &Parts, view: usize, slice: &PySlice, value: &Value) -> Result<KeptLayout, Halt>
+/// The layout of the items that something is written over, which isn't `None`.
+fn written(parts: &Parts, view: usize, slice: &PySlice) -> Result<KeptLayout, Halt>
     requires { IsWhole parts.now }
-    ensures exact { Gives (spec.assign_target (exporter_of parts.now) view slice.now value.now) result }
+    ensures exact { Gives (spec.assign_target (exporter_of parts.now) view slice.now (values.One scalars.Ellipsis)) result }
     ensures one_dimension { IfOk result (λ target. length target.shape ≡ 1) }
     ensures inside { IfOk result (λ target. LiesInside (length parts.now.bytes.items) target) }
 {
     pybuf_desc::slices_stay_inside();
     let layout = parts.live_layout(view)?;
     if layout.is_readonly() {
-        return Err(Halt::Refused(Fault::Kind));
-    }
-    if is_none(value) {
         return Err(Halt::Refused(Fault::Kind));
     }
     if layout.ndim() == 0 {
@@ -47,6 +49,20 @@ fn target(parts: &Parts, view: usize, slice: &PySlice, value: &Value) -> Result<
     let slice = SaturatedSlice::with_slice(slice)?;
     let target = layout.sliced(parts.alloc, slice)?;
     Ok(target)
+}
+
+/// The layout of the items that a value is written over.
+fn target(parts: &Parts, view: usize, slice: &PySlice, value: &Value) -> Result<KeptLayout, Halt>
+    requires { IsWhole parts.now }
+    ensures exact { Gives (spec.assign_target (exporter_of parts.now) view slice.now value.now) result }
+    ensures one_dimension { IfOk result (λ target. length target.shape ≡ 1) }
+    ensures inside { IfOk result (λ target. LiesInside (length parts.now.bytes.items) target) }
+{
+    if is_none(value) {
+        parts.live_layout(view)?;
+        return Err(Halt::Refused(Fault::Kind));
+    }
+    written(parts, view, slice)
 }
 
 /// Whether items have the format, the item size and the shape of those that are written.
@@ -83,6 +99,7 @@ fn from_bytes(parts: &mut Parts, target: &KeptLayout, bytes: &[u8]) -> Result<Lo
     requires one_dimension { length target.now.shape ≡ 1 }
     requires inside { LiesInside (length parts.old.bytes.items) target.now }
     ensures answer { (kind : ExporterKind) → Answers (spec.assigned (exporter_of parts.old) target.now (snap_of_exporter (new_exporter kind bytes.now))) (exporter_of parts.old) result (exporter_of parts.new) }
+    ensures as_bytes { Answers (spec.assigned (exporter_of parts.old) target.now (snap_of_exporter (new_exporter kinds.Bytes bytes.now))) (exporter_of parts.old) result (exporter_of parts.new) }
     ensures counted { parts.new.exports ≡ exports_of (exporter_of parts.new) }
 {
     if !takes_bytes(target, bytes.len()) {
@@ -301,4 +318,52 @@ pub fn of_view<N: Names>(
 {
     let target = target(parts, view, slice, value)?;
     from_value(parts, &target, value, names)
+}
+
+/// Copies bytes over the items that a slice of a view picks.
+pub fn put_bytes(parts: &mut Parts, view: usize, slice: &PySlice, bytes: &[u8]) -> Result<(), Halt>
+    requires { IsWhole parts.old }
+    ensures answer { Answers (spec.assign_of_view (exporter_of parts.old) view slice.now (values.One (scalars.Bytes bytes.now)) []) (exporter_of parts.old) (result_map_both (λ _. replies.Ok) (λ halt. halt) result) (exporter_of parts.new) }
+    ensures counted { parts.new.exports ≡ exports_of (exporter_of parts.new) }
+{
+    let target = written(parts, view, slice)?;
+    from_bytes(parts, &target, bytes)?;
+    Ok(())
+}
+
+/// Copies the items of a view of another exporter, from where they lie, over those that a slice of a view picks. No
+/// byte is copied between, and no memory is taken for them.
+pub fn put_from(
+    parts: &mut Parts,
+    view: usize,
+    slice: &PySlice,
+    lender: &Parts,
+    source: usize,
+) -> Result<(), Halt>
+    requires whole { IsWhole parts.old }
+    requires lender_whole { IsWhole lender.now }
+    ensures answer { Answers (spec.assign_of_lent (exporter_of parts.old) view slice.now (snap_of_subject (exporter_of lender.now) (subjects.View source))) (exporter_of parts.old) (result_map_both (λ _. replies.Ok) (λ halt. halt) result) (exporter_of parts.new) }
+    ensures counted { parts.new.exports ≡ exports_of (exporter_of parts.new) }
+{
+    lender.view(source)?;
+    let target = written(parts, view, slice)?;
+    from_view_across(parts, &target, lender, source)?;
+    Ok(())
+}
+
+/// The same of a view of the exporter itself: the items are as they were before the first is written.
+pub fn put_within(
+    parts: &mut Parts,
+    view: usize,
+    slice: &PySlice,
+    source: usize,
+) -> Result<(), Halt>
+    requires { IsWhole parts.old }
+    ensures answer { Answers (spec.assign_of_lent (exporter_of parts.old) view slice.now (snap_of_subject (exporter_of parts.old) (subjects.View source))) (exporter_of parts.old) (result_map_both (λ _. replies.Ok) (λ halt. halt) result) (exporter_of parts.new) }
+    ensures counted { parts.new.exports ≡ exports_of (exporter_of parts.new) }
+{
+    parts.view(source)?;
+    let target = written(parts, view, slice)?;
+    from_view(parts, &target, source)?;
+    Ok(())
 }

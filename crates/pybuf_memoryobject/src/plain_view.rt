@@ -1,0 +1,178 @@
+//! `PyMemoryView` by plain arguments: each call makes no value, no loan and no reply.
+ghost use Rattle.std.specs.Prelude.{◌≡◌, ◌×◌, [], map, pos, None, Some};
+ghost use Rattle.std.specs.Result.{result_map_both};
+ghost use Rattle.pybuf_value.specs.declared.values.PySlice as slices;
+ghost use Rattle.pybuf_value.specs.declared.values.Scalar.TheVariants as scalars;
+ghost use Rattle.pybuf_value.specs.declared.values.Value.TheVariants as values;
+ghost use Rattle.pybuf_command.specs.declared.kinds.Subject.TheVariants as subjects;
+ghost use Rattle.pybuf_command.specs.declared.commands.LocalReply.TheVariants as replies;
+ghost use Rattle.pybuf_command.specs.declared.commands.PropertyName.TheVariants as names;
+ghost use Rattle.pybuf_state.specs.Answers.{Answers, Reads};
+ghost use Rattle.pybuf_state.specs.Snaps.{snap_of_subject};
+ghost use Rattle.pybuf_rows_views.specs.View.{view_of_own};
+ghost use Rattle.pybuf_rows_views.specs.Slice.{slice_of_view};
+ghost use Rattle.pybuf_rows_views.specs.Cast.{cast_of_view};
+ghost use Rattle.pybuf_rows_views.specs.Release.{release_of_view};
+ghost use Rattle.pybuf_rows_reads.specs.Get.{item_of_view};
+ghost use Rattle.pybuf_rows_reads.specs.ToBytes.{bytes_of_view};
+ghost use Rattle.pybuf_rows_reads.specs.Property.{property_of_view};
+ghost use Rattle.pybuf_command.specs.declared.commands.Verb.TheVariants as verbs;
+ghost use Rattle.pybuf_exporter.specs.Step.{estep};
+ghost use Rattle.pybuf_exporter.specs.Telling.{TellsRefusal};
+ghost use Rattle.pybuf_rows_writes.specs.Assign.{assign_of_view, assign_of_lent};
+
+use crate::memory_view::PyMemoryView;
+use pybuf_exporter::ExporterState;
+use pybuf_value::{Halt, Item, PySlice};
+
+impl PyMemoryView {
+    /// A memoryview of all bytes of an exporter, as Python's `memoryview(object)`. Never refused.
+    pub fn of_all(state: &mut ExporterState) -> Result<PyMemoryView, Halt>
+        ensures { Answers (view_of_own state.old) state.old (result_map_both replies.View (λ halt. halt) result) state.new }
+    {
+        let number = state.add_whole()?;
+        Ok(PyMemoryView::of(number))
+    }
+
+    /// A memoryview of the items that a slice picks along the first dimension, as Python's `view[1:4]`: a range of
+    /// Rust, or `PySlice::new(start, stop, step)`. It shares the bytes.
+    ///
+    /// Refused with `ValueError` for a released view, then with `TypeError` where it has no dimension, and then with
+    /// `ValueError` for a step of 0.
+    pub fn slice<S: Into<PySlice>>(
+        &self,
+        state: &mut ExporterState,
+        slice: S,
+    ) -> Result<PyMemoryView, Halt>
+        ensures { (s : slices.PySlice) × S.converts slice s × Answers (slice_of_view state.old self.now s) state.old (result_map_both replies.View (λ halt. halt) result) state.new }
+    {
+        let number = state.add_slice(self.number(), &slice.into())?;
+        Ok(PyMemoryView::of(number))
+    }
+
+    /// The item at an index, as Python's `view[index]`, where a negative index counts from the end.
+    ///
+    /// Refused with `ValueError` for a released view, then with `TypeError` where it has no dimension and with
+    /// `NotImplementedError` where it has several, and then with `IndexError` out of range.
+    pub fn index(&self, state: &ExporterState, index: isize) -> Result<Item, Halt>
+        ensures { Reads (item_of_view state.now self.now (values.One (scalars.Int index))) state.now (result_map_both replies.Item (λ halt. halt) result) }
+    {
+        state.item(self.number(), index)
+    }
+
+    /// Writes a number as the item at an index, as Python's `view[index] = number`. All views of these bytes see it.
+    ///
+    /// Refused with `ValueError` for a released view, then with `TypeError` where it may only be read, then as `index`
+    /// refuses the index, and then with `TypeError` where the format of the items doesn't take the number.
+    pub fn set(&self, state: &mut ExporterState, index: isize, number: i128) -> Result<(), Halt>
+        ensures { TellsRefusal (estep state.old (subjects.View self.now) (verbs.Set (values.One (scalars.Int index)) (values.One (scalars.Int number))) []) state.old result state.new }
+    {
+        state.put_number(self.number(), index, number)
+    }
+
+    /// The bytes of the items, with the last dimension running fastest, as Python's `view.tobytes()`.
+    ///
+    /// Refused with `ValueError` for a released view.
+    pub fn to_vec(&self, state: &ExporterState) -> Result<Vec<u8>, Halt>
+        ensures { Reads (bytes_of_view state.now self.now) state.now (result_map_both (λ bytes. replies.Bytes bytes.items) (λ halt. halt) result) }
+    {
+        state.content(self.number())
+    }
+
+    /// A memoryview of the same bytes, with items of another format in one dimension, as Python's
+    /// `view.cast(format)`. It is refused as `cast` is.
+    pub fn cast_to(&self, state: &mut ExporterState, format: &str) -> Result<PyMemoryView, Halt>
+        ensures { Answers (cast_of_view state.old self.now (values.One (scalars.Text format.now)) None) state.old (result_map_both replies.View (λ halt. halt) result) state.new }
+    {
+        let number = state.add_cast(self.number(), format)?;
+        Ok(PyMemoryView::of(number))
+    }
+
+    /// The same in the dimensions of a shape, as Python's `view.cast(format, shape)`. It is refused as `cast` is.
+    pub fn cast_shape(
+        &self,
+        state: &mut ExporterState,
+        format: &str,
+        shape: &[usize],
+    ) -> Result<PyMemoryView, Halt>
+        ensures { Answers (cast_of_view state.old self.now (values.One (scalars.Text format.now)) (Some (values.Tuple (map (λ n. scalars.Int (pos n)) shape.now)))) state.old (result_map_both replies.View (λ halt. halt) result) state.new }
+    {
+        let number = state.add_shaped_cast(self.number(), format, shape)?;
+        Ok(PyMemoryView::of(number))
+    }
+
+    /// The number of entries of each dimension, as Python's `view.shape`.
+    ///
+    /// Refused with `ValueError` for a released view.
+    pub fn shape_vec(&self, state: &ExporterState) -> Result<Vec<usize>, Halt>
+        ensures { Reads (property_of_view state.now self.now names.Shape) state.now (result_map_both (λ shape. replies.Numbers (map (λ n. pos n) shape.items)) (λ halt. halt) result) }
+    {
+        state.shape(self.number())
+    }
+
+    /// How many bytes it is from one entry to the next, for each dimension, as Python's `view.strides`.
+    ///
+    /// Refused with `ValueError` for a released view.
+    pub fn strides_vec(&self, state: &ExporterState) -> Result<Vec<isize>, Halt>
+        ensures { Reads (property_of_view state.now self.now names.Strides) state.now (result_map_both (λ strides. replies.Numbers strides.items) (λ halt. halt) result) }
+    {
+        state.strides(self.number())
+    }
+
+    /// Writes bytes over the items that a slice picks, as Python's `view[1:4] = bytes`.
+    ///
+    /// Refused with `ValueError` for a released view, then with `TypeError` where it may only be read or has no
+    /// dimension, with `NotImplementedError` where it has several, and with `ValueError` for a step of 0, for items of
+    /// another format than `B` and where the bytes are not as many as the items.
+    pub fn assign<S: Into<PySlice>>(
+        &self,
+        state: &mut ExporterState,
+        slice: S,
+        bytes: &[u8],
+    ) -> Result<(), Halt>
+        ensures { (s : slices.PySlice) × S.converts slice s × Answers (assign_of_view state.old self.now s (values.One (scalars.Bytes bytes.now)) []) state.old (result_map_both (λ _. replies.Ok) (λ halt. halt) result) state.new }
+    {
+        state.assign_bytes(self.number(), &slice.into(), bytes)
+    }
+
+    /// Writes the items of a view of another exporter over those that a slice picks, as Python's `view[1:4] = other`.
+    /// They are copied from where they lie: no byte is copied between, and no memory is taken for them.
+    ///
+    /// Refused with `UnknownName` where the other view was never given; then as `assign` refuses the view and the
+    /// slice; and then with `ValueError` where the other view was released, or has items of another format or size, or
+    /// another shape than the items that the slice picks.
+    pub fn assign_from<S: Into<PySlice>>(
+        &self,
+        state: &mut ExporterState,
+        slice: S,
+        other_state: &ExporterState,
+        other: &PyMemoryView,
+    ) -> Result<(), Halt>
+        ensures { (s : slices.PySlice) × S.converts slice s × Answers (assign_of_lent state.old self.now s (snap_of_subject other_state.now (subjects.View other.now))) state.old (result_map_both (λ _. replies.Ok) (λ halt. halt) result) state.new }
+    {
+        state.assign_across(self.number(), &slice.into(), other_state, other.number())
+    }
+
+    /// The same of a view of the same exporter, also where the two overlap: its items count as they were before the
+    /// first is written.
+    pub fn assign_within<S: Into<PySlice>>(
+        &self,
+        state: &mut ExporterState,
+        slice: S,
+        other: &PyMemoryView,
+    ) -> Result<(), Halt>
+        ensures { (s : slices.PySlice) × S.converts slice s × Answers (assign_of_lent state.old self.now s (snap_of_subject state.old (subjects.View other.now))) state.old (result_map_both (λ _. replies.Ok) (λ halt. halt) result) state.new }
+    {
+        state.assign_within(self.number(), &slice.into(), other.number())
+    }
+
+    /// Releases the view, as Python's `view.release()`. Releasing it again changes nothing. Takes no memory.
+    ///
+    /// Refused with `UnknownName` where no such view was given.
+    pub fn try_release(&self, state: &mut ExporterState) -> Result<(), Halt>
+        ensures { Answers (release_of_view state.old self.now) state.old (result_map_both (λ _. replies.Ok) (λ halt. halt) result) state.new }
+    {
+        state.release_view(self.number())?;
+        Ok(())
+    }
+}
