@@ -1,5 +1,5 @@
-//! Things that are asked often, as the pages show them beside Python's.
-use pybuf_view::{ByteStr, FormatSpec, PyByteArray};
+//! Five things that are asked often, as the pages show them beside Python's.
+use pybuf_view::{ByteStr, FormatSpec, PyByteArray, PyMemoryView};
 use std::test::Fail;
 
 #[test]
@@ -7,6 +7,16 @@ fn a_byte_is_added(rt: HostRuntime) -> Result<(), Fail> {
     let mut array = PyByteArray::from_slice(rt.alloc(), b"abc")?;
     array.push(100)?;
     assert_eq!(rt; array.as_slice(), b"abcd".as_slice());
+    Ok(())
+}
+
+#[test]
+fn a_part_is_read_through_a_view(rt: HostRuntime) -> Result<(), Fail> {
+    let mut array = PyByteArray::from_slice(rt.alloc(), b"abcdef")?;
+    let view = PyMemoryView::of_all(array.state_mut())?;
+    let part = view.slice(array.state_mut(), 1..4)?;
+    let bytes = part.to_vec(array.state())?;
+    assert_eq!(rt; bytes.as_slice(), b"bcd".as_slice());
     Ok(())
 }
 
@@ -23,4 +33,15 @@ fn a_record_is_unpacked(rt: HostRuntime) -> Result<(), Fail> {
 fn a_place_is_found(rt: HostRuntime) {
     let place = ByteStr::new(b"key=value").find(b"=", None, None);
     assert_eq!(rt; place, Some(3));
+}
+
+#[test]
+fn items_of_another_object_are_assigned(rt: HostRuntime) -> Result<(), Fail> {
+    let mut array = PyByteArray::from_slice(rt.alloc(), b"abcdef")?;
+    let mut other = PyByteArray::from_slice(rt.alloc(), b"XYZ")?;
+    let target = PyMemoryView::of_all(array.state_mut())?;
+    let source = PyMemoryView::of_all(other.state_mut())?;
+    target.assign_from(array.state_mut(), 2..5, other.state(), &source)?;
+    assert_eq!(rt; array.as_slice(), b"abXYZf".as_slice());
+    Ok(())
 }
