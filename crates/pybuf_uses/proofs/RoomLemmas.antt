@@ -4,12 +4,12 @@ use Rattle.std.specs.Char.{to_ascii_uppercase}
 use Rattle.std.proofs.lemmas.List.{length-map, drop-drop, take-append-le, drop-append-le, length-take-le, drop-take, length-take, take-append-drop}
 use Rattle.std.proofs.Math.Seq.{take-append_seam, take-append-add, drop-append_seam}
 use Rattle.std.proofs.lemmas.List.Quantifiers.{position-Some}
-use Rattle.std.specs.Prelude.{◌==◌, []}
+use Rattle.std.specs.Prelude.{◌==◌, [], Option, None}
 use Rattle.std.specs.List.{copy_within}
 use Rattle.std.proofs.Common.{refl}
 use Rattle.pybuf_state.specs.Exporter.{Exporter}
 use Rattle.pybuf_exporter.specs.Lending.{overwritten_exporter}
-use Rattle.pybuf_uses.specs.Lines.{Lines, overwritten, lines_in, received, answered, answered_at, answer_of, line_len_of, sent}
+use Rattle.pybuf_uses.specs.Lines.{Lines, overwritten, lines_in, received, answered, answered_at, answer_of, line_len_of, line_at, next_line, sent}
 
 -- a part from the front on, and what stands behind it
 split_at : (xs : List ℕ) (i j : ℕ) → i ≤ j → drop i (take j xs) ≡ slice_range xs i j
@@ -112,6 +112,18 @@ line_inside room begin end len found =
     let at : len < length (slice_range room begin end) = (position-Some (λ byte. byte == 10) (slice_range room begin end) len 0 found).0 in
     let most : length (slice_range room begin end) ≤ end - begin = omega (arith, length-take (end - begin) (drop begin room)) in
     omega arith
+
+found_by : (waiting line : List ℕ) (len : Option ℕ) → line_len_of waiting ≡ len → line_at waiting len ≡ Some line → line_len_of waiting ≡ Some (length line)
+found_by waiting line None is found = absurd cc
+found_by waiting line (Some len) is found =
+    let at : len < length waiting = (position-Some (λ byte. byte == 10) waiting len 0 is).0 in
+    let same : take len waiting ≡ line = cc in
+    let long : len ≡ length line = sym (length-take-le len waiting (omega (arith, at))) ∙ ap (λ xs. length xs) same in
+    is ∙ ap Some long
+
+-- how many bytes stand before the first line feed is how many the first line has
+pub line_found : (b : Lines) (line : List ℕ) → next_line b ≡ Some line → line_len_of b.waiting ≡ Some (length line)
+line_found b line found = found_by b.waiting line (line_len_of b.waiting) refl found
 
 -- as many bytes in place of all
 pub kept : (e : Exporter) (new : List ℕ) → length new ≡ length e.bytes → (overwritten_exporter e new).bytes ≡ new

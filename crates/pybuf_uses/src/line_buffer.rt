@@ -63,8 +63,7 @@ impl LineBuffer {
         ensures { MatchOption result (next_line self.now ≡ None) (λ line. next_line self.now ≡ Some line.now) }
     {
         let waiting = &self.room.as_slice()[self.begin..self.end];
-        let len = place_of_byte(waiting, b'\n')?;
-        Some(&waiting[..len])
+        Some(&waiting[..place_of_byte(waiting, b'\n')?])
     }
 
     /// Answers that line: its answer lies in its place then. Without such a line nothing is done.
@@ -72,11 +71,10 @@ impl LineBuffer {
         ensures value { result ≡ is_some (next_line self.old) }
         ensures after { self.new ≡ answered self.old }
     {
-        let waiting = &self.room.as_slice()[self.begin..self.end];
-        let Some(len) = place_of_byte(waiting, b'\n') else {
+        let Some(line) = self.line() else {
             return false;
         };
-        let end = self.begin + len + 1;
+        let end = self.begin + line.len() + 1;
         let room = self.room.state_mut().contiguous_bytes_mut(self.view);
         room[self.begin..end].make_ascii_uppercase();
         self.begin = end;
