@@ -1,7 +1,6 @@
 -- Numbers of two bytes each.
-use Rattle.std.proofs.Common.{◌≡◌, ℕ, suc, zero, ◌+◌, ◌*◌, ◌<◌, ◌/◌, ◌%◌, ◌^◌, List, [], ◌∷◌, ◌++◌, length, refl, ap, sym, ◌∙◌, arith, slice_index, slice_get, set, Some}
+use Rattle.std.proofs.Common.{◌≡◌, ℕ, suc, zero, ◌+◌, ◌*◌, ◌<◌, ◌/◌, ◌%◌, ◌^◌, List, [], ◌∷◌, ◌++◌, length, refl, ap, sym, ◌∙◌, arith, slice_index, slice_get, set, Some, take, drop, get_or, length-set}
 use Rattle.std.proofs.Math.Nat.{mod-eq_of_lt}
-use Rattle.std.proofs.Common.{take, drop, get_or, length-set, subst, ◌≤◌, ◌-◌}
 use Rattle.std.proofs.Math.Seq.{take-append_seam}
 use Rattle.std.specs.Simd.{first_chunks}
 use Rattle.pybuf_state.specs.Exporter.{Exporter}
@@ -18,13 +17,6 @@ twice i = omega arith
 
 twice_more : (i : ℕ) → 2 * suc i + 1 ≡ suc (suc (2 * i + 1))
 twice_more i = omega arith
-
--- the number at an index is that of its two bytes
-pub number_at : (bytes : List ℕ) (i : ℕ) → i < length (numbers_of bytes) → slice_get (numbers_of bytes) i ≡ Some (slice_index bytes (2 * i) + 256 * slice_index bytes (2 * i + 1))
-number_at [] i inside = absurd (omega arith)
-number_at (b ∷ []) i inside = absurd (omega arith)
-number_at (a ∷ b ∷ bytes) zero inside = refl
-number_at (a ∷ b ∷ bytes) (suc i) inside = rw (twice_more i, twice i) (number_at bytes i (omega arith))
 
 -- other bytes in the place of two are another number in the place of theirs
 pub numbers_of-set : (bytes : List ℕ) (i low high : ℕ) → i < length (numbers_of bytes) → numbers_of (set (set bytes (2 * i) low) (2 * i + 1) high) ≡ set (numbers_of bytes) i (low + 256 * high)

@@ -1,12 +1,11 @@
 -- Bytes in place of others in a room.
-use Rattle.std.proofs.Common.{◌≡◌, ℕ, ◌+◌, ◌-◌, ◌≤◌, ◌<◌, List, ◌++◌, length, take, drop, arith, ap, sym, ◌∙◌, append_assoc, length-append, length-drop, slice_range, Some}
+use Rattle.std.proofs.Common.{◌≡◌, ℕ, ◌+◌, ◌-◌, ◌≤◌, ◌<◌, List, ◌++◌, length, take, drop, arith, ap, sym, ◌∙◌, append_assoc, length-append, length-drop, slice_range, refl, Some}
 use Rattle.std.specs.Char.{to_ascii_uppercase}
 use Rattle.std.proofs.lemmas.List.{length-map, drop-drop, take-append-le, drop-append-le, length-take-le, drop-take, length-take, take-append-drop}
 use Rattle.std.proofs.Math.Seq.{take-append_seam, take-append-add, drop-append_seam}
 use Rattle.std.proofs.lemmas.List.Quantifiers.{position-Some}
 use Rattle.std.specs.Prelude.{◌==◌, [], Option, None}
 use Rattle.std.specs.List.{copy_within}
-use Rattle.std.proofs.Common.{refl}
 use Rattle.pybuf_state.specs.Exporter.{Exporter}
 use Rattle.pybuf_exporter.specs.Lending.{overwritten_exporter}
 use Rattle.pybuf_uses.specs.Lines.{Lines, overwritten, lines_in, received, answered, answered_at, answer_of, line_len_of, line_at, next_line, sent}

@@ -1,5 +1,5 @@
 -- A view that spans all bytes.
-use Rattle.std.proofs.Common.{◌≡◌, ℕ, suc, zero, ◌≤◌, true, false, List, ◌++◌, length, drop, refl, arith, ap, sym, subst, ◌∙◌, length-append, length-drop}
+use Rattle.std.proofs.Common.{◌≡◌, ℕ, suc, zero, ◌≤◌, true, false, List, ◌++◌, length, drop, refl, arith, ap, ◌∙◌, length-append, length-drop}
 use Rattle.std.specs.Prelude.{slice_index}
 use Rattle.std.specs.List.{range_with_len}
 use Rattle.std.proofs.lemmas.List.{take-append-le}

@@ -1,4 +1,4 @@
-use Rattle.std.proofs.Common.{◌≡◌, ◌∙◌, ◌+◌, ap, length, slice_range, arith}
+use Rattle.std.proofs.Common.{◌∙◌, ◌+◌, ap, length, slice_range, arith}
 use Rattle.pybuf_uses.specs.Lines.{lines_in, line_len_of, answer_of}
 use Rattle.pybuf_uses.proofs.SpanLemmas.{lent_writable, lent_content, lent_written}
 use Rattle.pybuf_uses.proofs.RoomLemmas.{answered_now, answer_ends, line_found, line_inside, part_overwritten}

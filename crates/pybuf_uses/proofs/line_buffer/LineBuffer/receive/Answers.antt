@@ -1,4 +1,4 @@
-use Rattle.std.proofs.Common.{◌≡◌, ◌∙◌, ◌+◌, ap, length, arith}
+use Rattle.std.proofs.Common.{◌∙◌, ◌+◌, ap, length, arith}
 use Rattle.std.proofs.lemmas.List.{length-take-le}
 use Rattle.pybuf_uses.specs.Lines.{lines_in}
 use Rattle.pybuf_uses.proofs.SpanLemmas.{lent_writable, lent_content, lent_written}

@@ -1,4 +1,4 @@
-use Rattle.std.proofs.Common.{◌≡◌, ◌∙◌, sym, ap, length, arith}
+use Rattle.std.proofs.Common.{◌∙◌, arith}
 use Rattle.pybuf_uses.proofs.NumberLemmas.{put_sound, put_shown}
 use Rattle.pybuf_uses.proofs.number_array.NumberArray.set.Goals as goal
 
