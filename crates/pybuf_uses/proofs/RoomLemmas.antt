@@ -4,7 +4,7 @@ use Rattle.std.specs.Char.{to_ascii_uppercase}
 use Rattle.std.proofs.lemmas.List.{length-map, drop-drop, take-append-le, drop-append-le, length-take-le, drop-take, length-take, take-append-drop}
 use Rattle.std.proofs.Math.Seq.{take-append_seam, take-append-add, drop-append_seam}
 use Rattle.std.proofs.lemmas.List.Quantifiers.{position-Some}
-use Rattle.std.specs.Prelude.{◌==◌, [], Option, None}
+use Rattle.std.specs.Prelude.{◌==◌, Option, None}
 use Rattle.std.specs.List.{copy_within}
 use Rattle.pybuf_state.specs.Exporter.{Exporter}
 use Rattle.pybuf_exporter.specs.Lending.{overwritten_exporter}
