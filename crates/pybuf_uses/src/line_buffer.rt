@@ -1,7 +1,7 @@
 //! The lines that come in over a socket, which are answered where they lie.
 ghost use Rattle.std.specs.Prelude.{◌≡◌, length, min, take, is_some, IfOk, MatchOption};
 
-use pybuf_view::{Answer, Halt, PyByteArray, PyMemoryView, Subject, place_of_byte};
+use pybuf_view::{Halt, PyByteArray, PyMemoryView, place_of_byte};
 use std::alloc::Global;
 use std::marker::Model;
 
@@ -36,8 +36,8 @@ impl LineBuffer {
     pub fn new(alloc: Global, size: usize) -> Result<LineBuffer, Halt>
         ensures { IfOk result (λ buffer. buffer ≡ empty_lines size) }
     {
-        let mut room = PyByteArray::from_vec(alloc, vec![in alloc; 0u8; size]?);
-        let view = PyMemoryView::from_object(alloc, room.state_mut(), Subject::Own).done()?;
+        let mut room = PyByteArray::from(vec![in alloc; 0u8; size]?);
+        let view = PyMemoryView::of_all(room.state_mut())?;
         Ok(LineBuffer {
             room,
             view: view.number(),

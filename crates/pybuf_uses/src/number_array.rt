@@ -3,7 +3,7 @@ ghost use Rattle.std.specs.Prelude.{◌≡◌, ◌↔◌, ◌<◌, ◌*◌, ◌+
 ghost use Rattle.pybuf_value.specs.declared.halt.Halt.{Halt};
 ghost use Rattle.pybuf_value.specs.declared.faults.Fault.{Fault};
 
-use pybuf_view::{Answer, ExporterState, Fault, Halt, PyByteArray, PyMemoryView, Subject};
+use pybuf_view::{ExporterState, Fault, Halt, PyByteArray, PyMemoryView};
 use std::alloc::Global;
 use std::marker::Model;
 
@@ -31,7 +31,7 @@ impl NumberArray {
     pub fn new(alloc: Global) -> NumberArray
         ensures { result ≡ no_numbers }
     {
-        NumberArray(PyByteArray::from_vec(alloc, Vec::new(alloc)))
+        NumberArray(PyByteArray::from(Vec::new(alloc)))
     }
 
     /// The exporter, from which the views that are lent are read.
@@ -92,12 +92,12 @@ impl NumberArray {
 
     /// A memoryview of all the numbers' bytes. It is out until it is given back. Where memory runs out, nothing
     /// is changed.
-    pub fn lend(&mut self, alloc: Global) -> Result<PyMemoryView, Halt>
+    pub fn lend(&mut self) -> Result<PyMemoryView, Halt>
         ensures view { IfOk result (λ view. view ≡ length self.old.out) }
         ensures ok { OnOk result (self.new ≡ record self.old { out = self.old.out ++ true ∷ [] }) }
         ensures err { OnErr result (self.new ≡ self.old) }
     {
-        PyMemoryView::from_object(alloc, self.0.state_mut(), Subject::Own).done()
+        PyMemoryView::of_all(self.0.state_mut())
     }
 
     /// Takes a view back. One that was taken back before changes nothing. Takes no memory.
