@@ -9,7 +9,7 @@ use std::test::Fail;
 fn numbers_grow_once_nothing_is_lent(rt: HostRuntime) -> Result<(), Fail> {
     let mut numbers = NumberArray::new(rt.alloc());
     numbers.push(258)?;
-    let view = numbers.lend(rt.alloc())?;
+    let view = numbers.lend()?;
     assert_eq!(rt; numbers.push(8), Err(Halt::Refused(Fault::Buffer)));
     numbers.give_back(view);
     numbers.push(8)?;
@@ -23,7 +23,7 @@ fn a_lent_view_shows_what_is_set(rt: HostRuntime) -> Result<(), Fail> {
     let alloc = rt.alloc();
     let mut numbers = NumberArray::new(alloc);
     numbers.push(258)?;
-    let view = PyBuffer::of(numbers.lend(alloc)?.number());
+    let view = PyBuffer::of(numbers.lend()?.number());
     assert!(rt; numbers.set(0, 513).is_ok());
     assert_eq!(rt; numbers.set(1, 513), Err(Fault::Index));
     assert!(rt; view.is_live(numbers.state()));

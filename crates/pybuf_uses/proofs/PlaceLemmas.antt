@@ -1,6 +1,6 @@
 -- The bytes of places one after the other.
 use Rattle.std.proofs.Common.{◌≡◌, ℕ, suc, zero, ◌+◌, List, [], ◌∷◌, ◌++◌, length, take, drop, refl, arith, ap, sym, ◌∙◌}
-use Rattle.std.specs.Prelude.{bytes_eq, true, map, Some, slice_get}
+use Rattle.std.specs.Prelude.{bytes_eq, true, map}
 use Rattle.std.proofs.Common.{◌*◌, subst}
 use Rattle.std.proofs.lemmas.Cmp.{nat_list_eq_equiv}
 use Rattle.std.proofs.lemmas.List.FromFn.{length-range_with_len}

@@ -1,13 +1,14 @@
 -- Bytes in place of others in a room.
-use Rattle.std.proofs.Common.{◌≡◌, ℕ, ◌+◌, ◌-◌, ◌≤◌, ◌<◌, List, ◌++◌, length, take, drop, arith, ap, sym, ◌∙◌, append_assoc, length-append, length-drop, slice_range, Some}
+use Rattle.std.proofs.Common.{◌≡◌, ℕ, ◌+◌, ◌-◌, ◌≤◌, ◌<◌, List, ◌++◌, length, take, drop, arith, ap, sym, ◌∙◌, append_assoc, length-append, length-drop, slice_range, refl, Some}
 use Rattle.std.specs.Char.{to_ascii_uppercase}
 use Rattle.std.proofs.lemmas.List.{length-map, drop-drop, take-append-le, drop-append-le, length-take-le, drop-take, length-take, take-append-drop}
 use Rattle.std.proofs.Math.Seq.{take-append_seam, take-append-add, drop-append_seam}
 use Rattle.std.proofs.lemmas.List.Quantifiers.{position-Some}
-use Rattle.std.specs.Prelude.{◌==◌}
+use Rattle.std.specs.Prelude.{◌==◌, Option, None}
+use Rattle.std.specs.List.{copy_within}
 use Rattle.pybuf_state.specs.Exporter.{Exporter}
 use Rattle.pybuf_exporter.specs.Lending.{overwritten_exporter}
-use Rattle.pybuf_uses.specs.Lines.{Lines, overwritten, lines_in, received, answered, answered_at, answer_of, line_len_of}
+use Rattle.pybuf_uses.specs.Lines.{Lines, overwritten, lines_in, received, answered, answered_at, answer_of, line_len_of, line_at, next_line, sent}
 
 -- a part from the front on, and what stands behind it
 split_at : (xs : List ℕ) (i j : ℕ) → i ≤ j → drop i (take j xs) ≡ slice_range xs i j
@@ -105,11 +106,23 @@ answered_in room begin end len ordered inside =
     (ap (λ n. n - end) (length-overwritten room answer begin (omega arith)))
 
 -- a line lies with its line feed in what is looked through
-line_inside : (room : List ℕ) (begin end len : ℕ) → line_len_of (slice_range room begin end) ≡ Some len → begin + len + 1 ≤ end
+pub line_inside : (room : List ℕ) (begin end len : ℕ) → line_len_of (slice_range room begin end) ≡ Some len → begin + len + 1 ≤ end
 line_inside room begin end len found =
     let at : len < length (slice_range room begin end) = (position-Some (λ byte. byte == 10) (slice_range room begin end) len 0 found).0 in
     let most : length (slice_range room begin end) ≤ end - begin = omega (arith, length-take (end - begin) (drop begin room)) in
     omega arith
+
+found_by : (waiting line : List ℕ) (len : Option ℕ) → line_len_of waiting ≡ len → line_at waiting len ≡ Some line → line_len_of waiting ≡ Some (length line)
+found_by waiting line None is found = absurd cc
+found_by waiting line (Some len) is found =
+    let at : len < length waiting = (position-Some (λ byte. byte == 10) waiting len 0 is).0 in
+    let same : take len waiting ≡ line = cc in
+    let long : len ≡ length line = sym (length-take-le len waiting (omega (arith, at))) ∙ ap (λ xs. length xs) same in
+    is ∙ ap Some long
+
+-- how many bytes stand before the first line feed is how many the first line has
+pub line_found : (b : Lines) (line : List ℕ) → next_line b ≡ Some line → line_len_of b.waiting ≡ Some (length line)
+line_found b line found = found_by b.waiting line (line_len_of b.waiting) refl found
 
 -- as many bytes in place of all
 pub kept : (e : Exporter) (new : List ℕ) → length new ≡ length e.bytes → (overwritten_exporter e new).bytes ≡ new
@@ -139,3 +152,39 @@ answered_now e new b begin end len was is found inside =
     ap (λ xs. lines_in xs (begin + len + 1) end) same
     ∙ (answered_in e.bytes begin end len ordered inside
     ∙ (ap (answered_at (lines_in e.bytes begin end)) (sym found) ∙ ap answered was))
+
+-- bytes in the place of a part
+pub part_overwritten : (room seen bytes copied : List ℕ) (from to : ℕ) → seen ≡ room → copied ≡ bytes → from + length bytes ≡ to
+    → take from seen ++ (copied ++ drop (to - from) (drop from seen)) ≡ overwritten room from bytes
+part_overwritten room seen bytes copied from to same copy ends =
+    let behind : from + (to - from) ≡ from + length bytes = omega arith in
+    ap (λ xs. take from xs ++ (copied ++ drop (to - from) (drop from xs))) same
+    ∙ (ap (λ xs. take from room ++ (xs ++ drop (to - from) (drop from room))) copy
+    ∙ ap (λ xs. take from room ++ (bytes ++ xs)) (drop-drop (to - from) from room ∙ ap (λ n. drop n room) behind))
+
+-- an answer is as long as its line
+pub answer_ends : (room : List ℕ) (from to : ℕ) → from ≤ to → to ≤ length room → from + length (answer_of (slice_range room from to)) ≡ to
+answer_ends room from to ordered inside =
+    let long : length (answer_of (slice_range room from to)) ≡ to - from = length-map (slice_range room from to) to_ascii_uppercase ∙ length-part room from to ordered inside in
+    omega arith
+
+-- a part that is moved to the front
+pub front_moved : (room seen new : List ℕ) (from to : ℕ) → seen ≡ room → new ≡ copy_within seen from to 0 → from ≤ to → to ≤ length room → new ≡ overwritten room 0 (slice_range room from to)
+front_moved room seen new from to same is ordered inside =
+    is ∙ (ap (λ xs. copy_within xs from to 0) same ∙ ap (λ n. slice_range room from to ++ drop (0 + n) room) (sym (length-part room from to ordered inside)))
+
+-- a buffer after its answers were sent
+pub sent_now : (e : Exporter) (new : List ℕ) (b : Lines) (begin end : ℕ) → lines_in e.bytes begin end ≡ b → new ≡ overwritten e.bytes 0 (slice_range e.bytes begin end)
+    → begin ≤ end → end ≤ length e.bytes → lines_in (overwritten_exporter e new).bytes 0 (end - begin) ≡ sent b
+sent_now e new b begin end was is ordered inside =
+    let part : List ℕ = slice_range e.bytes begin end in
+    let long : length part ≡ end - begin = length-part e.bytes begin end ordered inside in
+    let within : 0 + length part ≤ length e.bytes = omega arith in
+    let ends : end - begin ≡ 0 + length part = omega arith in
+    let front : length (take begin e.bytes) ≡ begin = length-take-le begin e.bytes (omega arith) in
+    let same : (overwritten_exporter e new).bytes ≡ overwritten e.bytes 0 part = kept e new (ap (λ xs. length xs) is ∙ length-overwritten e.bytes part 0 within) ∙ is in
+    ap (λ xs. lines_in xs 0 (end - begin)) same
+    ∙ (same_lines _ _ _ _ _ _ refl
+    (ap (λ n. slice_range (overwritten e.bytes 0 part) 0 n) ends ∙ part_with e.bytes part 0 0 (omega arith) (omega arith))
+    (omega (arith, length-overwritten e.bytes part 0 within, front))
+    ∙ ap sent was)

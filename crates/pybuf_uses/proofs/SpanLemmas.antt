@@ -40,3 +40,13 @@ pub spanned_written : (e : Exporter) (view : ℕ) → IsSpanned e view → (new 
 spanned_written e view spanned new =
     let at : slice_index (layout_of e view).starts 0 ≡ 0 = ap (λ l. slice_index l.starts 0) spanned.whole ∙ first_start (length e.bytes) in
     ap (λ place. written_from e place new) at ∙ written_first e new
+
+-- the same of an exporter that is lent on
+pub lent_writable : (e lent : Exporter) (view : ℕ) → IsSpanned e view → lent ≡ e → is_writable_run (layout_of lent view) ≡ true
+lent_writable e lent view spanned same = ap (λ x. is_writable_run (layout_of x view)) same ∙ spanned_writable e view spanned
+
+pub lent_content : (e lent : Exporter) (view : ℕ) → IsSpanned e view → lent ≡ e → content_of_layout lent.bytes (layout_of lent view) ≡ e.bytes
+lent_content e lent view spanned same = ap (λ x. content_of_layout x.bytes (layout_of x view)) same ∙ spanned_content e view spanned
+
+pub lent_written : (e lent : Exporter) (view : ℕ) → IsSpanned e view → lent ≡ e → (new : List ℕ) → written_from lent (slice_index (layout_of lent view).starts 0) new ≡ overwritten_exporter e new
+lent_written e lent view spanned same new = ap (λ x. written_from x (slice_index (layout_of x view).starts 0) new) same ∙ spanned_written e view spanned new

@@ -38,15 +38,11 @@ fn command(statement: Statement) -> Command
 {
     let (subject, verb) = match statement {
         Statement::ByteArray(bytes) => {
-            let (kind, source) = (
-                ExporterKind::ByteArray,
-                Some(Value::One(Scalar::Bytes(bytes))),
-            );
-            let (encoding, errors) = (None, None);
+            let kind = ExporterKind::ByteArray;
             let options = ByteInnerNewOptions {
-                source,
-                encoding,
-                errors,
+                source: Some(Value::One(Scalar::Bytes(bytes))),
+                encoding: None,
+                errors: None,
             };
             return Command::New { kind, options };
         }
@@ -55,18 +51,12 @@ fn command(statement: Statement) -> Command
             let (format, shape) = (Value::One(Scalar::Text(format)), None);
             (object, Verb::Cast { format, shape })
         }
-        Statement::GetItem(object, index) => {
-            let key = Value::from(index);
-            (object, Verb::Get { key })
-        }
-        Statement::SetItem(object, index, value) => {
-            let (key, value) = (Value::from(index), Value::from(value));
+        Statement::GetItem(object, key) => (object, Verb::Get { key: key.into() }),
+        Statement::SetItem(object, key, value) => {
+            let (key, value) = (Value::from(key), Value::from(value));
             (object, Verb::Set { key, value })
         }
-        Statement::Append(object, value) => {
-            let value = Value::from(value);
-            (object, Verb::Append { value })
-        }
+        Statement::Append(object, byte) => (object, Verb::Append { value: byte.into() }),
         Statement::Bytes(object) => (object, Verb::ToBytes),
         Statement::Release(object) => (object, Verb::Release),
     };
@@ -126,10 +116,7 @@ impl Interpreter {
     {
         refusals_change_nothing();
         handles_stay();
-        let command = command(statement);
-        let answer = self.world.step(&command);
-        drop(command);
-        answer
+        self.world.step(&command(statement))
     }
 
     /// Carries out a program: one answer for each statement, in order. Where memory runs out, its first

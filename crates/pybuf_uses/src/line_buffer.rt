@@ -1,10 +1,7 @@
 //! The lines that come in over a socket, which are answered where they lie.
-ghost use Rattle.std.specs.Prelude.{◌≡◌, ◌≤◌, ◌+◌, length, min, take, slice_range, is_some, IfOk, MatchOption};
-ghost use Rattle.pybuf_uses.specs.Lines.{IsSpanned, line_len_of, answer_of, overwritten};
-ghost use Rattle.std.specs.Borrow.{sem};
-ghost use Rattle.pybuf_exporter.specs.Lending.{LendsBytes};
+ghost use Rattle.std.specs.Prelude.{◌≡◌, length, min, take, is_some, IfOk, MatchOption};
 
-use pybuf_view::{Answer, ExporterState, Halt, PyByteArray, PyMemoryView, Subject, place_of_byte};
+use pybuf_view::{Halt, PyByteArray, PyMemoryView, place_of_byte};
 use std::alloc::Global;
 use std::marker::Model;
 
@@ -32,41 +29,6 @@ impl Model for LineBuffer {
     ghost invariant = { λ buffer. IsLineBuffer buffer.room buffer.view buffer.begin buffer.end };
 }
 
-/// The bytes of a view that spans all of them, lent to be written.
-fn room_of(state: &mut ExporterState, view: usize) -> &mut [u8]
-    requires { IsSpanned state.old view }
-    ensures* writes_back { sem 𝓛 (LendsBytes state.entry result) }
-    ensures value { result.now ≡ state.old.bytes }
-{
-    state.contiguous_bytes_mut(view)
-}
-
-/// Puts bytes in place of as many from a place on.
-fn put_at(room: &mut [u8], place: usize, bytes: &[u8])
-    requires { place + length bytes.now ≤ length room.old }
-    ensures { room.new ≡ overwritten room.old place bytes.now }
-{
-    room[place..place + bytes.len()].copy_from_slice(bytes);
-}
-
-/// Puts the letters from one place up to another in upper case.
-fn raise(room: &mut [u8], from: usize, to: usize)
-    requires ordered { from ≤ to }
-    requires inside { to ≤ length room.old }
-    ensures { room.new ≡ overwritten room.old from (answer_of (slice_range room.old from to)) }
-{
-    room[from..to].make_ascii_uppercase();
-}
-
-/// Moves the bytes from one place up to another to the front.
-fn to_front(room: &mut [u8], from: usize, to: usize)
-    requires ordered { from ≤ to }
-    requires inside { to ≤ length room.old }
-    ensures { room.new ≡ overwritten room.old 0 (slice_range room.old from to) }
-{
-    room.copy_within(from..to, 0);
-}
-
 impl LineBuffer {
     ghost use Rattle.pybuf_uses.specs.Lines.{empty_lines, received, next_line, answered, sent};
 
@@ -74,8 +36,8 @@ impl LineBuffer {
     pub fn new(alloc: Global, size: usize) -> Result<LineBuffer, Halt>
         ensures { IfOk result (λ buffer. buffer ≡ empty_lines size) }
     {
-        let mut room = PyByteArray::from_vec(alloc, vec![in alloc; 0u8; size]?);
-        let view = PyMemoryView::from_object(alloc, room.state_mut(), Subject::Own).done()?;
+        let mut room = PyByteArray::from(vec![in alloc; 0u8; size]?);
+        let view = PyMemoryView::of_all(room.state_mut())?;
         Ok(LineBuffer {
             room,
             view: view.number(),
@@ -90,8 +52,8 @@ impl LineBuffer {
         ensures after { self.new ≡ received self.old (take result bytes.now) }
     {
         let count = bytes.len().min(self.room.byte_count() - self.end);
-        let room = room_of(self.room.state_mut(), self.view);
-        put_at(room, self.end, &bytes[..count]);
+        let room = self.room.state_mut().contiguous_bytes_mut(self.view);
+        room[self.end..self.end + count].copy_from_slice(&bytes[..count]);
         self.end += count;
         count
     }
@@ -101,8 +63,7 @@ impl LineBuffer {
         ensures { MatchOption result (next_line self.now ≡ None) (λ line. next_line self.now ≡ Some line.now) }
     {
         let waiting = &self.room.as_slice()[self.begin..self.end];
-        let len = place_of_byte(waiting, b'\n')?;
-        Some(&waiting[..len])
+        Some(&waiting[..place_of_byte(waiting, b'\n')?])
     }
 
     /// Answers that line: its answer lies in its place then. Without such a line nothing is done.
@@ -110,12 +71,12 @@ impl LineBuffer {
         ensures value { result ≡ is_some (next_line self.old) }
         ensures after { self.new ≡ answered self.old }
     {
-        let waiting = &self.room.as_slice()[self.begin..self.end];
-        let Some(len) = place_of_byte(waiting, b'\n') else {
+        let Some(line) = self.line() else {
             return false;
         };
-        let end = self.begin + len + 1;
-        raise(room_of(self.room.state_mut(), self.view), self.begin, end);
+        let end = self.begin + line.len() + 1;
+        let room = self.room.state_mut().contiguous_bytes_mut(self.view);
+        room[self.begin..end].make_ascii_uppercase();
         self.begin = end;
         true
     }
@@ -131,9 +92,8 @@ impl LineBuffer {
     pub fn sent(&mut self)
         ensures { self.new ≡ sent self.old }
     {
-        let room = room_of(self.room.state_mut(), self.view);
-        to_front(room, self.begin, self.end);
-        self.end -= self.begin;
-        self.begin = 0;
+        let room = self.room.state_mut().contiguous_bytes_mut(self.view);
+        room.copy_within(self.begin..self.end, 0);
+        (self.begin, self.end) = (0, self.end - self.begin);
     }
 }

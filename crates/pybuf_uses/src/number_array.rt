@@ -2,9 +2,8 @@
 ghost use Rattle.std.specs.Prelude.{◌≡◌, ◌↔◌, ◌<◌, ◌*◌, ◌++◌, [], ◌∷◌, true, false, length, set, slice_get, IfOk, OnOk, OnErr, MatchResult, Ok, Err};
 ghost use Rattle.pybuf_value.specs.declared.halt.Halt.{Halt};
 ghost use Rattle.pybuf_value.specs.declared.faults.Fault.{Fault};
-ghost use Rattle.pybuf_uses.specs.Numbers.{numbers_of};
 
-use pybuf_view::{Answer, ExporterState, Fault, Halt, PyByteArray, PyMemoryView, Subject};
+use pybuf_view::{ExporterState, Fault, Halt, PyByteArray, PyMemoryView};
 use std::alloc::Global;
 use std::marker::Model;
 
@@ -13,40 +12,16 @@ use std::marker::Model;
 ///
 /// A clause sees the numbers, and of each view that was ever lent whether it is still out.
 #[derive(Debug, Drop)]
-pub struct NumberArray {
-    bytes: PyByteArray,
-}
+pub struct NumberArray(PyByteArray);
 
 impl Model for NumberArray {
     ghost use Rattle.pybuf_uses.specs.Numbers.{Numbers, numbers_in, IsNumberArray};
 
     ghost Value = { Numbers };
 
-    ghost view = { λ array. numbers_in array.bytes };
+    ghost view = { λ array. numbers_in array.0 };
 
-    ghost invariant = { λ array. IsNumberArray array.bytes };
-}
-
-/// Puts a number in place of that at an index of bytes.
-fn put(bytes: &mut [u8], index: usize, number: u16)
-    requires pairs { length bytes.old ≡ 2 * length (numbers_of bytes.old) }
-    requires inside { index < length (numbers_of bytes.old) }
-    ensures { numbers_of bytes.new ≡ set (numbers_of bytes.old) index number }
-{
-    let [low, high] = number.to_le_bytes();
-    bytes[2 * index] = low;
-    bytes[2 * index + 1] = high;
-}
-
-/// The number at an index of bytes; None exactly where there is none.
-fn at(bytes: &[u8], index: usize) -> Option<u16>
-    requires { length bytes.now ≡ 2 * length (numbers_of bytes.now) }
-    ensures { result ≡ slice_get (numbers_of bytes.now) index }
-{
-    if index >= bytes.len() / 2 {
-        return None;
-    }
-    Some(u16::from_le_bytes([bytes[2 * index], bytes[2 * index + 1]]))
+    ghost invariant = { λ array. IsNumberArray array.0 };
 }
 
 impl NumberArray {
@@ -56,22 +31,21 @@ impl NumberArray {
     pub fn new(alloc: Global) -> NumberArray
         ensures { result ≡ no_numbers }
     {
-        let bytes = PyByteArray::from_vec(alloc, Vec::new(alloc));
-        NumberArray { bytes }
+        NumberArray(PyByteArray::from(Vec::new(alloc)))
     }
 
     /// The exporter, from which the views that are lent are read.
     pub fn state(&self) -> &ExporterState
         ensures { numbers_in result.now ≡ self.now }
     {
-        self.bytes.state()
+        self.0.state()
     }
 
     /// The number of numbers.
     pub fn len(&self) -> usize
         ensures { result ≡ length self.now.numbers }
     {
-        self.bytes.byte_count() / 2
+        self.0.byte_count() / 2
     }
 
     /// Whether there is no number.
@@ -85,7 +59,8 @@ impl NumberArray {
     pub fn get(&self, index: usize) -> Option<u16>
         ensures { result ≡ slice_get self.now.numbers index }
     {
-        at(self.bytes.as_slice(), index)
+        let (pairs, _) = self.0.as_slice().as_chunks::<2>();
+        Some(u16::from_le_bytes(*pairs.get(index)?))
     }
 
     /// Puts a number in place of that at an index. This is done also while views are out: they show it.
@@ -99,7 +74,7 @@ impl NumberArray {
         if index >= self.len() {
             return Err(Fault::Index);
         }
-        put(self.bytes.borrow_buf_mut(), index, number);
+        self.0.borrow_buf_mut()[2 * index..2 * index + 2].copy_from_slice(&number.to_le_bytes());
         Ok(())
     }
 
@@ -112,23 +87,23 @@ impl NumberArray {
         ensures lent { (result ≡ Err (Halt.Refused Fault.Buffer)) ↔ IsLent self.old }
         ensures err { OnErr result (self.new ≡ self.old) }
     {
-        self.bytes.extend_from_slice(&number.to_le_bytes())
+        self.0.extend_from_slice(&number.to_le_bytes())
     }
 
     /// A memoryview of all the numbers' bytes. It is out until it is given back. Where memory runs out, nothing
     /// is changed.
-    pub fn lend(&mut self, alloc: Global) -> Result<PyMemoryView, Halt>
+    pub fn lend(&mut self) -> Result<PyMemoryView, Halt>
         ensures view { IfOk result (λ view. view ≡ length self.old.out) }
         ensures ok { OnOk result (self.new ≡ record self.old { out = self.old.out ++ true ∷ [] }) }
         ensures err { OnErr result (self.new ≡ self.old) }
     {
-        PyMemoryView::from_object(alloc, self.bytes.state_mut(), Subject::Own).done()
+        PyMemoryView::of_all(self.0.state_mut())
     }
 
     /// Takes a view back. One that was taken back before changes nothing. Takes no memory.
     pub fn give_back(&mut self, view: PyMemoryView)
         ensures { self.new ≡ record self.old { out = set self.old.out view false } }
     {
-        let _ = self.bytes.state_mut().release_view(view.number());
+        let _ = self.0.state_mut().release_view(view.number());
     }
 }

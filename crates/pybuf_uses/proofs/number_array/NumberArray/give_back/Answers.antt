@@ -5,4 +5,4 @@ pub returns : goal.returns
 returns c =
     let state = c.state_mut.ensures.value in
     let number = c.number.ensures in
-    given_back _ c.self.inside.bytes _ c.args.view c.release_view.result c.self.view_is (rw (number, state) at c.release_view.ensures.exact) (rw state at c.release_view.ensures.err)
+    given_back _ c.self.inside.0 _ c.args.view c.release_view.result c.self.view_is (rw (number, state) at c.release_view.ensures.exact) (rw state at c.release_view.ensures.err)
