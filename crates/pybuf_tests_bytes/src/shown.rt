@@ -54,16 +54,33 @@ fn rows(alloc: Global) -> Made<(CountList, ItemList)> {
     Ok((shape, items))
 }
 
+/// (A reply is let go by a call: one that ends with its scope spells out all its variants.)
+fn shown_and_gone<D: Display + Drop>(alloc: Global, reply: D) -> Made<String> {
+    let text = shown(alloc, &reply);
+    drop(reply);
+    text
+}
+
 #[test]
-fn replies_are_shown(rt: HostRuntime) -> Result<(), Fail> {
-    let alloc = rt.alloc();
-    let refused = Reply::Refused(Fault::Buffer);
-    assert_eq!(rt; shown(alloc, &refused)?.as_str(), "! BufferError");
-    let bytes = LocalReply::Bytes(ByteList::from_slice(alloc, b"ab")?);
-    assert_eq!(rt; shown(alloc, &bytes)?.as_str(), "b'ab'");
-    let (shape, items) = rows(alloc)?;
-    let items = Reply::Items { shape, items };
-    assert_eq!(rt; shown(alloc, &items)?.as_str(), "[[1], [2]]");
+fn refusals_are_shown(rt: HostRuntime) -> Result<(), Fail> {
+    let text = shown_and_gone(rt.alloc(), Reply::Refused(Fault::Buffer))?;
+    assert_eq!(rt; text.as_str(), "! BufferError");
+    Ok(())
+}
+
+#[test]
+fn replied_bytes_are_shown(rt: HostRuntime) -> Result<(), Fail> {
+    let bytes = ByteList::from_slice(rt.alloc(), b"ab")?;
+    let text = shown_and_gone(rt.alloc(), LocalReply::Bytes(bytes))?;
+    assert_eq!(rt; text.as_str(), "b'ab'");
+    Ok(())
+}
+
+#[test]
+fn replied_items_are_shown(rt: HostRuntime) -> Result<(), Fail> {
+    let (shape, items) = rows(rt.alloc())?;
+    let text = shown_and_gone(rt.alloc(), Reply::Items { shape, items })?;
+    assert_eq!(rt; text.as_str(), "[[1], [2]]");
     Ok(())
 }
 
