@@ -38,12 +38,12 @@ struct Drawn {
 
 /// The command of a number.
 fn command_of(bytes: &[u8], place: usize) -> Drawn {
-    let at = place * 4;
+    let at = place.wrapping_mul(4);
     Drawn {
         kind: bytes.get(at).copied().unwrap_or(0) % 16,
-        byte: bytes.get(at + 1).copied().unwrap_or(0) as usize,
-        count: bytes.get(at + 2).copied().unwrap_or(0) as usize,
-        rare: bytes.get(at + 3).copied().unwrap_or(0) % 8,
+        byte: bytes.get(at.wrapping_add(1)).copied().unwrap_or(0) as usize,
+        count: bytes.get(at.wrapping_add(2)).copied().unwrap_or(0) as usize,
+        rare: bytes.get(at.wrapping_add(3)).copied().unwrap_or(0) % 8,
     }
 }
 
@@ -51,7 +51,9 @@ fn command_of(bytes: &[u8], place: usize) -> Drawn {
 fn told(reply: LocalReply) -> u64 {
     match reply {
         LocalReply::Ok => 1,
-        LocalReply::Item(Item::One(Scalar::Int(byte))) => byte as u64 + 2,
+        LocalReply::Item(Item::One(Scalar::Int(byte))) => u64::try_from(byte)
+            .unwrap_or(0)
+            .wrapping_add(2),
         LocalReply::View(_) => 300,
         LocalReply::Refused(Fault::Buffer) => 302,
         LocalReply::Refused(Fault::Value) => 303,
@@ -62,7 +64,7 @@ fn told(reply: LocalReply) -> u64 {
 
 /// So many equal bytes, as a value.
 fn bytes_of(alloc: Global, byte: usize, count: usize) -> Made<Value> {
-    let bytes = vec![in alloc; byte as u8; count]?;
+    let bytes = vec![in alloc; (byte % 256) as u8; count]?;
     Ok(Value::One(Scalar::Bytes(ByteList::from_vec(bytes))))
 }
 
@@ -182,7 +184,9 @@ impl Kernel for DrawnQueue {
             let reply = queue.carry_out(alloc, command_of(bytes.as_slice(), place))?;
             mark = mark.wrapping_mul(31).wrapping_add(reply);
             let content = mark_of_bytes(queue.object.borrow_buf());
-            mark = mark.wrapping_mul(31).wrapping_add(content as u64);
+            mark = mark
+                .wrapping_mul(31)
+                .wrapping_add(u64::try_from(content).unwrap_or(0));
         }
         Ok(Answer::Number(mark as i128))
     }
