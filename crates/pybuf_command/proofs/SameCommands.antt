@@ -1,5 +1,5 @@
 -- Rust's `==` of commands is being the same.
-use Rattle.std.proofs.Common.{◌≡◌, ℕ, Bool, true, false, ◌&&◌, List, Option, Some, None, refl, ap, sym, ◌∙◌, subst}
+use Rattle.std.proofs.Common.{◌≡◌, ℕ, Bool, true, false, ◌&&◌, List, Option, Some, None, refl, ap, ◌∙◌, subst}
 use Rattle.std.specs.Bool.{Decides}
 use Rattle.std.specs.Option.{option_eq}
 use Rattle.std.specs.Cmp.Lexicographic.{pointwise}
@@ -32,7 +32,6 @@ use Rattle.pybuf_command.specs.contracts.methods.MethodCallPartialEq.TheImpl as 
 use Rattle.pybuf_command.specs.contracts.options.ByteInnerNewOptionsPartialEq.TheImpl as options_eq
 use Rattle.pybuf_command.specs.contracts.commands.PropertyNamePartialEq.TheImpl as property_eq
 use Rattle.pybuf_command.specs.contracts.commands.VerbPartialEq.TheImpl as verb_eq
-use Rattle.pybuf_command.specs.contracts.commands.LocalCommandPartialEq.TheImpl as command_eq
 use Rattle.pybuf_command.specs.Loans.{equal_pairs}
 use Rattle.pybuf_command.specs.Laws.{EqualCommandsAreTheSame}
 
