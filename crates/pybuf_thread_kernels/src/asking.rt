@@ -89,8 +89,7 @@ impl<L: Ledger> Asker<L> {
 
 fn askers_of<L: Ledger>(alloc: Global, sessions: Vec<Session<L>>) -> Made<Vec<Asker<L>>> {
     let mut askers = Vec::new(alloc);
-    let mut left = sessions.into_iter();
-    while let Some(session) = left.next() {
+    for session in sessions {
         askers.push(Asker {
             session,
             is_done: false,
