@@ -6,6 +6,7 @@ mod checks;
 mod contiguous;
 mod descriptor;
 mod dims;
+mod kept_format;
 mod laws;
 mod packed;
 mod pairs;
@@ -14,6 +15,7 @@ mod segments;
 mod sliced;
 
 pub use descriptor::BufferDescriptor;
+pub use kept_format::KeptFormat;
 pub use laws::{
     casts_are_contiguous, casts_have_their_shape, casts_lie_apart, casts_share_their_bytes,
     casts_stay_inside, contiguity_is_of_strides, contiguity_is_the_same_anywhere,

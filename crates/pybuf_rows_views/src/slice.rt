@@ -23,9 +23,7 @@ pub fn add(parts: &mut Parts, view: usize, slice: &PySlice) -> Result<usize, Hal
     }
     let slice = SaturatedSlice::with_slice(slice)?;
     let layout = layout.sliced(parts.alloc, slice)?;
-    let number = parts.views.len();
-    parts.add_view(layout)?;
-    Ok(number)
+    parts.push_view(layout)
 }
 
 /// A view of the items that a slice picks, along the first dimension.

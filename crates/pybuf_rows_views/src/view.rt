@@ -18,9 +18,7 @@ pub fn add_whole(parts: &mut Parts) -> Result<usize, Halt>
     ensures counted { parts.new.exports ≡ exports_of (exporter_of parts.new) }
 {
     let layout = KeptLayout::whole(parts.alloc, parts.bytes.len(), parts.kind.is_readonly())?;
-    let number = parts.views.len();
-    parts.add_view(layout)?;
-    Ok(number)
+    parts.push_view(layout)
 }
 
 /// A view of all the bytes.
