@@ -18,3 +18,4 @@ pub mod Segments
 pub mod Laws
 pub mod Pairs
 pub mod KeptDims
+pub mod SegmentLines
