@@ -19,3 +19,4 @@ pub mod Laws
 pub mod Pairs
 pub mod KeptDims
 pub mod KeptFormats
+pub mod SegmentLines
