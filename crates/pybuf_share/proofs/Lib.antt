@@ -1,2 +1,5 @@
+pub mod Follows
 pub mod Replays
+pub mod Scripts
 pub mod Sessions
+pub mod Theirs

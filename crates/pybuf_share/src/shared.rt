@@ -72,6 +72,8 @@ impl<L: Ledger> SharedExporter<L> {
         requires { LoansFit command.loans }
         ensures ok { OnOk result (IsAnswered session.old command session.new) }
         ensures err { OnErr result (session.new ≡ session.old) }
+        ensures number { session.new.number ≡ session.old.number }
+        ensures parts { session.new.parts ≡ session.old.parts }
     {
         self.call_gated(rt, session, command, &OpenGate)
     }
@@ -88,6 +90,8 @@ impl<L: Ledger> SharedExporter<L> {
         requires { LoansFit command.loans }
         ensures ok { OnOk result (IsAnswered session.old command session.new) }
         ensures err { OnErr result (session.new ≡ session.old) }
+        ensures number { session.new.number ≡ session.old.number }
+        ensures parts { session.new.parts ≡ session.old.parts }
     {
         match session.prepare(self.alloc, &command) {
             Ok(kept) => self.call_prepared(rt, session, kept, command, gate),
@@ -112,6 +116,8 @@ impl<L: Ledger> SharedExporter<L> {
         requires same { kept ≡ own }
         ensures ok { OnOk result (IsAnswered session.old own session.new) }
         ensures err { OnErr result (session.new ≡ session.old) }
+        ensures number { session.new.number ≡ session.old.number }
+        ensures parts { session.new.parts ≡ session.old.parts }
     {
         let number = session.number();
         let turn = session.receipts().len() as u64;
