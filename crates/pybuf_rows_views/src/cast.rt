@@ -227,6 +227,7 @@ pub fn add_flat(parts: &mut Parts, view: usize, format: &str) -> Result<usize, H
     requires { IsWhole parts.old }
     ensures answer { Answers (spec.cast_of_view (exporter_of parts.old) view (values.One (scalars.Text format.now)) None) (exporter_of parts.old) (result_map_both replies.View (λ halt. halt) result) (exporter_of parts.new) }
     ensures counted { parts.new.exports ≡ exports_of (exporter_of parts.new) }
+    ensures room { parts.new.bytes.room ≡ parts.old.bytes.room }
 {
     let layout = parts.live_layout(view)?;
     if !layout.is_contiguous() {
@@ -247,6 +248,7 @@ pub fn add_shaped(
     requires { IsWhole parts.old }
     ensures answer { Answers (spec.cast_of_view (exporter_of parts.old) view (values.One (scalars.Text format.now)) (Some (values.Tuple (map (λ n. scalars.Int (pos n)) shape.now)))) (exporter_of parts.old) (result_map_both replies.View (λ halt. halt) result) (exporter_of parts.new) }
     ensures counted { parts.new.exports ≡ exports_of (exporter_of parts.new) }
+    ensures room { parts.new.bytes.room ≡ parts.old.bytes.room }
 {
     let layout = parts.live_layout(view)?;
     if !layout.is_contiguous() {
@@ -267,6 +269,7 @@ pub fn of_view(
     requires { IsWhole parts.old }
     ensures answer { Answers (spec.cast_of_view (exporter_of parts.old) view format.now shape.now) (exporter_of parts.old) result (exporter_of parts.new) }
     ensures counted { parts.new.exports ≡ exports_of (exporter_of parts.new) }
+    ensures room { parts.new.bytes.room ≡ parts.old.bytes.room }
 {
     let layout = parts.live_layout(view)?;
     if !layout.is_contiguous() {
