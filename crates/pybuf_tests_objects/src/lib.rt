@@ -12,8 +12,6 @@ mod byte_arrays;
 #[cfg(test)]
 mod byte_strings;
 #[cfg(test)]
-mod counted;
-#[cfg(test)]
 mod exporters;
 #[cfg(test)]
 mod memory_views;
