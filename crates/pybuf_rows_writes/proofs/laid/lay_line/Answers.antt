@@ -1,4 +1,4 @@
-use Rattle.std.proofs.Common.{List, ℕ, length, ap, refl, ◌∙◌}
+use Rattle.std.proofs.Common.{List, ℕ, length, ap, ◌∙◌}
 use Rattle.std.specs.List.{flat_map}
 use Rattle.pybuf_desc.specs.Segments.{bytes_of}
 use Rattle.pybuf_desc.specs.SegmentLines.{ranges_of_line}

@@ -1,4 +1,4 @@
-use Rattle.std.proofs.Common.{length, arith}
+use Rattle.std.proofs.Common.{arith}
 use Rattle.pybuf_desc.specs.SegmentLines.{ranges_of_line}
 use Rattle.pybuf_rows_writes.proofs.LineCopies.{first_inside, others_inside, bytes_counted, line_laid, fewer_ranges}
 use Rattle.pybuf_rows_writes.proofs.laid.lay_ranges.Goals as goal
