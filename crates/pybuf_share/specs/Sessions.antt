@@ -1,31 +1,37 @@
 -- Sessions: who asks commands of a shared exporter, and what each has to show for them.
-use Rattle.std.specs.Prelude.{◌≡◌, ◌<◌, ◌≤◌, length, ℕ, zero, suc, Bool, true, List, [], ◌∷◌, ◌++◌, ◌-◌, Option, slice_get}
+use Rattle.std.specs.Prelude.{◌≡◌, ◌<◌, ◌≤◌, ◌+◌, length, ℕ, zero, suc, Bool, true, false, List, [], ◌∷◌, ◌++◌, ◌-◌, map, Option, slice_get}
+use Rattle.std.specs.List.{All, flat_map}
 use Rattle.std.specs.Option.{option_map}
 use Rattle.pybuf_command.specs.declared.commands.LocalCommand.{LocalCommand}
 use Rattle.pybuf_command.specs.declared.commands.LocalReply.{LocalReply}
 use Rattle.pybuf_command.specs.declared.commands.LocalReply.TheVariants as reply
 use Rattle.pybuf_share.specs.declared.entries.Receipt.{Receipt}
 
--- A session: its number, its receipts in order, how many parts of the ledger it has, and whether each of its
--- receipts came from a call.
+-- A session: its number, its receipts in order, how many parts of the ledger it has, how many calls of its own the
+-- ledger has counted, and whether each of its receipts came from a call.
 pub record Asker : Type 0 where
   pub number : ℕ
   pub receipts : List Receipt
   pub parts : ℕ
+  pub calls : ℕ
   pub is_plain : Bool
 
 -- a session with no receipt and one part
 abbrev pub new_session : ℕ → Asker
-new_session k = record { number = k; receipts = []; parts = 1; is_plain = true }
+new_session k = record { number = k; receipts = []; parts = 1; calls = 0; is_plain = true }
 
 -- so many of them, numbered from a number on
 abbrev pub sessions_from : ℕ → ℕ → List Asker
 sessions_from k zero = []
 sessions_from k (suc n) = new_session k ∷ sessions_from (suc k) n
 
--- a session with one more receipt
+-- a session with one more receipt, which a call gave
 abbrev pub received : Asker → Receipt → Asker
-received s r = record s { receipts = s.receipts ++ r ∷ [] }
+received s r = record s { receipts = s.receipts ++ r ∷ []; calls = s.calls + 1 }
+
+-- a session with one more receipt, which no call gave
+abbrev pub added : Asker → Receipt → Asker
+added s r = record s { receipts = s.receipts ++ r ∷ []; is_plain = false }
 
 -- A session after a call: it has one more receipt, with its number, the command, and some reply at some place of the
 -- history.
@@ -48,21 +54,25 @@ abbrev pub iterator_given : LocalReply → List ℕ
 iterator_given (reply.Iter k) = k ∷ []
 iterator_given _ = []
 
+-- the replies of receipts, in order
+abbrev pub replies_given : List Receipt → List LocalReply
+replies_given receipts = map (λ r. r.entry.reply) receipts
+
 -- the views that a session was given, in order
 abbrev pub views_given : List Receipt → List ℕ
-views_given [] = []
-views_given (r ∷ rs) = view_given r.entry.reply ++ views_given rs
+views_given receipts = flat_map view_given (replies_given receipts)
 
 -- the iterators that a session was given, in order
 abbrev pub iterators_given : List Receipt → List ℕ
-iterators_given [] = []
-iterators_given (r ∷ rs) = iterator_given r.entry.reply ++ iterators_given rs
+iterators_given receipts = flat_map iterator_given (replies_given receipts)
 
--- What is kept of a session beside its receipts: the views and the iterators that they give. It has a part of the
--- ledger, and its amount is the number of its receipts where each came from a call, and never more.
-pub record IsAsked (given : List Receipt) (views_kept iterators_kept : List ℕ) (held amount : ℕ) (plain : Bool) : Type 0 where
-  pub views : views_kept ≡ views_given given
-  pub iterators : iterators_kept ≡ iterators_given given
-  pub has_part : 0 < held
-  pub bounded : amount ≤ length given
-  pub counted : plain ≡ true → amount ≡ length given
+-- What holds of a session: the views and the iterators that are kept beside its receipts are those that these give. It
+-- has a part of the ledger. Where each receipt came from a call, they are as many as the ledger has counted, and each is
+-- of an entry of the session.
+pub record IsAsked (s : Asker) (views_kept iterators_kept : List ℕ) : Type 0 where
+  pub views : views_kept ≡ views_given s.receipts
+  pub iterators : iterators_kept ≡ iterators_given s.receipts
+  pub has_part : 0 < s.parts
+  pub bounded : s.calls ≤ length s.receipts
+  pub counted : s.is_plain ≡ true → s.calls ≡ length s.receipts
+  pub own : s.is_plain ≡ true → All (λ r. r.entry.session ≡ s.number) s.receipts

@@ -1,7 +1,8 @@
 //! What is kept of each command, and what a session has to show for it.
 
 use pybuf_command::{LocalCommand, LocalReply};
-use pybuf_value::Items;
+use pybuf_value::{Items, Made, NoMemory, Twin};
+use std::alloc::Global;
 
 /// A command of a session, and its reply.
 #[derive(Debug, Drop)]
@@ -9,6 +10,25 @@ pub struct Entry {
     pub session: u64,
     pub command: LocalCommand,
     pub reply: LocalReply,
+}
+
+impl Twin for Entry {
+    fn copy(&self, alloc: Global) -> Made<Entry> {
+        let session = self.session;
+        let command = self.command.copy(alloc)?;
+        match self.reply.copy(alloc) {
+            Ok(reply) => Ok(Entry {
+                session,
+                command,
+                reply,
+            }),
+            Err(NoMemory) => {
+                // by a call, since a command that ends with its scope spells out all its variants
+                drop(command);
+                Err(NoMemory)
+            }
+        }
+    }
 }
 
 /// What a session has to show for a command: the number of its entry in the history, and that entry.
@@ -23,3 +43,10 @@ pub type EntryList = Items<Entry>;
 
 /// Receipts, in the order in which they were given.
 pub type ReceiptList = Items<Receipt>;
+
+/// The commands of a session, in order. The number of a view or of an iterator, as a subject and as a loan, is the
+/// session's own count: the first view that it is given is 0, and so is the first iterator.
+pub type LocalCommandList = Items<LocalCommand>;
+
+/// A script for each session.
+pub type ScriptList = Items<LocalCommandList>;

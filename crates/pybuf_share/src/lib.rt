@@ -1,15 +1,24 @@
-//! One exporter whose history is kept beside it, and the sessions that made it: what lies under the lock of an
-//! exporter that threads share.
+//! One exporter that threads share: what lies under its lock, with its history beside it, the sessions that make it,
+//! what these have to show at the end, and scripts that are carried out side by side.
 #![tactic(auto)]
 
+mod checks;
 mod entries;
 mod gate;
+mod joined;
+mod laws;
 mod logged;
+mod resolving;
+mod running;
 mod session;
 mod shared;
+mod worker;
 
-pub use entries::{Entry, EntryList, Receipt, ReceiptList};
+pub use entries::{Entry, EntryList, LocalCommandList, Receipt, ReceiptList, ScriptList};
 pub use gate::{Gate, OpenGate};
+pub use joined::{FinishFault, Joined};
+pub use laws::{joined_entries_are_the_scripts, legal_histories_are_of_one_thread};
 pub use logged::Logged;
+pub use running::run_sessions;
 pub use session::Session;
 pub use shared::SharedExporter;

@@ -1,6 +1,8 @@
 //! Who asks commands of a shared exporter.
 ghost use Rattle.std.specs.Prelude.{◌≡◌, ◌+◌, ◌<◌, ◌≤◌, ◌^◌, [], ◌∷◌, ◌++◌, length, true, false, Some, None, slice_get, IfOk, IfSome, IfNone, OnOk, OnErr, vec_len, vec_capacity};
+ghost use Rattle.std.specs.List.{All};
 ghost use Rattle.std.specs.Option.{option_copied};
+ghost use Rattle.pybuf_share.specs.Finishing.{IsOwn};
 ghost use Rattle.pybuf_share.specs.Sessions.{view_given, iterator_given};
 
 use crate::entries::Receipt;
@@ -13,7 +15,8 @@ use std::sync::ledger::{Ledger, Share};
 
 /// A session: its number, and its receipts. It belongs to the exporter that its ledger names.
 ///
-/// A clause sees its number, its receipts, its parts of the ledger, and whether each receipt came from a call.
+/// A clause sees its number, its receipts, its parts of the ledger and how many calls that has counted for it, and
+/// whether each receipt came from a call.
 #[derive(Drop)]
 pub struct Session<L: Ledger> {
     number: u64,
@@ -30,15 +33,15 @@ impl<L: Ledger> Model for Session<L> {
 
     ghost Value = { Asker };
 
-    ghost view = { λ s. record { number = s.number; receipts = s.receipts.items; parts = s.share.parts; is_plain = s.is_plain } };
+    ghost view = { λ s. record { number = s.number; receipts = s.receipts.items; parts = s.share.parts; calls = s.share.amount; is_plain = s.is_plain } };
 
-    ghost invariant = { λ s. IsAsked s.receipts.items s.views.items s.iterators.items s.share.parts s.share.amount s.is_plain };
+    ghost invariant = { λ s. IsAsked (record { number = s.number; receipts = s.receipts.items; parts = s.share.parts; calls = s.share.amount; is_plain = s.is_plain }) s.views.items s.iterators.items };
 }
 
 impl<L: Ledger> Session<L> {
     ghost use Rattle.pybuf_state.specs.Fits.{LoansFit};
     ghost use Rattle.pybuf_share.specs.History.{noted, receipt_now};
-    ghost use Rattle.pybuf_share.specs.Sessions.{new_session, received, views_given, iterators_given, last_reply};
+    ghost use Rattle.pybuf_share.specs.Sessions.{new_session, received, added, views_given, iterators_given, last_reply};
 
     /// A session of a number, with no receipt, and a part of the ledger. Takes no memory.
     pub(crate) fn new(alloc: Global, number: u64, share: Share<L>) -> Session<L>
@@ -90,9 +93,12 @@ impl<L: Ledger> Session<L> {
         }
     }
 
-    /// Whether each of its receipts came from a call.
+    /// Whether each of its receipts came from a call. Then they are as many as the ledger has counted for the session,
+    /// and each is of an entry of its own.
     pub fn is_plain(&self) -> bool
-        ensures { result ≡ self.now.is_plain }
+        ensures value { result ≡ self.now.is_plain }
+        ensures counted { result ≡ true → self.now.calls ≡ length self.now.receipts }
+        ensures own { result ≡ true → All (λ r. r.entry.session ≡ self.now.number) self.now.receipts }
     {
         self.is_plain
     }
@@ -107,11 +113,28 @@ impl<L: Ledger> Session<L> {
         }
     }
 
+    /// Its part of the ledger. Takes no memory.
+    pub(crate) fn into_share(self) -> Share<L>
+        ensures parts { result.parts ≡ self.parts }
+        ensures amount { result.amount ≡ self.calls }
+        ensures own { IsOwn self }
+    {
+        let Session {
+            number: _,
+            share,
+            receipts: _,
+            views: _,
+            iterators: _,
+            is_plain: _,
+        } = self;
+        share
+    }
+
     /// Adds a receipt that no call gave, by which the session is no longer plain. It makes no call, and leaves the
     /// ledger as it is. It is there so that a test can hand in a receipt that the history doesn't have. Where memory
     /// runs out, nothing is changed.
     pub fn add_receipt(&mut self, receipt: Receipt) -> Made<()>
-        ensures ok { OnOk result (self.new ≡ record (received self.old receipt) { is_plain = false }) }
+        ensures ok { OnOk result (self.new ≡ added self.old receipt) }
         ensures err { OnErr result (self.new ≡ self.old) }
     {
         self.receipts.reserve(1)?;
@@ -153,6 +176,8 @@ impl<L: Ledger> Session<L> {
         ensures received { OnOk result (self.new ≡ received self.old (receipt_now logged.old self.old.number own)) }
         ensures err { OnErr result (logged.new ≡ logged.old) }
         ensures err_session { OnErr result (self.new ≡ self.old) }
+        ensures number { self.new.number ≡ self.old.number }
+        ensures parts { self.new.parts ≡ self.old.parts }
     {
         // there is room already where it was prepared
         self.receipts.reserve(1)?;

@@ -1,5 +1,6 @@
-use Rattle.std.proofs.Common.{[], ◌∷◌, ◌++◌, List, ap₂, ◌∙◌, sym, arith}
+use Rattle.std.proofs.Common.{rules, ◌≤◌, [], ◌∷◌, ◌++◌, List, ap₂, ◌∙◌, sym, arith}
 use Rattle.pybuf_share.specs.Sessions.{Asker}
+use Rattle.pybuf_share.proofs.Faults.{all_made}
 use Rattle.pybuf_share.proofs.Sessions.{sessions_more}
 use Rattle.pybuf_share.proofs.logged.Logged.start.Goals as goal
 
@@ -14,3 +15,12 @@ loop-number-preserved g c =
       omega (arith, amount, i.2),
       omega (arith, test),
     )
+
+pub returns-clause-all : goal.returns-clause-all
+returns-clause-all g c =
+    let i = c.loop-number.invariant in
+    let past : c.args.sessions ≤ c.loop-number.number = search rules in
+    let low = i.3 in
+    let parts = c.requires.parts in
+    let each = c.requires.each in
+    all_made c.loop-number.made.items c.loop-number.number g.met.L.Ledger.parts i.0 (omega (arith, past, low, parts, each))

@@ -19,4 +19,5 @@ invariant_of-self-2 g c =
       has_part = c.self.invariant.has_part;
       bounded = let before = c.self.invariant.bounded in omega (arith, longer, before);
       counted = λ is. absurd (true≢false (sym is));
+      own = λ is. absurd (true≢false (sym is));
     }

@@ -1,4 +1,5 @@
 use Rattle.std.proofs.Common.{◌≡◌, [], ◌∷◌, ◌++◌, List, ℕ, ap, ◌∙◌, arith}
+use Rattle.std.proofs.lemmas.List.Elements.{All-push, All-same}
 use Rattle.pybuf_share.specs.declared.entries.Receipt.{Receipt}
 use Rattle.pybuf_share.specs.Sessions.{view_given, iterator_given}
 use Rattle.pybuf_share.proofs.Sessions.{views_kept, iterators_kept, one_more}
@@ -20,4 +21,8 @@ invariant_of-self-2 g c =
       has_part = let parts = c.note_kept.ensures.parts in let before = c.self.invariant.has_part in omega (arith, parts, before);
       bounded = let before = c.self.invariant.bounded in omega (arith, longer, before, amount);
       counted = λ is. let before = c.self.invariant.counted is in omega (arith, longer, before, amount);
+      own =
+          λ is.
+          All-same (λ (x : Receipt). x.entry.session ≡ inside.number) c.receive.new.receipts.items (inside.receipts.items ++ r ∷ []) more
+          (All-push (λ (x : Receipt). x.entry.session ≡ inside.number) inside.receipts.items r (c.self.invariant.own is) (ap (λ (x : Receipt). x.entry.session) c.in_ok-receipt.ensures.receipt));
     }
