@@ -11,13 +11,13 @@ use Rattle.pybuf_share.specs.declared.entries.Entry.{Entry}
 use Rattle.pybuf_share.specs.declared.entries.Receipt.{Receipt}
 use Rattle.pybuf_share.specs.declared.joined.Joined.{Joined}
 use Rattle.pybuf_share.specs.Running.{IsRun, RefusesRun}
-use Rattle.pybuf_share.specs.Sessions.{Asker, sessions_from}
+use Rattle.pybuf_share.specs.Sessions.{Asker, IsAnswered, replies_given, sessions_from}
 use Rattle.pybuf_share.specs.Joining.{resolve, Follows, entries_of}
 use Rattle.pybuf_share.specs.declared.joined.FinishFault.{FinishFault}
 use Rattle.pybuf_share.specs.declared.joined.FinishFault.TheVariants as fault
 use Rattle.pybuf_share.specs.Finishing.{numbers_from, parts_of, receipts_of, first_fall, order_fault, order_fault_or, IsJoined, AreTheirs, RefusesAtLast}
-use Rattle.pybuf_share.specs.Working.{Work, IsLater, IsDone, hired}
-use Rattle.pybuf_share.proofs.Follows.{Named, all_named}
+use Rattle.pybuf_share.specs.Working.{Work, IsAtWork, IsLater, IsDone, hired}
+use Rattle.pybuf_share.proofs.Follows.{Named, all_named, follows_next}
 use Rattle.pybuf_share.proofs.Theirs.{All-behind}
 
 -- place by place
@@ -208,3 +208,23 @@ run_refused k bytes scripts ss (fault.Disagree at kept got) carried why =
       resolved = ap (λ (x : Entry). x.command) why.shown ∙ is.named.3;
       differs = why.differs;
     }
+
+-- one command more of a worker's script
+pub step_kept : (w : Work) (c : LocalCommand) (after : Asker) → IsAtWork w → w.done < length w.script → c ≡ get_or w.script w.done c → IsAnswered w.session (resolve c (replies_given w.session.receipts)) after
+    → IsAtWork (record { script = w.script; session = after; done = w.done + 1 })
+step_kept w c after is within read answered =
+    let r : Receipt = record { at = answered.at; entry = record { session = w.session.number; command = resolve c (replies_given w.session.receipts); reply = answered.reply } } in
+    record {
+      follows = follows_next w.session.receipts after.receipts r w.script w.done c (ap (λ (s : Asker). s.receipts) answered.same) within read refl is.follows;
+      within = omega (arith, within);
+      plain = ap (λ (s : Asker). s.is_plain) answered.same ∙ is.plain;
+      fits = is.fits;
+    }
+
+-- the sessions of workers that began with new ones and carried out their scripts
+pub all_carried : (scripts : List (List LocalCommand)) (new : List Asker) (before after : List Work) (ss : List Asker) → new ≡ sessions_from 0 (length scripts) → before ≡ hired scripts new → length after ≡ length before
+    → ((i : ℕ) (d : Work) → i < length before → IsLater (get_or before i d) (get_or after i d)) → All IsDone after → ss ≡ map (λ w. w.session) after → AreCarried 0 scripts ss
+all_carried scripts new before after ss are hired_is len each done sessions =
+    let began : before ≡ hired scripts (sessions_from 0 (length scripts)) = hired_is ∙ ap (hired scripts) are in
+    let later = subst (λ (ws : List Work). AllZip IsLater ws after) began (all_zip IsLater before after len each) in
+    subst (λ (l : List Asker). AreCarried 0 scripts l) (sym sessions) (carried_from 0 scripts after later done)

@@ -1,13 +1,29 @@
 -- What holds of histories and of entries that join scripts.
 use Rattle.std.specs.Prelude.{◌≡◌, ℕ, List, [], ◌∷◌, length, map, take, Some, slice_get}
-use Rattle.std.specs.List.{sum_by}
+use Rattle.std.specs.List.{sum_by, All}
 use Rattle.pybuf_command.specs.declared.commands.LocalCommand.{LocalCommand}
 use Rattle.pybuf_command.specs.declared.commands.LocalReply.{LocalReply}
 use Rattle.pybuf_command.specs.declared.kinds.ExporterKind.{ExporterKind}
 use Rattle.pybuf_state.specs.Exporter.{Exporter, new_exporter}
 use Rattle.pybuf_share.specs.declared.entries.Entry.{Entry}
+use Rattle.pybuf_share.specs.Sessions.{Asker}
+use Rattle.pybuf_share.specs.Finishing.{numbers_from, NumbersRise, Stands, receipts_of, calls_of, IsOwn, ArePlain, AreTheirs}
 use Rattle.pybuf_share.specs.History.{step_by, replay, IsLegal}
 use Rattle.pybuf_share.specs.Joining.{resolve, entries_of, Joins}
+
+-- What is known of all sessions of an exporter at their end, laid beside a history: their receipts stand in it, at rising
+-- numbers, each came from a call, and the ledger has counted for them as many calls as there are entries.
+pub record AreShown (sessions : List Asker) (entries : List Entry) : Type 0 where
+  pub numbers : map (λ s. s.number) sessions ≡ numbers_from 0 (length sessions)
+  pub rise : NumbersRise sessions
+  pub stand : All (Stands entries) (receipts_of sessions)
+  pub known : All IsOwn sessions
+  pub plain : ArePlain sessions
+  pub counted : length entries ≡ calls_of sessions
+
+-- then the receipts of each session are, in order, exactly its entries
+abbrev pub ReceiptsAreTheEntries : Type 0
+ReceiptsAreTheEntries = (sessions : List Asker) (entries : List Entry) → AreShown sessions entries → AreTheirs sessions entries
 
 -- one thread that steps an exporter through commands, one after the other: the exporter at the end
 abbrev pub stepped_through : Exporter → List LocalCommand → Exporter

@@ -7,6 +7,7 @@ ghost use Rattle.pybuf_share.specs.Finishing as spec;
 use crate::entries::{Entry, Receipt};
 use crate::joined::FinishFault;
 use crate::session::Session;
+use pybuf_command::{equal_commands_are_the_same, equal_replies_are_the_same};
 use pybuf_value::{Made, NoMemory, Twin};
 use std::alloc::Global;
 use std::sync::ledger::Ledger;
@@ -45,7 +46,9 @@ pub(crate) fn order_fault<L: Ledger>(sessions: &[Session<L>]) -> Option<FinishFa
 fn same_entry(kept: &Entry, shown: &Entry) -> bool
     ensures { (result ≡ true) ↔ (kept.now ≡ shown.now) }
 {
-    kept.session == shown.session && kept.reply == shown.reply
+    equal_commands_are_the_same();
+    equal_replies_are_the_same();
+    kept.session == shown.session && kept.command == shown.command && kept.reply == shown.reply
 }
 
 /// What is kept at the number of a receipt, beside its entry.

@@ -1,5 +1,5 @@
 //! What holds of histories, and of entries that join scripts.
-ghost use Rattle.pybuf_share.specs.Laws.{LegalHistoriesAreOfOneThread, JoinedEntriesAreTheScripts};
+ghost use Rattle.pybuf_share.specs.Laws.{LegalHistoriesAreOfOneThread, JoinedEntriesAreTheScripts, ReceiptsAreTheEntries};
 
 /// A legal history is what one thread gets by stepping a new exporter through the commands of its entries: the replay
 /// is the exporter that it has at the end, and the replies of the entries are what it is replied.
@@ -11,4 +11,11 @@ pub fn legal_histories_are_of_one_thread()
 /// order.
 pub fn joined_entries_are_the_scripts()
     ensures { JoinedEntriesAreTheScripts }
+{}
+
+/// Where all receipts of an exporter's sessions stand in a history, at rising numbers, each came from a call, and the
+/// ledger has counted as many calls for them as there are entries, the receipts of each session are, in order, exactly
+/// its entries: each once, and none beside.
+pub fn receipts_are_the_entries()
+    ensures { ReceiptsAreTheEntries }
 {}

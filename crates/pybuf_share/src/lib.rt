@@ -17,7 +17,9 @@ mod worker;
 pub use entries::{Entry, EntryList, LocalCommandList, Receipt, ReceiptList, ScriptList};
 pub use gate::{Gate, OpenGate};
 pub use joined::{FinishFault, Joined};
-pub use laws::{joined_entries_are_the_scripts, legal_histories_are_of_one_thread};
+pub use laws::{
+    joined_entries_are_the_scripts, legal_histories_are_of_one_thread, receipts_are_the_entries,
+};
 pub use logged::Logged;
 pub use running::run_sessions;
 pub use session::Session;
