@@ -41,7 +41,7 @@ pub enum PropertyName {
 }
 
 /// What is asked of a subject.
-#[derive(Debug, Drop)]
+#[derive(Debug, Drop, PartialEq)]
 pub enum Verb {
     /// A new view of the subject, as `memoryview(subject)`.
     View,
@@ -168,7 +168,7 @@ pub enum Verb {
 }
 
 /// A command for one exporter, with what the handles of its values name.
-#[derive(Debug, Drop)]
+#[derive(Debug, Drop, PartialEq)]
 pub struct LocalCommand {
     pub subject: Subject,
     pub verb: Verb,

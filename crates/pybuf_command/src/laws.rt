@@ -1,11 +1,19 @@
-//! What holds of the equality of replies.
-ghost use Rattle.pybuf_command.specs.Laws.{EqualRepliesAreTheSame};
+//! What holds of the equality of replies and commands.
+ghost use Rattle.pybuf_command.specs.Laws.{EqualRepliesAreTheSame, EqualCommandsAreTheSame};
 
 use pybuf_value::equal_values_are_the_same;
 
 /// Replies are equal by `==` exactly where they are the same.
 pub fn equal_replies_are_the_same()
     ensures { EqualRepliesAreTheSame }
+{
+    equal_values_are_the_same();
+}
+
+/// Commands are equal by `==` exactly where they are the same: subject, what is asked with its arguments, and the
+/// loans, in their order.
+pub fn equal_commands_are_the_same()
+    ensures { EqualCommandsAreTheSame }
 {
     equal_values_are_the_same();
 }

@@ -19,7 +19,7 @@ pub use arity::takes;
 pub use commands::{LocalCommand, LocalReply, PropertyName, Verb};
 pub use handles::{handle_alone, handles_of, handles_of_options, handles_read, loan_of};
 pub use kinds::{ExporterKind, Subject};
-pub use laws::equal_replies_are_the_same;
+pub use laws::{equal_commands_are_the_same, equal_replies_are_the_same};
 pub use loans::{Loan, LoanList};
 pub use methods::{MethodCall, MethodName};
 pub use options::ByteInnerNewOptions;

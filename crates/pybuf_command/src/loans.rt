@@ -7,7 +7,7 @@ use std::alloc::Global;
 use std::marker::Model;
 
 /// What a handle of a command names.
-#[derive(Debug, Drop)]
+#[derive(Debug, Drop, PartialEq)]
 pub enum Loan {
     /// The exporter that the command works on.
     Own,
@@ -103,6 +103,21 @@ impl LoanList {
     {
         let LoanList { loans } = self;
         loans
+    }
+}
+
+impl PartialEq for LoanList {
+    ghost use Rattle.std.specs.Cmp.Lexicographic.{pointwise, lists_per};
+    ghost use Rattle.std.specs.Cmp.{partial_equiv_from_equiv, on_per, and_per, nat_eq_equiv};
+    ghost use Rattle.pybuf_command.specs.Loans.{equal_pairs};
+    ghost use Rattle.pybuf_command.specs.contracts.loans.LoanPartialEq.TheImpl.Laws as loan_laws;
+
+    ghost eq = { pointwise equal_pairs };
+
+    ghost laws = { lists_per (and_per (on_per (λ p. p.0) (partial_equiv_from_equiv nat_eq_equiv)) (on_per (λ p. p.1) loan_laws.laws-law)) };
+
+    fn eq(&self, other: &LoanList) -> bool {
+        self.loans.as_slice() == other.loans.as_slice()
     }
 }
 

@@ -54,7 +54,7 @@ pub enum MethodName {
 }
 
 /// A call of a method: its name, and the arguments that are given, in order.
-#[derive(Debug, Drop)]
+#[derive(Debug, Drop, PartialEq)]
 pub struct MethodCall {
     pub name: MethodName,
     pub args: ValueList,

@@ -5,7 +5,7 @@ use std::alloc::Global;
 /// What bytes are made of, as the arguments of Python's `bytes(source, encoding, errors)` (Library
 /// reference, "Built-in Functions", `bytearray`). An argument that isn't there is absent; a `None`
 /// that is given is a value.
-#[derive(Debug, Drop)]
+#[derive(Debug, Drop, PartialEq)]
 pub struct ByteInnerNewOptions {
     pub source: Option<Value>,
     pub encoding: Option<Value>,

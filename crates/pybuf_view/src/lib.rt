@@ -41,6 +41,7 @@ pub use pybuf_command::MethodName;
 pub use pybuf_command::PropertyName;
 pub use pybuf_command::Subject;
 pub use pybuf_command::Verb;
+pub use pybuf_command::equal_commands_are_the_same;
 pub use pybuf_command::equal_replies_are_the_same;
 pub use pybuf_command::takes;
 pub use pybuf_desc::BufferDescriptor;
