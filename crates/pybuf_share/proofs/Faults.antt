@@ -12,7 +12,7 @@ use Rattle.pybuf_share.specs.declared.joined.FinishFault.{FinishFault}
 use Rattle.pybuf_share.specs.declared.joined.FinishFault.TheVariants as fault
 use Rattle.pybuf_share.specs.History.{Log}
 use Rattle.pybuf_share.specs.Sessions.{Asker, new_session, sessions_from}
-use Rattle.pybuf_share.specs.Finishing.{AreAll, Begins, Refuses, numbers_from, parts_of, receipts_of, first_fall, order_fault, order_fault_or, Stands, IsRefused, Disagrees}
+use Rattle.pybuf_share.specs.Finishing.{AreAll, Begins, NumbersRise, Refuses, numbers_from, parts_of, receipts_of, first_fall, order_fault, order_fault_or, Stands, IsRefused, Disagrees}
 
 -- of fewer than two receipts none falls
 pub fall_short : (rs : List Receipt) → length rs ≤ 1 → first_fall rs ≡ None
@@ -91,3 +91,10 @@ parts_are k (suc n) =
 -- the sessions at the beginning are all
 pub all_made : (ss : List Asker) (n parts : ℕ) → ss ≡ sessions_from 0 n → n ≡ parts → AreAll parts ss
 all_made ss n parts are many = subst (λ (l : List Asker). AreAll parts l) (sym are) (record { numbers = numbers_are 0 n; whole = parts_are 0 n ∙ many })
+
+-- a receipt that doesn't stand is why sessions are refused
+pub disagreement_refuses : (log : Log) (k : ExporterKind) (bytes : List ℕ) (ss : List Asker) (f : FinishFault) → Begins log k bytes → NumbersRise ss → Disagrees log.entries (receipts_of ss) f → Refuses log k bytes ss f
+disagreement_refuses log k bytes ss fault.NoMemory begins rise why = tt
+disagreement_refuses log k bytes ss (fault.Disagree at kept got) begins rise why = record { begins = begins; rise = rise; first = why }
+disagreement_refuses log k bytes ss (fault.Order session before after) begins rise why = absurd why
+disagreement_refuses log k bytes ss (fault.Opening given_kind given kept_kind kept) begins rise why = absurd why

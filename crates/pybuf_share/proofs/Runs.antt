@@ -11,12 +11,12 @@ use Rattle.pybuf_share.specs.declared.entries.Entry.{Entry}
 use Rattle.pybuf_share.specs.declared.entries.Receipt.{Receipt}
 use Rattle.pybuf_share.specs.declared.joined.Joined.{Joined}
 use Rattle.pybuf_share.specs.Running.{IsRun, RefusesRun}
-use Rattle.pybuf_share.specs.Sessions.{Asker, IsAnswered, replies_given, sessions_from}
+use Rattle.pybuf_share.specs.Sessions.{Asker, IsAnswered, replies_given, new_session, sessions_from}
 use Rattle.pybuf_share.specs.Joining.{resolve, Follows, entries_of}
 use Rattle.pybuf_share.specs.declared.joined.FinishFault.{FinishFault}
 use Rattle.pybuf_share.specs.declared.joined.FinishFault.TheVariants as fault
 use Rattle.pybuf_share.specs.Finishing.{numbers_from, parts_of, receipts_of, first_fall, order_fault, order_fault_or, IsJoined, AreTheirs, RefusesAtLast}
-use Rattle.pybuf_share.specs.Working.{Work, IsAtWork, IsLater, IsDone, hired}
+use Rattle.pybuf_share.specs.Working.{Work, IsAtWork, IsLater, IsDone, IsNew, hired}
 use Rattle.pybuf_share.proofs.Follows.{Named, all_named, follows_next}
 use Rattle.pybuf_share.proofs.Theirs.{All-behind}
 
@@ -228,3 +228,8 @@ all_carried scripts new before after ss are hired_is len each done sessions =
     let began : before ≡ hired scripts (sessions_from 0 (length scripts)) = hired_is ∙ ap (hired scripts) are in
     let later = subst (λ (ws : List Work). AllZip IsLater ws after) began (all_zip IsLater before after len each) in
     subst (λ (l : List Asker). AreCarried 0 scripts l) (sym sessions) (carried_from 0 scripts after later done)
+
+-- the sessions at the beginning have nothing to show
+pub new_from : (k n : ℕ) → All IsNew (sessions_from k n)
+new_from k zero = All-nil IsNew
+new_from k (suc n) = All-cons IsNew (new_session k) (sessions_from (suc k) n) (record { nothing = refl; plain = refl }) (new_from (suc k) n)

@@ -103,7 +103,10 @@ fn run_by<L: Ledger + Send + Sync, R: Threads + Wait + Sync, G: Gate + Sync>(
     let mut workers = hire(alloc, scripts, sessions)?;
     work_all(rt, alloc, workers.as_mut_slice(), &shared, gate);
     let sessions = dismiss(alloc, workers)?;
-    shared.finish(sessions)
+    match shared.finish(sessions) {
+        Ok(joined) => Ok(joined),
+        Err(fault) => Err(fault),
+    }
 }
 
 /// Carries out a script for each session, side by side, on one exporter of a kind and of these bytes, and puts together

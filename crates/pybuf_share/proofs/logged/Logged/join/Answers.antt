@@ -1,0 +1,13 @@
+use Rattle.std.proofs.Common.{rules}
+use Rattle.pybuf_share.specs.History.{Log}
+use Rattle.pybuf_share.specs.Finishing.{Agree}
+use Rattle.pybuf_share.proofs.Joins.{theirs_are}
+use Rattle.pybuf_share.proofs.logged.Logged.join.Goals as goal
+
+pub returns-in-Ok-clause-theirs : goal.returns-in-Ok-clause-theirs
+returns-in-Ok-clause-theirs g c =
+    let inside = c.self.inside in
+    let log : Log = record { kind = inside.kind; opening = inside.opening; entries = inside.history.items } in
+    let agree : Agree log c.args.kind c.args.bytes c.args.sessions.items = search rules in
+    λ plain.
+    theirs_are log c.args.kind c.args.bytes c.args.sessions.items inside.state inside.calls.total g.met.L.Ledger.parts agree c.self.invariant.0 c.requires c.count_calls.ensures.own c.count_calls.ensures.counted plain
