@@ -31,3 +31,7 @@ pub mod PackedDims
 pub mod PackedItems
 pub mod PlaceBits
 pub mod FewDims
+pub mod StepsOfLines
+pub mod LineLemmas
+pub mod LinePieces
+pub mod LinePairs

@@ -6,4 +6,5 @@ use Rattle.pybuf_desc.specs.declared.dims.KeptDims.TheVariants as kept
 abbrev pub dims_of : KeptDims → List (ℕ × ℤ × ℤ)
 dims_of (kept.One dims) = dims
 dims_of (kept.Two dims) = dims
+dims_of (kept.Three dims) = dims
 dims_of (kept.Many dims) = dims

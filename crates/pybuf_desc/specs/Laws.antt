@@ -17,7 +17,10 @@ use Rattle.pybuf_desc.specs.Places.{Stands, layout_at}
 use Rattle.pybuf_desc.specs.Valid.{IsValid, IsPlaced}
 use Rattle.pybuf_desc.specs.Positions.{AreIndices, offset_of, number_of_item}
 use Rattle.pybuf_desc.specs.Tails.{tail_of, tail_of_strides}
-use Rattle.pybuf_desc.specs.Segments.{ranges_of, bytes_in}
+use Rattle.pybuf_desc.specs.Segments.{ranges_of, bytes_of, bytes_in}
+use Rattle.pybuf_desc.specs.SegmentLines.{ranges_of_line, IsLine}
+use Rattle.pybuf_desc.specs.declared.line.SegmentLine.{SegmentLine}
+use Rattle.pybuf_apart.specs.Apart.{place_of, AreInside, pieces_at}
 
 -- ---- casts
 
@@ -187,3 +190,14 @@ abbrev pub RangesStayInside : Type 0
 RangesStayInside =
     (d : Descriptor) (start joined : ℕ) (view : Layout) (room : ℕ) → IsPlaced d start → joined ≤ tail_of d → Stands d start view → LiesInside room view
     → All (λ (range : Range ℕ). range.end ≤ room) (ranges_of d (pos start) joined)
+
+-- The items of a line lie among bytes where each byte of its ranges does.
+abbrev pub LinesLieInside : Type 0
+LinesLieInside =
+    (line : SegmentLine) (room : ℕ) → IsLine line → All (λ (place : ℕ). place < room) (flat_map bytes_of (ranges_of_line line))
+    → AreInside line.track.falls line.track.start line.track.step line.count line.size room
+
+-- The bytes at the ranges of a line are those of its items, one after the other.
+abbrev pub LinesHaveTheirPieces : Type 0
+LinesHaveTheirPieces =
+    (line : SegmentLine) (bytes : List ℕ) → flat_map (bytes_in bytes) (ranges_of_line line) ≡ pieces_at bytes (place_of line.track.falls line.track.start line.track.step) line.size line.count

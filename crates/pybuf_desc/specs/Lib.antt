@@ -18,3 +18,5 @@ pub mod Segments
 pub mod Laws
 pub mod Pairs
 pub mod KeptDims
+pub mod KeptFormats
+pub mod SegmentLines

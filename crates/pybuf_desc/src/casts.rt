@@ -11,6 +11,7 @@ ghost use Rattle.pybuf_desc.specs.ShapedCasts.{cast_to};
 
 use crate::descriptor::BufferDescriptor;
 use crate::dims::Dims;
+use crate::kept_format::KeptFormat;
 use pybuf_value::{DimList, Made, Text};
 use std::alloc::Global;
 
@@ -60,7 +61,7 @@ impl BufferDescriptor {
     ///
     /// The items must lie one after the other without a gap, as `is_contiguous` tells, and the new
     /// ones must make up their bytes: Python's reference has it under `memoryview.cast`.
-    pub fn cast_flat(&self, alloc: Global, format: Text, itemsize: usize) -> Made<BufferDescriptor>
+    pub fn cast_flat(&self, _alloc: Global, format: Text, itemsize: usize) -> Made<BufferDescriptor>
         requires valid { IsPlaceable self.now }
         requires contiguous { (start : ℕ) (view : Layout) → Stands self.now start view → is_contiguous_layout view ≡ true }
         requires some_size { 0 < itemsize }
@@ -70,7 +71,22 @@ impl BufferDescriptor {
         ensures valid { IfOk result (λ d. (start room : ℕ) → IsValid self.now start room → IsValid d start room) }
         ensures stands { IfOk result (λ d. (start : ℕ) (view : Layout) → Stands self.now start view → Stands d start (cast_of view format itemsize)) }
     {
-        BufferDescriptor::format(alloc, self.len(), self.readonly(), itemsize, format)
+        Ok(self.cast_flat_as(KeptFormat::from_text(format), itemsize))
+    }
+
+    /// The same of a format as it is kept. Takes no memory.
+    #[inline(always)]
+    pub fn cast_flat_as(&self, format: KeptFormat, itemsize: usize) -> BufferDescriptor
+        requires valid { IsPlaceable self.now }
+        requires contiguous { (start : ℕ) (view : Layout) → Stands self.now start view → is_contiguous_layout view ≡ true }
+        requires some_size { 0 < itemsize }
+        requires size_fits { itemsize < 2 ^ 63 }
+        requires whole_items { self.now.len % itemsize ≡ 0 }
+        ensures made { result ≡ flat_descriptor format itemsize (self.now.len / itemsize) self.now.readonly }
+        ensures valid { (start room : ℕ) → IsValid self.now start room → IsValid result start room }
+        ensures stands { (start : ℕ) (view : Layout) → Stands self.now start view → Stands result start (cast_of view format itemsize) }
+    {
+        BufferDescriptor::flat(self.len(), self.readonly(), itemsize, format)
     }
 
     /// Items of another format and size over the same bytes, from the same start, in dimensions of
@@ -83,6 +99,28 @@ impl BufferDescriptor {
         &self,
         alloc: Global,
         format: Text,
+        itemsize: usize,
+        shape: &[usize],
+    ) -> Made<BufferDescriptor>
+        requires valid { IsPlaceable self.now }
+        requires contiguous { (start : ℕ) (view : Layout) → Stands self.now start view → is_contiguous_layout view ≡ true }
+        requires some_size { 0 < itemsize }
+        requires size_fits { itemsize < 2 ^ 63 }
+        requires few_dimensions { length shape.now ≤ 64 }
+        requires entries { All (λ n. 0 < n) shape.now }
+        requires whole_items { itemsize * product shape.now ≡ self.now.len }
+        ensures made { IfOk result (λ d. d ≡ shaped_cast self.now format itemsize shape.now) }
+        ensures valid { IfOk result (λ d. (start room : ℕ) → IsValid self.now start room → IsValid d start room) }
+        ensures stands { IfOk result (λ d. (start : ℕ) (view : Layout) → Stands self.now start view → Stands d start (cast_to view format itemsize shape.now)) }
+    {
+        self.cast_shape_as(alloc, KeptFormat::from_text(format), itemsize, shape)
+    }
+
+    /// The same of a format as it is kept. It takes memory for more dimensions than two.
+    pub fn cast_shape_as(
+        &self,
+        alloc: Global,
+        format: KeptFormat,
         itemsize: usize,
         shape: &[usize],
     ) -> Made<BufferDescriptor>

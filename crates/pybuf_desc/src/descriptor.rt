@@ -5,6 +5,7 @@ ghost use Rattle.pybuf_value.specs.declared.faults.Fault.{Fault};
 
 use crate::checks::{are_inside, extent, has_later_entries, has_strides, has_zero, is_direct};
 use crate::dims::Dims;
+use crate::kept_format::KeptFormat;
 use pybuf_value::{DimList, Fault, Made, Text, Twin};
 use std::alloc::Global;
 use std::marker::Model;
@@ -20,7 +21,7 @@ pub struct BufferDescriptor {
     pub len: usize,
     pub readonly: bool,
     pub itemsize: usize,
-    pub format: Text,
+    pub format: KeptFormat,
     dim_desc: Dims,
 }
 
@@ -67,7 +68,7 @@ impl BufferDescriptor {
     }
 
     /// The format of one item, in the syntax of Python's `struct` module.
-    pub fn format_text(&self) -> &Text
+    pub fn format_text(&self) -> &KeptFormat
         ensures { result.now ≡ self.now.format }
     {
         &self.format
@@ -145,8 +146,8 @@ impl BufferDescriptor {
         }
     }
 
-    /// One dimension of bytes: format `B`, and as many items as bytes, wherever the first lies.
-    pub fn simple(alloc: Global, bytes_len: usize, readonly: bool) -> Made<BufferDescriptor>
+    /// One dimension of bytes: format `B`, and as many items as bytes, wherever the first lies. Takes no memory.
+    pub fn simple(_alloc: Global, bytes_len: usize, readonly: bool) -> Made<BufferDescriptor>
         requires { bytes_len < 2 ^ 63 }
         ensures made { IfOk result (λ d. d ≡ flat_descriptor (codes "B") 1 bytes_len readonly) }
         ensures valid { IfOk result (λ d. IsValid d 0 bytes_len) }
@@ -154,8 +155,7 @@ impl BufferDescriptor {
         ensures valid_from { IfOk result (λ d. (start room : ℕ) → start + bytes_len ≤ room → IsValid d start room) }
         ensures stands_from { IfOk result (λ d. (start : ℕ) → Stands d start (bytes_layout_from start bytes_len readonly)) }
     {
-        let text = String::from_str(alloc, "B")?;
-        BufferDescriptor::format(alloc, bytes_len, readonly, 1, Text::from_string(text))
+        Ok(BufferDescriptor::flat(bytes_len, readonly, 1, KeptFormat::of_bytes()))
     }
 
     /// One dimension of items, one after the other. Takes no memory.
@@ -174,16 +174,37 @@ impl BufferDescriptor {
         ensures valid { IfOk result (λ d. IsValid d 0 bytes_len) }
         ensures stands { IfOk result (λ d. Stands d 0 (flat_layout format itemsize (bytes_len / itemsize) readonly)) }
     {
-        Ok(BufferDescriptor {
+        let format = KeptFormat::from_text(format);
+        Ok(BufferDescriptor::flat(bytes_len, readonly, itemsize, format))
+    }
+
+    /// The same of a format as it is kept.
+    #[inline(always)]
+    pub fn flat(
+        bytes_len: usize,
+        readonly: bool,
+        itemsize: usize,
+        format: KeptFormat,
+    ) -> BufferDescriptor
+        requires some_size { 0 < itemsize }
+        requires size_fits { itemsize < 2 ^ 63 }
+        requires len_fits { bytes_len < 2 ^ 63 }
+        requires whole_items { bytes_len % itemsize ≡ 0 }
+        ensures made { result ≡ flat_descriptor format itemsize (bytes_len / itemsize) readonly }
+        ensures valid { IsValid result 0 bytes_len }
+        ensures stands { Stands result 0 (flat_layout format itemsize (bytes_len / itemsize) readonly) }
+    {
+        BufferDescriptor {
             len: bytes_len,
             readonly,
             itemsize,
             format,
             dim_desc: Dims::one((bytes_len / itemsize, itemsize as isize, 0)),
-        })
+        }
     }
 
     /// The same but for its length, and the entries and the stride of its first dimension.
+    #[inline(always)]
     pub(crate) fn with_first(
         &self,
         alloc: Global,
@@ -206,7 +227,8 @@ impl BufferDescriptor {
     }
 
     /// The same items over the same bytes, which may only be read: Python's reference has it under
-    /// `memoryview.toreadonly`. It takes memory for the format, and for more dimensions than two.
+    /// `memoryview.toreadonly`. It takes memory for a format of more than a letter, and for
+    /// more dimensions than three.
     pub fn to_readonly(&self, alloc: Global) -> Made<BufferDescriptor>
         ensures made { IfOk result (λ d. d ≡ record self.now { readonly = true }) }
         ensures valid { IfOk result (λ d. (start room : ℕ) → IsValid self.now start room → IsValid d start room) }
@@ -233,6 +255,7 @@ impl BufferDescriptor {
     ) -> BufferDescriptor
         ensures { result ≡ record { len = len; readonly = readonly; itemsize = itemsize; format = format; dims = dim_desc } }
     {
+        let format = KeptFormat::from_text(format);
         BufferDescriptor::from_dims(len, readonly, itemsize, format, Dims::from_list(dim_desc))
     }
 
@@ -241,7 +264,7 @@ impl BufferDescriptor {
         len: usize,
         readonly: bool,
         itemsize: usize,
-        format: Text,
+        format: KeptFormat,
         dim_desc: Dims,
     ) -> BufferDescriptor
         ensures { result ≡ record { len = len; readonly = readonly; itemsize = itemsize; format = format; dims = dim_desc } }

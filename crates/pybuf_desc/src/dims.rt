@@ -1,4 +1,4 @@
-//! The dimensions of a descriptor. Up to two take no memory of their own, since most views have no
+//! The dimensions of a descriptor. Up to three take no memory of their own, since most views have no
 //! more and a view is made at each slice.
 ghost use Rattle.std.specs.Prelude.{◌≡◌, ◌<◌, ℕ, ℤ, pos, List, [], ◌∷◌, length, IfOk, IfSome, slice_set, slice_index_or};
 
@@ -13,6 +13,7 @@ type Dim = (usize, isize, isize);
 enum KeptDims {
     One([Dim; 1]),
     Two([Dim; 2]),
+    Three([Dim; 3]),
     Many(DimList),
 }
 
@@ -32,13 +33,14 @@ impl Model for Dims {
     ghost view = { λ d. dims_of d.kept };
 }
 
-/// One or two dimensions, kept without memory of their own.
+/// Up to three dimensions, kept without memory of their own.
 fn few_dims(dims: &[Dim]) -> Option<Dims>
     ensures { IfSome result (λ few. few ≡ dims.now) }
 {
     match dims {
         [first] => Some(Dims::one(*first)),
         [first, second] => Some(Dims::two(*first, *second)),
+        [first, second, third] => Some(Dims::three(*first, *second, *third)),
         _ => None,
     }
 }
@@ -58,6 +60,7 @@ fn many_with_first(alloc: Global, dims: &DimList, count: usize, stride: isize) -
 
 impl Dims {
     /// One dimension. Takes no memory.
+    #[inline(always)]
     pub(crate) fn one(first: Dim) -> Dims
         ensures { result ≡ first ∷ [] }
     {
@@ -75,7 +78,16 @@ impl Dims {
         }
     }
 
-    /// The dimensions of the list. Takes no memory, and gives back that of one or two.
+    /// Three dimensions. Takes no memory.
+    fn three(first: Dim, second: Dim, third: Dim) -> Dims
+        ensures { result ≡ first ∷ second ∷ third ∷ [] }
+    {
+        Dims {
+            kept: KeptDims::Three([first, second, third]),
+        }
+    }
+
+    /// The dimensions of the list. Takes no memory, and gives back that of up to three.
     pub(crate) fn from_list(list: DimList) -> Dims
         ensures { result ≡ list }
     {
@@ -94,11 +106,13 @@ impl Dims {
         match &self.kept {
             KeptDims::One(dims) => dims.as_slice(),
             KeptDims::Two(dims) => dims.as_slice(),
+            KeptDims::Three(dims) => dims.as_slice(),
             KeptDims::Many(list) => list.as_slice(),
         }
     }
 
     /// The same but for the entries and the stride of the first.
+    #[inline(always)]
     pub(crate) fn with_first(&self, alloc: Global, count: usize, stride: isize) -> Made<Dims>
         requires { 0 < length self.now }
         ensures { IfOk result (λ d. d ≡ slice_set self.now 0 (count, stride, (slice_index_or self.now 0 (0, pos 0, pos 0)).2)) }
@@ -118,6 +132,13 @@ impl Dims {
                     kept: KeptDims::Two(dims),
                 })
             }
+            KeptDims::Three(dims) => {
+                let mut dims = *dims;
+                dims[0] = (count, stride, dims[0].2);
+                Ok(Dims {
+                    kept: KeptDims::Three(dims),
+                })
+            }
             KeptDims::Many(list) => many_with_first(alloc, list, count, stride),
         }
     }
@@ -131,6 +152,9 @@ impl Twin for Dims {
             }),
             KeptDims::Two(dims) => Ok(Dims {
                 kept: KeptDims::Two(*dims),
+            }),
+            KeptDims::Three(dims) => Ok(Dims {
+                kept: KeptDims::Three(*dims),
             }),
             KeptDims::Many(list) => Ok(Dims {
                 kept: KeptDims::Many(list.copy(alloc)?),

@@ -1,5 +1,5 @@
 //! Laws of the definitions that the contracts cite. Each stands on a function with an empty body.
-ghost use Rattle.pybuf_desc.specs.Laws.{CastsShareTheirBytes, CastsStayInside, CastsHaveTheirShape, CastsAreContiguous, FlatCastsHaveOneDimension, ShapedCastsShareTheirBytes, ShapedCastsStayInside, ShapedCastsHaveTheirShape, CopiesHaveTheirBytes, SlicesStayInside, SlicesHaveTheirShape, SlicingBackTwiceIsNothing, WholeLayoutsLieApart, SlicesLieApart, CastsLieApart, RowMajorLayoutsLieApart, PlacedDescriptorsStand, DescriptorsStandForOneView, DescribedViewsHaveTheirShape, ValidWhereItemsLieInside, ContiguityIsOfStrides, ContiguityIsTheSameAnywhere, PositionsArePlaces, TailsAreGreatest, RangesHaveTheContent, RangesStayInside};
+ghost use Rattle.pybuf_desc.specs.Laws.{CastsShareTheirBytes, CastsStayInside, CastsHaveTheirShape, CastsAreContiguous, FlatCastsHaveOneDimension, ShapedCastsShareTheirBytes, ShapedCastsStayInside, ShapedCastsHaveTheirShape, CopiesHaveTheirBytes, SlicesStayInside, SlicesHaveTheirShape, SlicingBackTwiceIsNothing, WholeLayoutsLieApart, SlicesLieApart, CastsLieApart, RowMajorLayoutsLieApart, PlacedDescriptorsStand, DescriptorsStandForOneView, DescribedViewsHaveTheirShape, ValidWhereItemsLieInside, ContiguityIsOfStrides, ContiguityIsTheSameAnywhere, PositionsArePlaces, TailsAreGreatest, RangesHaveTheContent, RangesStayInside, LinesLieInside, LinesHaveTheirPieces};
 
 /// The items of a cast of a contiguous view have the view's bytes in their order: its items lie one
 /// new item size apart from the view's first place on, and make up all its bytes.
@@ -141,4 +141,14 @@ pub fn ranges_have_the_content()
 /// of the tail are joined.
 pub fn ranges_stay_inside()
     ensures { RangesStayInside }
+{}
+
+/// The items of a line lie among bytes where each byte of its ranges does.
+pub fn lines_lie_inside()
+    ensures { LinesLieInside }
+{}
+
+/// The bytes at the ranges of a line are those of its items, one after the other.
+pub fn lines_have_their_pieces()
+    ensures { LinesHaveTheirPieces }
 {}

@@ -1,5 +1,5 @@
 //! The walk over the items of two views of one shape.
-ghost use Rattle.std.specs.Prelude.{◌≡◌, ◌<◌, ◌≤◌, pos, map};
+ghost use Rattle.std.specs.Prelude.{◌≡◌, ◌<◌, ◌≤◌, ◌++◌, pos, map, MatchOption, IfSome};
 ghost use Rattle.std.specs.Iterator.{YieldsFirst, item_count};
 ghost use Rattle.std.specs.List.{flat_map, zip};
 ghost use Rattle.pybuf_desc.specs.Descriptor.{shape_of};
@@ -7,9 +7,11 @@ ghost use Rattle.pybuf_desc.specs.Layouts.{product};
 ghost use Rattle.pybuf_desc.specs.Valid.{IsPlaced, IsPlaceable};
 ghost use Rattle.pybuf_desc.specs.Tails.{tail_of};
 ghost use Rattle.pybuf_desc.specs.Segments.{ranges_of, item_bytes, bytes_of};
+ghost use Rattle.pybuf_desc.specs.SegmentLines.{ranges_of_line, IsLine};
 ghost use Rattle.pybuf_desc.specs.Pairs.{joined_count_of_both, pairs_of};
 
 use crate::descriptor::BufferDescriptor;
+use crate::line::SegmentLine;
 use crate::segments::Segments;
 use std::marker::Model;
 use std::ops::Range;
@@ -42,6 +44,19 @@ impl<'a> Iterator for ZipSegments<'a> {
         let one = self.one.next()?;
         let other = self.other.next()?;
         Some((one, other))
+    }
+}
+
+impl<'a> ZipSegments<'a> {
+    /// Takes the next row of both walks, where both are at the start of a row and these rows have as many
+    /// ranges, as they are where no pair was taken by itself. Takes no memory.
+    pub fn next_lines(&mut self) -> Option<(SegmentLine, SegmentLine)>
+        ensures pairs { MatchOption result (self.new ≡ self.old) (λ lines. self.old ≡ zip (ranges_of_line lines.0) (ranges_of_line lines.1) ++ self.new) }
+        ensures first_line { IfSome result (λ lines. IsLine lines.0) }
+        ensures second_line { IfSome result (λ lines. IsLine lines.1) }
+        ensures as_many { IfSome result (λ lines. lines.0.count ≡ lines.1.count) }
+    {
+        self.one.next_rows(&mut self.other)
     }
 }
 

@@ -1,5 +1,5 @@
 //! The walk over the bytes of the items.
-ghost use Rattle.std.specs.Prelude.{◌≡◌, ◌*◌, ◌^◌, ◌<◌, ℤ, pos, ◌+ℤ◌, ◌-ℤ◌, ◌*ℤ◌, ◌≤ℤ◌, ◌<ℤ◌, FitsSigned, ◌≤◌, All, length, true, [], ◌∷◌, map, replicate};
+ghost use Rattle.std.specs.Prelude.{◌≡◌, ◌*◌, ◌^◌, ◌<◌, ℤ, pos, ◌+ℤ◌, ◌-ℤ◌, ◌*ℤ◌, ◌≤ℤ◌, ◌<ℤ◌, FitsSigned, ◌≤◌, All, length, true, [], ◌∷◌, ◌++◌, map, replicate, MatchOption, IfSome};
 ghost use Rattle.std.specs.Int.{w64};
 ghost use Rattle.std.specs.Iterator.{YieldsFirst, item_count};
 ghost use Rattle.std.specs.List.{flat_map, AllByRecursion};
@@ -8,10 +8,12 @@ ghost use Rattle.pybuf_desc.specs.Descriptor.{shape_of};
 ghost use Rattle.pybuf_desc.specs.Places.{places};
 ghost use Rattle.pybuf_desc.specs.Valid.{IsPlaced, IsInside};
 ghost use Rattle.pybuf_desc.specs.Tails.{tail_of};
-ghost use Rattle.pybuf_desc.specs.Segments.{IsRow, AreRows, HasPlaces, rows_left, row_places, range_at, ranges_of, joined_count, item_bytes, bytes_of};
+ghost use Rattle.pybuf_desc.specs.SegmentLines.{ranges_of_line, IsLine};
+ghost use Rattle.pybuf_desc.specs.Segments.{IsRow, AreRows, HasPlaces, IsWalk, rows_left, places_left, row_places, range_at, ranges_of, joined_count, item_bytes, bytes_of};
 
 use crate::checks::has_zero;
 use crate::descriptor::BufferDescriptor;
+use crate::line::{SegmentLine, line_of};
 use std::marker::Model;
 use std::ops::Range;
 
@@ -127,6 +129,99 @@ impl<'a> Iterator for Segments<'a> {
         self.left = left;
         self.place = next_place(place, self.stride, left);
         Some(place..place + self.size)
+    }
+}
+
+/// The ranges of a row, and the place of the next row, if there is one, to whose indices the indices are
+/// set.
+fn row_line(
+    rows: &[(usize, isize, isize)],
+    indices: &mut [usize; 64],
+    place: usize,
+    stride: isize,
+    row_len: usize,
+    size: usize,
+) -> (SegmentLine, usize, bool)
+    requires { IsWalk rows.now indices.old place true 0 stride 0 row_len size }
+    ensures ranges { map (range_at size) (places_left 0 stride 0 row_len (rows_left rows.now indices.old place true)) ≡ ranges_of_line result.0 ++ map (range_at size) (places_left 0 stride 0 row_len (rows_left rows.now indices.new result.1 result.2)) }
+    ensures walk { IsWalk rows.now indices.new result.1 result.2 0 stride 0 row_len size }
+    ensures line { IsLine result.0 }
+    ensures count { result.0.count ≡ row_len }
+{
+    let next = next_row(rows, indices, place);
+    let line = line_of(place, stride, row_len, size);
+    (line, next.0, next.1)
+}
+
+impl<'a> Segments<'a> {
+    /// Takes what is left of a row of ranges, or the next row where nothing is. Takes no memory.
+    pub fn next_line(&mut self) -> Option<SegmentLine>
+        ensures takes { MatchOption result (self.old ≡ []) (λ line. self.old ≡ ranges_of_line line ++ self.new) }
+        ensures line { IfSome result IsLine }
+    {
+        if self.left == 0 {
+            if !self.has_row {
+                return None;
+            }
+            let (line, place, has_row) = row_line(
+                self.rows,
+                &mut self.indices,
+                self.row_place,
+                self.stride,
+                self.row_len,
+                self.size,
+            );
+            self.row_place = place;
+            self.has_row = has_row;
+            return Some(line);
+        }
+        let line = line_of(self.place, self.stride, self.left, self.size);
+        self.left = 0;
+        Some(line)
+    }
+
+    /// Takes the next row of each of two walks, where both are at the start of a row and these rows have
+    /// as many ranges. Takes no memory.
+    pub(crate) fn next_rows(
+        &mut self,
+        other: &mut Segments<'_>,
+    ) -> Option<(SegmentLine, SegmentLine)>
+        ensures first { MatchOption result (self.new ≡ self.old) (λ lines. self.old ≡ ranges_of_line lines.0 ++ self.new) }
+        ensures second { MatchOption result (other.new ≡ other.old) (λ lines. other.old ≡ ranges_of_line lines.1 ++ other.new) }
+        ensures first_line { IfSome result (λ lines. IsLine lines.0) }
+        ensures second_line { IfSome result (λ lines. IsLine lines.1) }
+        ensures as_many { IfSome result (λ lines. lines.0.count ≡ lines.1.count) }
+    {
+        if self.left != 0 || other.left != 0 {
+            return None;
+        }
+        if !self.has_row || !other.has_row {
+            return None;
+        }
+        if self.row_len != other.row_len {
+            return None;
+        }
+        let (line, place, has_row) = row_line(
+            self.rows,
+            &mut self.indices,
+            self.row_place,
+            self.stride,
+            self.row_len,
+            self.size,
+        );
+        self.row_place = place;
+        self.has_row = has_row;
+        let (other_line, other_place, other_has_row) = row_line(
+            other.rows,
+            &mut other.indices,
+            other.row_place,
+            other.stride,
+            other.row_len,
+            other.size,
+        );
+        other.row_place = other_place;
+        other.has_row = other_has_row;
+        Some((line, other_line))
     }
 }
 

@@ -58,6 +58,7 @@ impl BufferDescriptor {
     /// items or more show that stride, and then it is exact; elsewhere no place depends on it. A
     /// slice without indices leaves the start where it was. All else stays: Python's reference has
     /// it under "memoryview", where a slice of a view is a subview.
+    #[inline(always)]
     pub fn sliced(
         &self,
         alloc: Global,

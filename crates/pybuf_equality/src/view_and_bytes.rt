@@ -8,8 +8,9 @@ ghost use Rattle.pybuf_equality.specs.Packed.{IsPacked};
 
 use crate::equality::equal_views;
 use crate::shapes::entries_agree;
+use pybuf_desc::KeptFormat;
 use pybuf_memoryview::KeptLayout;
-use pybuf_value::{Made, Snap, Text, Twin};
+use pybuf_value::{Made, Snap, Text};
 use std::alloc::Global;
 
 /// The layout of items that lie one after the other in bytes that they fill.
@@ -28,7 +29,7 @@ fn packed_layout(
 {
     pybuf_desc::shaped_casts_share_their_bytes();
     pybuf_desc::shaped_casts_stay_inside();
-    let format = format.copy(alloc)?;
+    let format = KeptFormat::of(alloc, format.as_str())?;
     let whole = KeptLayout::whole(alloc, content.len(), true)?;
     whole.cast_shape(alloc, format, itemsize, shape)
 }

@@ -1,4 +1,4 @@
-//! `PyMemoryView` by plain arguments: each call makes no value, no loan and no reply.
+//! `PyMemoryView` by plain arguments: each call but `set` makes no value, no loan and no reply.
 ghost use Rattle.std.specs.Prelude.{◌≡◌, [], map, pos, None, Some};
 ghost use Rattle.std.specs.Result.{result_map_both};
 ghost use Rattle.pybuf_value.specs.declared.values.PySlice as slices;

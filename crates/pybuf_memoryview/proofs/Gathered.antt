@@ -3,13 +3,15 @@ use Rattle.std.proofs.Common.{◌≡◌, ℕ, zero, suc, ◌+◌, ◌*◌, ◌-�
 use Rattle.std.specs.Prelude.{All, slice_get}
 use Rattle.std.specs.List.{flat_map, range_with_len, cons_option, AllByRecursion}
 use Rattle.std.specs.declared.ops.Range.{Range}
-use Rattle.std.proofs.lemmas.Grind.{common_steps}
+use Rattle.std.proofs.lemmas.Grind.{common_steps, flat_map-append}
 use Rattle.std.proofs.lemmas.List.Elements.{filter_map-append, All-append, All-nil, All-head, All-tail, All-from_recursion, recursion_from_All}
-use Rattle.std.proofs.lemmas.List.FromFn.{length-range_with_len, get_or-range_with_len}
+use Rattle.std.proofs.lemmas.List.FromFn.{length-range_with_len, get_or-range_with_len, length-map-range_with_len}
 use Rattle.std.proofs.lemmas.List.{length-append, length-take-le, length-drop}
 use Rattle.std.proofs.Math.Nat.{mul-zero}
 use Rattle.pybuf_slice.specs.Reads.{elements_at}
-use Rattle.pybuf_desc.specs.Segments.{bytes_of, item_bytes}
+use Rattle.pybuf_desc.specs.Segments.{bytes_of, bytes_in, item_bytes}
+use Rattle.pybuf_desc.specs.SegmentLines.{ranges_of_line, range_on, IsLine}
+use Rattle.pybuf_desc.specs.declared.line.SegmentLine.{SegmentLine}
 use Rattle.pybuf_desc.specs.Descriptor.{Descriptor}
 use Rattle.pybuf_desc.specs.Layouts.{Layout, LiesInside}
 use Rattle.pybuf_desc.specs.Items.{bytes_at, bytes_of_items, content_of_layout}
@@ -90,30 +92,45 @@ all_left P xs ys all = All-from_recursion P xs (left-recursion P xs ys (recursio
 all_right : {X : Type 0} (P : X → Type 0) (xs ys : List X) → All P (xs ++ ys) → All P ys
 all_right P xs ys all = All-from_recursion P ys (right-recursion P xs ys (recursion_from_All P (xs ++ ys) all))
 
--- the last byte of a range lies inside
-pub range_inside : (bytes : List ℕ) (range : Range ℕ) (ranges rest : List (Range ℕ)) → ranges ≡ range ∷ rest → range.start < range.end
-    → All (λ place. place < length bytes) (flat_map bytes_of ranges) → range.end ≤ length bytes
-range_inside bytes range ranges rest same some all =
-    let here = all_left (λ place. place < length bytes) (bytes_of range) (flat_map bytes_of rest) (subst (λ (rs : List (Range ℕ)). All (λ place. place < length bytes) (flat_map bytes_of rs)) same all) in
-    let n : ℕ = range.end - range.start in
-    let last : n - 1 < n = omega (arith, some) in
-    let within : n - 1 < length (range_with_len range.start n) = omega (arith, last, length-range_with_len range.start n) in
-    omega (arith, some, here (n - 1) 0 within, get_or-range_with_len range.start n (n - 1) 0 last)
+-- the bytes at ranges, range by range
+pub elements_by_range : (bytes : List ℕ) (ranges : List (Range ℕ)) → elements_at bytes (flat_map bytes_of ranges) ≡ flat_map (bytes_in bytes) ranges
+elements_by_range bytes [] = refl
+elements_by_range bytes (range ∷ ranges) =
+    elements_both bytes (bytes_of range) (flat_map bytes_of ranges)
+    ∙ ap₂ (λ (xs ys : List ℕ). xs ++ ys) (run_of_bytes bytes range.start (range.end - range.start)) (elements_by_range bytes ranges)
 
-pub rest_inside : (bytes : List ℕ) (range : Range ℕ) (ranges rest : List (Range ℕ)) → ranges ≡ range ∷ rest
-    → All (λ place. place < length bytes) (flat_map bytes_of ranges) → All (λ place. place < length bytes) (flat_map bytes_of rest)
-rest_inside bytes range ranges rest same all =
-    all_right (λ place. place < length bytes) (bytes_of range) (flat_map bytes_of rest) (subst (λ (rs : List (Range ℕ)). All (λ place. place < length bytes) (flat_map bytes_of rs)) same all)
+-- ---- the first ranges of many, and the others
 
-pub gather_step : (bytes gathered more total : List ℕ) (range : Range ℕ) (ranges rest : List (Range ℕ)) → ranges ≡ range ∷ rest
-    → more ≡ gathered ++ take (range.end - range.start) (drop range.start bytes) → gathered ++ elements_at bytes (flat_map bytes_of ranges) ≡ total
-    → more ++ elements_at bytes (flat_map bytes_of rest) ≡ total
-gather_step bytes gathered more total range ranges rest same grown so_far =
-    ap (λ (xs : List ℕ). xs ++ elements_at bytes (flat_map bytes_of rest)) grown
-    ∙ append_assoc gathered (take (range.end - range.start) (drop range.start bytes)) (elements_at bytes (flat_map bytes_of rest))
-    ∙ ap (λ (xs : List ℕ). gathered ++ (xs ++ elements_at bytes (flat_map bytes_of rest))) (sym (run_of_bytes bytes range.start (range.end - range.start)))
-    ∙ ap (λ (xs : List ℕ). gathered ++ xs) (sym (elements_both bytes (bytes_of range) (flat_map bytes_of rest)))
-    ∙ ap (λ (rs : List (Range ℕ)). gathered ++ elements_at bytes (flat_map bytes_of rs)) (sym same) ∙ so_far
+abbrev pub Inside : List ℕ → List (Range ℕ) → Type 0
+Inside bytes ranges = All (λ (place : ℕ). place < length bytes) (flat_map bytes_of ranges)
+
+split_inside : (bytes : List ℕ) (first ranges others : List (Range ℕ)) → ranges ≡ first ++ others → Inside bytes ranges
+    → All (λ (place : ℕ). place < length bytes) (flat_map bytes_of first ++ flat_map bytes_of others)
+split_inside bytes first ranges others same all =
+    subst (All (λ (place : ℕ). place < length bytes)) (ap (flat_map bytes_of) same ∙ flat_map-append bytes_of first others) all
+
+pub first_inside : (bytes : List ℕ) (first ranges others : List (Range ℕ)) → ranges ≡ first ++ others → Inside bytes ranges → Inside bytes first
+first_inside bytes first ranges others same all = all_left (λ (place : ℕ). place < length bytes) (flat_map bytes_of first) (flat_map bytes_of others) (split_inside bytes first ranges others same all)
+
+pub others_inside : (bytes : List ℕ) (first ranges others : List (Range ℕ)) → ranges ≡ first ++ others → Inside bytes ranges → Inside bytes others
+others_inside bytes first ranges others same all = all_right (λ (place : ℕ). place < length bytes) (flat_map bytes_of first) (flat_map bytes_of others) (split_inside bytes first ranges others same all)
+
+pub gather_step : (bytes gathered more total : List ℕ) (first ranges others : List (Range ℕ)) → ranges ≡ first ++ others
+    → more ≡ gathered ++ elements_at bytes (flat_map bytes_of first) → gathered ++ elements_at bytes (flat_map bytes_of ranges) ≡ total
+    → more ++ elements_at bytes (flat_map bytes_of others) ≡ total
+gather_step bytes gathered more total first ranges others same grown so_far =
+    ap (λ (xs : List ℕ). xs ++ elements_at bytes (flat_map bytes_of others)) grown
+    ∙ append_assoc gathered (elements_at bytes (flat_map bytes_of first)) (elements_at bytes (flat_map bytes_of others))
+    ∙ ap (λ (xs : List ℕ). gathered ++ xs) (sym (elements_both bytes (flat_map bytes_of first) (flat_map bytes_of others)) ∙ ap (elements_at bytes) (sym (ap (flat_map bytes_of) same ∙ flat_map-append bytes_of first others)))
+    ∙ so_far
+
+-- there are fewer ranges left
+pub fewer_ranges : (line : SegmentLine) (ranges others : List (Range ℕ)) → ranges ≡ ranges_of_line line ++ others → IsLine line → length others < length ranges
+fewer_ranges line ranges others same is =
+    let long : length ranges ≡ line.count + length others =
+    ap length same ∙ length-append (ranges_of_line line) others
+    ∙ ap (λ (n : ℕ). n + length others) (length-map-range_with_len (range_on line.track.falls line.track.start line.track.step line.size) 0 line.count) in
+    omega (arith, long, is.some)
 
 -- as many bytes as all items have
 pub length-content : (bytes : List ℕ) (size : ℕ) (starts : List ℕ) → All (λ start. start + size ≤ length bytes) starts → length (bytes_of_items bytes size starts) ≡ size * length starts

@@ -1,32 +1,29 @@
 //! The bytes of a view's items.
-ghost use Rattle.std.specs.Prelude.{◌≡◌, ◌+◌, ◌<◌, ◌≤◌, ◌-◌, ◌++◌, ℕ, List, true, length, take, drop, slice_index, IfOk, OnOk};
+ghost use Rattle.std.specs.Prelude.{◌≡◌, ◌+◌, ◌<◌, ◌≤◌, ◌++◌, ℕ, List, true, length, take, drop, slice_index, IfOk, OnOk};
 ghost use Rattle.std.specs.List.{All, flat_map};
 ghost use Rattle.pybuf_slice.specs.Reads.{elements_at};
 ghost use Rattle.pybuf_desc.specs.Contiguous.{is_contiguous_layout};
 ghost use Rattle.pybuf_desc.specs.Layouts.{LiesInside, HasItemsOfItsShape};
 ghost use Rattle.pybuf_desc.specs.Items.{content_of_layout};
 ghost use Rattle.pybuf_desc.specs.Segments.{bytes_of};
+ghost use Rattle.pybuf_desc.specs.SegmentLines.{ranges_of_line, IsLine};
 ghost use Rattle.pybuf_memoryview.specs.Orders.{nbytes_of};
 
 use crate::kept::KeptLayout;
-use pybuf_desc::Segments;
+use pybuf_apart::append_items;
+use pybuf_desc::{SegmentLine, Segments};
 use pybuf_value::Made;
 use std::alloc::Global;
-use std::ops::Range;
 
-/// Adds the bytes of a range.
-fn push_range(gathered: &mut Vec<u8>, bytes: &[u8], range: Range<usize>) -> Made<()>
-    requires { range.start < range.end → range.end ≤ length bytes.now }
-    ensures { OnOk result (gathered.new.items ≡ gathered.old.items ++ take (range.end - range.start) (drop range.start bytes.now)) }
+/// Adds the bytes of ranges in equal steps.
+fn push_line(gathered: &mut Vec<u8>, bytes: &[u8], line: SegmentLine) -> Made<()>
+    requires line { IsLine line }
+    requires inside { All (λ place. place < length bytes.now) (flat_map bytes_of (ranges_of_line line)) }
+    ensures { OnOk result (gathered.new.items ≡ gathered.old.items ++ elements_at bytes.now (flat_map bytes_of (ranges_of_line line))) }
 {
-    if range.start < range.end {
-        if range.end - range.start == 1 {
-            // one byte costs less by itself than as a run
-            gathered.push(bytes[range.start])?;
-            return Ok(());
-        }
-        gathered.extend_from_slice(&bytes[range])?;
-    }
+    pybuf_desc::lines_lie_inside();
+    pybuf_desc::lines_have_their_pieces();
+    append_items(gathered, bytes, line.track, line.size, line.count)?;
     Ok(())
 }
 
@@ -36,14 +33,14 @@ fn gather(alloc: Global, bytes: &[u8], len: usize, mut ranges: Segments<'_>) -> 
     ensures { IfOk result (λ gathered. gathered.items ≡ elements_at bytes.now (flat_map bytes_of ranges.entry)) }
 {
     let mut gathered = Vec::with_capacity(alloc, len)?;
-    while let Some(range) = ranges.next() {
-        push_range(&mut gathered, bytes, range)?;
+    while let Some(line) = ranges.next_line() {
+        push_line(&mut gathered, bytes, line)?;
     }
     Ok(gathered)
 }
 
-/// The bytes of a view's items, in order. A row of items that lie one after the other is copied as
-/// one.
+/// The bytes of a view's items, in order. Items that lie one after the other are copied as one, and a
+/// row of items that lie apart by one loop.
 pub fn content_of(alloc: Global, bytes: &[u8], layout: &KeptLayout) -> Made<Vec<u8>>
     requires { LiesInside (length bytes.now) layout.now }
     ensures { IfOk result (λ list. list.items ≡ content_of_layout bytes.now layout.now) }

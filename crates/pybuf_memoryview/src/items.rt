@@ -8,9 +8,10 @@ ghost use Rattle.pybuf_memoryview.specs.Items as spec;
 ghost use Rattle.pybuf_memoryview.specs.SingleBytes.{byte_for_item};
 
 use crate::kept::KeptLayout;
+use pybuf_desc::KeptFormat;
 use pybuf_struct::{FormatSpec, single_value};
 use pybuf_value::{
-    Fault, Halt, Item, Made, Outcome, Scalar, ScalarList, Text, Twin, Value, fit_index, index_of,
+    Fault, Halt, Item, Made, Outcome, Scalar, ScalarList, Twin, Value, fit_index, index_of,
     value_from_object,
 };
 use std::alloc::Global;
@@ -59,7 +60,7 @@ fn single_byte(format: &[u8], bytes: &[u8]) -> Option<u8>
 
 /// What an item's bytes read as by the text of its format. Bytes of the format `B`, which most views
 /// have, and numbers of a format of one letter are read without parsing it.
-pub fn item_by(alloc: Global, format: &Text, bytes: &[u8]) -> Made<Item>
+pub fn item_by(alloc: Global, format: &KeptFormat, bytes: &[u8]) -> Made<Item>
     ensures { IfOk result (λ item. item ≡ spec.item_by format.now bytes.now) }
 {
     if let Some(byte) = single_byte(format.as_slice(), bytes) {

@@ -2,9 +2,9 @@
 ghost use Rattle.std.specs.Prelude.{◌≡◌, ◌<◌, ◌≤◌, ◌+◌, ◌*◌, ◌%◌, ◌^◌, All, pos, ◌+ℤ◌, ◌≤ℤ◌, ◌<ℤ◌, nat_abs, true, length, map, replicate, slice_index, IfOk, ◌==◌, Ok, Err, MatchResult};
 ghost use Rattle.std.specs.List.{list_any};
 
-use pybuf_desc::BufferDescriptor;
+use pybuf_desc::{BufferDescriptor, KeptFormat};
 use pybuf_index::SaturatedSlice;
-use pybuf_value::{CountList, Fault, Made, NumberList, Text, Twin};
+use pybuf_value::{CountList, Fault, Made, NumberList, Twin};
 use std::alloc::Global;
 use std::marker::Model;
 
@@ -112,6 +112,7 @@ impl KeptLayout {
     }
 
     /// The layout of all of so many bytes: items of one byte, in one dimension.
+    #[inline(always)]
     pub fn whole(alloc: Global, len: usize, readonly: bool) -> Made<KeptLayout>
         requires { len < 2 ^ 63 }
         ensures { IfOk result (λ v. v ≡ bytes_layout len readonly) }
@@ -135,6 +136,7 @@ impl KeptLayout {
     }
 
     /// The layout of the items that a slice picks, along the first dimension.
+    #[inline(always)]
     pub fn sliced(&self, alloc: Global, slice: SaturatedSlice) -> Made<KeptLayout>
         requires { 0 < length self.now.shape }
         ensures { IfOk result (λ v. v ≡ slice_of self.now slice) }
@@ -145,22 +147,23 @@ impl KeptLayout {
         Ok(KeptLayout { descriptor, start })
     }
 
-    /// The layout of the same bytes as items of another format and size, in one dimension.
-    pub fn cast(&self, alloc: Global, format: Text, itemsize: usize) -> Made<KeptLayout>
+    /// The layout of the same bytes as items of another format and size, in one dimension. Takes no memory.
+    #[inline(always)]
+    pub fn cast(&self, format: KeptFormat, itemsize: usize) -> KeptLayout
         requires contiguous { is_contiguous_layout self.now ≡ true }
         requires some_size { 0 < itemsize }
         requires size_fits { itemsize < 2 ^ 63 }
         requires whole_items { nbytes_of self.now % itemsize ≡ 0 }
-        ensures { IfOk result (λ v. v ≡ cast_of self.now format itemsize) }
+        ensures { result ≡ cast_of self.now format itemsize }
     {
         pybuf_desc::placed_descriptors_stand();
         pybuf_desc::descriptors_stand_for_one_view();
         pybuf_desc::contiguity_is_the_same_anywhere();
-        let descriptor = self.descriptor.cast_flat(alloc, format, itemsize)?;
-        Ok(KeptLayout {
+        let descriptor = self.descriptor.cast_flat_as(format, itemsize);
+        KeptLayout {
             descriptor,
             start: self.start,
-        })
+        }
     }
 
     /// The layout of the same bytes as items of another format and size, in dimensions of these
@@ -168,7 +171,7 @@ impl KeptLayout {
     pub fn cast_shape(
         &self,
         alloc: Global,
-        format: Text,
+        format: KeptFormat,
         itemsize: usize,
         shape: &[usize],
     ) -> Made<KeptLayout>
@@ -183,7 +186,9 @@ impl KeptLayout {
         pybuf_desc::placed_descriptors_stand();
         pybuf_desc::descriptors_stand_for_one_view();
         pybuf_desc::contiguity_is_the_same_anywhere();
-        let descriptor = self.descriptor.cast_shape(alloc, format, itemsize, shape)?;
+        let descriptor = self
+            .descriptor
+            .cast_shape_as(alloc, format, itemsize, shape)?;
         Ok(KeptLayout {
             descriptor,
             start: self.start,
@@ -342,7 +347,7 @@ impl KeptLayout {
     }
 
     /// The format of an item.
-    pub fn format_text(&self) -> &Text
+    pub fn format_text(&self) -> &KeptFormat
         ensures { result.now ≡ self.now.format }
     {
         &self.descriptor.format

@@ -5,8 +5,9 @@ ghost use Rattle.pybuf_memoryview.specs.Readers as reading;
 
 use crate::bytes::is_byte_format;
 use crate::items::{byte_item, item_of};
+use pybuf_desc::KeptFormat;
 use pybuf_struct::FormatSpec;
-use pybuf_value::{Item, Made, Outcome, ScalarList, Text};
+use pybuf_value::{Item, Made, Outcome, ScalarList};
 use std::alloc::Global;
 
 /// How items are read whose format was read once.
@@ -21,7 +22,7 @@ pub enum ItemReader {
 }
 
 /// How items of a size are read by the text of their format.
-pub fn reader_of(alloc: Global, format: &Text, size: usize) -> Made<ItemReader>
+pub fn reader_of(alloc: Global, format: &KeptFormat, size: usize) -> Made<ItemReader>
     ensures reads { IfOk result (λ reader. (bytes : _) → length bytes ≡ size → reading.read_by reader bytes ≡ item_by format.now bytes) }
     ensures spelled { IfOk result (λ reader. reading.IsSpelledBy format.now reader) }
 {

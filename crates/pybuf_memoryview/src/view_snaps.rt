@@ -7,7 +7,7 @@ ghost use Rattle.pybuf_memoryview.specs.Snaps as spec;
 use crate::content::content_of;
 use crate::kept::KeptLayout;
 use pybuf_struct::{FormatCode, FormatSpec, FormatType};
-use pybuf_value::{ByteList, Made, Snap, SnapKind, Twin};
+use pybuf_value::{ByteList, Made, Snap, SnapKind};
 use std::alloc::Global;
 
 /// The bytes of a view's items, none of a released one.
@@ -32,7 +32,7 @@ pub fn snap_of_layout(
     requires { released ≡ false → LiesInside (length bytes.now) layout.now }
     ensures { IfOk result (λ snap. snap ≡ spec.snap_of_layout bytes.now layout.now released) }
 {
-    let format = layout.format_text().copy(alloc)?;
+    let format = layout.format_text().to_text(alloc)?;
     let shape = layout.counts(alloc)?;
     let content = bytes_lent(alloc, bytes, layout, released)?;
     Ok(Snap {

@@ -245,6 +245,8 @@ impl PyByteArray {
     ///
     /// Refused with `TypeError` where the value is no number, with `ValueError` outside `0..256`, and
     /// then with `BufferError` where a view is unreleased.
+    // in line, since else the values are moved here to be let go of
+    #[inline(always)]
     pub fn append(&mut self, value: Value, loans: LoanList) -> Made<LocalReply>
         requires { LoansFit loans }
         ensures ok { IfOk result (λ r. estep self.old subjects.Own (verbs.Append value) loans ≡ (self.new, r)) }
@@ -295,6 +297,8 @@ impl PyByteArray {
     ///
     /// Refused with `TypeError` where the index is no number, with `OverflowError` where it doesn't fit
     /// `isize`, with `BufferError` where a view is unreleased, and then with `IndexError` out of range.
+    // in line, since else the values are moved here to be let go of
+    #[inline(always)]
     pub fn pop(&mut self, index: Option<Value>, loans: LoanList) -> Made<LocalReply>
         requires { LoansFit loans }
         ensures ok { IfOk result (λ r. estep self.old subjects.Own (verbs.Pop index) loans ≡ (self.new, r)) }

@@ -5,4 +5,5 @@ pub mod Replacing
 pub mod LentBytes
 pub mod Edits
 pub mod Asking
+pub mod Counting
 pub mod Laws

@@ -1,10 +1,12 @@
 //! Which edit a command is.
-ghost use Rattle.std.specs.Prelude.{◌≡◌};
+ghost use Rattle.std.specs.Prelude.{◌≡◌, ◌≤◌, ◌+◌, ℕ, true, length, OnOk, OnErr};
 ghost use Rattle.pybuf_command.specs.declared.kinds.Subject.TheVariants as subjects;
 ghost use Rattle.pybuf_command.specs.Handles.{handles_read};
 ghost use Rattle.pybuf_state.specs.Exporter.{exports_of};
 ghost use Rattle.pybuf_state.specs.Loans.{lents_by};
 ghost use Rattle.pybuf_state.specs.Answers.{exporter_of, IsWhole, Answers, Reads};
+ghost use Rattle.pybuf_slice.specs.FrontContent.{IsSpare};
+ghost use Rattle.pybuf_rows_edits.specs.Counting.{TakesFirst, taken_places, grows_at_end};
 ghost use Rattle.pybuf_rows_edits.specs.Edits as spec;
 ghost use Rattle.pybuf_rows_edits.specs.Shrinking as shrinking_spec;
 
@@ -27,6 +29,13 @@ pub fn edit_of_own<N: Names, L: Ledger>(
     requires fit { N.fit names.now }
     ensures answer { Answers (spec.edit_of_own (exporter_of parts.old) verb.now (lents_by (exporter_of parts.old) (N.named names.now) (handles_read subjects.Own verb.now))) (exporter_of parts.old) result (exporter_of parts.new) }
     ensures counted { parts.new.exports ≡ exports_of (exporter_of parts.new) }
+    ensures few { OnOk result (moved.new ≤ moved.old + (length parts.old.bytes.items + length parts.new.bytes.items)) }
+    ensures front_room { (n : ℕ) → TakesFirst (taken_places (exporter_of parts.old) verb.now) n → OnOk result (parts.new.bytes.room ≡ parts.old.bytes.room + n) }
+    ensures front_counter { (n : ℕ) → TakesFirst (taken_places (exporter_of parts.old) verb.now) n → OnOk result (moved.new ≡ moved.old) }
+    ensures end_counter { grows_at_end verb.now (lents_by (exporter_of parts.old) (N.named names.now) (handles_read subjects.Own verb.now)) ≡ true → OnOk result (moved.new + parts.new.bytes.room ≤ moved.old + parts.old.bytes.room) }
+    ensures end_spare { grows_at_end verb.now (lents_by (exporter_of parts.old) (N.named names.now) (handles_read subjects.Own verb.now)) ≡ true → OnOk result (IsSpare parts.new.bytes) }
+    ensures err_room { OnErr result (parts.new.bytes.room ≡ parts.old.bytes.room) }
+    ensures err_counter { OnErr result (moved.new ≡ moved.old) }
 {
     match verb {
         Verb::Append { value } => growing::append(parts, value, moved),

@@ -1,13 +1,15 @@
 //! Edits that add bytes.
-ghost use Rattle.std.specs.Prelude.{◌≡◌, ◌<◌, ◌*◌, ◌^◌, [], length, IfOk};
+ghost use Rattle.std.specs.Prelude.{◌≡◌, ◌≤◌, ◌<◌, ◌+◌, ◌*◌, ◌^◌, [], length, false, IfOk, IsErr, OnOk, OnErr};
 ghost use Rattle.pybuf_command.specs.Handles.{handle_of_value};
 ghost use Rattle.pybuf_command.specs.declared.kinds.Subject.TheVariants as subjects;
 ghost use Rattle.pybuf_slice.specs.Edits.{repeated_list};
+ghost use Rattle.pybuf_slice.specs.FrontContent.{IsSpare};
 ghost use Rattle.pybuf_state.specs.Exporter.{exports_of};
-ghost use Rattle.pybuf_state.specs.Loans.{lents_by};
+ghost use Rattle.pybuf_state.specs.Loans.{lents_by, subject_in};
 ghost use Rattle.pybuf_state.specs.Names as names_spec;
 ghost use Rattle.pybuf_state.specs.Snaps.{snap_of_subject};
 ghost use Rattle.pybuf_state.specs.Answers.{exporter_of, IsWhole, Answers};
+ghost use Rattle.pybuf_rows_edits.specs.Common.{is_own, is_itself};
 ghost use Rattle.pybuf_rows_edits.specs.Growing as spec;
 ghost use Rattle.pybuf_rows_edits.specs.LentBytes as lent_spec;
 
@@ -31,6 +33,11 @@ pub fn append<L: Ledger>(
     requires { IsWhole parts.old }
     ensures answer { Answers (spec.append_of_own (exporter_of parts.old) value.now) (exporter_of parts.old) result (exporter_of parts.new) }
     ensures counted { parts.new.exports ≡ exports_of (exporter_of parts.new) }
+    ensures counter { OnOk result (moved.new + parts.new.bytes.room ≤ moved.old + parts.old.bytes.room) }
+    ensures few { OnOk result (moved.new ≤ moved.old + length parts.old.bytes.items) }
+    ensures spare { OnOk result (IsSpare parts.new.bytes) }
+    ensures err_room { OnErr result (parts.new.bytes.room ≡ parts.old.bytes.room) }
+    ensures err_counter { OnErr result (moved.new ≡ moved.old) }
 {
     let ExporterKind::ByteArray = parts.kind else {
         return Err(Halt::Refused(Fault::UnknownName));
@@ -50,6 +57,9 @@ fn insert_byte<L: Ledger>(
     requires { IsWhole parts.old }
     ensures answer { Answers (spec.inserted (exporter_of parts.old) index.now value.now) (exporter_of parts.old) result (exporter_of parts.new) }
     ensures counted { parts.new.exports ≡ exports_of (exporter_of parts.new) }
+    ensures few { OnOk result (moved.new ≤ moved.old + (length parts.old.bytes.items + length parts.new.bytes.items)) }
+    ensures err_room { OnErr result (parts.new.bytes.room ≡ parts.old.bytes.room) }
+    ensures err_counter { OnErr result (moved.new ≡ moved.old) }
 {
     let number = count_in(index)?;
     let byte = value_from_object(value)?;
@@ -70,6 +80,9 @@ pub fn insert<L: Ledger>(
     requires { IsWhole parts.old }
     ensures answer { Answers (spec.insert_of_own (exporter_of parts.old) index.now value.now) (exporter_of parts.old) result (exporter_of parts.new) }
     ensures counted { parts.new.exports ≡ exports_of (exporter_of parts.new) }
+    ensures few { OnOk result (moved.new ≤ moved.old + (length parts.old.bytes.items + length parts.new.bytes.items)) }
+    ensures err_room { OnErr result (parts.new.bytes.room ≡ parts.old.bytes.room) }
+    ensures err_counter { OnErr result (moved.new ≡ moved.old) }
 {
     match parts.kind {
         ExporterKind::ByteArray => insert_byte(parts, index, value, moved),
@@ -94,6 +107,7 @@ fn repeat_bytes(parts: &mut Parts, times: usize) -> Result<LocalReply, Halt>
     requires { IsWhole parts.old }
     ensures answer { Answers (spec.repeated (exporter_of parts.old) times) (exporter_of parts.old) result (exporter_of parts.new) }
     ensures counted { parts.new.exports ≡ exports_of (exporter_of parts.new) }
+    ensures err_room { OnErr result (parts.new.bytes.room ≡ parts.old.bytes.room) }
 {
     parts.resizable()?;
     if parts.bytes.len() as u128 * times as u128 > isize::MAX as u128 {
@@ -109,6 +123,7 @@ fn repeat(parts: &mut Parts, times: usize) -> Result<LocalReply, Halt>
     requires { IsWhole parts.old }
     ensures answer { Answers (spec.repeated_unless_empty (exporter_of parts.old) times) (exporter_of parts.old) result (exporter_of parts.new) }
     ensures counted { parts.new.exports ≡ exports_of (exporter_of parts.new) }
+    ensures err_room { OnErr result (parts.new.bytes.room ≡ parts.old.bytes.room) }
 {
     if parts.bytes.is_empty() {
         return Ok(LocalReply::Ok);
@@ -120,6 +135,7 @@ fn multiply(parts: &mut Parts, count: &Value) -> Result<LocalReply, Halt>
     requires { IsWhole parts.old }
     ensures answer { Answers (spec.multiplied (exporter_of parts.old) count.now) (exporter_of parts.old) result (exporter_of parts.new) }
     ensures counted { parts.new.exports ≡ exports_of (exporter_of parts.new) }
+    ensures err_room { OnErr result (parts.new.bytes.room ≡ parts.old.bytes.room) }
 {
     let number = count_in(count)?;
     if number == 1 {
@@ -136,6 +152,7 @@ pub fn imul(parts: &mut Parts, count: &Value) -> Result<LocalReply, Halt>
     requires { IsWhole parts.old }
     ensures answer { Answers (spec.imul_of_own (exporter_of parts.old) count.now) (exporter_of parts.old) result (exporter_of parts.new) }
     ensures counted { parts.new.exports ≡ exports_of (exporter_of parts.new) }
+    ensures err_room { OnErr result (parts.new.bytes.room ≡ parts.old.bytes.room) }
 {
     match parts.kind {
         ExporterKind::ByteArray => multiply(parts, count),
@@ -148,6 +165,11 @@ fn add<L: Ledger>(parts: &mut Parts, bytes: &[u8], moved: &mut Steps<L>) -> Resu
     requires { IsWhole parts.old }
     ensures answer { Answers (lent_spec.bytes_added (exporter_of parts.old) bytes.now) (exporter_of parts.old) result (exporter_of parts.new) }
     ensures counted { parts.new.exports ≡ exports_of (exporter_of parts.new) }
+    ensures counter { OnOk result (moved.new + parts.new.bytes.room ≤ moved.old + parts.old.bytes.room) }
+    ensures few { OnOk result (moved.new ≤ moved.old + length parts.old.bytes.items) }
+    ensures spare { OnOk result (IsSpare parts.new.bytes) }
+    ensures err_room { OnErr result (parts.new.bytes.room ≡ parts.old.bytes.room) }
+    ensures err_counter { OnErr result (moved.new ≡ moved.old) }
 {
     parts.resizable()?;
     parts.append(bytes, moved)?;
@@ -164,6 +186,11 @@ fn extend_by_other<L: Ledger>(
     requires sound { names_spec.IsSoundOther other }
     ensures answer { Answers (lent_spec.extended_by (exporter_of parts.old) (names_spec.snap_of_other other.entry)) (exporter_of parts.old) result (exporter_of parts.new) }
     ensures counted { parts.new.exports ≡ exports_of (exporter_of parts.new) }
+    ensures counter { OnOk result (moved.new + parts.new.bytes.room ≤ moved.old + parts.old.bytes.room) }
+    ensures few { OnOk result (moved.new ≤ moved.old + length parts.old.bytes.items) }
+    ensures spare { OnOk result (IsSpare parts.new.bytes) }
+    ensures err_room { OnErr result (parts.new.bytes.room ≡ parts.old.bytes.room) }
+    ensures err_counter { OnErr result (moved.new ≡ moved.old) }
 {
     let bytes = content_of_other(parts.alloc, other)?;
     add(parts, bytes.as_slice(), moved)
@@ -180,6 +207,11 @@ fn extend_by_meaning<L: Ledger>(
     requires sound { names_spec.IsSoundMeaning meaning }
     ensures answer { Answers (lent_spec.extended_as (exporter_of parts.old) (names_spec.meant meaning.entry)) (exporter_of parts.old) result (exporter_of parts.new) }
     ensures counted { parts.new.exports ≡ exports_of (exporter_of parts.new) }
+    ensures counter { is_own (subject_in (names_spec.meant meaning.entry)) ≡ false → OnOk result (moved.new + parts.new.bytes.room ≤ moved.old + parts.old.bytes.room) }
+    ensures few { OnOk result (moved.new ≤ moved.old + length parts.old.bytes.items) }
+    ensures spare { is_own (subject_in (names_spec.meant meaning.entry)) ≡ false → OnOk result (IsSpare parts.new.bytes) }
+    ensures err_room { OnErr result (parts.new.bytes.room ≡ parts.old.bytes.room) }
+    ensures err_counter { OnErr result (moved.new ≡ moved.old) }
 {
     match meaning {
         Meaning::Own(Subject::Own) => repeat(parts, 2),
@@ -199,6 +231,11 @@ fn extend_by_parts<L: Ledger>(
     requires { IsWhole parts.old }
     ensures answer { Answers (spec.extended (exporter_of parts.old) value.now []) (exporter_of parts.old) result (exporter_of parts.new) }
     ensures counted { parts.new.exports ≡ exports_of (exporter_of parts.new) }
+    ensures counter { OnOk result (moved.new + parts.new.bytes.room ≤ moved.old + parts.old.bytes.room) }
+    ensures few { OnOk result (moved.new ≤ moved.old + length parts.old.bytes.items) }
+    ensures spare { OnOk result (IsSpare parts.new.bytes) }
+    ensures err_room { OnErr result (parts.new.bytes.room ≡ parts.old.bytes.room) }
+    ensures err_counter { OnErr result (moved.new ≡ moved.old) }
 {
     let bytes = bytes_from_object(parts.alloc, value, &SnapList::new(parts.alloc)).done()?;
     add(parts, bytes.as_slice(), moved)
@@ -214,6 +251,11 @@ fn extend_by_value<N: Names, L: Ledger>(
     requires fit { N.fit names.now }
     ensures answer { Answers (spec.extended_or_doubled (exporter_of parts.old) value.now (lents_by (exporter_of parts.old) (N.named names.now) (handle_of_value value.now))) (exporter_of parts.old) result (exporter_of parts.new) }
     ensures counted { parts.new.exports ≡ exports_of (exporter_of parts.new) }
+    ensures counter { is_itself value.now (lents_by (exporter_of parts.old) (N.named names.now) (handle_of_value value.now)) ≡ false → OnOk result (moved.new + parts.new.bytes.room ≤ moved.old + parts.old.bytes.room) }
+    ensures few { OnOk result (moved.new ≤ moved.old + length parts.old.bytes.items) }
+    ensures spare { is_itself value.now (lents_by (exporter_of parts.old) (N.named names.now) (handle_of_value value.now)) ≡ false → OnOk result (IsSpare parts.new.bytes) }
+    ensures err_room { OnErr result (parts.new.bytes.room ≡ parts.old.bytes.room) }
+    ensures err_counter { OnErr result (moved.new ≡ moved.old) }
 {
     match value {
         Value::One(Scalar::Bytes(bytes)) => add(parts, bytes.as_slice(), moved),
@@ -238,6 +280,11 @@ pub fn extend<N: Names, L: Ledger>(
     requires fit { N.fit names.now }
     ensures answer { Answers (spec.extend_of_own (exporter_of parts.old) value.now (lents_by (exporter_of parts.old) (N.named names.now) (handle_of_value value.now))) (exporter_of parts.old) result (exporter_of parts.new) }
     ensures counted { parts.new.exports ≡ exports_of (exporter_of parts.new) }
+    ensures counter { is_itself value.now (lents_by (exporter_of parts.old) (N.named names.now) (handle_of_value value.now)) ≡ false → OnOk result (moved.new + parts.new.bytes.room ≤ moved.old + parts.old.bytes.room) }
+    ensures few { OnOk result (moved.new ≤ moved.old + length parts.old.bytes.items) }
+    ensures spare { is_itself value.now (lents_by (exporter_of parts.old) (N.named names.now) (handle_of_value value.now)) ≡ false → OnOk result (IsSpare parts.new.bytes) }
+    ensures err_room { OnErr result (parts.new.bytes.room ≡ parts.old.bytes.room) }
+    ensures err_counter { OnErr result (moved.new ≡ moved.old) }
 {
     match parts.kind {
         ExporterKind::ByteArray => extend_by_value(parts, value, names, moved),
@@ -248,7 +295,8 @@ pub fn extend<N: Names, L: Ledger>(
 /// Adds the bytes of a view of the exporter itself, and reads none, as for `extend`.
 fn add_view(parts: &Parts, view: usize) -> Result<LocalReply, Halt>
     requires { IsWhole parts.now }
-    ensures { Answers (lent_spec.added_by (exporter_of parts.now) (snap_of_subject (exporter_of parts.now) (subjects.View view))) (exporter_of parts.now) result (exporter_of parts.now) }
+    ensures answer { Answers (lent_spec.added_by (exporter_of parts.now) (snap_of_subject (exporter_of parts.now) (subjects.View view))) (exporter_of parts.now) result (exporter_of parts.now) }
+    ensures refused { IsErr result }
 {
     let layout = parts.live_layout(view)?;
     if !layout.is_contiguous() {
@@ -275,6 +323,11 @@ fn add_other<L: Ledger>(
     requires sound { names_spec.IsSoundOther other }
     ensures answer { Answers (lent_spec.added_by (exporter_of parts.old) (names_spec.snap_of_other other.entry)) (exporter_of parts.old) result (exporter_of parts.new) }
     ensures counted { parts.new.exports ≡ exports_of (exporter_of parts.new) }
+    ensures counter { OnOk result (moved.new + parts.new.bytes.room ≤ moved.old + parts.old.bytes.room) }
+    ensures few { OnOk result (moved.new ≤ moved.old + length parts.old.bytes.items) }
+    ensures spare { OnOk result (IsSpare parts.new.bytes) }
+    ensures err_room { OnErr result (parts.new.bytes.room ≡ parts.old.bytes.room) }
+    ensures err_counter { OnErr result (moved.new ≡ moved.old) }
 {
     let bytes = run_of_other(other)?;
     add(parts, bytes, moved)
@@ -291,6 +344,11 @@ fn add_meaning<L: Ledger>(
     requires sound { names_spec.IsSoundMeaning meaning }
     ensures answer { Answers (lent_spec.added_as (exporter_of parts.old) (names_spec.meant meaning.entry)) (exporter_of parts.old) result (exporter_of parts.new) }
     ensures counted { parts.new.exports ≡ exports_of (exporter_of parts.new) }
+    ensures counter { OnOk result (moved.new + parts.new.bytes.room ≤ moved.old + parts.old.bytes.room) }
+    ensures few { OnOk result (moved.new ≤ moved.old + length parts.old.bytes.items) }
+    ensures spare { OnOk result (IsSpare parts.new.bytes) }
+    ensures err_room { OnErr result (parts.new.bytes.room ≡ parts.old.bytes.room) }
+    ensures err_counter { OnErr result (moved.new ≡ moved.old) }
 {
     match meaning {
         Meaning::Own(Subject::Own) => Err(Halt::Refused(Fault::Buffer)),
@@ -311,6 +369,11 @@ fn add_value<N: Names, L: Ledger>(
     requires fit { N.fit names.now }
     ensures answer { Answers (spec.added (exporter_of parts.old) value.now (lents_by (exporter_of parts.old) (N.named names.now) (handle_of_value value.now))) (exporter_of parts.old) result (exporter_of parts.new) }
     ensures counted { parts.new.exports ≡ exports_of (exporter_of parts.new) }
+    ensures counter { OnOk result (moved.new + parts.new.bytes.room ≤ moved.old + parts.old.bytes.room) }
+    ensures few { OnOk result (moved.new ≤ moved.old + length parts.old.bytes.items) }
+    ensures spare { OnOk result (IsSpare parts.new.bytes) }
+    ensures err_room { OnErr result (parts.new.bytes.room ≡ parts.old.bytes.room) }
+    ensures err_counter { OnErr result (moved.new ≡ moved.old) }
 {
     match value {
         Value::One(Scalar::Bytes(bytes)) => add(parts, bytes.as_slice(), moved),
@@ -331,6 +394,11 @@ pub fn iadd<N: Names, L: Ledger>(
     requires fit { N.fit names.now }
     ensures answer { Answers (spec.iadd_of_own (exporter_of parts.old) value.now (lents_by (exporter_of parts.old) (N.named names.now) (handle_of_value value.now))) (exporter_of parts.old) result (exporter_of parts.new) }
     ensures counted { parts.new.exports ≡ exports_of (exporter_of parts.new) }
+    ensures counter { OnOk result (moved.new + parts.new.bytes.room ≤ moved.old + parts.old.bytes.room) }
+    ensures few { OnOk result (moved.new ≤ moved.old + length parts.old.bytes.items) }
+    ensures spare { OnOk result (IsSpare parts.new.bytes) }
+    ensures err_room { OnErr result (parts.new.bytes.room ≡ parts.old.bytes.room) }
+    ensures err_counter { OnErr result (moved.new ≡ moved.old) }
 {
     match parts.kind {
         ExporterKind::ByteArray => add_value(parts, value, names, moved),

@@ -1,4 +1,5 @@
 //! Values that are a view of the exporter itself, or an iterator of it: of neither are bytes taken.
+ghost use Rattle.std.specs.Prelude.{IsErr};
 ghost use Rattle.pybuf_command.specs.declared.kinds.Subject.TheVariants as subjects;
 ghost use Rattle.pybuf_state.specs.Snaps.{snap_of_subject};
 ghost use Rattle.pybuf_state.specs.Answers.{exporter_of, IsWhole, Answers};
@@ -14,6 +15,7 @@ pub(crate) fn refuse_view(parts: &Parts, view: usize) -> Result<LocalReply, Halt
     requires { IsWhole parts.now }
     ensures extended { Answers (lent_spec.extended_by (exporter_of parts.now) (snap_of_subject (exporter_of parts.now) (subjects.View view))) (exporter_of parts.now) result (exporter_of parts.now) }
     ensures initialized { Answers (lent_spec.initialized_by (exporter_of parts.now) (snap_of_subject (exporter_of parts.now) (subjects.View view))) (exporter_of parts.now) result (exporter_of parts.now) }
+    ensures refused { IsErr result }
 {
     parts.live_layout(view)?;
     Err(Halt::Refused(Fault::Buffer))

@@ -1,5 +1,5 @@
 //! Edits that put bytes in place of others.
-ghost use Rattle.std.specs.Prelude.{◌≡◌, [], length, None, Some, Ok, Err, IfOk, OnOk, OnErr, MatchResult};
+ghost use Rattle.std.specs.Prelude.{◌≡◌, ◌≤◌, ◌+◌, [], length, None, Some, Ok, Err, IfOk, OnOk, OnErr, MatchResult};
 ghost use Rattle.pybuf_value.specs.Halting.{Gives};
 ghost use Rattle.pybuf_value.specs.Lent.{lent_bytes};
 ghost use Rattle.pybuf_value.specs.Snaps.{content_of_named};
@@ -37,6 +37,7 @@ fn write_slice(parts: &mut Parts, slice: SaturatedSlice, bytes: &[u8]) -> Made<(
     ensures ok { OnOk result (exporter_of parts.new ≡ (common.with_bytes (exporter_of parts.old) (assigned_list parts.old.bytes.items slice bytes.now)).0) }
     ensures err { OnErr result (exporter_of parts.new ≡ exporter_of parts.old) }
     ensures exports { parts.new.exports ≡ parts.old.exports }
+    ensures room { parts.new.bytes.room ≡ parts.old.bytes.room }
 {
     pybuf_slice::as_many_keep_the_length::<u8>();
     // It is never refused, since there are as many.
@@ -54,6 +55,9 @@ fn put<L: Ledger>(
     requires { IsWhole parts.old }
     ensures answer { Answers (spec.assigned (exporter_of parts.old) slice bytes.now) (exporter_of parts.old) result (exporter_of parts.new) }
     ensures counted { parts.new.exports ≡ exports_of (exporter_of parts.new) }
+    ensures few { OnOk result (moved.new ≤ moved.old + (length parts.old.bytes.items + length parts.new.bytes.items)) }
+    ensures err_room { OnErr result (parts.new.bytes.room ≡ parts.old.bytes.room) }
+    ensures err_counter { OnErr result (moved.new ≡ moved.old) }
 {
     let (range, step, count) = slice.adjust_indices(parts.bytes.len());
     if count == bytes.len() {
@@ -77,6 +81,9 @@ fn put_own<L: Ledger>(
     requires { IsWhole parts.old }
     ensures answer { Answers (lent_spec.assigned_by (exporter_of parts.old) slice (snap_of_subject (exporter_of parts.old) subjects.Own)) (exporter_of parts.old) result (exporter_of parts.new) }
     ensures counted { parts.new.exports ≡ exports_of (exporter_of parts.new) }
+    ensures few { OnOk result (moved.new ≤ moved.old + (length parts.old.bytes.items + length parts.new.bytes.items)) }
+    ensures err_room { OnErr result (parts.new.bytes.room ≡ parts.old.bytes.room) }
+    ensures err_counter { OnErr result (moved.new ≡ moved.old) }
 {
     let content = Vec::from_slice(parts.alloc, parts.bytes.as_slice())?;
     put(parts, slice, content.as_slice(), moved)
@@ -102,6 +109,9 @@ fn put_view<L: Ledger>(
     requires { IsWhole parts.old }
     ensures answer { Answers (lent_spec.assigned_by (exporter_of parts.old) slice (snap_of_subject (exporter_of parts.old) (subjects.View view))) (exporter_of parts.old) result (exporter_of parts.new) }
     ensures counted { parts.new.exports ≡ exports_of (exporter_of parts.new) }
+    ensures few { OnOk result (moved.new ≤ moved.old + (length parts.old.bytes.items + length parts.new.bytes.items)) }
+    ensures err_room { OnErr result (parts.new.bytes.room ≡ parts.old.bytes.room) }
+    ensures err_counter { OnErr result (moved.new ≡ moved.old) }
 {
     let content = content_of_view(parts, view)?;
     put(parts, slice, content.as_slice(), moved)
@@ -126,6 +136,9 @@ fn put_other<L: Ledger>(
     requires sound { names_spec.IsSoundOther other }
     ensures answer { Answers (lent_spec.assigned_by (exporter_of parts.old) slice (names_spec.snap_of_other other.entry)) (exporter_of parts.old) result (exporter_of parts.new) }
     ensures counted { parts.new.exports ≡ exports_of (exporter_of parts.new) }
+    ensures few { OnOk result (moved.new ≤ moved.old + (length parts.old.bytes.items + length parts.new.bytes.items)) }
+    ensures err_room { OnErr result (parts.new.bytes.room ≡ parts.old.bytes.room) }
+    ensures err_counter { OnErr result (moved.new ≡ moved.old) }
 {
     let bytes = content_of_other(parts.alloc, other)?;
     put(parts, slice, bytes.as_slice(), moved)
@@ -143,6 +156,9 @@ fn put_meaning<L: Ledger>(
     requires sound { names_spec.IsSoundMeaning meaning }
     ensures answer { Answers (lent_spec.assigned_by (exporter_of parts.old) slice (snap_in (exporter_of parts.old) (names_spec.meant meaning.entry))) (exporter_of parts.old) result (exporter_of parts.new) }
     ensures counted { parts.new.exports ≡ exports_of (exporter_of parts.new) }
+    ensures few { OnOk result (moved.new ≤ moved.old + (length parts.old.bytes.items + length parts.new.bytes.items)) }
+    ensures err_room { OnErr result (parts.new.bytes.room ≡ parts.old.bytes.room) }
+    ensures err_counter { OnErr result (moved.new ≡ moved.old) }
 {
     match meaning {
         Meaning::Own(Subject::Own) => put_own(parts, slice, moved),
@@ -163,6 +179,9 @@ fn put_parts<L: Ledger>(
     requires { IsWhole parts.old }
     ensures answer { Answers (spec.assigned_from (exporter_of parts.old) slice value.now []) (exporter_of parts.old) result (exporter_of parts.new) }
     ensures counted { parts.new.exports ≡ exports_of (exporter_of parts.new) }
+    ensures few { OnOk result (moved.new ≤ moved.old + (length parts.old.bytes.items + length parts.new.bytes.items)) }
+    ensures err_room { OnErr result (parts.new.bytes.room ≡ parts.old.bytes.room) }
+    ensures err_counter { OnErr result (moved.new ≡ moved.old) }
 {
     let bytes = bytes_from_object(parts.alloc, value, &SnapList::new(parts.alloc)).done()?;
     put(parts, slice, bytes.as_slice(), moved)
@@ -179,6 +198,9 @@ fn put_value<N: Names, L: Ledger>(
     requires fit { N.fit names.now }
     ensures answer { Answers (spec.assigned_from (exporter_of parts.old) slice value.now (lents_by (exporter_of parts.old) (N.named names.now) (handle_of_value value.now))) (exporter_of parts.old) result (exporter_of parts.new) }
     ensures counted { parts.new.exports ≡ exports_of (exporter_of parts.new) }
+    ensures few { OnOk result (moved.new ≤ moved.old + (length parts.old.bytes.items + length parts.new.bytes.items)) }
+    ensures err_room { OnErr result (parts.new.bytes.room ≡ parts.old.bytes.room) }
+    ensures err_counter { OnErr result (moved.new ≡ moved.old) }
 {
     match value {
         Value::One(Scalar::Bytes(bytes)) => put(parts, slice, bytes.as_slice(), moved),
@@ -203,6 +225,9 @@ fn set_slice<N: Names, L: Ledger>(
     requires fit { N.fit names.now }
     ensures answer { Answers (spec.slice_set (exporter_of parts.old) slice.now value.now (lents_by (exporter_of parts.old) (N.named names.now) (handle_of_value value.now))) (exporter_of parts.old) result (exporter_of parts.new) }
     ensures counted { parts.new.exports ≡ exports_of (exporter_of parts.new) }
+    ensures few { OnOk result (moved.new ≤ moved.old + (length parts.old.bytes.items + length parts.new.bytes.items)) }
+    ensures err_room { OnErr result (parts.new.bytes.room ≡ parts.old.bytes.room) }
+    ensures err_counter { OnErr result (moved.new ≡ moved.old) }
 {
     let slice = SaturatedSlice::with_slice(slice)?;
     put_value(parts, slice, value, names, moved)
@@ -223,6 +248,9 @@ pub fn assign<N: Names, L: Ledger>(
     requires fit { N.fit names.now }
     ensures answer { Answers (spec.assign_of_own (exporter_of parts.old) slice.now value.now (lents_by (exporter_of parts.old) (N.named names.now) (handle_of_value value.now))) (exporter_of parts.old) result (exporter_of parts.new) }
     ensures counted { parts.new.exports ≡ exports_of (exporter_of parts.new) }
+    ensures few { OnOk result (moved.new ≤ moved.old + (length parts.old.bytes.items + length parts.new.bytes.items)) }
+    ensures err_room { OnErr result (parts.new.bytes.room ≡ parts.old.bytes.room) }
+    ensures err_counter { OnErr result (moved.new ≡ moved.old) }
 {
     match parts.kind {
         ExporterKind::ByteArray => set_slice(parts, slice, value, names, moved),
@@ -237,6 +265,7 @@ fn replace_all(parts: &mut Parts, bytes: Vec<u8>) -> Result<LocalReply, Halt>
     requires { IsWhole parts.old }
     ensures answer { Answers (spec.replaced_all (exporter_of parts.old) bytes.items) (exporter_of parts.old) result (exporter_of parts.new) }
     ensures counted { parts.new.exports ≡ exports_of (exporter_of parts.new) }
+    ensures err_room { OnErr result (parts.new.bytes.room ≡ parts.old.bytes.room) }
 {
     parts.resizable()?;
     parts.replace_bytes(bytes);
@@ -271,6 +300,7 @@ fn init_by_other(parts: &mut Parts, other: Other<'_>) -> Result<LocalReply, Halt
     requires sound { names_spec.IsSoundOther other }
     ensures answer { Answers (lent_spec.initialized_by (exporter_of parts.old) (names_spec.snap_of_other other.entry)) (exporter_of parts.old) result (exporter_of parts.new) }
     ensures counted { parts.new.exports ≡ exports_of (exporter_of parts.new) }
+    ensures err_room { OnErr result (parts.new.bytes.room ≡ parts.old.bytes.room) }
 {
     let bytes = content_of_other(parts.alloc, other)?;
     parts.resizable()?;
@@ -286,6 +316,7 @@ fn init_by_meaning(parts: &mut Parts, meaning: Meaning<'_>) -> Result<LocalReply
     requires sound { names_spec.IsSoundMeaning meaning }
     ensures answer { Answers (lent_spec.initialized_by (exporter_of parts.old) (snap_in (exporter_of parts.old) (names_spec.meant meaning.entry))) (exporter_of parts.old) result (exporter_of parts.new) }
     ensures counted { parts.new.exports ≡ exports_of (exporter_of parts.new) }
+    ensures err_room { OnErr result (parts.new.bytes.room ≡ parts.old.bytes.room) }
 {
     match meaning {
         Meaning::Own(Subject::Own) => init_by_own(parts),
@@ -301,6 +332,7 @@ fn init_by_options(parts: &mut Parts, options: &ByteInnerNewOptions) -> Result<L
     requires { IsWhole parts.old }
     ensures answer { Answers (spec.initialized (exporter_of parts.old) options.now []) (exporter_of parts.old) result (exporter_of parts.new) }
     ensures counted { parts.new.exports ≡ exports_of (exporter_of parts.new) }
+    ensures err_room { OnErr result (parts.new.bytes.room ≡ parts.old.bytes.room) }
 {
     let nothing = SnapList::new(parts.alloc);
     let bytes = options.get_bytearray_inner(parts.alloc, &nothing).done()?;
@@ -316,6 +348,7 @@ fn initialize<N: Names>(
     requires fit { N.fit names.now }
     ensures answer { Answers (spec.initialized (exporter_of parts.old) options.now (lents_by (exporter_of parts.old) (N.named names.now) (handle_of_option options.now.source))) (exporter_of parts.old) result (exporter_of parts.new) }
     ensures counted { parts.new.exports ≡ exports_of (exporter_of parts.new) }
+    ensures err_room { OnErr result (parts.new.bytes.room ≡ parts.old.bytes.room) }
 {
     match handle_alone(options) {
         Some(handle) => init_by_meaning(parts, names.meaning(handle)),
@@ -335,6 +368,7 @@ pub fn init<N: Names>(
     requires fit { N.fit names.now }
     ensures answer { Answers (spec.init_of_own (exporter_of parts.old) options.now (lents_by (exporter_of parts.old) (N.named names.now) (handle_of_option options.now.source))) (exporter_of parts.old) result (exporter_of parts.new) }
     ensures counted { parts.new.exports ≡ exports_of (exporter_of parts.new) }
+    ensures err_room { OnErr result (parts.new.bytes.room ≡ parts.old.bytes.room) }
 {
     match parts.kind {
         ExporterKind::ByteArray => initialize(parts, options, names),
@@ -349,6 +383,7 @@ pub fn reverse(parts: &mut Parts) -> Result<LocalReply, Halt>
     requires { IsWhole parts.old }
     ensures answer { Answers (spec.reverse_of_own (exporter_of parts.old)) (exporter_of parts.old) result (exporter_of parts.new) }
     ensures counted { parts.new.exports ≡ exports_of (exporter_of parts.new) }
+    ensures room { parts.new.bytes.room ≡ parts.old.bytes.room }
 {
     match parts.kind {
         ExporterKind::ByteArray => {

@@ -1,11 +1,14 @@
 //! Edits that take bytes out.
-ghost use Rattle.std.specs.Prelude.{◌≡◌};
+ghost use Rattle.std.specs.Prelude.{◌≡◌, ◌≤◌, ◌<◌, ◌+◌, ◌^◌, ℕ, true, length, OnOk, OnErr};
+ghost use Rattle.pybuf_index.specs.Parts.{picks_of};
 ghost use Rattle.pybuf_state.specs.Exporter.{exports_of};
 ghost use Rattle.pybuf_state.specs.Answers.{exporter_of, IsWhole, Answers};
+ghost use Rattle.pybuf_rows_edits.specs.Counting as counting;
+ghost use Rattle.pybuf_rows_edits.specs.Counting.{AreFirst, TakesFirst};
 ghost use Rattle.pybuf_rows_edits.specs.Shrinking as spec;
 
 use pybuf_command::{ExporterKind, LocalReply};
-use pybuf_index::{SaturatedSlice, entry_in};
+use pybuf_index::{SaturatedSlice, entry_in, indices_of_a_slice, indices_of_a_span};
 use pybuf_memoryview::{byte_item, index_in};
 use pybuf_slice::close_up;
 use pybuf_state::Parts;
@@ -29,6 +32,11 @@ fn pop_byte<L: Ledger>(
     requires { IsWhole parts.old }
     ensures answer { Answers (spec.popped (exporter_of parts.old) index.now) (exporter_of parts.old) result (exporter_of parts.new) }
     ensures counted { parts.new.exports ≡ exports_of (exporter_of parts.new) }
+    ensures few { OnOk result (moved.new ≤ moved.old + (length parts.old.bytes.items + length parts.new.bytes.items)) }
+    ensures front_room { (n : ℕ) → TakesFirst (counting.popped_places (exporter_of parts.old) index.now) n → OnOk result (parts.new.bytes.room ≡ parts.old.bytes.room + n) }
+    ensures front_counter { (n : ℕ) → TakesFirst (counting.popped_places (exporter_of parts.old) index.now) n → OnOk result (moved.new ≡ moved.old) }
+    ensures err_room { OnErr result (parts.new.bytes.room ≡ parts.old.bytes.room) }
+    ensures err_counter { OnErr result (moved.new ≡ moved.old) }
 {
     let number = count_or_last(index)?;
     parts.resizable()?;
@@ -48,6 +56,11 @@ pub fn pop<L: Ledger>(
     requires { IsWhole parts.old }
     ensures answer { Answers (spec.pop_of_own (exporter_of parts.old) index.now) (exporter_of parts.old) result (exporter_of parts.new) }
     ensures counted { parts.new.exports ≡ exports_of (exporter_of parts.new) }
+    ensures few { OnOk result (moved.new ≤ moved.old + (length parts.old.bytes.items + length parts.new.bytes.items)) }
+    ensures front_room { (n : ℕ) → TakesFirst (counting.popped_places (exporter_of parts.old) index.now) n → OnOk result (parts.new.bytes.room ≡ parts.old.bytes.room + n) }
+    ensures front_counter { (n : ℕ) → TakesFirst (counting.popped_places (exporter_of parts.old) index.now) n → OnOk result (moved.new ≡ moved.old) }
+    ensures err_room { OnErr result (parts.new.bytes.room ≡ parts.old.bytes.room) }
+    ensures err_counter { OnErr result (moved.new ≡ moved.old) }
 {
     match parts.kind {
         ExporterKind::ByteArray => pop_byte(parts, index, moved),
@@ -63,6 +76,11 @@ fn remove_byte<L: Ledger>(
     requires { IsWhole parts.old }
     ensures answer { Answers (spec.removed (exporter_of parts.old) value.now) (exporter_of parts.old) result (exporter_of parts.new) }
     ensures counted { parts.new.exports ≡ exports_of (exporter_of parts.new) }
+    ensures few { OnOk result (moved.new ≤ moved.old + (length parts.old.bytes.items + length parts.new.bytes.items)) }
+    ensures front_room { (n : ℕ) → TakesFirst (counting.removed_places (exporter_of parts.old) value.now) n → OnOk result (parts.new.bytes.room ≡ parts.old.bytes.room + n) }
+    ensures front_counter { (n : ℕ) → TakesFirst (counting.removed_places (exporter_of parts.old) value.now) n → OnOk result (moved.new ≡ moved.old) }
+    ensures err_room { OnErr result (parts.new.bytes.room ≡ parts.old.bytes.room) }
+    ensures err_counter { OnErr result (moved.new ≡ moved.old) }
 {
     let byte = value_from_object(value)?;
     parts.resizable()?;
@@ -84,6 +102,11 @@ pub fn remove<L: Ledger>(
     requires { IsWhole parts.old }
     ensures answer { Answers (spec.remove_of_own (exporter_of parts.old) value.now) (exporter_of parts.old) result (exporter_of parts.new) }
     ensures counted { parts.new.exports ≡ exports_of (exporter_of parts.new) }
+    ensures few { OnOk result (moved.new ≤ moved.old + (length parts.old.bytes.items + length parts.new.bytes.items)) }
+    ensures front_room { (n : ℕ) → TakesFirst (counting.removed_places (exporter_of parts.old) value.now) n → OnOk result (parts.new.bytes.room ≡ parts.old.bytes.room + n) }
+    ensures front_counter { (n : ℕ) → TakesFirst (counting.removed_places (exporter_of parts.old) value.now) n → OnOk result (moved.new ≡ moved.old) }
+    ensures err_room { OnErr result (parts.new.bytes.room ≡ parts.old.bytes.room) }
+    ensures err_counter { OnErr result (moved.new ≡ moved.old) }
 {
     match parts.kind {
         ExporterKind::ByteArray => remove_byte(parts, value, moved),
@@ -95,6 +118,7 @@ fn remove_all(parts: &mut Parts) -> Result<LocalReply, Halt>
     requires { IsWhole parts.old }
     ensures answer { Answers (spec.cleared (exporter_of parts.old)) (exporter_of parts.old) result (exporter_of parts.new) }
     ensures counted { parts.new.exports ≡ exports_of (exporter_of parts.new) }
+    ensures err_room { OnErr result (parts.new.bytes.room ≡ parts.old.bytes.room) }
 {
     parts.resizable()?;
     parts.replace_bytes(Vec::new(parts.alloc));
@@ -106,6 +130,7 @@ pub fn clear(parts: &mut Parts) -> Result<LocalReply, Halt>
     requires { IsWhole parts.old }
     ensures answer { Answers (spec.clear_of_own (exporter_of parts.old)) (exporter_of parts.old) result (exporter_of parts.new) }
     ensures counted { parts.new.exports ≡ exports_of (exporter_of parts.new) }
+    ensures err_room { OnErr result (parts.new.bytes.room ≡ parts.old.bytes.room) }
 {
     match parts.kind {
         ExporterKind::ByteArray => remove_all(parts),
@@ -121,6 +146,11 @@ fn delete_byte<L: Ledger>(
     requires { IsWhole parts.old }
     ensures answer { Answers (spec.byte_deleted (exporter_of parts.old) key.now) (exporter_of parts.old) result (exporter_of parts.new) }
     ensures counted { parts.new.exports ≡ exports_of (exporter_of parts.new) }
+    ensures front_room { (n : ℕ) → TakesFirst (counting.indexed_places (exporter_of parts.old) key.now) n → OnOk result (parts.new.bytes.room ≡ parts.old.bytes.room + n) }
+    ensures front_counter { (n : ℕ) → TakesFirst (counting.indexed_places (exporter_of parts.old) key.now) n → OnOk result (moved.new ≡ moved.old) }
+    ensures few { OnOk result (moved.new ≤ moved.old + (length parts.old.bytes.items + length parts.new.bytes.items)) }
+    ensures err_room { OnErr result (parts.new.bytes.room ≡ parts.old.bytes.room) }
+    ensures err_counter { OnErr result (moved.new ≡ moved.old) }
 {
     let index = index_in(key)?;
     parts.resizable()?;
@@ -129,7 +159,26 @@ fn delete_byte<L: Ledger>(
     Ok(LocalReply::Ok)
 }
 
-/// The bytes that stay move to the front of the slice's span, and then what is left of it goes.
+/// Whether the indices of a slice are the first places of a sequence, one after another, up or down.
+fn are_first(slice: &SaturatedSlice, len: usize) -> bool
+    requires { len < 2 ^ 63 }
+    ensures first { result ≡ true → AreFirst (length (picks_of len slice.now)) (picks_of len slice.now) }
+    ensures only { (n : ℕ) → AreFirst n (picks_of len slice.now) → result ≡ true }
+{
+    indices_of_a_span();
+    let (span, step, count) = slice.adjust_indices(len);
+    if count > 1 {
+        return span.start == 0 && step.unsigned_abs() == 1;
+    }
+    let mut indices = slice.iter(len);
+    match indices.next() {
+        Some(place) => place == 0,
+        None => true,
+    }
+}
+
+/// Where the first bytes go, none moves. Else the bytes that stay move to the front of the slice's span, and then
+/// what is left of it goes.
 fn delete_slice<L: Ledger>(
     parts: &mut Parts,
     slice: &PySlice,
@@ -138,12 +187,22 @@ fn delete_slice<L: Ledger>(
     requires { IsWhole parts.old }
     ensures answer { Answers (spec.slice_deleted (exporter_of parts.old) slice.now) (exporter_of parts.old) result (exporter_of parts.new) }
     ensures counted { parts.new.exports ≡ exports_of (exporter_of parts.new) }
+    ensures front_room { (n : ℕ) → TakesFirst (counting.sliced_places (exporter_of parts.old) slice.now) n → OnOk result (parts.new.bytes.room ≡ parts.old.bytes.room + n) }
+    ensures front_counter { (n : ℕ) → TakesFirst (counting.sliced_places (exporter_of parts.old) slice.now) n → OnOk result (moved.new ≡ moved.old) }
+    ensures few { OnOk result (moved.new ≤ moved.old + (length parts.old.bytes.items + length parts.new.bytes.items)) }
+    ensures err_room { OnErr result (parts.new.bytes.room ≡ parts.old.bytes.room) }
+    ensures err_counter { OnErr result (moved.new ≡ moved.old) }
 {
+    indices_of_a_slice();
     let slice = SaturatedSlice::with_slice(slice)?;
     parts.resizable()?;
     let (span, _step, count) = slice.adjust_indices(parts.bytes.len());
+    if are_first(&slice, parts.bytes.len()) {
+        parts.remove_range(0, count, moved);
+        return Ok(LocalReply::Ok);
+    }
     let left = close_up(parts.bytes.as_mut_slice(), slice);
-    moved.add((span.end - span.start).saturating_sub(count));
+    moved.add(left.start.saturating_sub(span.start));
     parts.remove_range(left.start, left.end, moved);
     Ok(LocalReply::Ok)
 }
@@ -156,6 +215,11 @@ fn delete_at<L: Ledger>(
     requires { IsWhole parts.old }
     ensures answer { Answers (spec.deleted (exporter_of parts.old) key.now) (exporter_of parts.old) result (exporter_of parts.new) }
     ensures counted { parts.new.exports ≡ exports_of (exporter_of parts.new) }
+    ensures few { OnOk result (moved.new ≤ moved.old + (length parts.old.bytes.items + length parts.new.bytes.items)) }
+    ensures front_room { (n : ℕ) → TakesFirst (counting.deleted_places (exporter_of parts.old) key.now) n → OnOk result (parts.new.bytes.room ≡ parts.old.bytes.room + n) }
+    ensures front_counter { (n : ℕ) → TakesFirst (counting.deleted_places (exporter_of parts.old) key.now) n → OnOk result (moved.new ≡ moved.old) }
+    ensures err_room { OnErr result (parts.new.bytes.room ≡ parts.old.bytes.room) }
+    ensures err_counter { OnErr result (moved.new ≡ moved.old) }
 {
     match key {
         Value::Slice(slice) => delete_slice(parts, slice, moved),
@@ -173,6 +237,11 @@ pub fn delete<L: Ledger>(
     requires { IsWhole parts.old }
     ensures answer { Answers (spec.delete_of_own (exporter_of parts.old) key.now) (exporter_of parts.old) result (exporter_of parts.new) }
     ensures counted { parts.new.exports ≡ exports_of (exporter_of parts.new) }
+    ensures few { OnOk result (moved.new ≤ moved.old + (length parts.old.bytes.items + length parts.new.bytes.items)) }
+    ensures front_room { (n : ℕ) → TakesFirst (counting.deleted_places (exporter_of parts.old) key.now) n → OnOk result (parts.new.bytes.room ≡ parts.old.bytes.room + n) }
+    ensures front_counter { (n : ℕ) → TakesFirst (counting.deleted_places (exporter_of parts.old) key.now) n → OnOk result (moved.new ≡ moved.old) }
+    ensures err_room { OnErr result (parts.new.bytes.room ≡ parts.old.bytes.room) }
+    ensures err_counter { OnErr result (moved.new ≡ moved.old) }
 {
     match parts.kind {
         ExporterKind::ByteArray => delete_at(parts, key, moved),
@@ -184,6 +253,7 @@ fn take_all(parts: &mut Parts) -> Result<LocalReply, Halt>
     requires { IsWhole parts.old }
     ensures answer { Answers (spec.taken (exporter_of parts.old)) (exporter_of parts.old) result (exporter_of parts.new) }
     ensures counted { parts.new.exports ≡ exports_of (exporter_of parts.new) }
+    ensures err_room { OnErr result (parts.new.bytes.room ≡ parts.old.bytes.room) }
 {
     parts.resizable()?;
     let bytes = Vec::from_slice(parts.alloc, parts.bytes.as_slice())?;
@@ -196,6 +266,7 @@ pub fn take(parts: &mut Parts) -> Result<LocalReply, Halt>
     requires { IsWhole parts.old }
     ensures answer { Answers (spec.take_of_own (exporter_of parts.old)) (exporter_of parts.old) result (exporter_of parts.new) }
     ensures counted { parts.new.exports ≡ exports_of (exporter_of parts.new) }
+    ensures err_room { OnErr result (parts.new.bytes.room ≡ parts.old.bytes.room) }
 {
     match parts.kind {
         ExporterKind::Vector { readonly: _ } => take_all(parts),

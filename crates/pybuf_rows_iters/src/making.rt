@@ -15,6 +15,7 @@ pub fn of_own(parts: &mut Parts) -> Result<LocalReply, Halt>
     requires { IsWhole parts.old }
     ensures answer { Answers (spec.iter_of_own (exporter_of parts.old)) (exporter_of parts.old) result (exporter_of parts.new) }
     ensures counted { parts.new.exports ≡ exports_of (exporter_of parts.new) }
+    ensures room { parts.new.bytes.room ≡ parts.old.bytes.room }
 {
     match parts.kind {
         ExporterKind::Vector { readonly: _ } => Err(Halt::Refused(Fault::UnknownName)),
@@ -29,6 +30,7 @@ pub fn of_view(parts: &mut Parts, view: usize) -> Result<LocalReply, Halt>
     requires { IsWhole parts.old }
     ensures answer { Answers (spec.iter_of_view (exporter_of parts.old) view) (exporter_of parts.old) result (exporter_of parts.new) }
     ensures counted { parts.new.exports ≡ exports_of (exporter_of parts.new) }
+    ensures room { parts.new.bytes.room ≡ parts.old.bytes.room }
 {
     parts.live_layout(view)?;
     parts.add_iterator(Subject::View(view))

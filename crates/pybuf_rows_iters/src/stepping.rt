@@ -79,6 +79,7 @@ fn moved_on(parts: &mut Parts, k: usize, iterator: StoredIterator, item: Option<
     requires inside { IfSome item (λ _. iterator.position < 2 ^ 63) }
     ensures answer { spec.moved_on (exporter_of parts.old) k iterator item ≡ (exporter_of parts.new, result) }
     ensures counted { parts.new.exports ≡ exports_of (exporter_of parts.new) }
+    ensures room { parts.new.bytes.room ≡ parts.old.bytes.room }
 {
     match item {
         Some(item) => {
@@ -99,6 +100,7 @@ fn next(parts: &mut Parts, k: usize) -> Result<LocalReply, Halt>
     requires { IsWhole parts.old }
     ensures answer { Answers (spec.next_of_iterator (exporter_of parts.old) k) (exporter_of parts.old) result (exporter_of parts.new) }
     ensures counted { parts.new.exports ≡ exports_of (exporter_of parts.new) }
+    ensures room { parts.new.bytes.room ≡ parts.old.bytes.room }
 {
     let iterator = parts.iterator(k)?;
     if iterator.is_exhausted() {
@@ -156,6 +158,7 @@ fn set_state(parts: &mut Parts, k: usize, state: &Value) -> Result<LocalReply, H
     requires { IsWhole parts.old }
     ensures answer { Answers (spec.setstate_of_iterator (exporter_of parts.old) k state.now) (exporter_of parts.old) result (exporter_of parts.new) }
     ensures counted { parts.new.exports ≡ exports_of (exporter_of parts.new) }
+    ensures room { parts.new.bytes.room ≡ parts.old.bytes.room }
 {
     let iterator = iterator_over_bytes(parts, k)?;
     if iterator.is_exhausted() {
@@ -174,6 +177,7 @@ pub fn of_iterator(parts: &mut Parts, k: usize, verb: &Verb) -> Result<LocalRepl
     requires { IsWhole parts.old }
     ensures answer { Answers (spec.row_of_iterator (exporter_of parts.old) k verb.now) (exporter_of parts.old) result (exporter_of parts.new) }
     ensures counted { parts.new.exports ≡ exports_of (exporter_of parts.new) }
+    ensures room { parts.new.bytes.room ≡ parts.old.bytes.room }
 {
     match verb {
         Verb::Iter => {

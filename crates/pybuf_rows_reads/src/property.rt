@@ -11,7 +11,7 @@ use crate::len::count_item;
 use pybuf_command::{LocalReply, PropertyName};
 use pybuf_memoryview::KeptLayout;
 use pybuf_state::Parts;
-use pybuf_value::{Fault, Halt, Made, Twin};
+use pybuf_value::{Fault, Halt, Made};
 use std::alloc::Global;
 
 /// The number of unreleased views.
@@ -39,7 +39,7 @@ fn of_layout(alloc: Global, layout: &KeptLayout, name: PropertyName) -> Result<L
         PropertyName::Shape => Ok(LocalReply::Numbers(layout.shape(alloc)?)),
         PropertyName::Strides => Ok(LocalReply::Numbers(layout.strides(alloc)?)),
         PropertyName::Suboffsets => Ok(LocalReply::Numbers(layout.suboffsets(alloc)?)),
-        PropertyName::Format => Ok(LocalReply::Text(layout.format_text().copy(alloc)?)),
+        PropertyName::Format => Ok(LocalReply::Text(layout.format_text().to_text(alloc)?)),
         PropertyName::Contiguous => Ok(LocalReply::Truth(layout.is_contiguous())),
         PropertyName::CContiguous => Ok(LocalReply::Truth(layout.is_contiguous())),
         PropertyName::FContiguous => Ok(LocalReply::Truth(layout.is_f_contiguous())),

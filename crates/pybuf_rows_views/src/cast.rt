@@ -16,12 +16,11 @@ ghost use Rattle.pybuf_rows_views.specs.Cast as spec;
 ghost use Rattle.pybuf_rows_views.specs.CastEntries as entries;
 
 use pybuf_command::LocalReply;
+use pybuf_desc::KeptFormat;
 use pybuf_memoryview::KeptLayout;
 use pybuf_state::Parts;
 use pybuf_struct::{FormatSpec, single_size};
-use pybuf_value::{
-    CountList, Fault, Halt, Outcome, Scalar, Text, Value, fit_count, number_in, text_in,
-};
+use pybuf_value::{CountList, Fault, Halt, Outcome, Scalar, Value, fit_count, number_in, text_in};
 use std::alloc::Global;
 
 /// The size of a format's items. That of a format of one letter is told without parsing it.
@@ -133,9 +132,8 @@ fn flat_layout_of(alloc: Global, layout: &KeptLayout, text: &str) -> Result<Kept
         }
     }
     let size = size_for(alloc, layout.nbytes(), text)?;
-    let text = Text::from_string(String::from_str(alloc, text)?);
-    let cast = layout.cast(alloc, text, size)?;
-    Ok(cast)
+    let format = KeptFormat::of(alloc, text)?;
+    Ok(layout.cast(format, size))
 }
 
 /// Whether neither a view nor a shape has one dimension.
@@ -172,8 +170,8 @@ fn shaped_layout_of(
     if product != layout.nbytes() {
         return Err(Halt::Refused(Fault::Kind));
     }
-    let text = Text::from_string(String::from_str(alloc, text)?);
-    let cast = layout.cast_shape(alloc, text, size, entries.as_slice())?;
+    let format = KeptFormat::of(alloc, text)?;
+    let cast = layout.cast_shape(alloc, format, size, entries.as_slice())?;
     Ok(cast)
 }
 
@@ -201,8 +199,8 @@ fn shaped_layout_by(
     if product != layout.nbytes() {
         return Err(Halt::Refused(Fault::Kind));
     }
-    let text = Text::from_string(String::from_str(alloc, text)?);
-    let cast = layout.cast_shape(alloc, text, size, shape)?;
+    let format = KeptFormat::of(alloc, text)?;
+    let cast = layout.cast_shape(alloc, format, size, shape)?;
     Ok(cast)
 }
 
@@ -229,15 +227,14 @@ pub fn add_flat(parts: &mut Parts, view: usize, format: &str) -> Result<usize, H
     requires { IsWhole parts.old }
     ensures answer { Answers (spec.cast_of_view (exporter_of parts.old) view (values.One (scalars.Text format.now)) None) (exporter_of parts.old) (result_map_both replies.View (λ halt. halt) result) (exporter_of parts.new) }
     ensures counted { parts.new.exports ≡ exports_of (exporter_of parts.new) }
+    ensures room { parts.new.bytes.room ≡ parts.old.bytes.room }
 {
     let layout = parts.live_layout(view)?;
     if !layout.is_contiguous() {
         return Err(Halt::Refused(Fault::Kind));
     }
     let layout = flat_layout_of(parts.alloc, layout, format)?;
-    let number = parts.views.len();
-    parts.add_view(layout)?;
-    Ok(number)
+    parts.push_view(layout)
 }
 
 /// A view of the bytes of a view, with items of another format in the dimensions of a shape. The answer is its
@@ -251,15 +248,14 @@ pub fn add_shaped(
     requires { IsWhole parts.old }
     ensures answer { Answers (spec.cast_of_view (exporter_of parts.old) view (values.One (scalars.Text format.now)) (Some (values.Tuple (map (λ n. scalars.Int (pos n)) shape.now)))) (exporter_of parts.old) (result_map_both replies.View (λ halt. halt) result) (exporter_of parts.new) }
     ensures counted { parts.new.exports ≡ exports_of (exporter_of parts.new) }
+    ensures room { parts.new.bytes.room ≡ parts.old.bytes.room }
 {
     let layout = parts.live_layout(view)?;
     if !layout.is_contiguous() {
         return Err(Halt::Refused(Fault::Kind));
     }
     let layout = shaped_layout_by(parts.alloc, layout, format, shape)?;
-    let number = parts.views.len();
-    parts.add_view(layout)?;
-    Ok(number)
+    parts.push_view(layout)
 }
 
 /// A view of the bytes of a view, with items of another format, in one dimension or in those of a
@@ -273,6 +269,7 @@ pub fn of_view(
     requires { IsWhole parts.old }
     ensures answer { Answers (spec.cast_of_view (exporter_of parts.old) view format.now shape.now) (exporter_of parts.old) result (exporter_of parts.new) }
     ensures counted { parts.new.exports ≡ exports_of (exporter_of parts.new) }
+    ensures room { parts.new.bytes.room ≡ parts.old.bytes.room }
 {
     let layout = parts.live_layout(view)?;
     if !layout.is_contiguous() {

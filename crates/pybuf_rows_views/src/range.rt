@@ -31,6 +31,7 @@ pub fn of_own(parts: &mut Parts, from: &Value, to: &Value) -> Result<LocalReply,
     requires { IsWhole parts.old }
     ensures answer { Answers (spec.range_of_own (exporter_of parts.old) from.now to.now) (exporter_of parts.old) result (exporter_of parts.new) }
     ensures counted { parts.new.exports ≡ exports_of (exporter_of parts.new) }
+    ensures room { parts.new.bytes.room ≡ parts.old.bytes.room }
 {
     let first = index_of(from)?;
     let end = index_of(to)?;

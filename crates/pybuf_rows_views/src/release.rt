@@ -17,6 +17,7 @@ pub fn release(parts: &mut Parts, view: usize) -> Result<(), Fault>
     ensures exact { MatchResult result (λ _. released_in (exporter_of parts.old) view ≡ Ok (exporter_of parts.new)) (λ f. released_in (exporter_of parts.old) view ≡ Err f) }
     ensures err { OnErr result (exporter_of parts.new ≡ exporter_of parts.old) }
     ensures whole { IsWhole parts.new }
+    ensures room { parts.new.bytes.room ≡ parts.old.bytes.room }
 {
     pybuf_state::releasing_keeps();
     match parts.release_view(view) {
@@ -30,6 +31,7 @@ pub fn of_view(parts: &mut Parts, view: usize) -> Result<LocalReply, Halt>
     requires { IsWhole parts.old }
     ensures answer { Answers (release_of_view (exporter_of parts.old) view) (exporter_of parts.old) result (exporter_of parts.new) }
     ensures counted { parts.new.exports ≡ exports_of (exporter_of parts.new) }
+    ensures room { parts.new.bytes.room ≡ parts.old.bytes.room }
 {
     release(parts, view)?;
     Ok(LocalReply::Ok)

@@ -16,6 +16,7 @@ pub fn add(parts: &mut Parts, view: usize, slice: &PySlice) -> Result<usize, Hal
     requires { IsWhole parts.old }
     ensures answer { Answers (slice_of_view (exporter_of parts.old) view slice.now) (exporter_of parts.old) (result_map_both replies.View (λ halt. halt) result) (exporter_of parts.new) }
     ensures counted { parts.new.exports ≡ exports_of (exporter_of parts.new) }
+    ensures room { parts.new.bytes.room ≡ parts.old.bytes.room }
 {
     let layout = parts.live_layout(view)?;
     if layout.ndim() == 0 {
@@ -23,9 +24,7 @@ pub fn add(parts: &mut Parts, view: usize, slice: &PySlice) -> Result<usize, Hal
     }
     let slice = SaturatedSlice::with_slice(slice)?;
     let layout = layout.sliced(parts.alloc, slice)?;
-    let number = parts.views.len();
-    parts.add_view(layout)?;
-    Ok(number)
+    parts.push_view(layout)
 }
 
 /// A view of the items that a slice picks, along the first dimension.
@@ -33,6 +32,7 @@ pub fn of_view(parts: &mut Parts, view: usize, slice: &PySlice) -> Result<LocalR
     requires { IsWhole parts.old }
     ensures answer { Answers (slice_of_view (exporter_of parts.old) view slice.now) (exporter_of parts.old) result (exporter_of parts.new) }
     ensures counted { parts.new.exports ≡ exports_of (exporter_of parts.new) }
+    ensures room { parts.new.bytes.room ≡ parts.old.bytes.room }
 {
     let number = add(parts, view, slice)?;
     Ok(LocalReply::View(number))

@@ -13,6 +13,7 @@ pub fn of_view(parts: &mut Parts, view: usize) -> Result<LocalReply, Halt>
     requires { IsWhole parts.old }
     ensures answer { Answers (toreadonly_of_view (exporter_of parts.old) view) (exporter_of parts.old) result (exporter_of parts.new) }
     ensures counted { parts.new.exports ≡ exports_of (exporter_of parts.new) }
+    ensures room { parts.new.bytes.room ≡ parts.old.bytes.room }
 {
     let layout = parts.live_layout(view)?;
     let layout = layout.to_readonly(parts.alloc)?;

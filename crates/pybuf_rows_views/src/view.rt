@@ -16,11 +16,10 @@ pub fn add_whole(parts: &mut Parts) -> Result<usize, Halt>
     requires { IsWhole parts.old }
     ensures answer { Answers (view_of_own (exporter_of parts.old)) (exporter_of parts.old) (result_map_both replies.View (λ halt. halt) result) (exporter_of parts.new) }
     ensures counted { parts.new.exports ≡ exports_of (exporter_of parts.new) }
+    ensures room { parts.new.bytes.room ≡ parts.old.bytes.room }
 {
     let layout = KeptLayout::whole(parts.alloc, parts.bytes.len(), parts.kind.is_readonly())?;
-    let number = parts.views.len();
-    parts.add_view(layout)?;
-    Ok(number)
+    parts.push_view(layout)
 }
 
 /// A view of all the bytes.
@@ -28,6 +27,7 @@ pub fn of_own(parts: &mut Parts) -> Result<LocalReply, Halt>
     requires { IsWhole parts.old }
     ensures answer { Answers (view_of_own (exporter_of parts.old)) (exporter_of parts.old) result (exporter_of parts.new) }
     ensures counted { parts.new.exports ≡ exports_of (exporter_of parts.new) }
+    ensures room { parts.new.bytes.room ≡ parts.old.bytes.room }
 {
     let number = add_whole(parts)?;
     Ok(LocalReply::View(number))
@@ -38,6 +38,7 @@ pub fn of_view(parts: &mut Parts, view: usize) -> Result<LocalReply, Halt>
     requires { IsWhole parts.old }
     ensures answer { Answers (view_of_view (exporter_of parts.old) view) (exporter_of parts.old) result (exporter_of parts.new) }
     ensures counted { parts.new.exports ≡ exports_of (exporter_of parts.new) }
+    ensures room { parts.new.bytes.room ≡ parts.old.bytes.room }
 {
     let layout = parts.live_layout(view)?;
     let layout = layout.copy(parts.alloc)?;

@@ -12,3 +12,4 @@ pub mod Ranges
 pub mod Laying
 pub mod Pairs
 pub mod Widths
+pub mod LineCopies

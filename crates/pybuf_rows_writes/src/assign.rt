@@ -101,6 +101,7 @@ fn from_bytes(parts: &mut Parts, target: &KeptLayout, bytes: &[u8]) -> Result<Lo
     ensures answer { (kind : ExporterKind) → Answers (spec.assigned (exporter_of parts.old) target.now (snap_of_exporter (new_exporter kind bytes.now))) (exporter_of parts.old) result (exporter_of parts.new) }
     ensures as_bytes { Answers (spec.assigned (exporter_of parts.old) target.now (snap_of_exporter (new_exporter kinds.Bytes bytes.now))) (exporter_of parts.old) result (exporter_of parts.new) }
     ensures counted { parts.new.exports ≡ exports_of (exporter_of parts.new) }
+    ensures room { parts.new.bytes.room ≡ parts.old.bytes.room }
 {
     if !takes_bytes(target, bytes.len()) {
         return Err(Halt::Refused(Fault::Value));
@@ -118,6 +119,7 @@ fn from_snap(parts: &mut Parts, target: &KeptLayout, snap: &Snap) -> Result<Loca
     requires no_iterator { is_iterator snap.now.kind ≡ false }
     ensures answer { Answers (spec.assigned (exporter_of parts.old) target.now snap.now) (exporter_of parts.old) result (exporter_of parts.new) }
     ensures counted { parts.new.exports ≡ exports_of (exporter_of parts.new) }
+    ensures room { parts.new.bytes.room ≡ parts.old.bytes.room }
 {
     if snap.released {
         return Err(Halt::Refused(Fault::Value));
@@ -142,6 +144,7 @@ fn from_other(parts: &mut Parts, target: &KeptLayout, snap: &Snap) -> Result<Loc
     requires fits { fits_snap snap.now ≡ true }
     ensures answer { Answers (spec.assigned_from (exporter_of parts.old) target.now (Some snap.now)) (exporter_of parts.old) result (exporter_of parts.new) }
     ensures counted { parts.new.exports ≡ exports_of (exporter_of parts.new) }
+    ensures room { parts.new.bytes.room ≡ parts.old.bytes.room }
 {
     if snap.kind.is_iterator() {
         return Err(Halt::Refused(Fault::Kind));
@@ -157,6 +160,7 @@ fn from_own(parts: &mut Parts, target: &KeptLayout) -> Result<LocalReply, Halt>
     requires inside { LiesInside (length parts.old.bytes.items) target.now }
     ensures answer { Answers (spec.assigned (exporter_of parts.old) target.now (snap_of_exporter (exporter_of parts.old))) (exporter_of parts.old) result (exporter_of parts.new) }
     ensures counted { parts.new.exports ≡ exports_of (exporter_of parts.new) }
+    ensures room { parts.new.bytes.room ≡ parts.old.bytes.room }
 {
     if !takes_bytes(target, parts.bytes.len()) {
         return Err(Halt::Refused(Fault::Value));
@@ -191,6 +195,7 @@ fn from_view(parts: &mut Parts, target: &KeptLayout, view: usize) -> Result<Loca
     requires inside { LiesInside (length parts.old.bytes.items) target.now }
     ensures answer { Answers (spec.assigned_from (exporter_of parts.old) target.now (snap_of_subject (exporter_of parts.old) (subjects.View view))) (exporter_of parts.old) result (exporter_of parts.new) }
     ensures counted { parts.new.exports ≡ exports_of (exporter_of parts.new) }
+    ensures room { parts.new.bytes.room ≡ parts.old.bytes.room }
 {
     pybuf_memoryview::contents_are_whole();
     let source = source(parts, view)?;
@@ -220,6 +225,7 @@ fn from_view_across(
     requires inside { LiesInside (length parts.old.bytes.items) target.now }
     ensures answer { Answers (spec.assigned_from (exporter_of parts.old) target.now (snap_of_subject (exporter_of lender.now) (subjects.View view))) (exporter_of parts.old) result (exporter_of parts.new) }
     ensures counted { parts.new.exports ≡ exports_of (exporter_of parts.new) }
+    ensures room { parts.new.bytes.room ≡ parts.old.bytes.room }
 {
     let source = source(lender, view)?;
     if !has_form_of_layout(target, source) {
@@ -247,6 +253,7 @@ fn from_subject_across(
     requires inside { LiesInside (length parts.old.bytes.items) target.now }
     ensures answer { Answers (spec.assigned_from (exporter_of parts.old) target.now (snap_of_subject (exporter_of lender.now) subject)) (exporter_of parts.old) result (exporter_of parts.new) }
     ensures counted { parts.new.exports ≡ exports_of (exporter_of parts.new) }
+    ensures room { parts.new.bytes.room ≡ parts.old.bytes.room }
 {
     match subject {
         Subject::Own => from_bytes(parts, target, lender.bytes.as_slice()),
@@ -268,6 +275,7 @@ fn from_meaning(
     requires sound { names_spec.IsSoundMeaning meaning }
     ensures answer { Answers (spec.assigned_from (exporter_of parts.old) target.now (snap_in (exporter_of parts.old) (names_spec.meant meaning.entry))) (exporter_of parts.old) result (exporter_of parts.new) }
     ensures counted { parts.new.exports ≡ exports_of (exporter_of parts.new) }
+    ensures room { parts.new.bytes.room ≡ parts.old.bytes.room }
 {
     match meaning {
         Meaning::Own(Subject::Own) => from_own(parts, target),
@@ -294,6 +302,7 @@ fn from_value<N: Names>(
     requires fit { N.fit names.now }
     ensures answer { Answers (spec.assigned_of_value (exporter_of parts.old) target.now value.now (lents_by (exporter_of parts.old) (N.named names.now) (handle_of_value value.now))) (exporter_of parts.old) result (exporter_of parts.new) }
     ensures counted { parts.new.exports ≡ exports_of (exporter_of parts.new) }
+    ensures room { parts.new.bytes.room ≡ parts.old.bytes.room }
 {
     match value {
         Value::One(Scalar::Bytes(bytes)) => from_bytes(parts, target, bytes.as_slice()),
@@ -315,6 +324,7 @@ pub fn of_view<N: Names>(
     requires fit { N.fit names.now }
     ensures answer { Answers (spec.assign_of_view (exporter_of parts.old) view slice.now value.now (lents_by (exporter_of parts.old) (N.named names.now) (handle_of_value value.now))) (exporter_of parts.old) result (exporter_of parts.new) }
     ensures counted { parts.new.exports ≡ exports_of (exporter_of parts.new) }
+    ensures room { parts.new.bytes.room ≡ parts.old.bytes.room }
 {
     let target = target(parts, view, slice, value)?;
     from_value(parts, &target, value, names)
@@ -325,6 +335,7 @@ pub fn put_bytes(parts: &mut Parts, view: usize, slice: &PySlice, bytes: &[u8]) 
     requires { IsWhole parts.old }
     ensures answer { Answers (spec.assign_of_view (exporter_of parts.old) view slice.now (values.One (scalars.Bytes bytes.now)) []) (exporter_of parts.old) (result_map_both (λ _. replies.Ok) (λ halt. halt) result) (exporter_of parts.new) }
     ensures counted { parts.new.exports ≡ exports_of (exporter_of parts.new) }
+    ensures room { parts.new.bytes.room ≡ parts.old.bytes.room }
 {
     let target = written(parts, view, slice)?;
     from_bytes(parts, &target, bytes)?;
@@ -344,6 +355,7 @@ pub fn put_from(
     requires lender_whole { IsWhole lender.now }
     ensures answer { Answers (spec.assign_of_lent (exporter_of parts.old) view slice.now (snap_of_subject (exporter_of lender.now) (subjects.View source))) (exporter_of parts.old) (result_map_both (λ _. replies.Ok) (λ halt. halt) result) (exporter_of parts.new) }
     ensures counted { parts.new.exports ≡ exports_of (exporter_of parts.new) }
+    ensures room { parts.new.bytes.room ≡ parts.old.bytes.room }
 {
     lender.view(source)?;
     let target = written(parts, view, slice)?;
@@ -361,6 +373,7 @@ pub fn put_within(
     requires { IsWhole parts.old }
     ensures answer { Answers (spec.assign_of_lent (exporter_of parts.old) view slice.now (snap_of_subject (exporter_of parts.old) (subjects.View source))) (exporter_of parts.old) (result_map_both (λ _. replies.Ok) (λ halt. halt) result) (exporter_of parts.new) }
     ensures counted { parts.new.exports ≡ exports_of (exporter_of parts.new) }
+    ensures room { parts.new.bytes.room ≡ parts.old.bytes.room }
 {
     parts.view(source)?;
     let target = written(parts, view, slice)?;

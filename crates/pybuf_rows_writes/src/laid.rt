@@ -1,16 +1,19 @@
 //! Bytes that are laid over the items of a view.
-ghost use Rattle.std.specs.Prelude.{◌≡◌, ◌+◌, ◌-◌, ◌<◌, ◌≤◌, true, length, map, take, drop};
+ghost use Rattle.std.specs.Prelude.{◌≡◌, ◌+◌, ◌-◌, ◌*◌, ◌<◌, ◌≤◌, true, length, map, take, drop};
 ghost use Rattle.std.specs.List.{All, flat_map};
 ghost use Rattle.pybuf_slice.specs.Reads.{elements_at};
 ghost use Rattle.pybuf_desc.specs.Contiguous.{is_contiguous_layout};
 ghost use Rattle.pybuf_desc.specs.Items.{content_of_layout};
 ghost use Rattle.pybuf_desc.specs.Layouts.{LiesInside};
 ghost use Rattle.pybuf_desc.specs.Segments.{bytes_of};
+ghost use Rattle.pybuf_desc.specs.SegmentLines.{ranges_of_line, IsLine};
+ghost use Rattle.pybuf_apart.specs.Apart.{place_of, AreInside, pieces_at};
 ghost use Rattle.pybuf_memoryview.specs.Orders.{nbytes_of};
 ghost use Rattle.pybuf_rows_writes.specs.Laid as spec;
 ghost use Rattle.pybuf_rows_writes.specs.LaidBytes as bytewise;
 
-use pybuf_desc::{Segments, ZipSegments};
+use pybuf_apart::{Track, copy_items};
+use pybuf_desc::{SegmentLine, Segments, ZipSegments};
 use pybuf_memoryview::{KeptLayout, first_place};
 use std::ops::Range;
 
@@ -34,6 +37,36 @@ fn copy_range(bytes: &mut [u8], range: Range<usize>, content: &[u8], from: usize
     next
 }
 
+/// Copies items from where they lie in a source over the bytes of a line.
+fn copy_line(bytes: &mut [u8], line: SegmentLine, source: &[u8], from: Track)
+    requires line { IsLine line }
+    requires inside { All (λ place. place < length bytes.old) (flat_map bytes_of (ranges_of_line line)) }
+    requires source_inside { AreInside from.falls from.start from.step line.count line.size (length source.now) }
+    ensures copied { bytes.new ≡ bytewise.put_at bytes.old (flat_map bytes_of (ranges_of_line line)) (pieces_at source.now (place_of from.falls from.start from.step) line.size line.count) }
+    ensures long { length bytes.new ≡ length bytes.old }
+{
+    pybuf_desc::lines_lie_inside();
+    copy_items(bytes, line.track, source, from, line.size, line.count);
+}
+
+/// Copies bytes from a place on over those of a line. Answers the place after them.
+fn lay_line(bytes: &mut [u8], line: SegmentLine, content: &[u8], from: usize) -> usize
+    requires line { IsLine line }
+    requires inside { All (λ place. place < length bytes.old) (flat_map bytes_of (ranges_of_line line)) }
+    requires enough { from + line.count * line.size ≤ length content.now }
+    ensures copied { bytes.new ≡ bytewise.put_at bytes.old (flat_map bytes_of (ranges_of_line line)) (take (line.count * line.size) (drop from content.now)) }
+    ensures long { length bytes.new ≡ length bytes.old }
+    ensures next { result ≡ from + line.count * line.size }
+{
+    let track = Track {
+        start: from,
+        step: line.size,
+        falls: false,
+    };
+    copy_line(bytes, line, content, track);
+    from + line.count * line.size
+}
+
 /// Lays bytes over those of ranges, one range after the other.
 fn lay_ranges(bytes: &mut [u8], mut ranges: Segments<'_>, content: &[u8])
     requires inside { All (λ place. place < length bytes.old) (flat_map bytes_of ranges) }
@@ -41,13 +74,13 @@ fn lay_ranges(bytes: &mut [u8], mut ranges: Segments<'_>, content: &[u8])
     ensures { bytes.new ≡ bytewise.put_at bytes.old (flat_map bytes_of ranges.entry) content.now }
 {
     let mut from = 0;
-    while let Some(range) = ranges.next() {
-        from = copy_range(bytes, range, content, from);
+    while let Some(line) = ranges.next_line() {
+        from = lay_line(bytes, line, content, from);
     }
 }
 
-/// Lays bytes over the items of a view, in order. A row of items that lie one after the other gets
-/// its bytes by one copy.
+/// Lays bytes over the items of a view, in order. Items that lie one after the other get their bytes by
+/// one copy, and a row of items that lie apart by one loop.
 pub(crate) fn lay(bytes: &mut [u8], layout: &KeptLayout, content: &[u8])
     requires inside { LiesInside (length bytes.old) layout.now }
     requires as_many { length content.now ≡ nbytes_of layout.now }
@@ -58,8 +91,25 @@ pub(crate) fn lay(bytes: &mut [u8], layout: &KeptLayout, content: &[u8])
     lay_ranges(bytes, descriptor.segments(start, true), content);
 }
 
+/// Copies the bytes of a line over those of another that has as many ranges, as wide.
+fn copy_between(bytes: &mut [u8], line: SegmentLine, source: &[u8], lender: SegmentLine)
+    requires line { IsLine line }
+    requires lender { IsLine lender }
+    requires as_many { line.count ≡ lender.count }
+    requires as_wide { line.size ≡ lender.size }
+    requires inside { All (λ place. place < length bytes.old) (flat_map bytes_of (ranges_of_line line)) }
+    requires source_inside { All (λ place. place < length source.now) (flat_map bytes_of (ranges_of_line lender)) }
+    ensures copied { bytes.new ≡ bytewise.put_at bytes.old (flat_map bytes_of (ranges_of_line line)) (elements_at source.now (flat_map bytes_of (ranges_of_line lender))) }
+    ensures long { length bytes.new ≡ length bytes.old }
+    ensures whole { length (flat_map bytes_of (ranges_of_line line)) ≡ length (elements_at source.now (flat_map bytes_of (ranges_of_line lender))) }
+{
+    pybuf_desc::lines_lie_inside();
+    pybuf_desc::lines_have_their_pieces();
+    copy_line(bytes, line, source, lender.track);
+}
+
 /// Lays the bytes at ranges over those at other ranges, which are as long, pair by pair.
-fn lay_pairs(bytes: &mut [u8], mut pairs: ZipSegments<'_>, source: &[u8])
+fn lay_single_pairs(bytes: &mut [u8], mut pairs: ZipSegments<'_>, source: &[u8])
     requires inside { All (λ place. place < length bytes.old) (flat_map bytes_of (map (λ pair. pair.0) pairs)) }
     requires source_inside { All (λ place. place < length source.now) (flat_map bytes_of (map (λ pair. pair.1) pairs)) }
     requires alike { All (λ pair. pair.0.end - pair.0.start ≡ pair.1.end - pair.1.start) pairs }
@@ -70,9 +120,23 @@ fn lay_pairs(bytes: &mut [u8], mut pairs: ZipSegments<'_>, source: &[u8])
     }
 }
 
+/// The same, row by row, as long as both walks are at the start of a row and these are as long. Walks over
+/// two views of one shape are so to their end; what else there is would go pair by pair.
+fn lay_pairs(bytes: &mut [u8], mut pairs: ZipSegments<'_>, source: &[u8])
+    requires inside { All (λ place. place < length bytes.old) (flat_map bytes_of (map (λ pair. pair.0) pairs)) }
+    requires source_inside { All (λ place. place < length source.now) (flat_map bytes_of (map (λ pair. pair.1) pairs)) }
+    requires alike { All (λ pair. pair.0.end - pair.0.start ≡ pair.1.end - pair.1.start) pairs }
+    ensures { bytes.new ≡ bytewise.put_at bytes.old (flat_map bytes_of (map (λ pair. pair.0) pairs.entry)) (elements_at source.now (flat_map bytes_of (map (λ pair. pair.1) pairs.entry))) }
+{
+    while let Some((line, lender)) = pairs.next_lines() {
+        copy_between(bytes, line, source, lender);
+    }
+    lay_single_pairs(bytes, pairs, source);
+}
+
 /// Lays the items of a view of other bytes over those of a view, in order, each view by its own
-/// strides. Where the items of both lie one after the other in their rows, a row gets its bytes by one
-/// copy. Takes no memory.
+/// strides. Where the items of both lie one after the other, they get their bytes by one copy, and a row
+/// of items that lie apart by one loop. Takes no memory.
 pub(crate) fn lay_across(bytes: &mut [u8], layout: &KeptLayout, lender: &[u8], source: &KeptLayout)
     requires inside { LiesInside (length bytes.old) layout.now }
     requires source_inside { LiesInside (length lender.now) source.now }

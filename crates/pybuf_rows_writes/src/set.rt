@@ -27,6 +27,7 @@ fn set_byte(parts: &mut Parts, key: &Value, value: &Value) -> Result<LocalReply,
     requires { IsWhole parts.old }
     ensures answer { Answers (byte_set (exporter_of parts.old) key.now value.now) (exporter_of parts.old) result (exporter_of parts.new) }
     ensures counted { parts.new.exports ≡ exports_of (exporter_of parts.new) }
+    ensures room { parts.new.bytes.room ≡ parts.old.bytes.room }
 {
     let index = index_in(key)?;
     let byte = value_from_object(value)?;
@@ -40,6 +41,7 @@ pub fn of_own(parts: &mut Parts, key: &Value, value: &Value) -> Result<LocalRepl
     requires { IsWhole parts.old }
     ensures answer { Answers (set_of_own (exporter_of parts.old) key.now value.now) (exporter_of parts.old) result (exporter_of parts.new) }
     ensures counted { parts.new.exports ≡ exports_of (exporter_of parts.new) }
+    ensures room { parts.new.bytes.room ≡ parts.old.bytes.room }
 {
     match parts.kind {
         ExporterKind::ByteArray => set_byte(parts, key, value),
@@ -96,6 +98,7 @@ fn write_byte(parts: &mut Parts, place: usize, value: &Value) -> Result<LocalRep
     requires inside { place < length parts.old.bytes.items }
     ensures answer { Answers (single_byte_set (exporter_of parts.old) place value.now) (exporter_of parts.old) result (exporter_of parts.new) }
     ensures counted { parts.new.exports ≡ exports_of (exporter_of parts.new) }
+    ensures room { parts.new.bytes.room ≡ parts.old.bytes.room }
 {
     let byte = byte_for_item(value)?;
     parts.bytes.put(place, byte);
@@ -174,6 +177,7 @@ pub fn of_view<N: Names>(
     requires fit { N.fit names.now }
     ensures answer { Answers (set_of_view (exporter_of parts.old) view key.now value.now (lents_by (exporter_of parts.old) (N.named names.now) (handle_of_value value.now))) (exporter_of parts.old) result (exporter_of parts.new) }
     ensures counted { parts.new.exports ≡ exports_of (exporter_of parts.new) }
+    ensures room { parts.new.bytes.room ≡ parts.old.bytes.room }
 {
     pybuf_memoryview::byte_items_are_their_byte();
     let (layout, place) = target(parts, view, key, value)?;

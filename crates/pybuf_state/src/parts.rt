@@ -23,6 +23,8 @@ pub struct Parts {
 }
 
 impl Parts {
+    ghost use Rattle.std.specs.Result.{result_map_both};
+    ghost use Rattle.pybuf_command.specs.declared.commands.LocalReply.TheVariants as replies;
     ghost use Rattle.pybuf_value.specs.declared.faults.Fault.TheVariants as faults;
     ghost use Rattle.pybuf_value.specs.Refusing.{unless};
     ghost use Rattle.pybuf_slice.specs.FrontContent.{IsSpare};
@@ -45,6 +47,7 @@ impl Parts {
     /// The view of a number that was given, released or not.
     ///
     /// Refused with `UnknownName` exactly where none was.
+    #[inline(always)]
     pub fn view(&self, view: usize) -> Result<&StoredView, Fault>
         ensures { MatchResult result (λ v. view_at (exporter_of self.now) view ≡ Ok v.now) (λ f. view_at (exporter_of self.now) view ≡ Err f) }
     {
@@ -58,6 +61,7 @@ impl Parts {
     ///
     /// Refused with `UnknownName` where no such view was given, and with `ValueError` where it was
     /// released.
+    #[inline(always)]
     pub fn live_layout(&self, view: usize) -> Result<&KeptLayout, Fault>
         requires { IsWhole self.now }
         ensures exact { MatchResult result (λ l. live_layout (exporter_of self.now) view ≡ Ok l.now) (λ f. live_layout (exporter_of self.now) view ≡ Err f) }
@@ -70,16 +74,28 @@ impl Parts {
         Ok(&view.layout)
     }
 
-    /// One more view, which is unreleased and made now. The reply is its number.
-    pub fn add_view(&mut self, layout: KeptLayout) -> Result<LocalReply, Halt>
+    /// One more view, which is unreleased and made now. The answer is its number.
+    #[inline(always)]
+    pub fn push_view(&mut self, layout: KeptLayout) -> Result<usize, Halt>
         requires { IsWhole self.old }
-        ensures answer { Answers (Ok (with_view (exporter_of self.old) layout)) (exporter_of self.old) result (exporter_of self.new) }
+        ensures answer { Answers (Ok (with_view (exporter_of self.old) layout)) (exporter_of self.old) (result_map_both replies.View (λ halt. halt) result) (exporter_of self.new) }
         ensures counted { self.new.exports ≡ exports_of (exporter_of self.new) }
         ensures bytes { self.new.bytes ≡ self.old.bytes }
     {
         let number = self.views.len();
         self.views.push(StoredView::new(self.bytes.len(), layout))?;
         self.exports += 1;
+        Ok(number)
+    }
+
+    /// The same, with the number as a reply.
+    pub fn add_view(&mut self, layout: KeptLayout) -> Result<LocalReply, Halt>
+        requires { IsWhole self.old }
+        ensures answer { Answers (Ok (with_view (exporter_of self.old) layout)) (exporter_of self.old) result (exporter_of self.new) }
+        ensures counted { self.new.exports ≡ exports_of (exporter_of self.new) }
+        ensures bytes { self.new.bytes ≡ self.old.bytes }
+    {
+        let number = self.push_view(layout)?;
         Ok(LocalReply::View(number))
     }
 

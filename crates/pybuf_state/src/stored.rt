@@ -25,6 +25,7 @@ impl Model for StoredView {
 
 impl StoredView {
     /// An unreleased view that is made at this length of its exporter.
+    #[inline(always)]
     pub fn new(made_at: usize, layout: KeptLayout) -> StoredView
         ensures { result ≡ record { made_at = made_at; layout = layout; released = false } }
     {

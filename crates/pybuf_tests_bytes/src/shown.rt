@@ -12,10 +12,8 @@ use std::test::Fail;
 fn bytes_are_shown_escaped(rt: HostRuntime) -> Result<(), Fail> {
     let alloc = rt.alloc();
     let bytes = Value::bytes(alloc, b"it's\x00\xff\t\\")?;
-    assert_eq!(rt;
-        bytes.to_string(alloc)?.as_str(),
-        "b\"it's\\x00\\xff\\t\\\\\""
-    );
+    let text = shown_and_gone(alloc, bytes)?;
+    assert_eq!(rt; text.as_str(), "b\"it's\\x00\\xff\\t\\\\\"");
     Ok(())
 }
 
@@ -29,12 +27,12 @@ fn pair(alloc: Global) -> Made<ScalarList> {
 #[test]
 fn values_are_shown(rt: HostRuntime) -> Result<(), Fail> {
     let alloc = rt.alloc();
-    let slice = PySlice::new(Some(1), Some(3), None);
-    assert_eq!(rt; slice.to_string(alloc)?.as_str(), "slice(1, 3, None)");
-    let tuple = Value::Tuple(pair(alloc)?);
-    assert_eq!(rt; tuple.to_string(alloc)?.as_str(), "(None, -2)");
-    let list = Value::List(pair(alloc)?);
-    assert_eq!(rt; list.to_string(alloc)?.as_str(), "[None, -2]");
+    let slice = shown_and_gone(alloc, PySlice::new(Some(1), Some(3), None))?;
+    assert_eq!(rt; slice.as_str(), "slice(1, 3, None)");
+    let tuple = shown_and_gone(alloc, Value::Tuple(pair(alloc)?))?;
+    assert_eq!(rt; tuple.as_str(), "(None, -2)");
+    let list = shown_and_gone(alloc, Value::List(pair(alloc)?))?;
+    assert_eq!(rt; list.as_str(), "[None, -2]");
     Ok(())
 }
 
@@ -84,10 +82,16 @@ fn replied_items_are_shown(rt: HostRuntime) -> Result<(), Fail> {
     Ok(())
 }
 
+fn number_of(item: Item) -> Option<i128> {
+    let number = item.number();
+    drop(item);
+    number
+}
+
 #[test]
 fn an_item_has_a_number(rt: HostRuntime) -> Result<(), Fail> {
-    assert_eq!(rt; Item::One(Scalar::Int(7)).number(), Some(7));
-    assert_eq!(rt; Item::One(Scalar::Bool(true)).number(), None);
-    assert_eq!(rt; Item::Many(pair(rt.alloc())?).number(), None);
+    assert_eq!(rt; number_of(Item::One(Scalar::Int(7))), Some(7));
+    assert_eq!(rt; number_of(Item::One(Scalar::Bool(true))), None);
+    assert_eq!(rt; number_of(Item::Many(pair(rt.alloc())?)), None);
     Ok(())
 }

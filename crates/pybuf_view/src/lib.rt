@@ -45,6 +45,7 @@ pub use pybuf_command::equal_commands_are_the_same;
 pub use pybuf_command::equal_replies_are_the_same;
 pub use pybuf_command::takes;
 pub use pybuf_desc::BufferDescriptor;
+pub use pybuf_desc::KeptFormat;
 pub use pybuf_desc::casts_lie_apart;
 pub use pybuf_desc::row_major_layouts_lie_apart;
 pub use pybuf_desc::slices_have_their_shape;

@@ -1,19 +1,25 @@
 use Rattle.std.specs.Prelude.{vec_len, vec_capacity, length}
-use Rattle.pybuf_buffer.proofs.Appended.{first_fits, rest_fits, rest_in_order, rest_inside, appended, one_step_more}
+use Rattle.pybuf_desc.specs.SegmentLines.{ranges_of_line}
+use Rattle.pybuf_buffer.proofs.Appended.{first_fits, others_fit, first_inside, others_inside, appended, steps_more, fewer_ranges}
 use Rattle.pybuf_buffer.proofs.append.append_ranges.Goals as goal
 
-pub append_range-requires-clause-room : goal.append_range-requires-clause-room
-append_range-requires-clause-room g c =
-    let kept = c.loop-range.invariant in
-    first_fits c.args.bytes.now c.in-Some.range c.loop-range.ranges c.next.new.self (vec_len c.loop-range.buf) (vec_capacity c.loop-range.buf) c.in-Some.ensures.steps kept.order kept.inside kept.room
+pub append_line-requires-clause-inside : goal.append_line-requires-clause-inside
+append_line-requires-clause-inside g c = first_inside (length c.args.bytes.now) (ranges_of_line c.in-Some.line) c.loop-line.ranges c.next_line.new.self c.in-Some.ensures.takes c.loop-line.invariant.inside
 
-pub loop-range-preserved : goal.loop-range-preserved
-loop-range-preserved g c =
-    let kept = c.loop-range.invariant in
-    let same = c.in-Some.ensures.steps in record {
-      order = rest_in_order c.in-Some.range c.loop-range.ranges c.next.new.self same kept.order;
-      inside = rest_inside (length c.args.bytes.now) c.in-Some.range c.loop-range.ranges c.next.new.self same kept.inside;
-      room = rest_fits c.args.bytes.now c.in-Some.range c.loop-range.ranges c.next.new.self (vec_len c.loop-range.buf) (vec_capacity c.loop-range.buf) (vec_len c.append_range.new.buf) (vec_capacity c.append_range.new.buf) same kept.order kept.inside kept.room c.append_range.ensures.len c.append_range.ensures.room;
-      bytes = appended c.args.bytes.now c.loop-range.buf.items c.append_range.new.buf.items _ c.in-Some.range c.loop-range.ranges c.next.new.self same c.append_range.ensures.bytes kept.bytes;
-      steps = one_step_more c.in-Some.range c.loop-range.ranges c.next.new.self c.loop-range.steps c.tick.new.self _ same c.tick.ensures kept.steps;
+pub append_line-requires-clause-room : goal.append_line-requires-clause-room
+append_line-requires-clause-room g c =
+    first_fits c.args.bytes.now (ranges_of_line c.in-Some.line) c.loop-line.ranges c.next_line.new.self (vec_len c.loop-line.buf) (vec_capacity c.loop-line.buf) c.in-Some.ensures.takes c.loop-line.invariant.room
+
+pub loop-line-preserved : goal.loop-line-preserved
+loop-line-preserved g c =
+    let kept = c.loop-line.invariant in
+    let same = c.in-Some.ensures.takes in
+    let first = ranges_of_line c.in-Some.line in record {
+      inside = others_inside (length c.args.bytes.now) first c.loop-line.ranges c.next_line.new.self same kept.inside;
+      room = others_fit c.args.bytes.now first c.loop-line.ranges c.next_line.new.self (vec_len c.loop-line.buf) (vec_capacity c.loop-line.buf) (vec_len c.append_line.new.buf) (vec_capacity c.append_line.new.buf) same kept.room c.append_line.ensures.len c.append_line.ensures.room;
+      bytes = appended c.args.bytes.now c.loop-line.buf.items c.append_line.new.buf.items _ first c.loop-line.ranges c.next_line.new.self same c.append_line.ensures.bytes kept.bytes;
+      steps = steps_more c.in-Some.line c.loop-line.ranges c.next_line.new.self c.loop-line.steps c.add.new.self _ same c.add.ensures kept.steps;
     }
+
+pub loop-line-smaller : goal.loop-line-smaller
+loop-line-smaller g c = fewer_ranges c.in-Some.line c.loop-line.ranges c.next_line.new.self c.in-Some.ensures.takes c.in-Some.ensures.line

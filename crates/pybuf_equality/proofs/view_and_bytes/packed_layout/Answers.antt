@@ -14,4 +14,4 @@ pub returns : goal.returns
 returns c =
     packed_so c.cast_shape.result c.args.content.now c.args.format.now c.args.itemsize c.args.shape.now _ c.cast_shape.ensures
     (packed_from c.shaped_casts_share_their_bytes.ensures c.shaped_casts_stay_inside.ensures c.args.content.now c.args.format.now c.in_ok-format.format c.args.itemsize c.args.shape.now c.in_ok-whole.whole c.requires.some_size c.requires.filled
-    c.in_ok-whole.ensures c.in_ok-format.ensures)
+    c.in_ok-whole.ensures (c.in_ok-format.ensures ∙ c.as_str.ensures))

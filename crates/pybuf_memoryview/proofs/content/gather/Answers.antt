@@ -1,11 +1,15 @@
-use Rattle.pybuf_memoryview.proofs.Gathered.{range_inside, rest_inside, gather_step}
+use Rattle.pybuf_desc.specs.SegmentLines.{ranges_of_line}
+use Rattle.pybuf_memoryview.proofs.Gathered.{first_inside, others_inside, gather_step, fewer_ranges}
 use Rattle.pybuf_memoryview.proofs.content.gather.Goals as goal
 
-pub push_range-requires : goal.push_range-requires
-push_range-requires c = λ some. range_inside c.args.bytes.now c.in-Some.range c.loop-range.ranges c.next.new.self c.in-Some.ensures.steps some c.loop-range.invariant.1
+pub push_line-requires-clause-inside : goal.push_line-requires-clause-inside
+push_line-requires-clause-inside c = first_inside c.args.bytes.now (ranges_of_line c.in-Some.line) c.loop-line.ranges c.next_line.new.self c.in-Some.ensures.takes c.loop-line.invariant.1
 
-pub loop-range-preserved : goal.loop-range-preserved
-loop-range-preserved c = (
-  gather_step c.args.bytes.now c.loop-range.gathered.items c.push_range.new.gathered.items _ c.in-Some.range c.loop-range.ranges c.next.new.self c.in-Some.ensures.steps c.in_ok-push_range.ensures c.loop-range.invariant.0,
-  rest_inside c.args.bytes.now c.in-Some.range c.loop-range.ranges c.next.new.self c.in-Some.ensures.steps c.loop-range.invariant.1,
+pub loop-line-preserved : goal.loop-line-preserved
+loop-line-preserved c = (
+  gather_step c.args.bytes.now c.loop-line.gathered.items c.push_line.new.gathered.items _ (ranges_of_line c.in-Some.line) c.loop-line.ranges c.next_line.new.self c.in-Some.ensures.takes c.in_ok-push_line.ensures c.loop-line.invariant.0,
+  others_inside c.args.bytes.now (ranges_of_line c.in-Some.line) c.loop-line.ranges c.next_line.new.self c.in-Some.ensures.takes c.loop-line.invariant.1,
 )
+
+pub loop-line-smaller : goal.loop-line-smaller
+loop-line-smaller c = fewer_ranges c.in-Some.line c.loop-line.ranges c.next_line.new.self c.in-Some.ensures.takes c.in-Some.ensures.line

@@ -1,4 +1,4 @@
-use Rattle.std.proofs.Common.{rules, ◌≡◌, ℕ, List, length, ap, refl}
+use Rattle.std.proofs.Common.{◌≡◌, ℕ, List, length, ap, refl}
 use Rattle.pybuf_slice.specs.Edits.{assigned_list}
 use Rattle.pybuf_state.specs.Answers.{exporter_of}
 use Rattle.pybuf_state.specs.Exporter.{Exporter}

@@ -1,22 +1,20 @@
-use Rattle.std.proofs.Common.{◌≡◌, ◌+◌, ◌<◌, ◌≤◌, ℕ, length, arith, subst, sym}
-use Rattle.std.specs.Prelude.{All}
-use Rattle.std.specs.List.{flat_map}
-use Rattle.pybuf_desc.specs.Segments.{bytes_of}
-use Rattle.pybuf_rows_writes.proofs.Ranges.{range_inside, rest_inside}
-use Rattle.pybuf_rows_writes.proofs.Laying.{length_ranges, lay_step, more_inside}
+use Rattle.std.proofs.Common.{arith}
+use Rattle.pybuf_desc.specs.SegmentLines.{ranges_of_line}
+use Rattle.pybuf_rows_writes.proofs.LineCopies.{first_inside, others_inside, bytes_counted, line_laid, fewer_ranges}
 use Rattle.pybuf_rows_writes.proofs.laid.lay_ranges.Goals as goal
 
-pub copy_range-from-requires-clause-inside : goal.copy_range-from-requires-clause-inside
-copy_range-from-requires-clause-inside c = λ some. range_inside c.loop-range.bytes c.in-Some.range c.loop-range.ranges c.next.new.self c.in-Some.ensures.steps some c.loop-range.invariant.inside
+pub lay_line-from-requires-clause-inside : goal.lay_line-from-requires-clause-inside
+lay_line-from-requires-clause-inside c = first_inside c.loop-line.bytes (ranges_of_line c.in-Some.line) c.loop-line.ranges c.next_line.new.self c.in-Some.ensures.takes c.loop-line.invariant.inside
 
-pub copy_range-from-requires-clause-enough : goal.copy_range-from-requires-clause-enough
-copy_range-from-requires-clause-enough c = λ _. omega (arith, c.loop-range.invariant.as_many, length_ranges c.in-Some.range c.loop-range.ranges c.next.new.self c.in-Some.ensures.steps)
+pub lay_line-from-requires-clause-enough : goal.lay_line-from-requires-clause-enough
+lay_line-from-requires-clause-enough c = omega (arith, c.loop-line.invariant.as_many, bytes_counted c.in-Some.line c.loop-line.ranges c.next_line.new.self c.in-Some.ensures.takes)
 
-pub loop-range-preserved : goal.loop-range-preserved
-loop-range-preserved c =
-    let at_most : c.loop-range.from + length (flat_map bytes_of c.loop-range.ranges) ≤ length c.args.content.now = omega (arith, c.loop-range.invariant.as_many) in
-    let same : length c.copy_range-from.new.bytes ≡ length c.loop-range.bytes = more_inside c.loop-range.bytes c.copy_range-from.new.bytes c.args.content.now c.loop-range.from c.in-Some.range c.loop-range.ranges c.next.new.self c.in-Some.ensures.steps c.copy_range-from.ensures.copied at_most c.loop-range.invariant.inside in record {
-      laid = lay_step c.loop-range.bytes c.copy_range-from.new.bytes c.args.content.now _ c.loop-range.from c.copy_range-from.result c.in-Some.range c.loop-range.ranges c.next.new.self c.in-Some.ensures.steps c.copy_range-from.ensures.next c.copy_range-from.ensures.copied c.loop-range.invariant.as_many c.loop-range.invariant.inside c.loop-range.invariant.laid;
-      inside = subst (λ (n : ℕ). All (λ place. place < n) (flat_map bytes_of c.next.new.self)) (sym same) (rest_inside c.loop-range.bytes c.in-Some.range c.loop-range.ranges c.next.new.self c.in-Some.ensures.steps c.loop-range.invariant.inside);
-      as_many = omega (arith, c.loop-range.invariant.as_many, c.copy_range-from.ensures.next, length_ranges c.in-Some.range c.loop-range.ranges c.next.new.self c.in-Some.ensures.steps);
-    }
+pub loop-line-preserved : goal.loop-line-preserved
+loop-line-preserved c = record {
+  laid = line_laid c.loop-line.bytes c.lay_line-from.new.bytes c.args.content.now _ c.loop-line.from c.lay_line-from.result c.in-Some.line c.loop-line.ranges c.next_line.new.self c.in-Some.ensures.takes c.lay_line-from.ensures.next c.lay_line-from.ensures.copied c.loop-line.invariant.as_many c.loop-line.invariant.laid;
+  inside = others_inside c.loop-line.bytes c.lay_line-from.new.bytes (ranges_of_line c.in-Some.line) c.loop-line.ranges c.next_line.new.self c.lay_line-from.ensures.long c.in-Some.ensures.takes c.loop-line.invariant.inside;
+  as_many = omega (arith, c.loop-line.invariant.as_many, c.lay_line-from.ensures.next, bytes_counted c.in-Some.line c.loop-line.ranges c.next_line.new.self c.in-Some.ensures.takes);
+}
+
+pub loop-line-smaller : goal.loop-line-smaller
+loop-line-smaller c = fewer_ranges c.in-Some.line c.loop-line.ranges c.next_line.new.self c.in-Some.ensures.takes c.in-Some.ensures.line

@@ -6,7 +6,7 @@ pub invariant_of-result : goal.invariant_of-result
 invariant_of-result c = record {
   room = c.self.invariant.room;
   room_fits = c.self.invariant.room_fits;
-  valid = c.in_ok-descriptor.ensures.valid c.self.inside.start c.self.invariant.room c.self.invariant.valid;
+  valid = c.cast_flat_as-descriptor.ensures.valid c.self.inside.start c.self.invariant.room c.self.invariant.valid;
 }
 
 pub returns : goal.returns
@@ -14,4 +14,4 @@ returns c =
     let d = c.self.inside.descriptor in
     let start = c.self.inside.start in
     rw (sym c.self.view_is) (sym (c.descriptors_stand_for_one_view.ensures _ _ _
-    (c.in_ok-descriptor.ensures.stands start (layout_at d start) (c.placed_descriptors_stand.ensures d start c.self.invariant))))
+    (c.cast_flat_as-descriptor.ensures.stands start (layout_at d start) (c.placed_descriptors_stand.ensures d start c.self.invariant))))

@@ -5,7 +5,7 @@ use Rattle.pybuf_desc.specs.Places.{Stands}
 use Rattle.pybuf_desc.specs.Valid.{IsValid}
 use Rattle.pybuf_desc.proofs.Flat.{valid_flat, whole_items, stands_flat}
 use Rattle.pybuf_desc.proofs.Validity.{raw_descriptor}
-use Rattle.pybuf_desc.proofs.descriptor.BufferDescriptor.format.Goals as goal
+use Rattle.pybuf_desc.proofs.descriptor.BufferDescriptor.flat.Goals as goal
 
 pub returns-clause-valid : goal.returns-clause-valid
 returns-clause-valid c =
