@@ -2,7 +2,6 @@ pub mod Faults
 pub mod Follows
 pub mod Joins
 pub mod Replays
-pub mod Runs
 pub mod Scripts
 pub mod Sessions
 pub mod Theirs

@@ -1,5 +1,5 @@
 -- Entries that join scripts are all the commands of these.
-use Rattle.std.proofs.Common.{◌≡◌, ℕ, zero, suc, ◌+◌, ◌<◌, List, [], ◌∷◌, ◌++◌, length, map, take, drop, get_or, Some, slice_get, refl, ap, sym, ◌∙◌, arith, inl, inr, append_assoc}
+use Rattle.std.proofs.Common.{◌≡◌, ℕ, zero, suc, ◌+◌, ◌<◌, List, [], ◌∷◌, ◌++◌, length, map, take, Some, slice_get, refl, ap, sym, ◌∙◌, arith, inl, inr, append_assoc}
 use Rattle.std.specs.List.{All, sum_by}
 use Rattle.std.proofs.lemmas.List.{append-nil}
 use Rattle.std.proofs.lemmas.List.Elements.{All-head, All-tail}
@@ -8,9 +8,9 @@ use Rattle.std.proofs.lemmas.Option.{none-some, same_Some}
 use Rattle.pybuf_command.specs.declared.commands.LocalCommand.{LocalCommand}
 use Rattle.pybuf_command.specs.declared.commands.LocalReply.{LocalReply}
 use Rattle.pybuf_share.specs.declared.entries.Entry.{Entry}
-use Rattle.pybuf_share.specs.Joining.{resolve, resolved_from, Follows, entries_of, Joins}
+use Rattle.pybuf_share.specs.Joining.{resolve, resolved_from, entries_of, Joins}
 use Rattle.pybuf_share.specs.Finishing.{numbers_from}
-use Rattle.pybuf_share.specs.Laws.{HasItsEntry, AreTheScripts}
+use Rattle.pybuf_share.specs.Laws.{AreTheScripts}
 use Rattle.pybuf_share.proofs.Follows.{follows_length, same_first, same_rest}
 use Rattle.pybuf_share.proofs.Theirs.{MoreIf, Among, many_of, many_more, many_none}
 

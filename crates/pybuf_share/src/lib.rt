@@ -1,5 +1,5 @@
 //! One exporter that threads share: what lies under its lock, with its history beside it, the sessions that make it,
-//! what these have to show at the end, and scripts that are carried out side by side.
+//! and what these have to show at the end.
 #![tactic(auto)]
 
 mod checks;
@@ -8,11 +8,8 @@ mod gate;
 mod joined;
 mod laws;
 mod logged;
-mod resolving;
-mod running;
 mod session;
 mod shared;
-mod worker;
 
 pub use entries::{Entry, EntryList, LocalCommandList, Receipt, ReceiptList, ScriptList};
 pub use gate::{Gate, OpenGate};
@@ -21,6 +18,5 @@ pub use laws::{
     joined_entries_are_the_scripts, legal_histories_are_of_one_thread, receipts_are_the_entries,
 };
 pub use logged::Logged;
-pub use running::run_sessions;
 pub use session::Session;
 pub use shared::SharedExporter;

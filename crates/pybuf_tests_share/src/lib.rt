@@ -1,13 +1,9 @@
-//! Tests of a history that is kept beside an exporter, of its sessions, and of threads that share it: what no clause
-//! says of them, that they grow with ample memory, and that sessions run beside each other.
+//! Tests of a history that is kept beside an exporter, and of its sessions: what no clause says of them, and that they
+//! grow with ample memory.
 #![tactic(auto)]
 
 #[cfg(test)]
-mod drawn;
-#[cfg(test)]
 mod finishing;
-#[cfg(test)]
-mod gates;
 #[cfg(test)]
 mod histories;
 #[cfg(test)]

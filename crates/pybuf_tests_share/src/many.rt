@@ -1,23 +1,17 @@
 //! As many sessions as there may be, each of which adds one byte.
-ghost use Rattle.std.specs.Prelude.{◌≡◌, ◌≤◌, [], length, IfOk};
-ghost use Rattle.std.specs.List.{All};
-ghost use Rattle.pybuf_share.specs.Working.{ScriptFits};
+ghost use Rattle.std.specs.Prelude.{◌≡◌, IfOk};
 ghost use Rattle.pybuf_share.specs.Finishing.{AreAll};
 
 use crate::histories::append;
-use crate::scripts::{add_command, asks};
-use pybuf_command::{ExporterKind, Subject};
-use pybuf_share::{
-    FinishFault, Joined, LocalCommandList, OpenGate, ScriptList, Session, SharedExporter,
-    run_sessions,
-};
+use crate::scripts::asks;
+use pybuf_command::ExporterKind;
+use pybuf_share::{FinishFault, Joined, Session, SharedExporter};
 use pybuf_value::{ByteList, Made};
 use std::alloc::Global;
 use std::marker::Brand;
 use std::sync::Wait;
 use std::sync::ledger::{Blank, Ledger};
 use std::test::Fail;
-use std::thread::Threads;
 
 const SESSIONS: usize = 1024;
 
@@ -95,51 +89,10 @@ fn by_calls_by_brand<R: Wait>(rt: &R, alloc: Global, told: &mut Vec<u8>) -> Made
     by_calls::<Brand, R>(rt, alloc, Blank::new(SESSIONS as u64), told)
 }
 
-fn script_of_one(alloc: Global, session: usize) -> Made<LocalCommandList>
-    ensures { IfOk result (λ script. ScriptFits script) }
-{
-    let mut script = LocalCommandList::new(alloc);
-    add_command(alloc, &mut script, Subject::Own, append(byte_of(session)))?;
-    Ok(script)
-}
-
-fn scripts_of_one(alloc: Global) -> Made<ScriptList>
-    ensures many { IfOk result (λ scripts. length scripts ≡ 1024) }
-    ensures fit { IfOk result (λ scripts. All ScriptFits scripts) }
-{
-    let mut scripts = ScriptList::new(alloc);
-    for session in 0..SESSIONS {
-        scripts.push(script_of_one(alloc, session)?)?;
-    }
-    Ok(scripts)
-}
-
-fn by_threads<R: Threads + Wait + Sync>(rt: &R, alloc: Global, told: &mut Vec<u8>) -> Made<()> {
-    let scripts = scripts_of_one(alloc)?;
-    let bytes = ByteList::new(alloc);
-    let answer = run_sessions(
-        rt,
-        alloc,
-        ExporterKind::ByteArray,
-        bytes,
-        scripts,
-        &OpenGate,
-    );
-    tell_counts(alloc, told, answer)
-}
-
 #[test]
 fn many_sessions_add_a_byte_each_by_calls(rt: HostRuntime) -> Result<(), Fail> {
     let mut told = Vec::new(rt.alloc());
     by_calls_by_brand(&rt, rt.alloc(), &mut told)?;
-    assert_eq!(rt; told.as_slice(), b"yyyy".as_slice());
-    Ok(())
-}
-
-#[test]
-fn many_sessions_add_a_byte_each_by_threads(rt: HostRuntime) -> Result<(), Fail> {
-    let mut told = Vec::new(rt.alloc());
-    by_threads(&rt, rt.alloc(), &mut told)?;
     assert_eq!(rt; told.as_slice(), b"yyyy".as_slice());
     Ok(())
 }

@@ -1,12 +1,8 @@
-//! Commands to which nothing is lent, scripts of them, and what came of sessions.
-ghost use Rattle.std.specs.Prelude.{◌≡◌, [], ◌++◌, ◌∷◌, OnOk, IfOk};
-ghost use Rattle.std.specs.List.{All};
-ghost use Rattle.pybuf_state.specs.Fits.{LoansFit};
-ghost use Rattle.pybuf_share.specs.Working.{ScriptFits};
-ghost use Rattle.pybuf_share.specs.Finishing.{AreAll};
+//! Commands to which nothing is lent, and what came of sessions.
+ghost use Rattle.std.specs.Prelude.{◌≡◌, [], IfOk};
 
 use pybuf_command::{LoanList, LocalCommand, LocalReply, Subject, Verb};
-use pybuf_share::{Entry, FinishFault, Joined, LocalCommandList, Session, SharedExporter};
+use pybuf_share::{Entry, FinishFault, Joined, Session, SharedExporter};
 use pybuf_value::{Item, Made, Scalar};
 use std::alloc::Global;
 use std::sync::Wait;
@@ -21,19 +17,6 @@ pub(crate) fn plain_command(alloc: Global, subject: Subject, verb: Verb) -> Loca
         verb,
         loans: LoanList::new(alloc),
     }
-}
-
-/// Adds such a command to a script.
-pub(crate) fn add_command(
-    alloc: Global,
-    script: &mut LocalCommandList,
-    subject: Subject,
-    verb: Verb,
-) -> Made<()>
-    requires { ScriptFits script.old }
-    ensures { OnOk result (ScriptFits script.new) }
-{
-    script.push(plain_command(alloc, subject, verb))
 }
 
 /// A session after a command to which nothing is lent.

@@ -10,4 +10,4 @@ returns-in-Ok-clause-theirs g c =
     let log : Log = record { kind = inside.kind; opening = inside.opening; entries = inside.history.items } in
     let agree : Agree log c.args.kind c.args.bytes c.args.sessions.items = search rules in
     λ plain.
-    theirs_are log c.args.kind c.args.bytes c.args.sessions.items inside.state inside.calls.total g.met.L.Ledger.parts agree c.self.invariant.0 c.requires c.count_calls.ensures.own c.count_calls.ensures.counted plain
+    theirs_are log c.args.kind c.args.bytes c.args.sessions.items inside.state inside.calls.total g.L.Ledger.parts agree c.self.invariant.0 c.requires.all c.count_calls.ensures.own c.count_calls.ensures.counted plain

@@ -1,4 +1,4 @@
-use Rattle.std.proofs.Common.{rules, ◌≤◌, [], ◌∷◌, ◌++◌, List, ap₂, ◌∙◌, sym, arith}
+use Rattle.std.proofs.Common.{rules, ◌≡◌, ◌≤◌, [], ◌∷◌, ◌++◌, List, ap₂, ◌∙◌, sym, arith}
 use Rattle.pybuf_share.specs.Sessions.{Asker}
 use Rattle.pybuf_share.proofs.Faults.{all_made}
 use Rattle.pybuf_share.proofs.Sessions.{sessions_more}
@@ -21,6 +21,6 @@ returns-clause-all g c =
     let i = c.loop-number.invariant in
     let past : c.args.sessions ≤ c.loop-number.number = search rules in
     let low = i.3 in
-    let parts = c.requires.parts in
     let each = c.requires.each in
-    all_made c.loop-number.made.items c.loop-number.number g.met.L.Ledger.parts i.0 (omega (arith, past, low, parts, each))
+    let many : c.loop-number.number ≡ c.args.blank.parts = omega (arith, past, low, each) in
+    all_made c.loop-number.made.items c.loop-number.number _ i.0 (many ∙ c.requires.parts)

@@ -1,7 +1,0 @@
-use Rattle.std.proofs.Common.{◌≡◌, length}
-use Rattle.std.specs.List.{All}
-use Rattle.pybuf_share.specs.Working.{ScriptFits}
-use Rattle.pybuf_tests_share.proofs.many.scripts_of_one.Given as goal
-
-abbrev pub invariant-loop-session : goal.invariant-loop-session
-invariant-loop-session l = All ScriptFits l.scripts × (length l.scripts ≡ l.session)
