@@ -1,11 +1,12 @@
 //! `set` of a view by a slice: items are copied over those that the slice picks.
-ghost use Rattle.std.specs.Prelude.{◌≡◌, [], ◌∷◌, true, false, length, codes, Some, Ok, Err, IfOk, MatchResult};
+ghost use Rattle.std.specs.Prelude.{◌≡◌, [], ◌∷◌, true, false, length, codes, Some, Ok, Err, IfOk, MatchResult, Option};
 ghost use Rattle.std.specs.Result.{result_map_both};
 ghost use Rattle.pybuf_value.specs.Halting.{Gives};
 ghost use Rattle.pybuf_value.specs.declared.values.Scalar.TheVariants as scalars;
 ghost use Rattle.pybuf_value.specs.declared.values.Value.TheVariants as values;
 ghost use Rattle.pybuf_command.specs.declared.commands.LocalReply.TheVariants as replies;
 ghost use Rattle.pybuf_value.specs.Snaps.{is_iterator};
+ghost use Rattle.pybuf_value.specs.declared.snaps.Snap as snaps;
 ghost use Rattle.pybuf_desc.specs.Layouts.{Layout, LiesInside};
 ghost use Rattle.pybuf_command.specs.declared.kinds.ExporterKind.{ExporterKind};
 ghost use Rattle.pybuf_command.specs.declared.kinds.ExporterKind.TheVariants as kinds;
@@ -338,8 +339,25 @@ pub fn put_bytes(parts: &mut Parts, view: usize, slice: &PySlice, bytes: &[u8]) 
     ensures room { parts.new.bytes.room ≡ parts.old.bytes.room }
 {
     let target = written(parts, view, slice)?;
-    from_bytes(parts, &target, bytes)?;
+    let answer = from_bytes(parts, &target, bytes);
+    // by a call, since a layout that ends with its scope spells out how it may be kept
+    drop(target);
+    answer?;
     Ok(())
+}
+
+/// Whether an assignment was made. Its reply, which says no more, is let go of by a call, since one that ends with its
+/// scope spells out all its variants.
+fn told(answer: Result<LocalReply, Halt>) -> Result<(), Halt>
+    ensures { (old : Exporter) (target : Layout) (lent : Option snaps.Snap) (new : Exporter) → Answers (spec.assigned_from old target lent) old answer new → Answers (spec.assigned_from old target lent) old (result_map_both (λ _. replies.Ok) (λ halt. halt) result) new }
+{
+    match answer {
+        Ok(reply) => {
+            drop(reply);
+            Ok(())
+        }
+        Err(halt) => Err(halt),
+    }
 }
 
 /// Copies the items of a view of another exporter, from where they lie, over those that a slice of a view picks. No
@@ -359,8 +377,10 @@ pub fn put_from(
 {
     lender.view(source)?;
     let target = written(parts, view, slice)?;
-    from_view_across(parts, &target, lender, source)?;
-    Ok(())
+    let answer = from_view_across(parts, &target, lender, source);
+    // by a call, since a layout that ends with its scope spells out how it may be kept
+    drop(target);
+    told(answer)
 }
 
 /// The same of a view of the exporter itself: the items are as they were before the first is written.
@@ -377,6 +397,8 @@ pub fn put_within(
 {
     parts.view(source)?;
     let target = written(parts, view, slice)?;
-    from_view(parts, &target, source)?;
-    Ok(())
+    let answer = from_view(parts, &target, source);
+    // by a call, since a layout that ends with its scope spells out how it may be kept
+    drop(target);
+    told(answer)
 }
