@@ -48,7 +48,13 @@ fn same_entry(kept: &Entry, shown: &Entry) -> bool
 {
     equal_commands_are_the_same();
     equal_replies_are_the_same();
-    kept.session == shown.session && kept.command == shown.command && kept.reply == shown.reply
+    if kept.session != shown.session {
+        return false;
+    }
+    if kept.command != shown.command {
+        return false;
+    }
+    kept.reply == shown.reply
 }
 
 /// What is kept at the number of a receipt, beside its entry.

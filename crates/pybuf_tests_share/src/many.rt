@@ -61,10 +61,22 @@ fn tell_counts(alloc: Global, told: &mut Vec<u8>, answer: Result<Joined, FinishF
         let times = &mut counts.as_mut_slice()[*byte as usize];
         *times = times.wrapping_add(1);
     }
-    told.push(if joined.entries.len() == SESSIONS { b'y' } else { b'n' })?;
+    told.push(if joined.entries.len() == SESSIONS {
+        b'y'
+    } else {
+        b'n'
+    })?;
     told.push(if once { b'y' } else { b'n' })?;
-    told.push(if joined.state.bytes().len() == SESSIONS { b'y' } else { b'n' })?;
-    told.push(if counts.iter().all(|times| *times == 4) { b'y' } else { b'n' })?;
+    told.push(if joined.state.bytes().len() == SESSIONS {
+        b'y'
+    } else {
+        b'n'
+    })?;
+    told.push(if counts.iter().all(|times| *times == 4) {
+        b'y'
+    } else {
+        b'n'
+    })?;
     Ok(())
 }
 

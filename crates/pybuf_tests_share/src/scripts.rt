@@ -73,23 +73,31 @@ pub(crate) fn tell_answer(told: &mut Vec<u8>, answer: &Result<Joined, FinishFaul
             }
             tell_entry(told, got)?;
         }
-        Err(FinishFault::Order {
-            session,
-            before,
-            after,
-        }) => {
+        Err(
+            FinishFault::Order {
+                session,
+                before,
+                after,
+            },
+        ) => {
             told.push(b'o')?;
             told.push(digit(*session))?;
             told.push(digit(*before))?;
             told.push(digit(*after))?;
         }
-        Err(FinishFault::Opening {
-            given_kind,
-            given,
-            kept_kind,
-            kept,
-        }) => {
-            told.push(if *given_kind == *kept_kind { b'=' } else { b'/' })?;
+        Err(
+            FinishFault::Opening {
+                given_kind,
+                given,
+                kept_kind,
+                kept,
+            },
+        ) => {
+            told.push(if *given_kind == *kept_kind {
+                b'='
+            } else {
+                b'/'
+            })?;
             told.extend_from_slice(given.as_slice())?;
             told.push(b'/')?;
             told.extend_from_slice(kept.as_slice())?;

@@ -1,6 +1,7 @@
-use Rattle.std.proofs.Common.{rules}
+use Rattle.std.proofs.Common.{rules, List, sym, subst}
+use Rattle.pybuf_share.specs.declared.entries.Entry.{Entry}
 use Rattle.pybuf_share.specs.History.{Log}
-use Rattle.pybuf_share.specs.Finishing.{Agree}
+use Rattle.pybuf_share.specs.Finishing.{Agree, AreTheirs}
 use Rattle.pybuf_share.proofs.Joins.{theirs_are}
 use Rattle.pybuf_share.proofs.logged.Logged.join.Goals as goal
 
@@ -10,4 +11,5 @@ returns-in-Ok-clause-theirs g c =
     let log : Log = record { kind = inside.kind; opening = inside.opening; entries = inside.history.items } in
     let agree : Agree log c.args.kind c.args.bytes c.args.sessions.items = search rules in
     λ plain.
-    theirs_are log c.args.kind c.args.bytes c.args.sessions.items inside.state inside.calls.total g.L.Ledger.parts agree c.self.invariant.0 c.requires.all c.count_calls.ensures.own c.count_calls.ensures.counted plain
+    subst (λ (xs : List Entry). AreTheirs c.args.sessions.items xs) (sym c.from_vec.ensures)
+    (theirs_are log c.args.kind c.args.bytes c.args.sessions.items inside.state inside.calls.total g.L.Ledger.parts agree c.self.invariant.0 c.requires.all c.count_calls.ensures.own c.count_calls.ensures.counted plain)
