@@ -147,7 +147,7 @@ impl BufferDescriptor {
     }
 
     /// One dimension of bytes: format `B`, and as many items as bytes, wherever the first lies. Takes no memory.
-    pub fn simple(_alloc: Global, bytes_len: usize, readonly: bool) -> Made<BufferDescriptor>
+    pub fn simple(alloc: Global, bytes_len: usize, readonly: bool) -> Made<BufferDescriptor>
         requires { bytes_len < 2 ^ 63 }
         ensures made { IfOk result (λ d. d ≡ flat_descriptor (codes "B") 1 bytes_len readonly) }
         ensures valid { IfOk result (λ d. IsValid d 0 bytes_len) }
@@ -155,7 +155,7 @@ impl BufferDescriptor {
         ensures valid_from { IfOk result (λ d. (start room : ℕ) → start + bytes_len ≤ room → IsValid d start room) }
         ensures stands_from { IfOk result (λ d. (start : ℕ) → Stands d start (bytes_layout_from start bytes_len readonly)) }
     {
-        Ok(BufferDescriptor::flat(bytes_len, readonly, 1, KeptFormat::of_bytes()))
+        Ok(BufferDescriptor::flat(bytes_len, readonly, 1, KeptFormat::of_bytes(alloc)))
     }
 
     /// One dimension of items, one after the other. Takes no memory.

@@ -6,6 +6,7 @@ mod checks;
 mod contiguous;
 mod descriptor;
 mod dims;
+mod format_letter;
 mod kept_format;
 mod laws;
 mod line;

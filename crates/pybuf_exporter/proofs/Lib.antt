@@ -1,4 +1,5 @@
 pub mod Every
+pub mod Counting
 pub mod Described
 pub mod Lent
 pub mod Refusing

@@ -40,7 +40,7 @@ use Rattle.pybuf_exporter.specs.Laws.{AddsItself, IsRefusedWhileExported, Resizi
 use Rattle.pybuf_exporter.proofs.Every.{IsReplyTo, IsStep, answered_step}
 
 -- the row of an edit is that edit
-row_is_edit : (e : Exporter) (v : Verb) (lents : List Lent) → is_edit v ≡ true → row_of_own e v lents ≡ edit_of_own e v lents
+pub row_is_edit : (e : Exporter) (v : Verb) (lents : List Lent) → is_edit v ≡ true → row_of_own e v lents ≡ edit_of_own e v lents
 row_is_edit e (verb.Append v) lents is = refl
 row_is_edit e (verb.Extend v) lents is = refl
 row_is_edit e (verb.Insert index v) lents is = refl

@@ -6,3 +6,4 @@ pub mod Iterating
 pub mod Assigning
 pub mod Owning
 pub mod Telling
+pub mod Counting

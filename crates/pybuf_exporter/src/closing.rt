@@ -1,6 +1,7 @@
 //! How a command ends: a refusal is a reply, and changes nothing.
-ghost use Rattle.std.specs.Prelude.{◌≡◌, Result, IfOk, OnErr};
+ghost use Rattle.std.specs.Prelude.{◌≡◌, Result, Err, IfOk, OnOk, OnErr};
 ghost use Rattle.pybuf_value.specs.declared.faults.Fault as faults;
+ghost use Rattle.pybuf_value.specs.declared.halt.Halt.TheVariants as halts;
 ghost use Rattle.pybuf_command.specs.declared.commands.LocalReply as replies;
 ghost use Rattle.pybuf_state.specs.Exporter.{Exporter};
 ghost use Rattle.pybuf_state.specs.Answers.{Answers};
@@ -12,6 +13,8 @@ use pybuf_value::{Halt, Made, NoMemory};
 /// The reply of a command by what its row answered.
 pub fn closed(answer: Result<LocalReply, Halt>) -> Made<LocalReply>
     ensures ok { (row : Result (Exporter × replies.LocalReply) faults.Fault) (old new : Exporter) → Answers row old answer new → IfOk result (λ r. settled_answer old row ≡ (new, r)) }
+    ensures done { OnOk result (answer ≡ Err halts.NoMemory → ⊥) }
+    ensures memory { OnErr result (answer ≡ Err halts.NoMemory) }
     ensures err { (row : Result (Exporter × replies.LocalReply) faults.Fault) (old new : Exporter) → Answers row old answer new → OnErr result (new ≡ old) }
 {
     match answer {

@@ -5,6 +5,7 @@ ghost use Rattle.pybuf_exporter.specs.Assigning.{StepsAssignByValue, SnapsHoldTh
 ghost use Rattle.pybuf_exporter.specs.Laws.{CommandsKeepItemsApart, RepliedNamesAreThere, SubjectsStay};
 ghost use Rattle.pybuf_exporter.specs.Owning.{OwningRepliesChangeNothing, TakenBytesAreAll, NextIsUndone, NoIteratorHasNoNext};
 ghost use Rattle.pybuf_exporter.specs.Rows.{RowsAreSafe, StepsKeepSound};
+ghost use Rattle.pybuf_exporter.specs.Counting.{QueuesMoveFewBytes};
 
 /// Each row keeps a sound exporter, or replies a copy.
 fn rows_are_safe()
@@ -243,4 +244,10 @@ pub(crate) fn taken_bytes_are_all()
 pub(crate) fn next_is_undone()
     ensures undone { NextIsUndone }
     ensures none { NoIteratorHasNoNext }
+{}
+
+/// Over any list of commands each of which takes the first bytes out or adds bytes at the end, the counter of moved bytes
+/// rises by at most the first room and the number of bytes that are taken out together.
+pub fn queues_move_few_bytes()
+    ensures { QueuesMoveFewBytes }
 {}

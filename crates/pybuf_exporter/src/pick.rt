@@ -1,10 +1,14 @@
 //! Which row a command has.
-ghost use Rattle.std.specs.Prelude.{◌≡◌, true};
+ghost use Rattle.std.specs.Prelude.{◌≡◌, ◌≤◌, ◌+◌, ℕ, true, false, length, OnOk, OnErr};
 ghost use Rattle.pybuf_command.specs.declared.kinds.Subject.TheVariants as subjects;
 ghost use Rattle.pybuf_command.specs.Handles.{handles_of, handles_read};
 ghost use Rattle.pybuf_state.specs.Exporter.{exports_of};
 ghost use Rattle.pybuf_state.specs.Loans.{lents_by};
 ghost use Rattle.pybuf_state.specs.Answers.{exporter_of, IsWhole, Answers};
+ghost use Rattle.pybuf_slice.specs.FrontContent.{IsSpare};
+ghost use Rattle.pybuf_rows_edits.specs.Counting.{TakesFirst, taken_places, grows_at_end};
+ghost use Rattle.pybuf_rows_edits.specs.Edits.{is_edit};
+ghost use Rattle.pybuf_exporter.specs.Counting.{taken_by, grows_by, edits_by};
 ghost use Rattle.pybuf_exporter.specs.Step as spec;
 
 use pybuf_command::{LocalReply, Subject, Verb, handles_of, handles_read};
@@ -19,20 +23,47 @@ use pybuf_state::{Names, Parts, are_known};
 use pybuf_value::{Fault, Halt, Steps, Value};
 use std::sync::ledger::Ledger;
 
-/// The row of a verb on the exporter itself, with the handles among its values. Every further verb is an edit, or
-/// none that it has.
-fn row_of_own<N: Names, L: Ledger>(
+/// Whether a verb is an edit.
+fn is_edit(verb: &Verb) -> bool
+    ensures { result ≡ is_edit verb.now }
+{
+    match verb {
+        Verb::Append { value: _ }
+        | Verb::Extend { value: _ }
+        | Verb::Insert { index: _, value: _ }
+        | Verb::Pop { index: _ }
+        | Verb::Remove { value: _ }
+        | Verb::Clear
+        | Verb::Reverse
+        | Verb::Del { key: _ }
+        | Verb::IAdd { value: _ }
+        | Verb::IMul { count: _ }
+        | Verb::Init { options: _ }
+        | Verb::Take
+        | Verb::Copy
+        | Verb::Set {
+            key: Value::Slice(_),
+            value: _,
+        } => true,
+        _ => false,
+    }
+}
+
+/// The row of a verb on the exporter itself that is no edit, with the handles among its values.
+#[tactic(auto, using(crate::proofs::Counting::no_edit))]
+fn row_without_edits<N: Names>(
     parts: &mut Parts,
     verb: &Verb,
     handles: &[u64],
     names: &N,
-    moved: &mut Steps<L>,
 ) -> Result<LocalReply, Halt>
     requires whole { IsWhole parts.old }
     requires given { handles.now ≡ handles_of verb.now }
     requires fit { N.fit names.now }
+    requires no_edit { is_edit verb.now ≡ false }
     ensures answer { Answers (spec.row_of_own (exporter_of parts.old) verb.now (lents_by (exporter_of parts.old) (N.named names.now) (handles_read subjects.Own verb.now))) (exporter_of parts.old) result (exporter_of parts.new) }
     ensures counted { parts.new.exports ≡ exports_of (exporter_of parts.new) }
+    ensures room { parts.new.bytes.room ≡ parts.old.bytes.room }
 {
     match verb {
         Verb::View => view::of_own(parts),
@@ -41,7 +72,7 @@ fn row_of_own<N: Names, L: Ledger>(
         Verb::Set {
             key: Value::Slice(_),
             value: _,
-        } => edit_of_own(parts, verb, names, moved),
+        } => unreachable!(),
         Verb::Set { key, value } => set::of_own(parts, key, value),
         Verb::ToBytes => to_bytes::of_own(parts),
         Verb::Len => len::of_own(parts),
@@ -56,7 +87,38 @@ fn row_of_own<N: Names, L: Ledger>(
         }
         // a method reads what each of its handles names
         Verb::Call { method } => call::of_own(parts, method, &Reading::new(parts, names, handles)),
-        _ => edit_of_own(parts, verb, names, moved),
+        _ => Err(Halt::Refused(Fault::UnknownName)),
+    }
+}
+
+/// The row of a verb on the exporter itself, with the handles among its values.
+#[tactic(auto, using(crate::proofs::Refusing::row_is_edit, crate::proofs::Counting::no_front, crate::proofs::Counting::no_growth))]
+fn row_of_own<N: Names, L: Ledger>(
+    parts: &mut Parts,
+    verb: &Verb,
+    handles: &[u64],
+    names: &N,
+    moved: &mut Steps<L>,
+) -> Result<LocalReply, Halt>
+    requires whole { IsWhole parts.old }
+    requires given { handles.now ≡ handles_of verb.now }
+    requires fit { N.fit names.now }
+    ensures answer { Answers (spec.row_of_own (exporter_of parts.old) verb.now (lents_by (exporter_of parts.old) (N.named names.now) (handles_read subjects.Own verb.now))) (exporter_of parts.old) result (exporter_of parts.new) }
+    ensures counted { parts.new.exports ≡ exports_of (exporter_of parts.new) }
+    ensures few { OnOk result (moved.new ≤ moved.old + (length parts.old.bytes.items + length parts.new.bytes.items)) }
+    ensures front_room { (n : ℕ) → TakesFirst (taken_places (exporter_of parts.old) verb.now) n → OnOk result (parts.new.bytes.room ≡ parts.old.bytes.room + n) }
+    ensures front_counter { (n : ℕ) → TakesFirst (taken_places (exporter_of parts.old) verb.now) n → OnOk result (moved.new ≡ moved.old) }
+    ensures end_counter { grows_at_end verb.now (lents_by (exporter_of parts.old) (N.named names.now) (handles_read subjects.Own verb.now)) ≡ true → OnOk result (moved.new + parts.new.bytes.room ≤ moved.old + parts.old.bytes.room) }
+    ensures end_spare { grows_at_end verb.now (lents_by (exporter_of parts.old) (N.named names.now) (handles_read subjects.Own verb.now)) ≡ true → OnOk result (IsSpare parts.new.bytes) }
+    ensures kept_room { is_edit verb.now ≡ false → parts.new.bytes.room ≡ parts.old.bytes.room }
+    ensures kept_counter { is_edit verb.now ≡ false → moved.new ≡ moved.old }
+    ensures err_room { OnErr result (parts.new.bytes.room ≡ parts.old.bytes.room) }
+    ensures err_counter { OnErr result (moved.new ≡ moved.old) }
+{
+    if is_edit(verb) {
+        edit_of_own(parts, verb, names, moved)
+    } else {
+        row_without_edits(parts, verb, handles, names)
     }
 }
 
@@ -71,6 +133,7 @@ fn row_of_view<N: Names>(
     requires fit { N.fit names.now }
     ensures answer { Answers (spec.row_of_view (exporter_of parts.old) k verb.now (lents_by (exporter_of parts.old) (N.named names.now) (handles_read (subjects.View k) verb.now))) (exporter_of parts.old) result (exporter_of parts.new) }
     ensures counted { parts.new.exports ≡ exports_of (exporter_of parts.new) }
+    ensures room { parts.new.bytes.room ≡ parts.old.bytes.room }
 {
     match verb {
         Verb::View => view::of_view(parts, k),
@@ -125,6 +188,15 @@ pub fn answer<N: Names, L: Ledger>(
     requires fit { N.fit names.now }
     ensures answer { Answers (spec.answer_by (exporter_of parts.old) subject verb.now (N.named names.now)) (exporter_of parts.old) result (exporter_of parts.new) }
     ensures counted { parts.new.exports ≡ exports_of (exporter_of parts.new) }
+    ensures few { OnOk result (moved.new ≤ moved.old + (length parts.old.bytes.items + length parts.new.bytes.items)) }
+    ensures front_room { (n : ℕ) → TakesFirst (taken_by (exporter_of parts.old) subject verb.now) n → OnOk result (parts.new.bytes.room ≡ parts.old.bytes.room + n) }
+    ensures front_counter { (n : ℕ) → TakesFirst (taken_by (exporter_of parts.old) subject verb.now) n → OnOk result (moved.new ≡ moved.old) }
+    ensures end_counter { grows_by subject verb.now (lents_by (exporter_of parts.old) (N.named names.now) (handles_read subject verb.now)) ≡ true → OnOk result (moved.new + parts.new.bytes.room ≤ moved.old + parts.old.bytes.room) }
+    ensures end_spare { grows_by subject verb.now (lents_by (exporter_of parts.old) (N.named names.now) (handles_read subject verb.now)) ≡ true → OnOk result (IsSpare parts.new.bytes) }
+    ensures kept_room { edits_by subject verb.now ≡ false → parts.new.bytes.room ≡ parts.old.bytes.room }
+    ensures kept_counter { edits_by subject verb.now ≡ false → moved.new ≡ moved.old }
+    ensures err_room { OnErr result (parts.new.bytes.room ≡ parts.old.bytes.room) }
+    ensures err_counter { OnErr result (moved.new ≡ moved.old) }
 {
     let handles = handles_of(parts.alloc, verb)?;
     if !are_known(parts, names, handles.as_slice()) {

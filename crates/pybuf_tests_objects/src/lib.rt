@@ -12,6 +12,8 @@ mod byte_arrays;
 #[cfg(test)]
 mod byte_strings;
 #[cfg(test)]
+mod counted;
+#[cfg(test)]
 mod exporters;
 #[cfg(test)]
 mod memory_views;

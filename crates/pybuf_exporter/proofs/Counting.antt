@@ -1,0 +1,208 @@
+-- What a command moves, and queues of commands.
+use Rattle.std.proofs.Common.{◌≡◌, ℕ, ◌+◌, ◌≤◌, List, [], ◌∷◌, true, false, true≢false, sym, subst, ap, refl, inl, inr, arith}
+use Rattle.std.specs.Prelude.{Result, Ok, Err, IsOk, IsErr, OnOk, OnErr}
+use Rattle.pybuf_value.specs.declared.faults.Fault.{Fault}
+use Rattle.pybuf_value.specs.declared.faults.Fault.TheVariants as fault
+use Rattle.pybuf_value.specs.declared.values.Value.TheVariants as value
+use Rattle.pybuf_value.specs.declared.halt.Halt.{Halt}
+use Rattle.pybuf_value.specs.declared.halt.Halt.TheVariants as halt
+use Rattle.pybuf_command.specs.declared.commands.Verb.{Verb}
+use Rattle.pybuf_command.specs.declared.commands.Verb.TheVariants as verb
+use Rattle.pybuf_command.specs.declared.commands.LocalReply.{LocalReply}
+use Rattle.pybuf_command.specs.declared.commands.LocalCommand.{LocalCommand}
+use Rattle.pybuf_state.specs.Exporter.{Exporter}
+use Rattle.pybuf_state.specs.Loans.{Lent}
+use Rattle.pybuf_state.specs.Answers.{Answers}
+use Rattle.pybuf_rows_edits.specs.Counting.{taken_places, TakesFirst, grows_at_end}
+use Rattle.pybuf_rows_edits.specs.Edits.{is_edit, edit_of_own}
+use Rattle.pybuf_exporter.specs.Counting.{Counted, IsQueueStep, IsQueueRun, QueuesMoveFewBytes}
+
+-- ---- commands that are no edits
+
+pub no_front : (e : Exporter) (v : Verb) (n : ℕ) → is_edit v ≡ false → TakesFirst (taken_places e v) n → ⊥
+no_front e (verb.Append v) n is first = first
+no_front e (verb.Extend v) n is first = first
+no_front e (verb.Insert index v) n is first = first
+no_front e (verb.Pop index) n is first = absurd (true≢false is)
+no_front e (verb.Remove v) n is first = absurd (true≢false is)
+no_front e verb.Clear n is first = first
+no_front e verb.Reverse n is first = first
+no_front e (verb.Del key) n is first = absurd (true≢false is)
+no_front e (verb.IAdd v) n is first = first
+no_front e (verb.IMul count) n is first = first
+no_front e (verb.Init options) n is first = first
+no_front e verb.Take n is first = first
+no_front e verb.Copy n is first = first
+no_front e verb.View n is first = first
+no_front e (verb.Range from to) n is first = first
+no_front e (verb.Get key) n is first = first
+no_front e (verb.Cast format shape) n is first = first
+no_front e verb.ToBytes n is first = first
+no_front e verb.Release n is first = first
+no_front e verb.Enter n is first = first
+no_front e verb.Exit n is first = first
+no_front e verb.ToContiguous n is first = first
+no_front e verb.ToList n is first = first
+no_front e verb.Len n is first = first
+no_front e (verb.Property name) n is first = first
+no_front e verb.ToReadonly n is first = first
+no_front e (verb.Compare op other) n is first = first
+no_front e verb.Hash n is first = first
+no_front e verb.Repr n is first = first
+no_front e verb.Iter n is first = first
+no_front e verb.Next n is first = first
+no_front e verb.LengthHint n is first = first
+no_front e (verb.SetState state) n is first = first
+no_front e (verb.Contains v) n is first = first
+no_front e (verb.Hex sep group) n is first = first
+no_front e (verb.Call method) n is first = first
+no_front e (verb.Set key v) n is first = first
+
+pub no_growth : (e : Exporter) (v : Verb) (lents : List Lent) → is_edit v ≡ false → grows_at_end v lents ≡ true → ⊥
+no_growth e (verb.Append v) lents is grows = absurd (true≢false is)
+no_growth e (verb.Extend v) lents is grows = absurd (true≢false is)
+no_growth e (verb.Insert index v) lents is grows = true≢false (sym grows)
+no_growth e (verb.Pop index) lents is grows = true≢false (sym grows)
+no_growth e (verb.Remove v) lents is grows = true≢false (sym grows)
+no_growth e verb.Clear lents is grows = true≢false (sym grows)
+no_growth e verb.Reverse lents is grows = true≢false (sym grows)
+no_growth e (verb.Del key) lents is grows = true≢false (sym grows)
+no_growth e (verb.IAdd v) lents is grows = absurd (true≢false is)
+no_growth e (verb.IMul count) lents is grows = true≢false (sym grows)
+no_growth e (verb.Init options) lents is grows = true≢false (sym grows)
+no_growth e verb.Take lents is grows = true≢false (sym grows)
+no_growth e verb.Copy lents is grows = true≢false (sym grows)
+no_growth e verb.View lents is grows = true≢false (sym grows)
+no_growth e (verb.Range from to) lents is grows = true≢false (sym grows)
+no_growth e (verb.Get key) lents is grows = true≢false (sym grows)
+no_growth e (verb.Cast format shape) lents is grows = true≢false (sym grows)
+no_growth e verb.ToBytes lents is grows = true≢false (sym grows)
+no_growth e verb.Release lents is grows = true≢false (sym grows)
+no_growth e verb.Enter lents is grows = true≢false (sym grows)
+no_growth e verb.Exit lents is grows = true≢false (sym grows)
+no_growth e verb.ToContiguous lents is grows = true≢false (sym grows)
+no_growth e verb.ToList lents is grows = true≢false (sym grows)
+no_growth e verb.Len lents is grows = true≢false (sym grows)
+no_growth e (verb.Property name) lents is grows = true≢false (sym grows)
+no_growth e verb.ToReadonly lents is grows = true≢false (sym grows)
+no_growth e (verb.Compare op other) lents is grows = true≢false (sym grows)
+no_growth e verb.Hash lents is grows = true≢false (sym grows)
+no_growth e verb.Repr lents is grows = true≢false (sym grows)
+no_growth e verb.Iter lents is grows = true≢false (sym grows)
+no_growth e verb.Next lents is grows = true≢false (sym grows)
+no_growth e verb.LengthHint lents is grows = true≢false (sym grows)
+no_growth e (verb.SetState state) lents is grows = true≢false (sym grows)
+no_growth e (verb.Contains v) lents is grows = true≢false (sym grows)
+no_growth e (verb.Hex sep group) lents is grows = true≢false (sym grows)
+no_growth e (verb.Call method) lents is grows = true≢false (sym grows)
+no_growth e (verb.Set key v) lents is grows = true≢false (sym grows)
+
+-- a verb that is no edit has no row among the edits
+pub no_edit : (e : Exporter) (v : Verb) (lents : List Lent) → is_edit v ≡ false → edit_of_own e v lents ≡ Err fault.UnknownName
+no_edit e (verb.Append v) lents is = absurd (true≢false is)
+no_edit e (verb.Extend v) lents is = absurd (true≢false is)
+no_edit e (verb.Insert index v) lents is = absurd (true≢false is)
+no_edit e (verb.Pop index) lents is = absurd (true≢false is)
+no_edit e (verb.Remove v) lents is = absurd (true≢false is)
+no_edit e verb.Clear lents is = absurd (true≢false is)
+no_edit e verb.Reverse lents is = absurd (true≢false is)
+no_edit e (verb.Del key) lents is = absurd (true≢false is)
+no_edit e (verb.IAdd v) lents is = absurd (true≢false is)
+no_edit e (verb.IMul count) lents is = absurd (true≢false is)
+no_edit e (verb.Init options) lents is = absurd (true≢false is)
+no_edit e verb.Take lents is = absurd (true≢false is)
+no_edit e verb.Copy lents is = absurd (true≢false is)
+no_edit e verb.View lents is = refl
+no_edit e (verb.Range from to) lents is = refl
+no_edit e (verb.Get key) lents is = refl
+no_edit e (verb.Cast format shape) lents is = refl
+no_edit e verb.ToBytes lents is = refl
+no_edit e verb.Release lents is = refl
+no_edit e verb.Enter lents is = refl
+no_edit e verb.Exit lents is = refl
+no_edit e verb.ToContiguous lents is = refl
+no_edit e verb.ToList lents is = refl
+no_edit e verb.Len lents is = refl
+no_edit e (verb.Property name) lents is = refl
+no_edit e verb.ToReadonly lents is = refl
+no_edit e (verb.Compare op other) lents is = refl
+no_edit e verb.Hash lents is = refl
+no_edit e verb.Repr lents is = refl
+no_edit e verb.Iter lents is = refl
+no_edit e verb.Next lents is = refl
+no_edit e verb.LengthHint lents is = refl
+no_edit e (verb.SetState state) lents is = refl
+no_edit e (verb.Contains v) lents is = refl
+no_edit e (verb.Hex sep group) lents is = refl
+no_edit e (verb.Call method) lents is = refl
+no_edit e (verb.Set (value.Slice slice) v) lents is = absurd (true≢false is)
+no_edit e (verb.Set (value.One s) v) lents is = refl
+no_edit e (verb.Set (value.Tuple parts) v) lents is = refl
+no_edit e (verb.Set (value.List parts) v) lents is = refl
+no_edit e (verb.Set (value.Slices slices) v) lents is = refl
+
+-- ---- how a command ends
+
+abbrev Row : Type 0
+Row = Result (Exporter × LocalReply) Fault
+
+-- what holds where a row is done holds of a command that is carried out
+pub where_done : (P : Type 0) (row : Row) (old new : Exporter) (a : Result LocalReply Halt) → Answers row old a new → IsOk row → (a ≡ Err halt.NoMemory → ⊥) → OnOk a P → P
+where_done P row old new (Ok r) answers done never holds = holds
+where_done P row old new (Err (halt.Refused f)) answers done never holds = absurd (true≢false (sym (subst IsOk answers.0 done)))
+where_done P row old new (Err halt.NoMemory) answers done never holds = absurd (never refl)
+
+-- and what holds where it isn't, of one that is refused
+pub where_refused : (P : Type 0) (row : Row) (old new : Exporter) (a : Result LocalReply Halt) → Answers row old a new → IsErr row → OnErr a P → P
+where_refused P row old new (Ok r) answers refused holds = absurd (true≢false (sym (subst IsErr answers refused)))
+where_refused P row old new (Err h) answers refused holds = holds
+
+-- in either case few bytes are moved
+pub few_moved : (a : Result LocalReply Halt) (before after most : ℕ) → OnOk a (after ≤ before + most) → OnErr a (after ≡ before) → after ≤ before + most
+few_moved (Ok r) before after most done gone = done
+few_moved (Err h) before after most done gone = omega (arith, gone)
+
+-- where memory runs out
+pub without_memory : (P : Type 0) (a : Result LocalReply Halt) → a ≡ Err halt.NoMemory → OnErr a P → P
+without_memory P (Ok r) gone holds = absurd (cc)
+without_memory P (Err h) gone holds = holds
+
+pub same_exporter : (row : Row) (old new : Exporter) (a : Result LocalReply Halt) → a ≡ Err halt.NoMemory → Answers row old a new → new ≡ old
+same_exporter row old new (Ok r) gone answers = absurd (cc)
+same_exporter row old new (Err (halt.Refused f)) gone answers = absurd (cc)
+same_exporter row old new (Err halt.NoMemory) gone answers = answers
+
+pub same_counted : (e f : Exporter) (m n : ℕ) → e ≡ f → m ≡ n → (let one : Counted = record { exporter = e; room = m } in one) ≡ record { exporter = f; room = n }
+same_counted e f m n exporters rooms = cc
+
+pub where_ok : {A E : Type 0} (P Q : Type 0) (r : Result A E) → OnOk r P → (P → Q) → OnOk r Q
+where_ok P Q (Ok a) holds then = then holds
+where_ok P Q (Err x) holds then = holds
+
+pub where_err : {A E : Type 0} (P Q : Type 0) (r : Result A E) → OnErr r P → (P → Q) → OnErr r Q
+where_err P Q (Ok a) holds then = holds
+where_err P Q (Err x) holds then = then holds
+
+-- ---- queues
+
+-- what is left to be paid for: the moves up to now, and the room
+step_pays : (command : LocalCommand) (cut : ℕ) (old : Counted) (before : ℕ) (new : Counted) (after : ℕ) → IsQueueStep command cut old before new after → after + new.room ≤ before + (old.room + cut)
+step_pays command cut old before new after step =
+    elim step.1 [
+      | inl front ↦ omega (arith, step.2.front_counter cut front step.0, step.2.front_room cut front step.0)
+      | inr grows ↦ omega (arith, step.2.end_counter grows.0 step.0)
+    ]
+
+run_pays : (commands : List LocalCommand) (cut : ℕ) (old : Counted) (before : ℕ) (new : Counted) (after : ℕ) → IsQueueRun commands cut old before new after → after + new.room ≤ before + (old.room + cut)
+run_pays [] cut old before new after run =
+    let rooms : new.room ≡ old.room = ap (λ (c : Counted). c.room) run.1 in
+    omega (arith, rooms, run.2)
+run_pays (command ∷ commands) cut old before new after run =
+    let first = run.0 in
+    let others = run.1 in
+    let between = run.2 in
+    let count = run.3 in
+    omega (arith, run.4, step_pays command first old before between count run.5, run_pays commands others between count new after run.6)
+
+pub queues_move_few : QueuesMoveFewBytes
+queues_move_few commands cut old before new after run = omega (arith, run_pays commands cut old before new after run)
