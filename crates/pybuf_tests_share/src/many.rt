@@ -34,7 +34,8 @@ fn each_appends<L: Ledger, R: Wait>(
     let mut made = Vec::new(alloc);
     while let Some(session) = left.next() {
         let byte = byte_of(made.len());
-        made.push(asks(rt, alloc, shared, session, append(byte))?)?;
+        let asked = asks(rt, alloc, shared, session, append(byte))?;
+        made.push(asked)?;
     }
     Ok(made)
 }
