@@ -1,12 +1,11 @@
 -- Histories that sessions agree with, or don't.
-use Rattle.std.proofs.Common.{◌≡◌, ◌⊎◌, ℕ, ◌<◌, ◌≤◌, List, [], ◌∷◌, ◌++◌, length, get_or, Option, Some, None, slice_get, refl, ap, ap₂, sym, ◌∙◌, subst, inl, inr}
+use Rattle.std.proofs.Common.{◌≡◌, ◌⊎◌, ℕ, ◌<◌, ◌≤◌, List, length, get_or, None, slice_get, ap, ap₂, sym, ◌∙◌, subst, inl, inr}
 use Rattle.std.specs.List.{All}
 use Rattle.std.proofs.lemmas.Bool.{cases_lt}
 use Rattle.std.proofs.lemmas.Option.{none-some, slice_get-get_or, slice_get_past}
 use Rattle.pybuf_command.specs.declared.kinds.ExporterKind.{ExporterKind}
 use Rattle.pybuf_state.specs.Exporter.{Exporter, new_exporter}
 use Rattle.pybuf_share.specs.declared.entries.Entry.{Entry}
-use Rattle.pybuf_share.specs.declared.entries.Receipt.{Receipt}
 use Rattle.pybuf_share.specs.declared.joined.FinishFault.{FinishFault}
 use Rattle.pybuf_share.specs.declared.joined.FinishFault.TheVariants as fault
 use Rattle.pybuf_share.specs.declared.joined.Joined.{Joined}

@@ -1,4 +1,4 @@
-use Rattle.std.proofs.Common.{rules, ◌<◌, ◌≤◌, ◌≡◌, List, take, get_or, length, subst}
+use Rattle.std.proofs.Common.{rules, ◌<◌, ◌≤◌, ◌≡◌, List, get_or, length, subst}
 use Rattle.std.specs.List.{All}
 use Rattle.std.proofs.lemmas.List.{take_all}
 use Rattle.pybuf_share.specs.declared.entries.Receipt.{Receipt}

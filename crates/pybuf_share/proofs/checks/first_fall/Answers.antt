@@ -1,4 +1,4 @@
-use Rattle.std.proofs.Common.{rules, ◌≡◌, ◌-◌, ◌≤◌, drop, length, sym, ◌∙◌, arith}
+use Rattle.std.proofs.Common.{rules, ◌-◌, ◌≤◌, drop, length, sym, ◌∙◌, arith}
 use Rattle.std.proofs.lemmas.List.{length-drop}
 use Rattle.pybuf_share.proofs.Faults.{fall_short}
 use Rattle.pybuf_share.proofs.checks.first_fall.Goals as goal

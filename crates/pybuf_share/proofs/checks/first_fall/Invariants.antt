@@ -1,4 +1,4 @@
-use Rattle.std.proofs.Common.{◌≡◌, ◌-◌, ◌<◌, drop, length}
+use Rattle.std.proofs.Common.{◌≡◌, ◌-◌, drop}
 use Rattle.pybuf_share.specs.Finishing.{first_fall}
 use Rattle.pybuf_share.proofs.checks.first_fall.Given as goal
 
