@@ -1,7 +1,8 @@
-//! One exporter whose history is kept beside it, and the sessions that made it: what lies under the lock of an
-//! exporter that threads share.
+//! One exporter that threads share: what lies under its lock, with its history beside it, the sessions that make it,
+//! and what these have to show at the end.
 #![tactic(auto)]
 
+mod checks;
 mod entries;
 mod gate;
 mod joined;

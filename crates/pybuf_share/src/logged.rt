@@ -1,7 +1,11 @@
 //! What lies under the lock of a shared exporter: the exporter beside its history, and the book that counts the calls.
-ghost use Rattle.std.specs.Prelude.{◌≡◌, ◌+◌, ◌<◌, ◌≤◌, ◌^◌, [], ◌∷◌, ◌++◌, length, IfOk, OnOk, OnErr};
+ghost use Rattle.std.specs.List.{All};
+ghost use Rattle.pybuf_share.specs.Finishing.{parts_of, calls_of, IsOwn};
+ghost use Rattle.std.specs.Prelude.{◌≡◌, ◌⊎◌, Err, ◌+◌, ◌<◌, ◌≤◌, ◌^◌, [], ◌∷◌, ◌++◌, length, IfOk, IfErr, OnOk, OnErr};
 
-use crate::entries::{Entry, Receipt};
+use crate::checks::{check_sessions, order_fault};
+use crate::entries::{Entry, EntryList, Receipt};
+use crate::joined::{FinishFault, Joined};
 use crate::session::Session;
 use pybuf_command::{ExporterKind, LocalCommand};
 use pybuf_exporter::ExporterState;
@@ -22,17 +26,20 @@ pub struct Logged<L: Ledger> {
     state: ExporterState,
     history: Vec<Entry>,
     calls: Book<L>,
+    // of no part, to which the shares of all sessions are added at the end
+    none: Share<L>,
     alloc: Global,
 }
 
 impl<L: Ledger> Model for Logged<L> {
+    ghost use Rattle.std.specs.Prelude.{◌≡◌};
     ghost use Rattle.pybuf_share.specs.History.{Log, IsKept};
 
     ghost Value = { Log };
 
     ghost view = { λ l. record { kind = l.kind; opening = l.opening; entries = l.history.items } };
 
-    ghost invariant = { λ l. IsKept (record { kind = l.kind; opening = l.opening; entries = l.history.items }) l.state l.calls.total };
+    ghost invariant = { λ l. IsKept (record { kind = l.kind; opening = l.opening; entries = l.history.items }) l.state l.calls.total × (l.none.parts ≡ 0) };
 }
 
 /// A command twice.
@@ -54,6 +61,7 @@ impl<L: Ledger> Logged<L> {
     ghost use Rattle.pybuf_state.specs.Fits.{LoansFit};
     ghost use Rattle.pybuf_share.specs.History.{state_of, IsLegalLog, noted, receipt_now};
     ghost use Rattle.pybuf_share.specs.Sessions.{sessions_from, received};
+    ghost use Rattle.pybuf_share.specs.Finishing.{AreAll, Agree, Refuses, IsJoined, ArePlain, AreTheirs};
 
     /// An exporter of a kind and of these bytes with no entry, and so many sessions, numbered from 0, each of which has
     /// one part of the ledger.
@@ -71,9 +79,11 @@ impl<L: Ledger> Logged<L> {
         requires each { blank.parts ≡ sessions }
         ensures log { IfOk result (λ r. r.0 ≡ record { kind = kind; opening = bytes; entries = [] }) }
         ensures sessions { IfOk result (λ r. r.1.items ≡ sessions_from 0 sessions) }
+        ensures all { IfOk result (λ r. AreAll L.parts r.1.items) }
     {
         let opening = bytes.copy(alloc)?;
         let (calls, mut share) = blank.open::<L>();
+        let none = share.empty();
         let mut made = Vec::new(alloc);
         for number in 0..sessions {
             let part = share.split_off(1, 0);
@@ -85,6 +95,7 @@ impl<L: Ledger> Logged<L> {
             state: ExporterState::new(alloc, kind, bytes),
             history: Vec::new(alloc),
             calls,
+            none,
             alloc,
         };
         Ok((logged, made))
@@ -201,4 +212,103 @@ impl<L: Ledger> Logged<L> {
             }
         }
     }
+
+    /// The whole history, where all sessions agree with it: the kind and the bytes are those that it begins with, the
+    /// receipt numbers of each session rise, and the entry of each receipt stands at its number.
+    ///
+    /// `Opening` is answered where the kind or the bytes are others. Else `Order`, where the receipt numbers of a
+    /// session don't rise, of the first such session. Else `Disagree`, where the entry at the number of a receipt is
+    /// another or none, at the first such receipt, session by session.
+    pub fn join(
+        self,
+        kind: ExporterKind,
+        bytes: ByteList,
+        sessions: Vec<Session<L>>,
+    ) -> Result<Joined, FinishFault>
+        requires all { AreAll L.parts sessions.items }
+        ensures agree { OnOk result (Agree self kind bytes sessions.items) }
+        ensures err { IfErr result (λ f. Refuses self kind bytes sessions.items f) }
+        ensures joined { IfOk result (λ j. IsJoined kind bytes sessions.items j) }
+        ensures entries { IfOk result (λ j. j.entries ≡ self.entries) }
+        ensures theirs { ArePlain sessions.items → IfOk result (λ j. AreTheirs sessions.items j.entries) }
+        ensures counted { length self.entries ≡ calls_of sessions.items }
+    {
+        let checked = self.check(kind, &bytes, sessions.as_slice());
+        let Logged {
+            kind: _,
+            opening: _,
+            state,
+            history,
+            calls,
+            none,
+            alloc: _,
+        } = self;
+        count_calls(calls, none, sessions);
+        match checked {
+            Ok(()) => Ok(Joined {
+                opening: bytes,
+                kind,
+                entries: EntryList::from_vec(history),
+                state,
+            }),
+            Err(fault) => Err(fault),
+        }
+    }
+
+    /// Whether sessions agree with the history.
+    fn check(
+        &self,
+        kind: ExporterKind,
+        bytes: &ByteList,
+        sessions: &[Session<L>],
+    ) -> Result<(), FinishFault>
+        ensures ok { OnOk result (Agree self.now kind bytes.now sessions.now) }
+        ensures err { IfErr result (λ f. Refuses self.now kind bytes.now sessions.now f) }
+    {
+        if self.kind != kind {
+            return self.other_opening(kind, bytes);
+        }
+        if self.opening.as_slice() != bytes.as_slice() {
+            return self.other_opening(kind, bytes);
+        }
+        if let Some(fault) = order_fault(sessions) {
+            return Err(fault);
+        }
+        match check_sessions(self.alloc, self.history.as_slice(), sessions) {
+            Ok(()) => Ok(()),
+            Err(fault) => Err(fault),
+        }
+    }
+
+    /// What it begins with, beside what was given.
+    fn other_opening(&self, kind: ExporterKind, bytes: &ByteList) -> Result<(), FinishFault>
+        ensures { result ≡ Err (FinishFault.Opening kind bytes.now self.now.kind self.now.opening) ⊎ (result ≡ Err FinishFault.NoMemory) }
+    {
+        let given = bytes.copy(self.alloc)?;
+        let kept = self.opening.copy(self.alloc)?;
+        Err(FinishFault::Opening {
+            given_kind: kind,
+            given,
+            kept_kind: self.kind,
+            kept,
+        })
+    }
+}
+
+/// Adds the shares of all sessions together, by which the book has counted what they have.
+fn count_calls<L: Ledger>(calls: Book<L>, none: Share<L>, sessions: Vec<Session<L>>)
+    requires none { none.parts ≡ 0 }
+    requires whole { parts_of sessions.items ≡ L.parts }
+    ensures counted { calls.total ≡ calls_of sessions.items }
+    ensures own { All IsOwn sessions.items }
+{
+    let mut calls = calls;
+    let mut all = none;
+    // a share of no part has no amount
+    calls.audit(&mut all);
+    let mut left = sessions;
+    while let Some(session) = left.pop() {
+        all.merge(session.into_share());
+    }
+    calls.audit(&mut all);
 }

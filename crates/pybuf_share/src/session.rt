@@ -2,6 +2,7 @@
 ghost use Rattle.std.specs.Prelude.{◌≡◌, ◌+◌, ◌<◌, ◌≤◌, ◌^◌, [], ◌∷◌, ◌++◌, length, true, false, Some, None, slice_get, IfOk, IfSome, IfNone, OnOk, OnErr, vec_len, vec_capacity};
 ghost use Rattle.std.specs.List.{All};
 ghost use Rattle.std.specs.Option.{option_copied};
+ghost use Rattle.pybuf_share.specs.Finishing.{IsOwn};
 ghost use Rattle.pybuf_share.specs.Sessions.{view_given, iterator_given};
 
 use crate::entries::Receipt;
@@ -110,6 +111,23 @@ impl<L: Ledger> Session<L> {
             Some(receipt) => Some(&receipt.entry.reply),
             None => None,
         }
+    }
+
+    /// Its part of the ledger. Takes no memory.
+    pub(crate) fn into_share(self) -> Share<L>
+        ensures parts { result.parts ≡ self.parts }
+        ensures amount { result.amount ≡ self.calls }
+        ensures own { IsOwn self }
+    {
+        let Session {
+            number: _,
+            share,
+            receipts: _,
+            views: _,
+            iterators: _,
+            is_plain: _,
+        } = self;
+        share
     }
 
     /// Adds a receipt that no call gave, by which the session is no longer plain. It makes no call, and leaves the

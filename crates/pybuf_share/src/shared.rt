@@ -1,7 +1,8 @@
 //! One exporter that threads share.
-ghost use Rattle.std.specs.Prelude.{◌≡◌, ◌<◌, ◌≤◌, IfOk, OnOk, OnErr};
+ghost use Rattle.std.specs.Prelude.{◌≡◌, ◌<◌, ◌≤◌, IfOk, IfErr, OnOk, OnErr};
 
 use crate::gate::{Gate, OpenGate};
+use crate::joined::{FinishFault, Joined};
 use crate::logged::Logged;
 use crate::session::Session;
 use pybuf_command::{ExporterKind, LocalCommand};
@@ -35,6 +36,7 @@ impl<L: Ledger> Model for SharedExporter<L> {
 impl<L: Ledger> SharedExporter<L> {
     ghost use Rattle.pybuf_state.specs.Fits.{LoansFit};
     ghost use Rattle.pybuf_share.specs.Sessions.{sessions_from, IsAnswered};
+    ghost use Rattle.pybuf_share.specs.Finishing.{AreAll, IsJoined, ArePlain, AreTheirs, RefusesAtLast};
 
     /// An exporter of a kind and of these bytes, and so many sessions, numbered from 0, each of which has one part of
     /// the ledger.
@@ -52,6 +54,7 @@ impl<L: Ledger> SharedExporter<L> {
         requires each { blank.parts ≡ sessions }
         ensures opening { IfOk result (λ r. r.0 ≡ record { kind = kind; bytes = bytes }) }
         ensures sessions { IfOk result (λ r. r.1.items ≡ sessions_from 0 sessions) }
+        ensures all { IfOk result (λ r. AreAll L.parts r.1.items) }
     {
         let opening = bytes.copy(alloc)?;
         let (logged, made) = Logged::start(alloc, blank, kind, bytes, sessions)?;
@@ -125,5 +128,25 @@ impl<L: Ledger> SharedExporter<L> {
         let mut logged = self.locked.lock(rt);
         gate.inside(number, turn);
         session.ask(&mut logged, kept, own)
+    }
+
+    /// What all sessions did, put together (`Logged::join`), by the kind and the bytes that it was made with. It waits
+    /// for nobody.
+    pub fn finish(self, sessions: Vec<Session<L>>) -> Result<Joined, FinishFault>
+        requires all { AreAll L.parts sessions.items }
+        ensures joined { IfOk result (λ j. IsJoined self.kind self.bytes sessions.items j) }
+        ensures theirs { ArePlain sessions.items → IfOk result (λ j. AreTheirs sessions.items j.entries) }
+        ensures err { IfErr result (λ f. RefusesAtLast self sessions.items f) }
+    {
+        let SharedExporter {
+            kind,
+            opening,
+            alloc: _,
+            locked,
+        } = self;
+        match locked.into_inner().join(kind, opening, sessions) {
+            Ok(joined) => Ok(joined),
+            Err(fault) => Err(fault),
+        }
     }
 }

@@ -1,5 +1,6 @@
-use Rattle.std.proofs.Common.{[], ◌∷◌, ◌++◌, List, ap₂, ◌∙◌, sym, arith}
+use Rattle.std.proofs.Common.{rules, ◌≡◌, ◌≤◌, [], ◌∷◌, ◌++◌, List, ap₂, ◌∙◌, sym, arith}
 use Rattle.pybuf_share.specs.Sessions.{Asker}
+use Rattle.pybuf_share.proofs.Faults.{all_made}
 use Rattle.pybuf_share.proofs.Sessions.{sessions_more}
 use Rattle.pybuf_share.proofs.logged.Logged.start.Goals as goal
 
@@ -14,3 +15,12 @@ loop-number-preserved g c =
       omega (arith, amount, i.2),
       omega (arith, test),
     )
+
+pub returns-clause-all : goal.returns-clause-all
+returns-clause-all g c =
+    let i = c.loop-number.invariant in
+    let past : c.args.sessions ≤ c.loop-number.number = search rules in
+    let low = i.3 in
+    let each = c.requires.each in
+    let many : c.loop-number.number ≡ c.args.blank.parts = omega (arith, past, low, each) in
+    all_made c.loop-number.made.items c.loop-number.number _ i.0 (many ∙ c.requires.parts)

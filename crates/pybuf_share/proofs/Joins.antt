@@ -1,0 +1,71 @@
+-- Histories that sessions agree with, or don't.
+use Rattle.std.proofs.Common.{◌≡◌, ◌⊎◌, ℕ, ◌<◌, ◌≤◌, List, length, get_or, None, slice_get, ap, ap₂, sym, ◌∙◌, subst, inl, inr}
+use Rattle.std.specs.List.{All}
+use Rattle.std.proofs.lemmas.Bool.{cases_lt}
+use Rattle.std.proofs.lemmas.Option.{none-some, slice_get-get_or, slice_get_past}
+use Rattle.pybuf_command.specs.declared.kinds.ExporterKind.{ExporterKind}
+use Rattle.pybuf_state.specs.Exporter.{Exporter, new_exporter}
+use Rattle.pybuf_share.specs.declared.entries.Entry.{Entry}
+use Rattle.pybuf_share.specs.declared.joined.FinishFault.{FinishFault}
+use Rattle.pybuf_share.specs.declared.joined.FinishFault.TheVariants as fault
+use Rattle.pybuf_share.specs.declared.joined.Joined.{Joined}
+use Rattle.pybuf_share.specs.History.{Log, Opening, IsKept, IsLegal, after_entries, replies_along}
+use Rattle.pybuf_share.specs.Sessions.{Asker}
+use Rattle.pybuf_share.specs.Finishing.{AreAll, Agree, IsJoined, IsOwn, ArePlain, AreTheirs, Refuses, RefusesAtLast, Stands, receipts_of, calls_of}
+use Rattle.pybuf_share.proofs.Theirs.{theirs}
+
+-- what is kept under the lock, handed out
+pub joined_is : (log : Log) (k : ExporterKind) (bytes : List ℕ) (ss : List Asker) (state : Exporter) (total : ℕ) (joined : Joined) → Agree log k bytes ss → IsKept log state total
+    → joined.kind ≡ k → joined.opening ≡ bytes → joined.entries ≡ log.entries → joined.state ≡ state → IsJoined k bytes ss joined
+joined_is log k bytes ss state total joined agree kept kind opening entries state_is =
+    let start : new_exporter log.kind log.opening ≡ new_exporter k bytes = ap₂ new_exporter (sym agree.begins.same_kind) (sym agree.begins.same_bytes) in
+    record {
+      same_kind = kind;
+      same_bytes = opening;
+      legal = subst (λ (xs : List Entry). IsLegal k bytes xs) (sym entries) (kept.legal ∙ ap (λ (e : Exporter). replies_along e log.entries) start);
+      replays = state_is ∙ kept.replays ∙ ap (λ (e : Exporter). after_entries e log.entries) start ∙ ap (λ (xs : List Entry). after_entries (new_exporter k bytes) xs) (sym entries);
+      rise = agree.rise;
+      stand = subst (λ (xs : List Entry). All (Stands xs) (receipts_of ss)) (sym entries) agree.stand;
+    }
+
+pub theirs_are : (log : Log) (k : ExporterKind) (bytes : List ℕ) (ss : List Asker) (state : Exporter) (total parts : ℕ) → Agree log k bytes ss → IsKept log state total → AreAll parts ss → All IsOwn ss
+    → total ≡ calls_of ss → ArePlain ss → AreTheirs ss log.entries
+theirs_are log k bytes ss state total parts agree kept all own counted plain =
+    theirs log.entries ss all.numbers agree.rise agree.stand (λ i d within. (own i d within).counted (plain i d within)) (λ i d within. (own i d within).own (plain i d within)) (sym kept.counted ∙ counted)
+
+-- where nothing stands the list has ended
+ended_by : (xs : List Entry) (i : ℕ) (d : Entry) → slice_get xs i ≡ None → (i < length xs) ⊎ (length xs ≤ i) → length xs ≤ i
+ended_by xs i d none (inl within) = absurd (none-some {A = Entry} (get_or xs i d) (sym none ∙ slice_get-get_or xs i d within))
+ended_by xs i d none (inr past) = past
+
+ended : (xs : List Entry) (i : ℕ) (d : Entry) → slice_get xs i ≡ None → length xs ≤ i
+ended xs i d none = ended_by xs i d none (cases_lt i (length xs))
+
+-- why sessions are refused, as far as they can tell
+pub refused_at_last : (log : Log) (o : Opening) (ss : List Asker) (f : FinishFault) → length log.entries ≡ calls_of ss → Refuses log o.kind o.bytes ss f → RefusesAtLast o ss f
+refused_at_last log o ss fault.NoMemory counted why = tt
+refused_at_last log o ss (fault.Order session before after) counted why = why.first
+refused_at_last log o ss (fault.Opening given_kind given kept_kind kept) counted why = record {
+  kind_given = why.kind_given;
+  bytes_given = why.bytes_given;
+  differ =
+      λ same_kind same_bytes. why.differ (record { same_kind = sym why.kind_given ∙ same_kind ∙ why.kind_kept; same_bytes = sym why.bytes_given ∙ same_bytes ∙ why.bytes_kept });
+}
+refused_at_last log o ss (fault.Disagree at kept got) counted why =
+    let first = why.first in
+    let away = first.away in
+    let r = first.receipt in
+    record {
+      rise = why.rise;
+      receipt = r;
+      earlier = first.earlier;
+      later = first.later;
+      are = first.are;
+      place = away.place;
+      shown = away.shown;
+      differs = away.differs;
+      absent = (
+        λ none. subst (λ (n : ℕ). n ≤ at) counted (subst (λ (i : ℕ). length log.entries ≤ i) (sym away.place) (ended log.entries r.at r.entry (sym away.found ∙ none))),
+        λ past. away.found ∙ slice_get_past log.entries r.at (subst (λ (i : ℕ). length log.entries ≤ i) away.place (subst (λ (n : ℕ). n ≤ at) (sym counted) past)),
+      );
+    }
