@@ -1,6 +1,6 @@
 //! An exporter whose moved bytes are counted: what no clause says of it, that it grows with ample memory. The bytes are
 //! what Python's `bytearray` has after the same edits.
-ghost use Rattle.std.specs.Prelude.{◌≡◌};
+ghost use Rattle.std.specs.Prelude.{◌≡◌, []};
 
 use pybuf_command::{ExporterKind, LoanList, LocalCommand, Subject, Verb};
 use pybuf_exporter::{CountedExporter, ExporterState};
@@ -15,7 +15,9 @@ fn number(number: i128) -> Value {
 }
 
 /// A command to which nothing is lent.
-fn asked(alloc: Global, verb: Verb) -> LocalCommand {
+fn asked(alloc: Global, verb: Verb) -> LocalCommand
+    ensures { result.loans ≡ [] }
+{
     LocalCommand {
         subject: Subject::Own,
         verb,
@@ -97,6 +99,7 @@ fn an_exporter_keeps_room_at_its_front(rt: HostRuntime) -> Result<(), Fail> {
 }
 
 fn step<L: Ledger>(state: &mut ExporterState, command: &LocalCommand, blank: Blank) -> Made<()>
+    requires alone { command.now.loans ≡ [] }
     requires name { blank.name ≡ L.name }
     requires parts { blank.parts ≡ L.parts }
     requires one { blank.parts ≡ 1 }
@@ -111,7 +114,9 @@ fn step<L: Ledger>(state: &mut ExporterState, command: &LocalCommand, blank: Bla
     }
 }
 
-fn step_by_brand(state: &mut ExporterState, command: &LocalCommand) -> Made<()> {
+fn step_by_brand(state: &mut ExporterState, command: &LocalCommand) -> Made<()>
+    requires { command.now.loans ≡ [] }
+{
     step::<Brand>(state, command, Blank::new(1))
 }
 

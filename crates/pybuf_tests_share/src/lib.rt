@@ -1,7 +1,12 @@
-//! Tests of a history that is kept beside an exporter: what no clause says of it, that it grows with ample memory.
+//! Tests of a history that is kept beside an exporter, and of its sessions: what no clause says of them, and that they
+//! grow with ample memory.
 #![tactic(auto)]
 
 #[cfg(test)]
+mod finishing;
+#[cfg(test)]
 mod histories;
+#[cfg(test)]
+mod scripts;
 #[cfg(test)]
 mod shared;
