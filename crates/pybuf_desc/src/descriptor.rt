@@ -33,6 +33,23 @@ impl Model for BufferDescriptor {
     ghost view = { λ d. record { len = d.len; readonly = d.readonly; itemsize = d.itemsize; format = d.format; dims = d.dim_desc } };
 }
 
+/// How many items of a size make up so many bytes.
+// The sizes of most formats are spelled out: by a power of two that is known beforehand a processor divides in a
+// fraction of the time.
+#[inline(always)]
+fn items_in(len: usize, itemsize: usize) -> usize
+    requires { 0 < itemsize }
+    ensures { result ≡ len / itemsize }
+{
+    match itemsize {
+        1 => len,
+        2 => len / 2,
+        4 => len / 4,
+        8 => len / 8,
+        _ => len / itemsize,
+    }
+}
+
 impl BufferDescriptor {
     ghost use Rattle.pybuf_desc.specs.Layouts.{Layout, flat_layout, bytes_layout, bytes_layout_from};
     ghost use Rattle.pybuf_desc.specs.Descriptor.{Descriptor, flat_descriptor};
@@ -199,7 +216,7 @@ impl BufferDescriptor {
             readonly,
             itemsize,
             format,
-            dim_desc: Dims::one((bytes_len / itemsize, itemsize as isize, 0)),
+            dim_desc: Dims::one((items_in(bytes_len, itemsize), itemsize as isize, 0)),
         }
     }
 

@@ -30,7 +30,14 @@ fn len_of_entries(len: usize, shape: usize, count: usize) -> usize
     requires { count ≤ shape }
     ensures { (entry : ℕ) → len ≡ shape * entry → result ≡ count * entry }
 {
-    if count == 0 { 0 } else { len / shape * count }
+    if count == 0 {
+        return 0;
+    }
+    // of single bytes in one dimension, as most views are, without a division
+    if shape == len {
+        return count;
+    }
+    len / shape * count
 }
 
 /// The first index of a span, which is its greatest where the step is negative.

@@ -37,6 +37,23 @@ fn size_of(alloc: Global, text: &str) -> Result<usize, Halt>
     }
 }
 
+/// Whether so many bytes are whole items of a size.
+// The sizes of most formats are spelled out: by a power of two that is known beforehand a processor divides in a
+// fraction of the time.
+#[inline(always)]
+fn are_whole(len: usize, size: usize) -> bool
+    requires { 0 < size }
+    ensures { result ≡ (len % size == 0) }
+{
+    match size {
+        1 => true,
+        2 => len % 2 == 0,
+        4 => len % 4 == 0,
+        8 => len % 8 == 0,
+        _ => len % size == 0,
+    }
+}
+
 /// The size of the items of a format that make up so many bytes.
 fn size_for(alloc: Global, len: usize, text: &str) -> Result<usize, Halt>
     ensures size { Gives (spec.size_for len text.now) result }
@@ -48,7 +65,7 @@ fn size_for(alloc: Global, len: usize, text: &str) -> Result<usize, Halt>
     if size == 0 {
         return Err(Halt::Refused(Fault::Kind));
     }
-    if len % size != 0 {
+    if !are_whole(len, size) {
         return Err(Halt::Refused(Fault::Kind));
     }
     Ok(size)
