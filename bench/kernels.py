@@ -358,6 +358,25 @@ def compare_beside(plan):
     return Kernel(lambda: view == other, as_number, first)
 
 
+def compare_reversed(plan):
+    first, second = twins(plan)
+    view, other = memoryview(first)[::-1], memoryview(second)[::-1]
+    return Kernel(lambda: view == other, as_number, first)
+
+
+def narrow_and_wide(plan):
+    """Drawn numbers of two bytes, and the same of four."""
+    narrow, wide = bytearray(drawn(plan, plan.size // 2)), bytearray(plan.size)
+    wide[::4], wide[1::4] = narrow[::2], narrow[1::2]
+    return narrow, wide
+
+
+def compare_codes(plan):
+    first, second = narrow_and_wide(plan)
+    view, other = memoryview(first).cast("H"), memoryview(second).cast("i")
+    return Kernel(lambda: view == other, as_number, first)
+
+
 # strings of bytes
 
 
@@ -460,6 +479,8 @@ KERNELS = {
     "queue-drawn": queue_drawn,
     "compare": compare,
     "compare-beside": compare_beside,
+    "compare-reversed": compare_reversed,
+    "compare-codes": compare_codes,
     "find-byte": of_text(as_number, "find", b"z"),
     "find-three": of_text(as_number, "find", b"cba"),
     "find-end": find_end,
@@ -511,6 +532,16 @@ def numpy_kernels():
         other = one.copy()
         return Kernel(lambda: numpy.array_equal(one, other), as_number)
 
+    def equal_reversed(plan):
+        one = array(plan, plan.size)
+        other = one.copy()
+        return Kernel(lambda: numpy.array_equal(one[::-1], other[::-1]), as_number)
+
+    def equal_codes(plan):
+        narrow, wide = narrow_and_wide(plan)
+        one, other = numpy.frombuffer(narrow, dtype=numpy.uint16), numpy.frombuffer(wide, dtype=numpy.int32)
+        return Kernel(lambda: numpy.array_equal(one, other), as_number)
+
     def overlapping(plan):
         whole = array(plan, plan.size)
         return put_in(whole[1:], whole[:-1])
@@ -531,6 +562,8 @@ def numpy_kernels():
         "set-overlapping": overlapping,
         "set-itself": itself,
         "compare-beside": equal,
+        "compare-reversed": equal_reversed,
+        "compare-codes": equal_codes,
     }
 
 

@@ -1,5 +1,5 @@
 -- Items that are equal only where their bytes are the same.
-use Rattle.std.proofs.Common.{◌≡◌, ℕ, zero, suc, ◌+◌, ◌<◌, ◌≤◌, pos, Bool, true, true≢false, List, [], ◌∷◌, ◌++◌, length, map, ap, ap₂, sym, ◌∙◌, refl, subst, arith, get_or, Fits, w8}
+use Rattle.std.proofs.Common.{◌≡◌, ℕ, zero, suc, ◌+◌, ◌<◌, ◌≤◌, pos, Bool, true, false, true≢false, List, [], ◌∷◌, ◌++◌, length, map, ap, ap₂, sym, ◌∙◌, refl, subst, arith, get_or, Fits, w8}
 use Rattle.std.specs.Prelude.{All, ◌==◌, ◌&&◌, bytes_eq, Result, Ok, Err, if◌then◌else◌}
 use Rattle.std.specs.List.{list_all, AllByRecursion}
 use Rattle.std.specs.Cmp.Lexicographic.{pointwise}
@@ -12,12 +12,14 @@ use Rattle.pybuf_value.specs.declared.faults.Fault.TheVariants as fault
 use Rattle.pybuf_value.specs.declared.values.Scalar.{Scalar}
 use Rattle.pybuf_value.specs.declared.values.Scalar.TheVariants as scalar
 use Rattle.pybuf_value.specs.declared.values.Item.{Item}
+use Rattle.pybuf_value.specs.declared.values.Item.TheVariants as item
 use Rattle.pybuf_value.specs.Equality.{same_scalar, same_item}
 use Rattle.pybuf_value.specs.Laws.{ItemEqualityIsEquivalence}
 use Rattle.pybuf_struct.specs.declared.table.Endianness.{Endianness}
 use Rattle.pybuf_struct.specs.declared.table.FormatType.{FormatType}
 use Rattle.pybuf_struct.specs.declared.table.FormatType.TheVariants as code
 use Rattle.pybuf_struct.specs.Formats.{Code, Format, Field, format_of, fields, fields_from, fields_of_code, fields_in_row, offset_after}
+use Rattle.pybuf_struct.specs.Digits.{number}
 use Rattle.pybuf_struct.specs.Table.{size_of}
 use Rattle.pybuf_struct.specs.Values.{value_of, value_in, values, unpacked_values, item_of}
 use Rattle.pybuf_struct.specs.Packing.{packed_bytes}
@@ -202,16 +204,44 @@ contents_as_bytes law writes r text size bytes other (s ∷ starts) (o ∷ other
     (contents_as_bytes law writes r text size bytes other starts others spelled reads exact small others_small fewer (All-tail (λ x. x + size ≤ length bytes) s starts inside) (All-tail (λ x. x + size ≤ length other) o others other_inside))
     ∙ sym (bytes_both (bytes_at bytes size s) (bytes_of_items bytes size starts) (bytes_at other size o) (bytes_of_items other size others) (long ∙ sym other_long))
 
+-- two texts by which bytes of an item's size read alike
+abbrev pub ReadAlike : List ℕ → List ℕ → ℕ → Type 0
+ReadAlike text other_text size = (bytes : List ℕ) → length bytes ≡ size → item_by text bytes ≡ item_by other_text bytes
+
+items_alike : (text other_text : List ℕ) (size : ℕ) (bytes starts : List ℕ) → ReadAlike text other_text size → All (λ start. start + size ≤ length bytes) starts
+    → items_from text bytes size starts ≡ items_from other_text bytes size starts
+items_alike text other_text size bytes [] alike inside = refl
+items_alike text other_text size bytes (s ∷ starts) alike inside =
+    ap₂ (λ (item : Item) (items : List Item). item ∷ items) (alike (bytes_at bytes size s) (length-bytes_at bytes size s (All-head (λ x. x + size ≤ length bytes) s starts inside)))
+    (items_alike text other_text size bytes starts alike (All-tail (λ x. x + size ≤ length bytes) s starts inside))
+
 pub exact_views : ItemEqualityIsEquivalence → WritesWhatWasRead → (r : ItemReader) (bytes other : List ℕ) (layout other_layout : Layout)
     → IsSpelledBy layout.format r → ReadsAs r layout.format layout.itemsize → is_exact_reader r layout.itemsize ≡ true → AreBytes bytes → AreBytes other
-    → HasItemsOfItsShape layout → HasItemsOfItsShape other_layout → layout.shape ≡ other_layout.shape → layout.format ≡ other_layout.format → layout.itemsize ≡ other_layout.itemsize
+    → HasItemsOfItsShape layout → HasItemsOfItsShape other_layout → layout.shape ≡ other_layout.shape → ReadAlike layout.format other_layout.format layout.itemsize → layout.itemsize ≡ other_layout.itemsize
     → LiesInside (length bytes) layout → LiesInside (length other) other_layout
     → bytes_eq (content_of_layout bytes layout) (content_of_layout other other_layout) ≡ same_items (items_of_layout bytes layout) (items_of_layout other other_layout)
-exact_views law writes r bytes other layout other_layout spelled reads exact small others_small counted other_counted shape text size inside other_inside =
+exact_views law writes r bytes other layout other_layout spelled reads exact small others_small counted other_counted shape alike size inside other_inside =
+    let there : All (λ start. start + layout.itemsize ≤ length other) other_layout.starts = subst (λ (n : ℕ). All (λ start. start + n ≤ length other) other_layout.starts) (sym size) other_inside in
     ap (λ (n : ℕ). bytes_eq (content_of_layout bytes layout) (bytes_of_items other n other_layout.starts)) (sym size)
     ∙ sym (contents_as_bytes law writes r layout.format layout.itemsize bytes other layout.starts other_layout.starts spelled reads exact small others_small
-    (counted ∙ ap product shape ∙ sym other_counted) inside (subst (λ (n : ℕ). All (λ start. start + n ≤ length other) other_layout.starts) (sym size) other_inside))
-    ∙ ap₂ (λ (t : List ℕ) (n : ℕ). same_items (items_of_layout bytes layout) (items_from t other n other_layout.starts)) text size
+    (counted ∙ ap product shape ∙ sym other_counted) inside there)
+    ∙ ap (same_items (items_of_layout bytes layout))
+    (items_alike layout.format other_layout.format layout.itemsize other other_layout.starts alike there ∙ ap (λ (n : ℕ). items_from other_layout.format other n other_layout.starts) size)
+
+-- one text reads as itself
+pub one_text : (text other_text : List ℕ) (size : ℕ) → text ≡ other_text → ReadAlike text other_text size
+one_text text other_text size same = λ bytes long. ap (λ (t : List ℕ). item_by t bytes) same
+
+-- items that both texts read as numbers of one sign and size read alike
+abbrev ReadsNumbers : Bool → ItemReader → ℕ → Type 0
+ReadsNumbers signed r n = (bytes : List ℕ) → length bytes ≡ n → read_by r bytes ≡ item.One (scalar.Int (number false signed bytes))
+
+pub numbers_alike : (r s : ItemReader) (text other_text : List ℕ) (size other_size n m : ℕ) (signed other_signed : Bool) → ReadsAs r text size → ReadsAs s other_text other_size
+    → ReadsNumbers signed r n → ReadsNumbers other_signed s m → n ≡ size → m ≡ other_size → signed ≡ other_signed → n ≡ m → ReadAlike text other_text size
+numbers_alike r s text other_text size other_size n m signed other_signed reads other_reads numbers other_numbers one two sign same = λ bytes long.
+    let here : length bytes ≡ n = long ∙ sym one in
+    let there : length bytes ≡ m = here ∙ same in
+    sym (reads bytes long) ∙ numbers bytes here ∙ ap (λ (b : Bool). item.One (scalar.Int (number false b bytes))) sign ∙ sym (other_numbers bytes there) ∙ other_reads bytes (there ∙ two)
 
 -- the bytes that the code holds
 pub are_bytes : (xs : List ℕ) → ((i : ℕ) → Fits w8 (get_or xs i 0)) → AreBytes xs

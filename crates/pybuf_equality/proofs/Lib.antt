@@ -6,3 +6,7 @@ pub mod Walked
 pub mod Filled
 pub mod Single
 pub mod Fitting
+pub mod Below
+pub mod Spelled
+pub mod Rows
+pub mod Numeric

@@ -1,13 +1,17 @@
 -- Two views that are walked side by side.
 use Rattle.std.proofs.Common.{◌≡◌, ℕ, zero, suc, ◌+◌, ◌*◌, ◌-◌, ◌≤◌, ℤ, pos, nat_abs, Bool, true, false, List, [], ◌∷◌, length, map, take, drop, ap, ap₂, sym, ◌∙◌, refl, subst, arith}
 use Rattle.std.specs.Prelude.{All, bytes_eq, min, ◌==◌, ◌&&◌, if◌then◌else◌}
-use Rattle.std.specs.List.{flat_map}
+use Rattle.std.specs.List.{flat_map, list_all}
 use Rattle.std.proofs.Math.Nat.{min-le_left, min-le_right}
 use Rattle.std.specs.declared.ops.Range.{Range}
 use Rattle.std.proofs.lemmas.Bool.{eqb-true}
 use Rattle.std.proofs.lemmas.List.Elements.{All-head, All-tail, All-nil, All-cons}
 use Rattle.std.proofs.lemmas.List.{drop-map, length-map, length-take-le, length-drop, take_all, drop_all}
 use Rattle.pybuf_value.specs.declared.values.Item.{Item}
+use Rattle.pybuf_value.specs.declared.values.Item.TheVariants as item
+use Rattle.pybuf_value.specs.declared.values.Scalar.TheVariants as scalar
+use Rattle.pybuf_value.specs.Equality.{same_item}
+use Rattle.pybuf_struct.specs.Digits.{number}
 use Rattle.pybuf_desc.specs.Descriptor.{Descriptor, shape_of}
 use Rattle.pybuf_desc.specs.Tails.{tail_of}
 use Rattle.pybuf_desc.specs.Segments.{range_at, ranges_of, joined_dims, outer_dims, bytes_in}
@@ -17,12 +21,13 @@ use Rattle.pybuf_desc.specs.Items.{bytes_at, content_of_layout}
 use Rattle.pybuf_desc.specs.Places.{places, Stands}
 use Rattle.pybuf_desc.specs.Valid.{IsPlaced}
 use Rattle.pybuf_desc.specs.Laws.{RangesStayInside, RangesHaveTheContent}
+use Rattle.pybuf_memoryview.specs.Items.{item_by}
 use Rattle.pybuf_memoryview.specs.Readers.{read_by}
 use Rattle.pybuf_memoryview.specs.Lists.{items_of_layout}
 use Rattle.pybuf_memoryview.specs.declared.readers.ItemReader.{ItemReader}
 use Rattle.pybuf_equality.specs.Equality.{same_items}
-use Rattle.pybuf_equality.specs.Reading.{ReadsAs}
-use Rattle.pybuf_equality.specs.Walks.{IsPart, ArePaired, same_bytes_in, same_ranges, same_items_in, same_items_of}
+use Rattle.pybuf_equality.specs.Reading.{ReadsAs, ReadsAsNumber}
+use Rattle.pybuf_equality.specs.Walks.{IsPart, ArePaired, AreAsLong, HaveSizes, same_bytes_in, same_ranges, same_items_of, same_numbers_of}
 use Rattle.pybuf_equality.proofs.Bools.{bytes_both}
 use Rattle.pybuf_equality.proofs.Cut.{length-bytes_at}
 use Rattle.pybuf_equality.proofs.Apart.{items_from}
@@ -65,19 +70,19 @@ forward_ranges d start joined = forward_where (product (shape_of d.dims) == 0) (
 are_parts : (room : ℕ) (ranges : List (Range ℕ)) → All (λ (range : Range ℕ). range.start ≤ range.end) ranges → All (λ (range : Range ℕ). range.end ≤ room) ranges → All (IsPart room) ranges
 are_parts room ranges forward inside = λ k d below. record { forward = forward k d below; inside = inside k d below }
 
-pair_up : (room other_room : ℕ) (pairs : List (Range ℕ × Range ℕ)) → All (IsPart room) (firsts pairs) → All (IsPart other_room) (seconds pairs) → ArePaired room other_room pairs
-pair_up room other_room [] one other = All-nil (λ (pair : Range ℕ × Range ℕ). IsPart room pair.0 × IsPart other_room pair.1)
-pair_up room other_room (pair ∷ pairs) one other =
-    All-cons (λ (p : Range ℕ × Range ℕ). IsPart room p.0 × IsPart other_room p.1) pair pairs
-    (All-head (IsPart room) pair.0 (firsts pairs) one, All-head (IsPart other_room) pair.1 (seconds pairs) other)
-    (pair_up room other_room pairs (All-tail (IsPart room) pair.0 (firsts pairs) one) (All-tail (IsPart other_room) pair.1 (seconds pairs) other))
+pair_up : (P Q : Range ℕ → Type 0) (pairs : List (Range ℕ × Range ℕ)) → All P (firsts pairs) → All Q (seconds pairs) → All (λ pair. P pair.0 × Q pair.1) pairs
+pair_up P Q [] one other = All-nil (λ (pair : Range ℕ × Range ℕ). P pair.0 × Q pair.1)
+pair_up P Q (pair ∷ pairs) one other =
+    All-cons (λ (p : Range ℕ × Range ℕ). P p.0 × Q p.1) pair pairs
+    (All-head P pair.0 (firsts pairs) one, All-head Q pair.1 (seconds pairs) other)
+    (pair_up P Q pairs (All-tail P pair.0 (firsts pairs) one) (All-tail Q pair.1 (seconds pairs) other))
 
 pub are_paired : (d o : Descriptor) (start other_start : ℤ) (joined other_joined room other_room : ℕ) (pairs : List (Range ℕ × Range ℕ))
     → firsts pairs ≡ ranges_of d start joined → seconds pairs ≡ ranges_of o other_start other_joined
     → All (λ (range : Range ℕ). range.end ≤ room) (ranges_of d start joined) → All (λ (range : Range ℕ). range.end ≤ other_room) (ranges_of o other_start other_joined)
     → ArePaired room other_room pairs
 are_paired d o start other_start joined other_joined room other_room pairs is other_is inside other_inside =
-    pair_up room other_room pairs
+    pair_up (IsPart room) (IsPart other_room) pairs
     (subst (All (IsPart room)) (sym is) (are_parts room (ranges_of d start joined) (forward_ranges d start joined) inside))
     (subst (All (IsPart other_room)) (sym other_is) (are_parts other_room (ranges_of o other_start other_joined) (forward_ranges o other_start other_joined) other_inside))
 
@@ -118,6 +123,10 @@ ranges_alike d o start other_start joined pairs same_shape same_size is other_is
       subst (All (λ range. width range ≡ w)) (sym other_is) (subst (λ (k : ℕ). All (λ range. width range ≡ k) (ranges_of o other_start joined)) same (range_widths o other_start joined)),
     )
 
+-- the ranges of each pair are as long where all on both sides are
+pub pairs_as_long : (w : ℕ) (pairs : List (Range ℕ × Range ℕ)) → All (λ range. width range ≡ w) (firsts pairs) → All (λ range. width range ≡ w) (seconds pairs) → AreAsLong pairs
+pairs_as_long w pairs one other = λ k d below. let both = pair_up (λ range. width range ≡ w) (λ range. width range ≡ w) pairs one other k d below in both.0 ∙ sym both.1
+
 -- ---- bytes, range by range
 
 length_in : (bytes : List ℕ) (range : Range ℕ) → IsPart (length bytes) range → length (bytes_in bytes range) ≡ width range
@@ -139,10 +148,17 @@ ranges_compared bytes other w (pair ∷ pairs) are one two =
 
 -- ---- items, one by one
 
-items_compared : (r s : ItemReader) (bytes other : List ℕ) (pairs : List (Range ℕ × Range ℕ))
-    → same_items_of r s bytes other pairs ≡ same_items (map (λ range. read_by r (bytes_in bytes range)) (firsts pairs)) (map (λ range. read_by s (bytes_in other range)) (seconds pairs))
+-- what bytes of an item's size are read as by the text of a format, however they are read
+abbrev pub IsReading : (List ℕ → Item) → List ℕ → ℕ → Type 0
+IsReading read format size = (bytes : List ℕ) → length bytes ≡ size → read bytes ≡ item_by format bytes
+
+abbrev pub same_read_in : (List ℕ → Item) → (List ℕ → Item) → List ℕ → List ℕ → Range ℕ × Range ℕ → Bool
+same_read_in r s bytes other pair = same_item (r (bytes_in bytes pair.0)) (s (bytes_in other pair.1))
+
+items_compared : (r s : List ℕ → Item) (bytes other : List ℕ) (pairs : List (Range ℕ × Range ℕ))
+    → list_all (same_read_in r s bytes other) pairs ≡ same_items (map (λ range. r (bytes_in bytes range)) (firsts pairs)) (map (λ range. s (bytes_in other range)) (seconds pairs))
 items_compared r s bytes other [] = refl
-items_compared r s bytes other (pair ∷ pairs) = ap (λ (t : Bool). same_items_in r s bytes other pair && t) (items_compared r s bytes other pairs)
+items_compared r s bytes other (pair ∷ pairs) = ap (λ (t : Bool). same_read_in r s bytes other pair && t) (items_compared r s bytes other pairs)
 
 untrue : (b : Bool) → (b ≡ true → ⊥) → b ≡ false
 untrue true denied = absurd (denied refl)
@@ -172,31 +188,69 @@ single_ranges d start layout stands counted =
     ap (λ (ranges : List (Range ℕ)). if product (shape_of d.dims) == 0 then [] else ranges) found
     ∙ chosen_ranges (product (shape_of d.dims)) (map (λ s. range_at d.itemsize (pos s)) layout.starts) long
 
-ranges_read : (r : ItemReader) (text : List ℕ) (size : ℕ) (bytes starts : List ℕ) → ReadsAs r text size → All (λ start. start + size ≤ length bytes) starts
-    → map (λ range. read_by r (bytes_in bytes range)) (map (λ s. range_at size (pos s)) starts) ≡ items_from text bytes size starts
+ranges_read : (r : List ℕ → Item) (text : List ℕ) (size : ℕ) (bytes starts : List ℕ) → IsReading r text size → All (λ start. start + size ≤ length bytes) starts
+    → map (λ range. r (bytes_in bytes range)) (map (λ s. range_at size (pos s)) starts) ≡ items_from text bytes size starts
 ranges_read r text size bytes [] reads inside = refl
 ranges_read r text size bytes (s ∷ starts) reads inside =
     let long = length-bytes_at bytes size s (All-head (λ x. x + size ≤ length bytes) s starts inside) in
     let whole : (s + size) - s ≡ size = omega arith in
     ap₂ (λ (item : Item) (items : List Item). item ∷ items)
-    (ap (λ (n : ℕ). read_by r (take n (drop s bytes))) whole ∙ reads (bytes_at bytes size s) long)
+    (ap (λ (n : ℕ). r (take n (drop s bytes))) whole ∙ reads (bytes_at bytes size s) long)
     (ranges_read r text size bytes starts reads (All-tail (λ x. x + size ≤ length bytes) s starts inside))
 
-layout_read : (d : Descriptor) (start : ℕ) (layout : Layout) (r : ItemReader) (bytes : List ℕ) (ranges : List (Range ℕ)) → Stands d start layout → HasItemsOfItsShape layout → ReadsAs r layout.format layout.itemsize → LiesInside (length bytes) layout
-    → ranges ≡ ranges_of d (pos start) 0 → map (λ range. read_by r (bytes_in bytes range)) ranges ≡ items_of_layout bytes layout
+layout_read : (d : Descriptor) (start : ℕ) (layout : Layout) (r : List ℕ → Item) (bytes : List ℕ) (ranges : List (Range ℕ)) → Stands d start layout → HasItemsOfItsShape layout → IsReading r layout.format layout.itemsize → LiesInside (length bytes) layout
+    → ranges ≡ ranges_of d (pos start) 0 → map (λ range. r (bytes_in bytes range)) ranges ≡ items_of_layout bytes layout
 layout_read d start layout r bytes ranges stands counted reads inside is =
-    ap (map (λ range. read_by r (bytes_in bytes range)))
+    ap (map (λ range. r (bytes_in bytes range)))
     (is ∙ single_ranges d start layout stands counted ∙ ap (λ (size : ℕ). map (λ s. range_at size (pos s)) layout.starts) stands.itemsize)
     ∙ ranges_read r layout.format layout.itemsize bytes layout.starts reads inside
+
+read_walked : (d o : Descriptor) (start other_start : ℕ) (layout other_layout : Layout) (r s : List ℕ → Item) (bytes other : List ℕ) (pairs : List (Range ℕ × Range ℕ))
+    → Stands d start layout → Stands o other_start other_layout → HasItemsOfItsShape layout → HasItemsOfItsShape other_layout
+    → IsReading r layout.format layout.itemsize → IsReading s other_layout.format other_layout.itemsize → LiesInside (length bytes) layout → LiesInside (length other) other_layout
+    → firsts pairs ≡ ranges_of d (pos start) 0 → seconds pairs ≡ ranges_of o (pos other_start) 0
+    → list_all (same_read_in r s bytes other) pairs ≡ same_items (items_of_layout bytes layout) (items_of_layout other other_layout)
+read_walked d o start other_start layout other_layout r s bytes other pairs stands other_stands counted other_counted reads other_reads inside other_inside is other_is =
+    items_compared r s bytes other pairs
+    ∙ ap₂ same_items (layout_read d start layout r bytes (firsts pairs) stands counted reads inside is) (layout_read o other_start other_layout s other (seconds pairs) other_stands other_counted other_reads other_inside other_is)
 
 pub items_walked : (d o : Descriptor) (start other_start : ℕ) (layout other_layout : Layout) (r s : ItemReader) (bytes other : List ℕ) (pairs : List (Range ℕ × Range ℕ))
     → Stands d start layout → Stands o other_start other_layout → HasItemsOfItsShape layout → HasItemsOfItsShape other_layout
     → ReadsAs r layout.format layout.itemsize → ReadsAs s other_layout.format other_layout.itemsize → LiesInside (length bytes) layout → LiesInside (length other) other_layout
     → firsts pairs ≡ ranges_of d (pos start) 0 → seconds pairs ≡ ranges_of o (pos other_start) 0
     → same_items_of r s bytes other pairs ≡ same_items (items_of_layout bytes layout) (items_of_layout other other_layout)
-items_walked d o start other_start layout other_layout r s bytes other pairs stands other_stands counted other_counted reads other_reads inside other_inside is other_is =
-    items_compared r s bytes other pairs
-    ∙ ap₂ same_items (layout_read d start layout r bytes (firsts pairs) stands counted reads inside is) (layout_read o other_start other_layout s other (seconds pairs) other_stands other_counted other_reads other_inside other_is)
+items_walked d o start other_start layout other_layout r s bytes other pairs = read_walked d o start other_start layout other_layout (read_by r) (read_by s) bytes other pairs
+
+-- ---- numbers
+
+abbrev number_item : Bool → List ℕ → Item
+number_item signed bytes = item.One (scalar.Int (number false signed bytes))
+
+pub numbers_walked : (d o : Descriptor) (start other_start : ℕ) (layout other_layout : Layout) (signed other_signed : Bool) (bytes other : List ℕ) (pairs : List (Range ℕ × Range ℕ))
+    → Stands d start layout → Stands o other_start other_layout → HasItemsOfItsShape layout → HasItemsOfItsShape other_layout
+    → ReadsAsNumber signed layout.format layout.itemsize → ReadsAsNumber other_signed other_layout.format other_layout.itemsize → LiesInside (length bytes) layout → LiesInside (length other) other_layout
+    → firsts pairs ≡ ranges_of d (pos start) 0 → seconds pairs ≡ ranges_of o (pos other_start) 0
+    → same_numbers_of signed other_signed bytes other pairs ≡ same_items (items_of_layout bytes layout) (items_of_layout other other_layout)
+numbers_walked d o start other_start layout other_layout signed other_signed bytes other pairs stands other_stands counted other_counted reads other_reads =
+    read_walked d o start other_start layout other_layout (number_item signed) (number_item other_signed) bytes other pairs stands other_stands counted other_counted (λ xs long. sym (reads xs long)) (λ xs long. sym (other_reads xs long))
+
+single_widths : (size : ℕ) (starts : List ℕ) → All (λ range. width range ≡ size) (map (λ s. range_at size (pos s)) starts)
+single_widths size [] = All-nil (λ (range : Range ℕ). width range ≡ size)
+single_widths size (s ∷ starts) =
+    All-cons (λ (range : Range ℕ). width range ≡ size) (range_at size (pos s)) (map (λ x. range_at size (pos x)) starts) (let same : (s + size) - s ≡ size = omega arith in same) (single_widths size starts)
+
+item_widths : (d : Descriptor) (start : ℕ) (layout : Layout) (ranges : List (Range ℕ)) → Stands d start layout → HasItemsOfItsShape layout → ranges ≡ ranges_of d (pos start) 0
+    → All (λ range. width range ≡ layout.itemsize) ranges
+item_widths d start layout ranges stands counted is =
+    subst (λ (size : ℕ). All (λ range. width range ≡ size) ranges) stands.itemsize
+    (subst (All (λ range. width range ≡ d.itemsize)) (sym (is ∙ single_ranges d start layout stands counted)) (single_widths d.itemsize layout.starts))
+
+pub numbers_sized : (d o : Descriptor) (start other_start : ℕ) (layout other_layout : Layout) (pairs : List (Range ℕ × Range ℕ))
+    → Stands d start layout → Stands o other_start other_layout → HasItemsOfItsShape layout → HasItemsOfItsShape other_layout
+    → firsts pairs ≡ ranges_of d (pos start) 0 → seconds pairs ≡ ranges_of o (pos other_start) 0 → HaveSizes layout.itemsize other_layout.itemsize pairs
+numbers_sized d o start other_start layout other_layout pairs stands other_stands counted other_counted is other_is =
+    pair_up (λ range. width range ≡ layout.itemsize) (λ range. width range ≡ other_layout.itemsize) pairs
+    (item_widths d start layout (firsts pairs) stands counted is) (item_widths o other_start other_layout (seconds pairs) other_stands other_counted other_is)
 
 -- ---- steps of the loops
 
@@ -229,6 +283,13 @@ rows_paired stays d o start other_start layout other_layout bytes other pairs ar
     are_paired d o (pos start) (pos other_start) joined joined (length bytes) (length other) pairs is other_is
     (stays d start joined layout (length bytes) are.placed (joined_of_one d o) are.stands are.inside)
     (stays o other_start joined other_layout (length other) are.other_placed (joined_of_other d o) are.other_stands are.other_inside)
+
+pub rows_as_long : (d o : Descriptor) (start other_start : ℕ) (layout other_layout : Layout) (pairs : List (Range ℕ × Range ℕ)) → Stands d start layout → Stands o other_start other_layout
+    → layout.shape ≡ other_layout.shape → layout.itemsize ≡ other_layout.itemsize
+    → firsts pairs ≡ ranges_of d (pos start) (joined_count_of_both d o true) → seconds pairs ≡ ranges_of o (pos other_start) (joined_count_of_both d o true) → AreAsLong pairs
+rows_as_long d o start other_start layout other_layout pairs stands other_stands shape size is other_is =
+    let alike = ranges_alike d o (pos start) (pos other_start) (joined_count_of_both d o true) pairs (stands.shape ∙ shape ∙ sym other_stands.shape) (stands.itemsize ∙ size ∙ sym other_stands.itemsize) is other_is in
+    pairs_as_long alike.0 pairs alike.1 alike.2
 
 pub items_paired : RangesStayInside → (d o : Descriptor) (start other_start : ℕ) (layout other_layout : Layout) (bytes other : List ℕ) (pairs : List (Range ℕ × Range ℕ)) → AreWalked d o start other_start layout other_layout bytes other
     → firsts pairs ≡ ranges_of d (pos start) 0 → seconds pairs ≡ ranges_of o (pos other_start) 0 → ArePaired (length bytes) (length other) pairs

@@ -10,7 +10,9 @@ ghost use Rattle.pybuf_equality.specs.Reading.{ReadsAs};
 ghost use Rattle.pybuf_equality.specs.Walks.{IsPart, ArePaired, same_items_of};
 
 use crate::exact::is_exact_reader;
+use crate::number_rows::equal_numbers_of;
 use crate::raw::equal_bytes;
+use crate::signs::number_sign;
 use pybuf_desc::ZipSegments;
 use pybuf_memoryview::{ItemReader, KeptLayout, read_by, reader_of};
 use pybuf_value::{Made, item_eq};
@@ -99,10 +101,70 @@ fn has_same_format(layout: &KeptLayout, other: &KeptLayout) -> bool
     layout.format_text().as_slice() == other.format_text().as_slice()
 }
 
+/// Whether the numbers of two sides have one sign and one size.
+fn has_same_numbers(signed: bool, size: usize, other_signed: bool, other_size: usize) -> bool
+    ensures sign { result ≡ true → signed ≡ other_signed }
+    ensures size { result ≡ true → size ≡ other_size }
+{
+    if size != other_size {
+        return false;
+    }
+    signed == other_signed
+}
+
+/// The items of two views of one shape, each side by a reader of its own. Where both sides are numbers whose
+/// first byte is worth least, no item is made of them: those of one sign and size are equal where their bytes
+/// are, and else they are read row by row.
+fn equal_as_read(
+    alloc: Global,
+    reader: &ItemReader,
+    bytes: &[u8],
+    layout: &KeptLayout,
+    other_reader: &ItemReader,
+    other: &[u8],
+    other_layout: &KeptLayout,
+) -> Made<bool>
+    requires inside { LiesInside (length bytes.now) layout.now }
+    requires other_inside { LiesInside (length other.now) other_layout.now }
+    requires same_shape { layout.now.shape ≡ other_layout.now.shape }
+    requires counted { HasItemsOfItsShape layout.now }
+    requires other_counted { HasItemsOfItsShape other_layout.now }
+    requires spelled { IsSpelledBy layout.now.format reader.now }
+    requires reads { ReadsAs reader.now layout.now.format layout.now.itemsize }
+    requires other_reads { ReadsAs other_reader.now other_layout.now.format other_layout.now.itemsize }
+    ensures { IfOk result (λ answer. answer ≡ same_items (items_of_layout bytes.now layout.now) (items_of_layout other.now other_layout.now)) }
+{
+    pybuf_value::item_equality_is_equivalence();
+    pybuf_struct::writes_what_was_read();
+    let (size, other_size) = (layout.itemsize(), other_layout.itemsize());
+    match (
+        number_sign(reader, size),
+        number_sign(other_reader, other_size),
+    ) {
+        (Some(signed), Some(other_signed)) => {
+            if has_same_numbers(signed, size, other_signed, other_size) {
+                if is_exact_reader(reader, size) {
+                    return Ok(equal_bytes(bytes, layout, other, other_layout));
+                }
+            }
+            Ok(equal_numbers_of(bytes, layout, signed, other, other_layout, other_signed))
+        }
+        _ => equal_by_readers(
+            alloc,
+            reader,
+            bytes,
+            layout,
+            other_reader,
+            other,
+            other_layout,
+        ),
+    }
+}
+
 /// Whether the items of two views of one shape are equal, each read by its own format.
 ///
 /// Where the formats have one text, by which bytes can be told apart, the bytes are compared as they
-/// lie. Else the format of each side is read once, and the items one by one.
+/// lie. Else the format of each side is read once, and the items by it.
 pub(crate) fn equal_items(
     alloc: Global,
     bytes: &[u8],
@@ -126,7 +188,7 @@ pub(crate) fn equal_items(
         }
     }
     let other_reader = reader_of(alloc, other_layout.format_text(), other_layout.itemsize())?;
-    equal_by_readers(
+    equal_as_read(
         alloc,
         &reader,
         bytes,

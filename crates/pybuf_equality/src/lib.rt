@@ -6,9 +6,15 @@ mod equality;
 mod exact;
 mod items;
 mod laws;
+mod number_rows;
+mod numbers;
+mod pieces;
 mod raw;
 mod shapes;
+mod signs;
+mod tracks;
 mod view_and_bytes;
+mod words;
 
 pub use equality::equal_views;
 pub use laws::{

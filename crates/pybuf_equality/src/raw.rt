@@ -4,9 +4,11 @@ ghost use Rattle.pybuf_desc.specs.Contiguous.{is_contiguous_layout};
 ghost use Rattle.pybuf_desc.specs.Items.{content_of_layout};
 ghost use Rattle.pybuf_desc.specs.Layouts.{LiesInside};
 ghost use Rattle.pybuf_desc.specs.Segments.{bytes_in};
-ghost use Rattle.pybuf_equality.specs.Walks.{IsPart, ArePaired, same_ranges};
+ghost use Rattle.pybuf_desc.specs.SegmentLines.{IsLine};
+ghost use Rattle.pybuf_equality.specs.Walks.{IsPart, ArePaired, AreAsLong, pairs_of_lines, same_ranges};
 
-use pybuf_desc::ZipSegments;
+use crate::pieces::equal_pieces;
+use pybuf_desc::{SegmentLine, ZipSegments};
 use pybuf_memoryview::{KeptLayout, first_place};
 use std::ops::Range;
 
@@ -22,7 +24,7 @@ fn equal_ranges(bytes: &[u8], range: Range<usize>, other: &[u8], other_range: Ra
 }
 
 /// Whether the bytes at the ranges of each pair are the same. The first difference ends it.
-fn equal_pairs(bytes: &[u8], other: &[u8], mut pairs: ZipSegments<'_>) -> bool
+fn equal_single_pairs(bytes: &[u8], other: &[u8], mut pairs: ZipSegments<'_>) -> bool
     requires { ArePaired (length bytes.now) (length other.now) pairs }
     ensures { result ≡ same_ranges bytes.now other.now pairs.entry }
 {
@@ -32,6 +34,34 @@ fn equal_pairs(bytes: &[u8], other: &[u8], mut pairs: ZipSegments<'_>) -> bool
         }
     }
     true
+}
+
+/// The same of the ranges of two rows, in one loop.
+fn equal_lines(bytes: &[u8], line: SegmentLine, other: &[u8], other_line: SegmentLine) -> bool
+    requires line { IsLine line }
+    requires other_line { IsLine other_line }
+    requires as_many { line.count ≡ other_line.count }
+    requires paired { ArePaired (length bytes.now) (length other.now) (pairs_of_lines line other_line) }
+    requires as_long { AreAsLong (pairs_of_lines line other_line) }
+    ensures { result ≡ same_ranges bytes.now other.now (pairs_of_lines line other_line) }
+{
+    let (track, other_track) = (line.track, other_line.track);
+    equal_pieces(bytes, track, other, other_track, line.size, line.count)
+}
+
+/// The same of each pair, row by row, as long as both walks are at the start of a row and these are as long.
+/// Walks over two views of one shape are so to their end; what else there is would go pair by pair.
+fn equal_pairs(bytes: &[u8], other: &[u8], mut pairs: ZipSegments<'_>) -> bool
+    requires paired { ArePaired (length bytes.now) (length other.now) pairs }
+    requires as_long { AreAsLong pairs }
+    ensures { result ≡ same_ranges bytes.now other.now pairs.entry }
+{
+    while let Some((line, other_line)) = pairs.next_lines() {
+        if !equal_lines(bytes, line, other, other_line) {
+            return false;
+        }
+    }
+    equal_single_pairs(bytes, other, pairs)
 }
 
 /// The same of two views whose items lie one after the other: their bytes are two slices.
@@ -52,7 +82,7 @@ fn equal_runs(bytes: &[u8], layout: &KeptLayout, other: &[u8], other_layout: &Ke
 }
 
 /// The same of any two views of one shape, by their blocks where the items of these have no gap, and
-/// else by their items.
+/// else by their items: a row of either in one loop.
 fn equal_rows(bytes: &[u8], layout: &KeptLayout, other: &[u8], other_layout: &KeptLayout) -> bool
     requires inside { LiesInside (length bytes.now) layout.now }
     requires other_inside { LiesInside (length other.now) other_layout.now }

@@ -25,6 +25,15 @@ pub fn drawn(alloc: Global, seed: u64, size: usize) -> Made<Vec<u8>> {
     Ok(bytes)
 }
 
+/// Numbers of two bytes as numbers of four.
+pub fn widened(alloc: Global, narrow: &[u8]) -> Made<Vec<u8>> {
+    let mut wide = Vec::with_capacity(alloc, narrow.len().saturating_mul(2))?;
+    for k in 0..narrow.len() / 2 {
+        wide.extend_from_slice(&[narrow[2 * k], narrow[2 * k + 1], 0, 0])?;
+    }
+    Ok(wide)
+}
+
 /// The byte of a text that a drawn byte stands for: mostly letters from `a` to `w`, and some capital
 /// letters, blanks, commas and line ends.
 fn letter_of(drawn: u8) -> u8 {

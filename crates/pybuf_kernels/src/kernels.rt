@@ -37,7 +37,7 @@ pub enum Work {
 }
 
 /// All kernels, in the order in which they are measured. `z` and `cba` stand nowhere in a drawn text.
-pub const KERNELS: [(&str, Work); 56] = [
+pub const KERNELS: [(&str, Work); 58] = [
     (
         "tobytes-contiguous",
         Work::Views(Doing::ToBytes(Part::Whole)),
@@ -96,6 +96,8 @@ pub const KERNELS: [(&str, Work); 56] = [
     ("queue-drawn", Work::DrawnQueue),
     ("compare", Work::Views(Doing::Compare)),
     ("compare-beside", Work::Beside(Question::Compare)),
+    ("compare-reversed", Work::Beside(Question::CompareReversed)),
+    ("compare-codes", Work::Beside(Question::CompareCodes)),
     ("find-byte", Work::Call(Method::Find(b"z"))),
     ("find-three", Work::Call(Method::Find(b"cba"))),
     ("find-end", Work::Call(Method::FindEnd)),

@@ -1,7 +1,7 @@
 //! Commands of a world, by which one object's bytes are read beside another's.
 
 use crate::answers::{Answer, mark_of_bytes};
-use crate::data::{drawn, drawn_text};
+use crate::data::{drawn, drawn_text, widened};
 use crate::kernel::Kernel;
 use crate::keys::{handle, number, slice, text};
 use crate::plan::Plan;
@@ -18,6 +18,10 @@ pub enum Question {
     Set(Part),
     /// Whether a view of the first equals a view of the second.
     Compare,
+    /// The same of a view from the last byte on of each.
+    CompareReversed,
+    /// The same of numbers of `H` in the first and of `i` in the second.
+    CompareCodes,
     /// Where the bytes of the second stand in the first.
     Find,
     /// The bytes of both, added.
@@ -70,6 +74,13 @@ fn set(subject: u64, key: Value, source: u64) -> Command {
     ask(subject, Verb::Set { key, value })
 }
 
+/// Whether what a handle names equals what another names.
+fn compare(subject: u64, other: u64) -> Command {
+    let other = handle(other);
+    let op = CompareOp::Eq;
+    ask(subject, Verb::Compare { op, other })
+}
+
 /// A method of handle 0, called with handle 3.
 fn call(alloc: Global, name: MethodName) -> Made<Command> {
     let mut args = ValueList::new(alloc);
@@ -83,11 +94,22 @@ fn pick(world: &mut World, subject: u64, key: Value) -> Made<()> {
     prepare(world, ask(subject, Verb::Get { key }))
 }
 
+/// Makes a handle of what a handle names, with items of another format or in a shape.
+fn cast(
+    alloc: Global,
+    world: &mut World,
+    subject: u64,
+    format: &str,
+    shape: Option<Value>,
+) -> Made<()> {
+    let format = text(alloc, format)?;
+    prepare(world, ask(subject, Verb::Cast { format, shape }))
+}
+
 /// Makes handle 4, which is handle 3 in planes of so many bytes.
 fn cast_to_planes(alloc: Global, world: &mut World, size: usize) -> Made<()> {
-    let format = text(alloc, "B")?;
     let shape = Some(planes_of(alloc, size)?);
-    prepare(world, ask(3, Verb::Cast { format, shape }))
+    cast(alloc, world, 3, "B", shape)
 }
 
 /// Makes the part of handle 3 that is assigned: handle 4, or 5 where it is one of planes.
@@ -102,6 +124,22 @@ fn make_part(alloc: Global, world: &mut World, plan: Plan, part: Part) -> Made<(
     }
 }
 
+/// Makes handles 4 and 5, which are handles 1 and 3 from the last byte on.
+fn make_reversed(world: &mut World) -> Made<()> {
+    pick(world, 1, Part::Backwards.key())?;
+    pick(world, 3, Part::Backwards.key())
+}
+
+/// Makes handles 4 and 5, of the same numbers: of `H` in the first object, and of `i` in the second.
+fn make_codes(alloc: Global, world: &mut World, plan: Plan) -> Made<()> {
+    let narrow = drawn(alloc, plan.seed, plan.size / 2)?;
+    let wide = widened(alloc, narrow.as_slice())?;
+    make(world, 0, narrow)?;
+    make(world, 2, wide)?;
+    cast(alloc, world, 1, "H", None)?;
+    cast(alloc, world, 3, "i", None)
+}
+
 /// Makes all handles. What is assigned is drawn, and else the bytes of both are the same text.
 fn make_all(alloc: Global, world: &mut World, plan: Plan, question: Question) -> Made<()> {
     if let Question::Set(part) = question {
@@ -113,8 +151,15 @@ fn make_all(alloc: Global, world: &mut World, plan: Plan, question: Question) ->
         make(world, 2, drawn(alloc, plan.seed, part.source_size(plan))?)?;
         return make_part(alloc, world, plan, part);
     }
+    if let Question::CompareCodes = question {
+        return make_codes(alloc, world, plan);
+    }
     make(world, 0, drawn_text(alloc, plan.seed, plan.size)?)?;
-    make(world, 2, drawn_text(alloc, plan.seed, plan.size)?)
+    make(world, 2, drawn_text(alloc, plan.seed, plan.size)?)?;
+    if let Question::CompareReversed = question {
+        return make_reversed(world);
+    }
+    Ok(())
 }
 
 /// The assignment of a part. A slice of a view takes one dimension alone, so planes are assigned to a slice of a
@@ -134,11 +179,8 @@ fn command_of(alloc: Global, plan: Plan, question: Question) -> Made<Command> {
         Question::Set(part) => Ok(set_part(plan, part)),
         Question::Find => call(alloc, MethodName::Find),
         Question::Add => call(alloc, MethodName::Add),
-        Question::Compare => {
-            let other = handle(3);
-            let op = CompareOp::Eq;
-            Ok(ask(1, Verb::Compare { op, other }))
-        }
+        Question::Compare => Ok(compare(1, 3)),
+        Question::CompareReversed | Question::CompareCodes => Ok(compare(4, 5)),
         Question::Contains => {
             let value = number(b'z' as usize);
             Ok(ask(0, Verb::Contains { value }))

@@ -2,7 +2,7 @@ use Rattle.std.proofs.Common.{◌≡◌, ℕ, List, true, ap, sym, ◌∙◌, su
 use Rattle.pybuf_memoryview.specs.Readers.{IsSpelledBy}
 use Rattle.pybuf_equality.specs.Exact.{is_exact_reader}
 use Rattle.pybuf_equality.specs.Reading.{ReadsAs}
-use Rattle.pybuf_equality.proofs.Apart.{exact_views, are_bytes}
+use Rattle.pybuf_equality.proofs.Apart.{exact_views, one_text, are_bytes}
 use Rattle.pybuf_equality.proofs.items.equal_items.Goals as goal
 
 pub returns-then-is_exact_reader : goal.returns-then-is_exact_reader
@@ -16,4 +16,4 @@ returns-then-is_exact_reader c =
     c.equal_bytes.ensures
     ∙ exact_views c.item_equality_is_equivalence.ensures c.writes_what_was_read.ensures reader c.args.bytes.now c.args.other.now c.args.layout.now c.args.other_layout.now spelled reads exact
     (are_bytes c.args.bytes.now c.type_inv.bytes) (are_bytes c.args.other.now c.type_inv.other) c.requires.counted c.requires.other_counted c.requires.same_shape
-    (c.has_same_format.ensures.text c.if-has_same_format.true) (c.has_same_format.ensures.size c.if-has_same_format.true) c.requires.inside c.requires.other_inside
+    (one_text c.args.layout.now.format c.args.other_layout.now.format c.args.layout.now.itemsize (c.has_same_format.ensures.text c.if-has_same_format.true)) (c.has_same_format.ensures.size c.if-has_same_format.true) c.requires.inside c.requires.other_inside

@@ -1,0 +1,134 @@
+//! The bytes of items that lie apart, compared item by item.
+ghost use Rattle.std.specs.Prelude.{◌≡◌, ◌+◌, ◌*◌, ◌<◌, ◌≤◌, ◌^◌, length, take, drop, bytes_eq, IsTrue};
+ghost use Rattle.pybuf_apart.specs.Apart.{place_of, AreInside};
+ghost use Rattle.pybuf_struct.specs.Digits.{is_width};
+ghost use Rattle.pybuf_equality.specs.Tracks.{all_below, same_piece};
+
+use crate::tracks::place;
+use crate::words::word;
+use pybuf_apart::Track;
+
+/// Whether two items have the same bytes.
+#[inline]
+fn equal_words<const SIZE: usize>(bytes: &[u8], at: usize, other: &[u8], there: usize) -> bool
+    requires width { IsTrue (is_width SIZE) }
+    requires inside { at + SIZE ≤ length bytes.now }
+    requires other_inside { there + SIZE ≤ length other.now }
+    ensures { result ≡ bytes_eq (take SIZE (drop at bytes.now)) (take SIZE (drop there other.now)) }
+{
+    word::<SIZE>(bytes, at) == word::<SIZE>(other, there)
+}
+
+/// The same of items of any size.
+fn equal_spans(bytes: &[u8], at: usize, other: &[u8], there: usize, size: usize) -> bool
+    requires inside { at + size ≤ length bytes.now }
+    requires other_inside { there + size ≤ length other.now }
+    ensures { result ≡ bytes_eq (take size (drop at bytes.now)) (take size (drop there other.now)) }
+{
+    let run = &bytes[at..at + size];
+    let other_run = &other[there..there + size];
+    run == other_run
+}
+
+/// Compares items of a size that is known when this is compiled.
+fn equal_sized<const SIZE: usize, const FALLS: bool, const OTHER_FALLS: bool>(
+    bytes: &[u8],
+    track: Track,
+    other: &[u8],
+    other_track: Track,
+    count: usize,
+) -> bool
+    requires width { IsTrue (is_width SIZE) }
+    requires inside { AreInside FALLS track.start track.step count SIZE (length bytes.now) }
+    requires other_inside { AreInside OTHER_FALLS other_track.start other_track.step count SIZE (length other.now) }
+    ensures { result ≡ all_below (same_piece bytes.now (place_of FALLS track.start track.step) other.now (place_of OTHER_FALLS other_track.start other_track.step) SIZE) count }
+{
+    for k in 0..count {
+        let at = place::<FALLS>(track, k);
+        let there = place::<OTHER_FALLS>(other_track, k);
+        if !equal_words::<SIZE>(bytes, at, other, there) {
+            return false;
+        }
+    }
+    true
+}
+
+/// Compares items of any size.
+fn equal_unsized<const FALLS: bool, const OTHER_FALLS: bool>(
+    bytes: &[u8],
+    track: Track,
+    other: &[u8],
+    other_track: Track,
+    size: usize,
+    count: usize,
+) -> bool
+    requires some_size { 0 < size }
+    requires inside { AreInside FALLS track.start track.step count size (length bytes.now) }
+    requires other_inside { AreInside OTHER_FALLS other_track.start other_track.step count size (length other.now) }
+    ensures { result ≡ all_below (same_piece bytes.now (place_of FALLS track.start track.step) other.now (place_of OTHER_FALLS other_track.start other_track.step) size) count }
+{
+    for k in 0..count {
+        let at = place::<FALLS>(track, k);
+        let there = place::<OTHER_FALLS>(other_track, k);
+        if !equal_spans(bytes, at, other, there, size) {
+            return false;
+        }
+    }
+    true
+}
+
+/// Compares items, with the loop for their size.
+fn equal_by_size<const FALLS: bool, const OTHER_FALLS: bool>(
+    bytes: &[u8],
+    track: Track,
+    other: &[u8],
+    other_track: Track,
+    size: usize,
+    count: usize,
+) -> bool
+    requires some_size { 0 < size }
+    requires inside { AreInside FALLS track.start track.step count size (length bytes.now) }
+    requires other_inside { AreInside OTHER_FALLS other_track.start other_track.step count size (length other.now) }
+    ensures { result ≡ all_below (same_piece bytes.now (place_of FALLS track.start track.step) other.now (place_of OTHER_FALLS other_track.start other_track.step) size) count }
+{
+    match size {
+        1 => equal_sized::<1, FALLS, OTHER_FALLS>(bytes, track, other, other_track, count),
+        2 => equal_sized::<2, FALLS, OTHER_FALLS>(bytes, track, other, other_track, count),
+        4 => equal_sized::<4, FALLS, OTHER_FALLS>(bytes, track, other, other_track, count),
+        8 => equal_sized::<8, FALLS, OTHER_FALLS>(bytes, track, other, other_track, count),
+        _ => equal_unsized::<FALLS, OTHER_FALLS>(bytes, track, other, other_track, size, count),
+    }
+}
+
+/// Whether each of so many items of a size has the same bytes as the item of its number on the other
+/// side. The first difference ends it. Takes no memory.
+pub(crate) fn equal_pieces(
+    bytes: &[u8],
+    track: Track,
+    other: &[u8],
+    other_track: Track,
+    size: usize,
+    count: usize,
+) -> bool
+    requires inside { AreInside track.falls track.start track.step count size (length bytes.now) }
+    requires other_inside { AreInside other_track.falls other_track.start other_track.step count size (length other.now) }
+    ensures { result ≡ all_below (same_piece bytes.now (place_of track.falls track.start track.step) other.now (place_of other_track.falls other_track.start other_track.step) size) count }
+{
+    if size == 0 {
+        return true;
+    }
+    match (track.falls, other_track.falls) {
+        (false, false) => {
+            equal_by_size::<false, false>(bytes, track, other, other_track, size, count)
+        }
+        (false, true) => {
+            equal_by_size::<false, true>(bytes, track, other, other_track, size, count)
+        }
+        (true, false) => {
+            equal_by_size::<true, false>(bytes, track, other, other_track, size, count)
+        }
+        (true, true) => {
+            equal_by_size::<true, true>(bytes, track, other, other_track, size, count)
+        }
+    }
+}
