@@ -8,8 +8,11 @@ mod gate;
 mod joined;
 mod laws;
 mod logged;
+mod resolving;
+mod running;
 mod session;
 mod shared;
+mod worker;
 
 pub use entries::{Entry, EntryList, LocalCommandList, Receipt, ReceiptList, ScriptList};
 pub use gate::{Gate, OpenGate};
@@ -18,5 +21,6 @@ pub use laws::{
     joined_entries_are_the_scripts, legal_histories_are_of_one_thread, receipts_are_the_entries,
 };
 pub use logged::Logged;
+pub use running::run_sessions;
 pub use session::Session;
 pub use shared::SharedExporter;
