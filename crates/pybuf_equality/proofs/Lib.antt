@@ -10,3 +10,4 @@ pub mod Below
 pub mod Spelled
 pub mod Rows
 pub mod Numeric
+pub mod Turned

@@ -1,5 +1,5 @@
 //! The bytes of items that lie apart, compared item by item.
-ghost use Rattle.std.specs.Prelude.{◌≡◌, ◌+◌, ◌*◌, ◌<◌, ◌≤◌, ◌^◌, length, take, drop, bytes_eq, IsTrue};
+ghost use Rattle.std.specs.Prelude.{◌≡◌, ◌+◌, ◌*◌, ◌<◌, ◌≤◌, ◌^◌, length, take, drop, bytes_eq, true, IsTrue};
 ghost use Rattle.pybuf_apart.specs.Apart.{place_of, AreInside};
 ghost use Rattle.pybuf_struct.specs.Digits.{is_width};
 ghost use Rattle.pybuf_equality.specs.Tracks.{all_below, same_piece};
@@ -100,6 +100,37 @@ fn equal_by_size<const FALLS: bool, const OTHER_FALLS: bool>(
     }
 }
 
+/// Whether items of a size lie one after the other, from the last on.
+fn is_turned(track: Track, size: usize) -> bool
+    ensures falls { result ≡ true → track.falls ≡ true }
+    ensures step { result ≡ true → track.step ≡ size }
+{
+    if !track.falls {
+        return false;
+    }
+    track.step == size
+}
+
+/// Compares items that lie so on both sides, as two runs of bytes: each item is beside that of its number
+/// there too.
+fn equal_turned(
+    bytes: &[u8],
+    start: usize,
+    other: &[u8],
+    other_start: usize,
+    size: usize,
+    count: usize,
+) -> bool
+    requires some_size { 0 < size }
+    requires some { 0 < count }
+    requires inside { AreInside true start size count size (length bytes.now) }
+    requires other_inside { AreInside true other_start size count size (length other.now) }
+    ensures { result ≡ all_below (same_piece bytes.now (place_of true start size) other.now (place_of true other_start size) size) count }
+{
+    let back = (count - 1) * size;
+    equal_spans(bytes, start - back, other, other_start - back, back + size)
+}
+
 /// Whether each of so many items of a size has the same bytes as the item of its number on the other
 /// side. The first difference ends it. Takes no memory.
 pub(crate) fn equal_pieces(
@@ -116,6 +147,14 @@ pub(crate) fn equal_pieces(
 {
     if size == 0 {
         return true;
+    }
+    if count == 0 {
+        return true;
+    }
+    if is_turned(track, size) {
+        if is_turned(other_track, size) {
+            return equal_turned(bytes, track.start, other, other_track.start, size, count);
+        }
     }
     match (track.falls, other_track.falls) {
         (false, false) => {
