@@ -169,6 +169,15 @@ pub(crate) fn format(alloc: Global, draw: &mut Draw) -> Made<Value> {
     }
 }
 
+/// What a view's shape may be, if it is given: of few dimensions, mostly.
+pub(crate) fn shape(alloc: Global, draw: &mut Draw) -> Made<Option<Value>> {
+    match draw.below(6) {
+        0 => Ok(Some(value(alloc, draw)?)),
+        1 | 2 => Ok(Some(Value::Tuple(scalars(alloc, draw)?))),
+        _ => Ok(None),
+    }
+}
+
 /// A value that may be left out.
 pub(crate) fn value_or_none(alloc: Global, draw: &mut Draw) -> Made<Option<Value>> {
     match draw.below(2) {

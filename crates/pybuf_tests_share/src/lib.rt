@@ -5,6 +5,8 @@
 #[cfg(test)]
 mod appending;
 #[cfg(test)]
+mod drawing;
+#[cfg(test)]
 mod drawn;
 #[cfg(test)]
 mod draws;

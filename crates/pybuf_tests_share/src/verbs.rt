@@ -1,6 +1,6 @@
 //! Drawn verbs, all of them.
 
-use crate::draws::{Draw, byte, format, key, place, source, value, value_or_none, values};
+use crate::draws::{Draw, byte, format, key, place, shape, source, value_or_none, values};
 use pybuf_command::{ByteInnerNewOptions, MethodCall, MethodName, PropertyName, Verb};
 use pybuf_value::{CompareOp, Made, Scalar, Value};
 use std::alloc::Global;
@@ -107,23 +107,22 @@ pub(crate) fn call(alloc: Global, draw: &mut Draw) -> Made<Verb> {
     })
 }
 
-/// A new view or a new iterator.
+/// A new view of what a view has.
 pub(crate) fn making(alloc: Global, draw: &mut Draw) -> Made<Verb> {
-    match draw.below(8) {
+    match draw.below(7) {
         0 => Ok(Verb::ToReadonly),
         1 => Ok(Verb::Range {
             from: place(draw),
             to: place(draw),
         }),
-        2 => {
+        2 | 3 => {
             let format = format(alloc, draw)?;
-            let shape = value_or_none(alloc, draw)?;
+            let shape = shape(alloc, draw)?;
             Ok(Verb::Cast { format, shape })
         }
-        3 => Ok(Verb::Get {
+        4 | 5 => Ok(Verb::Get {
             key: key(alloc, draw)?,
         }),
-        4 | 5 => Ok(Verb::Iter),
         _ => Ok(Verb::View),
     }
 }
@@ -206,21 +205,21 @@ pub(crate) fn writing(alloc: Global, draw: &mut Draw) -> Made<Verb> {
 
 /// What adds bytes.
 fn adding(alloc: Global, draw: &mut Draw) -> Made<Verb> {
-    match draw.below(6) {
-        0 => Ok(Verb::Extend {
+    match draw.below(12) {
+        0..=2 => Ok(Verb::Extend {
             value: source(alloc, draw)?,
         }),
-        1 => Ok(Verb::IAdd {
+        3..=5 => Ok(Verb::IAdd {
             value: source(alloc, draw)?,
         }),
-        2 => {
+        6 | 7 => {
             let value = byte(alloc, draw)?;
             Ok(Verb::Insert {
                 index: place(draw),
                 value,
             })
         }
-        3 => init(alloc, draw),
+        8 => init(alloc, draw),
         _ => Ok(Verb::Append {
             value: byte(alloc, draw)?,
         }),
@@ -229,24 +228,36 @@ fn adding(alloc: Global, draw: &mut Draw) -> Made<Verb> {
 
 /// How often bytes are repeated: at most twice, so that they don't grow without end.
 fn repeating(draw: &mut Draw) -> Verb {
+    let count = match draw.below(8) {
+        0 => 0,
+        1 | 2 => 2,
+        _ => 1,
+    };
     Verb::IMul {
-        count: Value::One(Scalar::Int(draw.below(4) as i128 % 3)),
+        count: Value::One(Scalar::Int(count)),
+    }
+}
+
+/// What takes all bytes out, of a bytearray or of a vector.
+fn emptying(draw: &mut Draw) -> Verb {
+    match draw.below(2) {
+        0 => Verb::Clear,
+        _ => Verb::Take,
     }
 }
 
 /// What takes bytes out.
 fn taking(alloc: Global, draw: &mut Draw) -> Made<Verb> {
-    match draw.below(9) {
-        0 => Ok(Verb::Clear),
-        1 => Ok(Verb::Take),
-        2 | 3 => Ok(Verb::Pop { index: None }),
-        4 => Ok(Verb::Pop {
+    match draw.below(16) {
+        0 => Ok(emptying(draw)),
+        1..=6 => Ok(Verb::Pop { index: None }),
+        7 | 8 => Ok(Verb::Pop {
             index: Some(place(draw)),
         }),
-        5 => Ok(Verb::Remove {
+        9 | 10 => Ok(Verb::Remove {
             value: byte(alloc, draw)?,
         }),
-        6 => Ok(repeating(draw)),
+        11 | 12 => Ok(repeating(draw)),
         _ => Ok(Verb::Del {
             key: key(alloc, draw)?,
         }),
