@@ -14,11 +14,12 @@ use std::test::Fail;
 use std::thread::Threads;
 
 /// Lets all sessions begin together, and go on together when all have released their views. Nothing fails where they
-/// don't come together.
+/// don't come together; then nobody waits any more.
 #[derive(Drop)]
 struct Together {
     begun: Count,
     released: Count,
+    missed: Count,
 }
 
 impl Together {
@@ -26,22 +27,25 @@ impl Together {
         Together {
             begun: Count::new(),
             released: Count::new(),
+            missed: Count::new(),
         }
     }
-}
 
-fn come_together(count: &Count) {
-    count.add(1);
-    let _ = count.comes_to(SESSIONS);
+    fn come(&self, count: &Count) {
+        count.add(1);
+        if self.missed.value() == 0 && !count.comes_to(SESSIONS) {
+            self.missed.add(1);
+        }
+    }
 }
 
 impl Gate for Together {
     fn before(&self, _session: u64, turn: u64) {
         if turn == 0 {
-            come_together(&self.begun);
+            self.come(&self.begun);
         }
         if turn == NO_VIEWS {
-            come_together(&self.released);
+            self.come(&self.released);
         }
     }
 
