@@ -7,7 +7,7 @@ use std::thread;
 const LOOKS: u64 = 100_000_000;
 
 /// After so many looks another thread is let run.
-const LOOKS_AT_ONCE: u64 = 1_000_000;
+const LOOKS_AT_ONCE: u64 = 100_000;
 
 /// A number that only grows.
 #[derive(Drop)]
