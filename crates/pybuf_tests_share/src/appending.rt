@@ -176,7 +176,10 @@ fn all_scripts(alloc: Global) -> Made<ScriptList>
 
 fn by_scripts<R: Threads + Wait + Sync>(rt: &R, alloc: Global) -> Made<usize> {
     let scripts = all_scripts(alloc)?;
-    if scripts.is_empty() || scripts.len() > SESSIONS {
+    if scripts.is_empty() {
+        return Ok(0);
+    }
+    if scripts.len() > SESSIONS {
         return Ok(0);
     }
     let answer = run_sessions(
