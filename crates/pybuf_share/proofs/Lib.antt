@@ -2,6 +2,8 @@ pub mod Faults
 pub mod Follows
 pub mod Joins
 pub mod Replays
+pub mod Runs
 pub mod Scripts
 pub mod Sessions
 pub mod Theirs
+pub mod Works

@@ -101,6 +101,7 @@ fn check_receipts(alloc: Global, entries: &[Entry], receipts: &[Receipt]) -> Res
     ensures err { IfErr result (λ f. spec.Disagrees entries.now receipts.now f) }
 {
     for receipt in receipts {
+        // an `if let` and no `?`, since the proof of the fault is of this arm
         if let Err(fault) = check_receipt(alloc, entries, receipt) {
             return Err(fault);
         }
@@ -118,6 +119,7 @@ pub(crate) fn check_sessions<L: Ledger>(
     ensures err { IfErr result (λ f. spec.Disagrees entries.now (spec.receipts_of sessions.now) f) }
 {
     for session in sessions {
+        // an `if let` and no `?`, since the proof of the fault is of this arm
         if let Err(fault) = check_receipts(alloc, entries, session.receipts()) {
             return Err(fault);
         }

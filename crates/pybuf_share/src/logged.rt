@@ -274,6 +274,7 @@ impl<L: Ledger> Logged<L> {
         if let Some(fault) = order_fault(sessions) {
             return Err(fault);
         }
+        // a match, since the proof of each clause is of its own arm
         match check_sessions(self.alloc, self.history.as_slice(), sessions) {
             Ok(()) => Ok(()),
             Err(fault) => Err(fault),

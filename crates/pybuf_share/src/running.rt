@@ -89,8 +89,7 @@ fn workers_of<L: Ledger>(
     let mut left = scripts.into_vec().into_iter();
     for session in sessions {
         if let Some(script) = left.next() {
-            let number = session.number();
-            workers.push(Worker::new(session, script, number))?;
+            workers.push(Worker::new(session, script))?;
         }
     }
     Ok(workers)

@@ -144,6 +144,7 @@ impl<L: Ledger> SharedExporter<L> {
             alloc: _,
             locked,
         } = self;
+        // a match, since the proof of each clause is of its own arm
         match locked.into_inner().join(kind, opening, sessions) {
             Ok(joined) => Ok(joined),
             Err(fault) => Err(fault),

@@ -38,10 +38,10 @@ impl<L: Ledger> Worker<L> {
     ghost use Rattle.pybuf_share.specs.Working.{ScriptFits, HasDone, new_work, post_of};
 
     /// A new session before its script.
-    pub(crate) fn new(session: Session<L>, script: LocalCommandList, number: u64) -> Worker<L>
-        requires new { session ≡ new_session number }
+    pub(crate) fn new(session: Session<L>, script: LocalCommandList) -> Worker<L>
+        requires new { session ≡ new_session session.number }
         requires fit { ScriptFits script }
-        ensures { result ≡ new_work number script }
+        ensures { result ≡ new_work session.number script }
     {
         Worker {
             session,
