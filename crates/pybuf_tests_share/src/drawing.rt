@@ -196,7 +196,7 @@ pub(crate) fn scripts(alloc: Global, seed: u64) -> Made<ScriptList>
 {
     let mut draw = Draw::new(seed);
     let mut scripts = ScriptList::new(alloc);
-    for _ in 0..SESSIONS {
+    for _session in 0..SESSIONS {
         let script = script(alloc, &mut draw)?;
         scripts.push(script)?;
     }
