@@ -1,5 +1,5 @@
 -- What sessions that have carried out their scripts make of a history.
-use Rattle.std.proofs.Common.{◌≡◌, ℕ, zero, suc, ◌+◌, ◌<◌, ◌≤◌, Bool, true, false, nat_lt, List, [], ◌∷◌, ◌++◌, length, map, get_or, drop, Option, Some, None, slice_get, if◌then◌else◌, refl, ap, sym, ◌∙◌, arith, subst}
+use Rattle.std.proofs.Common.{◌≡◌, ℕ, zero, suc, ◌+◌, ◌<◌, ◌≤◌, Bool, true, false, nat_lt, List, [], ◌∷◌, ◌++◌, length, map, get_or, drop, Option, Some, None, slice_get, Result, Ok, Err, IfOk, IfErr, if◌then◌else◌, refl, ap, sym, ◌∙◌, arith, subst}
 use Rattle.std.specs.List.{All, sum_by}
 use Rattle.std.proofs.lemmas.List.Elements.{All-nil, All-cons, All-head, All-tail, All-append}
 use Rattle.std.proofs.lemmas.List.Sums.{sum_by-cons}
@@ -11,6 +11,7 @@ use Rattle.pybuf_share.specs.declared.entries.Receipt.{Receipt}
 use Rattle.pybuf_share.specs.declared.joined.FinishFault.{FinishFault}
 use Rattle.pybuf_share.specs.declared.joined.FinishFault.TheVariants as fault
 use Rattle.pybuf_share.specs.declared.joined.Joined.{Joined}
+use Rattle.pybuf_share.specs.History.{Opening}
 use Rattle.pybuf_share.specs.Sessions.{Asker, sessions_from}
 use Rattle.pybuf_share.specs.Finishing.{numbers_from, AreAll, parts_of, receipts_of, first_fall, order_fault, order_fault_or, IsJoined, ArePlain, AreTheirs, RefusesAtLast}
 use Rattle.pybuf_share.specs.Joining.{entries_of, Follows}
@@ -47,7 +48,7 @@ scripts_before k [] = refl
 scripts_before k (script ∷ scripts) = ap (λ (l : List (List LocalCommand)). script ∷ l) (scripts_before (suc k) scripts)
 
 -- the scripts are the same after
-pub scripts_after : (scripts : List (List LocalCommand)) (ws : List Work) → map post_of ws ≡ map post_of (works_from 0 scripts) → map (λ w. w.script) ws ≡ scripts
+scripts_after : (scripts : List (List LocalCommand)) (ws : List Work) → map post_of ws ≡ map post_of (works_from 0 scripts) → map (λ w. w.script) ws ≡ scripts
 scripts_after scripts ws posts = scripts_by ws ∙ ap (λ (ps : List Post). map (λ (p : Post). p.script) ps) posts ∙ sym (scripts_by (works_from 0 scripts)) ∙ scripts_before 0 scripts
 
 -- as many sessions have done their scripts as there are scripts
@@ -58,7 +59,7 @@ many_done (script ∷ scripts) [] done = absurd done
 many_done (script ∷ scripts) (s ∷ ss) done = let rest = many_done scripts ss done.1 in omega (arith, rest)
 
 -- and the sessions are still all
-pub still_all : (parts : ℕ) (scripts : List (List LocalCommand)) (ws : List Work) (made ss : List Asker) → made ≡ sessions_from 0 (length scripts) → AreAll parts made → map post_of ws ≡ map post_of (works_from 0 scripts) → ss ≡ map (λ w. w.asker) ws
+still_all : (parts : ℕ) (scripts : List (List LocalCommand)) (ws : List Work) (made ss : List Asker) → made ≡ sessions_from 0 (length scripts) → AreAll parts made → map post_of ws ≡ map post_of (works_from 0 scripts) → ss ≡ map (λ w. w.asker) ws
     → HaveDone scripts ss → AreAll parts ss
 still_all parts scripts ws made ss made_is all posts are done =
     let before = works_from 0 scripts in
@@ -121,7 +122,7 @@ followed scripts ss entries numbers done theirs i script is =
     subst (λ (xs : List Entry). Follows xs script) (sym own ∙ ap (λ (n : ℕ). entries_of n entries) number) at.done.follows
 
 -- what is put together of them
-pub is_run : (k : ExporterKind) (bytes : List ℕ) (scripts : List (List LocalCommand)) (ss : List Asker) (parts : ℕ) (joined : Joined) → AreAll parts ss → HaveDone scripts ss → IsJoined k bytes ss joined → (ArePlain ss → AreTheirs ss joined.entries)
+is_run : (k : ExporterKind) (bytes : List ℕ) (scripts : List (List LocalCommand)) (ss : List Asker) (parts : ℕ) (joined : Joined) → AreAll parts ss → HaveDone scripts ss → IsJoined k bytes ss joined → (ArePlain ss → AreTheirs ss joined.entries)
     → IsRun k bytes scripts joined
 is_run k bytes scripts ss parts joined all done joined_of theirs_of =
     let plain = all_plain scripts ss done in
@@ -199,7 +200,7 @@ all_of_scripts whole k (script ∷ scripts) (s ∷ ss) at are done =
     )
 
 -- why nothing is put together
-pub is_not_run : (k : ExporterKind) (bytes : List ℕ) (scripts : List (List LocalCommand)) (ss : List Asker) (parts : ℕ) (f : FinishFault) → AreAll parts ss → HaveDone scripts ss → RefusesAtLast (record { kind = k; bytes = bytes }) ss f → IsNotRun k bytes scripts f
+is_not_run : (k : ExporterKind) (bytes : List ℕ) (scripts : List (List LocalCommand)) (ss : List Asker) (parts : ℕ) (f : FinishFault) → AreAll parts ss → HaveDone scripts ss → RefusesAtLast (record { kind = k; bytes = bytes }) ss f → IsNotRun k bytes scripts f
 is_not_run k bytes scripts ss parts fault.NoMemory all done why = tt
 is_not_run k bytes scripts ss parts (fault.Opening given_kind given kept_kind kept) all done why = why
 is_not_run k bytes scripts ss parts (fault.Order session before after) all done why =
@@ -211,3 +212,24 @@ is_not_run k bytes scripts ss parts (fault.Disagree at kept got) all done why =
     let each : All P (receipts_of ss) = all_of_scripts scripts 0 scripts ss (λ i script is. let same : i ≡ 0 + i = omega arith in ap (λ (n : ℕ). slice_get scripts n) (sym same) ∙ is) all.numbers done in
     let here : P why.receipt = All-head P why.receipt why.later (All-behind P why.earlier (why.receipt ∷ why.later) (subst (λ (rs : List Receipt). All P rs) why.are each)) in
     record { of_scripts = subst (λ (x : Entry). IsOfScripts scripts x) (sym why.shown) here; differs = why.differs }
+
+-- the sessions of all workers at the end
+pub record AreReady (parts : ℕ) (scripts : List (List LocalCommand)) (ss : List Asker) : Type 0 where
+  pub all : AreAll parts ss
+  pub done : HaveDone scripts ss
+
+pub ready : (parts : ℕ) (scripts : List (List LocalCommand)) (ws : List Work) (made ss : List Asker) → made ≡ sessions_from 0 (length scripts) → AreAll parts made → map post_of ws ≡ map post_of (works_from 0 scripts) → ss ≡ map (λ w. w.asker) ws
+    → HaveDone (map (λ w. w.script) ws) ss → AreReady parts scripts ss
+ready parts scripts ws made ss made_is all posts are done =
+    let whole : HaveDone scripts ss = subst (λ (l : List (List LocalCommand)). HaveDone l ss) (scripts_after scripts ws posts) done in
+    record { all = still_all parts scripts ws made ss made_is all posts are whole; done = whole }
+
+pub ok_run : (o : Opening) (k : ExporterKind) (bytes : List ℕ) (scripts : List (List LocalCommand)) (ss : List Asker) (parts : ℕ) (r : Result Joined FinishFault) → o ≡ record { kind = k; bytes = bytes } → AreReady parts scripts ss → IfOk r (λ j. IsJoined o.kind o.bytes ss j)
+    → (ArePlain ss → IfOk r (λ j. AreTheirs ss j.entries)) → IfOk r (λ j. IsRun k bytes scripts j)
+ok_run o k bytes scripts ss parts (Ok j) is are joined theirs = is_run k bytes scripts ss parts j are.all are.done (subst (λ (p : Opening). IsJoined p.kind p.bytes ss j) is joined) theirs
+ok_run o k bytes scripts ss parts (Err f) is are joined theirs = tt
+
+pub err_run : (o : Opening) (k : ExporterKind) (bytes : List ℕ) (scripts : List (List LocalCommand)) (ss : List Asker) (parts : ℕ) (r : Result Joined FinishFault) → o ≡ record { kind = k; bytes = bytes } → AreReady parts scripts ss → IfErr r (λ f. RefusesAtLast o ss f)
+    → IfErr r (λ f. IsNotRun k bytes scripts f)
+err_run o k bytes scripts ss parts (Ok j) is are why = tt
+err_run o k bytes scripts ss parts (Err f) is are why = is_not_run k bytes scripts ss parts f are.all are.done (subst (λ (p : Opening). RefusesAtLast p ss f) is why)

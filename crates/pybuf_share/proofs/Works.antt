@@ -84,6 +84,10 @@ session_here ss n i s are low read =
     let same : 0 + i ≡ i = omega arith in
     read ∙ ap (λ (l : List Asker). get_or l i s) are ∙ session_at 0 n i s within ∙ ap new_session same
 
+pub many_works : (k : ℕ) (scripts : List (List LocalCommand)) → length (works_from k scripts) ≡ length scripts
+many_works k [] = refl
+many_works k (script ∷ scripts) = let rest = many_works (suc k) scripts in omega (arith, rest)
+
 works_behind : (k : ℕ) (scripts : List (List LocalCommand)) (script : List LocalCommand) → works_from k (scripts ++ script ∷ []) ≡ works_from k scripts ++ new_work (k + length scripts) script ∷ []
 works_behind k [] script = let same : k ≡ k + 0 = omega arith in ap (λ (n : ℕ). new_work n script ∷ []) same
 works_behind k (x ∷ scripts) script =
