@@ -44,7 +44,7 @@ fn number(draw: &mut Draw) -> i128 {
 fn bytes(alloc: Global, draw: &mut Draw) -> Made<ByteList> {
     let mut bytes = ByteList::new(alloc);
     for _ in 0..draw.below(5) {
-        bytes.push(b'a'.wrapping_add(draw.below(5) as u8))?;
+        bytes.push(b'a'.wrapping_add((draw.below(5) % 256) as u8))?;
     }
     Ok(bytes)
 }
