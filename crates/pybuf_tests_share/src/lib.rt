@@ -3,10 +3,24 @@
 #![tactic(auto)]
 
 #[cfg(test)]
+mod appending;
+#[cfg(test)]
+mod drawing;
+#[cfg(test)]
+mod drawn;
+#[cfg(test)]
+mod draws;
+#[cfg(test)]
 mod finishing;
 #[cfg(test)]
+mod flags;
+#[cfg(test)]
 mod histories;
+#[cfg(test)]
+mod meetings;
 #[cfg(test)]
 mod scripts;
 #[cfg(test)]
 mod shared;
+#[cfg(test)]
+mod verbs;
