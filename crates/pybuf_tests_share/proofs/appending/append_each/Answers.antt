@@ -12,4 +12,4 @@ returns g c =
     let many : c.args.sessions.len ≡ length ys = search rules in
     let numbers : (i : ℕ) (d : Asker) → i < length xs → (get_or ys i d).number ≡ (get_or xs i d).number = λ i d within. (let at = (c.for_each_mut.ensures i d (search rules)).1 in search rules) in
     let shares : (i : ℕ) (d : Asker) → i < length xs → (get_or ys i d).parts ≡ (get_or xs i d).parts = λ i d within. (let at = (c.for_each_mut.ensures i d (search rules)).1 in search rules) in
-    subst (λ l. AreAll g.L.parts l) (sym (all_taken ys (drop (length ys) xs) c.args.sessions.len many)) (all_kept g.L.parts xs ys len numbers shares c.requires)
+    subst (λ l. AreAll g.L.Ledger.parts l) (sym (all_taken ys (drop (length ys) xs) c.args.sessions.len many)) (all_kept g.L.Ledger.parts xs ys len numbers shares c.requires)
