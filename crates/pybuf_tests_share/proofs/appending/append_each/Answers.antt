@@ -1,4 +1,4 @@
-use Rattle.std.proofs.Common.{rules, ◌≡◌, ◌<◌, ◌++◌, ℕ, List, length, take, drop, get_or, sym, subst}
+use Rattle.std.proofs.Common.{rules, ◌≡◌, ◌<◌, ℕ, List, length, drop, get_or, sym, subst}
 use Rattle.pybuf_share.specs.Sessions.{Asker}
 use Rattle.pybuf_share.specs.Finishing.{AreAll}
 use Rattle.pybuf_tests_share.proofs.Kept.{all_kept, all_taken}
