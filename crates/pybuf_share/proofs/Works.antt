@@ -1,11 +1,14 @@
 -- Workers that are made one after the other, and what their sessions show.
 use Rattle.std.proofs.Common.{◌≡◌, ◌⊎◌, ℕ, zero, suc, ◌+◌, ◌<◌, ◌≤◌, true, List, [], ◌∷◌, ◌++◌, length, map, take, drop, get_or, refl, ap, ap₂, sym, ◌∙◌, arith, subst, inl, inr}
+use denote.Ref.{MutBor}
+use denote.Param.Members.{Shared}
 use Rattle.std.specs.List.{All}
+use Rattle.std.specs.Fork.{ChangesEach}
 use Rattle.std.proofs.lemmas.Bool.{cases_lt}
 use Rattle.std.proofs.lemmas.List.{map_push, take_more, drop_more, length-take-le, length-drop}
 use Rattle.pybuf_command.specs.declared.commands.LocalCommand.{LocalCommand}
 use Rattle.pybuf_share.specs.Sessions.{Asker, new_session, sessions_from}
-use Rattle.pybuf_share.specs.Working.{Work, HasDone, HaveDone, post_of, works_from, new_work}
+use Rattle.pybuf_share.specs.Working.{Work, HasDone, HaveDone, Post, post_of, works_from, new_work}
 
 -- one more session that has carried out its script
 have_done_more : (scripts : List (List LocalCommand)) (ss : List Asker) (script : List LocalCommand) (s : Asker) → HaveDone scripts ss → HasDone script s → HaveDone (scripts ++ script ∷ []) (ss ++ s ∷ [])
@@ -28,6 +31,13 @@ posts_stay [] [] len each = refl
 posts_stay [] (y ∷ ys) len each = absurd (omega (arith, len))
 posts_stay (x ∷ xs) [] len each = absurd (omega (arith, len))
 posts_stay (x ∷ xs) (y ∷ ys) len each = ap₂ (λ p ps. p ∷ ps) (each 0 x (omega arith)) (posts_stay xs ys (omega (arith, len)) (λ i d within. each (suc i) d (omega (arith, within))))
+
+-- the same of workers that are each handed to a call which keeps them at their post
+pub calls_keep_posts : {F : Type 0} (g : Shared F (ℕ × (MutBor Work × Unit {0})) ((Unit {0}) × (MutBor Work × Unit {0}))) (f : F) (xs ys : List Work) → length ys ≡ length xs
+    → ((i : ℕ) (before after : MutBor Work) → g.post f (i, (before, tt)) (tt, (after, tt)) → post_of after.now ≡ post_of before.now)
+    → ChangesEach g f xs ys → map post_of ys ≡ map post_of xs
+calls_keep_posts g f xs ys len one all =
+    posts_stay xs ys len (λ i d within. (let at = (all i d within).1 in ap post_of (sym at.left) ∙ one i at.argument at.after_call at.call ∙ ap post_of at.argument_is))
 
 -- what was written back of a whole list
 taken : (ys zs : List Work) → take (length ys) (ys ++ zs) ≡ ys
