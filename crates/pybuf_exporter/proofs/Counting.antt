@@ -158,6 +158,11 @@ pub where_refused : (P : Type 0) (row : Row) (old new : Exporter) (a : Result Lo
 where_refused P row old new (Ok r) answers refused holds = absurd (true≢false (sym (subst IsErr answers refused)))
 where_refused P row old new (Err h) answers refused holds = holds
 
+-- what holds of a command that leaves the length
+pub still_by : (P Q : Type 0) (a : Result LocalReply Halt) → OnOk a (P → Q) → P → OnOk a Q
+still_by P Q (Ok r) then holds = then holds
+still_by P Q (Err h) then holds = then
+
 -- in either case few bytes are moved
 pub few_moved : (a : Result LocalReply Halt) (before after most : ℕ) → OnOk a (after ≤ before + most) → OnErr a (after ≡ before) → after ≤ before + most
 few_moved (Ok r) before after most done gone = done

@@ -10,7 +10,7 @@ use Rattle.pybuf_command.specs.declared.commands.LocalCommand.{LocalCommand}
 use Rattle.pybuf_command.specs.Handles.{handles_read}
 use Rattle.pybuf_state.specs.Exporter.{Exporter}
 use Rattle.pybuf_state.specs.Loans.{Lent, lent_for_each}
-use Rattle.pybuf_rows_edits.specs.Counting.{taken_places, TakesFirst, grows_at_end}
+use Rattle.pybuf_rows_edits.specs.Counting.{taken_places, TakesFirst, grows_at_end, can_leave_length}
 use Rattle.pybuf_rows_edits.specs.Edits.{is_edit}
 use Rattle.pybuf_exporter.specs.Step.{answer_of}
 use Rattle.pybuf_exporter.specs.Stored.{StoredExporter}
@@ -27,6 +27,11 @@ abbrev pub grows_by : Subject → Verb → List Lent → Bool
 grows_by subject.Own v lents = grows_at_end v lents
 grows_by _ v lents = false
 
+-- whether a command is an edit that can leave the length as it is
+abbrev pub leaves_by : Subject → Verb → List Lent → Bool
+leaves_by subject.Own v lents = can_leave_length v lents
+leaves_by _ v lents = false
+
 -- whether a command is an edit; no other changes the length
 abbrev pub edits_by : Subject → Verb → Bool
 edits_by subject.Own v = is_edit v
@@ -39,6 +44,12 @@ TakesFront c command n = TakesFirst (taken_by c.exporter command.subject command
 abbrev pub GrowsAtEnd : StoredExporter → LocalCommand → Type 0
 GrowsAtEnd c command = grows_by command.subject command.verb (lent_for_each c.exporter command.loans (handles_read command.subject command.verb)) ≡ true
 
+-- the command can leave the length as it is, and does
+abbrev pub LeavesLength : StoredExporter → LocalCommand → StoredExporter → Type 0
+LeavesLength old command new =
+    (leaves_by command.subject command.verb (lent_for_each old.exporter command.loans (handles_read command.subject command.verb)) ≡ true)
+    × (length new.exporter.bytes ≡ length old.exporter.bytes)
+
 -- what a command answers, by its row
 abbrev pub answer_to : StoredExporter → LocalCommand → Result (Exporter × LocalReply) Fault
 answer_to c command = answer_of c.exporter command.subject command.verb command.loans
@@ -49,13 +60,16 @@ answer_to c command = answer_of c.exporter command.subject command.verb command.
 -- Taking the first n bytes out moves nothing, and leaves n bytes more of room. Where bytes are added at the end,
 -- the rise of the counter and the room after are together at most the room before, and afterwards there is no
 -- room or less than there are bytes. Any command moves at most as many bytes as there are before and after
--- together. One that is refused, and one that is no edit, leaves counter and room.
+-- together. One that doesn't resize leaves counter and room: one that is refused, one that is no edit, and an edit
+-- that can leave the length as it is, and does.
 pub record Moves (old : StoredExporter) (command : LocalCommand) (before : ℕ) (new : StoredExporter) (after : ℕ) : Type 0 where
   pub front_counter : (n : ℕ) → TakesFront old command n → IsOk (answer_to old command) → after ≡ before
   pub front_room : (n : ℕ) → TakesFront old command n → IsOk (answer_to old command) → new.room ≡ old.room + n
   pub end_counter : GrowsAtEnd old command → IsOk (answer_to old command) → after + new.room ≤ before + old.room
   pub end_spare : GrowsAtEnd old command → IsOk (answer_to old command) → (new.room ≡ 0) ⊎ (new.room < length new.exporter.bytes)
   pub few : after ≤ before + (length old.exporter.bytes + length new.exporter.bytes)
+  pub still_counter : LeavesLength old command new → IsOk (answer_to old command) → after ≡ before
+  pub still_room : LeavesLength old command new → IsOk (answer_to old command) → new.room ≡ old.room
   pub refused_counter : IsErr (answer_to old command) → after ≡ before
   pub refused_room : IsErr (answer_to old command) → new.room ≡ old.room
   pub kept_counter : edits_by command.subject command.verb ≡ false → after ≡ before
