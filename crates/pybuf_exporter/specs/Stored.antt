@@ -16,3 +16,7 @@ stored_of p = record { exporter = exporter_of p; room = p.bytes.room }
 -- these bytes, without room, and nothing made of them
 abbrev pub new_stored : ExporterKind → List ℕ → StoredExporter
 new_stored kind bytes = record { exporter = new_exporter kind bytes; room = 0 }
+
+-- the same exporter without room
+abbrev pub without_room : StoredExporter → StoredExporter
+without_room s = record s { room = 0 }

@@ -580,8 +580,9 @@ impl ExporterState {
 // A copy is the same exporter, and has no room.
 impl Twin for ExporterState {
     ghost use Rattle.std.specs.Prelude.{◌≡◌};
+    ghost use Rattle.pybuf_exporter.specs.Stored.{without_room};
 
-    ghost same = { λ old twin. (twin.exporter ≡ old.exporter) × (twin.room ≡ 0) };
+    ghost same = { λ old twin. twin ≡ without_room old };
 
     fn copy(&self, alloc: Global) -> Made<ExporterState> {
         let bytes = Store::from_vec(Vec::from_slice(alloc, self.parts.bytes.as_slice())?);
