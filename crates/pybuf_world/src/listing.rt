@@ -1,5 +1,6 @@
 //! The exporters of a world, in a list.
 ghost use Rattle.std.specs.Prelude.{◌≡◌, ◌<◌, ◌++◌, [], ◌∷◌, length, set, slice_get, Some, Ok, Err, OnOk, OnErr, MatchResult};
+ghost use Rattle.std.specs.Option.{option_copied};
 
 use pybuf_exporter::ExporterState;
 use pybuf_value::{Fault, Made};
@@ -22,6 +23,13 @@ impl Model for ExporterList {
     ghost Value = { List Exporter };
 
     ghost view = { λ l. exporters_of l.exporters.items };
+}
+
+/// The exporter of a number among others.
+fn nth(exporters: &[ExporterState], number: usize) -> Option<&ExporterState>
+    ensures { option_copied result ≡ slice_get exporters.now number }
+{
+    exporters.get(number)
 }
 
 impl ExporterList {
@@ -54,7 +62,7 @@ impl ExporterList {
     pub fn get(&self, number: usize) -> Option<&ExporterState>
         ensures { lent_exporter result ≡ slice_get self.now number }
     {
-        self.exporters.get(number)
+        nth(self.exporters.as_slice(), number)
     }
 
     /// Adds an exporter behind all others. Where memory runs out, nothing is changed.
