@@ -54,8 +54,8 @@ one_time n (suc zero) some same = refl
 one_time n (suc (suc t)) some same = let more : n * suc (suc t) ≡ n + (n + n * t) = grind arith in absurd (omega (arith, some, same, more))
 
 pub not_empty : (n : ℕ) (b : Bool) → b ≡ (n == 0) → b ≡ false → 0 < n
-not_empty zero b is no = absurd (cc)
-not_empty (suc n) b is no = omega arith
+not_empty zero b is some = absurd (cc)
+not_empty (suc n) b is some = omega arith
 
 -- another number of times than 1 makes another length of any bytes
 pub other_times : (P : Type 0) (n m t : ℕ) (r : Result LocalReply Halt) → 0 < n → OnOk r (m ≡ n * t) → (t ≡ 1 → ⊥) → OnOk r (m ≡ n → P)

@@ -1,6 +1,5 @@
 use Rattle.std.proofs.Common.{rules, ◌≡◌, ◌≢◌, ◌≤◌, ℕ, List, length, pos, ap, sym, ◌∙◌, arith}
 use Rattle.pybuf_state.specs.Exporter.{Exporter}
-use Rattle.pybuf_state.specs.Answers.{exporter_of}
 use Rattle.pybuf_slice.specs.Edits.{replaced_range}
 use Rattle.pybuf_rows_edits.proofs.Still.{not_as_long}
 use Rattle.pybuf_rows_edits.proofs.replacing.put.Goals as goal
