@@ -11,7 +11,7 @@ use Rattle.pybuf_exporter.proofs.exporter.ExporterState.assign_across.Goals as g
 pub invariant_of-self : goal.invariant_of-self
 invariant_of-self c =
     let old = exporter_of c.self.inside.parts in
-    let lent = snap_of_subject c.args.lender.now (subject.View c.args.source) in
+    let lent = snap_of_subject c.args.lender.now.exporter (subject.View c.args.source) in
     record {
       counted = c.put_from.ensures.counted;
       sound = stays_sound old (exporter_of c.put_from.new.parts) (assign_of_lent old c.args.view c.args.slice.now lent) (result_map_both (λ _. reply.Ok) (λ halt. halt) c.put_from.result) (lent_is_safe c.assign_is_safe.ensures old c.args.view c.args.slice.now lent) c.self.invariant.sound (search rules);
