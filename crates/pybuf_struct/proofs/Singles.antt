@@ -31,7 +31,7 @@ found_by : {X : Type 0} (p : X → Bool) (x : X) (b : Bool) (rest : Option X) (y
 found_by p x true rest y is after found = let same : x ≡ y = cc in subst (λ z. p z ≡ true) same is
 found_by p x false rest y is after found = after found
 
-find_passes : {X : Type 0} (p : X → Bool) (xs : List X) (y : X) → find p xs ≡ Some y → p y ≡ true
+pub find_passes : {X : Type 0} (p : X → Bool) (xs : List X) (y : X) → find p xs ≡ Some y → p y ≡ true
 find_passes p [] y found = absurd cc
 find_passes p (x ∷ xs) y found = found_by p x (p x) (find p xs) y refl (find_passes p xs y) found
 

@@ -13,7 +13,7 @@ use crate::table::{Endianness, FormatType};
 use pybuf_value::{Scalar, number_in};
 
 /// The code of a text that is its letter alone.
-fn single_code(text: &[u8]) -> Option<FormatType>
+pub(crate) fn single_code(text: &[u8]) -> Option<FormatType>
     ensures { result ≡ spec.single_code text.now }
 {
     match text {
