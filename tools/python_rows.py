@@ -2694,8 +2694,7 @@ new bytes x020005
 view h4
 cast h5 '@?'
 cast h1 '@?'
-compare h6 == h2
-compare h6 == h7
+compare h7 == h2
 compare h6 == h1
 compare h6 == h5
 cast h1 'b'

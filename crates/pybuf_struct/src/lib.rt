@@ -20,5 +20,5 @@ pub use laws::{
     writes_what_was_read,
 };
 pub use native::{is_byte_format, native_single_code};
-pub use single::{is_numeric_letter, pack_single, single_size, single_value};
+pub use single::{is_numeric_letter, pack_single, single_value};
 pub use table::{Endianness, FormatType};

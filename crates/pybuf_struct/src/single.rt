@@ -53,19 +53,6 @@ fn value_of(code: FormatType, bytes: &[u8]) -> Scalar
     }
 }
 
-/// The size that the format of a text of one code's letter has. Takes no memory.
-///
-/// None exactly where the text is anything else, for which `FormatSpec::parse` decides.
-#[tactic(auto, using(crate::proofs::Singles::size_of_single))]
-pub fn single_size(text: &[u8]) -> Option<usize>
-    ensures size { IfSome result (λ size. spec.size_by text.now ≡ Ok size) }
-    ensures bound { IfSome result (λ size. size ≤ 8) }
-    ensures none { IfNone result (spec.single_code text.now ≡ None) }
-{
-    let code = single_code(text)?;
-    Some(code.size(Endianness::Native))
-}
-
 /// Whether a text is the letter alone of a code whose value is a whole number or a truth value, and
 /// values of the code have so many bytes. Then `single_value` and `pack_single` decide what its
 /// items are. Takes no memory.
