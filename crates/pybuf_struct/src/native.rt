@@ -50,7 +50,10 @@ impl FormatType {
     pub fn is_byte(self) -> bool
         ensures { result ≡ spec.is_byte_code self }
     {
-        matches!(self, FormatType::SByte | FormatType::UByte | FormatType::Char)
+        matches!(
+            self,
+            FormatType::SByte | FormatType::UByte | FormatType::Char
+        )
     }
 
     /// The bytes of one item of the code alone, as the format that is its letter has them.
