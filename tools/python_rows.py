@@ -1715,10 +1715,24 @@ bytes h0
 NATIVE_FORMATS = [sign + code for code in NATIVE_CODES for sign in ("", "@")]
 
 
-def cast_by_code(formats, shape, other, shapes):
-    """The lines that make a view of 16 bytes by each format, and a slice of it without items, and cast these to each
-    format, in one dimension and in shapes; SIZE and HALF in a shape are the numbers of all items and of half of them. Of
-    what is made of items the list is asked for, and of what is made in a shape the shape."""
+# How a view of 16 bytes is cast: whether of two dimensions, whether of no items, and to which shape. SIZE is the number
+# of all items, HALF of half of them.
+CASTS = [
+    (False, False, ""),
+    (True, False, ""),
+    (False, False, " [SIZE]"),
+    (True, False, " [2,HALF]"),
+    (False, False, " [2,HALF]"),
+    (False, True, ""),
+    (True, False, " [SIZE]"),
+    (False, False, " [0]"),
+    (True, True, ""),
+]
+
+
+def casts_by_code(formats):
+    """The lines that make views by each format, of one dimension and of two, and of no items, and cast these to each
+    format, in each pair another way. Of what is made by a code alone the items are listed."""
     world, lines = World(), []
 
     def reply(line):
@@ -1727,30 +1741,21 @@ def cast_by_code(formats, shape, other, shapes):
 
     reply("new bytes x0180ff7f000110020304a0b0c0d0e0f0")
     reply("view h0")
-    for old in formats:
-        view = reply(f"cast h1 '{old}'{with_items(shape, old)}")
-        for subject, others in ((view, shapes), (reply(f"get {view} 0:0:1"), other)):
-            for new in formats:
-                made = reply(f"cast {subject} '{new}'")
-                if made[0] == "h":
-                    reply(f"tolist {made}")
-                for text in others:
-                    made = reply(f"cast {subject} '{new}'{with_items(text, new)}")
-                    if made[0] == "h":
-                        reply(f"prop {made} shape")
+    for at, old in enumerate(formats):
+        views = {}
+        for is_plane in (False, True):
+            views[is_plane, False] = reply(f"cast h1 '{old}'{' [2,HALF]' * is_plane}".replace("HALF", str(8 // struct.calcsize(old))))
+            views[is_plane, True] = reply(f"get {views[is_plane, False]} 0:0:1")
+        for to, new in enumerate(formats):
+            *subject, shape = CASTS[(at + 2 * to) % len(CASTS)]
+            count = 16 // struct.calcsize(new)
+            made = reply(f"cast {views[tuple(subject)]} '{new}'{shape}".replace("SIZE", str(count)).replace("HALF", str(count // 2)))
+            if made[0] == "h" and new in NATIVE_CODES:
+                reply(f"tolist {made}")
     return "\n".join(lines)
 
 
-def with_items(shape, text):
-    """A shape of 16 bytes by a format."""
-    count = 16 // struct.calcsize(text)
-    return shape.replace("SIZE", str(count)).replace("HALF", str(count // 2))
-
-
-PYTHON += [
-    Case("casts from each native code to each, of one dimension", cast_by_code(NATIVE_FORMATS, "", [" [0]"], [" [SIZE]", " [2,HALF]", " [0]"])),
-    Case("casts from each native code to each, of two dimensions", cast_by_code(NATIVE_FORMATS, " [2,HALF]", [" [0]"], [" [SIZE]", " [2,HALF]"])),
-]
+PYTHON += [Case("casts from each native code to each, of one dimension and of two", casts_by_code(NATIVE_FORMATS))]
 
 
 class Draw:
