@@ -36,12 +36,7 @@ enum Call {
     ToReadOnly(usize),
 }
 
-fn described(
-    alloc: Global,
-    format: &str,
-    count: usize,
-    size: isize,
-) -> Made<BufferDescriptor> {
+fn described(alloc: Global, format: &str, count: usize, size: isize) -> Made<BufferDescriptor> {
     let mut dims = DimList::new(alloc);
     dims.push((count, size, 0))?;
     let format = Text::from_string(String::from_str(alloc, format)?);
@@ -99,7 +94,6 @@ impl Asks for Call {
     type Object = ExporterState;
 
     fn answer(self, state: &mut ExporterState, alloc: Global) -> Made<LocalReply> {
-        let none = LoanList::new(alloc);
         match self {
             Call::New(format, start, count, size) => {
                 let descriptor = described(alloc, format, count, size)?;
@@ -109,24 +103,33 @@ impl Asks for Call {
                 let loans = lend_view(alloc, source)?;
                 PyMemoryView::of(view).setitem(state, slice(1), named(), loans)
             }
-            Call::Backwards(view) => PyMemoryView::of(view).getitem(state, slice(-1), none),
+            Call::Backwards(view) => PyMemoryView::of(view).getitem(
+                state,
+                slice(-1),
+                LoanList::new(alloc),
+            ),
             Call::Equal(view, other) => {
                 let loans = lend_view(alloc, other)?;
                 PyMemoryView::of(view).cmp(state, CompareOp::Eq, named(), loans)
             }
             Call::GetItem(view, index) => {
-                PyMemoryView::of(view).getitem(state, number(index), none)
+                PyMemoryView::of(view).getitem(state, number(index), LoanList::new(alloc))
             }
-            Call::Hash(view) => PyMemoryView::of(view).hash(state, none),
-            Call::Iter(view) => PyMemoryView::of(view).iter(state, none),
+            Call::Hash(view) => PyMemoryView::of(view).hash(state, LoanList::new(alloc)),
+            Call::Iter(view) => PyMemoryView::of(view).iter(state, LoanList::new(alloc)),
             Call::Next(iterator) => PyMemoryViewIterator::of(iterator).next(alloc, state),
             Call::Obj => bytes_reply(alloc, state.bytes()),
             Call::SetBytes(view, index, value) => {
                 let value = bytes(alloc, value)?;
-                PyMemoryView::of(view).setitem(state, number(index), value, none)
+                PyMemoryView::of(view).setitem(state, number(index), value, LoanList::new(alloc))
             }
             Call::SetItem(view, index, value) => {
-                PyMemoryView::of(view).setitem(state, number(index), number(value), none)
+                PyMemoryView::of(view).setitem(
+                    state,
+                    number(index),
+                    number(value),
+                    LoanList::new(alloc),
+                )
             }
             Call::SetView(view, index, source) => {
                 let loans = lend_view(alloc, source)?;
@@ -136,8 +139,11 @@ impl Asks for Call {
                 let loans = lend_own(alloc)?;
                 PyMemoryView::of(view).setitem(state, number(index), named(), loans)
             }
-            Call::ToList(view) => PyMemoryView::of(view).tolist(state, none),
-            Call::ToReadOnly(view) => PyMemoryView::of(view).toreadonly(state, none),
+            Call::ToList(view) => PyMemoryView::of(view).tolist(state, LoanList::new(alloc)),
+            Call::ToReadOnly(view) => PyMemoryView::of(view).toreadonly(
+                state,
+                LoanList::new(alloc),
+            ),
         }
     }
 }
@@ -149,7 +155,7 @@ const RECORDS: &[u8] = b"\x01\xff\x02\x00\x03\xfe\x04\x00\x01\x00\x02\x00\x03\xe
 /// formats, which its C API makes, are compared and iterated. By hand, since Python refuses it: what is assigned by a
 /// slice, an item of bytes that is written from a view or its object, and the bytes that are hashed.
 const ANSWERED: [(Call, &str); 55] = [
-(Call::New("BH", 0, 2, 4), "v0"),
+    (Call::New("BH", 0, 2, 4), "v0"),
     (Call::GetItem(0, 0), "( 1 2 )"),
     (Call::SetItem(0, 0, 7), "TypeError"),
     (Call::New("BH", 8, 2, 4), "v1"),
@@ -190,7 +196,10 @@ const ANSWERED: [(Call, &str); 55] = [
     (Call::GetItem(9, 3), "b'\\x03abc'"),
     (Call::Assign(0, 1), "None"),
     (Call::Assign(0, 7), "ValueError"),
-    (Call::Obj, "b'\\x01\\x00\\x02\\x00\\x03abc\\x01\\x00\\x02\\x00\\x03abc'"),
+    (
+        Call::Obj,
+        "b'\\x01\\x00\\x02\\x00\\x03abc\\x01\\x00\\x02\\x00\\x03abc'",
+    ),
     (Call::New("4s", 12, 1, 4), "v11"),
     (Call::SetView(9, 0, 11), "None"),
     (Call::SetObj(9, 2), "None"),
