@@ -16,10 +16,11 @@ import sys
 
 sys.dont_write_bytecode = True
 
-from python_objects import NATIVE_CODES, OPERATORS, AsWritten, Items, Reply, row_major, value_of
+from python_objects import NATIVE_CODES, OPERATORS, AsWritten, Reply, value_of
 
 WORD = 2**63
 ABSENT = object()
+BYTE_CODES = ("b", "B", "c")
 CODECS = ("utf-8", "utf8", "ascii")
 EDITS = "append extend iadd insert pop remove clear reverse imul init copy".split()
 ITERATING = "iter next hint setstate".split()
@@ -131,7 +132,7 @@ class Ours(AsWritten):
         """The bytes that a value is read as, which an iterator never is."""
         if isinstance(value, (int, str)) or hasattr(value, "__next__"):
             raise TypeError("no bytes")
-        return value.tobytes() if isinstance(value, (memoryview, Items)) else bytes(value)
+        return value.tobytes() if isinstance(value, memoryview) else bytes(value)
 
     def byte(self, value):
         return bytes([value])
@@ -246,8 +247,7 @@ class Ours(AsWritten):
         return not view.nbytes or all(entries < 2 or stride == kept for entries, stride, kept in zip(view.shape, self.strides[handle], row_major(view)))
 
     def do_view(self, handle, subject):
-        made = subject.alike(subject.memory[:], subject.live()) if isinstance(subject, Items) else memoryview(subject)
-        return self.view_made(made, handle, self.strides.get(handle, (1,)))
+        return self.view_made(memoryview(subject), handle, self.strides.get(handle, (1,)))
 
     def do_range(self, handle, subject, start, stop):
         reply = super().do_range(handle, subject, start, stop)
@@ -268,9 +268,7 @@ class Ours(AsWritten):
     def do_contig(self, handle, subject):
         size, content = subject.nbytes, subject.tobytes()
         copy = ReadOnlyVector(content) if subject.readonly else Vector(content)
-        if isinstance(subject, Items):
-            made = Items(memoryview(copy), subject.format, subject.reader.format, subject.shape)
-        elif len(subject.shape) == 1:
+        if len(subject.shape) == 1:
             made = memoryview(copy).cast(subject.format)
         else:
             assert size
@@ -312,24 +310,16 @@ class Ours(AsWritten):
         if isinstance(key, slice):
             return self.assign(subject, key, value)
         subject[key]
-        text = re.sub("(?<![0-9])0+[^0-9sp]|[0-9@=<>!x]", "", subject.format)
+        text = subject.format.removeprefix("@")
         if text == "c" and isinstance(value, ReadOnlyVector):
             raise TypeError("no bytes of their own")
         if text == "?" and not isinstance(value, int):
             raise TypeError("no truth value")
-        if text in ("s", "p") and isinstance(value, (memoryview, Items)):
-            place = self.place_of(value)
-            if place in self.released or not self.is_contiguous(place):
-                raise TypeError("not contiguous")
-            value = value.tobytes()
         if isinstance(value, bytearray) and text != "c":
             value = bytes(value)
         try:
-            if isinstance(subject, Items):
-                # refused before anything is written
-                subject.reader.pack(value)
             return super().do_set(handle, subject, key, value)
-        except (ValueError, struct.error):
+        except ValueError:
             raise TypeError("no value of the format")
 
     def assign(self, subject, key, source):
@@ -337,22 +327,18 @@ class Ours(AsWritten):
         if len(subject.shape) != 1:
             raise NotImplementedError("several dimensions")
         target = subject[key]
-        if not isinstance(source, (bytes, bytearray, memoryview, Items)):
+        if not isinstance(source, (bytes, bytearray, memoryview)):
             raise TypeError("no bytes")
         if isinstance(source, (bytes, bytearray)):
             source = memoryview(source)
         if (source.format, source.itemsize, source.shape) != (target.format, target.itemsize, target.shape):
             raise ValueError("other items, or another number of them")
-        before = memoryview(source.tobytes())
-        if isinstance(target, Items):
-            target[:] = Items(before, target.format, target.reader.format) if before.nbytes else source
-        else:
-            target[:] = before.cast(target.format)
+        target[:] = memoryview(source.tobytes()).cast(target.format)
         return Reply("ok")
 
     def do_compare(self, handle, subject, answer, other):
         is_order = answer not in (operator.eq, operator.ne)
-        is_view = isinstance(other, (memoryview, Items))
+        is_view = isinstance(other, memoryview)
         if handle in self.exporters:
             if is_order:
                 raise TypeError("a view has no order")
@@ -368,7 +354,7 @@ class Ours(AsWritten):
         object that is equal to no other."""
         if isinstance(subject, (bytes, bytearray)):
             subject = memoryview(subject)
-        if not isinstance(subject, (memoryview, Items)) or any(subject is self.objects[at] for at in self.released):
+        if not isinstance(subject, memoryview) or any(subject is self.objects[at] for at in self.released):
             return object()
         shape = subject.shape[: subject.shape.index(0) + 1] if 0 in subject.shape else subject.shape
         return len(subject.shape), shape, subject.tolist()
@@ -459,7 +445,7 @@ class Ours(AsWritten):
 
     def as_like(self, value):
         content = self.as_operand(value)
-        if isinstance(value, (memoryview, Items)) and not self.is_contiguous(self.place_of(value)):
+        if isinstance(value, memoryview) and not self.is_contiguous(self.place_of(value)):
             raise TypeError("not contiguous")
         return content
 
@@ -539,40 +525,18 @@ class Ours(AsWritten):
             raise TypeError("several dimensions on both sides")
         if shape and len(shape[0]) > 64:
             raise ValueError("too many dimensions")
-        read = text.replace("u", "i") if text[0] not in "=<>!" else text
-        if re.search("[efdPu]", read):
-            raise struct.error("no code")
-        size = struct.Struct(read).size
-        if not size or subject.nbytes % size:
-            raise TypeError("the length is no multiple of the size of an item")
-        if isinstance(subject, Items):
-            memory = subject.flat()
-        elif subject.nbytes:
+        code = text.removeprefix("@")
+        if len(code) != 1 or code not in NATIVE_CODES:
+            raise ValueError("not one native code")
+        if code not in BYTE_CODES and subject.format.removeprefix("@") not in BYTE_CODES:
+            raise TypeError("items of several bytes on both sides")
+        if subject.nbytes:
             memory = subject.cast("B")
         else:
             empty = memoryview(subject.obj)[0:0]
             memory = empty.toreadonly() if subject.readonly else empty
-        code = text.removeprefix("@")
-        if len(code) == 1 and code in NATIVE_CODES:
-            made = memory.cast(text, *shape)
-        else:
-            made = Items(memory, text, read, self.shape_of(subject.nbytes, size, *shape))
+        made = memory.cast(text, *shape)
         return self.view_made(made, handle, row_major(made))
-
-    def shape_of(self, length, size, shape=None):
-        """A shape of so many bytes, looked at as Python does for native formats."""
-        product = size
-        for it in shape or ():
-            if not isinstance(it, int):
-                raise TypeError("no number")
-            if not -WORD <= it < WORD:
-                raise OverflowError("past a word")
-            if it <= 0 or it > (WORD - 1) // product:
-                raise ValueError("no entries, or too many")
-            product *= it
-        if shape is not None and product != length:
-            raise TypeError("other than the bytes")
-        return shape if shape is None else tuple(map(int, shape))
 
     def property(self, handle, subject, name):
         if handle in self.exporters:
@@ -586,8 +550,18 @@ class Ours(AsWritten):
         return super().property(handle, subject, name)
 
 
+def row_major(view):
+    """The strides of items one after the other."""
+    strides, size = [], view.itemsize
+    for entries in reversed(view.shape):
+        strides.insert(0, size)
+        size *= entries
+    return tuple(strides)
+
+
 NUMBERS = [sign * it + more for it in (0, 1, 2**7, 2**8, 2**15, 2**16, 2**31, 2**32, 2**63, 2**64, 2**126) for sign in (1, -1) for more in (-1, 0, 1)]
-FORMATS = ["4s", "2s", "2H", "BH", "<Bb2x", ">i", "!q", "4p", "2p", "xH", "3xB", "u", "@u", "2u", "<u", "HB", "BHB", "<hH", ">2Hi", "2?", "2c", "8x", "x?", "@cxH", "0HB", "B0H", "B0Q", "0s", "3", "@", "d", "<n", "y", "HB0I", "B2", "<<B", "2B2", "99999999999999999999B", "4611686018427387904H"]
+# texts to which no view is cast; `u`, which is a code here alone, isn't drawn
+FORMATS = ["4s", "2H", "BH", "<Bb2x", "4p", "xH", "<u", "2c", "8x", "0s", "0H", "3", "@", "@@B", "B@", "d", "@d", "f", "e", "P", "s", "p", "x", "<n", "y", "B2", "=B", "99999999999999999999B"]
 # how often each is drawn
 VERBS = [verb for verb, often in {"get": 10, "set": 10, "cast": 8, "prop": 4, "bytes": 3, "tolist": 3, "view": 2, "release": 2, "toreadonly": 2, "len": 1, "range": 1, "contig": 1, "enter": 1, "exit": 1, "del": 3, "take": 1, "compare": 6, "hash": 1, "repr": 1, "iter": 3, "next": 8, "hint": 2, "setstate": 2, "contains": 2, "hex": 2, "call": 14, **dict.fromkeys(EDITS, 1)}.items() for _ in range(often)]
 PROPERTIES = "exports obj nbytes readonly itemsize ndim shape strides suboffsets format contiguous c_contiguous f_contiguous".split()
@@ -645,9 +619,8 @@ class Drawn:
 
     def content(self, subject):
         """A value that an item might take."""
-        text = getattr(subject, "format", "B")[-1]
-        if text in "spc":
-            return self.one([self.bytes, self.bytes, self.handle])() if text != "c" else f"x{self.draw.randbytes(1).hex()}"
+        if getattr(subject, "format", "B")[-1] == "c":
+            return f"x{self.draw.randbytes(1).hex()}"
         bits = 8 * min(8, getattr(subject, "itemsize", 1))
         return str(self.draw.choice([self.draw.randrange(2**bits), self.draw.randrange(2**bits) - 2 ** (bits - 1), self.draw.randrange(100)]))
 
@@ -682,13 +655,10 @@ class Drawn:
 
     def format(self):
         kind = self.draw.random()
-        if kind < 0.5:
-            return f"'{self.one(['', '', '', '@', '<', '>', '=', '!'])}{self.one(NATIVE_CODES)}'"
-        if kind < 0.8:
-            return f"'{self.one(FORMATS)}'"
+        if kind < 0.9:
+            return f"'{self.one(['', '', '@', '@', self.one('<>=!')])}{self.one([self.one(NATIVE_CODES), self.one(BYTE_CODES)])}'"
         if kind < 0.97:
-            parts = [self.one(["", "", "1", "2", "3", "0"]) + self.one("xbBcHhiIlLqQ?") for _ in range(1 + self.draw.randrange(3))]
-            return f"'{self.one(['', '@', '<', '>'])}{''.join(parts)}'"
+            return f"'{self.one(FORMATS)}'"
         return self.value()
 
     def shape(self, subject, text):

@@ -1,22 +1,17 @@
 """Carries out lines of commands on Python's own objects, and gives the reply texts.
 
-A `World` keeps a list of objects, `h0` being the first: `bytes`, `bytearray`, `memoryview`, an
-`Items` where a view has a format that Python's `memoryview` can't be cast to, and the iterators of
-these.
+A `World` keeps a list of objects, `h0` being the first: `bytes`, `bytearray`, `memoryview`, and the
+iterators of these.
 
 What a command finds is written as Python's `repr` writes it. What has no value in Python is written
 as this program does: `ok`, `stop` for `StopIteration`, a handle for an object that has a name, and
 `!` with a refusal.
 """
-import copy
 import ctypes
-import math
 import operator
 import re
-import struct
 
-# Codes of which `memoryview` itself makes items; of every other format `struct` reads and writes
-# the items, over the same bytes.
+# The codes of whole numbers, of truth values and of bytes to which a `memoryview` is cast.
 NATIVE_CODES = "bBcHhiIlLqQnN?"
 
 # `PyMemoryView_GetContiguous` of Python's C API, which no call of Python reaches.
@@ -24,30 +19,6 @@ CONTIGUOUS = ctypes.pythonapi.PyMemoryView_GetContiguous
 CONTIGUOUS.restype = ctypes.py_object
 CONTIGUOUS.argtypes = [ctypes.py_object, ctypes.c_int, ctypes.c_char]
 TO_READ = 0x100
-
-
-class Buffer(ctypes.Structure):
-    """`Py_buffer` of the same."""
-
-    _fields_ = [
-        ("buf", ctypes.c_void_p),
-        ("obj", ctypes.py_object),
-        ("len", ctypes.c_ssize_t),
-        ("itemsize", ctypes.c_ssize_t),
-        ("readonly", ctypes.c_int),
-        ("ndim", ctypes.c_int),
-        ("format", ctypes.c_char_p),
-        ("shape", ctypes.POINTER(ctypes.c_ssize_t)),
-        ("strides", ctypes.POINTER(ctypes.c_ssize_t)),
-        ("suboffsets", ctypes.POINTER(ctypes.c_ssize_t)),
-        ("internal", ctypes.c_void_p),
-    ]
-
-
-# A `memoryview` of any format, which no call of Python makes.
-OF_BUFFER = ctypes.pythonapi.PyMemoryView_FromBuffer
-OF_BUFFER.restype = ctypes.py_object
-OF_BUFFER.argtypes = [ctypes.POINTER(Buffer)]
 
 # The methods of bytes that are operators.
 SUMS = {"add": operator.add, "concat": operator.concat, "mul": operator.mul}
@@ -65,164 +36,6 @@ class NoCommand(Exception):
 
 class NoName(NameError):
     """A handle that was never given."""
-
-
-class Items:
-    """Items of a `struct` format, one after another, over a contiguous `memoryview` of bytes.
-
-    They have a shape, of one dimension where none is given. What is picked is entries of the first
-    dimension, each a block of items. An iterator of them is Python's own, which asks for the items by
-    the indices from 0 on until there is none."""
-
-    def __init__(self, memory, text, read=None, shape=None):
-        self.memory = memory.cast("B")
-        self.format = text
-        self.reader = struct.Struct(read or text)
-        self.itemsize = self.reader.size
-        if not self.itemsize or self.memory.nbytes % self.itemsize:
-            raise TypeError("the length is no multiple of the size of an item")
-        first, *inner = [self.memory.nbytes // self.itemsize] if shape is None else shape or [1]
-        self.ndim = 1 if shape is None else len(shape)
-        self.inner = tuple(inner)
-        self.block = math.prod(inner)
-        self.picked = range(first)
-        self.readonly = memory.readonly
-        self.obj = memory.obj
-
-    # What Python's memoryview answers of these items' picks, strides being its own rule.
-    nbytes = property(lambda self: len(self.live()) * self.block * self.itemsize)
-    shape = property(lambda self: (len(self.live()), *self.inner)[: self.ndim])
-    strides = property(lambda self: (self.live().step * self.block * self.itemsize, *row_major(self)[1:])[: self.ndim])
-    contiguous = property(lambda self: not self.nbytes or len(self.live()) < 2 or self.live().step == 1)
-    c_contiguous = f_contiguous = contiguous
-
-    def live(self):
-        len(self.memory)
-        return self.picked
-
-    def release(self):
-        self.memory.release()
-
-    def alike(self, memory, picked):
-        """Items of the same kind, of which others are picked."""
-        same = copy.copy(self)
-        same.memory, same.picked = memory, picked
-        return same
-
-    def toreadonly(self):
-        self.live()
-        same = self.alike(self.memory.toreadonly(), self.picked)
-        same.readonly = True
-        return same
-
-    def flat(self):
-        """The bytes of contiguous items."""
-        start, size = self.live().start * self.block * self.itemsize, self.nbytes
-        return self.memory[start : start + size]
-
-    def __len__(self):
-        return len(self.live())
-
-    def tobytes(self):
-        size = self.block * self.itemsize
-        return b"".join(bytes(self.memory[i * size : (i + 1) * size]) for i in self.live())
-
-    def hex(self, *groups):
-        return self.tobytes().hex(*groups)
-
-    def __getitem__(self, key):
-        self.live()
-        if self.ndim == 0 and key is ...:
-            return self
-        if self.ndim and isinstance(key, slice):
-            return self.alike(self.memory[:], self.picked[key])
-        return self.item(self.place(key))
-
-    def __setitem__(self, key, value):
-        if self.readonly:
-            raise TypeError("the items are only read")
-        if self.ndim and isinstance(key, slice):
-            return self.assign(self[key].picked, value)
-        place = self.place(() if self.ndim == 0 and key is ... else key)
-        if len(self.reader.unpack(bytes(self.itemsize))) != 1:
-            raise TypeError("an item of several values is not written")
-        self.reader.pack_into(self.memory, place * self.itemsize, value)
-
-    def assign(self, places, source):
-        """The items at places become those of a source, as they were before."""
-        if self.ndim != 1:
-            raise NotImplementedError("a slice of several dimensions")
-        if not isinstance(source, Items):
-            source = memoryview(source)
-        if (source.format, source.itemsize, source.shape) != (self.format, self.itemsize, (len(places),)):
-            raise ValueError("other items, or another number of them")
-        size, new = self.itemsize, source.tobytes()
-        for at, place in enumerate(places):
-            self.memory[place * size : (place + 1) * size] = new[at * size : (at + 1) * size]
-
-    def place(self, key):
-        """The item at a key that is no slice."""
-        if self.ndim and isinstance(key, int):
-            if self.ndim > 1:
-                raise NotImplementedError("an entry of several dimensions")
-            key = (key,)
-        if not isinstance(key, tuple) or not self.ndim and key:
-            raise TypeError("no key")
-        if key and all(isinstance(it, slice) for it in key):
-            raise NotImplementedError("a tuple of slices")
-        if not all(isinstance(it, int) for it in key) or len(key) > self.ndim:
-            raise TypeError("a tuple of others than numbers, or of too many")
-        if len(key) < self.ndim:
-            raise NotImplementedError("a tuple of too few numbers")
-        place = 0
-        for index, entries in zip(key, (self.live(), *map(range, self.inner))):
-            place = place * len(entries) + entries[index] if entries is not self.picked else entries[index]
-        return place
-
-    def item(self, place):
-        values = self.reader.unpack_from(self.memory, place * self.itemsize)
-        return values[0] if len(values) == 1 else values
-
-    def tolist(self):
-        """The items by their shape; without dimensions the one item."""
-        if not self.ndim:
-            return self[()]
-        inner = lambda first, shape: [inner(first * shape[0] + at, shape[1:]) for at in range(shape[0])] if shape else self.item(first)
-        return [inner(at, self.inner) for at in self.live()]
-
-    def __enter__(self):
-        self.live()
-        return self
-
-    def __exit__(self, *_):
-        self.release()
-
-
-def as_memory(subject):
-    """What `memoryview` itself is of `Items`, over a copy of their bytes; every other object as it is."""
-    if not isinstance(subject, Items):
-        return subject
-    try:
-        content = subject.tobytes()
-    except ValueError:
-        released = memoryview(b"")
-        released.release()
-        return released
-    shape = (ctypes.c_ssize_t * max(1, subject.ndim))(*subject.shape)
-    memory, text = ctypes.create_string_buffer(content, max(1, len(content))), subject.format.encode()
-    # what the memoryview points to lives as long as the items
-    subject.copied = memory, text, shape
-    buffer = Buffer(buf=ctypes.addressof(memory), len=len(content), itemsize=subject.itemsize, readonly=subject.readonly, ndim=subject.ndim, format=text, shape=shape)
-    return OF_BUFFER(buffer)
-
-
-def row_major(view):
-    """The strides of items one after the other."""
-    strides, size = [], view.itemsize
-    for entries in reversed(view.shape):
-        strides.insert(0, size)
-        size *= entries
-    return tuple(strides)
 
 
 class World:
@@ -244,8 +57,6 @@ class World:
         """The reply to one line."""
         try:
             return self.answer(line.split(" "))
-        except struct.error:
-            return "! StructError"
         except NoName:
             return "! NameError"
         except FAULTS as fault:
@@ -255,7 +66,7 @@ class World:
     def answer(self, words):
         if words[0] == "new":
             make = {"bytes": bytes, "bytearray": bytearray}[words[1]]
-            return self.named(make(*(readable(value_of(word, self)) for word in words[2:])))
+            return self.named(make(*(value_of(word, self) for word in words[2:])))
         handle = handle_of(words[1])
         subject = self.object(handle)
         arguments = words[2:]
@@ -293,7 +104,7 @@ class World:
         found = subject[key]
         if found is subject and handle in self.exporters:
             return Reply(f"h{handle}")
-        if isinstance(found, (memoryview, Items)):
+        if isinstance(found, memoryview):
             return self.named(found, self.exporter_of(handle))
         return found
 
@@ -341,7 +152,7 @@ class World:
         return Reply("ok")
 
     def do_extend(self, handle, subject, value):
-        subject.extend(readable(value))
+        subject.extend(value)
         return Reply("ok")
 
     def do_insert(self, handle, subject, index, value):
@@ -364,7 +175,7 @@ class World:
         return Reply("ok")
 
     def do_iadd(self, handle, subject, value):
-        self.in_place(handle, subject, operator.iadd, readable(value))
+        self.in_place(handle, subject, operator.iadd, value)
         return Reply("ok")
 
     def do_imul(self, handle, subject, count):
@@ -380,7 +191,7 @@ class World:
     def do_init(self, handle, subject, *options):
         if not isinstance(subject, bytearray):
             raise AttributeError("__init__")
-        subject.__init__(*(readable(option) for option in options))
+        subject.__init__(*options)
         return Reply("ok")
 
     def do_copy(self, handle, subject):
@@ -390,7 +201,7 @@ class World:
         return len(subject)
 
     def do_bytes(self, handle, subject):
-        return subject.tobytes() if isinstance(subject, (memoryview, Items)) else bytes(subject)
+        return subject.tobytes() if isinstance(subject, memoryview) else bytes(subject)
 
     def do_release(self, handle, subject):
         subject.release()
@@ -398,35 +209,25 @@ class World:
         return Reply("ok")
 
     def do_cast(self, handle, subject, text, *shape):
-        code = text[1:] if isinstance(text, str) and text[:1] == "@" else text
-        plain = isinstance(subject, memoryview)
-        if plain and (shape or not isinstance(code, str) or len(code) == 1 and code in NATIVE_CODES):
-            return self.named(subject.cast(text, *shape), self.exporter_of(handle))
-        if not plain and not subject.contiguous:
-            raise TypeError("not contiguous")
-        memory = subject if plain else subject.flat()
-        if shape:
-            return self.named(memory.cast(text, *shape), self.exporter_of(handle))
-        return self.named(Items(memory, text), self.exporter_of(handle))
+        return self.named(subject.cast(text, *shape), self.exporter_of(handle))
 
     def do_toreadonly(self, handle, subject):
         return self.named(subject.toreadonly(), self.exporter_of(handle))
 
     def do_compare(self, handle, subject, answer, other):
-        left = as_memory(subject)
-        return answer(left, left if other is subject else as_memory(other))
+        return answer(subject, other)
 
     def do_hash(self, handle, subject):
         """The bytes that are hashed, where there is a hash. Of the hash all that can be said is that those
         of equal bytes are equal, which is compared."""
-        found = hash(as_memory(subject))
+        found = hash(subject)
         if handle not in self.hashed:
             self.hashed[handle] = self.do_bytes(handle, subject)
         assert found == hash(self.hashed[handle])
         return self.hashed[handle]
 
     def do_repr(self, handle, subject):
-        shown = repr(as_memory(subject))
+        shown = repr(subject)
         if isinstance(subject, (bytes, bytearray)):
             return Reply(shown)
         assert re.fullmatch("<((released )?memory|[a-z]+_iterator object) at 0x[0-9a-f]+>", shown)
@@ -451,14 +252,13 @@ class World:
         return Reply("ok")
 
     def do_contains(self, handle, subject, value):
-        return readable(value) in subject
+        return value in subject
 
     def do_hex(self, handle, subject, *groups):
         return subject.hex(*groups)
 
     def do_call(self, handle, subject, method, *arguments):
         """A method by its name, or an operator by that of the function which does the same."""
-        arguments = [readable(argument) for argument in arguments]
         return SUMS[method](subject, *arguments) if method in SUMS else getattr(subject, method)(*arguments)
 
     def property(self, handle, subject, name):
@@ -504,13 +304,6 @@ class AsWritten(World):
             return shown
         number = sum(at < handle and of == self.exporters[handle] for at, of in self.exporters.items())
         return Reply(shown.replace("at ..", str(number)))
-
-
-def readable(value):
-    """An argument that is read as bytes, or holds such: items of other formats by the bytes that they are."""
-    if isinstance(value, (list, tuple)):
-        return type(value)(map(readable, value))
-    return value.tobytes() if isinstance(value, Items) else value
 
 
 def as_bytes(found):

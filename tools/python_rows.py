@@ -705,104 +705,9 @@ bytes h0
 """,
     ),
     Case(
-        "items of standard sizes, in either order",
+        "a view is cast to one native code alone",
         """
-new bytearray x0102030405060708
-view h0
-cast h1 '<h'
-get h2 0
-cast h1 '>h'
-get h3 0
-cast h1 '!H'
-get h4 3
-cast h1 '=H'
-get h5 0
-cast h1 '<l'
-get h6 0
-cast h1 '>L'
-get h7 1
-cast h1 '<q'
-get h8 0
-cast h1 '>Q'
-get h9 0
-set h3 0 -2
-set h7 1 4294967294
-set h2 1 513
-bytes h0
-cast h1 '>i'
-set h10 0 2147483647
-bytes h0
-get h10 None:None:-1
-get h11 0
-get h11 1
-bytes h11
-""",
-    ),
-    Case(
-        "items of bytes, and of bytes with their length",
-        """
-new bytearray x6162630064656667
-view h0
-cast h1 '4s'
-get h2 0
-get h2 1
-set h2 0 x5859
-bytes h0
-set h2 1 x313233343536
-bytes h0
-cast h1 '4p'
-get h3 0
-set h3 0 x5859
-bytes h0
-get h3 0
-set h3 1 x3132333435
-bytes h0
-get h3 1
-get h3 2
-""",
-    ),
-    Case(
-        "items of several values are tuples, which are not written",
-        """
-new bytearray x01ff020003fe0400
-view h0
-cast h1 'BH'
-get h2 0
-get h2 1
-set h2 0 7
-len h2
-get h2 None:None:-1
-get h3 0
-bytes h3
-cast h1 '<Bb2x'
-get h4 0
-cast h1 '2H'
-get h5 0
-cast h1 '4s2B2x'
-get h6 0
-cast h1 '8x'
-get h7 0
-set h7 0 1
-bytes h0
-""",
-    ),
-    Case(
-        "gaps and pad bytes become zeros in a written item",
-        """
-new bytearray xffffffffffffffff
-view h0
-cast h1 'xH'
-set h2 0 258
-bytes h0
-cast h1 '3xB'
-set h3 1 7
-bytes h0
-""",
-    ),
-    Case(
-        "no format at all",
-        """
-new bytes x01020304
+new bytes x0102030405060708
 view h0
 cast h1 '3'
 cast h1 '<n'
@@ -812,7 +717,94 @@ cast h1 'B<'
 cast h1 'B3'
 cast h1 '0s'
 cast h1 '0H'
+cast h1 '1H'
 cast h1 '@'
+cast h1 '@@H'
+cast h1 '@H@'
+cast h1 '<u'
+cast h1 '>u'
+cast h1 '<h'
+cast h1 '>h'
+cast h1 '!H'
+cast h1 '=H'
+cast h1 '=B'
+cast h1 '<q'
+cast h1 's'
+cast h1 'p'
+cast h1 'x'
+cast h1 '@x'
+cast h1 '4s'
+cast h1 '4p'
+cast h1 '8x'
+cast h1 'BB'
+cast h1 'BH'
+cast h1 '2B'
+cast h1 '<Bb2x'
+cast h1 '>H' [2,2]
+cast h1 'BB' [2,2]
+cast h1 '8s' []
+cast h1 'y' [0]
+cast h1 '0s' [0]
+cast h1 'y' 0
+prop h0 exports
+cast h1 '@H'
+get h2 0
+""",
+    ),
+    Case(
+        "what is looked at before the format of a cast, and what behind it",
+        """
+new bytearray x000102030405
+view h0
+cast h1 'B' [2,3]
+get h1 None:None:-1
+cast h3 'y'
+cast h3 5
+get h2 0:0:1
+cast h4 'y'
+cast h4 'y' [1]
+cast h4 'y' 0
+cast h2 'y' [3,2]
+cast h2 'y' [6]
+cast h2 'H' [6]
+cast h1 'y' [1,1,1,1,1,1,1,1,1,1,1,1,1,1,1,1,1,1,1,1,1,1,1,1,1,1,1,1,1,1,1,1,1,1,1,1,1,1,1,1,1,1,1,1,1,1,1,1,1,1,1,1,1,1,1,1,1,1,1,1,1,1,1,1,1]
+cast h1 'y' ['a']
+cast h1 'y' [-1]
+cast h1 'I' ['a']
+cast h1 'H' ['a']
+cast h1 'H' [0]
+cast h1 'H' []
+cast h1 'H'
+cast h5 'I'
+cast h5 'I' ['a']
+cast h5 'h'
+cast h5 'y'
+cast h5 'c'
+cast h5 'b' [2,3]
+cast h2 'H'
+cast h7 'B' [6]
+""",
+    ),
+    Case(
+        "a cast from items of several bytes to others is refused",
+        """
+new bytes x0102030405060708
+view h0
+cast h1 'H'
+cast h2 'I'
+cast h2 'H'
+cast h2 '@H'
+cast h2 '?'
+cast h2 'I' [2]
+cast h1 'H' [2,2]
+cast h3 'I'
+cast h3 'H'
+cast h3 'B'
+cast h4 'I'
+cast h1 '?'
+cast h6 '?'
+cast h6 'I'
+cast h6 'c'
 """,
     ),
     Case(
@@ -856,7 +848,7 @@ prop h3 contiguous
 cast h1 '@i'
 prop h4 format
 prop h4 itemsize
-cast h1 '<I'
+cast h1 'I'
 prop h5 format
 prop h5 shape
 prop h5 strides
@@ -903,7 +895,7 @@ toreadonly h1
 view h2
 get h2 None:None:-1
 cast h2 'H'
-cast h2 '<H'
+cast h2 '@H'
 toreadonly h2
 set h3 0 9
 set h4 0 9
@@ -942,7 +934,7 @@ get h4 4
 get h4 1:3:1
 bytes h5
 cast h4 'B'
-cast h1 '>hH'
+cast h1 'i'
 get h6 None:None:-1
 toreadonly h7
 get h8 0
@@ -983,15 +975,15 @@ bytes h3
     Case(
         "handles of bytes as values of items",
         """
-new bytes x01020304
+new bytes x5a
 new bytearray x0000000000000000
 view h1
-cast h2 '4s'
-set h3 0 h0
-set h3 1 h1
-bytes h1
 cast h2 'c'
-set h4 0 h1
+set h3 0 h0
+bytes h1
+set h3 1 h1
+view h0
+set h3 1 h4
 set h2 0 h0
 set h1 0 h0
 set h1 0 h2
@@ -1717,6 +1709,53 @@ bytes h0
 """,
     ),
 ]
+
+
+# Each code to which a view is cast, alone and behind `@`.
+NATIVE_FORMATS = [sign + code for code in NATIVE_CODES for sign in ("", "@")]
+
+
+# How a view of 16 bytes is cast: whether of two dimensions, whether of no items, and to which shape. SIZE is the number
+# of all items, HALF of half of them.
+CASTS = [
+    (False, False, ""),
+    (True, False, ""),
+    (False, False, " [SIZE]"),
+    (True, False, " [2,HALF]"),
+    (False, False, " [2,HALF]"),
+    (False, True, ""),
+    (True, False, " [SIZE]"),
+    (False, False, " [0]"),
+    (True, True, ""),
+]
+
+
+def casts_by_code(formats):
+    """The lines that make views by each format, of one dimension and of two, and of no items, and cast these to each
+    format, in each pair another way. Of what is made by a code alone the items are listed."""
+    world, lines = World(), []
+
+    def reply(line):
+        lines.append(line)
+        return world.reply(line)
+
+    reply("new bytes x0180ff7f000110020304a0b0c0d0e0f0")
+    reply("view h0")
+    for at, old in enumerate(formats):
+        views = {}
+        for is_plane in (False, True):
+            views[is_plane, False] = reply(f"cast h1 '{old}'{' [2,HALF]' * is_plane}".replace("HALF", str(8 // struct.calcsize(old))))
+            views[is_plane, True] = reply(f"get {views[is_plane, False]} 0:0:1")
+        for to, new in enumerate(formats):
+            *subject, shape = CASTS[(at + 2 * to) % len(CASTS)]
+            count = 16 // struct.calcsize(new)
+            made = reply(f"cast {views[tuple(subject)]} '{new}'{shape}".replace("SIZE", str(count)).replace("HALF", str(count // 2)))
+            if made[0] == "h" and new in NATIVE_CODES:
+                reply(f"tolist {made}")
+    return "\n".join(lines)
+
+
+PYTHON += [Case("casts from each native code to each, of one dimension and of two", casts_by_code(NATIVE_FORMATS))]
 
 
 class Draw:
@@ -2644,100 +2683,6 @@ compare h15 == x6262
 """,
     ),
     Case(
-        "items of standard sizes and of several values are compared by their values",
-        """
-new bytes x01000200
-new bytes x00010002
-view h0
-view h1
-cast h2 '<H'
-cast h3 '>H'
-cast h2 'H'
-cast h3 '!h'
-compare h4 == h5
-compare h4 == h6
-compare h5 == h7
-compare h7 == h6
-compare h4 == h2
-cast h3 '<H'
-compare h4 == h8
-cast h2 'BB'
-cast h3 'BB'
-compare h9 == h10
-compare h9 == h9
-compare h9 == h4
-cast h2 '<4s'
-cast h2 '4s'
-cast h3 '4s'
-compare h11 == h12
-compare h12 == h13
-cast h2 '4c'
-compare h14 == h12
-compare h14 == h14
-cast h2 '=i'
-cast h2 'i'
-compare h15 == h16
-cast h2 '4x'
-cast h3 '4x'
-compare h17 == h18
-compare h17 == h15
-cast h2 'Bx'
-cast h3 'xB'
-compare h19 == h20
-compare h19 == h4
-cast h2 '2p'
-cast h3 '2p'
-compare h21 == h22
-get h21 1:None:None
-get h22 1:None:None
-compare h23 == h24
-get h5 None:None:-1
-get h4 None:None:-1
-compare h25 == h26
-compare h25 == h4
-""",
-    ),
-    Case(
-        "gaps and pad bytes of items are not compared",
-        """
-new bytes x01ff0200030004ff
-new bytes x0100020003ee04aa
-view h0
-view h1
-cast h2 'BH'
-cast h3 'BH'
-compare h4 == h5
-get h4 0:1:1
-get h5 0:1:1
-compare h6 == h7
-compare h6 != h7
-compare h2 == h3
-cast h2 '<BxH'
-cast h3 '<BxH'
-get h8 0:1:1
-get h9 0:1:1
-compare h8 == h9
-compare h10 == h11
-compare h10 == h6
-cast h2 '<2BH'
-get h12 0:1:1
-compare h13 == h6
-new bytes x0055016600
-new bytes x0077016699
-view h14
-view h15
-get h16 0:4:1
-get h17 0:4:1
-cast h18 '2p'
-cast h19 '2p'
-compare h20 == h21
-compare h16 == h17
-cast h16 '5p'
-cast h17 '5p'
-compare h22 == h23
-""",
-    ),
-    Case(
         "truth values of bytes 0 and 1 are equal to the numbers 0 and 1",
         """
 new bytes x010001
@@ -2752,10 +2697,9 @@ compare h2 == x010101
 compare h2 != x010101
 new bytes x020005
 view h4
-cast h5 '<?'
-cast h1 '<?'
-compare h6 == h2
-compare h6 == h7
+cast h5 '@?'
+cast h1 '@?'
+compare h7 == h2
 compare h6 == h1
 compare h6 == h5
 cast h1 'b'
@@ -3316,16 +3260,6 @@ next h3
         ),
     ),
     Case(
-        "an iterator of a view with items of other orders, of several values and of bytes",
-        "\n".join(
-            ["new bytes x0102030405060708090a0b0c", "view h0"]
-            + [
-                f"cast h1 '{text}'\niter h{2 * at + 2}\n" + "\n".join([f"next h{2 * at + 3}"] * (12 // struct.calcsize(text) + 2))
-                for at, text in enumerate(["<H", ">H", "!i", "=q4x", "BH", "<BxH", "3B", "2s", "4p", "c?", "2x", "0HB", ">hB", "12s", "<H2c"])
-            ]
-        ),
-    ),
-    Case(
         "an iterator of a slice of a view",
         """
 new bytearray x616263646566
@@ -3360,7 +3294,7 @@ iter h13
 next h14
 next h14
 next h14
-cast h1 '>H'
+cast h1 'h'
 get h15 None:None:-1
 iter h16
 next h17
@@ -3709,7 +3643,7 @@ cast h1 'B' [2,3]
 hex h6 ':' 3
 get h6 None:None:-1
 hex h7 ':' 3
-cast h1 '<Hb'
+cast h1 'c' [3,2]
 hex h8 ':' 3
 get h8 None:None:-1
 hex h9 ':' -3
@@ -4469,7 +4403,7 @@ new bytes x616263646162
 view h0
 cast h1 'H'
 cast h1 'B' [2,3]
-cast h1 '3s'
+cast h1 'c'
 get h1 0:1:1
 cast h5 'B' []
 get h1 6:None:None
@@ -4879,19 +4813,6 @@ bytes h0                           b'\\x01\\x02\\x03\\x04'
 """,
     ),
     Case(
-        "a value that struct refuses is of a wrong kind, and the item stays as it was",
-        """
-new bytearray x01020304            h0
-view h0                            h1
-cast h1 '<H'                       h2
-set h2 0 65536                     ! TypeError    !
-set h2 1 'a'                       ! TypeError    !
-cast h1 '4s'                       h3
-set h3 0 5                         ! TypeError    !
-bytes h0                           b'\\x01\\x02\\x03\\x04'   !
-""",
-    ),
-    Case(
         "a truth value is written as a truth value or a whole number alone",
         """
 new bytearray x0001                h0
@@ -4919,35 +4840,42 @@ cast h1 'H'                        ! ValueError
         """
 new bytes x0102030405060708        h0
 view h0                            h1
-cast h1 '<u'                       ! StructError
+cast h1 '<u'                       ! ValueError
 cast h1 'u'                        h2             !
 get h2 0                           67305985       !
-cast h1 'd'                        ! StructError  !
-cast h1 'e'                        ! StructError  !
-cast h1 'f'                        ! StructError  !
-cast h1 'P'                        ! StructError  !
+cast h1 'd'                        ! ValueError   !
+cast h1 'e'                        ! ValueError
+cast h1 'f'                        ! ValueError   !
+cast h1 'P'                        ! ValueError   !
+cast h1 '@d'                       ! ValueError   !
 """,
     ),
     Case(
-        "a cast from items of several bytes to others",
+        "a wide character is an item of four bytes",
         """
-new bytes x0102030405060708        h0
+new bytearray x0102030405060708    h0
 view h0                            h1
-cast h1 'H'                        h2
-cast h2 'I'                        h3             !
-get h3 0                           67305985       !
-""",
-    ),
-    Case(
-        "a view as a value of an item of bytes",
-        """
-new bytes x01020304                h0
-new bytearray x00000000            h1
-view h0                            h2
-view h1                            h3
-cast h3 '4s'                       h4
-set h4 0 h2                        ok             !
-bytes h1                           b'\\x01\\x02\\x03\\x04'   !
+cast h1 '@u' [2,1]                 h2             !
+prop h2 format                     '@u'           !
+prop h2 itemsize                   4              !
+tolist h2                          [[67305985], [134678021]]   !
+cast h1 'u'                        h3             !
+set h3 0 2147483647                ok             !
+set h3 1 2147483648                ! TypeError    !
+set h3 1 -2                        ok             !
+set h3 1 'a'                       ! TypeError    !
+bytes h0                           b'\\xff\\xff\\xff\\x7f\\xfe\\xff\\xff\\xff'   !
+compare h3 == h2                   False          !
+cast h3 'I'                        ! TypeError    !
+cast h3 'u'                        ! TypeError    !
+cast h3 'c'                        h4             !
+cast h4 'u'                        h5             !
+cast h4 'u' [3]                    ! TypeError    !
+cast h4 'u' []                     ! TypeError    !
+cast h1 'H'                        h6             !
+cast h6 'u'                        ! TypeError    !
+range h0 0 7                       h7             !
+cast h7 'u'                        ! TypeError    !
 """,
     ),
     Case(
@@ -5024,25 +4952,6 @@ bytes h0                            b'cba'          !
 """,
     ),
     Case(
-        "a slice of items of any format is assigned",
-        """
-new bytearray x0102030405060708     h0
-view h0                             h1
-cast h1 '>H'                        h2
-cast h1 '>H'                        h3
-set h2 None:None:-1 h3              ok
-bytes h0                            b'\\x07\\x08\\x05\\x06\\x03\\x04\\x01\\x02'
-cast h1 '<H'                        h4
-set h2 0:4:1 h4                     ! ValueError
-cast h1 'BH'                        h5
-cast h1 'BH'                        h6
-get h5 0:1:1                        h7
-set h6 1:2:1 h7                     ok
-bytes h0                            b'\\x07\\x08\\x05\\x06\\x07\\x08\\x05\\x06'
-set h6 0:1:1 h5                     ! ValueError
-""",
-    ),
-    Case(
         "a shape of many entries for a view that is not of one dimension",
         """
 new bytes x0001                     h0
@@ -5051,39 +4960,6 @@ cast h1 'B' [1,2]                   h2
 cast h2 'B' [1,1,1,1,1,1,1,1,1,1,1,1,1,1,1,1,1,1,1,1,1,1,1,1,1,1,1,1,1,1,1,1,1,1,1,1,1,1,1,1,1,1,1,1,1,1,1,1,1,1,1,1,1,1,1,1,1,1,1,1,1,1,1,1,1]  ! TypeError     !
 cast h1 'B' [1,1,1,1,1,1,1,1,1,1,1,1,1,1,1,1,1,1,1,1,1,1,1,1,1,1,1,1,1,1,1,1,1,1,1,1,1,1,1,1,1,1,1,1,1,1,1,1,1,1,1,1,1,1,1,1,1,1,1,1,1,1,1,1,1]  ! ValueError
 cast h2 'B' [1,2]                   ! TypeError
-""",
-    ),
-    Case(
-        "a cast to a shape takes every format",
-        """
-new bytearray x000102030405060708090a0b  h0
-view h0                             h1
-cast h1 '>H' [2,3]                  h2              !
-tolist h2                           [[1, 515, 1029], [1543, 2057, 2571]]  !
-get h2 (1,0)                        1543            !
-set h2 (0,2) 258                    ok              !
-bytes h0                            b'\\x00\\x01\\x02\\x03\\x01\\x02\\x06\\x07\\x08\\t\\n\\x0b'  !
-cast h1 'BB' [2,3]                  h3              !
-get h3 (1,1)                        (8, 9)          !
-set h3 (1,1) 1                      ! TypeError     !
-cast h1 '4s' [3,1]                  h4              !
-get h4 None:None:-1                 h5              !
-tolist h5                           [[b'\\x08\\t\\n\\x0b'], [b'\\x01\\x02\\x06\\x07'], [b'\\x00\\x01\\x02\\x03']]  !
-cast h1 '12s' []                    h6              !
-get h6 ()                           b'\\x00\\x01\\x02\\x03\\x01\\x02\\x06\\x07\\x08\\t\\n\\x0b'  !
-cast h1 'y' [0]                     ! StructError   !
-cast h1 '0s' [0]                    ! TypeError     !
-cast h1 'y' 0                       ! TypeError
-""",
-    ),
-    Case(
-        "a cast of several dimensions from items of several bytes to others",
-        """
-new bytes x0102030405060708         h0
-view h0                             h1
-cast h1 'H' [2,2]                   h2
-cast h2 'I'                         h3              !
-tolist h3                           [67305985, 134678021]  !
 """,
     ),
     Case(
@@ -5492,8 +5368,8 @@ compare h2 == h6                    True           !
 compare h6 == h2                    True           !
 compare h2 == x010001               True
 compare h2 == h1                    False
-cast h5 '<?'                        h7
-compare h7 == h2                    True
+cast h5 '@?'                        h7
+compare h7 == h2                    True           !
 """,
     ),
     Case(
@@ -5518,7 +5394,7 @@ cast h1 'H'                         h2
 hash h2                             b'\\x01\\x00\\x02\\x00'   !
 cast h1 '?'                         h3
 hash h3                             b'\\x01\\x00\\x02\\x00'   !
-cast h1 '<BxH'                      h4
+cast h1 'i'                         h4
 hash h4                             b'\\x01\\x00\\x02\\x00'   !
 cast h1 'H' [1,2]                   h5
 hash h5                             b'\\x01\\x00\\x02\\x00'   !
@@ -5632,10 +5508,8 @@ init h6 h8                          ! TypeError    !
 set h7 0:1:1 h8                     ! TypeError
 cast h7 'c'                         h9
 set h9 0 h8                         ! TypeError
-cast h7 '2s'                        h10
+cast h7 '?'                         h10
 set h10 0 h8                        ! TypeError    !
-cast h7 '?'                         h11
-set h11 0 h8                        ! TypeError    !
 next h8                             0              !
 bytes h6                            b'\\x00\\x00'   !
 new bytes h3                        ! TypeError    !

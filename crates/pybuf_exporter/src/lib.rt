@@ -32,5 +32,6 @@ pub use pybuf_desc::{
 pub use pybuf_rows_compare::equal_views_hash_alike;
 pub use pybuf_rows_methods::{lents_are_paired, names_are_found};
 pub use pybuf_rows_reads::lists_hold_the_items;
+pub use pybuf_rows_views::casts_are_of_bytes;
 pub use pybuf_rows_writes::{assignments_are_by_value, writes_are_seen};
 pub use pybuf_state::copies_are_faithful;

@@ -74,7 +74,7 @@ impl Form {
         };
         let bytes = drawn(alloc, plan.seed, plan.count.saturating_mul(size))?;
         let mut viewed = Viewed::whole(alloc, bytes)?;
-        viewed.cast(alloc, format, None)?;
+        viewed.describe(alloc, format, size, plan.count)?;
         Ok(viewed)
     }
 }

@@ -5,10 +5,12 @@ ghost use Rattle.pybuf_state.specs.Fits.{LoansFit};
 use crate::data::drawn;
 use crate::keys::{slice, text};
 use crate::plan::Plan;
+use pybuf_buffer::PyBuffer;
 use pybuf_command::{Loan, LoanList, LocalReply};
+use pybuf_desc::BufferDescriptor;
 use pybuf_memoryobject::PyMemoryView;
 use pybuf_object::PyByteArray;
-use pybuf_value::{Made, Scalar, ScalarList, Value};
+use pybuf_value::{DimList, Made, Outcome, Scalar, ScalarList, Text, Value};
 use std::alloc::Global;
 
 /// The number of bytes of a plane of 256 rows of 16 bytes.
@@ -80,6 +82,15 @@ pub fn lend_view(alloc: Global, view: &PyMemoryView) -> Made<LoanList>
     Ok(loans)
 }
 
+/// So many items of a format, of a size, one after the other.
+fn items_of(alloc: Global, format: &str, size: usize, count: usize) -> Made<BufferDescriptor> {
+    let mut dims = DimList::new(alloc);
+    dims.push((count, size as isize, 0))?;
+    let format = Text::from_string(String::from_str(alloc, format)?);
+    let len = count.saturating_mul(size);
+    Ok(BufferDescriptor::raw(len, false, size, format, dims))
+}
+
 impl Viewed {
     /// A bytearray of these bytes, and a view of all.
     pub fn whole(alloc: Global, bytes: Vec<u8>) -> Made<Viewed> {
@@ -101,6 +112,17 @@ impl Viewed {
         let state = self.object.state_mut();
         let reply = self.view.cast(state, format, shape, LoanList::new(alloc))?;
         self.view = view_of(&reply);
+        Ok(())
+    }
+
+    /// Goes on with a view of as many items of a format, which may be one that no view is cast to.
+    pub fn describe(&mut self, alloc: Global, format: &str, size: usize, count: usize) -> Made<()> {
+        let descriptor = items_of(alloc, format, size, count)?;
+        let number = match PyBuffer::new(alloc, self.object.state_mut(), descriptor, 0)? {
+            Outcome::Done(buffer) => buffer.number(),
+            Outcome::Refused(_) => usize::MAX,
+        };
+        self.view = PyMemoryView::of(number);
         Ok(())
     }
 

@@ -173,15 +173,18 @@ impl PyMemoryView {
     /// shape, as Python's `view.cast(format, shape)` (Library reference, "Memory Views"): the reply is
     /// its number.
     ///
+    /// The format is one native code, alone or behind `@`, and it or that of the view has single bytes as items: it
+    /// is `b`, `B` or `c`. `PyBuffer::new` makes views of every other format.
+    ///
     /// Refused with `TypeError` where the items don't lie one after the other, where the format is no
     /// text, where the shape is neither a tuple nor a list, where there is no byte and a shape or
     /// another number of dimensions than one, and where neither side has one dimension; with
-    /// `ValueError` for more than 64 dimensions; with `StructError` for a text outside the grammar of
-    /// formats; with `TypeError` for a format of size 0, and for bytes that aren't a whole number of
-    /// items, or not one item for an empty shape. Of the numbers of the shape, in order, with
-    /// `TypeError` for what is no number, with `OverflowError` for one that doesn't fit `isize`, with
-    /// `ValueError` for one below 1, and for one with which the bytes would pass `isize::MAX`; and at
-    /// last with `TypeError` where the items of the shape haven't as many bytes as the view.
+    /// `ValueError` for more than 64 dimensions, and for a text that isn't one native code; with
+    /// `TypeError` where neither format has single bytes as items, for bytes that aren't a whole number of
+    /// items, and for bytes other than those of one item where the shape is empty. Of the numbers of the
+    /// shape, in order, with `TypeError` for what is no number, with `OverflowError` for one that doesn't fit
+    /// `isize`, with `ValueError` for one below 1, and for one with which the bytes would pass `isize::MAX`;
+    /// and at last with `TypeError` where the items of the shape haven't as many bytes as the view.
     pub fn cast(
         &self,
         state: &mut ExporterState,

@@ -12,7 +12,7 @@ use Rattle.pybuf_state.specs.Spaced.{IsSpaced}
 use Rattle.pybuf_command.specs.declared.kinds.Subject.TheVariants as subject
 use Rattle.pybuf_command.specs.Kinds.{holds_readonly}
 use Rattle.pybuf_state.specs.Keeps.{IsCarriedOut, IsSafe, IsCopied}
-use Rattle.std.specs.Prelude.{◌==◌, ◌%◌, ◌&&◌, not, nat_lt, nat_le, min, Option, Some, None, if◌then◌else◌, ℤ, pos, negsuc, Result, Ok, Err}
+use Rattle.std.specs.Prelude.{◌==◌, ◌%◌, ◌&&◌, ◌||◌, not, nat_lt, nat_le, min, Option, Some, None, ok_or, if◌then◌else◌, ℤ, pos, negsuc, Result, Ok, Err}
 use Rattle.std.proofs.lemmas.Int.{ints}
 use Rattle.std.proofs.lemmas.List.{length-append}
 use Rattle.std.proofs.lemmas.Bool.{eq-eqb, eqb-true}
@@ -23,7 +23,14 @@ use Rattle.pybuf_value.specs.declared.values.Value.{Value}
 use Rattle.pybuf_value.specs.declared.values.Value.TheVariants as value
 use Rattle.pybuf_value.specs.Numbers.{number_in, number_of}
 use Rattle.pybuf_index.specs.Parts.{SliceParts, nonzero, step_in, part_in, nearest_word, parts_of, saturated_parts_of}
+use Rattle.pybuf_struct.specs.declared.table.Endianness.TheVariants as order
+use Rattle.pybuf_struct.specs.declared.table.FormatType.{FormatType}
+use Rattle.pybuf_struct.specs.declared.table.FormatType.TheVariants as code
+use Rattle.pybuf_struct.specs.Table.{size_of}
 use Rattle.pybuf_struct.specs.Formats.{Format, format_of}
+use Rattle.pybuf_struct.specs.Singles.{size_by}
+use Rattle.pybuf_struct.specs.Natives.{native_single_code, is_byte_code, is_byte_format}
+use Rattle.pybuf_struct.specs.Laws.{NativeCodesHaveTheirSize}
 use Rattle.pybuf_desc.specs.Contiguous.{is_contiguous_layout}
 use Rattle.pybuf_desc.specs.Slices.{slice_of}
 use Rattle.pybuf_desc.specs.Casts.{cast_of}
@@ -35,8 +42,8 @@ use Rattle.pybuf_memoryview.specs.Orders.{nbytes_of, has_zero_entry}
 use Rattle.pybuf_state.specs.Laws.{IsSoundLayout, WholeLayoutsAreSound, PartLayoutsAreSound, LiveLayoutsAreSound, LiveLayoutsLieApart, ReadingKeeps, NewViewsKeep, ReleasingKeeps}
 use Rattle.pybuf_rows_views.specs.Range.{part_between}
 use Rattle.pybuf_value.specs.Texts.{text_in}
-use Rattle.pybuf_rows_views.specs.Cast.{size_of_format, size_for, entries_of, flat_layout_of, shaped_layout_of, layout_in_shape}
-use Rattle.pybuf_rows_views.specs.Laws.{ViewIsSafe, RangeIsSafe, SliceIsSafe, CastIsSafe, ReleaseIsSafe, EnterIsSafe, ContiguousIsCopied, ToReadonlyIsSafe}
+use Rattle.pybuf_rows_views.specs.Cast.{code_for, size_for, entries_of, flat_layout_of, shaped_layout_of, layout_in_shape, cast_of_view}
+use Rattle.pybuf_rows_views.specs.Laws.{ViewIsSafe, RangeIsSafe, SliceIsSafe, CastIsSafe, CastsAreOfBytes, ReleaseIsSafe, EnterIsSafe, ContiguousIsCopied, ToReadonlyIsSafe}
 
 bind : {A : Type 0} (e : Exporter) (r : Result A Fault) (f : A → Result (Exporter × LocalReply) Fault) → ((a : A) → r ≡ Ok a → IsSafe e (f a)) → IsSafe e (r >>= f)
 bind e r f after = done_bind (IsCarriedOut e) r f after
@@ -150,7 +157,7 @@ size_told (Ok f) size is some =
     rw same (ap₂ (λ (a b : Bool). a && b) (let less : nat_lt 0 size ≡ true = grind (arith, some) in less) (eq-eqb size size refl))
 size_told (Err g) size is some = absurd (cc)
 
-cast : CastsStayInside → CastsHaveTheirShape → (e : Exporter) (layout : Layout) (text : List ℕ) (size : ℕ) → is_contiguous_layout layout ≡ true → size_of_format text ≡ Ok size → 0 < size
+cast : CastsStayInside → CastsHaveTheirShape → (e : Exporter) (layout : Layout) (text : List ℕ) (size : ℕ) → is_contiguous_layout layout ≡ true → size_by text ≡ Ok size → 0 < size
     → IsSoundLayout e layout → IsSoundLayout e (cast_of layout text size)
 cast inside shapes e layout text size flat told some sound = record {
   formed = record { sized = size_told (format_of text) size told some; counted = shapes layout text size };
@@ -167,28 +174,44 @@ pub record CastLaws : Type 0 where
   pub shaped_inside : ShapedCastsStayInside
   pub shaped_shapes : ShapedCastsHaveTheirShape
   pub apart : CastsLieApart
+  pub sizes : NativeCodesHaveTheirSize
 
-size_last : (n size : ℕ) (part : Bool) → (unless part fault.Kind >>= λ _. Ok n) ≡ Ok size → n ≡ size
-size_last n size true is = absurd (cc)
-size_last n size false is = cc
+size_some : (c : FormatType) → 0 < size_of order.Native c
+size_some code.Short = omega arith
+size_some _ = omega arith
 
-size_case : (n len size : ℕ) (none : Bool) → (n == 0) ≡ none → (unless none fault.Kind >>= λ _. unless (not (len % n == 0)) fault.Kind >>= λ _. Ok n) ≡ Ok size → (n ≡ size) × (0 < size)
-size_case n len size true some is = absurd (cc)
-size_case n len size false some is =
-    let same : n ≡ size = size_last n size (not (len % n == 0)) is in
-    (same, subst (λ (m : ℕ). 0 < m) same (positive n some))
+code_case : (d c : FormatType) (mixed : Bool) → (unless mixed fault.Kind >>= λ _. Ok d) ≡ Ok c → d ≡ c
+code_case d c true is = absurd (cc)
+code_case d c false is = cc
 
--- the size of items that make up some bytes
-size_bound : (r : Result ℕ Fault) (len size : ℕ) → (r >>= λ n. unless (n == 0) fault.Kind >>= λ _. unless (not (len % n == 0)) fault.Kind >>= λ _. Ok n) ≡ Ok size → (r ≡ Ok size) × (0 < size)
-size_bound (Err f) len size is = absurd (cc)
-size_bound (Ok n) len size is = let both = size_case n len size (n == 0) refl is in (ap (λ (m : ℕ). Ok m) both.0, both.1)
+code_of_text : (layout : Layout) (r : Option FormatType) (c : FormatType)
+    → (ok_or r fault.Value >>= λ d. unless (not (is_byte_code d) && not (is_byte_format layout.format)) fault.Kind >>= λ _. Ok d) ≡ Ok c → r ≡ Some c
+code_of_text layout None c is = absurd (cc)
+code_of_text layout (Some d) c is = ap (λ (x : FormatType). Some x) (code_case d c (not (is_byte_code d) && not (is_byte_format layout.format)) is)
+
+size_case : (n size : ℕ) (part : Bool) → (unless part fault.Kind >>= λ _. Ok n) ≡ Ok size → n ≡ size
+size_case n size true is = absurd (cc)
+size_case n size false is = cc
+
+of_code : (layout : Layout) (text : List ℕ) (size : ℕ) (r : Result FormatType Fault) → r ≡ code_for layout text
+    → (r >>= λ c. unless (not (nbytes_of layout % size_of order.Native c == 0)) fault.Kind >>= λ _. Ok (size_of order.Native c)) ≡ Ok size
+    → (c : FormatType) × (code_for layout text ≡ Ok c) × (size_of order.Native c ≡ size)
+of_code layout text size (Err f) told is = absurd (cc)
+of_code layout text size (Ok c) told is = (c, sym told, size_case (size_of order.Native c) size (not (nbytes_of layout % size_of order.Native c == 0)) is)
+
+-- the format is one of `struct`, whose items have that size, which isn't 0
+size_bound : NativeCodesHaveTheirSize → (layout : Layout) (text : List ℕ) (size : ℕ) → size_for layout text ≡ Ok size → (size_by text ≡ Ok size) × (0 < size)
+size_bound sizes layout text size is =
+    let found = of_code layout text size (code_for layout text) refl is in
+    let told = sizes text found.0 (code_of_text layout (native_single_code text) found.0 found.1) in
+    (told ∙ ap (λ (m : ℕ). Ok m) found.2, subst (λ (m : ℕ). 0 < m) found.2 (size_some found.0))
 
 flat_sound : CastLaws → (e : Exporter) (layout : Layout) (text : List ℕ) → is_contiguous_layout layout ≡ true → IfDone (λ (l : Layout). IsSoundLayout e layout → IsSoundLayout e l) (flat_layout_of layout text)
 flat_sound laws e layout text flat =
     let P : Layout → Type 0 = λ l. IsSoundLayout e layout → IsSoundLayout e l in
     done_bind P (unless (not (length layout.shape == 1) && has_zero_entry layout.shape) fault.Kind) _ (λ _ _.
-    done_bind P (size_for (nbytes_of layout) text) _ (λ size told.
-    let sized = size_bound (size_of_format text) (nbytes_of layout) size told in
+    done_bind P (size_for layout text) _ (λ size told.
+    let sized = size_bound laws.sizes layout text size told in
     (λ sound. cast laws.inside laws.shapes e layout text size flat sized.0 sized.1 sound)))
 
 -- as many bytes as the items of the view have
@@ -202,10 +225,10 @@ shaped_sound laws e layout text parts flat =
     done_bind P (unless (has_zero_entry layout.shape) fault.Kind) _ (λ _ _.
     done_bind P (unless (not (length layout.shape == 1) && not (length parts == 1)) fault.Kind) _ (λ _ _.
     done_bind P (unless (nat_lt 64 (length parts)) fault.Value) _ (λ _ _.
-    done_bind P (size_for (nbytes_of layout) text) _ (λ size told.
+    done_bind P (size_for layout text) _ (λ size told.
     done_bind P (entries_of size parts) _ (λ entries _.
     done_bind P (unless (not (size * product entries == nbytes_of layout)) fault.Kind) _ (λ b whole.
-    let sized = size_bound (size_of_format text) (nbytes_of layout) size told in
+    let sized = size_bound laws.sizes layout text size told in
     let counted : size * product entries ≡ nbytes_of layout = bytes_told (size * product entries) (nbytes_of layout) b whole in
     (λ sound.
     let bytes : length layout.starts * layout.itemsize ≡ product entries * size =
@@ -229,14 +252,14 @@ in_shape_sound laws e layout text (Some (value.Slices s)) flat = tt
 flat_apart : CastsLieApart → (layout : Layout) (text : List ℕ) → IfDone HasItemsApart (flat_layout_of layout text)
 flat_apart apart layout text =
     done_bind HasItemsApart (unless (not (length layout.shape == 1) && has_zero_entry layout.shape) fault.Kind) _ (λ _ _.
-    done_bind HasItemsApart (size_for (nbytes_of layout) text) _ (λ size _. apart.0 layout text size))
+    done_bind HasItemsApart (size_for layout text) _ (λ size _. apart.0 layout text size))
 
 shaped_apart : CastsLieApart → (layout : Layout) (text : List ℕ) (parts : List Scalar) → IfDone HasItemsApart (shaped_layout_of layout text parts)
 shaped_apart apart layout text parts =
     done_bind HasItemsApart (unless (has_zero_entry layout.shape) fault.Kind) _ (λ _ _.
     done_bind HasItemsApart (unless (not (length layout.shape == 1) && not (length parts == 1)) fault.Kind) _ (λ _ _.
     done_bind HasItemsApart (unless (nat_lt 64 (length parts)) fault.Value) _ (λ _ _.
-    done_bind HasItemsApart (size_for (nbytes_of layout) text) _ (λ size _.
+    done_bind HasItemsApart (size_for layout text) _ (λ size _.
     done_bind HasItemsApart (entries_of size parts) _ (λ entries _.
     done_bind HasItemsApart (unless (not (size * product entries == nbytes_of layout)) fault.Kind) _ (λ _ _. apart.1 layout text size entries))))))
 
@@ -259,6 +282,71 @@ cast_safe laws e k format shape =
     let P : Layout → Type 0 = λ l. IsSoundLayout e layout → IsSoundLayout e l in
     done P (layout_in_shape layout text shape) made (in_shape_sound laws e layout text shape flat) given (laws.live e k layout sound found))
     (λ spaced. done HasItemsApart (layout_in_shape layout text shape) made (in_shape_apart laws.apart layout text shape) given)))))
+
+-- the code of a cast that is carried out
+abbrev OfBytes : Layout → List ℕ → Type 0
+OfBytes layout text = (c : FormatType) × (native_single_code text ≡ Some c) × (is_byte_code c || is_byte_format layout.format ≡ true)
+
+either : (a b mixed : Bool) → (not a && not b) ≡ mixed → mixed ≡ false → a || b ≡ true
+either true b mixed told is = refl
+either false true mixed told is = refl
+either false false mixed told is = absurd (true≢false (told ∙ is))
+
+mixed_case : (layout : Layout) (d : FormatType) (mixed : Bool) → (not (is_byte_code d) && not (is_byte_format layout.format)) ≡ mixed → IfDone (λ (c : FormatType). is_byte_code c || is_byte_format layout.format ≡ true) (unless mixed fault.Kind >>= λ _. Ok d)
+mixed_case layout d true told = tt
+mixed_case layout d false told = either (is_byte_code d) (is_byte_format layout.format) false told refl
+
+code_of_bytes : (layout : Layout) (r : Option FormatType) → IfDone (λ (c : FormatType). is_byte_code c || is_byte_format layout.format ≡ true) (ok_or r fault.Value >>= λ d. unless (not (is_byte_code d) && not (is_byte_format layout.format)) fault.Kind >>= λ _. Ok d)
+code_of_bytes layout None = tt
+code_of_bytes layout (Some d) = mixed_case layout d (not (is_byte_code d) && not (is_byte_format layout.format)) refl
+
+of_bytes : (layout : Layout) (text : List ℕ) (size : ℕ) → size_for layout text ≡ Ok size → OfBytes layout text
+of_bytes layout text size is =
+    let found = of_code layout text size (code_for layout text) refl is in
+    (found.0, code_of_text layout (native_single_code text) found.0 found.1, done (λ (c : FormatType). is_byte_code c || is_byte_format layout.format ≡ true) (code_for layout text) found.0 (code_of_bytes layout (native_single_code text)) found.1)
+
+flat_of_bytes : (layout : Layout) (text : List ℕ) → IfDone (λ (l : Layout). OfBytes layout text) (flat_layout_of layout text)
+flat_of_bytes layout text =
+    let P : Layout → Type 0 = λ l. OfBytes layout text in
+    done_bind P (unless (not (length layout.shape == 1) && has_zero_entry layout.shape) fault.Kind) _ (λ _ _.
+    done_bind P (size_for layout text) _ (λ size told. of_bytes layout text size told))
+
+shaped_of_bytes : (layout : Layout) (text : List ℕ) (parts : List Scalar) → IfDone (λ (l : Layout). OfBytes layout text) (shaped_layout_of layout text parts)
+shaped_of_bytes layout text parts =
+    let P : Layout → Type 0 = λ l. OfBytes layout text in
+    done_bind P (unless (has_zero_entry layout.shape) fault.Kind) _ (λ _ _.
+    done_bind P (unless (not (length layout.shape == 1) && not (length parts == 1)) fault.Kind) _ (λ _ _.
+    done_bind P (unless (nat_lt 64 (length parts)) fault.Value) _ (λ _ _.
+    done_bind P (size_for layout text) _ (λ size told.
+    done_bind P (entries_of size parts) _ (λ entries _.
+    done_bind P (unless (not (size * product entries == nbytes_of layout)) fault.Kind) _ (λ _ _. of_bytes layout text size told))))))
+
+in_shape_of_bytes : (layout : Layout) (text : List ℕ) (shape : Option Value) → IfDone (λ (l : Layout). OfBytes layout text) (layout_in_shape layout text shape)
+in_shape_of_bytes layout text None = flat_of_bytes layout text
+in_shape_of_bytes layout text (Some (value.Tuple parts)) = shaped_of_bytes layout text parts
+in_shape_of_bytes layout text (Some (value.List parts)) = shaped_of_bytes layout text parts
+in_shape_of_bytes layout text (Some (value.One s)) = tt
+in_shape_of_bytes layout text (Some (value.Slice s)) = tt
+in_shape_of_bytes layout text (Some (value.Slices s)) = tt
+
+abbrev CastOfBytes : Exporter → ℕ → Value → Type 0
+CastOfBytes e k format =
+    (layout : Layout) × (text : List ℕ) × (c : FormatType)
+    × (live_layout e k ≡ Ok layout) × (text_in format ≡ Ok text) × (native_single_code text ≡ Some c)
+    × (is_byte_code c || is_byte_format layout.format ≡ true)
+
+cast_done : (e : Exporter) (k : ℕ) (format : Value) (shape : Option Value) → IfDone (λ (made : Exporter × LocalReply). CastOfBytes e k format) (cast_of_view e k format shape)
+cast_done e k format shape =
+    let P : Exporter × LocalReply → Type 0 = λ made. CastOfBytes e k format in
+    done_bind P (live_layout e k) _ (λ layout found.
+    done_bind P (unless (not (is_contiguous_layout layout)) fault.Kind) _ (λ _ _.
+    done_bind P (text_in format) _ (λ text at.
+    done_bind P (layout_in_shape layout text shape) _ (λ cast given.
+    let code = done (λ (l : Layout). OfBytes layout text) (layout_in_shape layout text shape) cast (in_shape_of_bytes layout text shape) given in
+    (layout, text, code.0, found, at, code.1, code.2)))))
+
+pub casts_of_bytes : CastsAreOfBytes
+casts_of_bytes e k format shape made is = done (λ (m : Exporter × LocalReply). CastOfBytes e k format) (cast_of_view e k format shape) made (cast_done e k format shape) is
 
 -- ---- ranges
 

@@ -1,6 +1,6 @@
 -- `cast`: a new view of the same bytes, with items of another format, in one dimension or in those of
--- a shape.
-use Rattle.std.specs.Prelude.{ℕ, ◌*◌, ◌/◌, ◌%◌, ◌==◌, ◌&&◌, ◌||◌, not, List, [], ◌∷◌, length, nat_lt, ℤ, pos, negsuc, Option, Some, None, Result, Ok, Err, if◌then◌else◌}
+-- a shape. The format is one native code, and items of single bytes stand on one side at least.
+use Rattle.std.specs.Prelude.{ℕ, ◌*◌, ◌/◌, ◌%◌, ◌==◌, ◌&&◌, ◌||◌, not, List, [], ◌∷◌, length, nat_lt, ℤ, pos, negsuc, Option, Some, None, Result, Ok, Err, ok_or, if◌then◌else◌}
 use Rattle.pybuf_value.specs.declared.faults.Fault.{Fault}
 use Rattle.pybuf_value.specs.declared.faults.Fault.TheVariants as fault
 use Rattle.pybuf_value.specs.declared.values.Scalar.{Scalar}
@@ -9,7 +9,10 @@ use Rattle.pybuf_value.specs.declared.values.Value.TheVariants as value
 use Rattle.pybuf_value.specs.Refusing.{◌>>=◌, unless}
 use Rattle.pybuf_value.specs.Numbers.{number_in, fitted_number}
 use Rattle.pybuf_value.specs.Texts.{text_in}
-use Rattle.pybuf_struct.specs.Formats.{format_of}
+use Rattle.pybuf_struct.specs.declared.table.Endianness.TheVariants as order
+use Rattle.pybuf_struct.specs.declared.table.FormatType.{FormatType}
+use Rattle.pybuf_struct.specs.Table.{size_of}
+use Rattle.pybuf_struct.specs.Natives.{native_single_code, is_byte_code, is_byte_format}
 use Rattle.pybuf_desc.specs.Layouts.{Layout, product}
 use Rattle.pybuf_desc.specs.Contiguous.{is_contiguous_layout}
 use Rattle.pybuf_desc.specs.Casts.{cast_of}
@@ -18,19 +21,19 @@ use Rattle.pybuf_command.specs.declared.commands.LocalReply.{LocalReply}
 use Rattle.pybuf_memoryview.specs.Orders.{nbytes_of, has_zero_entry}
 use Rattle.pybuf_state.specs.Exporter.{Exporter, live_layout, with_view}
 
--- the size of the items of a format; `StructError` where the text is none
-abbrev pub size_of_format : List ℕ → Result ℕ Fault
-size_of_format text = do
-  format ← format_of text
-  Ok format.size
+-- the code to which a view is cast: the format is one native code, and it or that of the view has single bytes as items
+abbrev pub code_for : Layout → List ℕ → Result FormatType Fault
+code_for layout text = do
+  code ← ok_or (native_single_code text) fault.Value
+  _ ← unless (not (is_byte_code code) && not (is_byte_format layout.format)) fault.Kind
+  Ok code
 
--- the size of the items of a format that make up so many bytes
-abbrev pub size_for : ℕ → List ℕ → Result ℕ Fault
-size_for len text = do
-  size ← size_of_format text
-  _ ← unless (size == 0) fault.Kind
-  _ ← unless (not (len % size == 0)) fault.Kind
-  Ok size
+-- the size of its items, which make up the bytes of the view
+abbrev pub size_for : Layout → List ℕ → Result ℕ Fault
+size_for layout text = do
+  code ← code_for layout text
+  _ ← unless (not (nbytes_of layout % size_of order.Native code == 0)) fault.Kind
+  Ok (size_of order.Native code)
 
 -- an entry of a shape, which must be above 0 and at most the greatest word divided by the product so far
 abbrev pub entry_above_0 : ℕ → ℤ → Result ℕ Fault
@@ -55,7 +58,7 @@ entries_of size (part ∷ parts) = do
 abbrev pub flat_layout_of : Layout → List ℕ → Result Layout Fault
 flat_layout_of layout text = do
   _ ← unless (not (length layout.shape == 1) && has_zero_entry layout.shape) fault.Kind
-  size ← size_for (nbytes_of layout) text
+  size ← size_for layout text
   Ok (cast_of layout text size)
 
 -- The items in the dimensions of a shape: the view or the shape has one dimension, each dimension of
@@ -65,7 +68,7 @@ shaped_layout_of layout text parts = do
   _ ← unless (has_zero_entry layout.shape) fault.Kind
   _ ← unless (not (length layout.shape == 1) && not (length parts == 1)) fault.Kind
   _ ← unless (nat_lt 64 (length parts)) fault.Value
-  size ← size_for (nbytes_of layout) text
+  size ← size_for layout text
   entries ← entries_of size parts
   _ ← unless (not (size * product entries == nbytes_of layout)) fault.Kind
   Ok (cast_to layout text size entries)

@@ -1,8 +1,13 @@
 -- The rows keep a sound exporter, and only a refusal is replied as one.
-use Rattle.std.specs.Prelude.{◌≡◌, ℕ, Option, Ok}
+use Rattle.std.specs.Prelude.{◌≡◌, ◌||◌, ℕ, true, List, Option, Some, Ok}
 use Rattle.pybuf_value.specs.declared.values.PySlice.{PySlice}
 use Rattle.pybuf_value.specs.declared.values.Value.{Value}
-use Rattle.pybuf_state.specs.Exporter.{Exporter, released_in}
+use Rattle.pybuf_value.specs.Texts.{text_in}
+use Rattle.pybuf_struct.specs.declared.table.FormatType.{FormatType}
+use Rattle.pybuf_struct.specs.Natives.{native_single_code, is_byte_code, is_byte_format}
+use Rattle.pybuf_desc.specs.Layouts.{Layout}
+use Rattle.pybuf_command.specs.declared.commands.LocalReply.{LocalReply}
+use Rattle.pybuf_state.specs.Exporter.{Exporter, live_layout, released_in}
 use Rattle.pybuf_command.specs.declared.kinds.Subject.TheVariants as subject
 use Rattle.pybuf_value.specs.Refusing.{IfDone}
 use Rattle.pybuf_state.specs.Keeps.{IsSafe, IsCopied}
@@ -26,6 +31,16 @@ SliceIsSafe = (e : Exporter) (k : ℕ) (slice : PySlice) → IsSafe e (slice_of_
 
 abbrev pub CastIsSafe : Type 0
 CastIsSafe = (e : Exporter) (k : ℕ) (format : Value) (shape : Option Value) → IsSafe e (cast_of_view e k format shape)
+
+-- A cast that is carried out is one to a format of one native code, and that format or the view's has single bytes as
+-- items.
+abbrev pub CastsAreOfBytes : Type 0
+CastsAreOfBytes =
+    (e : Exporter) (k : ℕ) (format : Value) (shape : Option Value) (made : Exporter × LocalReply)
+    → cast_of_view e k format shape ≡ Ok made
+    → (layout : Layout) × (text : List ℕ) × (code : FormatType)
+    × (live_layout e k ≡ Ok layout) × (text_in format ≡ Ok text) × (native_single_code text ≡ Some code)
+    × (is_byte_code code || is_byte_format layout.format ≡ true)
 
 abbrev pub ReleaseIsSafe : Type 0
 ReleaseIsSafe = (e : Exporter) (k : ℕ) → IsSafe e (release_of_view e k)

@@ -1,5 +1,5 @@
 //! `cast`: a new view of the same bytes, with items of another format, in one dimension or in those of
-//! a shape.
+//! a shape. The format is one native code, and items of single bytes stand on one side at least.
 ghost use Rattle.std.specs.Prelude.{◌≡◌, ◌<◌, ◌≤◌, ◌*◌, ◌^◌, All, length, map, pos, true, None, Some, Ok, Err, IfOk, MatchResult};
 ghost use Rattle.std.specs.Prelude.{◌%◌, ◌==◌, ◌&&◌, not};
 ghost use Rattle.std.specs.Result.{result_map_both};
@@ -19,23 +19,9 @@ use pybuf_command::LocalReply;
 use pybuf_desc::KeptFormat;
 use pybuf_memoryview::KeptLayout;
 use pybuf_state::Parts;
-use pybuf_struct::{FormatSpec, single_size};
-use pybuf_value::{CountList, Fault, Halt, Outcome, Scalar, Value, fit_count, number_in, text_in};
+use pybuf_struct::{FormatType, is_byte_format, native_single_code};
+use pybuf_value::{CountList, Fault, Halt, Scalar, Value, fit_count, number_in, text_in};
 use std::alloc::Global;
-
-/// The size of a format's items. That of a format of one letter is told without parsing it.
-fn size_of(alloc: Global, text: &str) -> Result<usize, Halt>
-    ensures size { Gives (spec.size_of_format text.now) result }
-    ensures fits { IfOk result (λ size. size < 2 ^ 63) }
-{
-    if let Some(size) = single_size(text.as_bytes()) {
-        return Ok(size);
-    }
-    match FormatSpec::parse(alloc, text.as_bytes())? {
-        Outcome::Done(format) => Ok(format.size()),
-        Outcome::Refused(fault) => Err(Halt::Refused(fault)),
-    }
-}
 
 /// Whether so many bytes are whole items of a size.
 // The sizes of most formats are spelled out: by a power of two that is known beforehand a processor divides in a
@@ -54,19 +40,34 @@ fn are_whole(len: usize, size: usize) -> bool
     }
 }
 
-/// The size of the items of a format that make up so many bytes.
-fn size_for(alloc: Global, len: usize, text: &str) -> Result<usize, Halt>
-    ensures size { Gives (spec.size_for len text.now) result }
+/// The code to which a view is cast: the format is one native code, and it or that of the view has single bytes as
+/// items.
+fn code_for(layout: &KeptLayout, text: &str) -> Result<FormatType, Fault>
+    ensures { result ≡ spec.code_for layout.now text.now }
+{
+    let Some(code) = native_single_code(text.as_bytes()) else {
+        return Err(Fault::Value);
+    };
+    if code.is_byte() {
+        return Ok(code);
+    }
+    if !is_byte_format(layout.format_text().as_slice()) {
+        return Err(Fault::Kind);
+    }
+    Ok(code)
+}
+
+/// The size of its items, which make up the bytes of the view.
+fn size_for(layout: &KeptLayout, text: &str) -> Result<usize, Fault>
+    ensures size { result ≡ spec.size_for layout.now text.now }
     ensures some { IfOk result (λ size. 0 < size) }
     ensures fits { IfOk result (λ size. size < 2 ^ 63) }
-    ensures whole { IfOk result (λ size. len % size ≡ 0) }
+    ensures whole { IfOk result (λ size. nbytes_of layout.now % size ≡ 0) }
 {
-    let size = size_of(alloc, text)?;
-    if size == 0 {
-        return Err(Halt::Refused(Fault::Kind));
-    }
-    if !are_whole(len, size) {
-        return Err(Halt::Refused(Fault::Kind));
+    let code = code_for(layout, text)?;
+    let size = code.native_size();
+    if !are_whole(layout.nbytes(), size) {
+        return Err(Fault::Kind);
     }
     Ok(size)
 }
@@ -148,7 +149,7 @@ fn flat_layout_of(alloc: Global, layout: &KeptLayout, text: &str) -> Result<Kept
             return Err(Halt::Refused(Fault::Kind));
         }
     }
-    let size = size_for(alloc, layout.nbytes(), text)?;
+    let size = size_for(layout, text)?;
     let format = KeptFormat::of(alloc, text)?;
     Ok(layout.cast(format, size))
 }
@@ -182,7 +183,7 @@ fn shaped_layout_of(
     if parts.len() > 64 {
         return Err(Halt::Refused(Fault::Value));
     }
-    let size = size_for(alloc, layout.nbytes(), text)?;
+    let size = size_for(layout, text)?;
     let (entries, product) = entries_of(alloc, size, parts)?;
     if product != layout.nbytes() {
         return Err(Halt::Refused(Fault::Kind));
@@ -211,7 +212,7 @@ fn shaped_layout_by(
     if shape.len() > 64 {
         return Err(Halt::Refused(Fault::Value));
     }
-    let size = size_for(alloc, layout.nbytes(), text)?;
+    let size = size_for(layout, text)?;
     let product = product_of(size, shape)?;
     if product != layout.nbytes() {
         return Err(Halt::Refused(Fault::Kind));

@@ -1,6 +1,6 @@
 //! Laws of the definitions that the contracts cite. Each stands on a function with an empty body, or
 //! one that cites laws of the crates below.
-ghost use Rattle.pybuf_rows_views.specs.Laws.{ViewIsSafe, RangeIsSafe, SliceIsSafe, CastIsSafe, ReleaseIsSafe, EnterIsSafe, ContiguousIsCopied, ToReadonlyIsSafe, ReleasingTwiceIsOnce};
+ghost use Rattle.pybuf_rows_views.specs.Laws.{ViewIsSafe, RangeIsSafe, SliceIsSafe, CastIsSafe, CastsAreOfBytes, ReleaseIsSafe, EnterIsSafe, ContiguousIsCopied, ToReadonlyIsSafe, ReleasingTwiceIsOnce};
 
 /// `view` keeps a sound exporter.
 pub fn view_is_safe()
@@ -45,7 +45,14 @@ pub fn cast_is_safe()
     pybuf_desc::shaped_casts_stay_inside();
     pybuf_desc::shaped_casts_have_their_shape();
     pybuf_desc::casts_lie_apart();
+    pybuf_struct::native_codes_have_their_size();
 }
+
+/// A cast that is carried out is one to a format of one native code, and that format or the view's has single bytes as
+/// items.
+pub fn casts_are_of_bytes()
+    ensures { CastsAreOfBytes }
+{}
 
 /// `release` keeps a sound exporter.
 pub fn release_is_safe()

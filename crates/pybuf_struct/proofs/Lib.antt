@@ -17,3 +17,4 @@ pub mod Whole
 pub mod RoundTrips
 pub mod Aligned
 pub mod Singles
+pub mod Natives

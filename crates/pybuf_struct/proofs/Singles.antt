@@ -15,7 +15,7 @@ use Rattle.pybuf_struct.specs.Table.{letter, every_code, size_of}
 use Rattle.pybuf_struct.specs.Formats.{Format, Field, codes_in, layout_from, format_after_prefix, format_of}
 use Rattle.pybuf_struct.specs.Values.{value_of, values, unpacked_values}
 use Rattle.pybuf_struct.specs.Packing.{bytes_of, contents_of, room_with_contents, packed_bytes}
-use Rattle.pybuf_struct.specs.Singles.{single_code, is_numeric, numeric_code, numeric_alone, size_by, values_by, bytes_by}
+use Rattle.pybuf_struct.specs.Singles.{single_code, is_numeric, numeric_code, numeric_alone, values_by, bytes_by}
 use Rattle.pybuf_struct.proofs.RoundTrips.{unpacked_at}
 
 -- the format that the letter of a code spells
@@ -31,7 +31,7 @@ found_by : {X : Type 0} (p : X → Bool) (x : X) (b : Bool) (rest : Option X) (y
 found_by p x true rest y is after found = let same : x ≡ y = cc in subst (λ z. p z ≡ true) same is
 found_by p x false rest y is after found = after found
 
-find_passes : {X : Type 0} (p : X → Bool) (xs : List X) (y : X) → find p xs ≡ Some y → p y ≡ true
+pub find_passes : {X : Type 0} (p : X → Bool) (xs : List X) (y : X) → find p xs ≡ Some y → p y ≡ true
 find_passes p [] y found = absurd cc
 find_passes p (x ∷ xs) y found = found_by p x (p x) (find p xs) y refl (find_passes p xs y) found
 
@@ -41,9 +41,6 @@ single_spells (b ∷ []) c is =
     let same : letter c ≡ b = eqb-true (letter c) b (find_passes (λ d. letter d == b) every_code c is) in
     subst (λ (x : ℕ). format_of (x ∷ []) ≡ Ok (single_format c)) same (letter_spells c)
 single_spells (b ∷ d ∷ rest) c is = absurd cc
-
-pub size_of_single : (text : List ℕ) (c : FormatType) → single_code text ≡ Some c → size_by text ≡ Ok (size_of order.Native c)
-size_of_single text c is = rw (single_spells text c is) refl
 
 one_value : (c : FormatType) (bytes : List ℕ) → is_numeric c ≡ true → take (size_of order.Native c) bytes ≡ bytes → values (single_format c) bytes ≡ value_of order.Native c bytes ∷ []
 one_value code.Pad bytes numeric whole = absurd cc

@@ -1,5 +1,6 @@
 -- What reading gives of what was written.
-use Rattle.std.specs.Prelude.{IsTrue, Bool, true, false, ℕ, ◌==◌, ◌+◌, ◌-◌, ◌%◌, ◌^◌, ◌≡◌, ◌<◌, ◌≤◌, min, not, List, [], ◌∷◌, ◌++◌, length, map, take, ℤ, Result, Ok, Err, if◌then◌else◌}
+use Rattle.std.specs.Str.{byte}
+use Rattle.std.specs.Prelude.{◌⊎◌, Some, IsTrue, Bool, true, false, ℕ, ◌==◌, ◌+◌, ◌-◌, ◌%◌, ◌^◌, ◌≡◌, ◌<◌, ◌≤◌, min, not, List, [], ◌∷◌, ◌++◌, length, map, take, ℤ, Result, Ok, Err, if◌then◌else◌}
 use Rattle.std.specs.List.{All, AllByRecursion}
 use Rattle.pybuf_value.specs.declared.faults.Fault.{Fault}
 use Rattle.pybuf_value.specs.declared.values.Scalar.{Scalar}
@@ -10,7 +11,10 @@ use Rattle.pybuf_value.specs.Snaps.{bytes_like, bytes_alone}
 use Rattle.pybuf_struct.specs.declared.table.Endianness.{Endianness}
 use Rattle.pybuf_struct.specs.declared.table.FormatType.{FormatType}
 use Rattle.pybuf_struct.specs.declared.table.FormatType.TheVariants as code
-use Rattle.pybuf_struct.specs.Table.{alignment_of}
+use Rattle.pybuf_struct.specs.declared.table.Endianness.TheVariants as order
+use Rattle.pybuf_struct.specs.Table.{letter, size_of, alignment_of}
+use Rattle.pybuf_struct.specs.Singles.{size_by}
+use Rattle.pybuf_struct.specs.Natives.{is_item_code, native_single_code}
 use Rattle.pybuf_struct.specs.Formats.{Code, Format, Field, format_of, fields}
 use Rattle.pybuf_struct.specs.FormatTexts.{WrittenCode, IsPrefixOf, AreWritten, text_of_codes, items_of_codes, item_of_code, end_after}
 use Rattle.pybuf_struct.specs.Values.{values, unpacked_values}
@@ -100,3 +104,15 @@ FormatsReadBack =
     (o : Endianness) (prefix : List ℕ) (ws : List WrittenCode)
     → IsPrefixOf o prefix → AreWritten o ws → end_after o 0 (items_of_codes ws) < 2 ^ 63
     → (f : Format) × (format_of (prefix ++ text_of_codes ws) ≡ Ok f) × (f.order ≡ o) × (map item_of_code f.codes ≡ items_of_codes ws)
+
+-- A text is a format of one native code where it is the letter of a code other than `x`, `s` and `p`, alone or behind
+-- `@`, and nowhere else.
+pub record NativeCodesAreSpelled : Type 0 where
+  pub alone : (c : FormatType) → is_item_code c ≡ true → native_single_code (letter c ∷ []) ≡ Some c
+  pub behind : (c : FormatType) → is_item_code c ≡ true → native_single_code (byte "@" ∷ letter c ∷ []) ≡ Some c
+  pub only : (text : List ℕ) (c : FormatType) → native_single_code text ≡ Some c →
+      (is_item_code c ≡ true) × ((text ≡ letter c ∷ []) ⊎ (text ≡ byte "@" ∷ letter c ∷ []))
+
+-- A format of one native code is a format, whose items have the code's native size.
+abbrev pub NativeCodesHaveTheirSize : Type 0
+NativeCodesHaveTheirSize = (text : List ℕ) (c : FormatType) → native_single_code text ≡ Some c → size_by text ≡ Ok (size_of order.Native c)

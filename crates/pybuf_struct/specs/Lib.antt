@@ -7,4 +7,5 @@ pub mod Cursor
 pub mod FormatTexts
 pub mod Laws
 pub mod Singles
+pub mod Natives
 pub mod Offsets

@@ -1,6 +1,6 @@
 //! Laws over all formats, values and bytes. Their statements cite the definitions that the
 //! contracts of `FormatSpec::parse`, `pack`, `pack_into` and `unpack` cite.
-ghost use Rattle.pybuf_struct.specs.Laws.{FieldsLieInOrder, ReadsWhatWasWritten, WritesWhatWasRead, FormatsReadBack, PackingFillsTheFormat, BytesOfTheSizeAreRead};
+ghost use Rattle.pybuf_struct.specs.Laws.{FieldsLieInOrder, ReadsWhatWasWritten, WritesWhatWasRead, FormatsReadBack, PackingFillsTheFormat, BytesOfTheSizeAreRead, NativeCodesAreSpelled, NativeCodesHaveTheirSize};
 
 /// Codes and counts that are written out by the grammar are read as the same codes and counts: for
 /// every prefix, every code that formats of this prefix have, and every count, whether it is
@@ -37,4 +37,14 @@ pub fn bytes_of_the_size_are_read()
 /// formats without `x`, alignment, `?` and `p`.
 pub fn writes_what_was_read()
     ensures { WritesWhatWasRead }
+{}
+
+/// The formats of one native code are the letters of its codes, all but `x`, `s` and `p`, and these letters behind `@`.
+pub fn native_codes_are_spelled()
+    ensures { NativeCodesAreSpelled }
+{}
+
+/// A format of one native code is one of `struct`, and its items have the size of the code.
+pub fn native_codes_have_their_size()
+    ensures { NativeCodesHaveTheirSize }
 {}

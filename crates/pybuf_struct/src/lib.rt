@@ -5,6 +5,7 @@ mod cursor;
 mod digits;
 mod format;
 mod laws;
+mod native;
 mod pack;
 mod parse;
 mod single;
@@ -14,8 +15,10 @@ mod unpack;
 
 pub use format::{FormatCode, FormatSpec};
 pub use laws::{
-    bytes_of_the_size_are_read, fields_lie_in_order, formats_read_back, packing_fills_the_format,
-    reads_what_was_written, writes_what_was_read,
+    bytes_of_the_size_are_read, fields_lie_in_order, formats_read_back, native_codes_are_spelled,
+    native_codes_have_their_size, packing_fills_the_format, reads_what_was_written,
+    writes_what_was_read,
 };
-pub use single::{is_numeric_letter, pack_single, single_size, single_value};
+pub use native::{is_byte_format, native_single_code};
+pub use single::{is_numeric_letter, pack_single, single_value};
 pub use table::{Endianness, FormatType};

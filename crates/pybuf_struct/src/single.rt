@@ -13,7 +13,7 @@ use crate::table::{Endianness, FormatType};
 use pybuf_value::{Scalar, number_in};
 
 /// The code of a text that is its letter alone.
-fn single_code(text: &[u8]) -> Option<FormatType>
+pub(crate) fn single_code(text: &[u8]) -> Option<FormatType>
     ensures { result ≡ spec.single_code text.now }
 {
     match text {
@@ -51,19 +51,6 @@ fn value_of(code: FormatType, bytes: &[u8]) -> Scalar
         FormatType::Bool => Scalar::Bool(bytes[0] != 0),
         _ => Scalar::Int(number(false, code.is_signed(), bytes)),
     }
-}
-
-/// The size that the format of a text of one code's letter has. Takes no memory.
-///
-/// None exactly where the text is anything else, for which `FormatSpec::parse` decides.
-#[tactic(auto, using(crate::proofs::Singles::size_of_single))]
-pub fn single_size(text: &[u8]) -> Option<usize>
-    ensures size { IfSome result (λ size. spec.size_by text.now ≡ Ok size) }
-    ensures bound { IfSome result (λ size. size ≤ 8) }
-    ensures none { IfNone result (spec.single_code text.now ≡ None) }
-{
-    let code = single_code(text)?;
-    Some(code.size(Endianness::Native))
 }
 
 /// Whether a text is the letter alone of a code whose value is a whole number or a truth value, and

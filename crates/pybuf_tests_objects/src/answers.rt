@@ -122,10 +122,18 @@ pub(crate) fn bytes_reply(alloc: Global, bytes: &[u8]) -> Made<LocalReply> {
     Ok(LocalReply::Bytes(bytes))
 }
 
+fn tell_values(told: &mut Vec<u8>, values: &[Scalar]) -> Made<()> {
+    tell_word(told, b"(")?;
+    for value in values {
+        tell_scalar(told, value)?;
+    }
+    tell_word(told, b")")
+}
+
 fn tell_item(told: &mut Vec<u8>, item: &Item) -> Made<()> {
     match item {
         Item::One(scalar) => tell_scalar(told, scalar),
-        Item::Many(_) => tell_word(told, b"?"),
+        Item::Many(values) => tell_values(told, values.as_slice()),
     }
 }
 

@@ -14,6 +14,8 @@ mod byte_strings;
 #[cfg(test)]
 mod counted;
 #[cfg(test)]
+mod described;
+#[cfg(test)]
 mod exporters;
 #[cfg(test)]
 mod memory_views;

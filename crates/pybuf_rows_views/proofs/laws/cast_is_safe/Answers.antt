@@ -11,4 +11,5 @@ returns c =
       shaped_inside = c.shaped_casts_stay_inside.ensures;
       shaped_shapes = c.shaped_casts_have_their_shape.ensures;
       apart = c.casts_lie_apart.ensures;
+      sizes = c.native_codes_have_their_size.ensures;
     })
