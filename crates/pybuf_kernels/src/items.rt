@@ -74,7 +74,10 @@ impl Form {
         };
         let bytes = drawn(alloc, plan.seed, plan.count.saturating_mul(size))?;
         let mut viewed = Viewed::whole(alloc, bytes)?;
-        viewed.describe(alloc, format, size, plan.count)?;
+        match self {
+            Form::Byte | Form::Number => viewed.cast(alloc, format, None)?,
+            Form::Record => viewed.describe(alloc, format, size, plan.count)?,
+        }
         Ok(viewed)
     }
 }
