@@ -43,7 +43,11 @@ fn send_long<K: Sink>(sink: &mut K, text: &mut Vec<u8>) -> Result<(), PutFault>
 
 /// Adds a reply to those that wait, and puts these where they are long. A reply that is long by itself,
 /// or for which there is no more room, is put from where it was written.
-fn send_reply<K: Sink>(sink: &mut K, text: &mut Vec<u8>, reply: &mut Vec<u8>) -> Result<(), PutFault>
+fn send_reply<K: Sink>(
+    sink: &mut K,
+    text: &mut Vec<u8>,
+    reply: &mut Vec<u8>,
+) -> Result<(), PutFault>
     ensures sent { OnOk result (Sends (K.bytes_held sink.old) (text.old.items ++ reply.old.items) text.new.items (K.bytes_held sink.new)) }
     ensures empty { OnOk result (reply.new.items ≡ []) }
     ensures prefix { OnErr result (PutPrefix (K.bytes_held sink.old) (text.old.items ++ reply.old.items) (K.bytes_held sink.new)) }

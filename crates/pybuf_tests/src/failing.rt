@@ -1,7 +1,5 @@
 //! Devices in memory that fail at each of their calls in turn, and an input that is cut at each place.
-use pybuf_cli::{
-    ListSink, ListSource, QuietSink, QuietSource, Status, serve_alone, serve_bytes,
-};
+use pybuf_cli::{ListSink, ListSource, QuietSink, QuietSource, Status, serve_alone, serve_bytes};
 use pybuf_value::{ByteList, CountList, Made};
 use std::alloc::Global;
 use std::test::Fail;
@@ -9,6 +7,7 @@ use std::test::Fail;
 /// The six lines of the program's stored run, and what is written for them.
 const INPUT: &[u8] =
     b"new bytearray x616263\nview h0\nset h1 0 65\nget h1 0\nbytes h1\nrelease h1\n";
+
 const OUTPUT: &[u8] = b"h0\nh1\nok\n65\nb'Abc'\nok\n";
 
 /// A header that is written through casts, of which no command is refused for its values.
