@@ -52,6 +52,14 @@ sends_all old mid new first second rest before after none = record {
   put = put_both old mid new first second before after;
 }
 
+-- a text was put, and nothing waits
+pub sends_whole : (old new : Option (List ℕ)) (text rest : List ℕ) → Put old text new → rest ≡ [] → Sends old text rest new
+sends_whole old new text rest put none = record {
+  sent = text;
+  whole = sym (ap (λ x. text ++ x) none ∙ append-nil text);
+  put = put;
+}
+
 -- nothing is put, and the whole text waits
 pub sends_later : (old : Option (List ℕ)) (text : List ℕ) → Sends old text text old
 sends_later old text = record { sent = []; whole = refl; put = put_nothing old }

@@ -121,10 +121,10 @@ pub fn run_lines<K: Sink>(alloc: Global, sink: &mut K, input: &[u8]) -> Result<(
     let mut reply = Vec::new(alloc);
     let mut rest = input;
     'running: while let Some((line, after)) = next_line(rest) {
-        if answer_line(alloc, &mut world, &mut words, line, &mut reply).is_err() {
+        let Ok(()) = answer_line(alloc, &mut world, &mut words, line, &mut reply) else {
             send_front(sink, text.as_slice());
             return Err(PutFault::NoMemory);
-        }
+        };
         send_reply(sink, &mut text, &mut reply)?;
         rest = after;
     }
