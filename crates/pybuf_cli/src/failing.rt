@@ -111,14 +111,13 @@ impl Source for ListSource {
         ensures counts { Counts self.old.faults self.new.faults }
         ensures fails { IsErr result ↔ (fails_next self.old ≡ true) }
         ensures fault { OnErr result (self.new ≡ after_fault self.old) }
-        ensures count { IfOk result (λ count. count ≡ min (min self.old.most (length room.old)) (length self.old.bytes)) }
+        ensures count { IfOk result (λ count. count ≡ min (min (length self.old.bytes) (length room.old)) self.old.most) }
         ensures moved { IfOk result (λ count. self.new ≡ with_bytes self.old (drop count self.old.bytes)) }
     {
         if self.calls.next_fails() {
             return Err(Failed);
         }
-        let fits = self.most.min(room.len());
-        Ok(self.source.move_next(&mut room[..fits]))
+        Ok(self.source.move_next(room, self.most))
     }
 }
 

@@ -39,13 +39,13 @@ impl QuietSource {
         &self.bytes[self.taken..]
     }
 
-    /// Moves the next bytes into the front of the room, as many as there are and fit.
-    pub(crate) fn move_next(&mut self, room: &mut [u8]) -> usize
-        ensures count { result ≡ min (length room.old) (length self.old) }
+    /// Moves the next bytes into the front of the room, as many as there are and fit, and no more than that.
+    pub(crate) fn move_next(&mut self, room: &mut [u8], most: usize) -> usize
+        ensures count { result ≡ min (min (length self.old) (length room.old)) most }
         ensures moved { take result room.new ≡ take result self.old }
         ensures left { self.new ≡ drop result self.old }
     {
-        let count = move_front(&self.bytes[self.taken..], room);
+        let count = move_front(&self.bytes[self.taken..], room, most);
         self.taken += count;
         count
     }
@@ -57,16 +57,19 @@ impl Source for QuietSource {
     ghost faults = { λ _. 0 };
 
     fn take(&mut self, room: &mut [u8]) -> Result<usize, Failed> {
-        Ok(self.move_next(room))
+        let most = room.len();
+        Ok(self.move_next(room, most))
     }
 }
 
-/// Copies the front of a slice to the front of the room, as much as there is and fits.
-fn move_front(from: &[u8], room: &mut [u8]) -> usize
-    ensures count { result ≡ min (length room.old) (length from.now) }
+/// Copies the front of a slice to the front of the room, as much as there is and fits, and no more than
+/// that.
+fn move_front(from: &[u8], room: &mut [u8], most: usize) -> usize
+    ensures count { result ≡ min (min (length from.now) (length room.old)) most }
+    ensures there { result ≤ length from.now }
     ensures copied { take result room.new ≡ take result from.now }
 {
-    let count = from.len().min(room.len());
+    let count = from.len().min(room.len()).min(most);
     room[..count].copy_from_slice(&from[..count]);
     count
 }
