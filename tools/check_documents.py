@@ -6,6 +6,10 @@
 - A must-fail edit that a document shows has to lie in a folder `must-fail/`, or to turn a line that a block of changes of
   that document puts in.
 - An input of the program has to be an example of `examples/`, with the output that the document shows.
+- A session that stands beside Python has to be an example, with these replies, and Python, run here, has to give what the
+  replies say.
+- Each example has to be named in `examples/README.md`.
+- A picture has to be what `tools/draw_pictures.py` draws from the replies of its examples.
 - A line in a table of `docs/COMMANDS.md` has to stand in an example, with the reply of the table. A value in its table of
   values has to stand in the input of one, and a reply in its table of replies in the output of one.
 - A file or a folder that a document names has to be there, and so has a case or a test that `docs/DIFFERENCES.md` names.
@@ -17,8 +21,15 @@ import re
 import shlex
 import sys
 
+sys.dont_write_bytecode = True
+
+import draw_pictures
+
 ROOT = pathlib.Path(__file__).resolve().parent.parent
-DOCUMENTS = [ROOT / "README.md", ROOT / "CONTRIBUTING.md", ROOT / "CHANGELOG.md"] + sorted((ROOT / "docs").glob("*.md"))
+TOP = [ROOT / "README.md", ROOT / "CONTRIBUTING.md", ROOT / "CHANGELOG.md", ROOT / "examples/README.md"]
+DOCUMENTS = TOP + sorted((ROOT / "docs").glob("*.md"))
+# The head of a session that is shown beside Python.
+BESIDE_PYTHON = "| Line | Reply | In Python |"
 ENDINGS = {"rust": ".rt", "antt": ".antt"}
 faults = []
 
@@ -124,8 +135,15 @@ def shown_behind(lines, at):
 
 
 def check_inputs(document, lines, examples):
-    """Inputs that a document pipes into the program, or writes into a file."""
+    """Inputs that a document pipes into the program, writes into a file, or takes from an example."""
     for at, line in enumerate(lines):
+        tried = re.fullmatch(r" {4}\$ (?:cd crates/pybuf && )?rt try < \.\./\.\./examples/(\S+)", line)
+        if tried is not None:
+            stored, shown = ROOT / "examples" / f"{tried[1]}.stdout", shown_behind(lines, at + 1)
+            if not stored.exists():
+                report(document, at + 1, f"there is no example {tried[1]}")
+            elif shown and shown != stored.read_text():
+                report(document, at + 1, "the example has another output")
         piped = re.fullmatch(r" {4}\$ (printf .*) \| pybuf", line)
         if piped is not None:
             text = shlex.split(piped[1])[1].replace("\\n", "\n")
@@ -138,6 +156,52 @@ def check_inputs(document, lines, examples):
                 report(document, at + 1, "no example has this input")
             elif not any(given == text and written in plain_blocks(lines) for given, written in examples):
                 report(document, at + 1, "the output of this input is not shown")
+
+
+def in_python(statement, names):
+    """What Python does, as a reply: a value, a refusal, or nothing."""
+    try:
+        try:
+            value = eval(statement, names)
+        except SyntaxError:
+            exec(statement, names)
+            return None
+    except Exception as fault:
+        return f"! {type(fault).__name__}"
+    return None if value is None else repr(value)
+
+
+def check_beside_python(document, lines, examples):
+    """A session that stands beside Python. What Python has no statement for is said in words."""
+    given, written, names = "", "", {}
+    for number, cells in rows(lines, BESIDE_PYTHON):
+        line, reply = (quoted(cell)[0] for cell in cells[:2])
+        given, written = given + line + "\n", written + reply + "\n"
+        if cells[2] != f"`{cells[2].strip('`')}`":
+            continue
+        done = in_python(cells[2].strip("`"), names)
+        if done != (None if re.fullmatch(r"ok|h[0-9]+", reply) else reply):
+            report(document, number, f"Python does not reply {reply}: {done}")
+    if given and (given, written) not in examples:
+        report(document, 1, "no example has the session that stands beside Python")
+    if not given and document == ROOT / "README.md":
+        report(document, 1, "no session stands beside Python")
+
+
+def check_examples(document, lines):
+    """Every example is named."""
+    named = {name for line in lines for name in quoted(line)}
+    for path in sorted((ROOT / "examples").glob("*.stdout")):
+        if path.stem not in named:
+            report(document, 1, f"the example {path.stem} is not named")
+
+
+def check_pictures():
+    """Every picture is there, as it is drawn from what is stored of its examples."""
+    drawn = {ROOT / "docs" / name: text for name, text in draw_pictures.pictures(draw_pictures.stored).items()}
+    for path in sorted({*drawn, *(ROOT / "docs").glob("*.svg")}):
+        if not path.exists() or drawn.get(path) != path.read_text():
+            report(path, 1, "tools/draw_pictures.py draws another picture")
 
 
 def plain_blocks(lines):
@@ -271,6 +335,7 @@ def main():
         lines = document.read_text().split("\n")
         check_blocks(document, lines, kept)
         check_inputs(document, lines, examples)
+        check_beside_python(document, lines, examples)
         check_edits(document, lines)
         check_names(document, lines)
         if document.name == "DEFINITIONS.md":
@@ -279,6 +344,9 @@ def main():
             check_differences(document, lines)
         if document.name == "COMMANDS.md":
             check_tables(document, lines, examples)
+        if document == ROOT / "examples/README.md":
+            check_examples(document, lines)
+    check_pictures()
     for fault in faults:
         print(fault)
     return 1 if faults else 0
