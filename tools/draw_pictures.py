@@ -69,9 +69,8 @@ def starts_of(places, size):
 def picture_of_places(reply):
     """How views pick byte places in one exporter: a row for each line that makes one."""
     cell, left, row, top = 38, 250, 62, 64
-    bytes_of = lambda line: ast.literal_eval(reply[line])
-    before = bytes_of("bytes h1")
-    after = bytes_of("bytes h0")
+    # the bytes before the write, of which each is the number of its place, and those after it
+    before, after = (ast.literal_eval(reply[line]) for line in ("bytes h1", "bytes h0"))
     count = len(before)
     assert list(before) == list(range(count))
     right = left + count * cell + 22
@@ -81,7 +80,10 @@ def picture_of_places(reply):
         "How a slice of a slice of a cast picks its byte places in one exporter",
         "A row for the bytearray and one for each view, each item over the bytes that it picks, and the bytearray after a write.",
     )
-    middle = lambda place, size=1: left + (place + size / 2) * cell
+
+    def middle(place, size=1):
+        return left + (place + size / 2) * cell
+
     picture.text(22, 30, "Four views of one bytearray, each a list of places in it", bold=True, size=15)
     picture.text(left - 12, top - 8, "place", anchor="end", ink=SOFT, size=13)
     for place in range(count):
@@ -93,7 +95,8 @@ def picture_of_places(reply):
         picture.text(22, y + 36, handle, code=True, ink=SOFT, size=13)
 
     y = top
-    label(y, "new bytearray x0001..0b", reply["new bytearray x000102030405060708090a0b"] + ", the bytes")
+    digits = before.hex()
+    label(y, f"new bytearray x{digits[:4]}..{digits[-2:]}", reply[f"new bytearray x{digits}"] + ", the bytes")
     for place, byte in enumerate(before):
         picture.box(left + place * cell, y, cell, 34, GREY, round=0)
         picture.text(middle(place), y + 22, f"{byte:02x}", anchor="middle", code=True)
@@ -101,7 +104,7 @@ def picture_of_places(reply):
         y += row
         handle = reply[line]
         size = int(reply[f"prop {handle} itemsize"])
-        starts = starts_of(bytes_of(f"bytes {handle}"), size)
+        starts = starts_of(ast.literal_eval(reply[f"bytes {handle}"]), size)
         values = ast.literal_eval(reply[f"tolist {handle}"])
         assert len(values) == len(starts)
         label(y, line, f"{handle}, {len(starts)} items")
