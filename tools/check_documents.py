@@ -13,7 +13,8 @@
 - A line in a table of `docs/COMMANDS.md` has to stand in an example, with the reply of the table. A value in its table of
   values has to stand in the input of one, and a reply in its table of replies in the output of one.
 - A file or a folder that a document names has to be there, and so has a case or a test that `docs/DIFFERENCES.md` names.
-- `docs/DEFINITIONS.md` has to name each file of definitions but those of laws.
+- `docs/DEFINITIONS.md` has to name each file of definitions but those of laws, and those that the contract of `serve`
+  imports, through others too, under the heading that says so, and no others there.
 """
 
 import pathlib
@@ -28,6 +29,8 @@ import draw_pictures
 ROOT = pathlib.Path(__file__).resolve().parent.parent
 TOP = [ROOT / "README.md", ROOT / "CONTRIBUTING.md", ROOT / "CHANGELOG.md", ROOT / "examples/README.md"]
 DOCUMENTS = TOP + sorted((ROOT / "docs").glob("*.md"))
+# The heading of the definitions that the contract of `serve` cites.
+CITED = "## Cited by the contract of `serve`"
 # The head of a session that is shown beside Python.
 BESIDE_PYTHON = "| Line | Reply | In Python |"
 ENDINGS = {"rust": ".rt", "antt": ".antt"}
@@ -279,6 +282,36 @@ def named_definitions(lines):
                 yield number, f"crates/{folder}{name.removesuffix('.antt')}.antt", whole is not None or name.endswith(".antt")
 
 
+def imported_definitions(start):
+    """The files of definitions that one imports, through others too, and that one."""
+    found, waiting = set(), [start]
+    while waiting:
+        path = waiting.pop()
+        if path in found:
+            continue
+        found.add(path)
+        for crate, name in re.findall(r"^use Rattle\.(pybuf_\w+)\.specs\.(\w+)", path.read_text(), re.MULTILINE):
+            other = ROOT / "crates" / crate / "specs" / f"{name}.antt"
+            if other.exists():
+                waiting.append(other)
+    return {str(path.relative_to(ROOT)) for path in found}
+
+
+def check_cited(document, lines):
+    """The section on what the contract of `serve` cites names the files that it imports, and no others."""
+    start = next((at for at, line in enumerate(lines) if line.startswith(CITED)), None)
+    if start is None:
+        report(document, 1, f"there is no heading {CITED}")
+        return
+    end = next(at for at, line in enumerate([*lines[start + 1 :], "## "], start + 1) if line.startswith("## "))
+    named = {name for _, name, _ in named_definitions(lines[start:end]) if (ROOT / name).exists()}
+    cited = imported_definitions(ROOT / "crates/pybuf_cli/specs/Program.antt")
+    for name in sorted(cited - named):
+        report(document, start + 1, f"{name} is imported by the contract of `serve`, and is not named in this section")
+    for name in sorted(named - cited):
+        report(document, start + 1, f"{name} is not imported by the contract of `serve`")
+
+
 def check_definitions(document, lines):
     """Every file of definitions is named, and every file that is named is there."""
     named = set()
@@ -340,6 +373,7 @@ def main():
         check_names(document, lines)
         if document.name == "DEFINITIONS.md":
             check_definitions(document, lines)
+            check_cited(document, lines)
         if document.name == "DIFFERENCES.md":
             check_differences(document, lines)
         if document.name == "COMMANDS.md":
