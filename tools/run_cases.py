@@ -10,10 +10,9 @@ too.
 A case is a file NAME, which is the input, with what has to be written for it beside it, NAME.stdout. NAME.args has the
 words behind the program's name, a word a line, none where it isn't there, and NAME.status the status that has to come,
 0 where it isn't there. Nothing may come on standard error. Each line of `cases/no-commands.txt` is an input of its own.
-A README.md is no case.
 
 As many cases run side by side as there are processors. A folder that isn't there or has no case, and a file that neither
-is a case nor belongs to one, fail too.
+is a case nor belongs to one nor is a README.md, fail too.
 """
 
 import ast
