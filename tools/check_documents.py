@@ -244,7 +244,7 @@ def check_differences(document, lines):
         for name in cases:
             if not (ROOT / "cases" / (name if "/" in name else f"differences/{name}")).exists() and name not in printed:
                 report(document, number, f"no case and no line of pybuf_method_tables is named {name}")
-        tests = re.findall(r"[Tt]ests? ((?:`\w+`(?:,| and)? ?)+)of `(pybuf_\w+)`", line)
+        tests = re.findall(r"((?:`\w+`(?:,| and)? ?)+)of `(pybuf_tests\w*)`", line)
         for names, crate in tests:
             source = "".join(path.read_text() for path in (ROOT / "crates" / crate / "src").glob("**/*.rt"))
             for name in quoted(names):
