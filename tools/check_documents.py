@@ -6,11 +6,9 @@
 - A must-fail edit that a document shows has to lie in a folder `must-fail/`, or to turn a line that a block of changes of
   that document puts in.
 - An input of the program has to be an example of `examples/`, with the output that the document shows.
-- A line in a table of `docs/COMMANDS.md` has to stand in an example, with the reply of the table; of methods and properties
-  what stands behind `call h0`, or `prop` and a handle. A value in its table of
+- A line in a table of `docs/COMMANDS.md` has to stand in an example, with the reply of the table. A value in its table of
   values has to stand in the input of one, and a reply in its table of replies in the output of one.
-- A file or a folder that a document names has to be there, and so has a case or a test that `docs/DIFFERENCES.md` names,
-  where each line of a list names one.
+- A file or a folder that a document names has to be there, and so has a case or a test that `docs/DIFFERENCES.md` names.
 - `docs/DEFINITIONS.md` has to name each file of definitions but those of laws.
 """
 
@@ -171,7 +169,8 @@ def quoted(cell):
 
 
 def check_tables(document, lines, examples):
-    """Lines and replies of the tables of commands, methods, properties and refusals."""
+    """Lines and replies of the tables of commands, methods (behind `call h0`), properties (behind `prop` and a handle) and
+    refusals."""
     pairs = set()
     for given, written in examples:
         pairs.update(zip(given.split("\n"), written.split("\n")))
@@ -235,7 +234,8 @@ def check_definitions(document, lines):
 
 
 def check_differences(document, lines):
-    """The cases and the tests that show a difference: a name of three words or more is a case, or stands in a table's output."""
+    """The cases and the tests that show a difference: a name of three words or more is a case, or stands in a table's output.
+    Each line of a list names one, or clauses or tests in general."""
     printed = (ROOT / "crates" / "pybuf_method_tables" / "stdout").read_text().split()
     listed = [(number, line) for number, line in enumerate(lines, 1) if line.startswith("- ")]
     if not listed:
