@@ -197,7 +197,7 @@ def check_tables(document, lines, examples):
     words = {word for given, _ in examples for line in given.split("\n") for word in line.split(" ")}
     replies = {reply for _, written in examples for reply in written.split("\n")}
     spelled = [(number, value) for number, cells in rows(lines, "| Spelling | Value |") for value in quoted(cells[2])]
-    written = [(number, reply) for number, cells in rows(lines, "| Reply | Text |") for reply in quoted(cells[2])]
+    written = [(number, reply) for number, cells in rows(lines, "| Reply | Example |") for reply in quoted(cells[1])]
     if not spelled or not written:
         report(document, 1, "the tables of values and of replies were not found")
     for number, value in spelled:
