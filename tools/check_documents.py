@@ -236,18 +236,24 @@ def quoted(cell):
 
 
 def check_tables(document, lines, examples):
-    """Lines and replies of the tables of commands, methods, properties and refusals."""
+    """Lines and replies of the tables of commands, methods (behind `call h0`), properties (behind `prop` and a handle) and
+    refusals."""
     pairs = set()
     for given, written in examples:
         pairs.update(zip(given.split("\n"), written.split("\n")))
     wanted = []
-    for head in ["| Line | What it does |", "| METHOD and its arguments |"]:
+    for head, front in [("| Line | What it does |", ""), ("| METHOD and its arguments |", "call h0 ")]:
         for number, cells in rows(lines, head):
-            wanted += [(number, line, reply) for line, reply in zip(quoted(cells[2]), quoted(cells[3]))]
-    for number, cells in rows(lines, "| Name | Of |"):
-        for name in quoted(cells[0]):
+            shown = quoted(cells[2])
+            if len(shown) % 2:
+                report(document, number, "there are not as many replies as lines")
+            wanted += [(number, front + line, reply) for line, reply in zip(shown[::2], shown[1::2])]
+    for number, cells in rows(lines, "| Name | Property | Reply |"):
+        if len(quoted(cells[0])) != len(quoted(cells[2])):
+            report(document, number, "there are not as many replies as properties")
+        for name, reply in zip(quoted(cells[0]), quoted(cells[2])):
             subject = "h0" if name == "exports" else "h1"
-            wanted.append((number, f"prop {subject} {name}", quoted(cells[3])[0]))
+            wanted.append((number, f"prop {subject} {name}", reply))
     for number, cells in rows(lines, "| Refusal | Where it comes |"):
         wanted.append((number, quoted(cells[2])[0], quoted(cells[0])[0]))
     if not wanted:
@@ -258,7 +264,7 @@ def check_tables(document, lines, examples):
     words = {word for given, _ in examples for line in given.split("\n") for word in line.split(" ")}
     replies = {reply for _, written in examples for reply in written.split("\n")}
     spelled = [(number, value) for number, cells in rows(lines, "| Spelling | Value |") for value in quoted(cells[2])]
-    written = [(number, reply) for number, cells in rows(lines, "| Reply | Text |") for reply in quoted(cells[2])]
+    written = [(number, reply) for number, cells in rows(lines, "| Reply | Example |") for reply in quoted(cells[1])]
     if not spelled or not written:
         report(document, 1, "the tables of values and of replies were not found")
     for number, value in spelled:
@@ -325,21 +331,25 @@ def check_definitions(document, lines):
 
 
 def check_differences(document, lines):
-    """The cases and the tests that show a difference."""
-    for number, cells in ((at, line.strip().strip("|").split(" | ")) for at, line in enumerate(lines, 1) if line.startswith("|")):
-        folder = "differences"
-        for top, title in re.findall(r"`cases/(\w+)`|\"((?:[^\"`]|`[^`]*`)+)\"", cells[-1]):
-            if top:
-                folder = top
-                continue
-            name = re.sub("[^A-Za-z0-9]+", "-", title.replace("'", "")).strip("-")
-            if not (ROOT / "cases" / folder / name).exists():
-                report(document, number, f"no case of cases/{folder} is named: {title}")
-        for names, crate in re.findall(r"tests? ((?:`\w+`(?:,| and)? ?)+)of `(pybuf_\w+)`", cells[-1]):
+    """The cases and the tests that show a difference: a name of three words or more is a case, or stands in a table's output.
+    Each line of a list names one, or clauses or tests in general."""
+    printed = (ROOT / "crates" / "pybuf_method_tables" / "stdout").read_text().split()
+    listed = [(number, line) for number, line in enumerate(lines, 1) if line.startswith("- ")]
+    if not listed:
+        report(document, 1, "the differences were not found")
+    for number, line in listed:
+        cases = [name for name in quoted(line) if re.fullmatch(r"(?:\w+/)?[A-Za-z0-9]+(?:-[A-Za-z0-9]+){2,}", name)]
+        for name in cases:
+            if not (ROOT / "cases" / (name if "/" in name else f"differences/{name}")).exists() and name not in printed:
+                report(document, number, f"no case and no line of pybuf_method_tables is named {name}")
+        tests = re.findall(r"((?:`\w+`(?:,| and)? ?)+)of `(pybuf_tests\w*)`", line)
+        for names, crate in tests:
             source = "".join(path.read_text() for path in (ROOT / "crates" / crate / "src").glob("**/*.rt"))
             for name in quoted(names):
                 if f"fn {name}(" not in source:
                     report(document, number, f"{crate} has no test {name}")
+        if not cases and not tests and not re.search(r"`cases/|tests of `|clauses|`pybuf_method_tables`", line):
+            report(document, number, "nothing that shows the difference is named")
 
 
 def check_names(document, lines):
