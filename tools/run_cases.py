@@ -13,7 +13,7 @@ words behind the program's name, a word a line, none where it isn't there, and N
 `cases/no-commands.txt` is an input of its own.
 
 As many cases run side by side as there are processors. A folder that isn't there or has no case, and a file that neither
-is a case nor belongs to one, fail too.
+is a case nor belongs to one nor is a README.md, fail too.
 """
 
 import ast
@@ -30,6 +30,7 @@ from concurrent.futures import ThreadPoolExecutor
 ROOT = pathlib.Path(__file__).resolve().parent.parent
 PROGRAM = ROOT / "crates/pybuf/out/pybuf"
 NO_COMMANDS = ROOT / "cases/no-commands.txt"
+PAGE = "README.md"
 SECONDS = 10
 # How many bytes an input can have.
 LIMIT = 1_048_576
@@ -103,7 +104,7 @@ def folder_of(path):
     files = {it.name for it in path.iterdir() if it.is_file()}
     inputs = sorted(name for name in files if f"{name}.stdout" in files)
     belonging = {name + ending for name in inputs for ending in ("", ".stdout", ".args", ".status")}
-    strays = sorted(it.name for it in path.iterdir() if it.name not in files & belonging)
+    strays = sorted(it.name for it in path.iterdir() if it.name not in {*(files & belonging), PAGE})
     faults = [f"{name} neither is a case nor belongs to one" for name in strays]
     cases = []
     for name in inputs:
