@@ -16,10 +16,10 @@ use Rattle.pybuf_share.specs.declared.entries.Receipt.{Receipt}
 use Rattle.pybuf_share.specs.declared.joined.Joined.{Joined}
 use Rattle.pybuf_share.specs.Carrying.{bytes_asked, bytes_in_reply, bytes_given, with_bytes, Takes}
 use Rattle.pybuf_share.specs.Finishing.{AreAll, AreTheirs, ArePlain, IsJoined}
-use Rattle.pybuf_share.specs.History.{Opening, IsLegal, replay, after_entries, replies_along}
+use Rattle.pybuf_share.specs.History.{Opening, IsLegal, replay, replies_along}
 use Rattle.pybuf_share.specs.Joining.{entries_of}
-use Rattle.pybuf_share.specs.Sessions.{Asker, new_session, received, last_reply, IsAnswered}
-use Rattle.pybuf_uses.specs.Handing.{Handed, handed, byte_array, extending, IsLeft}
+use Rattle.pybuf_share.specs.Sessions.{Asker, new_session, last_reply, IsAnswered}
+use Rattle.pybuf_uses.specs.Handing.{Handed, handed, byte_array, extending, last_bytes, IsWhole, IsAlone}
 
 -- one session is all sessions
 pub is_all : (parts : ℕ) (s : Asker) → s.number ≡ 0 → s.parts ≡ parts → AreAll parts (s ∷ [])
@@ -44,44 +44,53 @@ are_its s entries number theirs =
     ∙ All-head (λ (t : Asker). entries_of t.number entries ≡ map (λ (r : Receipt). r.entry) t.receipts) s [] theirs.each
 
 -- so its receipts are the history
-pub is_left : (opening : Opening) (s : Asker) (joined : Joined) (bytes : List ℕ) → s.number ≡ 0 → IsJoined opening.kind opening.bytes (s ∷ []) joined → AreTheirs (s ∷ []) joined.entries
-    → bytes ≡ (replay opening.kind opening.bytes joined.entries).bytes → IsLeft opening s.receipts bytes
-is_left opening s joined bytes number is theirs last =
-    let own = are_its s joined.entries number theirs in
-    record {
-      legal = subst (λ (xs : List Entry). IsLegal opening.kind opening.bytes xs) own is.legal;
-      last = last ∙ ap (λ (xs : List Entry). (replay opening.kind opening.bytes xs).bytes) own;
-    }
+pub is_alone : (opening : Opening) (s : Asker) (joined : Joined) → s.number ≡ 0 → IsJoined opening.kind opening.bytes (s ∷ []) joined → AreTheirs (s ∷ []) joined.entries → IsAlone opening s joined
+is_alone opening s joined number is theirs = record { is = is; own = are_its s joined.entries number theirs }
 
--- the receipt of a session's first call
-answered_first : (command : LocalCommand) (after : Asker) (answered : IsAnswered (new_session 0) command after)
-    → after.receipts ≡ (record { at = answered.at; entry = record { session = 0; command = command; reply = answered.reply } }) ∷ []
-answered_first command after answered = ap (λ (s : Asker). s.receipts) answered.same
+pub is_whole : (opening : Opening) (s : Asker) (joined : Joined) → IsAlone opening s joined → IsWhole joined
+is_whole opening s joined alone = record { opening = opening; sessions = s ∷ []; is = alone.is }
 
-module _ (from to : List ℕ) (giver taker : Asker) (given taken : List ℕ) (asked : IsAnswered (new_session 0) (bytes_asked subject.Own) giver) (takes : Takes (new_session 0) extending 0 (bytes_given giver) taker) (left : IsLeft (byte_array from) giver.receipts given) (arrived : IsLeft (byte_array to) taker.receipts taken) where
+-- the entries of a session's first call
+one_entry : (command : LocalCommand) (after : Asker) (answered : IsAnswered (new_session 0) command after)
+    → map (λ r. r.entry) after.receipts ≡ (record { session = 0; command = command; reply = answered.reply }) ∷ []
+one_entry command after answered = ap (λ (s : Asker). map (λ (r : Receipt). r.entry) s.receipts) answered.same
+
+-- what a history is that such a call is the whole of
+module _ (opening : Opening) (command : LocalCommand) (after : Asker) (joined : Joined) (answered : IsAnswered (new_session 0) command after) (alone : IsAlone opening after joined) where
+  entry : Entry
+  entry = record { session = 0; command = command; reply = answered.reply }
+
+  entries_are : joined.entries ≡ entry ∷ []
+  entries_are = alone.own ∙ one_entry command after answered
+
+  replied : answered.reply ∷ [] ≡ replies_along (new_exporter opening.kind opening.bytes) (entry ∷ [])
+  replied = subst (λ (xs : List Entry). IsLegal opening.kind opening.bytes xs) entries_are alone.is.legal
+
+  left : last_bytes joined ≡ (replay opening.kind opening.bytes (entry ∷ [])).bytes
+  left =
+      ap (λ (k : ExporterKind). (replay k joined.opening joined.entries).bytes) alone.is.same_kind
+      ∙ ap (λ (bytes : List ℕ). (replay opening.kind bytes joined.entries).bytes) alone.is.same_bytes
+      ∙ ap (λ (xs : List Entry). (replay opening.kind opening.bytes xs).bytes) entries_are
+
+module _ (from to : List ℕ) (giver taker : Asker) (first second : Joined) (asked : IsAnswered (new_session 0) (bytes_asked subject.Own) giver) (takes : Takes (new_session 0) extending 0 (bytes_given giver) taker) (source : IsAlone (byte_array from) giver first) (target : IsAlone (byte_array to) taker second) where
   told : asked.reply ≡ reply.Bytes from
-  told =
-      let first = answered_first (bytes_asked subject.Own) giver asked in
-      let legal : asked.reply ∷ [] ≡ reply.Bytes from ∷ [] = subst (λ (rs : List Receipt). IsLegal kind.ByteArray from (map (λ (r : Receipt). r.entry) rs)) first left.legal in
-      ap (λ (l : List LocalReply). get_or l 0 reply.Ok) legal
+  told = ap (λ (l : List LocalReply). get_or l 0 reply.Ok) (replied (byte_array from) (bytes_asked subject.Own) giver first asked source)
 
   told_all : bytes_given giver ≡ Some from
-  told_all =
-      ap (λ (rs : List Receipt). bytes_in_reply (last_reply rs)) (answered_first (bytes_asked subject.Own) giver asked)
-      ∙ ap (λ (r : LocalReply). bytes_in_reply (Some r)) told
+  told_all = ap (λ (s : Asker). bytes_in_reply (last_reply s.receipts)) asked.same ∙ ap (λ (r : LocalReply). bytes_in_reply (Some r)) told
 
-  given_is : given ≡ from
-  given_is = left.last ∙ ap (λ (rs : List Receipt). (replay kind.ByteArray from (map (λ (r : Receipt). r.entry) rs)).bytes) (answered_first (bytes_asked subject.Own) giver asked)
+  given_is : last_bytes first ≡ from
+  given_is = left (byte_array from) (bytes_asked subject.Own) giver first asked source
 
-  taken_is : taken ≡ to ++ from
+  taken_is : last_bytes second ≡ to ++ from
   taken_is =
       let has = subst (λ (o : Option (List ℕ)). Takes (new_session 0) extending 0 o taker) told_all takes in
-      arrived.last ∙ ap (λ (rs : List Receipt). (replay kind.ByteArray to (map (λ (r : Receipt). r.entry) rs)).bytes) (answered_first (with_bytes 0 from extending) taker has.answered)
+      left (byte_array to) (with_bytes 0 from extending) taker second has.answered target
 
-  pub is_handed : record { given = given; taken = taken } ≡ handed from to
+  pub is_handed : record { given = last_bytes first; taken = last_bytes second } ≡ handed from to
   is_handed = cc (given_is, taken_is)
 
--- what carries keeps a session plain
+-- a session stays plain, whether or not something came to it
 pub still_plain : (before after : Asker) (command : LocalCommand) (handle : ℕ) (given : Option (List ℕ)) → Takes before command handle given after → before.is_plain ≡ true → after.is_plain ≡ true
 still_plain before after command handle (Some bytes) takes plain = ap (λ (s : Asker). s.is_plain) takes.answered.same ∙ plain
 still_plain before after command handle None takes plain = ap (λ (s : Asker). s.is_plain) takes ∙ plain

@@ -6,8 +6,10 @@ use Rattle.pybuf_command.specs.declared.commands.LocalCommand.{LocalCommand}
 use Rattle.pybuf_command.specs.declared.commands.Verb.TheVariants as verb
 use Rattle.pybuf_command.specs.declared.kinds.ExporterKind.TheVariants as kind
 use Rattle.pybuf_command.specs.declared.kinds.Subject.TheVariants as subject
-use Rattle.pybuf_share.specs.declared.entries.Receipt.{Receipt}
-use Rattle.pybuf_share.specs.History.{Opening, IsLegal, replay}
+use Rattle.pybuf_share.specs.declared.joined.Joined.{Joined}
+use Rattle.pybuf_share.specs.Finishing.{IsJoined}
+use Rattle.pybuf_share.specs.History.{Opening, replay}
+use Rattle.pybuf_share.specs.Sessions.{Asker}
 
 -- What the two buffers hold at the end: the one that gave, and the one that took.
 pub record Handed : Type 0 where
@@ -26,8 +28,17 @@ byte_array bytes = record { kind = kind.ByteArray; bytes = bytes }
 abbrev pub extending : LocalCommand
 extending = record { subject = subject.Own; verb = verb.Extend (value.One (scalar.Handle 0)); loans = [] }
 
--- What is left of a locked buffer that one session alone has asked: its receipts are the whole history, which one thread
--- could have made, and the bytes are those that one thread gets.
-pub record IsLeft (opening : Opening) (receipts : List Receipt) (bytes : List ℕ) : Type 0 where
-  pub legal : IsLegal opening.kind opening.bytes (map (λ r. r.entry) receipts)
-  pub last : bytes ≡ (replay opening.kind opening.bytes (map (λ r. r.entry) receipts)).bytes
+-- the bytes that one thread gets by the commands of a history
+abbrev pub last_bytes : Joined → List ℕ
+last_bytes joined = (replay joined.kind joined.opening joined.entries).bytes
+
+-- what is known of a history that was put together, whoever asked
+pub record IsWhole (joined : Joined) : Type 0 where
+  pub opening : Opening
+  pub sessions : List Asker
+  pub is : IsJoined opening.kind opening.bytes sessions joined
+
+-- What is put together of a buffer that one session alone has asked: its receipts are the whole history.
+pub record IsAlone (opening : Opening) (s : Asker) (joined : Joined) : Type 0 where
+  pub is : IsJoined opening.kind opening.bytes (s ∷ []) joined
+  pub own : joined.entries ≡ map (λ r. r.entry) s.receipts

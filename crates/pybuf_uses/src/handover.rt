@@ -1,11 +1,11 @@
 //! Bytes that are handed from one locked buffer to another.
 ghost use Rattle.std.specs.Prelude.{◌≡◌, [], ◌∷◌, true, IfOk};
 ghost use Rattle.pybuf_share.specs.Sessions.{new_session};
-ghost use Rattle.pybuf_uses.specs.Handing.{handed, byte_array, extending, IsLeft};
+ghost use Rattle.pybuf_uses.specs.Handing.{handed, byte_array, extending, IsAlone};
 
 use pybuf_view::{
-    ByteList, ExporterKind, ExporterState, FinishFault, Joined, LoanList, LocalCommand, Made,
-    Scalar, Session, SharedExporter, Subject, Value, Verb,
+    ByteList, ExporterKind, FinishFault, Joined, LoanList, LocalCommand, Made, Scalar, Session,
+    SharedExporter, Subject, Value, Verb,
 };
 use std::alloc::Global;
 use std::marker::{Brand, Model};
@@ -18,18 +18,20 @@ const HANDED: u64 = 0;
 /// Two buffers, of which the one has handed its bytes to the other.
 ///
 /// A clause sees the bytes that each holds.
-#[derive(Debug, Drop)]
+#[derive(Drop)]
 pub struct Handover {
-    from: ExporterState,
-    to: ExporterState,
+    from: Joined,
+    to: Joined,
 }
 
 impl Model for Handover {
-    ghost use Rattle.pybuf_uses.specs.Handing.{Handed};
+    ghost use Rattle.pybuf_uses.specs.Handing.{Handed, last_bytes, IsWhole};
 
     ghost Value = { Handed };
 
-    ghost view = { λ h. record { given = h.from.bytes; taken = h.to.bytes } };
+    ghost view = { λ h. record { given = last_bytes h.from; taken = last_bytes h.to } };
+
+    ghost invariant = { λ h. IsWhole h.from × IsWhole h.to };
 }
 
 impl Handover {
@@ -50,14 +52,14 @@ impl Handover {
     pub fn given(&self) -> &[u8]
         ensures { result.now ≡ self.now.given }
     {
-        self.from.bytes()
+        self.from.state.bytes()
     }
 
     /// The bytes that the other holds now.
     pub fn taken(&self) -> &[u8]
         ensures { result.now ≡ self.now.taken }
     {
-        self.to.bytes()
+        self.to.state.bytes()
     }
 }
 
@@ -108,34 +110,19 @@ fn only<L: Ledger>(alloc: Global, session: Session<L>) -> Made<Vec<Session<L>>>
     Ok(all)
 }
 
-/// The exporter of a session that has asked it alone.
+/// The history of an exporter that a session has asked alone.
 fn unlocked<L: Ledger>(
     alloc: Global,
     shared: SharedExporter<L>,
     session: Session<L>,
-) -> Result<ExporterState, FinishFault>
+) -> Result<Joined, FinishFault>
     requires number { session.number ≡ 0 }
     requires parts { session.parts ≡ L.parts }
     requires plain { session.is_plain ≡ true }
-    ensures { IfOk result (λ state. IsLeft shared session.receipts state.bytes) }
+    ensures { IfOk result (λ joined. IsAlone shared session joined) }
 {
     let all = only(alloc, session)?;
-    match shared.finish(all) {
-        Ok(joined) => Ok(state_of(joined)),
-        Err(fault) => Err(fault),
-    }
-}
-
-fn state_of(joined: Joined) -> ExporterState
-    ensures { result ≡ joined.state }
-{
-    let Joined {
-        opening: _,
-        kind: _,
-        entries: _,
-        state,
-    } = joined;
-    state
+    shared.finish(all)
 }
 
 fn hand_over<A: Ledger, B: Ledger, R: Wait>(
