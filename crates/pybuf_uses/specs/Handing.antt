@@ -1,13 +1,15 @@
 -- Bytes that are handed from one locked buffer to another.
-use Rattle.std.specs.Prelude.{◌≡◌, ℕ, List, [], ◌∷◌, ◌++◌, map}
+use Rattle.std.specs.Prelude.{◌≡◌, ◌≢◌, ◌⊎◌, ℕ, List, [], ◌∷◌, ◌++◌, map, Some}
 use Rattle.pybuf_value.specs.declared.values.Scalar.TheVariants as scalar
 use Rattle.pybuf_value.specs.declared.values.Value.TheVariants as value
 use Rattle.pybuf_command.specs.declared.commands.LocalCommand.{LocalCommand}
 use Rattle.pybuf_command.specs.declared.commands.Verb.TheVariants as verb
 use Rattle.pybuf_command.specs.declared.kinds.ExporterKind.TheVariants as kind
 use Rattle.pybuf_command.specs.declared.kinds.Subject.TheVariants as subject
+use Rattle.pybuf_share.specs.declared.joined.FinishFault.{FinishFault}
+use Rattle.pybuf_share.specs.declared.joined.FinishFault.TheVariants as fault
 use Rattle.pybuf_share.specs.declared.joined.Joined.{Joined}
-use Rattle.pybuf_share.specs.Finishing.{IsJoined}
+use Rattle.pybuf_share.specs.Finishing.{IsJoined, IsNotOpening}
 use Rattle.pybuf_share.specs.History.{Opening, replay}
 use Rattle.pybuf_share.specs.Sessions.{Asker}
 
@@ -23,6 +25,15 @@ handed from to = record { given = from; taken = to ++ from }
 -- a bytearray under its lock
 abbrev pub byte_array : List ℕ → Opening
 byte_array bytes = record { kind = kind.ByteArray; bytes = bytes }
+
+-- Why bytes aren't handed over: memory runs out, or what lay under a lock isn't what was put there or what was replied.
+-- No receipt is out of order.
+abbrev pub IsNotHanded : List ℕ → List ℕ → FinishFault → Type 0
+IsNotHanded from to (fault.Opening given_kind given kept_kind kept) =
+    IsNotOpening (byte_array from) given_kind given kept_kind kept ⊎ IsNotOpening (byte_array to) given_kind given kept_kind kept
+IsNotHanded from to (fault.Order session before after) = ⊥
+IsNotHanded from to (fault.Disagree at kept got) = kept ≢ Some got
+IsNotHanded from to fault.NoMemory = Unit {0}
 
 -- the command that adds what the handle 0 names at the end
 abbrev pub extending : LocalCommand

@@ -1,7 +1,8 @@
 //! Bytes that are handed from one locked buffer to another.
-ghost use Rattle.std.specs.Prelude.{◌≡◌, [], ◌∷◌, true, IfOk};
+ghost use Rattle.std.specs.Prelude.{◌≡◌, [], ◌∷◌, true, IfOk, IfErr};
+ghost use Rattle.pybuf_share.specs.Finishing.{RefusesAtLast};
 ghost use Rattle.pybuf_share.specs.Sessions.{new_session};
-ghost use Rattle.pybuf_uses.specs.Handing.{handed, byte_array, extending, IsAlone};
+ghost use Rattle.pybuf_uses.specs.Handing.{handed, byte_array, extending, IsAlone, IsNotHanded};
 
 use pybuf_view::{
     ByteList, ExporterKind, FinishFault, Joined, LoanList, LocalCommand, Made, Scalar, Session,
@@ -43,7 +44,8 @@ impl Handover {
         from: ByteList,
         to: ByteList,
     ) -> Result<Handover, FinishFault>
-        ensures { IfOk result (λ h. h ≡ handed from to) }
+        ensures ok { IfOk result (λ h. h ≡ handed from to) }
+        ensures err { IfErr result (λ f. IsNotHanded from to f) }
     {
         hand_over::<Brand, Brand, R>(rt, alloc, Blank::new(1), Blank::new(1), from, to)
     }
@@ -119,7 +121,8 @@ fn unlocked<L: Ledger>(
     requires number { session.number ≡ 0 }
     requires parts { session.parts ≡ L.parts }
     requires plain { session.is_plain ≡ true }
-    ensures { IfOk result (λ joined. IsAlone shared session joined) }
+    ensures ok { IfOk result (λ joined. IsAlone shared session joined) }
+    ensures err { IfErr result (λ f. RefusesAtLast shared (session ∷ []) f) }
 {
     let all = only(alloc, session)?;
     shared.finish(all)
@@ -139,7 +142,8 @@ fn hand_over<A: Ledger, B: Ledger, R: Wait>(
     requires other_name { second.name ≡ B.name }
     requires other_parts { second.parts ≡ B.parts }
     requires other_one { second.parts ≡ 1 }
-    ensures { IfOk result (λ h. h ≡ handed from to) }
+    ensures ok { IfOk result (λ h. h ≡ handed from to) }
+    ensures err { IfErr result (λ f. IsNotHanded from to f) }
 {
     let (source, mut giver) = locked::<A>(alloc, first, from)?;
     let (target, mut taker) = locked::<B>(alloc, second, to)?;
