@@ -3,19 +3,19 @@ use Rattle.std.specs.Prelude.{◌≡◌, ℕ, List, [], Result}
 use Rattle.std.specs.Borrow.{RestsIfErr, Lends, MutBor, Fml, Array, u8}
 use mir.Syntax.{named}
 use Rattle.pybuf_value.specs.declared.faults.Fault.{Fault}
-use Rattle.pybuf_state.specs.Exporter.{Exporter}
+use Rattle.pybuf_exporter.specs.Stored.{StoredExporter}
 use Rattle.pybuf_exporter.specs.contracts.exporter.ExporterState as exporter
-use Rattle.pybuf_borrow.specs.Writable.{written_through}
+use Rattle.pybuf_borrow.specs.Writable.{stored_through}
 use Rattle.pybuf_borrow.specs.declared.memory.ArgMemoryBuffer.{ArgMemoryBuffer}
 use Rattle.pybuf_borrow.specs.contracts.memory.ArgMemoryBuffer as memory
 
 -- where the borrow is refused, the exporter stays; else it ends as the borrow leaves it
-abbrev pub StaysIfRefused : MutBor Exporter → Result ArgMemoryBuffer Fault → Fml
+abbrev pub StaysIfRefused : MutBor StoredExporter → Result ArgMemoryBuffer Fault → Fml
 StaysIfRefused s r = RestsIfErr exporter.the_row s (λ borrow. borrow.state.ghost_name) r (λ last. last ≡ s.now)
 
 -- the borrow of the same bytes once others were written over them
 abbrev pub after_writes : ArgMemoryBuffer → List ℕ → ArgMemoryBuffer
-after_writes b bytes = record b { state = record b.state { now = written_through b.state.now b.subject bytes }; writable = b.writable }
+after_writes b bytes = record b { state = record b.state { now = stored_through b.state.now b.subject bytes }; writable = b.writable }
 
 -- it ends with the last bytes behind the loan
 abbrev pub LendsWritable : MutBor ArgMemoryBuffer → MutBor (List ℕ) → Fml

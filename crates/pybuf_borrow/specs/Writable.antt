@@ -9,6 +9,7 @@ use Rattle.pybuf_command.specs.declared.kinds.Subject.TheVariants as subject
 use Rattle.pybuf_command.specs.Kinds.{holds_readonly}
 use Rattle.pybuf_state.specs.Exporter.{Exporter, live_layout, iterator_at}
 use Rattle.pybuf_state.specs.Live.{is_live, layout_of, is_writable_run}
+use Rattle.pybuf_exporter.specs.Stored.{StoredExporter}
 use Rattle.pybuf_exporter.specs.Lending.{overwritten_exporter, written_from}
 
 -- An exporter lends all its bytes, unless they are only read, and a view those of its items, unless it was
@@ -45,3 +46,7 @@ bytes_after e (subject.Iter k) bytes = e.bytes
 -- nothing else of the exporter changes
 abbrev pub written_through : Exporter → Subject → List ℕ → Exporter
 written_through e s bytes = record e { bytes = bytes_after e s bytes }
+
+-- and nothing of its room
+abbrev pub stored_through : StoredExporter → Subject → List ℕ → StoredExporter
+stored_through s u bytes = record s { exporter = written_through s.exporter u bytes }

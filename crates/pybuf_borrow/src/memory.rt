@@ -1,7 +1,7 @@
 //! The bytes of a subject of an exporter, borrowed to be written.
 ghost use Rattle.std.specs.Prelude.{◌≡◌, ◌==◌, ℕ, List, true, Ok, Err, length, MatchResult, IfOk, IfErr};
 ghost use Rattle.std.specs.Fn.{FnOnceReturnsAtMut};
-ghost use Rattle.pybuf_borrow.specs.Writable.{asked_to_write, is_writable, lent_bytes, written_through};
+ghost use Rattle.pybuf_borrow.specs.Writable.{asked_to_write, is_writable, lent_bytes, stored_through};
 
 use pybuf_command::Subject;
 use pybuf_exporter::ExporterState;
@@ -15,13 +15,13 @@ use pybuf_value::Fault;
 pub struct ArgMemoryBuffer<'a> {
     state: &'a mut ExporterState,
     subject: Subject,
-    ghost writable: { is_writable state.now subject ≡ true },
+    ghost writable: { is_writable state.now.exporter subject ≡ true },
 }
 
 /// Whether the bytes of a subject may be written where they lie.
 fn asked_to_write(state: &ExporterState, subject: Subject) -> Result<(), Fault>
-    ensures ok { IfOk result (λ _. is_writable state.now subject ≡ true) }
-    ensures exact { MatchResult result (λ _. asked_to_write state.now subject ≡ Ok true) (λ fault. asked_to_write state.now subject ≡ Err fault) }
+    ensures ok { IfOk result (λ _. is_writable state.now.exporter subject ≡ true) }
+    ensures exact { MatchResult result (λ _. asked_to_write state.now.exporter subject ≡ Ok true) (λ fault. asked_to_write state.now.exporter subject ≡ Err fault) }
 {
     match subject {
         Subject::Own => {
@@ -56,7 +56,7 @@ impl<'a> ArgMemoryBuffer<'a> {
     ghost use Rattle.pybuf_borrow.specs.Holding.{StaysIfRefused, LendsWritable, after_writes};
 
     fn of_subject(state: &'a mut ExporterState, subject: Subject) -> ArgMemoryBuffer<'a>
-        requires { is_writable state.old subject ≡ true }
+        requires { is_writable state.old.exporter subject ≡ true }
         ensures same_reference { result.state.ghost_name ≡ state.entry.ghost_name }
         ensures state { result.state.now ≡ state.old }
         ensures subject { result.subject ≡ subject }
@@ -78,7 +78,7 @@ impl<'a> ArgMemoryBuffer<'a> {
         ensures same_reference { IfOk result (λ borrow. borrow.state.ghost_name ≡ state.entry.ghost_name) }
         ensures state { IfOk result (λ borrow. borrow.state.now ≡ state.old) }
         ensures subject { IfOk result (λ borrow. borrow.subject ≡ subject) }
-        ensures exact { MatchResult result (λ _. asked_to_write state.old subject ≡ Ok true) (λ fault. asked_to_write state.old subject ≡ Err fault) }
+        ensures exact { MatchResult result (λ _. asked_to_write state.old.exporter subject ≡ Ok true) (λ fault. asked_to_write state.old.exporter subject ≡ Err fault) }
     {
         asked_to_write(state, subject)?;
         Ok(ArgMemoryBuffer::of_subject(state, subject))
@@ -88,7 +88,7 @@ impl<'a> ArgMemoryBuffer<'a> {
     /// of no others.
     pub fn borrow_buf_mut(&mut self) -> &mut [u8]
         ensures* writes_back { sem 𝓛 (LendsWritable self.entry result) }
-        ensures value { result.now ≡ lent_bytes self.old.state.now self.old.subject }
+        ensures value { result.now ≡ lent_bytes self.old.state.now.exporter self.old.subject }
     {
         match self.subject {
             Subject::Own => self.state.bytes_mut(),
@@ -100,14 +100,14 @@ impl<'a> ArgMemoryBuffer<'a> {
     /// What a function makes of the bytes, which it may write.
     pub fn with_ref<R, F: FnOnce(&mut [u8]) -> R>(&mut self, f: F) -> R
         requires { F.IsAlwaysCallable f }
-        ensures { (last : List ℕ) × FnOnceReturnsAtMut F.FnOnce f (lent_bytes self.old.state.now self.old.subject) result last × (self.new ≡ after_writes self.old last) }
+        ensures { (last : List ℕ) × FnOnceReturnsAtMut F.FnOnce f (lent_bytes self.old.state.now.exporter self.old.subject) result last × (self.new ≡ after_writes self.old last) }
     {
         f(self.borrow_buf_mut())
     }
 
     /// The number of bytes that are lent.
     pub fn len(&self) -> usize
-        ensures { result ≡ length (lent_bytes self.now.state.now self.now.subject) }
+        ensures { result ≡ length (lent_bytes self.now.state.now.exporter self.now.subject) }
     {
         match self.subject {
             Subject::Own => self.state.bytes().len(),
@@ -121,7 +121,7 @@ impl<'a> ArgMemoryBuffer<'a> {
 
     /// Whether no byte is lent.
     pub fn is_empty(&self) -> bool
-        ensures { result ≡ (length (lent_bytes self.now.state.now self.now.subject) == 0) }
+        ensures { result ≡ (length (lent_bytes self.now.state.now.exporter self.now.subject) == 0) }
     {
         self.len() == 0
     }
@@ -137,8 +137,8 @@ pub fn try_rw_bytes_like<R, F: FnOnce(&mut [u8]) -> R>(
     f: F,
 ) -> Result<R, Fault>
     requires { F.IsAlwaysCallable f }
-    ensures ok { IfOk result (λ made. (last : List ℕ) × FnOnceReturnsAtMut F.FnOnce f (lent_bytes state.old subject) made last × (state.new ≡ written_through state.old subject last)) }
-    ensures exact { MatchResult result (λ _. asked_to_write state.old subject ≡ Ok true) (λ fault. asked_to_write state.old subject ≡ Err fault) }
+    ensures ok { IfOk result (λ made. (last : List ℕ) × FnOnceReturnsAtMut F.FnOnce f (lent_bytes state.old.exporter subject) made last × (state.new ≡ stored_through state.old subject last)) }
+    ensures exact { MatchResult result (λ _. asked_to_write state.old.exporter subject ≡ Ok true) (λ fault. asked_to_write state.old.exporter subject ≡ Err fault) }
     ensures err { IfErr result (λ _. state.new ≡ state.old) }
 {
     let mut borrow = ArgMemoryBuffer::try_from_subject(state, subject)?;

@@ -50,7 +50,7 @@ fn format_fault(
     state: &ExporterState,
     desc: &BufferDescriptor,
 ) -> Made<Option<Fault>>
-    ensures { IfOk result (λ refused. MatchOption refused (checked_format state.now desc.now ≡ Ok true) (λ fault. checked_format state.now desc.now ≡ Err fault)) }
+    ensures { IfOk result (λ refused. MatchOption refused (checked_format state.now.exporter desc.now ≡ Ok true) (λ fault. checked_format state.now.exporter desc.now ≡ Err fault)) }
 {
     match FormatSpec::parse(alloc, desc.format_text().as_slice())? {
         Outcome::Refused(fault) => Ok(Some(fault)),
@@ -73,11 +73,11 @@ fn append_by<L: Ledger>(
     buf: &mut Vec<u8>,
     blank: Blank,
 ) -> Made<()>
-    requires live { is_live state.now buffer.now ≡ true }
+    requires live { is_live state.now.exporter buffer.now ≡ true }
     requires name { blank.name ≡ L.name }
     requires parts { blank.parts ≡ L.parts }
     requires one { blank.parts ≡ 1 }
-    ensures bytes { OnOk result (buf.new.items ≡ buf.old.items ++ content_of_layout state.now.bytes (layout_of state.now buffer.now)) }
+    ensures bytes { OnOk result (buf.new.items ≡ buf.old.items ++ content_of_layout state.now.exporter.bytes (layout_of state.now.exporter buffer.now)) }
     ensures err { OnErr result (buf.new.items ≡ buf.old.items) }
 {
     let mut steps = Steps::<L>::new(blank);
@@ -104,8 +104,9 @@ impl PyBuffer {
         desc: BufferDescriptor,
         start: usize,
     ) -> Tried<PyBuffer>
-        ensures ok { IfOk result (λ made. IsBufferBy state.old desc start state.new made) }
+        ensures ok { IfOk result (λ made. IsBufferBy state.old.exporter desc start state.new.exporter made) }
         ensures err { OnErr result (state.new ≡ state.old) }
+        ensures room { state.new.room ≡ state.old.room }
     {
         placed_descriptors_stand();
         described_views_have_their_shape();
@@ -136,7 +137,7 @@ impl PyBuffer {
 
     /// Whether the view was given and is unreleased. Takes no memory.
     pub fn is_live(&self, state: &ExporterState) -> bool
-        ensures { result ≡ is_live state.now self.now }
+        ensures { result ≡ is_live state.now.exporter self.now }
     {
         state.is_live(self.view)
     }
@@ -144,8 +145,8 @@ impl PyBuffer {
     /// The bytes of the buffer, lent without a copy. None exactly where its items don't lie one after
     /// the other: Python's C API has it under "Buffer Protocol", "Contiguity requests".
     pub fn as_contiguous<'a>(&self, state: &'a ExporterState) -> Option<&'a [u8]>
-        requires { is_live state.now self.now ≡ true }
-        ensures { MatchOption result (is_contiguous_layout (layout_of state.now self.now) ≡ false) (λ bytes. (is_contiguous_layout (layout_of state.now self.now) ≡ true) × (bytes.now ≡ content_of_layout state.now.bytes (layout_of state.now self.now))) }
+        requires { is_live state.now.exporter self.now ≡ true }
+        ensures { MatchOption result (is_contiguous_layout (layout_of state.now.exporter self.now) ≡ false) (λ bytes. (is_contiguous_layout (layout_of state.now.exporter self.now) ≡ true) × (bytes.now ≡ content_of_layout state.now.exporter.bytes (layout_of state.now.exporter self.now))) }
     {
         state.contiguous_bytes(self.view)
     }
@@ -158,9 +159,9 @@ impl PyBuffer {
     /// A caller whose own proof speaks of the bytes afterwards asks `is_contiguous_mut`, and calls
     /// `ExporterState::contiguous_bytes_mut`.
     pub fn as_contiguous_mut<'a>(&self, state: &'a mut ExporterState) -> Option<&'a mut [u8]>
-        requires { is_live state.old self.now ≡ true }
+        requires { is_live state.old.exporter self.now ≡ true }
         ensures* writes_back { sem 𝓛 (LendsRunIf state.entry self.now result) }
-        ensures value { MatchOption result (is_writable_run (layout_of state.old self.now) ≡ false) (λ bytes. (is_writable_run (layout_of state.old self.now) ≡ true) × (bytes.now ≡ content_of_layout state.old.bytes (layout_of state.old self.now))) }
+        ensures value { MatchOption result (is_writable_run (layout_of state.old.exporter self.now) ≡ false) (λ bytes. (is_writable_run (layout_of state.old.exporter self.now) ≡ true) × (bytes.now ≡ content_of_layout state.old.exporter.bytes (layout_of state.old.exporter self.now))) }
     {
         let view = self.number();
         if has_writable_run(state, view) {
@@ -172,8 +173,8 @@ impl PyBuffer {
     /// Whether the items lie one after the other and may be written. Then
     /// `ExporterState::contiguous_bytes_mut` of the buffer's number lends its bytes to be written.
     pub fn is_contiguous_mut(&self, state: &ExporterState) -> bool
-        requires { is_live state.now self.now ≡ true }
-        ensures { result ≡ is_writable_run (layout_of state.now self.now) }
+        requires { is_live state.now.exporter self.now ≡ true }
+        ensures { result ≡ is_writable_run (layout_of state.now.exporter self.now) }
     {
         state.is_writable_run(self.view)
     }
@@ -181,8 +182,8 @@ impl PyBuffer {
     /// Whether a range lies in the first dimension, of which there is one. Then
     /// `PyMemoryView::from_buffer_range` makes a memoryview of its entries.
     pub fn has_entries(&self, state: &ExporterState, range: &Range<usize>) -> bool
-        requires { is_live state.now self.now ≡ true }
-        ensures { IsTrue result ↔ LiesInFirst range.now (layout_of state.now self.now).shape }
+        requires { is_live state.now.exporter self.now ≡ true }
+        ensures { IsTrue result ↔ LiesInFirst range.now (layout_of state.now.exporter self.now).shape }
     {
         let (descriptor, _) = described(state, self.view);
         is_in_first(descriptor.dim_desc(), range)
@@ -190,7 +191,8 @@ impl PyBuffer {
 
     /// A read-only vector of these bytes, and the buffer of all of them.
     pub fn from_byte_vector(alloc: Global, bytes: Vec<u8>) -> Made<(ExporterState, PyBuffer)>
-        ensures state { IfOk result (λ made. made.0 ≡ (with_view (new_exporter (kinds.Vector true) bytes.items) (bytes_layout (length bytes.items) true)).0) }
+        ensures state { IfOk result (λ made. made.0.exporter ≡ (with_view (new_exporter (kinds.Vector true) bytes.items) (bytes_layout (length bytes.items) true)).0) }
+        ensures room { IfOk result (λ made. made.0.room ≡ 0) }
         ensures buffer { IfOk result (λ made. made.1 ≡ 0) }
     {
         whole_layouts_are_sound();
@@ -211,9 +213,9 @@ impl PyBuffer {
         buf: &mut Vec<u8>,
         steps: &mut Steps<L>,
     ) -> Made<()>
-        requires { is_live state.now self.now ≡ true }
-        ensures bytes { OnOk result (buf.new.items ≡ buf.old.items ++ content_of_layout state.now.bytes (layout_of state.now self.now)) }
-        ensures steps { OnOk result (steps.new ≡ steps.old + range_count (layout_of state.now self.now)) }
+        requires { is_live state.now.exporter self.now ≡ true }
+        ensures bytes { OnOk result (buf.new.items ≡ buf.old.items ++ content_of_layout state.now.exporter.bytes (layout_of state.now.exporter self.now)) }
+        ensures steps { OnOk result (steps.new ≡ steps.old + range_count (layout_of state.now.exporter self.now)) }
         ensures err { OnErr result (buf.new.items ≡ buf.old.items) }
         ensures err_steps { OnErr result (steps.new ≡ steps.old) }
     {
@@ -230,8 +232,8 @@ impl PyBuffer {
 
     /// The same, without a counter.
     pub fn append_uncounted(&self, state: &ExporterState, buf: &mut Vec<u8>) -> Made<()>
-        requires { is_live state.now self.now ≡ true }
-        ensures bytes { OnOk result (buf.new.items ≡ buf.old.items ++ content_of_layout state.now.bytes (layout_of state.now self.now)) }
+        requires { is_live state.now.exporter self.now ≡ true }
+        ensures bytes { OnOk result (buf.new.items ≡ buf.old.items ++ content_of_layout state.now.exporter.bytes (layout_of state.now.exporter self.now)) }
         ensures err { OnErr result (buf.new.items ≡ buf.old.items) }
     {
         append_by::<Brand>(self, state, buf, Blank::new(1))
@@ -245,9 +247,9 @@ impl PyBuffer {
         state: &ExporterState,
         f: F,
     ) -> Made<R>
-        requires live { is_live state.now self.now ≡ true }
+        requires live { is_live state.now.exporter self.now ≡ true }
         requires callable { F.IsAlwaysCallable f }
-        ensures { IfOk result (λ made. FnOnceReturnsAt F.FnOnce f (content_of_layout state.now.bytes (layout_of state.now self.now)) made) }
+        ensures { IfOk result (λ made. FnOnceReturnsAt F.FnOnce f (content_of_layout state.now.exporter.bytes (layout_of state.now.exporter self.now)) made) }
     {
         if let Some(bytes) = self.as_contiguous(state) {
             return Ok(f(bytes));
@@ -260,8 +262,8 @@ impl PyBuffer {
 
     /// All bytes of the exporter.
     pub fn obj_bytes<'a>(&self, state: &'a ExporterState) -> &'a [u8]
-        requires { is_live state.now self.now ≡ true }
-        ensures { result.now ≡ state.now.bytes }
+        requires { is_live state.now.exporter self.now ≡ true }
+        ensures { result.now ≡ state.now.exporter.bytes }
     {
         state.bytes()
     }
@@ -271,18 +273,19 @@ impl PyBuffer {
     ///
     /// A caller whose own proof speaks of the bytes afterwards calls `ExporterState::bytes_mut`.
     pub fn obj_bytes_mut<'a>(&self, state: &'a mut ExporterState) -> &'a mut [u8]
-        requires live { is_live state.old self.now ≡ true }
-        requires writable { (layout_of state.old self.now).readonly ≡ false }
+        requires live { is_live state.old.exporter self.now ≡ true }
+        requires writable { (layout_of state.old.exporter self.now).readonly ≡ false }
         ensures* writes_back { sem 𝓛 (LendsBytes state.entry result) }
-        ensures value { result.now ≡ state.old.bytes }
+        ensures value { result.now ≡ state.old.exporter.bytes }
     {
         all_bytes(state, self.number())
     }
 
     /// Releases the view. Releasing it again changes nothing. Takes no memory.
     pub fn release(&self, state: &mut ExporterState)
-        requires { self.now < length state.old.views }
-        ensures { released_in state.old self.now ≡ Ok state.new }
+        requires { self.now < length state.old.exporter.views }
+        ensures released { released_in state.old.exporter self.now ≡ Ok state.new.exporter }
+        ensures room { state.new.room ≡ state.old.room }
     {
         match state.release_view(self.view) {
             Ok(()) => {}
@@ -293,9 +296,10 @@ impl PyBuffer {
     /// One more view of the same items, which is counted and released by itself. Where memory runs
     /// out, the exporter is as before.
     pub fn retain(&self, alloc: Global, state: &mut ExporterState) -> Made<PyBuffer>
-        requires { is_live state.old self.now ≡ true }
-        ensures ok { IfOk result (λ made. with_view state.old (layout_of state.old self.now) ≡ (state.new, replies.View made)) }
+        requires { is_live state.old.exporter self.now ≡ true }
+        ensures ok { IfOk result (λ made. with_view state.old.exporter (layout_of state.old.exporter self.now) ≡ (state.new.exporter, replies.View made)) }
         ensures err { OnErr result (state.new ≡ state.old) }
+        ensures room { state.new.room ≡ state.old.room }
     {
         let view = add_same(alloc, state, self.view)?;
         Ok(PyBuffer { view })

@@ -14,8 +14,8 @@ use pybuf_state::live_layouts_are_sound;
 /// Whether the items of an unreleased view lie one after the other and may be written. The exporter
 /// stays as it is; it is taken as it is lent on afterwards.
 pub(crate) fn has_writable_run(state: &mut ExporterState, view: usize) -> bool
-    requires { is_live state.old view ≡ true }
-    ensures answer { result ≡ is_writable_run (layout_of state.old view) }
+    requires { is_live state.old.exporter view ≡ true }
+    ensures answer { result ≡ is_writable_run (layout_of state.old.exporter view) }
     ensures same { state.new ≡ state.old }
 {
     state.is_writable_run(view)
@@ -23,20 +23,20 @@ pub(crate) fn has_writable_run(state: &mut ExporterState, view: usize) -> bool
 
 /// The bytes of such a view.
 pub(crate) fn writable_run(state: &mut ExporterState, view: usize) -> &mut [u8]
-    requires live { is_live state.old view ≡ true }
-    requires writable { is_writable_run (layout_of state.old view) ≡ true }
+    requires live { is_live state.old.exporter view ≡ true }
+    requires writable { is_writable_run (layout_of state.old.exporter view) ≡ true }
     ensures* writes_back { sem 𝓛 (LendsRunOf state.entry view result) }
-    ensures value { result.now ≡ content_of_layout state.old.bytes (layout_of state.old view) }
+    ensures value { result.now ≡ content_of_layout state.old.exporter.bytes (layout_of state.old.exporter view) }
 {
     state.contiguous_bytes_mut(view)
 }
 
 /// All bytes of the exporter of an unreleased view that isn't read-only.
 pub(crate) fn all_bytes(state: &mut ExporterState, view: usize) -> &mut [u8]
-    requires live { is_live state.old view ≡ true }
-    requires writable { (layout_of state.old view).readonly ≡ false }
+    requires live { is_live state.old.exporter view ≡ true }
+    requires writable { (layout_of state.old.exporter view).readonly ≡ false }
     ensures* writes_back { sem 𝓛 (LendsBytes state.entry result) }
-    ensures value { result.now ≡ state.old.bytes }
+    ensures value { result.now ≡ state.old.exporter.bytes }
 {
     live_layouts_are_sound();
     let _exports = state.exports();

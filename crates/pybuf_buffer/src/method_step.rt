@@ -1,7 +1,8 @@
 //! One command on an exporter, whose verb and loans are handed over.
-ghost use Rattle.std.specs.Prelude.{◌≡◌, [], IfOk, OnErr};
+ghost use Rattle.std.specs.Prelude.{◌≡◌, [], false, IfOk, OnErr};
 ghost use Rattle.pybuf_state.specs.Fits.{LoansFit};
 ghost use Rattle.pybuf_exporter.specs.Step.{estep};
+ghost use Rattle.pybuf_exporter.specs.Counting.{edits_by};
 
 use pybuf_command::{LoanList, LocalReply, Subject, Verb};
 use pybuf_exporter::ExporterState;
@@ -17,8 +18,9 @@ pub fn step_of(
     loans: LoanList,
 ) -> Made<LocalReply>
     requires { LoansFit loans }
-    ensures ok { IfOk result (λ r. estep state.old subject verb loans ≡ (state.new, r)) }
+    ensures ok { IfOk result (λ r. estep state.old.exporter subject verb loans ≡ (state.new.exporter, r)) }
     ensures err { OnErr result (state.new ≡ state.old) }
+    ensures kept { edits_by subject verb ≡ false → state.new.room ≡ state.old.room }
 {
     let answer = state.carry_out(subject, &verb, &loans);
     // Handed over here: a verb that ends with its scope would spell out all its variants.
@@ -33,8 +35,9 @@ pub fn step_without_loans(
     subject: Subject,
     verb: Verb,
 ) -> Made<LocalReply>
-    ensures ok { IfOk result (λ r. estep state.old subject verb [] ≡ (state.new, r)) }
+    ensures ok { IfOk result (λ r. estep state.old.exporter subject verb [] ≡ (state.new.exporter, r)) }
     ensures err { OnErr result (state.new ≡ state.old) }
+    ensures kept { edits_by subject verb ≡ false → state.new.room ≡ state.old.room }
 {
     step_of(state, subject, verb, LoanList::new(alloc))
 }

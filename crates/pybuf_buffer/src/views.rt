@@ -18,10 +18,10 @@ use std::ops::Range;
 
 /// The descriptor of an unreleased view, and the place of its first item.
 pub(crate) fn described(state: &ExporterState, view: usize) -> (&BufferDescriptor, usize)
-    requires { is_live state.now view ≡ true }
-    ensures stands { Stands result.0.now result.1 (layout_of state.now view) }
+    requires { is_live state.now.exporter view ≡ true }
+    ensures stands { Stands result.0.now result.1 (layout_of state.now.exporter view) }
     ensures placed { IsPlaced result.0.now result.1 }
-    ensures valid { IsValid result.0.now result.1 (length state.now.bytes) }
+    ensures valid { IsValid result.0.now result.1 (length state.now.exporter.bytes) }
 {
     match state.view_desc(view) {
         Some(described) => described,
@@ -32,11 +32,11 @@ pub(crate) fn described(state: &ExporterState, view: usize) -> (&BufferDescripto
 /// The descriptor of an unreleased view, and the place of its first item. They stand for the view, and
 /// its items lie inside the bytes of the exporter.
 pub fn live_descriptor(state: &ExporterState, view: usize) -> (&BufferDescriptor, usize)
-    requires { is_live state.now view ≡ true }
-    ensures stands { Stands result.0.now result.1 (layout_of state.now view) }
+    requires { is_live state.now.exporter view ≡ true }
+    ensures stands { Stands result.0.now result.1 (layout_of state.now.exporter view) }
     ensures placed { IsPlaced result.0.now result.1 }
-    ensures valid { IsValid result.0.now result.1 (length state.now.bytes) }
-    ensures sound { IsSoundLayout state.now (layout_of state.now view) }
+    ensures valid { IsValid result.0.now result.1 (length state.now.exporter.bytes) }
+    ensures sound { IsSoundLayout state.now.exporter (layout_of state.now.exporter view) }
 {
     live_layouts_are_sound();
     let _exports = state.exports();
@@ -45,9 +45,10 @@ pub fn live_descriptor(state: &ExporterState, view: usize) -> (&BufferDescriptor
 
 /// One more view of the items of a view. The answer is its number.
 pub(crate) fn add_same(alloc: Global, state: &mut ExporterState, view: usize) -> Made<usize>
-    requires { is_live state.old view ≡ true }
-    ensures ok { IfOk result (λ made. with_view state.old (layout_of state.old view) ≡ (state.new, replies.View made)) }
+    requires { is_live state.old.exporter view ≡ true }
+    ensures ok { IfOk result (λ made. with_view state.old.exporter (layout_of state.old.exporter view) ≡ (state.new.exporter, replies.View made)) }
     ensures err { OnErr result (state.new ≡ state.old) }
+    ensures room { state.new.room ≡ state.old.room }
 {
     live_layouts_are_sound();
     descriptors_stand_for_one_view();

@@ -1,5 +1,5 @@
 -- What a command moves, and queues of commands.
-use Rattle.std.proofs.Common.{◌≡◌, ℕ, ◌+◌, ◌≤◌, List, [], ◌∷◌, true, false, true≢false, sym, subst, ap, refl, inl, inr, arith}
+use Rattle.std.proofs.Common.{◌≡◌, ℕ, ◌+◌, ◌≤◌, List, [], ◌∷◌, true, false, true≢false, sym, subst, ap, ap₂, refl, inl, inr, arith}
 use Rattle.std.specs.Prelude.{Result, Ok, Err, IsOk, IsErr, OnOk, OnErr}
 use Rattle.pybuf_value.specs.declared.faults.Fault.{Fault}
 use Rattle.pybuf_value.specs.declared.faults.Fault.TheVariants as fault
@@ -15,7 +15,8 @@ use Rattle.pybuf_state.specs.Loans.{Lent}
 use Rattle.pybuf_state.specs.Answers.{Answers}
 use Rattle.pybuf_rows_edits.specs.Counting.{taken_places, TakesFirst, grows_at_end}
 use Rattle.pybuf_rows_edits.specs.Edits.{is_edit, edit_of_own}
-use Rattle.pybuf_exporter.specs.Counting.{Counted, IsQueueStep, IsQueueRun, QueuesMoveFewBytes}
+use Rattle.pybuf_exporter.specs.Stored.{StoredExporter}
+use Rattle.pybuf_exporter.specs.Counting.{IsQueueStep, IsQueueRun, QueuesMoveFewBytes}
 
 -- ---- commands that are no edits
 
@@ -157,6 +158,11 @@ pub where_refused : (P : Type 0) (row : Row) (old new : Exporter) (a : Result Lo
 where_refused P row old new (Ok r) answers refused holds = absurd (true≢false (sym (subst IsErr answers refused)))
 where_refused P row old new (Err h) answers refused holds = holds
 
+-- what holds of a command that leaves the length
+pub still_by : (P Q : Type 0) (a : Result LocalReply Halt) → OnOk a (P → Q) → P → OnOk a Q
+still_by P Q (Ok r) then holds = then holds
+still_by P Q (Err h) then holds = then
+
 -- in either case few bytes are moved
 pub few_moved : (a : Result LocalReply Halt) (before after most : ℕ) → OnOk a (after ≤ before + most) → OnErr a (after ≡ before) → after ≤ before + most
 few_moved (Ok r) before after most done gone = done
@@ -172,8 +178,11 @@ same_exporter row old new (Ok r) gone answers = absurd (cc)
 same_exporter row old new (Err (halt.Refused f)) gone answers = absurd (cc)
 same_exporter row old new (Err halt.NoMemory) gone answers = answers
 
-pub same_counted : (e f : Exporter) (m n : ℕ) → e ≡ f → m ≡ n → (let one : Counted = record { exporter = e; room = m } in one) ≡ record { exporter = f; room = n }
-same_counted e f m n exporters rooms = cc
+abbrev pub stored : Exporter → ℕ → StoredExporter
+stored e room = record { exporter = e; room = room }
+
+pub same_stored : (e f : Exporter) (m n : ℕ) → e ≡ f → m ≡ n → stored e m ≡ stored f n
+same_stored e f m n exporters rooms = ap₂ stored exporters rooms
 
 pub where_ok : {A E : Type 0} (P Q : Type 0) (r : Result A E) → OnOk r P → (P → Q) → OnOk r Q
 where_ok P Q (Ok a) holds then = then holds
@@ -183,19 +192,32 @@ pub where_err : {A E : Type 0} (P Q : Type 0) (r : Result A E) → OnErr r P →
 where_err P Q (Ok a) holds then = holds
 where_err P Q (Err x) holds then = then holds
 
+-- where memory runs out, exporter and room are as before
+pub closes_stored : {R E : Type 0} (row : Row) (old new : Exporter) (m n : ℕ) (a : Result LocalReply Halt) (r : Result R E) → Answers row old a new → OnErr a (n ≡ m) → OnErr r (a ≡ Err halt.NoMemory) → OnErr r (stored new n ≡ stored old m)
+closes_stored row old new m n a r answers rooms memory =
+    where_err _ _ r memory (λ gone. same_stored new old n m (same_exporter row old new a gone answers) (without_memory _ a gone rooms))
+
+-- so it is where the room stays in any case
+pub always_on_err : {R E : Type 0} (P : Type 0) (r : Result R E) → P → OnErr r P
+always_on_err P (Ok x) holds = tt
+always_on_err P (Err e) holds = holds
+
+pub stored_on_err : {R E : Type 0} (r : Result R E) (old new : Exporter) (m n : ℕ) → OnErr r (new ≡ old) → n ≡ m → OnErr r (stored new n ≡ stored old m)
+stored_on_err r old new m n same rooms = where_err _ _ r same (λ exporters. same_stored new old n m exporters rooms)
+
 -- ---- queues
 
 -- what is left to be paid for: the moves up to now, and the room
-step_pays : (command : LocalCommand) (cut : ℕ) (old : Counted) (before : ℕ) (new : Counted) (after : ℕ) → IsQueueStep command cut old before new after → after + new.room ≤ before + (old.room + cut)
+step_pays : (command : LocalCommand) (cut : ℕ) (old : StoredExporter) (before : ℕ) (new : StoredExporter) (after : ℕ) → IsQueueStep command cut old before new after → after + new.room ≤ before + (old.room + cut)
 step_pays command cut old before new after step =
     elim step.1 [
       | inl front ↦ omega (arith, step.2.front_counter cut front step.0, step.2.front_room cut front step.0)
       | inr grows ↦ omega (arith, step.2.end_counter grows.0 step.0)
     ]
 
-run_pays : (commands : List LocalCommand) (cut : ℕ) (old : Counted) (before : ℕ) (new : Counted) (after : ℕ) → IsQueueRun commands cut old before new after → after + new.room ≤ before + (old.room + cut)
+run_pays : (commands : List LocalCommand) (cut : ℕ) (old : StoredExporter) (before : ℕ) (new : StoredExporter) (after : ℕ) → IsQueueRun commands cut old before new after → after + new.room ≤ before + (old.room + cut)
 run_pays [] cut old before new after run =
-    let rooms : new.room ≡ old.room = ap (λ (c : Counted). c.room) run.1 in
+    let rooms : new.room ≡ old.room = ap (λ (c : StoredExporter). c.room) run.1 in
     omega (arith, rooms, run.2)
 run_pays (command ∷ commands) cut old before new after run =
     let first = run.0 in

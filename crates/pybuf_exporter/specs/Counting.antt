@@ -8,21 +8,12 @@ use Rattle.pybuf_command.specs.declared.commands.Verb.{Verb}
 use Rattle.pybuf_command.specs.declared.commands.LocalReply.{LocalReply}
 use Rattle.pybuf_command.specs.declared.commands.LocalCommand.{LocalCommand}
 use Rattle.pybuf_command.specs.Handles.{handles_read}
-use Rattle.pybuf_state.specs.declared.parts.Parts.{Parts}
-use Rattle.pybuf_state.specs.Answers.{exporter_of}
 use Rattle.pybuf_state.specs.Exporter.{Exporter}
 use Rattle.pybuf_state.specs.Loans.{Lent, lent_for_each}
-use Rattle.pybuf_rows_edits.specs.Counting.{taken_places, TakesFirst, grows_at_end}
+use Rattle.pybuf_rows_edits.specs.Counting.{taken_places, TakesFirst, grows_at_end, can_leave_length}
 use Rattle.pybuf_rows_edits.specs.Edits.{is_edit}
 use Rattle.pybuf_exporter.specs.Step.{answer_of}
-
--- An exporter, and how many bytes of free room lie before its bytes.
-pub record Counted : Type 0 where
-  pub exporter : Exporter
-  pub room : ℕ
-
-abbrev pub counted_of : Parts → Counted
-counted_of p = record { exporter = exporter_of p; room = p.bytes.room }
+use Rattle.pybuf_exporter.specs.Stored.{StoredExporter}
 
 -- ---- which commands change the ends of a bytearray
 
@@ -36,20 +27,31 @@ abbrev pub grows_by : Subject → Verb → List Lent → Bool
 grows_by subject.Own v lents = grows_at_end v lents
 grows_by _ v lents = false
 
+-- whether a command is an edit that can leave the length as it is
+abbrev pub leaves_by : Subject → Verb → List Lent → Bool
+leaves_by subject.Own v lents = can_leave_length v lents
+leaves_by _ v lents = false
+
 -- whether a command is an edit; no other changes the length
 abbrev pub edits_by : Subject → Verb → Bool
 edits_by subject.Own v = is_edit v
 edits_by _ v = false
 
 -- the command takes just the first n bytes out
-abbrev pub TakesFront : Counted → LocalCommand → ℕ → Type 0
+abbrev pub TakesFront : StoredExporter → LocalCommand → ℕ → Type 0
 TakesFront c command n = TakesFirst (taken_by c.exporter command.subject command.verb) n
 
-abbrev pub GrowsAtEnd : Counted → LocalCommand → Type 0
+abbrev pub GrowsAtEnd : StoredExporter → LocalCommand → Type 0
 GrowsAtEnd c command = grows_by command.subject command.verb (lent_for_each c.exporter command.loans (handles_read command.subject command.verb)) ≡ true
 
+-- the command can leave the length as it is, and does
+abbrev pub LeavesLength : StoredExporter → LocalCommand → StoredExporter → Type 0
+LeavesLength old command new =
+    (leaves_by command.subject command.verb (lent_for_each old.exporter command.loans (handles_read command.subject command.verb)) ≡ true)
+    × (length new.exporter.bytes ≡ length old.exporter.bytes)
+
 -- what a command answers, by its row
-abbrev pub answer_to : Counted → LocalCommand → Result (Exporter × LocalReply) Fault
+abbrev pub answer_to : StoredExporter → LocalCommand → Result (Exporter × LocalReply) Fault
 answer_to c command = answer_of c.exporter command.subject command.verb command.loans
 
 -- What a command moves that is carried out, and what room is left. A step is one byte that is moved to another
@@ -58,13 +60,16 @@ answer_to c command = answer_of c.exporter command.subject command.verb command.
 -- Taking the first n bytes out moves nothing, and leaves n bytes more of room. Where bytes are added at the end,
 -- the rise of the counter and the room after are together at most the room before, and afterwards there is no
 -- room or less than there are bytes. Any command moves at most as many bytes as there are before and after
--- together. One that is refused, and one that is no edit, leaves counter and room.
-pub record Moves (old : Counted) (command : LocalCommand) (before : ℕ) (new : Counted) (after : ℕ) : Type 0 where
+-- together. One that doesn't resize leaves counter and room: one that is refused, one that is no edit, and an edit
+-- that can leave the length as it is, and does.
+pub record Moves (old : StoredExporter) (command : LocalCommand) (before : ℕ) (new : StoredExporter) (after : ℕ) : Type 0 where
   pub front_counter : (n : ℕ) → TakesFront old command n → IsOk (answer_to old command) → after ≡ before
   pub front_room : (n : ℕ) → TakesFront old command n → IsOk (answer_to old command) → new.room ≡ old.room + n
   pub end_counter : GrowsAtEnd old command → IsOk (answer_to old command) → after + new.room ≤ before + old.room
   pub end_spare : GrowsAtEnd old command → IsOk (answer_to old command) → (new.room ≡ 0) ⊎ (new.room < length new.exporter.bytes)
   pub few : after ≤ before + (length old.exporter.bytes + length new.exporter.bytes)
+  pub still_counter : LeavesLength old command new → IsOk (answer_to old command) → after ≡ before
+  pub still_room : LeavesLength old command new → IsOk (answer_to old command) → new.room ≡ old.room
   pub refused_counter : IsErr (answer_to old command) → after ≡ before
   pub refused_room : IsErr (answer_to old command) → new.room ≡ old.room
   pub kept_counter : edits_by command.subject command.verb ≡ false → after ≡ before
@@ -74,17 +79,17 @@ pub record Moves (old : Counted) (command : LocalCommand) (before : ℕ) (new : 
 
 -- A command of a queue that is carried out: it takes just the first bytes out, so many, or adds bytes at the end,
 -- and moves what it may.
-abbrev pub IsQueueStep : LocalCommand → ℕ → Counted → ℕ → Counted → ℕ → Type 0
+abbrev pub IsQueueStep : LocalCommand → ℕ → StoredExporter → ℕ → StoredExporter → ℕ → Type 0
 IsQueueStep command cut old before new after =
     IsOk (answer_to old command)
     × (TakesFront old command cut ⊎ (GrowsAtEnd old command × (cut ≡ 0)))
     × Moves old command before new after
 
 -- Such commands one after another, which take so many bytes out in all.
-abbrev pub IsQueueRun : List LocalCommand → ℕ → Counted → ℕ → Counted → ℕ → Type 0
+abbrev pub IsQueueRun : List LocalCommand → ℕ → StoredExporter → ℕ → StoredExporter → ℕ → Type 0
 IsQueueRun [] cut old before new after = (cut ≡ 0) × (new ≡ old) × (after ≡ before)
 IsQueueRun (command ∷ commands) cut old before new after =
-    (first : ℕ) × (others : ℕ) × (between : Counted) × (count : ℕ)
+    (first : ℕ) × (others : ℕ) × (between : StoredExporter) × (count : ℕ)
     × (cut ≡ first + others)
     × IsQueueStep command first old before between count
     × IsQueueRun commands others between count new after
@@ -93,5 +98,5 @@ IsQueueRun (command ∷ commands) cut old before new after =
 -- the number of bytes removed at the front.
 abbrev pub QueuesMoveFewBytes : Type 0
 QueuesMoveFewBytes =
-    (commands : List LocalCommand) (cut : ℕ) (old : Counted) (before : ℕ) (new : Counted) (after : ℕ)
+    (commands : List LocalCommand) (cut : ℕ) (old : StoredExporter) (before : ℕ) (new : StoredExporter) (after : ℕ)
     → IsQueueRun commands cut old before new after → after ≤ before + (old.room + cut)

@@ -1,5 +1,6 @@
 pub mod Step
 pub mod Rows
+pub mod Stored
 pub mod Lending
 pub mod Laws
 pub mod Iterating

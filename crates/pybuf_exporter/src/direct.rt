@@ -24,6 +24,7 @@ fn row_of_get(parts: &mut Parts, view: usize, key: &Value) -> Result<LocalReply,
     requires { IsWhole parts.old }
     ensures answer { Answers (spec.get_of_view (exporter_of parts.old) view key.now) (exporter_of parts.old) result (exporter_of parts.new) }
     ensures counted { parts.new.exports ≡ exports_of (exporter_of parts.new) }
+    ensures room { parts.new.bytes.room ≡ parts.old.bytes.room }
 {
     match key {
         Value::Slice(slice) => slice::of_view(parts, view, slice),
@@ -43,6 +44,7 @@ fn row_of_set<N: Names>(
     requires fit { N.fit names.now }
     ensures answer { Answers (spec.set_through_view (exporter_of parts.old) view key.now value.now (lents_by (exporter_of parts.old) (N.named names.now) (handle_of_value value.now))) (exporter_of parts.old) result (exporter_of parts.new) }
     ensures counted { parts.new.exports ≡ exports_of (exporter_of parts.new) }
+    ensures room { parts.new.bytes.room ≡ parts.old.bytes.room }
 {
     match key {
         Value::Slice(slice) => assign::of_view(parts, view, slice, value, names),
@@ -55,6 +57,7 @@ pub fn view_of_own(parts: &mut Parts, _loans: &LoanList) -> Result<LocalReply, H
     requires { IsWhole parts.old }
     ensures answer { Answers (spec.answer_of (exporter_of parts.old) subjects.Own verbs.View _loans.now) (exporter_of parts.old) result (exporter_of parts.new) }
     ensures counted { parts.new.exports ≡ exports_of (exporter_of parts.new) }
+    ensures room { parts.new.bytes.room ≡ parts.old.bytes.room }
 {
     view::of_own(parts)
 }
@@ -64,6 +67,7 @@ pub fn view_of_view(parts: &mut Parts, view: usize, _loans: &LoanList) -> Result
     requires { IsWhole parts.old }
     ensures answer { Answers (spec.answer_of (exporter_of parts.old) (subjects.View view) verbs.View _loans.now) (exporter_of parts.old) result (exporter_of parts.new) }
     ensures counted { parts.new.exports ≡ exports_of (exporter_of parts.new) }
+    ensures room { parts.new.bytes.room ≡ parts.old.bytes.room }
 {
     view::of_view(parts, view)
 }
@@ -73,6 +77,7 @@ pub fn exit_of_view(parts: &mut Parts, view: usize, _loans: &LoanList) -> Result
     requires { IsWhole parts.old }
     ensures answer { Answers (spec.answer_of (exporter_of parts.old) (subjects.View view) verbs.Exit _loans.now) (exporter_of parts.old) result (exporter_of parts.new) }
     ensures counted { parts.new.exports ≡ exports_of (exporter_of parts.new) }
+    ensures room { parts.new.bytes.room ≡ parts.old.bytes.room }
 {
     release::of_view(parts, view)
 }
@@ -82,6 +87,7 @@ pub fn get_of_own(parts: &mut Parts, key: &Value, loans: &LoanList) -> Result<Lo
     requires { IsWhole parts.old }
     ensures answer { Answers (spec.answer_of (exporter_of parts.old) subjects.Own (verbs.Get key.now) loans.now) (exporter_of parts.old) result (exporter_of parts.new) }
     ensures counted { parts.new.exports ≡ exports_of (exporter_of parts.new) }
+    ensures room { parts.new.bytes.room ≡ parts.old.bytes.room }
 {
     if !is_value_known(parts, loans, key) {
         return Err(Halt::Refused(Fault::UnknownName));
@@ -99,6 +105,7 @@ pub fn get_of_view(
     requires { IsWhole parts.old }
     ensures answer { Answers (spec.answer_of (exporter_of parts.old) (subjects.View view) (verbs.Get key.now) loans.now) (exporter_of parts.old) result (exporter_of parts.new) }
     ensures counted { parts.new.exports ≡ exports_of (exporter_of parts.new) }
+    ensures room { parts.new.bytes.room ≡ parts.old.bytes.room }
 {
     if !is_value_known(parts, loans, key) {
         return Err(Halt::Refused(Fault::UnknownName));
@@ -118,6 +125,7 @@ pub fn set_through_view(
     requires fit { LoansFit loans.now }
     ensures answer { Answers (spec.answer_of (exporter_of parts.old) (subjects.View view) (verbs.Set key.now value.now) loans.now) (exporter_of parts.old) result (exporter_of parts.new) }
     ensures counted { parts.new.exports ≡ exports_of (exporter_of parts.new) }
+    ensures room { parts.new.bytes.room ≡ parts.old.bytes.room }
 {
     if !is_value_known(parts, loans, key) {
         return Err(Halt::Refused(Fault::UnknownName));
@@ -139,6 +147,7 @@ pub fn cast_of_view(
     requires { IsWhole parts.old }
     ensures answer { Answers (spec.answer_of (exporter_of parts.old) (subjects.View view) (verbs.Cast format.now shape.now) loans.now) (exporter_of parts.old) result (exporter_of parts.new) }
     ensures counted { parts.new.exports ≡ exports_of (exporter_of parts.new) }
+    ensures room { parts.new.bytes.room ≡ parts.old.bytes.room }
 {
     if !is_value_known(parts, loans, format) {
         return Err(Halt::Refused(Fault::UnknownName));
@@ -154,6 +163,7 @@ pub fn pop(parts: &mut Parts, index: &Option<Value>, loans: &LoanList) -> Result
     requires { IsWhole parts.old }
     ensures answer { Answers (spec.answer_of (exporter_of parts.old) subjects.Own (verbs.Pop index.now) loans.now) (exporter_of parts.old) result (exporter_of parts.new) }
     ensures counted { parts.new.exports ≡ exports_of (exporter_of parts.new) }
+    ensures err_room { OnErr result (parts.new.bytes.room ≡ parts.old.bytes.room) }
 {
     if !is_option_known(parts, loans, index) {
         return Err(Halt::Refused(Fault::UnknownName));

@@ -4,7 +4,7 @@ ghost use Rattle.std.specs.Prelude.{◌≡◌, ◌<◌, ◌↔◌, [], Some, IfO
 use crate::closing::closed;
 use crate::copying::{copy_of_reply, twice};
 use crate::direct;
-use crate::uncounted::{answer, append};
+use crate::uncounted::{answer, append, step as step_uncounted};
 use pybuf_command::{ExporterKind, LoanList, LocalCommand, LocalReply, Subject, Verb};
 use pybuf_desc::BufferDescriptor;
 use pybuf_memoryview::KeptLayout;
@@ -21,21 +21,21 @@ use std::marker::Model;
 
 /// An exporter of bytes, and all views and iterators that were made of it.
 ///
-/// A clause sees its kind, its bytes, its views, each as a list of places, and its iterators. In every exporter, each
-/// byte of each item of an unreleased view lies inside, and the exporter is as long as when that view
-/// was made.
+/// A clause sees as `exporter` its kind, its bytes, its views, each as a list of places, and its iterators, and beside
+/// these as `room` how many bytes of free room lie before its bytes. In every exporter, each byte of each item of an
+/// unreleased view lies inside, and the exporter is as long as when that view was made.
 #[derive(Debug, Drop)]
 pub struct ExporterState {
     pub(crate) parts: Parts,
 }
 
 impl Model for ExporterState {
-    ghost use Rattle.pybuf_state.specs.Exporter.{Exporter};
-    ghost use Rattle.pybuf_state.specs.Answers.{exporter_of, IsWhole};
+    ghost use Rattle.pybuf_state.specs.Answers.{IsWhole};
+    ghost use Rattle.pybuf_exporter.specs.Stored.{StoredExporter, stored_of};
 
-    ghost Value = { Exporter };
+    ghost Value = { StoredExporter };
 
-    ghost view = { λ s. exporter_of s.parts };
+    ghost view = { λ s. stored_of s.parts };
 
     ghost invariant = { λ s. IsWhole s.parts };
 }
@@ -61,11 +61,12 @@ impl ExporterState {
     ghost use Rattle.pybuf_state.specs.Sound.{IsSoundExporter};
     ghost use Rattle.pybuf_desc.specs.Places.{Stands};
     ghost use Rattle.pybuf_desc.specs.Valid.{IsValid};
-    ghost use Rattle.pybuf_state.specs.Exporter.{new_exporter};
     ghost use Rattle.std.specs.Prelude.{Ok, Err};
     ghost use Rattle.pybuf_value.specs.Snaps.{content_of, content_of_named};
     ghost use Rattle.pybuf_value.specs.Lent.{Lends, kind_of_named};
     ghost use Rattle.pybuf_exporter.specs.Step.{estep, estep_by};
+    ghost use Rattle.pybuf_exporter.specs.Stored.{new_stored};
+    ghost use Rattle.pybuf_exporter.specs.Counting.{edits_by};
     ghost use Rattle.pybuf_exporter.specs.Owning.{reply_owns};
     ghost use Rattle.pybuf_state.specs.Names.{IsSoundOther, snap_of_other};
     ghost use Rattle.pybuf_memoryview.specs.Fits.{fits_snap};
@@ -76,7 +77,7 @@ impl ExporterState {
 
     /// An exporter of these bytes, with no views and no iterators. Takes no memory.
     pub fn new(alloc: Global, kind: ExporterKind, bytes: ByteList) -> ExporterState
-        ensures { result ≡ new_exporter kind bytes }
+        ensures { result ≡ new_stored kind bytes }
     {
         ExporterState {
             parts: Parts {
@@ -92,7 +93,7 @@ impl ExporterState {
 
     /// An exporter of no bytes. Takes no memory.
     pub fn empty(alloc: Global) -> ExporterState
-        ensures { result ≡ new_exporter kinds.Bytes [] }
+        ensures { result ≡ new_stored kinds.Bytes [] }
     {
         ExporterState {
             parts: Parts {
@@ -106,17 +107,18 @@ impl ExporterState {
         }
     }
 
-    /// Carries out a command, as its row says.
+    /// Carries out a command, as its row says: `step_counted` with a counter that nobody reads.
     ///
     /// A refusal is a reply, and changes nothing. A subject number that was never given is refused
     /// with `UnknownName`, and so is, before all else, a handle among the command's values that its
-    /// loans do not name. Where memory runs out, nothing is changed.
+    /// loans do not name. Where memory runs out, nothing is changed. Only an edit changes the room.
     pub fn step(&mut self, command: &LocalCommand) -> Made<LocalReply>
         requires { LoansFit command.now.loans }
-        ensures ok { IfOk result (λ r. estep self.old command.now.subject command.now.verb command.now.loans ≡ (self.new, r)) }
+        ensures ok { IfOk result (λ r. estep self.old.exporter command.now.subject command.now.verb command.now.loans ≡ (self.new.exporter, r)) }
         ensures err { OnErr result (self.new ≡ self.old) }
+        ensures kept { edits_by command.now.subject command.now.verb ≡ false → self.new.room ≡ self.old.room }
     {
-        self.carry_out(command.subject, &command.verb, &command.loans)
+        step_uncounted(&mut self.parts, command)
     }
 
     /// The same, of a verb by itself and of what its handles name, which is asked of any names: a list of loans, or a
@@ -128,24 +130,26 @@ impl ExporterState {
         names: &N,
     ) -> Made<LocalReply>
         requires { N.fit names.now }
-        ensures ok { IfOk result (λ r. estep_by self.old subject verb.now (N.named names.now) ≡ (self.new, r)) }
+        ensures ok { IfOk result (λ r. estep_by self.old.exporter subject verb.now (N.named names.now) ≡ (self.new.exporter, r)) }
         ensures err { OnErr result (self.new ≡ self.old) }
-        ensures was_sound { IsSoundExporter self.old }
+        ensures kept { edits_by subject verb.now ≡ false → self.new.room ≡ self.old.room }
+        ensures was_sound { IsSoundExporter self.old.exporter }
     {
         crate::laws::steps_keep_sound();
         closed(answer(&mut self.parts, subject, verb, names))
     }
 
     /// Carries out a command, as `step`, and gives its reply twice. Where memory runs out, also for the second reply,
-    /// nothing is changed.
+    /// nothing of the exporter is changed. Only an edit changes the room.
     ///
     /// A second exporter is never made: what owns memory is replied by commands that change nothing, but for `take`,
     /// whose bytes are copied before, and `next`, whose iterator is put back.
     pub fn step_copied(&mut self, command: &LocalCommand) -> Made<(LocalReply, LocalReply)>
         requires { LoansFit command.now.loans }
-        ensures ok { IfOk result (λ r. estep self.old command.now.subject command.now.verb command.now.loans ≡ (self.new, r.0)) }
+        ensures ok { IfOk result (λ r. estep self.old.exporter command.now.subject command.now.verb command.now.loans ≡ (self.new.exporter, r.0)) }
         ensures twice { IfOk result (λ r. r.1 ≡ r.0) }
-        ensures err { OnErr result (self.new ≡ self.old) }
+        ensures err { OnErr result (self.new.exporter ≡ self.old.exporter) }
+        ensures kept { edits_by command.now.subject command.now.verb ≡ false → self.new.room ≡ self.old.room }
     {
         match (command.subject, &command.verb) {
             (Subject::Own, Verb::Take) => self.take_copied(command),
@@ -160,10 +164,11 @@ impl ExporterState {
     /// The same of a command whose reply owns no memory, or which changes nothing.
     fn read_copied(&mut self, command: &LocalCommand) -> Made<(LocalReply, LocalReply)>
         requires fit { LoansFit command.now.loans }
-        requires same { reply_owns (estep self.old command.now.subject command.now.verb command.now.loans).1 ≡ true → (estep self.old command.now.subject command.now.verb command.now.loans).0 ≡ self.old }
-        ensures ok { IfOk result (λ r. estep self.old command.now.subject command.now.verb command.now.loans ≡ (self.new, r.0)) }
+        requires same { reply_owns (estep self.old.exporter command.now.subject command.now.verb command.now.loans).1 ≡ true → (estep self.old.exporter command.now.subject command.now.verb command.now.loans).0 ≡ self.old.exporter }
+        ensures ok { IfOk result (λ r. estep self.old.exporter command.now.subject command.now.verb command.now.loans ≡ (self.new.exporter, r.0)) }
         ensures twice { IfOk result (λ r. r.1 ≡ r.0) }
-        ensures err { OnErr result (self.new ≡ self.old) }
+        ensures err { OnErr result (self.new.exporter ≡ self.old.exporter) }
+        ensures kept { edits_by command.now.subject command.now.verb ≡ false → self.new.room ≡ self.old.room }
     {
         let reply = self.step(command)?;
         twice(self.parts.alloc, reply)
@@ -174,9 +179,10 @@ impl ExporterState {
         requires fit { LoansFit command.now.loans }
         requires subject { command.now.subject ≡ subjects.Own }
         requires verb { command.now.verb ≡ verbs.Take }
-        ensures ok { IfOk result (λ r. estep self.old command.now.subject command.now.verb command.now.loans ≡ (self.new, r.0)) }
+        ensures ok { IfOk result (λ r. estep self.old.exporter command.now.subject command.now.verb command.now.loans ≡ (self.new.exporter, r.0)) }
         ensures twice { IfOk result (λ r. r.1 ≡ r.0) }
-        ensures err { OnErr result (self.new ≡ self.old) }
+        ensures err { OnErr result (self.new.exporter ≡ self.old.exporter) }
+        ensures kept { edits_by command.now.subject command.now.verb ≡ false → self.new.room ≡ self.old.room }
     {
         crate::laws::taken_bytes_are_all();
         let bytes = ByteList::from_slice(self.parts.alloc, self.parts.bytes.as_slice())?;
@@ -197,9 +203,10 @@ impl ExporterState {
         requires fit { LoansFit command.now.loans }
         requires subject { command.now.subject ≡ subjects.Iter iterator }
         requires verb { command.now.verb ≡ verbs.Next }
-        ensures ok { IfOk result (λ r. estep self.old command.now.subject command.now.verb command.now.loans ≡ (self.new, r.0)) }
+        ensures ok { IfOk result (λ r. estep self.old.exporter command.now.subject command.now.verb command.now.loans ≡ (self.new.exporter, r.0)) }
         ensures twice { IfOk result (λ r. r.1 ≡ r.0) }
-        ensures err { OnErr result (self.new ≡ self.old) }
+        ensures err { OnErr result (self.new.exporter ≡ self.old.exporter) }
+        ensures kept { edits_by command.now.subject command.now.verb ≡ false → self.new.room ≡ self.old.room }
     {
         crate::laws::next_is_undone();
         let Ok(before) = self.parts.iterator(iterator) else {
@@ -220,8 +227,9 @@ impl ExporterState {
 
     /// A new view of all bytes, as `Verb::View` of the exporter itself. The reply is its number. Never refused.
     pub fn view_of_own(&mut self, loans: &LoanList) -> Made<LocalReply>
-        ensures ok { IfOk result (λ r. estep self.old subjects.Own verbs.View loans.now ≡ (self.new, r)) }
+        ensures ok { IfOk result (λ r. estep self.old.exporter subjects.Own verbs.View loans.now ≡ (self.new.exporter, r)) }
         ensures err { OnErr result (self.new ≡ self.old) }
+        ensures room { self.new.room ≡ self.old.room }
     {
         crate::laws::commands_keep_sound();
         closed(direct::view_of_own(&mut self.parts, loans))
@@ -231,8 +239,9 @@ impl ExporterState {
     ///
     /// Refused with `UnknownName` where the view was never given, and with `ValueError` where it is released.
     pub fn view_of_view(&mut self, view: usize, loans: &LoanList) -> Made<LocalReply>
-        ensures ok { IfOk result (λ r. estep self.old (subjects.View view) verbs.View loans.now ≡ (self.new, r)) }
+        ensures ok { IfOk result (λ r. estep self.old.exporter (subjects.View view) verbs.View loans.now ≡ (self.new.exporter, r)) }
         ensures err { OnErr result (self.new ≡ self.old) }
+        ensures room { self.new.room ≡ self.old.room }
     {
         crate::laws::commands_keep_sound();
         closed(direct::view_of_view(&mut self.parts, view, loans))
@@ -242,8 +251,9 @@ impl ExporterState {
     ///
     /// Refused with `UnknownName` where the view was never given.
     pub fn exit_of_view(&mut self, view: usize, loans: &LoanList) -> Made<LocalReply>
-        ensures ok { IfOk result (λ r. estep self.old (subjects.View view) verbs.Exit loans.now ≡ (self.new, r)) }
+        ensures ok { IfOk result (λ r. estep self.old.exporter (subjects.View view) verbs.Exit loans.now ≡ (self.new.exporter, r)) }
         ensures err { OnErr result (self.new ≡ self.old) }
+        ensures room { self.new.room ≡ self.old.room }
     {
         crate::laws::commands_keep_sound();
         closed(direct::exit_of_view(&mut self.parts, view, loans))
@@ -256,8 +266,9 @@ impl ExporterState {
     /// slice is neither a number nor `None`; with `ValueError` for a step of 0; with `IndexError` for an index out of
     /// range.
     pub fn get_of_own(&mut self, key: &Value, loans: &LoanList) -> Made<LocalReply>
-        ensures ok { IfOk result (λ r. estep self.old subjects.Own (verbs.Get key.now) loans.now ≡ (self.new, r)) }
+        ensures ok { IfOk result (λ r. estep self.old.exporter subjects.Own (verbs.Get key.now) loans.now ≡ (self.new.exporter, r)) }
         ensures err { OnErr result (self.new ≡ self.old) }
+        ensures room { self.new.room ≡ self.old.room }
     {
         crate::laws::commands_keep_sound();
         closed(direct::get_of_own(&mut self.parts, key, loans))
@@ -268,8 +279,9 @@ impl ExporterState {
     /// Refused with `UnknownName` for a handle in the key that the loans don't name, before all else, and where the
     /// view was never given; with `ValueError` where it is released; then as `PyMemoryView::getitem` refuses the key.
     pub fn get_of_view(&mut self, view: usize, key: &Value, loans: &LoanList) -> Made<LocalReply>
-        ensures ok { IfOk result (λ r. estep self.old (subjects.View view) (verbs.Get key.now) loans.now ≡ (self.new, r)) }
+        ensures ok { IfOk result (λ r. estep self.old.exporter (subjects.View view) (verbs.Get key.now) loans.now ≡ (self.new.exporter, r)) }
         ensures err { OnErr result (self.new ≡ self.old) }
+        ensures room { self.new.room ≡ self.old.room }
     {
         crate::laws::commands_keep_sound();
         closed(direct::get_of_view(&mut self.parts, view, key, loans))
@@ -288,8 +300,9 @@ impl ExporterState {
         loans: &LoanList,
     ) -> Made<LocalReply>
         requires { LoansFit loans.now }
-        ensures ok { IfOk result (λ r. estep self.old (subjects.View view) (verbs.Set key.now value.now) loans.now ≡ (self.new, r)) }
+        ensures ok { IfOk result (λ r. estep self.old.exporter (subjects.View view) (verbs.Set key.now value.now) loans.now ≡ (self.new.exporter, r)) }
         ensures err { OnErr result (self.new ≡ self.old) }
+        ensures room { self.new.room ≡ self.old.room }
     {
         crate::laws::commands_keep_sound();
         closed(direct::set_through_view(&mut self.parts, view, key, value, loans))
@@ -307,8 +320,9 @@ impl ExporterState {
         shape: &Option<Value>,
         loans: &LoanList,
     ) -> Made<LocalReply>
-        ensures ok { IfOk result (λ r. estep self.old (subjects.View view) (verbs.Cast format.now shape.now) loans.now ≡ (self.new, r)) }
+        ensures ok { IfOk result (λ r. estep self.old.exporter (subjects.View view) (verbs.Cast format.now shape.now) loans.now ≡ (self.new.exporter, r)) }
         ensures err { OnErr result (self.new ≡ self.old) }
+        ensures room { self.new.room ≡ self.old.room }
     {
         crate::laws::commands_keep_sound();
         closed(direct::cast_of_view(&mut self.parts, view, format, shape, loans))
@@ -320,7 +334,7 @@ impl ExporterState {
     /// before all else; with `TypeError` where the value is no number, with `ValueError` outside `0..256`, and then
     /// with `BufferError` where a view is unreleased.
     pub fn append(&mut self, value: &Value, loans: &LoanList) -> Made<LocalReply>
-        ensures ok { IfOk result (λ r. estep self.old subjects.Own (verbs.Append value.now) loans.now ≡ (self.new, r)) }
+        ensures ok { IfOk result (λ r. estep self.old.exporter subjects.Own (verbs.Append value.now) loans.now ≡ (self.new.exporter, r)) }
         ensures err { OnErr result (self.new ≡ self.old) }
     {
         crate::laws::commands_keep_sound();
@@ -336,7 +350,7 @@ impl ExporterState {
     /// before all else; with `TypeError` where the index is no number, with `OverflowError` where it doesn't fit
     /// `isize`, with `BufferError` where a view is unreleased, and then with `IndexError` out of range.
     pub fn pop(&mut self, index: &Option<Value>, loans: &LoanList) -> Made<LocalReply>
-        ensures ok { IfOk result (λ r. estep self.old subjects.Own (verbs.Pop index.now) loans.now ≡ (self.new, r)) }
+        ensures ok { IfOk result (λ r. estep self.old.exporter subjects.Own (verbs.Pop index.now) loans.now ≡ (self.new.exporter, r)) }
         ensures err { OnErr result (self.new ≡ self.old) }
     {
         crate::laws::commands_keep_sound();
@@ -354,8 +368,8 @@ impl ExporterState {
         subject: Subject,
         copy: Snap,
     ) -> Made<ExporterState>
-        requires { IsCopyOf self.now subject copy }
-        ensures { IfOk result (λ made. made ≡ made_of (is_readonly_subject self.now subject) copy) }
+        requires { IsCopyOf self.now.exporter subject copy }
+        ensures { IfOk result (λ made. made.exporter ≡ made_of (is_readonly_subject self.now.exporter subject) copy) }
     {
         copies_are_faithful();
         let parts = exporter_of_copy(&self.parts, alloc, subject, copy)?;
@@ -364,7 +378,7 @@ impl ExporterState {
 
     /// A subject of this exporter, as what another exporter's command is lent, from where it lies.
     pub fn lent(&self, subject: Subject) -> Other<'_>
-        ensures value { snap_of_other result ≡ snap_of_subject self.now subject }
+        ensures value { snap_of_other result ≡ snap_of_subject self.now.exporter subject }
         ensures sound { IsSoundOther result }
     {
         Other::Lies {
@@ -375,7 +389,7 @@ impl ExporterState {
 
     /// What kind of thing a subject is; `None` exactly where it was never given.
     pub fn kind_of(&self, subject: Subject) -> Option<SnapKind>
-        ensures { result ≡ kind_of_named (snap_of_subject self.now subject) }
+        ensures { result ≡ kind_of_named (snap_of_subject self.now.exporter subject) }
     {
         kind_of_subject(&self.parts, subject)
     }
@@ -385,7 +399,7 @@ impl ExporterState {
     /// Refused with `UnknownName` where it was never given, with `ValueError` for a released view, and with
     /// `TypeError` for a view whose items don't lie one after another and for an iterator.
     pub fn run_of(&self, subject: Subject) -> Result<&[u8], Fault>
-        ensures { MatchResult result (λ bytes. content_of (snap_of_subject self.now subject) ≡ Ok bytes.now) (λ fault. content_of (snap_of_subject self.now subject) ≡ Err fault) }
+        ensures { MatchResult result (λ bytes. content_of (snap_of_subject self.now.exporter subject) ≡ Ok bytes.now) (λ fault. content_of (snap_of_subject self.now.exporter subject) ≡ Err fault) }
     {
         run_of_subject(&self.parts, subject)
     }
@@ -395,7 +409,7 @@ impl ExporterState {
     /// Refused with `UnknownName` where it was never given, with `ValueError` for a released view, and with
     /// `TypeError` for an iterator.
     pub fn content_of(&self, alloc: Global, subject: Subject) -> Result<Lent<'_>, Halt>
-        ensures { Lends (content_of_named (snap_of_subject self.now subject)) result }
+        ensures { Lends (content_of_named (snap_of_subject self.now.exporter subject)) result }
     {
         content_of_subject(alloc, &self.parts, subject)
     }
@@ -404,10 +418,11 @@ impl ExporterState {
     ///
     /// Refused with `UnknownName` exactly where the view was never given.
     pub fn release_view(&mut self, view: usize) -> Result<(), Fault>
-        ensures exact { MatchResult result (λ _. released_in self.old view ≡ Ok self.new) (λ f. released_in self.old view ≡ Err f) }
-        ensures given { IsOk result ↔ (view < length self.old.views) }
+        ensures exact { MatchResult result (λ _. released_in self.old.exporter view ≡ Ok self.new.exporter) (λ f. released_in self.old.exporter view ≡ Err f) }
+        ensures given { IsOk result ↔ (view < length self.old.exporter.views) }
         ensures refused { IfErr result (λ f. f ≡ faults.UnknownName) }
         ensures err { OnErr result (self.new ≡ self.old) }
+        ensures room { self.new.room ≡ self.old.room }
     {
         release::release(&mut self.parts, view)
     }
@@ -416,7 +431,7 @@ impl ExporterState {
     /// content of a released view is empty, and so is that of an iterator. None exactly where there is
     /// no such view or iterator.
     pub fn snap(&self, alloc: Global, subject: Subject) -> Made<Option<Snap>>
-        ensures value { IfOk result (λ snap. snap ≡ snap_of_subject self.now subject) }
+        ensures value { IfOk result (λ snap. snap ≡ snap_of_subject self.now.exporter subject) }
         ensures fits { IfOk result (λ snap. IfSome snap (λ s. fits_snap s ≡ true)) }
     {
         snap_of_subject(&self.parts, alloc, subject)
@@ -424,14 +439,14 @@ impl ExporterState {
 
     /// The kind.
     pub fn kind(&self) -> ExporterKind
-        ensures { result ≡ self.now.kind }
+        ensures { result ≡ self.now.exporter.kind }
     {
         self.parts.kind
     }
 
     /// The bytes, lent.
     pub fn bytes(&self) -> &[u8]
-        ensures { result.now ≡ self.now.bytes }
+        ensures { result.now ≡ self.now.exporter.bytes }
     {
         self.parts.bytes.as_slice()
     }
@@ -439,9 +454,9 @@ impl ExporterState {
     /// The bytes, lent to be written: their number and all else of the exporter stay. All views of
     /// these bytes see the writes.
     pub fn bytes_mut(&mut self) -> &mut [u8]
-        requires { holds_readonly self.old.kind ≡ false }
+        requires { holds_readonly self.old.exporter.kind ≡ false }
         ensures* writes_back { sem 𝓛 (LendsBytes self.entry result) }
-        ensures value { result.now ≡ self.old.bytes }
+        ensures value { result.now ≡ self.old.exporter.bytes }
     {
         self.parts.bytes.as_mut_slice()
     }
@@ -452,11 +467,11 @@ impl ExporterState {
     /// Refused with `BufferError` exactly where a view is unreleased: Python's C API has it under
     /// "Buffer Protocol", `PyBuffer_Release`.
     pub fn resizable(&mut self) -> Result<&mut Vec<u8>, Fault>
-        requires { holds_readonly self.old.kind ≡ false }
+        requires { holds_readonly self.old.exporter.kind ≡ false }
         ensures* writes_back { sem 𝓛 (LendsAll self.entry result) }
-        ensures value { IfOk result (λ bytes. bytes.now.items ≡ self.old.bytes) }
+        ensures value { IfOk result (λ bytes. bytes.now.items ≡ self.old.exporter.bytes) }
         ensures refused { IfErr result (λ fault. fault ≡ Fault.Buffer) }
-        ensures exact { IsOk result ↔ (exports_of self.old ≡ 0) }
+        ensures exact { IsOk result ↔ (exports_of self.old.exporter ≡ 0) }
     {
         if self.parts.exports > 0 {
             return Err(Fault::Buffer);
@@ -466,7 +481,7 @@ impl ExporterState {
 
     /// Whether a view of this number was given and is unreleased.
     pub fn is_live(&self, view: usize) -> bool
-        ensures { result ≡ is_live self.now view }
+        ensures { result ≡ is_live self.now.exporter view }
     {
         if let Ok(given) = self.parts.view(view) {
             return !given.is_released();
@@ -477,16 +492,16 @@ impl ExporterState {
     /// The bytes of an unreleased view, lent without a copy. None exactly where its items don't lie
     /// one after the other.
     pub fn contiguous_bytes(&self, view: usize) -> Option<&[u8]>
-        requires { is_live self.now view ≡ true }
-        ensures { MatchOption result (is_contiguous_layout (layout_of self.now view) ≡ false) (λ bytes. (is_contiguous_layout (layout_of self.now view) ≡ true) × (bytes.now ≡ content_of_layout self.now.bytes (layout_of self.now view))) }
+        requires { is_live self.now.exporter view ≡ true }
+        ensures { MatchOption result (is_contiguous_layout (layout_of self.now.exporter view) ≡ false) (λ bytes. (is_contiguous_layout (layout_of self.now.exporter view) ≡ true) × (bytes.now ≡ content_of_layout self.now.exporter.bytes (layout_of self.now.exporter view))) }
     {
         self.parts.contiguous_bytes(view)
     }
 
     /// Whether the items of an unreleased view lie one after the other and may be written.
     pub fn is_writable_run(&self, view: usize) -> bool
-        requires { is_live self.now view ≡ true }
-        ensures { result ≡ is_writable_run (layout_of self.now view) }
+        requires { is_live self.now.exporter view ≡ true }
+        ensures { result ≡ is_writable_run (layout_of self.now.exporter view) }
     {
         self.parts.is_writable_run(view)
     }
@@ -494,10 +509,10 @@ impl ExporterState {
     /// The bytes of an unreleased view whose items lie one after the other, lent to be written. What
     /// is written there takes the place of the bytes of the view, and of no others.
     pub fn contiguous_bytes_mut(&mut self, view: usize) -> &mut [u8]
-        requires live { is_live self.old view ≡ true }
-        requires writable { is_writable_run (layout_of self.old view) ≡ true }
+        requires live { is_live self.old.exporter view ≡ true }
+        requires writable { is_writable_run (layout_of self.old.exporter view) ≡ true }
         ensures* writes_back { sem 𝓛 (LendsRunOf self.entry view result) }
-        ensures value { result.now ≡ content_of_layout self.old.bytes (layout_of self.old view) }
+        ensures value { result.now ≡ content_of_layout self.old.exporter.bytes (layout_of self.old.exporter view) }
     {
         self.parts.contiguous_bytes_mut(view)
     }
@@ -505,9 +520,10 @@ impl ExporterState {
     /// One more view, by a descriptor and the place of its first item. The answer is its number.
     pub fn add_view(&mut self, descriptor: BufferDescriptor, start: usize) -> Made<usize>
         requires placed { IsPlaced descriptor start }
-        requires sound { IsSoundLayout self.old (layout_at descriptor start) }
-        ensures ok { IfOk result (λ view. with_view self.old (layout_at descriptor start) ≡ (self.new, replies.View view)) }
+        requires sound { IsSoundLayout self.old.exporter (layout_at descriptor start) }
+        ensures ok { IfOk result (λ view. with_view self.old.exporter (layout_at descriptor start) ≡ (self.new.exporter, replies.View view)) }
         ensures err { OnErr result (self.new ≡ self.old) }
+        ensures room { self.new.room ≡ self.old.room }
     {
         new_views_are_sound();
         let number = self.view_count();
@@ -522,8 +538,8 @@ impl ExporterState {
 
     /// The number of unreleased views.
     pub fn exports(&self) -> usize
-        ensures count { result ≡ exports_of self.now }
-        ensures sound { IsSoundExporter self.now }
+        ensures count { result ≡ exports_of self.now.exporter }
+        ensures sound { IsSoundExporter self.now.exporter }
     {
         self.parts.exports
     }
@@ -534,10 +550,10 @@ impl ExporterState {
     /// They stand for the view, and describe items that lie inside the bytes while it is unreleased.
     /// Wherever they lie, walks over them are safe.
     pub fn view_desc(&self, view: usize) -> Option<(&BufferDescriptor, usize)>
-        ensures given { IsSome result ↔ (view < length self.now.views) }
-        ensures stands { IfSome result (λ r. IsSomeAnd (slice_get self.now.views view) (λ v. Stands r.0.now r.1 v.layout)) }
+        ensures given { IsSome result ↔ (view < length self.now.exporter.views) }
+        ensures stands { IfSome result (λ r. IsSomeAnd (slice_get self.now.exporter.views view) (λ v. Stands r.0.now r.1 v.layout)) }
         ensures placed { IfSome result (λ r. IsPlaced r.0.now r.1) }
-        ensures valid { IfSome result (λ r. IsSomeAnd (slice_get self.now.views view) (λ v. v.released ≡ false → IsValid r.0.now r.1 (length self.now.bytes))) }
+        ensures valid { IfSome result (λ r. IsSomeAnd (slice_get self.now.exporter.views view) (λ v. v.released ≡ false → IsValid r.0.now r.1 (length self.now.exporter.bytes))) }
     {
         pybuf_desc::valid_where_items_lie_inside();
         match self.parts.view(view) {
@@ -548,20 +564,26 @@ impl ExporterState {
 
     /// The number of views that were given, released ones too.
     pub fn view_count(&self) -> usize
-        ensures { result ≡ length self.now.views }
+        ensures { result ≡ length self.now.exporter.views }
     {
         self.parts.views.len()
     }
 
     /// The number of iterators that were made of the exporter and of its views, exhausted ones too.
     pub fn iter_count(&self) -> usize
-        ensures { result ≡ length self.now.iterators }
+        ensures { result ≡ length self.now.exporter.iterators }
     {
         self.parts.iterators.len()
     }
 }
 
+// A copy is the same exporter, and has no room.
 impl Twin for ExporterState {
+    ghost use Rattle.std.specs.Prelude.{◌≡◌};
+    ghost use Rattle.pybuf_exporter.specs.Stored.{without_room};
+
+    ghost same = { λ old twin. twin ≡ without_room old };
+
     fn copy(&self, alloc: Global) -> Made<ExporterState> {
         let bytes = Store::from_vec(Vec::from_slice(alloc, self.parts.bytes.as_slice())?);
         let views = copy_all(alloc, self.parts.views.as_slice())?;

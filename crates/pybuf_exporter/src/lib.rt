@@ -11,7 +11,6 @@ mod pick;
 mod plain;
 mod uncounted;
 
-pub use counted::CountedExporter;
 pub use exporter::ExporterState;
 pub use laws::{
     adding_itself_is_refused, commands_keep_items_apart, commands_keep_sound,

@@ -6,9 +6,9 @@ ghost use Rattle.pybuf_state.specs.Exporter.{exports_of};
 ghost use Rattle.pybuf_state.specs.Loans.{lents_by};
 ghost use Rattle.pybuf_state.specs.Answers.{exporter_of, IsWhole, Answers};
 ghost use Rattle.pybuf_slice.specs.FrontContent.{IsSpare};
-ghost use Rattle.pybuf_rows_edits.specs.Counting.{TakesFirst, taken_places, grows_at_end};
+ghost use Rattle.pybuf_rows_edits.specs.Counting.{TakesFirst, taken_places, grows_at_end, can_leave_length};
 ghost use Rattle.pybuf_rows_edits.specs.Edits.{is_edit};
-ghost use Rattle.pybuf_exporter.specs.Counting.{taken_by, grows_by, edits_by};
+ghost use Rattle.pybuf_exporter.specs.Counting.{taken_by, grows_by, leaves_by, edits_by};
 ghost use Rattle.pybuf_exporter.specs.Step as spec;
 
 use pybuf_command::{LocalReply, Subject, Verb, handles_of, handles_read};
@@ -110,6 +110,8 @@ fn row_of_own<N: Names, L: Ledger>(
     ensures front_counter { (n : ℕ) → TakesFirst (taken_places (exporter_of parts.old) verb.now) n → OnOk result (moved.new ≡ moved.old) }
     ensures end_counter { grows_at_end verb.now (lents_by (exporter_of parts.old) (N.named names.now) (handles_read subjects.Own verb.now)) ≡ true → OnOk result (moved.new + parts.new.bytes.room ≤ moved.old + parts.old.bytes.room) }
     ensures end_spare { grows_at_end verb.now (lents_by (exporter_of parts.old) (N.named names.now) (handles_read subjects.Own verb.now)) ≡ true → OnOk result (IsSpare parts.new.bytes) }
+    ensures still_room { can_leave_length verb.now (lents_by (exporter_of parts.old) (N.named names.now) (handles_read subjects.Own verb.now)) ≡ true → OnOk result (length parts.new.bytes.items ≡ length parts.old.bytes.items → parts.new.bytes.room ≡ parts.old.bytes.room) }
+    ensures still_counter { can_leave_length verb.now (lents_by (exporter_of parts.old) (N.named names.now) (handles_read subjects.Own verb.now)) ≡ true → OnOk result (length parts.new.bytes.items ≡ length parts.old.bytes.items → moved.new ≡ moved.old) }
     ensures kept_room { is_edit verb.now ≡ false → parts.new.bytes.room ≡ parts.old.bytes.room }
     ensures kept_counter { is_edit verb.now ≡ false → moved.new ≡ moved.old }
     ensures err_room { OnErr result (parts.new.bytes.room ≡ parts.old.bytes.room) }
@@ -193,6 +195,8 @@ pub fn answer<N: Names, L: Ledger>(
     ensures front_counter { (n : ℕ) → TakesFirst (taken_by (exporter_of parts.old) subject verb.now) n → OnOk result (moved.new ≡ moved.old) }
     ensures end_counter { grows_by subject verb.now (lents_by (exporter_of parts.old) (N.named names.now) (handles_read subject verb.now)) ≡ true → OnOk result (moved.new + parts.new.bytes.room ≤ moved.old + parts.old.bytes.room) }
     ensures end_spare { grows_by subject verb.now (lents_by (exporter_of parts.old) (N.named names.now) (handles_read subject verb.now)) ≡ true → OnOk result (IsSpare parts.new.bytes) }
+    ensures still_room { leaves_by subject verb.now (lents_by (exporter_of parts.old) (N.named names.now) (handles_read subject verb.now)) ≡ true → OnOk result (length parts.new.bytes.items ≡ length parts.old.bytes.items → parts.new.bytes.room ≡ parts.old.bytes.room) }
+    ensures still_counter { leaves_by subject verb.now (lents_by (exporter_of parts.old) (N.named names.now) (handles_read subject verb.now)) ≡ true → OnOk result (length parts.new.bytes.items ≡ length parts.old.bytes.items → moved.new ≡ moved.old) }
     ensures kept_room { edits_by subject verb.now ≡ false → parts.new.bytes.room ≡ parts.old.bytes.room }
     ensures kept_counter { edits_by subject verb.now ≡ false → moved.new ≡ moved.old }
     ensures err_room { OnErr result (parts.new.bytes.room ≡ parts.old.bytes.room) }

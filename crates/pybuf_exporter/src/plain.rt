@@ -30,7 +30,8 @@ use pybuf_value::{Halt, Item, PySlice, Scalar, Value};
 impl ExporterState {
     /// One more view, of all bytes. The answer is its number. Never refused.
     pub fn add_whole(&mut self) -> Result<usize, Halt>
-        ensures { Answers (view_of_own self.old) self.old (result_map_both replies.View (λ halt. halt) result) self.new }
+        ensures answer { Answers (view_of_own self.old.exporter) self.old.exporter (result_map_both replies.View (λ halt. halt) result) self.new.exporter }
+        ensures room { self.new.room ≡ self.old.room }
     {
         pybuf_rows_views::view_is_safe();
         view::add_whole(&mut self.parts)
@@ -38,7 +39,8 @@ impl ExporterState {
 
     /// One more view, of the items of a view that a slice picks. The answer is its number.
     pub fn add_slice(&mut self, view: usize, slice: &PySlice) -> Result<usize, Halt>
-        ensures { Answers (slice_of_view self.old view slice.now) self.old (result_map_both replies.View (λ halt. halt) result) self.new }
+        ensures answer { Answers (slice_of_view self.old.exporter view slice.now) self.old.exporter (result_map_both replies.View (λ halt. halt) result) self.new.exporter }
+        ensures room { self.new.room ≡ self.old.room }
     {
         pybuf_rows_views::slice_is_safe();
         slice::add(&mut self.parts, view, slice)
@@ -46,7 +48,8 @@ impl ExporterState {
 
     /// One more view, of the bytes of a view as items of another format. The answer is its number.
     pub fn add_cast(&mut self, view: usize, format: &str) -> Result<usize, Halt>
-        ensures { Answers (cast_of_view self.old view (values.One (scalars.Text format.now)) None) self.old (result_map_both replies.View (λ halt. halt) result) self.new }
+        ensures answer { Answers (cast_of_view self.old.exporter view (values.One (scalars.Text format.now)) None) self.old.exporter (result_map_both replies.View (λ halt. halt) result) self.new.exporter }
+        ensures room { self.new.room ≡ self.old.room }
     {
         pybuf_rows_views::cast_is_safe();
         cast::add_flat(&mut self.parts, view, format)
@@ -59,7 +62,8 @@ impl ExporterState {
         format: &str,
         shape: &[usize],
     ) -> Result<usize, Halt>
-        ensures { Answers (cast_of_view self.old view (values.One (scalars.Text format.now)) (Some (values.Tuple (map (λ n. scalars.Int (pos n)) shape.now)))) self.old (result_map_both replies.View (λ halt. halt) result) self.new }
+        ensures answer { Answers (cast_of_view self.old.exporter view (values.One (scalars.Text format.now)) (Some (values.Tuple (map (λ n. scalars.Int (pos n)) shape.now)))) self.old.exporter (result_map_both replies.View (λ halt. halt) result) self.new.exporter }
+        ensures room { self.new.room ≡ self.old.room }
     {
         pybuf_rows_views::cast_is_safe();
         cast::add_shaped(&mut self.parts, view, format, shape)
@@ -67,14 +71,15 @@ impl ExporterState {
 
     /// The item of a view at an index.
     pub fn item(&self, view: usize, index: isize) -> Result<Item, Halt>
-        ensures { Reads (item_of_view self.now view (values.One (scalars.Int index))) self.now (result_map_both replies.Item (λ halt. halt) result) }
+        ensures { Reads (item_of_view self.now.exporter view (values.One (scalars.Int index))) self.now.exporter (result_map_both replies.Item (λ halt. halt) result) }
     {
         get::item(&self.parts, view, index)
     }
 
     /// Writes a number as the item of a view at an index. It is the command `set` with the two as values.
     pub fn put_number(&mut self, view: usize, index: isize, number: i128) -> Result<(), Halt>
-        ensures { TellsRefusal (estep self.old (subjects.View view) (verbs.Set (values.One (scalars.Int index)) (values.One (scalars.Int number))) []) self.old result self.new }
+        ensures answer { TellsRefusal (estep self.old.exporter (subjects.View view) (verbs.Set (values.One (scalars.Int index)) (values.One (scalars.Int number))) []) self.old.exporter result self.new.exporter }
+        ensures room { self.new.room ≡ self.old.room }
     {
         let loans = LoanList::new(self.parts.alloc);
         let key = Value::One(Scalar::Int(index as i128));
@@ -87,28 +92,29 @@ impl ExporterState {
 
     /// The bytes of a view's items, in order.
     pub fn content(&self, view: usize) -> Result<Vec<u8>, Halt>
-        ensures { Reads (bytes_of_view self.now view) self.now (result_map_both (λ bytes. replies.Bytes bytes.items) (λ halt. halt) result) }
+        ensures { Reads (bytes_of_view self.now.exporter view) self.now.exporter (result_map_both (λ bytes. replies.Bytes bytes.items) (λ halt. halt) result) }
     {
         to_bytes::content(&self.parts, view)
     }
 
     /// The number of entries of each dimension of a view.
     pub fn shape(&self, view: usize) -> Result<Vec<usize>, Halt>
-        ensures { Reads (property_of_view self.now view names.Shape) self.now (result_map_both (λ shape. replies.Numbers (map (λ n. pos n) shape.items)) (λ halt. halt) result) }
+        ensures { Reads (property_of_view self.now.exporter view names.Shape) self.now.exporter (result_map_both (λ shape. replies.Numbers (map (λ n. pos n) shape.items)) (λ halt. halt) result) }
     {
         property::shape(&self.parts, view)
     }
 
     /// The stride of each dimension of a view.
     pub fn strides(&self, view: usize) -> Result<Vec<isize>, Halt>
-        ensures { Reads (property_of_view self.now view names.Strides) self.now (result_map_both (λ strides. replies.Numbers strides.items) (λ halt. halt) result) }
+        ensures { Reads (property_of_view self.now.exporter view names.Strides) self.now.exporter (result_map_both (λ strides. replies.Numbers strides.items) (λ halt. halt) result) }
     {
         property::strides(&self.parts, view)
     }
 
     /// Copies bytes over the items that a slice of a view picks.
     pub fn assign_bytes(&mut self, view: usize, slice: &PySlice, bytes: &[u8]) -> Result<(), Halt>
-        ensures { Answers (assign_of_view self.old view slice.now (values.One (scalars.Bytes bytes.now)) []) self.old (result_map_both (λ _. replies.Ok) (λ halt. halt) result) self.new }
+        ensures answer { Answers (assign_of_view self.old.exporter view slice.now (values.One (scalars.Bytes bytes.now)) []) self.old.exporter (result_map_both (λ _. replies.Ok) (λ halt. halt) result) self.new.exporter }
+        ensures room { self.new.room ≡ self.old.room }
     {
         pybuf_rows_writes::assign_is_safe();
         assign::put_bytes(&mut self.parts, view, slice, bytes)
@@ -123,7 +129,8 @@ impl ExporterState {
         lender: &ExporterState,
         source: usize,
     ) -> Result<(), Halt>
-        ensures { Answers (assign_of_lent self.old view slice.now (snap_of_subject lender.now (subjects.View source))) self.old (result_map_both (λ _. replies.Ok) (λ halt. halt) result) self.new }
+        ensures answer { Answers (assign_of_lent self.old.exporter view slice.now (snap_of_subject lender.now.exporter (subjects.View source))) self.old.exporter (result_map_both (λ _. replies.Ok) (λ halt. halt) result) self.new.exporter }
+        ensures room { self.new.room ≡ self.old.room }
     {
         pybuf_rows_writes::assign_is_safe();
         assign::put_from(&mut self.parts, view, slice, &lender.parts, source)
@@ -131,7 +138,8 @@ impl ExporterState {
 
     /// The same of a view of this exporter: its items are as they were before the first is written.
     pub fn assign_within(&mut self, view: usize, slice: &PySlice, source: usize) -> Result<(), Halt>
-        ensures { Answers (assign_of_lent self.old view slice.now (snap_of_subject self.old (subjects.View source))) self.old (result_map_both (λ _. replies.Ok) (λ halt. halt) result) self.new }
+        ensures answer { Answers (assign_of_lent self.old.exporter view slice.now (snap_of_subject self.old.exporter (subjects.View source))) self.old.exporter (result_map_both (λ _. replies.Ok) (λ halt. halt) result) self.new.exporter }
+        ensures room { self.new.room ≡ self.old.room }
     {
         pybuf_rows_writes::assign_is_safe();
         assign::put_within(&mut self.parts, view, slice, source)

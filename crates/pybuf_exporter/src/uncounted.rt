@@ -1,18 +1,49 @@
 //! Commands of which nobody reads how many bytes they move: each has a counter of its own.
-ghost use Rattle.std.specs.Prelude.{◌≡◌};
+ghost use Rattle.std.specs.Prelude.{◌≡◌, false, IfOk, OnErr};
 ghost use Rattle.pybuf_state.specs.Exporter.{exports_of};
 ghost use Rattle.pybuf_state.specs.Answers.{exporter_of, IsWhole, Answers};
+ghost use Rattle.pybuf_state.specs.Fits.{LoansFit};
 ghost use Rattle.pybuf_exporter.specs.Step as spec;
+ghost use Rattle.pybuf_exporter.specs.Counting.{edits_by};
+ghost use Rattle.pybuf_exporter.specs.Stored.{stored_of};
 ghost use Rattle.pybuf_rows_edits.specs.Growing as growing;
 ghost use Rattle.pybuf_rows_edits.specs.Shrinking as shrinking;
 
+use crate::counted::step_of_parts;
 use crate::pick;
-use pybuf_command::{LocalReply, Subject, Verb};
+use pybuf_command::{LocalCommand, LocalReply, Subject, Verb};
 use pybuf_rows_edits::{append as append_of_own, pop as pop_of_own};
 use pybuf_state::{Names, Parts};
-use pybuf_value::{Halt, Steps, Value};
+use pybuf_value::{Halt, Made, Steps, Value};
 use std::marker::Brand;
 use std::sync::ledger::{Blank, Ledger};
+
+fn step_by<L: Ledger>(parts: &mut Parts, command: &LocalCommand, blank: Blank) -> Made<LocalReply>
+    requires whole { IsWhole parts.old }
+    requires fit { LoansFit command.now.loans }
+    requires name { blank.name ≡ L.name }
+    requires parts { blank.parts ≡ L.parts }
+    requires one { blank.parts ≡ 1 }
+    ensures ok { IfOk result (λ r. spec.estep (exporter_of parts.old) command.now.subject command.now.verb command.now.loans ≡ (exporter_of parts.new, r)) }
+    ensures err { OnErr result (stored_of parts.new ≡ stored_of parts.old) }
+    ensures kept { edits_by command.now.subject command.now.verb ≡ false → parts.new.bytes.room ≡ parts.old.bytes.room }
+    ensures whole { IsWhole parts.new }
+{
+    let mut moved = Steps::<L>::new(blank);
+    step_of_parts(parts, command, &mut moved)
+}
+
+/// A command on the parts of an exporter.
+pub fn step(parts: &mut Parts, command: &LocalCommand) -> Made<LocalReply>
+    requires whole { IsWhole parts.old }
+    requires fit { LoansFit command.now.loans }
+    ensures ok { IfOk result (λ r. spec.estep (exporter_of parts.old) command.now.subject command.now.verb command.now.loans ≡ (exporter_of parts.new, r)) }
+    ensures err { OnErr result (stored_of parts.new ≡ stored_of parts.old) }
+    ensures kept { edits_by command.now.subject command.now.verb ≡ false → parts.new.bytes.room ≡ parts.old.bytes.room }
+    ensures whole { IsWhole parts.new }
+{
+    step_by::<Brand>(parts, command, Blank::new(1))
+}
 
 fn answer_by<N: Names, L: Ledger>(
     parts: &mut Parts,
@@ -28,6 +59,8 @@ fn answer_by<N: Names, L: Ledger>(
     requires one { blank.parts ≡ 1 }
     ensures answer { Answers (spec.answer_by (exporter_of parts.old) subject verb.now (N.named names.now)) (exporter_of parts.old) result (exporter_of parts.new) }
     ensures counted { parts.new.exports ≡ exports_of (exporter_of parts.new) }
+    ensures kept { edits_by subject verb.now ≡ false → parts.new.bytes.room ≡ parts.old.bytes.room }
+    ensures err_room { OnErr result (parts.new.bytes.room ≡ parts.old.bytes.room) }
 {
     let mut moved = Steps::<L>::new(blank);
     pick::answer(parts, subject, verb, names, &mut moved)
@@ -44,6 +77,8 @@ pub fn answer<N: Names>(
     requires fit { N.fit names.now }
     ensures answer { Answers (spec.answer_by (exporter_of parts.old) subject verb.now (N.named names.now)) (exporter_of parts.old) result (exporter_of parts.new) }
     ensures counted { parts.new.exports ≡ exports_of (exporter_of parts.new) }
+    ensures kept { edits_by subject verb.now ≡ false → parts.new.bytes.room ≡ parts.old.bytes.room }
+    ensures err_room { OnErr result (parts.new.bytes.room ≡ parts.old.bytes.room) }
 {
     answer_by::<N, Brand>(parts, subject, verb, names, Blank::new(1))
 }
@@ -55,6 +90,7 @@ fn append_by<L: Ledger>(parts: &mut Parts, value: &Value, blank: Blank) -> Resul
     requires one { blank.parts ≡ 1 }
     ensures answer { Answers (growing.append_of_own (exporter_of parts.old) value.now) (exporter_of parts.old) result (exporter_of parts.new) }
     ensures counted { parts.new.exports ≡ exports_of (exporter_of parts.new) }
+    ensures err_room { OnErr result (parts.new.bytes.room ≡ parts.old.bytes.room) }
 {
     let mut moved = Steps::<L>::new(blank);
     append_of_own(parts, value, &mut moved)
@@ -65,6 +101,7 @@ pub fn append(parts: &mut Parts, value: &Value) -> Result<LocalReply, Halt>
     requires { IsWhole parts.old }
     ensures answer { Answers (growing.append_of_own (exporter_of parts.old) value.now) (exporter_of parts.old) result (exporter_of parts.new) }
     ensures counted { parts.new.exports ≡ exports_of (exporter_of parts.new) }
+    ensures err_room { OnErr result (parts.new.bytes.room ≡ parts.old.bytes.room) }
 {
     append_by::<Brand>(parts, value, Blank::new(1))
 }
@@ -80,6 +117,7 @@ fn pop_by<L: Ledger>(
     requires one { blank.parts ≡ 1 }
     ensures answer { Answers (shrinking.pop_of_own (exporter_of parts.old) index.now) (exporter_of parts.old) result (exporter_of parts.new) }
     ensures counted { parts.new.exports ≡ exports_of (exporter_of parts.new) }
+    ensures err_room { OnErr result (parts.new.bytes.room ≡ parts.old.bytes.room) }
 {
     let mut moved = Steps::<L>::new(blank);
     pop_of_own(parts, index, &mut moved)
@@ -90,6 +128,7 @@ pub fn pop(parts: &mut Parts, index: &Option<Value>) -> Result<LocalReply, Halt>
     requires { IsWhole parts.old }
     ensures answer { Answers (shrinking.pop_of_own (exporter_of parts.old) index.now) (exporter_of parts.old) result (exporter_of parts.new) }
     ensures counted { parts.new.exports ≡ exports_of (exporter_of parts.new) }
+    ensures err_room { OnErr result (parts.new.bytes.room ≡ parts.old.bytes.room) }
 {
     pop_by::<Brand>(parts, index, Blank::new(1))
 }

@@ -2,12 +2,13 @@
 use Rattle.std.specs.Prelude.{[]}
 use Rattle.std.specs.Borrow.{Lends, MutBor, Fml}
 use Rattle.pybuf_state.specs.Exporter.{Exporter}
+use Rattle.pybuf_exporter.specs.Stored.{StoredExporter}
 use Rattle.pybuf_exporter.specs.contracts.exporter.ExporterState as exporter
 use Rattle.pybuf_memoryobject.specs.contracts.vec_buffer.VecBuffer as vector
 
 -- the vector ends with the exporter that was put in
-abbrev pub LendsStateOfVector : MutBor Exporter → MutBor Exporter → Fml
-LendsStateOfVector b r = Lends vector.the_row exporter.the_row b r (λ e. e)
+abbrev pub LendsStateOfVector : MutBor Exporter → MutBor StoredExporter → Fml
+LendsStateOfVector b r = Lends vector.the_row exporter.the_row b r (λ s. s.exporter)
 
 -- the exporter with no bytes
 abbrev pub emptied : Exporter → Exporter

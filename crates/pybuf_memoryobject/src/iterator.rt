@@ -50,8 +50,9 @@ impl PyMemoryViewIterator {
     /// with `ValueError` where its view was released, and with `NotImplementedError` where that hasn't
     /// one dimension and an entry is left. A refusal leaves it where it is.
     pub fn next(&self, alloc: Global, state: &mut ExporterState) -> Made<LocalReply>
-        ensures ok { IfOk result (λ r. estep state.old (subjects.Iter self.now) verbs.Next [] ≡ (state.new, r)) }
+        ensures ok { IfOk result (λ r. estep state.old.exporter (subjects.Iter self.now) verbs.Next [] ≡ (state.new.exporter, r)) }
         ensures err { OnErr result (state.new ≡ state.old) }
+        ensures room { state.new.room ≡ state.old.room }
     {
         step_without_loans(alloc, state, Subject::Iter(self.number), Verb::Next)
     }

@@ -40,8 +40,8 @@ impl Model for PyMemoryView {
 
 /// The copy of an unreleased view, one item after the other.
 fn copy_of(alloc: Global, state: &ExporterState, view: usize) -> Made<Snap>
-    requires { is_live state.now view ≡ true }
-    ensures { IfOk result (λ copy. copy ≡ snap_of_copy state.now.bytes (layout_of state.now view)) }
+    requires { is_live state.now.exporter view ≡ true }
+    ensures { IfOk result (λ copy. copy ≡ snap_of_copy state.now.exporter.bytes (layout_of state.now.exporter view)) }
 {
     match state.snap(alloc, Subject::View(view))? {
         Some(mut snap) => {
@@ -80,8 +80,9 @@ impl PyMemoryView {
         state: &mut ExporterState,
         subject: Subject,
     ) -> Tried<PyMemoryView>
-        ensures ok { IfOk result (λ made. IsViewOf state.old subject state.new made) }
+        ensures ok { IfOk result (λ made. IsViewOf state.old.exporter subject state.new.exporter made) }
         ensures err { OnErr result (state.new ≡ state.old) }
+        ensures room { state.new.room ≡ state.old.room }
     {
         let loans = LoanList::new(alloc);
         match state.carry_out(subject, &Verb::View, &loans)? {
@@ -98,9 +99,10 @@ impl PyMemoryView {
         state: &mut ExporterState,
         buffer: &PyBuffer,
     ) -> Made<PyMemoryView>
-        requires { is_live state.old buffer.now ≡ true }
-        ensures ok { IfOk result (λ made. with_view state.old (layout_of state.old buffer.now) ≡ (state.new, replies.View made)) }
+        requires { is_live state.old.exporter buffer.now ≡ true }
+        ensures ok { IfOk result (λ made. with_view state.old.exporter (layout_of state.old.exporter buffer.now) ≡ (state.new.exporter, replies.View made)) }
         ensures err { OnErr result (state.new ≡ state.old) }
+        ensures room { state.new.room ≡ state.old.room }
     {
         let kept = buffer.retain(alloc, state)?;
         Ok(PyMemoryView::of(kept.number()))
@@ -114,10 +116,11 @@ impl PyMemoryView {
         buffer: &PyBuffer,
         range: Range<usize>,
     ) -> Made<PyMemoryView>
-        requires live { is_live state.old buffer.now ≡ true }
-        requires range { LiesInFirst range (layout_of state.old buffer.now).shape }
-        ensures ok { IfOk result (λ made. with_view state.old (blocks_of (layout_of state.old buffer.now) range) ≡ (state.new, replies.View made)) }
+        requires live { is_live state.old.exporter buffer.now ≡ true }
+        requires range { LiesInFirst range (layout_of state.old.exporter buffer.now).shape }
+        ensures ok { IfOk result (λ made. with_view state.old.exporter (blocks_of (layout_of state.old.exporter buffer.now) range) ≡ (state.new.exporter, replies.View made)) }
         ensures err { OnErr result (state.new ≡ state.old) }
+        ensures room { state.new.room ≡ state.old.room }
     {
         let view = add_blocks(alloc, state, buffer.number(), range)?;
         Ok(PyMemoryView { view })
@@ -126,9 +129,10 @@ impl PyMemoryView {
     /// One more memoryview of the same items, which is counted and released by itself. Where memory
     /// runs out, the exporter is as before.
     pub fn new_view(&self, alloc: Global, state: &mut ExporterState) -> Made<PyMemoryView>
-        requires { is_live state.old self.now ≡ true }
-        ensures ok { IfOk result (λ made. with_view state.old (layout_of state.old self.now) ≡ (state.new, replies.View made)) }
+        requires { is_live state.old.exporter self.now ≡ true }
+        ensures ok { IfOk result (λ made. with_view state.old.exporter (layout_of state.old.exporter self.now) ≡ (state.new.exporter, replies.View made)) }
         ensures err { OnErr result (state.new ≡ state.old) }
+        ensures room { state.new.room ≡ state.old.room }
     {
         let kept = PyBuffer::of(self.view).retain(alloc, state)?;
         Ok(PyMemoryView::of(kept.number()))
@@ -142,8 +146,8 @@ impl PyMemoryView {
         alloc: Global,
         state: &ExporterState,
     ) -> Made<(ExporterState, PyBuffer)>
-        requires { is_live state.now self.now ≡ true }
-        ensures state { IfOk result (λ made. made.0 ≡ vector_of (layout_of state.now self.now).readonly (snap_of_copy state.now.bytes (layout_of state.now self.now))) }
+        requires { is_live state.now.exporter self.now ≡ true }
+        ensures state { IfOk result (λ made. made.0.exporter ≡ vector_of (layout_of state.now.exporter self.now).readonly (snap_of_copy state.now.exporter.bytes (layout_of state.now.exporter self.now))) }
         ensures buffer { IfOk result (λ made. made.1 ≡ 0) }
     {
         let copy = copy_of(alloc, state, self.view)?;
@@ -153,8 +157,9 @@ impl PyMemoryView {
 
     /// Releases the view. Releasing it again changes nothing. Takes no memory.
     pub fn release(&self, state: &mut ExporterState)
-        requires { self.now < length state.old.views }
-        ensures { released_in state.old self.now ≡ Ok state.new }
+        requires { self.now < length state.old.exporter.views }
+        ensures released { released_in state.old.exporter self.now ≡ Ok state.new.exporter }
+        ensures room { state.new.room ≡ state.old.room }
     {
         PyBuffer::of(self.view).release(state)
     }

@@ -28,7 +28,8 @@ use pybuf_value::{Halt, Item, PySlice};
 impl PyMemoryView {
     /// A memoryview of all bytes of an exporter, as Python's `memoryview(object)`. Never refused.
     pub fn of_all(state: &mut ExporterState) -> Result<PyMemoryView, Halt>
-        ensures { Answers (view_of_own state.old) state.old (result_map_both replies.View (λ halt. halt) result) state.new }
+        ensures answer { Answers (view_of_own state.old.exporter) state.old.exporter (result_map_both replies.View (λ halt. halt) result) state.new.exporter }
+        ensures room { state.new.room ≡ state.old.room }
     {
         let number = state.add_whole()?;
         Ok(PyMemoryView::of(number))
@@ -44,7 +45,8 @@ impl PyMemoryView {
         state: &mut ExporterState,
         slice: S,
     ) -> Result<PyMemoryView, Halt>
-        ensures { (s : slices.PySlice) × S.converts slice s × Answers (slice_of_view state.old self.now s) state.old (result_map_both replies.View (λ halt. halt) result) state.new }
+        ensures answer { (s : slices.PySlice) × S.converts slice s × Answers (slice_of_view state.old.exporter self.now s) state.old.exporter (result_map_both replies.View (λ halt. halt) result) state.new.exporter }
+        ensures room { state.new.room ≡ state.old.room }
     {
         let number = state.add_slice(self.number(), &slice.into())?;
         Ok(PyMemoryView::of(number))
@@ -55,7 +57,7 @@ impl PyMemoryView {
     /// Refused with `ValueError` for a released view, then with `TypeError` where it has no dimension and with
     /// `NotImplementedError` where it has several, and then with `IndexError` out of range.
     pub fn index(&self, state: &ExporterState, index: isize) -> Result<Item, Halt>
-        ensures { Reads (item_of_view state.now self.now (values.One (scalars.Int index))) state.now (result_map_both replies.Item (λ halt. halt) result) }
+        ensures { Reads (item_of_view state.now.exporter self.now (values.One (scalars.Int index))) state.now.exporter (result_map_both replies.Item (λ halt. halt) result) }
     {
         state.item(self.number(), index)
     }
@@ -65,7 +67,8 @@ impl PyMemoryView {
     /// Refused with `ValueError` for a released view, then with `TypeError` where it may only be read, then as `index`
     /// refuses the index, and then with `TypeError` where the format of the items doesn't take the number.
     pub fn set(&self, state: &mut ExporterState, index: isize, number: i128) -> Result<(), Halt>
-        ensures { TellsRefusal (estep state.old (subjects.View self.now) (verbs.Set (values.One (scalars.Int index)) (values.One (scalars.Int number))) []) state.old result state.new }
+        ensures answer { TellsRefusal (estep state.old.exporter (subjects.View self.now) (verbs.Set (values.One (scalars.Int index)) (values.One (scalars.Int number))) []) state.old.exporter result state.new.exporter }
+        ensures room { state.new.room ≡ state.old.room }
     {
         state.put_number(self.number(), index, number)
     }
@@ -74,7 +77,7 @@ impl PyMemoryView {
     ///
     /// Refused with `ValueError` for a released view.
     pub fn to_vec(&self, state: &ExporterState) -> Result<Vec<u8>, Halt>
-        ensures { Reads (bytes_of_view state.now self.now) state.now (result_map_both (λ bytes. replies.Bytes bytes.items) (λ halt. halt) result) }
+        ensures { Reads (bytes_of_view state.now.exporter self.now) state.now.exporter (result_map_both (λ bytes. replies.Bytes bytes.items) (λ halt. halt) result) }
     {
         state.content(self.number())
     }
@@ -82,7 +85,8 @@ impl PyMemoryView {
     /// A memoryview of the same bytes, with items of another format in one dimension, as Python's
     /// `view.cast(format)`. It is refused as `cast` is.
     pub fn cast_to(&self, state: &mut ExporterState, format: &str) -> Result<PyMemoryView, Halt>
-        ensures { Answers (cast_of_view state.old self.now (values.One (scalars.Text format.now)) None) state.old (result_map_both replies.View (λ halt. halt) result) state.new }
+        ensures answer { Answers (cast_of_view state.old.exporter self.now (values.One (scalars.Text format.now)) None) state.old.exporter (result_map_both replies.View (λ halt. halt) result) state.new.exporter }
+        ensures room { state.new.room ≡ state.old.room }
     {
         let number = state.add_cast(self.number(), format)?;
         Ok(PyMemoryView::of(number))
@@ -95,7 +99,8 @@ impl PyMemoryView {
         format: &str,
         shape: &[usize],
     ) -> Result<PyMemoryView, Halt>
-        ensures { Answers (cast_of_view state.old self.now (values.One (scalars.Text format.now)) (Some (values.Tuple (map (λ n. scalars.Int (pos n)) shape.now)))) state.old (result_map_both replies.View (λ halt. halt) result) state.new }
+        ensures answer { Answers (cast_of_view state.old.exporter self.now (values.One (scalars.Text format.now)) (Some (values.Tuple (map (λ n. scalars.Int (pos n)) shape.now)))) state.old.exporter (result_map_both replies.View (λ halt. halt) result) state.new.exporter }
+        ensures room { state.new.room ≡ state.old.room }
     {
         let number = state.add_shaped_cast(self.number(), format, shape)?;
         Ok(PyMemoryView::of(number))
@@ -105,7 +110,7 @@ impl PyMemoryView {
     ///
     /// Refused with `ValueError` for a released view.
     pub fn shape_vec(&self, state: &ExporterState) -> Result<Vec<usize>, Halt>
-        ensures { Reads (property_of_view state.now self.now names.Shape) state.now (result_map_both (λ shape. replies.Numbers (map (λ n. pos n) shape.items)) (λ halt. halt) result) }
+        ensures { Reads (property_of_view state.now.exporter self.now names.Shape) state.now.exporter (result_map_both (λ shape. replies.Numbers (map (λ n. pos n) shape.items)) (λ halt. halt) result) }
     {
         state.shape(self.number())
     }
@@ -114,7 +119,7 @@ impl PyMemoryView {
     ///
     /// Refused with `ValueError` for a released view.
     pub fn strides_vec(&self, state: &ExporterState) -> Result<Vec<isize>, Halt>
-        ensures { Reads (property_of_view state.now self.now names.Strides) state.now (result_map_both (λ strides. replies.Numbers strides.items) (λ halt. halt) result) }
+        ensures { Reads (property_of_view state.now.exporter self.now names.Strides) state.now.exporter (result_map_both (λ strides. replies.Numbers strides.items) (λ halt. halt) result) }
     {
         state.strides(self.number())
     }
@@ -130,7 +135,8 @@ impl PyMemoryView {
         slice: S,
         bytes: &[u8],
     ) -> Result<(), Halt>
-        ensures { (s : slices.PySlice) × S.converts slice s × Answers (assign_of_view state.old self.now s (values.One (scalars.Bytes bytes.now)) []) state.old (result_map_both (λ _. replies.Ok) (λ halt. halt) result) state.new }
+        ensures answer { (s : slices.PySlice) × S.converts slice s × Answers (assign_of_view state.old.exporter self.now s (values.One (scalars.Bytes bytes.now)) []) state.old.exporter (result_map_both (λ _. replies.Ok) (λ halt. halt) result) state.new.exporter }
+        ensures room { state.new.room ≡ state.old.room }
     {
         state.assign_bytes(self.number(), &slice.into(), bytes)
     }
@@ -148,7 +154,8 @@ impl PyMemoryView {
         other_state: &ExporterState,
         other: &PyMemoryView,
     ) -> Result<(), Halt>
-        ensures { (s : slices.PySlice) × S.converts slice s × Answers (assign_of_lent state.old self.now s (snap_of_subject other_state.now (subjects.View other.now))) state.old (result_map_both (λ _. replies.Ok) (λ halt. halt) result) state.new }
+        ensures answer { (s : slices.PySlice) × S.converts slice s × Answers (assign_of_lent state.old.exporter self.now s (snap_of_subject other_state.now.exporter (subjects.View other.now))) state.old.exporter (result_map_both (λ _. replies.Ok) (λ halt. halt) result) state.new.exporter }
+        ensures room { state.new.room ≡ state.old.room }
     {
         state.assign_across(self.number(), &slice.into(), other_state, other.number())
     }
@@ -161,7 +168,8 @@ impl PyMemoryView {
         slice: S,
         other: &PyMemoryView,
     ) -> Result<(), Halt>
-        ensures { (s : slices.PySlice) × S.converts slice s × Answers (assign_of_lent state.old self.now s (snap_of_subject state.old (subjects.View other.now))) state.old (result_map_both (λ _. replies.Ok) (λ halt. halt) result) state.new }
+        ensures answer { (s : slices.PySlice) × S.converts slice s × Answers (assign_of_lent state.old.exporter self.now s (snap_of_subject state.old.exporter (subjects.View other.now))) state.old.exporter (result_map_both (λ _. replies.Ok) (λ halt. halt) result) state.new.exporter }
+        ensures room { state.new.room ≡ state.old.room }
     {
         state.assign_within(self.number(), &slice.into(), other.number())
     }
@@ -170,7 +178,8 @@ impl PyMemoryView {
     ///
     /// Refused with `UnknownName` where no such view was given.
     pub fn try_release(&self, state: &mut ExporterState) -> Result<(), Halt>
-        ensures { Answers (release_of_view state.old self.now) state.old (result_map_both (λ _. replies.Ok) (λ halt. halt) result) state.new }
+        ensures answer { Answers (release_of_view state.old.exporter self.now) state.old.exporter (result_map_both (λ _. replies.Ok) (λ halt. halt) result) state.new.exporter }
+        ensures room { state.new.room ≡ state.old.room }
     {
         state.release_view(self.number())?;
         Ok(())

@@ -33,7 +33,7 @@ impl Model for VecBuffer {
 
     ghost Value = { Exporter };
 
-    ghost view = { λ b. b.exporter };
+    ghost view = { λ b. b.exporter.exporter };
 }
 
 impl VecBuffer {
@@ -51,7 +51,7 @@ impl VecBuffer {
 
     /// Its exporter.
     pub fn state(&self) -> &ExporterState
-        ensures { result.now ≡ self.now }
+        ensures { result.now.exporter ≡ self.now }
     {
         &self.exporter
     }
@@ -59,7 +59,7 @@ impl VecBuffer {
     /// Its exporter, lent to be changed.
     pub fn state_mut(&mut self) -> &mut ExporterState
         ensures* writes_back { sem 𝓛 (LendsStateOfVector self.entry result) }
-        ensures value { result.now ≡ self.old }
+        ensures value { result.now.exporter ≡ self.old }
     {
         &mut self.exporter
     }

@@ -17,8 +17,9 @@ impl PyMemoryView {
     /// Views"): the reply is its number.
     pub fn as_buffer(&self, state: &mut ExporterState, loans: LoanList) -> Made<LocalReply>
         requires { LoansFit loans }
-        ensures ok { IfOk result (λ r. estep state.old (subjects.View self.now) verbs.View loans ≡ (state.new, r)) }
+        ensures ok { IfOk result (λ r. estep state.old.exporter (subjects.View self.now) verbs.View loans ≡ (state.new.exporter, r)) }
         ensures err { OnErr result (state.new ≡ state.old) }
+        ensures room { state.new.room ≡ state.old.room }
     {
         state.view_of_view(self.number(), &loans)
     }
@@ -44,8 +45,9 @@ impl PyMemoryView {
         loans: LoanList,
     ) -> Made<LocalReply>
         requires { LoansFit loans }
-        ensures ok { IfOk result (λ r. estep state.old (subjects.View self.now) (verbs.Get key) loans ≡ (state.new, r)) }
+        ensures ok { IfOk result (λ r. estep state.old.exporter (subjects.View self.now) (verbs.Get key) loans ≡ (state.new.exporter, r)) }
         ensures err { OnErr result (state.new ≡ state.old) }
+        ensures room { state.new.room ≡ state.old.room }
     {
         state.get_of_view(self.number(), &key, &loans)
     }
@@ -66,8 +68,9 @@ impl PyMemoryView {
         loans: LoanList,
     ) -> Made<LocalReply>
         requires { LoansFit loans }
-        ensures ok { IfOk result (λ r. estep state.old (subjects.View self.now) (verbs.Set key value) loans ≡ (state.new, r)) }
+        ensures ok { IfOk result (λ r. estep state.old.exporter (subjects.View self.now) (verbs.Set key value) loans ≡ (state.new.exporter, r)) }
         ensures err { OnErr result (state.new ≡ state.old) }
+        ensures room { state.new.room ≡ state.old.room }
     {
         state.set_through_view(self.number(), &key, &value, &loans)
     }
@@ -86,8 +89,9 @@ impl PyMemoryView {
         loans: LoanList,
     ) -> Made<LocalReply>
         requires { LoansFit loans }
-        ensures ok { IfOk result (λ r. estep state.old (subjects.View self.now) (verbs.Compare op other) loans ≡ (state.new, r)) }
+        ensures ok { IfOk result (λ r. estep state.old.exporter (subjects.View self.now) (verbs.Compare op other) loans ≡ (state.new.exporter, r)) }
         ensures err { OnErr result (state.new ≡ state.old) }
+        ensures room { state.new.room ≡ state.old.room }
     {
         step_of(
             state,
@@ -103,8 +107,9 @@ impl PyMemoryView {
     /// Refused with `ValueError` where the view was released, or may be written.
     pub fn hash(&self, state: &mut ExporterState, loans: LoanList) -> Made<LocalReply>
         requires { LoansFit loans }
-        ensures ok { IfOk result (λ r. estep state.old (subjects.View self.now) verbs.Hash loans ≡ (state.new, r)) }
+        ensures ok { IfOk result (λ r. estep state.old.exporter (subjects.View self.now) verbs.Hash loans ≡ (state.new.exporter, r)) }
         ensures err { OnErr result (state.new ≡ state.old) }
+        ensures room { state.new.room ≡ state.old.room }
     {
         step_of(state, Subject::View(self.number()), Verb::Hash, loans)
     }
@@ -114,8 +119,9 @@ impl PyMemoryView {
     /// Views").
     pub fn repr_str(&self, state: &mut ExporterState, loans: LoanList) -> Made<LocalReply>
         requires { LoansFit loans }
-        ensures ok { IfOk result (λ r. estep state.old (subjects.View self.now) verbs.Repr loans ≡ (state.new, r)) }
+        ensures ok { IfOk result (λ r. estep state.old.exporter (subjects.View self.now) verbs.Repr loans ≡ (state.new.exporter, r)) }
         ensures err { OnErr result (state.new ≡ state.old) }
+        ensures room { state.new.room ≡ state.old.room }
     {
         step_of(state, Subject::View(self.number()), Verb::Repr, loans)
     }
@@ -130,8 +136,9 @@ impl PyMemoryView {
         loans: LoanList,
     ) -> Made<LocalReply>
         requires { LoansFit loans }
-        ensures ok { IfOk result (λ r. estep state.old (subjects.View self.now) (verbs.Hex sep group) loans ≡ (state.new, r)) }
+        ensures ok { IfOk result (λ r. estep state.old.exporter (subjects.View self.now) (verbs.Hex sep group) loans ≡ (state.new.exporter, r)) }
         ensures err { OnErr result (state.new ≡ state.old) }
+        ensures room { state.new.room ≡ state.old.room }
     {
         step_of(
             state,
@@ -150,8 +157,9 @@ impl PyMemoryView {
         loans: LoanList,
     ) -> Made<LocalReply>
         requires { LoansFit loans }
-        ensures ok { IfOk result (λ r. estep state.old (subjects.View self.now) (verbs.Del key) loans ≡ (state.new, r)) }
+        ensures ok { IfOk result (λ r. estep state.old.exporter (subjects.View self.now) (verbs.Del key) loans ≡ (state.new.exporter, r)) }
         ensures err { OnErr result (state.new ≡ state.old) }
+        ensures room { state.new.room ≡ state.old.room }
     {
         step_of(
             state,
@@ -182,8 +190,9 @@ impl PyMemoryView {
         loans: LoanList,
     ) -> Made<LocalReply>
         requires { LoansFit loans }
-        ensures ok { IfOk result (λ r. estep state.old (subjects.View self.now) (verbs.Cast format shape) loans ≡ (state.new, r)) }
+        ensures ok { IfOk result (λ r. estep state.old.exporter (subjects.View self.now) (verbs.Cast format shape) loans ≡ (state.new.exporter, r)) }
         ensures err { OnErr result (state.new ≡ state.old) }
+        ensures room { state.new.room ≡ state.old.room }
     {
         state.cast_of_view(self.number(), &format, &shape, &loans)
     }
@@ -192,8 +201,9 @@ impl PyMemoryView {
     /// (Library reference, "Memory Views"): the reply is its number.
     pub fn toreadonly(&self, state: &mut ExporterState, loans: LoanList) -> Made<LocalReply>
         requires { LoansFit loans }
-        ensures ok { IfOk result (λ r. estep state.old (subjects.View self.now) verbs.ToReadonly loans ≡ (state.new, r)) }
+        ensures ok { IfOk result (λ r. estep state.old.exporter (subjects.View self.now) verbs.ToReadonly loans ≡ (state.new.exporter, r)) }
         ensures err { OnErr result (state.new ≡ state.old) }
+        ensures room { state.new.room ≡ state.old.room }
     {
         step_of(state, Subject::View(self.number()), Verb::ToReadonly, loans)
     }
@@ -202,8 +212,9 @@ impl PyMemoryView {
     /// (Library reference, "Memory Views").
     pub fn tobytes(&self, state: &mut ExporterState, loans: LoanList) -> Made<LocalReply>
         requires { LoansFit loans }
-        ensures ok { IfOk result (λ r. estep state.old (subjects.View self.now) verbs.ToBytes loans ≡ (state.new, r)) }
+        ensures ok { IfOk result (λ r. estep state.old.exporter (subjects.View self.now) verbs.ToBytes loans ≡ (state.new.exporter, r)) }
         ensures err { OnErr result (state.new ≡ state.old) }
+        ensures room { state.new.room ≡ state.old.room }
     {
         step_of(state, Subject::View(self.number()), Verb::ToBytes, loans)
     }
@@ -211,8 +222,9 @@ impl PyMemoryView {
     /// The view itself, as Python's `with view` begins (Library reference, "Memory Views", `release`).
     pub fn enter(&self, state: &mut ExporterState, loans: LoanList) -> Made<LocalReply>
         requires { LoansFit loans }
-        ensures ok { IfOk result (λ r. estep state.old (subjects.View self.now) verbs.Enter loans ≡ (state.new, r)) }
+        ensures ok { IfOk result (λ r. estep state.old.exporter (subjects.View self.now) verbs.Enter loans ≡ (state.new.exporter, r)) }
         ensures err { OnErr result (state.new ≡ state.old) }
+        ensures room { state.new.room ≡ state.old.room }
     {
         step_of(state, Subject::View(self.number()), Verb::Enter, loans)
     }
@@ -221,8 +233,9 @@ impl PyMemoryView {
     /// A second time changes nothing, and isn't refused.
     pub fn exit(&self, state: &mut ExporterState, loans: LoanList) -> Made<LocalReply>
         requires { LoansFit loans }
-        ensures ok { IfOk result (λ r. estep state.old (subjects.View self.now) verbs.Exit loans ≡ (state.new, r)) }
+        ensures ok { IfOk result (λ r. estep state.old.exporter (subjects.View self.now) verbs.Exit loans ≡ (state.new.exporter, r)) }
         ensures err { OnErr result (state.new ≡ state.old) }
+        ensures room { state.new.room ≡ state.old.room }
     {
         state.exit_of_view(self.number(), &loans)
     }
@@ -231,8 +244,9 @@ impl PyMemoryView {
     /// Views"); of a view without dimensions a list of its one item.
     pub fn tolist(&self, state: &mut ExporterState, loans: LoanList) -> Made<LocalReply>
         requires { LoansFit loans }
-        ensures ok { IfOk result (λ r. estep state.old (subjects.View self.now) verbs.ToList loans ≡ (state.new, r)) }
+        ensures ok { IfOk result (λ r. estep state.old.exporter (subjects.View self.now) verbs.ToList loans ≡ (state.new.exporter, r)) }
         ensures err { OnErr result (state.new ≡ state.old) }
+        ensures room { state.new.room ≡ state.old.room }
     {
         step_of(state, Subject::View(self.number()), Verb::ToList, loans)
     }
@@ -243,8 +257,9 @@ impl PyMemoryView {
     /// Refused with `TypeError` where there is no dimension.
     pub fn len(&self, state: &mut ExporterState, loans: LoanList) -> Made<LocalReply>
         requires { LoansFit loans }
-        ensures ok { IfOk result (λ r. estep state.old (subjects.View self.now) verbs.Len loans ≡ (state.new, r)) }
+        ensures ok { IfOk result (λ r. estep state.old.exporter (subjects.View self.now) verbs.Len loans ≡ (state.new.exporter, r)) }
         ensures err { OnErr result (state.new ≡ state.old) }
+        ensures room { state.new.room ≡ state.old.room }
     {
         step_of(state, Subject::View(self.number()), Verb::Len, loans)
     }
@@ -256,8 +271,9 @@ impl PyMemoryView {
     /// Refused with `ValueError` where the view was released.
     pub fn iter(&self, state: &mut ExporterState, loans: LoanList) -> Made<LocalReply>
         requires { LoansFit loans }
-        ensures ok { IfOk result (λ r. estep state.old (subjects.View self.now) verbs.Iter loans ≡ (state.new, r)) }
+        ensures ok { IfOk result (λ r. estep state.old.exporter (subjects.View self.now) verbs.Iter loans ≡ (state.new.exporter, r)) }
         ensures err { OnErr result (state.new ≡ state.old) }
+        ensures room { state.new.room ≡ state.old.room }
     {
         step_of(state, Subject::View(self.number()), Verb::Iter, loans)
     }
@@ -265,8 +281,9 @@ impl PyMemoryView {
     /// The exporter of the view, as Python's `view.obj` (Library reference, "Memory Views").
     pub fn obj(&self, state: &mut ExporterState, loans: LoanList) -> Made<LocalReply>
         requires { LoansFit loans }
-        ensures ok { IfOk result (λ r. estep state.old (subjects.View self.now) (verbs.Property names.Obj) loans ≡ (state.new, r)) }
+        ensures ok { IfOk result (λ r. estep state.old.exporter (subjects.View self.now) (verbs.Property names.Obj) loans ≡ (state.new.exporter, r)) }
         ensures err { OnErr result (state.new ≡ state.old) }
+        ensures room { state.new.room ≡ state.old.room }
     {
         step_of(
             state,
@@ -281,8 +298,9 @@ impl PyMemoryView {
     /// The number of bytes of all items, as Python's `view.nbytes` (Library reference, "Memory Views").
     pub fn nbytes(&self, state: &mut ExporterState, loans: LoanList) -> Made<LocalReply>
         requires { LoansFit loans }
-        ensures ok { IfOk result (λ r. estep state.old (subjects.View self.now) (verbs.Property names.Nbytes) loans ≡ (state.new, r)) }
+        ensures ok { IfOk result (λ r. estep state.old.exporter (subjects.View self.now) (verbs.Property names.Nbytes) loans ≡ (state.new.exporter, r)) }
         ensures err { OnErr result (state.new ≡ state.old) }
+        ensures room { state.new.room ≡ state.old.room }
     {
         step_of(
             state,
@@ -298,8 +316,9 @@ impl PyMemoryView {
     /// Views").
     pub fn readonly(&self, state: &mut ExporterState, loans: LoanList) -> Made<LocalReply>
         requires { LoansFit loans }
-        ensures ok { IfOk result (λ r. estep state.old (subjects.View self.now) (verbs.Property names.Readonly) loans ≡ (state.new, r)) }
+        ensures ok { IfOk result (λ r. estep state.old.exporter (subjects.View self.now) (verbs.Property names.Readonly) loans ≡ (state.new.exporter, r)) }
         ensures err { OnErr result (state.new ≡ state.old) }
+        ensures room { state.new.room ≡ state.old.room }
     {
         step_of(
             state,
@@ -314,8 +333,9 @@ impl PyMemoryView {
     /// The number of bytes of an item, as Python's `view.itemsize` (Library reference, "Memory Views").
     pub fn itemsize(&self, state: &mut ExporterState, loans: LoanList) -> Made<LocalReply>
         requires { LoansFit loans }
-        ensures ok { IfOk result (λ r. estep state.old (subjects.View self.now) (verbs.Property names.Itemsize) loans ≡ (state.new, r)) }
+        ensures ok { IfOk result (λ r. estep state.old.exporter (subjects.View self.now) (verbs.Property names.Itemsize) loans ≡ (state.new.exporter, r)) }
         ensures err { OnErr result (state.new ≡ state.old) }
+        ensures room { state.new.room ≡ state.old.room }
     {
         step_of(
             state,
@@ -331,8 +351,9 @@ impl PyMemoryView {
     /// Views").
     pub fn ndim(&self, state: &mut ExporterState, loans: LoanList) -> Made<LocalReply>
         requires { LoansFit loans }
-        ensures ok { IfOk result (λ r. estep state.old (subjects.View self.now) (verbs.Property names.Ndim) loans ≡ (state.new, r)) }
+        ensures ok { IfOk result (λ r. estep state.old.exporter (subjects.View self.now) (verbs.Property names.Ndim) loans ≡ (state.new.exporter, r)) }
         ensures err { OnErr result (state.new ≡ state.old) }
+        ensures room { state.new.room ≡ state.old.room }
     {
         step_of(
             state,
@@ -348,8 +369,9 @@ impl PyMemoryView {
     /// Views").
     pub fn shape(&self, state: &mut ExporterState, loans: LoanList) -> Made<LocalReply>
         requires { LoansFit loans }
-        ensures ok { IfOk result (λ r. estep state.old (subjects.View self.now) (verbs.Property names.Shape) loans ≡ (state.new, r)) }
+        ensures ok { IfOk result (λ r. estep state.old.exporter (subjects.View self.now) (verbs.Property names.Shape) loans ≡ (state.new.exporter, r)) }
         ensures err { OnErr result (state.new ≡ state.old) }
+        ensures room { state.new.room ≡ state.old.room }
     {
         step_of(
             state,
@@ -365,8 +387,9 @@ impl PyMemoryView {
     /// (Library reference, "Memory Views"); the nearest `isize` where a slice passes it.
     pub fn strides(&self, state: &mut ExporterState, loans: LoanList) -> Made<LocalReply>
         requires { LoansFit loans }
-        ensures ok { IfOk result (λ r. estep state.old (subjects.View self.now) (verbs.Property names.Strides) loans ≡ (state.new, r)) }
+        ensures ok { IfOk result (λ r. estep state.old.exporter (subjects.View self.now) (verbs.Property names.Strides) loans ≡ (state.new.exporter, r)) }
         ensures err { OnErr result (state.new ≡ state.old) }
+        ensures room { state.new.room ≡ state.old.room }
     {
         step_of(
             state,
@@ -382,8 +405,9 @@ impl PyMemoryView {
     /// (Library reference, "Memory Views").
     pub fn suboffsets(&self, state: &mut ExporterState, loans: LoanList) -> Made<LocalReply>
         requires { LoansFit loans }
-        ensures ok { IfOk result (λ r. estep state.old (subjects.View self.now) (verbs.Property names.Suboffsets) loans ≡ (state.new, r)) }
+        ensures ok { IfOk result (λ r. estep state.old.exporter (subjects.View self.now) (verbs.Property names.Suboffsets) loans ≡ (state.new.exporter, r)) }
         ensures err { OnErr result (state.new ≡ state.old) }
+        ensures room { state.new.room ≡ state.old.room }
     {
         step_of(
             state,
@@ -398,8 +422,9 @@ impl PyMemoryView {
     /// The format of an item, as Python's `view.format` (Library reference, "Memory Views").
     pub fn format(&self, state: &mut ExporterState, loans: LoanList) -> Made<LocalReply>
         requires { LoansFit loans }
-        ensures ok { IfOk result (λ r. estep state.old (subjects.View self.now) (verbs.Property names.Format) loans ≡ (state.new, r)) }
+        ensures ok { IfOk result (λ r. estep state.old.exporter (subjects.View self.now) (verbs.Property names.Format) loans ≡ (state.new.exporter, r)) }
         ensures err { OnErr result (state.new ≡ state.old) }
+        ensures room { state.new.room ≡ state.old.room }
     {
         step_of(
             state,
@@ -415,8 +440,9 @@ impl PyMemoryView {
     /// "Memory Views"). A view without items is contiguous.
     pub fn contiguous(&self, state: &mut ExporterState, loans: LoanList) -> Made<LocalReply>
         requires { LoansFit loans }
-        ensures ok { IfOk result (λ r. estep state.old (subjects.View self.now) (verbs.Property names.Contiguous) loans ≡ (state.new, r)) }
+        ensures ok { IfOk result (λ r. estep state.old.exporter (subjects.View self.now) (verbs.Property names.Contiguous) loans ≡ (state.new.exporter, r)) }
         ensures err { OnErr result (state.new ≡ state.old) }
+        ensures room { state.new.room ≡ state.old.room }
     {
         step_of(
             state,
@@ -431,8 +457,9 @@ impl PyMemoryView {
     /// The same in the order of C, as Python's `view.c_contiguous` (Library reference, "Memory Views").
     pub fn c_contiguous(&self, state: &mut ExporterState, loans: LoanList) -> Made<LocalReply>
         requires { LoansFit loans }
-        ensures ok { IfOk result (λ r. estep state.old (subjects.View self.now) (verbs.Property names.CContiguous) loans ≡ (state.new, r)) }
+        ensures ok { IfOk result (λ r. estep state.old.exporter (subjects.View self.now) (verbs.Property names.CContiguous) loans ≡ (state.new.exporter, r)) }
         ensures err { OnErr result (state.new ≡ state.old) }
+        ensures room { state.new.room ≡ state.old.room }
     {
         step_of(
             state,
@@ -448,8 +475,9 @@ impl PyMemoryView {
     /// Views"): so in a contiguous view of at most one dimension.
     pub fn f_contiguous(&self, state: &mut ExporterState, loans: LoanList) -> Made<LocalReply>
         requires { LoansFit loans }
-        ensures ok { IfOk result (λ r. estep state.old (subjects.View self.now) (verbs.Property names.FContiguous) loans ≡ (state.new, r)) }
+        ensures ok { IfOk result (λ r. estep state.old.exporter (subjects.View self.now) (verbs.Property names.FContiguous) loans ≡ (state.new.exporter, r)) }
         ensures err { OnErr result (state.new ≡ state.old) }
+        ensures room { state.new.room ≡ state.old.room }
     {
         step_of(
             state,

@@ -22,9 +22,10 @@ use std::ops::Range;
 /// One more view of all bytes of an exporter that may be written, as items of one byte. The answer is
 /// its number.
 pub(crate) fn add_all(alloc: Global, state: &mut ExporterState, readonly: bool) -> Made<usize>
-    requires { holds_readonly state.old.kind ≡ false }
-    ensures ok { IfOk result (λ made. with_view state.old (bytes_layout (length state.old.bytes) readonly) ≡ (state.new, replies.View made)) }
+    requires { holds_readonly state.old.exporter.kind ≡ false }
+    ensures ok { IfOk result (λ made. with_view state.old.exporter (bytes_layout (length state.old.exporter.bytes) readonly) ≡ (state.new.exporter, replies.View made)) }
     ensures err { OnErr result (state.new ≡ state.old) }
+    ensures room { state.new.room ≡ state.old.room }
 {
     whole_layouts_are_sound();
     descriptors_stand_for_one_view();
@@ -56,10 +57,11 @@ pub(crate) fn add_blocks(
     view: usize,
     range: Range<usize>,
 ) -> Made<usize>
-    requires live { is_live state.old view ≡ true }
-    requires range { LiesInFirst range (layout_of state.old view).shape }
-    ensures ok { IfOk result (λ made. with_view state.old (blocks_of (layout_of state.old view) range) ≡ (state.new, replies.View made)) }
+    requires live { is_live state.old.exporter view ≡ true }
+    requires range { LiesInFirst range (layout_of state.old.exporter view).shape }
+    ensures ok { IfOk result (λ made. with_view state.old.exporter (blocks_of (layout_of state.old.exporter view) range) ≡ (state.new.exporter, replies.View made)) }
     ensures err { OnErr result (state.new ≡ state.old) }
+    ensures room { state.new.room ≡ state.old.room }
 {
     descriptors_stand_for_one_view();
     slices_stay_inside();

@@ -4,6 +4,7 @@ use Rattle.std.specs.Borrow.{Lends, LendsIf, LendsIfOk, MutBor, Fml, Array, u8}
 use Rattle.pybuf_value.specs.declared.faults.Fault.{Fault}
 use Rattle.pybuf_state.specs.Exporter.{Exporter}
 use Rattle.pybuf_state.specs.Bytes.{Bytes, bytes_row}
+use Rattle.pybuf_exporter.specs.Stored.{StoredExporter}
 use Rattle.pybuf_exporter.specs.Lending.{overwritten_exporter, resized_exporter}
 use Rattle.pybuf_exporter.specs.contracts.exporter.ExporterState as exporter
 use Rattle.pybuf_object.specs.contracts.bytes.PyBytes as bytes
@@ -11,11 +12,11 @@ use Rattle.pybuf_object.specs.contracts.byte_array.PyByteArray as byte_array
 
 -- ---- the exporter: the owner ends with the one that was put in
 
-abbrev pub LendsStateOfBytes : MutBor Exporter → MutBor Exporter → Fml
-LendsStateOfBytes b r = Lends bytes.the_row exporter.the_row b r (λ e. e)
+abbrev pub LendsStateOfBytes : MutBor Exporter → MutBor StoredExporter → Fml
+LendsStateOfBytes b r = Lends bytes.the_row exporter.the_row b r (λ s. s.exporter)
 
-abbrev pub LendsStateOfByteArray : MutBor Exporter → MutBor Exporter → Fml
-LendsStateOfByteArray b r = Lends byte_array.the_row exporter.the_row b r (λ e. e)
+abbrev pub LendsStateOfByteArray : MutBor Exporter → MutBor StoredExporter → Fml
+LendsStateOfByteArray b r = Lends byte_array.the_row exporter.the_row b r (λ s. s.exporter)
 
 -- ---- the bytes of a bytearray
 

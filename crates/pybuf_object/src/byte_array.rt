@@ -39,7 +39,7 @@ impl Model for PyByteArray {
 
     ghost Value = { Exporter };
 
-    ghost view = { λ b. b.exporter };
+    ghost view = { λ b. b.exporter.exporter };
 }
 
 impl PyByteArray {
@@ -57,7 +57,7 @@ impl PyByteArray {
 
     /// Its exporter.
     pub fn state(&self) -> &ExporterState
-        ensures { result.now ≡ self.now }
+        ensures { result.now.exporter ≡ self.now }
     {
         &self.exporter
     }
@@ -67,7 +67,7 @@ impl PyByteArray {
     /// is a bytearray.
     pub fn state_mut(&mut self) -> &mut ExporterState
         ensures* writes_back { sem 𝓛 (LendsStateOfByteArray self.entry result) }
-        ensures value { result.now ≡ self.old }
+        ensures value { result.now.exporter ≡ self.old }
     {
         &mut self.exporter
     }

@@ -33,7 +33,7 @@ impl Model for PyBytes {
 
     ghost Value = { Exporter };
 
-    ghost view = { λ b. b.exporter };
+    ghost view = { λ b. b.exporter.exporter };
 }
 
 impl PyBytes {
@@ -51,7 +51,7 @@ impl PyBytes {
 
     /// Its exporter.
     pub fn state(&self) -> &ExporterState
-        ensures { result.now ≡ self.now }
+        ensures { result.now.exporter ≡ self.now }
     {
         &self.exporter
     }
@@ -60,7 +60,7 @@ impl PyBytes {
     /// in through it, of any kind.
     pub fn state_mut(&mut self) -> &mut ExporterState
         ensures* writes_back { sem 𝓛 (LendsStateOfBytes self.entry result) }
-        ensures value { result.now ≡ self.old }
+        ensures value { result.now.exporter ≡ self.old }
     {
         &mut self.exporter
     }

@@ -49,8 +49,9 @@ impl PyBytesIterator {
     ///
     /// Refused with `UnknownName` where no iterator of this number was given.
     pub fn next(&self, alloc: Global, state: &mut ExporterState) -> Made<LocalReply>
-        ensures ok { IfOk result (λ r. estep state.old (subjects.Iter self.now) verbs.Next [] ≡ (state.new, r)) }
+        ensures ok { IfOk result (λ r. estep state.old.exporter (subjects.Iter self.now) verbs.Next [] ≡ (state.new.exporter, r)) }
         ensures err { OnErr result (state.new ≡ state.old) }
+        ensures room { state.new.room ≡ state.old.room }
     {
         step_without_loans(alloc, state, Subject::Iter(self.number), Verb::Next)
     }
@@ -60,8 +61,9 @@ impl PyBytesIterator {
     ///
     /// Refused with `UnknownName` where it isn't an iterator over bytes.
     pub fn length_hint(&self, alloc: Global, state: &mut ExporterState) -> Made<LocalReply>
-        ensures ok { IfOk result (λ r. estep state.old (subjects.Iter self.now) verbs.LengthHint [] ≡ (state.new, r)) }
+        ensures ok { IfOk result (λ r. estep state.old.exporter (subjects.Iter self.now) verbs.LengthHint [] ≡ (state.new.exporter, r)) }
         ensures err { OnErr result (state.new ≡ state.old) }
+        ensures room { state.new.room ≡ state.old.room }
     {
         step_without_loans(alloc, state, Subject::Iter(self.number), Verb::LengthHint)
     }
@@ -78,8 +80,9 @@ impl PyBytesIterator {
         loans: LoanList,
     ) -> Made<LocalReply>
         requires { LoansFit loans }
-        ensures ok { IfOk result (λ r. estep state.old (subjects.Iter self.now) (verbs.SetState place) loans ≡ (state.new, r)) }
+        ensures ok { IfOk result (λ r. estep state.old.exporter (subjects.Iter self.now) (verbs.SetState place) loans ≡ (state.new.exporter, r)) }
         ensures err { OnErr result (state.new ≡ state.old) }
+        ensures room { state.new.room ≡ state.old.room }
     {
         step_of(
             state,
@@ -127,8 +130,9 @@ impl PyByteArrayIterator {
     ///
     /// Refused with `UnknownName` where no iterator of this number was given.
     pub fn next(&self, alloc: Global, state: &mut ExporterState) -> Made<LocalReply>
-        ensures ok { IfOk result (λ r. estep state.old (subjects.Iter self.now) verbs.Next [] ≡ (state.new, r)) }
+        ensures ok { IfOk result (λ r. estep state.old.exporter (subjects.Iter self.now) verbs.Next [] ≡ (state.new.exporter, r)) }
         ensures err { OnErr result (state.new ≡ state.old) }
+        ensures room { state.new.room ≡ state.old.room }
     {
         step_without_loans(alloc, state, Subject::Iter(self.number), Verb::Next)
     }
@@ -138,8 +142,9 @@ impl PyByteArrayIterator {
     ///
     /// Refused with `UnknownName` where it isn't an iterator over bytes.
     pub fn length_hint(&self, alloc: Global, state: &mut ExporterState) -> Made<LocalReply>
-        ensures ok { IfOk result (λ r. estep state.old (subjects.Iter self.now) verbs.LengthHint [] ≡ (state.new, r)) }
+        ensures ok { IfOk result (λ r. estep state.old.exporter (subjects.Iter self.now) verbs.LengthHint [] ≡ (state.new.exporter, r)) }
         ensures err { OnErr result (state.new ≡ state.old) }
+        ensures room { state.new.room ≡ state.old.room }
     {
         step_without_loans(alloc, state, Subject::Iter(self.number), Verb::LengthHint)
     }
@@ -156,8 +161,9 @@ impl PyByteArrayIterator {
         loans: LoanList,
     ) -> Made<LocalReply>
         requires { LoansFit loans }
-        ensures ok { IfOk result (λ r. estep state.old (subjects.Iter self.now) (verbs.SetState place) loans ≡ (state.new, r)) }
+        ensures ok { IfOk result (λ r. estep state.old.exporter (subjects.Iter self.now) (verbs.SetState place) loans ≡ (state.new.exporter, r)) }
         ensures err { OnErr result (state.new ≡ state.old) }
+        ensures room { state.new.room ≡ state.old.room }
     {
         step_of(
             state,

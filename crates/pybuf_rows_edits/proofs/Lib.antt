@@ -6,3 +6,4 @@ pub mod OwnBuffer
 pub mod Repeating
 pub mod Safe
 pub mod Taking
+pub mod Still

@@ -74,3 +74,16 @@ grows_at_end (verb.Append v) lents = true
 grows_at_end (verb.Extend v) lents = not (is_itself v lents)
 grows_at_end (verb.IAdd v) lents = true
 grows_at_end _ lents = false
+
+-- ---- without another length
+
+-- Whether an edit can leave the length as it is: `set` by a slice, which gets as many bytes as it picks or others,
+-- `imul`, by 1 or of no byte or else, and `extend` by itself, of no byte or else; `reverse` and `copy` always do. Every
+-- other edit resizes, also where there are as many bytes before and after.
+abbrev pub can_leave_length : Verb → List Lent → Bool
+can_leave_length (verb.Extend v) lents = is_itself v lents
+can_leave_length (verb.IMul count) lents = true
+can_leave_length verb.Reverse lents = true
+can_leave_length verb.Copy lents = true
+can_leave_length (verb.Set (value.Slice slice) v) lents = true
+can_leave_length _ lents = false

@@ -6,7 +6,7 @@ ghost use Rattle.pybuf_state.specs.Exporter.{exports_of};
 ghost use Rattle.pybuf_state.specs.Loans.{lents_by};
 ghost use Rattle.pybuf_state.specs.Answers.{exporter_of, IsWhole, Answers, Reads};
 ghost use Rattle.pybuf_slice.specs.FrontContent.{IsSpare};
-ghost use Rattle.pybuf_rows_edits.specs.Counting.{TakesFirst, taken_places, grows_at_end};
+ghost use Rattle.pybuf_rows_edits.specs.Counting.{TakesFirst, taken_places, grows_at_end, can_leave_length};
 ghost use Rattle.pybuf_rows_edits.specs.Edits as spec;
 ghost use Rattle.pybuf_rows_edits.specs.Shrinking as shrinking_spec;
 
@@ -36,6 +36,8 @@ pub fn edit_of_own<N: Names, L: Ledger>(
     ensures end_spare { grows_at_end verb.now (lents_by (exporter_of parts.old) (N.named names.now) (handles_read subjects.Own verb.now)) ≡ true → OnOk result (IsSpare parts.new.bytes) }
     ensures err_room { OnErr result (parts.new.bytes.room ≡ parts.old.bytes.room) }
     ensures err_counter { OnErr result (moved.new ≡ moved.old) }
+    ensures still_room { can_leave_length verb.now (lents_by (exporter_of parts.old) (N.named names.now) (handles_read subjects.Own verb.now)) ≡ true → OnOk result (length parts.new.bytes.items ≡ length parts.old.bytes.items → parts.new.bytes.room ≡ parts.old.bytes.room) }
+    ensures still_counter { can_leave_length verb.now (lents_by (exporter_of parts.old) (N.named names.now) (handles_read subjects.Own verb.now)) ≡ true → OnOk result (length parts.new.bytes.items ≡ length parts.old.bytes.items → moved.new ≡ moved.old) }
 {
     match verb {
         Verb::Append { value } => growing::append(parts, value, moved),

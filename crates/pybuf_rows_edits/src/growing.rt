@@ -1,5 +1,5 @@
 //! Edits that add bytes.
-ghost use Rattle.std.specs.Prelude.{◌≡◌, ◌≤◌, ◌<◌, ◌+◌, ◌*◌, ◌^◌, [], length, false, IfOk, IsErr, OnOk, OnErr};
+ghost use Rattle.std.specs.Prelude.{◌≡◌, ◌≤◌, ◌<◌, ◌+◌, ◌*◌, ◌^◌, [], length, true, false, IfOk, IsErr, OnOk, OnErr};
 ghost use Rattle.pybuf_command.specs.Handles.{handle_of_value};
 ghost use Rattle.pybuf_command.specs.declared.kinds.Subject.TheVariants as subjects;
 ghost use Rattle.pybuf_slice.specs.Edits.{repeated_list};
@@ -108,6 +108,7 @@ fn repeat_bytes(parts: &mut Parts, times: usize) -> Result<LocalReply, Halt>
     ensures answer { Answers (spec.repeated (exporter_of parts.old) times) (exporter_of parts.old) result (exporter_of parts.new) }
     ensures counted { parts.new.exports ≡ exports_of (exporter_of parts.new) }
     ensures err_room { OnErr result (parts.new.bytes.room ≡ parts.old.bytes.room) }
+    ensures long { OnOk result (length parts.new.bytes.items ≡ length parts.old.bytes.items * times) }
 {
     parts.resizable()?;
     if parts.bytes.len() as u128 * times as u128 > isize::MAX as u128 {
@@ -124,6 +125,7 @@ fn repeat(parts: &mut Parts, times: usize) -> Result<LocalReply, Halt>
     ensures answer { Answers (spec.repeated_unless_empty (exporter_of parts.old) times) (exporter_of parts.old) result (exporter_of parts.new) }
     ensures counted { parts.new.exports ≡ exports_of (exporter_of parts.new) }
     ensures err_room { OnErr result (parts.new.bytes.room ≡ parts.old.bytes.room) }
+    ensures still_room { (times ≡ 1 → ⊥) → OnOk result (length parts.new.bytes.items ≡ length parts.old.bytes.items → parts.new.bytes.room ≡ parts.old.bytes.room) }
 {
     if parts.bytes.is_empty() {
         return Ok(LocalReply::Ok);
@@ -136,6 +138,7 @@ fn multiply(parts: &mut Parts, count: &Value) -> Result<LocalReply, Halt>
     ensures answer { Answers (spec.multiplied (exporter_of parts.old) count.now) (exporter_of parts.old) result (exporter_of parts.new) }
     ensures counted { parts.new.exports ≡ exports_of (exporter_of parts.new) }
     ensures err_room { OnErr result (parts.new.bytes.room ≡ parts.old.bytes.room) }
+    ensures still_room { OnOk result (length parts.new.bytes.items ≡ length parts.old.bytes.items → parts.new.bytes.room ≡ parts.old.bytes.room) }
 {
     let number = count_in(count)?;
     if number == 1 {
@@ -153,6 +156,7 @@ pub fn imul(parts: &mut Parts, count: &Value) -> Result<LocalReply, Halt>
     ensures answer { Answers (spec.imul_of_own (exporter_of parts.old) count.now) (exporter_of parts.old) result (exporter_of parts.new) }
     ensures counted { parts.new.exports ≡ exports_of (exporter_of parts.new) }
     ensures err_room { OnErr result (parts.new.bytes.room ≡ parts.old.bytes.room) }
+    ensures still_room { OnOk result (length parts.new.bytes.items ≡ length parts.old.bytes.items → parts.new.bytes.room ≡ parts.old.bytes.room) }
 {
     match parts.kind {
         ExporterKind::ByteArray => multiply(parts, count),
@@ -212,6 +216,8 @@ fn extend_by_meaning<L: Ledger>(
     ensures spare { is_own (subject_in (names_spec.meant meaning.entry)) ≡ false → OnOk result (IsSpare parts.new.bytes) }
     ensures err_room { OnErr result (parts.new.bytes.room ≡ parts.old.bytes.room) }
     ensures err_counter { OnErr result (moved.new ≡ moved.old) }
+    ensures still_room { is_own (subject_in (names_spec.meant meaning.entry)) ≡ true → OnOk result (length parts.new.bytes.items ≡ length parts.old.bytes.items → parts.new.bytes.room ≡ parts.old.bytes.room) }
+    ensures still_counter { is_own (subject_in (names_spec.meant meaning.entry)) ≡ true → OnOk result (moved.new ≡ moved.old) }
 {
     match meaning {
         Meaning::Own(Subject::Own) => repeat(parts, 2),
@@ -256,6 +262,8 @@ fn extend_by_value<N: Names, L: Ledger>(
     ensures spare { is_itself value.now (lents_by (exporter_of parts.old) (N.named names.now) (handle_of_value value.now)) ≡ false → OnOk result (IsSpare parts.new.bytes) }
     ensures err_room { OnErr result (parts.new.bytes.room ≡ parts.old.bytes.room) }
     ensures err_counter { OnErr result (moved.new ≡ moved.old) }
+    ensures still_room { is_itself value.now (lents_by (exporter_of parts.old) (N.named names.now) (handle_of_value value.now)) ≡ true → OnOk result (length parts.new.bytes.items ≡ length parts.old.bytes.items → parts.new.bytes.room ≡ parts.old.bytes.room) }
+    ensures still_counter { is_itself value.now (lents_by (exporter_of parts.old) (N.named names.now) (handle_of_value value.now)) ≡ true → OnOk result (moved.new ≡ moved.old) }
 {
     match value {
         Value::One(Scalar::Bytes(bytes)) => add(parts, bytes.as_slice(), moved),
@@ -285,6 +293,8 @@ pub fn extend<N: Names, L: Ledger>(
     ensures spare { is_itself value.now (lents_by (exporter_of parts.old) (N.named names.now) (handle_of_value value.now)) ≡ false → OnOk result (IsSpare parts.new.bytes) }
     ensures err_room { OnErr result (parts.new.bytes.room ≡ parts.old.bytes.room) }
     ensures err_counter { OnErr result (moved.new ≡ moved.old) }
+    ensures still_room { is_itself value.now (lents_by (exporter_of parts.old) (N.named names.now) (handle_of_value value.now)) ≡ true → OnOk result (length parts.new.bytes.items ≡ length parts.old.bytes.items → parts.new.bytes.room ≡ parts.old.bytes.room) }
+    ensures still_counter { is_itself value.now (lents_by (exporter_of parts.old) (N.named names.now) (handle_of_value value.now)) ≡ true → OnOk result (moved.new ≡ moved.old) }
 {
     match parts.kind {
         ExporterKind::ByteArray => extend_by_value(parts, value, names, moved),

@@ -58,6 +58,8 @@ fn put<L: Ledger>(
     ensures few { OnOk result (moved.new ≤ moved.old + (length parts.old.bytes.items + length parts.new.bytes.items)) }
     ensures err_room { OnErr result (parts.new.bytes.room ≡ parts.old.bytes.room) }
     ensures err_counter { OnErr result (moved.new ≡ moved.old) }
+    ensures still_room { OnOk result (length parts.new.bytes.items ≡ length parts.old.bytes.items → parts.new.bytes.room ≡ parts.old.bytes.room) }
+    ensures still_counter { OnOk result (length parts.new.bytes.items ≡ length parts.old.bytes.items → moved.new ≡ moved.old) }
 {
     let (range, step, count) = slice.adjust_indices(parts.bytes.len());
     if count == bytes.len() {
@@ -84,6 +86,8 @@ fn put_own<L: Ledger>(
     ensures few { OnOk result (moved.new ≤ moved.old + (length parts.old.bytes.items + length parts.new.bytes.items)) }
     ensures err_room { OnErr result (parts.new.bytes.room ≡ parts.old.bytes.room) }
     ensures err_counter { OnErr result (moved.new ≡ moved.old) }
+    ensures still_room { OnOk result (length parts.new.bytes.items ≡ length parts.old.bytes.items → parts.new.bytes.room ≡ parts.old.bytes.room) }
+    ensures still_counter { OnOk result (length parts.new.bytes.items ≡ length parts.old.bytes.items → moved.new ≡ moved.old) }
 {
     let content = Vec::from_slice(parts.alloc, parts.bytes.as_slice())?;
     put(parts, slice, content.as_slice(), moved)
@@ -112,6 +116,8 @@ fn put_view<L: Ledger>(
     ensures few { OnOk result (moved.new ≤ moved.old + (length parts.old.bytes.items + length parts.new.bytes.items)) }
     ensures err_room { OnErr result (parts.new.bytes.room ≡ parts.old.bytes.room) }
     ensures err_counter { OnErr result (moved.new ≡ moved.old) }
+    ensures still_room { OnOk result (length parts.new.bytes.items ≡ length parts.old.bytes.items → parts.new.bytes.room ≡ parts.old.bytes.room) }
+    ensures still_counter { OnOk result (length parts.new.bytes.items ≡ length parts.old.bytes.items → moved.new ≡ moved.old) }
 {
     let content = content_of_view(parts, view)?;
     put(parts, slice, content.as_slice(), moved)
@@ -139,6 +145,8 @@ fn put_other<L: Ledger>(
     ensures few { OnOk result (moved.new ≤ moved.old + (length parts.old.bytes.items + length parts.new.bytes.items)) }
     ensures err_room { OnErr result (parts.new.bytes.room ≡ parts.old.bytes.room) }
     ensures err_counter { OnErr result (moved.new ≡ moved.old) }
+    ensures still_room { OnOk result (length parts.new.bytes.items ≡ length parts.old.bytes.items → parts.new.bytes.room ≡ parts.old.bytes.room) }
+    ensures still_counter { OnOk result (length parts.new.bytes.items ≡ length parts.old.bytes.items → moved.new ≡ moved.old) }
 {
     let bytes = content_of_other(parts.alloc, other)?;
     put(parts, slice, bytes.as_slice(), moved)
@@ -159,6 +167,8 @@ fn put_meaning<L: Ledger>(
     ensures few { OnOk result (moved.new ≤ moved.old + (length parts.old.bytes.items + length parts.new.bytes.items)) }
     ensures err_room { OnErr result (parts.new.bytes.room ≡ parts.old.bytes.room) }
     ensures err_counter { OnErr result (moved.new ≡ moved.old) }
+    ensures still_room { OnOk result (length parts.new.bytes.items ≡ length parts.old.bytes.items → parts.new.bytes.room ≡ parts.old.bytes.room) }
+    ensures still_counter { OnOk result (length parts.new.bytes.items ≡ length parts.old.bytes.items → moved.new ≡ moved.old) }
 {
     match meaning {
         Meaning::Own(Subject::Own) => put_own(parts, slice, moved),
@@ -182,6 +192,8 @@ fn put_parts<L: Ledger>(
     ensures few { OnOk result (moved.new ≤ moved.old + (length parts.old.bytes.items + length parts.new.bytes.items)) }
     ensures err_room { OnErr result (parts.new.bytes.room ≡ parts.old.bytes.room) }
     ensures err_counter { OnErr result (moved.new ≡ moved.old) }
+    ensures still_room { OnOk result (length parts.new.bytes.items ≡ length parts.old.bytes.items → parts.new.bytes.room ≡ parts.old.bytes.room) }
+    ensures still_counter { OnOk result (length parts.new.bytes.items ≡ length parts.old.bytes.items → moved.new ≡ moved.old) }
 {
     let bytes = bytes_from_object(parts.alloc, value, &SnapList::new(parts.alloc)).done()?;
     put(parts, slice, bytes.as_slice(), moved)
@@ -201,6 +213,8 @@ fn put_value<N: Names, L: Ledger>(
     ensures few { OnOk result (moved.new ≤ moved.old + (length parts.old.bytes.items + length parts.new.bytes.items)) }
     ensures err_room { OnErr result (parts.new.bytes.room ≡ parts.old.bytes.room) }
     ensures err_counter { OnErr result (moved.new ≡ moved.old) }
+    ensures still_room { OnOk result (length parts.new.bytes.items ≡ length parts.old.bytes.items → parts.new.bytes.room ≡ parts.old.bytes.room) }
+    ensures still_counter { OnOk result (length parts.new.bytes.items ≡ length parts.old.bytes.items → moved.new ≡ moved.old) }
 {
     match value {
         Value::One(Scalar::Bytes(bytes)) => put(parts, slice, bytes.as_slice(), moved),
@@ -228,6 +242,8 @@ fn set_slice<N: Names, L: Ledger>(
     ensures few { OnOk result (moved.new ≤ moved.old + (length parts.old.bytes.items + length parts.new.bytes.items)) }
     ensures err_room { OnErr result (parts.new.bytes.room ≡ parts.old.bytes.room) }
     ensures err_counter { OnErr result (moved.new ≡ moved.old) }
+    ensures still_room { OnOk result (length parts.new.bytes.items ≡ length parts.old.bytes.items → parts.new.bytes.room ≡ parts.old.bytes.room) }
+    ensures still_counter { OnOk result (length parts.new.bytes.items ≡ length parts.old.bytes.items → moved.new ≡ moved.old) }
 {
     let slice = SaturatedSlice::with_slice(slice)?;
     put_value(parts, slice, value, names, moved)
@@ -251,6 +267,8 @@ pub fn assign<N: Names, L: Ledger>(
     ensures few { OnOk result (moved.new ≤ moved.old + (length parts.old.bytes.items + length parts.new.bytes.items)) }
     ensures err_room { OnErr result (parts.new.bytes.room ≡ parts.old.bytes.room) }
     ensures err_counter { OnErr result (moved.new ≡ moved.old) }
+    ensures still_room { OnOk result (length parts.new.bytes.items ≡ length parts.old.bytes.items → parts.new.bytes.room ≡ parts.old.bytes.room) }
+    ensures still_counter { OnOk result (length parts.new.bytes.items ≡ length parts.old.bytes.items → moved.new ≡ moved.old) }
 {
     match parts.kind {
         ExporterKind::ByteArray => set_slice(parts, slice, value, names, moved),

@@ -16,7 +16,7 @@ use Rattle.pybuf_share.proofs.Theirs.{theirs}
 
 -- what is kept under the lock, handed out
 pub joined_is : (log : Log) (k : ExporterKind) (bytes : List ℕ) (ss : List Asker) (state : Exporter) (total : ℕ) (joined : Joined) → Agree log k bytes ss → IsKept log state total
-    → joined.kind ≡ k → joined.opening ≡ bytes → joined.entries ≡ log.entries → joined.state ≡ state → IsJoined k bytes ss joined
+    → joined.kind ≡ k → joined.opening ≡ bytes → joined.entries ≡ log.entries → joined.state.exporter ≡ state → IsJoined k bytes ss joined
 joined_is log k bytes ss state total joined agree kept kind opening entries state_is =
     let start : new_exporter log.kind log.opening ≡ new_exporter k bytes = ap₂ new_exporter (sym agree.begins.same_kind) (sym agree.begins.same_bytes) in
     record {

@@ -132,7 +132,7 @@ pub record IsJoined (k : ExporterKind) (bytes : List ℕ) (sessions : List Asker
   pub same_kind : joined.kind ≡ k
   pub same_bytes : joined.opening ≡ bytes
   pub legal : IsLegal k bytes joined.entries
-  pub replays : joined.state ≡ replay k bytes joined.entries
+  pub replays : joined.state.exporter ≡ replay k bytes joined.entries
   pub rise : NumbersRise sessions
   pub stand : All (Stands joined.entries) (receipts_of sessions)
 

@@ -39,7 +39,7 @@ impl<L: Ledger> Model for Logged<L> {
 
     ghost view = { λ l. record { kind = l.kind; opening = l.opening; entries = l.history.items } };
 
-    ghost invariant = { λ l. IsKept (record { kind = l.kind; opening = l.opening; entries = l.history.items }) l.state l.calls.total × (l.none.parts ≡ 0) };
+    ghost invariant = { λ l. IsKept (record { kind = l.kind; opening = l.opening; entries = l.history.items }) l.state.exporter l.calls.total × (l.none.parts ≡ 0) };
 }
 
 /// A command twice.
@@ -125,7 +125,7 @@ impl<L: Ledger> Logged<L> {
 
     /// The exporter as it is: what one thread gets by carrying out the commands of the entries.
     pub fn state(&self) -> &ExporterState
-        ensures { result.now ≡ state_of self.now }
+        ensures { result.now.exporter ≡ state_of self.now }
     {
         &self.state
     }

@@ -201,7 +201,7 @@ fn append_twice<L: Ledger>(
     bytes: &mut Vec<u8>,
     blank: Blank,
 ) -> Made<()>
-    requires live { is_live state.now buffer.now ≡ true }
+    requires live { is_live state.now.exporter buffer.now ≡ true }
     requires name { blank.name ≡ L.name }
     requires parts { blank.parts ≡ L.parts }
     requires one { blank.parts ≡ 1 }

@@ -3,7 +3,7 @@
 ghost use Rattle.std.specs.Prelude.{◌≡◌, []};
 
 use pybuf_command::{ExporterKind, LoanList, LocalCommand, Subject, Verb};
-use pybuf_exporter::{CountedExporter, ExporterState};
+use pybuf_exporter::ExporterState;
 use pybuf_value::{ByteList, Made, NoMemory, Scalar, Steps, Value};
 use std::alloc::Global;
 use std::marker::Brand;
@@ -27,19 +27,19 @@ fn asked(alloc: Global, verb: Verb) -> LocalCommand
 
 /// Carries out a command, and tells the bytes and the room before them.
 fn ask<L: Ledger>(
-    counted: &mut CountedExporter,
+    state: &mut ExporterState,
     alloc: Global,
     verb: Verb,
     moved: &mut Steps<L>,
     told: &mut Vec<u8>,
 ) -> Made<()> {
     let command = asked(alloc, verb);
-    let answer = counted.step_counted(&command, moved);
+    let answer = state.step_counted(&command, moved);
     drop(command);
     drop(answer);
     told.push(b' ')?;
-    told.push(b'0'.wrapping_add((counted.front_room() % 10) as u8))?;
-    told.extend_from_slice(counted.bytes())?;
+    told.push(b'0'.wrapping_add((state.front_room() % 10) as u8))?;
+    told.extend_from_slice(state.bytes())?;
     Ok(())
 }
 
@@ -51,7 +51,7 @@ fn first() -> Verb {
 
 /// Takes the first bytes out, and adds some at the end.
 fn work<L: Ledger>(
-    counted: &mut CountedExporter,
+    state: &mut ExporterState,
     alloc: Global,
     told: &mut Vec<u8>,
     blank: Blank,
@@ -61,17 +61,17 @@ fn work<L: Ledger>(
     requires one { blank.parts ≡ 1 }
 {
     let mut moved = Steps::<L>::new(blank);
-    ask(counted, alloc, first(), &mut moved, told)?;
-    ask(counted, alloc, first(), &mut moved, told)?;
+    ask(state, alloc, first(), &mut moved, told)?;
+    ask(state, alloc, first(), &mut moved, told)?;
     ask(
-        counted,
+        state,
         alloc,
         Verb::Append { value: number(101) },
         &mut moved,
         told,
     )?;
     ask(
-        counted,
+        state,
         alloc,
         Verb::Del {
             key: Value::slice(..2),
@@ -81,20 +81,19 @@ fn work<L: Ledger>(
     )
 }
 
-fn work_by_brand(counted: &mut CountedExporter, alloc: Global, told: &mut Vec<u8>) -> Made<()> {
-    work::<Brand>(counted, alloc, told, Blank::new(1))
+fn work_by_brand(state: &mut ExporterState, alloc: Global, told: &mut Vec<u8>) -> Made<()> {
+    work::<Brand>(state, alloc, told, Blank::new(1))
 }
 
 #[test]
 fn an_exporter_keeps_room_at_its_front(rt: HostRuntime) -> Result<(), Fail> {
     let alloc = rt.alloc();
     let bytes = ByteList::from_slice(alloc, b"abcd")?;
-    let state = ExporterState::new(alloc, ExporterKind::ByteArray, bytes);
-    let mut counted = CountedExporter::of(state);
+    let mut state = ExporterState::new(alloc, ExporterKind::ByteArray, bytes);
     let mut told = Vec::new(alloc);
-    work_by_brand(&mut counted, alloc, &mut told)?;
+    work_by_brand(&mut state, alloc, &mut told)?;
     assert_eq!(rt; told.as_slice(), b" 1bcd 2cd 0cde 2e".as_slice());
-    assert_eq!(rt; counted.into_state().bytes(), b"e".as_slice());
+    assert_eq!(rt; state.front_room(), 2);
     Ok(())
 }
 

@@ -8,6 +8,7 @@ use Rattle.pybuf_value.specs.declared.faults.Fault.{Fault}
 use Rattle.pybuf_value.specs.Refusing.{◌>>=◌}
 use Rattle.pybuf_state.specs.Exporter.{Exporter, View, exports_of, is_exported, view_at, released_at, released_in}
 use Rattle.pybuf_uses.specs.Numbers.{Numbers, numbers_in, IsLent}
+use Rattle.pybuf_exporter.specs.Stored.{StoredExporter}
 
 found_first : (b : Bool) (bs : List Bool) (n : ℕ) → 0 < cond b 1 0 + n → (0 < n → Contains bs true) → Contains (b ∷ bs) true
 found_first true bs n some rest = (0, omega arith, refl)
@@ -57,3 +58,8 @@ pub given_back : (a : Numbers) (e new : Exporter) (k : ℕ) (r : Result Unit Fau
     → MatchResult r (λ _. released_in e k ≡ Ok new) (λ f. released_in e k ≡ Err f) → OnErr r (new ≡ e)
     → numbers_in new ≡ record a { out = set a.out k false }
 given_back a e new k r is exact err = given_back_by e new k (view_at e k) r refl exact err ∙ ap {B = Numbers} (λ b. record b { out = set b.out k false }) is
+
+-- where an exporter that is lent on stays, so does the array's
+pub stays_on_err : (r : Result Unit Fault) (old new : StoredExporter) (e : Exporter) → old.exporter ≡ e → OnErr r (new ≡ old) → OnErr r (new.exporter ≡ e)
+stays_on_err (Ok done) old new e at same = same
+stays_on_err (Err f) old new e at same = ap (λ (s : StoredExporter). s.exporter) same ∙ at

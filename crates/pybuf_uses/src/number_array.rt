@@ -36,7 +36,7 @@ impl NumberArray {
 
     /// The exporter, from which the views that are lent are read.
     pub fn state(&self) -> &ExporterState
-        ensures { numbers_in result.now ≡ self.now }
+        ensures { numbers_in result.now.exporter ≡ self.now }
     {
         self.0.state()
     }

@@ -52,7 +52,6 @@ pub use pybuf_desc::slices_have_their_shape;
 pub use pybuf_desc::slices_lie_apart;
 pub use pybuf_desc::slices_stay_inside;
 pub use pybuf_desc::whole_layouts_lie_apart;
-pub use pybuf_exporter::CountedExporter;
 pub use pybuf_exporter::ExporterState;
 pub use pybuf_exporter::adding_itself_is_refused;
 pub use pybuf_exporter::assignments_are_by_value;

@@ -15,7 +15,7 @@ use Rattle.pybuf_world.specs.World.{World, handle_of, has_view, handles_with_cop
 use Rattle.pybuf_world.specs.Sound.{IsSoundWorld}
 
 abbrev pub world_of_tables : Tables → World
-world_of_tables t = record { exporters = t.exporters.items; handles = t.handles.items }
+world_of_tables t = record { exporters = t.exporters; handles = t.handles.items }
 
 -- these are the handles of the exporters, in order
 pub record AreOwners (w : World) (owners : List ℕ) : Type 0 where

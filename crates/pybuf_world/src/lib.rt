@@ -2,6 +2,7 @@
 #![tactic(auto)]
 
 mod laws;
+mod listing;
 mod named;
 mod others;
 mod tables;

@@ -8,6 +8,7 @@ ghost use Rattle.pybuf_bytes.specs.Options.{bytes_of_options};
 ghost use Rattle.pybuf_world.specs.Stepping.{local_step};
 
 use crate::laws::exporter_laws;
+use crate::listing::ExporterList;
 use crate::named::{Named, Target};
 use crate::others::Others;
 use pybuf_bytes::NewOptions;
@@ -27,7 +28,7 @@ use std::mem;
 /// it isn't searched for among all handles.
 #[derive(Debug, Drop)]
 pub struct Tables {
-    pub exporters: Vec<ExporterState>,
+    pub exporters: ExporterList,
     pub handles: Vec<Named>,
     pub owners: Vec<u64>,
     pub alloc: Global,
@@ -87,7 +88,7 @@ impl Tables {
         ensures kept { IsKept result }
     {
         Tables {
-            exporters: Vec::new(alloc),
+            exporters: ExporterList::new(alloc),
             handles: Vec::new(alloc),
             owners: Vec::new(alloc),
             alloc,
@@ -110,7 +111,7 @@ impl Tables {
 
     /// A new exporter with no view, and its handle.
     fn add_exporter(&mut self, exporter: ExporterState) -> Made<Reply>
-        ensures ok { IfOk result (λ r. with_made false (world_of_tables self.old) exporter ≡ (world_of_tables self.new, r)) }
+        ensures ok { IfOk result (λ r. with_made false (world_of_tables self.old) exporter.exporter ≡ (world_of_tables self.new, r)) }
         ensures err { OnErr result (world_of_tables self.new ≡ world_of_tables self.old) }
         ensures owners { IfOk result (λ r. self.new.owners.items ≡ self.old.owners.items ++ length (world_of_tables self.old).handles ∷ []) }
         ensures owners_kept { OnErr result (self.new.owners.items ≡ self.old.owners.items) }
@@ -127,7 +128,7 @@ impl Tables {
 
     /// A new exporter with one view, and the handles of both.
     fn add_viewed(&mut self, exporter: ExporterState) -> Made<Reply>
-        ensures ok { IfOk result (λ r. with_made true (world_of_tables self.old) exporter ≡ (world_of_tables self.new, r)) }
+        ensures ok { IfOk result (λ r. with_made true (world_of_tables self.old) exporter.exporter ≡ (world_of_tables self.new, r)) }
         ensures err { OnErr result (world_of_tables self.new ≡ world_of_tables self.old) }
         ensures owners { IfOk result (λ r. self.new.owners.items ≡ self.old.owners.items ++ length (world_of_tables self.old).handles ∷ []) }
         ensures owners_kept { OnErr result (self.new.owners.items ≡ self.old.owners.items) }
@@ -154,7 +155,7 @@ impl Tables {
     /// A new exporter and its handle, where the handles of the exporters stay what they are.
     fn add(&mut self, exporter: ExporterState) -> Made<Reply>
         requires { IsKept self.old }
-        ensures ok { IfOk result (λ r. spec.with_exporter (world_of_tables self.old) exporter ≡ (world_of_tables self.new, r)) }
+        ensures ok { IfOk result (λ r. spec.with_exporter (world_of_tables self.old) exporter.exporter ≡ (world_of_tables self.new, r)) }
         ensures err { OnErr result (world_of_tables self.new ≡ world_of_tables self.old) }
         ensures owned { AreOwners (world_of_tables self.new) self.new.owners.items }
     {
@@ -227,14 +228,14 @@ impl Tables {
     {
         names_alike_do_the_same();
         let nothing = ExporterState::empty(self.alloc);
-        let mut worker = mem::replace(&mut self.exporters[target.exporter], nothing);
+        let mut worker = self.exporters.replace(target.exporter, nothing);
         let others = Others {
-            exporters: self.exporters.as_slice(),
+            exporters: &self.exporters,
             handles: self.handles.as_slice(),
             stepping: target.exporter,
         };
         let answer = worker.carry_out(target.subject, verb, &others);
-        self.exporters[target.exporter] = worker;
+        self.exporters.put(target.exporter, worker);
         answer
     }
 
@@ -395,8 +396,7 @@ impl Tables {
         if exporter >= self.exporters.len() {
             return Err(Fault::UnknownName);
         }
-        let holder = &mut self.exporters[exporter];
-        match holder.release_view(view) {
+        match self.exporters.release_view(exporter, view) {
             Ok(()) => Ok(()),
             Err(fault) => Err(fault),
         }

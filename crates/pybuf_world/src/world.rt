@@ -30,6 +30,7 @@ impl World {
     ghost use Rattle.pybuf_value.specs.declared.faults.Fault.TheVariants as faults;
     ghost use Rattle.pybuf_world.specs.World.{empty_world, wstep, world_after_all, replies_of, released_by, names_view};
     ghost use Rattle.pybuf_world.specs.Sound.{IsSoundWorld, StaysSound, StopsAt};
+    ghost use Rattle.pybuf_world.specs.Listing.{exporters_of};
 
     /// A world with nothing in it. Takes no memory.
     pub fn new(alloc: Global) -> World
@@ -47,9 +48,9 @@ impl World {
         self.tables.next_handle()
     }
 
-    /// The exporters, in the order in which they were made.
+    /// The exporters, in the order in which they were made. Nothing is said of their room.
     pub fn exporters(&self) -> &[ExporterState]
-        ensures value { result.now ≡ self.now.exporters }
+        ensures value { exporters_of result.now ≡ self.now.exporters }
         ensures sound { IsSoundWorld self.now }
     {
         self.tables.exporters.as_slice()

@@ -12,7 +12,7 @@ use Rattle.pybuf_buffer.proofs.views.add_same.Goals as goal
 
 pub add_view-requires-clause-sound : goal.add_view-requires-clause-sound
 add_view-requires-clause-sound c =
-    let e = c.args.state.now in
+    let e = c.args.state.now.exporter in
     let k = c.args.view in
     let same = c.descriptors_stand_for_one_view.ensures c.described-start.result.0.now c.described-start.result.1 (layout_of e k) c.described-start.ensures.stands
     ∙ ap (λ (d : Descriptor). layout_at d c.described-start.result.1) (sym c.in_ok-twin.ensures) in
@@ -20,8 +20,8 @@ add_view-requires-clause-sound c =
 
 pub returns-clause-ok : goal.returns-clause-ok
 returns-clause-ok c =
-    let e = c.args.state.now in
+    let e = c.args.state.now.exporter in
     let k = c.args.view in
     let same = c.descriptors_stand_for_one_view.ensures c.described-start.result.0.now c.described-start.result.1 (layout_of e k) c.described-start.ensures.stands
     ∙ ap (λ (d : Descriptor). layout_at d c.described-start.result.1) (sym c.in_ok-twin.ensures) in
-    subst (λ (l : Layout). IfOk c.add_view.result (λ made. with_view e l ≡ (c.add_view.new.self, reply.View made))) (sym same) c.add_view.ensures.ok
+    subst (λ (l : Layout). IfOk c.add_view.result (λ made. with_view e l ≡ (c.add_view.new.self.exporter, reply.View made))) (sym same) c.add_view.ensures.ok

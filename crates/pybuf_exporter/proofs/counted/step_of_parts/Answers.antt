@@ -1,6 +1,6 @@
 use Rattle.pybuf_state.specs.Answers.{exporter_of}
 use Rattle.pybuf_exporter.specs.Step.{answer_of}
-use Rattle.pybuf_exporter.proofs.Counting.{where_done, where_refused, few_moved, without_memory, same_exporter, same_counted, where_ok, where_err}
+use Rattle.pybuf_exporter.proofs.Counting.{where_done, still_by, where_refused, few_moved, without_memory, closes_stored, where_ok, where_err}
 use Rattle.pybuf_exporter.proofs.Every.{closes_sound}
 use Rattle.pybuf_exporter.proofs.counted.step_of_parts.Goals as goal
 
@@ -18,6 +18,8 @@ returns-clause-moves g c =
       front_room = λ n first done. where_done _ row e f a d.answer done never (d.front_room n first);
       end_counter = λ grows done. where_done _ row e f a d.answer done never (d.end_counter grows);
       end_spare = λ grows done. where_done _ row e f a d.answer done never (d.end_spare grows);
+      still_counter = λ leaves done. where_done _ row e f a d.answer done never (still_by _ _ a (d.still_counter leaves.0) leaves.1);
+      still_room = λ leaves done. where_done _ row e f a d.answer done never (still_by _ _ a (d.still_room leaves.0) leaves.1);
       few = few_moved a c.args.moved.now c.answer.new.moved _ d.few d.err_counter;
       refused_counter = λ refused. where_refused _ row e f a d.answer refused d.err_counter;
       refused_room = λ refused. where_refused _ row e f a d.answer refused d.err_room;
@@ -33,8 +35,7 @@ returns-clause-err g c =
     let row = answer_of e command.subject command.verb command.loans in
     let a = c.answer.result in
     let d = c.answer.ensures in
-    where_err _ _ c.closed.result c.closed.ensures.memory
-    (λ gone. same_counted f e c.answer.new.parts.bytes.room c.args.parts.now.bytes.room (same_exporter row e f a gone d.answer) (without_memory _ a gone d.err_room))
+    closes_stored row e f c.args.parts.now.bytes.room c.answer.new.parts.bytes.room a c.closed.result d.answer d.err_room c.closed.ensures.memory
 
 pub returns-clause-err_counter : goal.returns-clause-err_counter
 returns-clause-err_counter g c = where_err _ _ c.closed.result c.closed.ensures.memory (λ gone. without_memory _ c.answer.result gone c.answer.ensures.err_counter)

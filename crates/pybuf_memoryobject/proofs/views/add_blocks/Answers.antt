@@ -11,7 +11,7 @@ use Rattle.pybuf_memoryobject.proofs.views.add_blocks.Goals as goal
 
 pub sliced-requires-clause-some_dimension : goal.sliced-requires-clause-some_dimension
 sliced-requires-clause-some_dimension c =
-    some_dimension c.live_descriptor-start.result.0.now c.args.range (layout_of c.args.state.now c.args.view).shape c.live_descriptor-start.ensures.stands.shape c.requires.range
+    some_dimension c.live_descriptor-start.result.0.now c.args.range (layout_of c.args.state.now.exporter c.args.view).shape c.live_descriptor-start.ensures.stands.shape c.requires.range
 
 pub add_view-requires-clause-placed : goal.add_view-requires-clause-placed
 add_view-requires-clause-placed c =
@@ -20,7 +20,7 @@ add_view-requires-clause-placed c =
 
 pub add_view-requires-clause-sound : goal.add_view-requires-clause-sound
 add_view-requires-clause-sound c =
-    let e = c.args.state.now in
+    let e = c.args.state.now.exporter in
     let view = layout_of e c.args.view in
     let one = ap (slice_of view) (sym c.slice_of_range-slice.ensures) ∙ c.descriptors_stand_for_one_view.ensures c.in_ok-sliced.sliced c.in_ok-sliced.first (slice_of view c.slice_of_range-slice.result) (c.in_ok-sliced.ensures.stands view c.live_descriptor-start.ensures.stands) in
     subst (IsSoundLayout e) one
@@ -28,10 +28,10 @@ add_view-requires-clause-sound c =
 
 pub returns-clause-ok : goal.returns-clause-ok
 returns-clause-ok c =
-    let e = c.args.state.now in
+    let e = c.args.state.now.exporter in
     let view = layout_of e c.args.view in
     let d = c.live_descriptor-start in
     let same = sym (blocks_are c.clamping_changes_no_index.ensures d.result.0.now d.result.1 view c.args.range d.ensures.placed d.ensures.stands c.requires.range)
     ∙ ap (slice_of view) (sym c.slice_of_range-slice.ensures)
     ∙ c.descriptors_stand_for_one_view.ensures c.in_ok-sliced.sliced c.in_ok-sliced.first (slice_of view c.slice_of_range-slice.result) (c.in_ok-sliced.ensures.stands view d.ensures.stands) in
-    subst (λ (l : Layout). IfOk c.add_view.result (λ made. with_view e l ≡ (c.add_view.new.self, reply.View made))) (sym same) c.add_view.ensures.ok
+    subst (λ (l : Layout). IfOk c.add_view.result (λ made. with_view e l ≡ (c.add_view.new.self.exporter, reply.View made))) (sym same) c.add_view.ensures.ok

@@ -7,12 +7,12 @@ pub returns-in-Own : goal.returns-in-Own
 returns-in-Own c =
     let borrow = c.args.self.now in (
       (refl, λ w. written_all borrow.state borrow.subject w _ borrow.writable c.in-Own.is),
-      record { writes_back = tt; value = c.bytes_mut.ensures.value ∙ ap (lent_bytes borrow.state.now) (sym c.in-Own.is) },
+      record { writes_back = tt; value = c.bytes_mut.ensures.value ∙ ap (lent_bytes borrow.state.now.exporter) (sym c.in-Own.is) },
     )
 
 pub returns-in-View : goal.returns-in-View
 returns-in-View c =
     let borrow = c.args.self.now in (
       (refl, λ w. written_view borrow.state borrow.subject c.in-View.view w _ borrow.writable c.in-View.is),
-      record { writes_back = tt; value = c.contiguous_bytes_mut.ensures.value ∙ ap (lent_bytes borrow.state.now) (sym c.in-View.is) },
+      record { writes_back = tt; value = c.contiguous_bytes_mut.ensures.value ∙ ap (lent_bytes borrow.state.now.exporter) (sym c.in-View.is) },
     )

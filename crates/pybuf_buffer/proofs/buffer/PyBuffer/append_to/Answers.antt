@@ -17,7 +17,7 @@ append_ranges-requires-clause-order g c =
 
 pub append_ranges-requires-clause-inside : goal.append_ranges-requires-clause-inside
 append_ranges-requires-clause-inside g c =
-    let e = c.args.state.now in
+    let e = c.args.state.now.exporter in
     let k = c.self.inside.view in
     let live = subst (λ (n : ℕ). is_live e n ≡ true) (sym c.self.view_is) c.requires in
     let sound = c.live_layouts_are_sound.ensures e k (layout_of e k) c.exports-exports.ensures.sound (is_live_layout e k live) in
@@ -28,7 +28,7 @@ append_ranges-requires-clause-inside g c =
 
 pub append_ranges-requires-clause-room : goal.append_ranges-requires-clause-room
 append_ranges-requires-clause-room g c =
-    let e = c.args.state.now in
+    let e = c.args.state.now.exporter in
     let k = c.self.inside.view in
     let live = subst (λ (n : ℕ). is_live e n ≡ true) (sym c.self.view_is) c.requires in
     let sound = c.live_layouts_are_sound.ensures e k (layout_of e k) c.exports-exports.ensures.sound (is_live_layout e k live) in
@@ -40,7 +40,7 @@ append_ranges-requires-clause-room g c =
 
 pub returns-clause-bytes : goal.returns-clause-bytes
 returns-clause-bytes g c =
-    let e = c.args.state.now in
+    let e = c.args.state.now.exporter in
     let old = c.args.buf.now.items in
     let d = c.described-start.ensures in
     c.append_ranges.ensures.bytes ∙ ap (λ (xs : List ℕ). xs ++ flat_map (bytes_in c.bytes.result.now) c.segments.result) c.reserve.ensures.items
@@ -51,7 +51,7 @@ returns-clause-bytes g c =
 
 pub returns-clause-steps : goal.returns-clause-steps
 returns-clause-steps g c =
-    let e = c.args.state.now in
+    let e = c.args.state.now.exporter in
     let d = c.described-start.ensures in
     c.append_ranges.ensures.steps
     ∙ ap (λ (rs : List (Range ℕ)). c.args.steps.now + length rs) c.segments.ensures.ranges

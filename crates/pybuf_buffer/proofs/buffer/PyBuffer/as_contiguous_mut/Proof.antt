@@ -3,11 +3,10 @@ use Rattle.pybuf_buffer.proofs.Walking.{◌≡◌, ℕ, List, [], ◌∷◌, ref
 use denote.Follow.{follows_by}
 use Rattle.std.specs.Borrow.{Array}
 use Rattle.std.specs.contracts.option.Option as OP
-use Rattle.std.specs.Prelude.{slice_index}
 use Rattle.pybuf_desc.specs.Items.{content_of_layout}
-use Rattle.pybuf_state.specs.Exporter.{Exporter}
 use Rattle.pybuf_state.specs.Live.{is_live, layout_of, is_writable_run}
-use Rattle.pybuf_exporter.specs.Lending.{written_from}
+use Rattle.pybuf_exporter.specs.Stored.{StoredExporter}
+use Rattle.pybuf_exporter.specs.Lending.{run_written}
 use Rattle.pybuf_buffer.specs.contracts.buffer.PyBuffer.{the_row as B}
 use Rattle.pybuf_exporter.specs.contracts.exporter.ExporterState.{the_row as S}
 use Rattle.pybuf_buffer.specs.contracts.buffer.PyBuffer.as_contiguous_mut as f
@@ -20,15 +19,11 @@ use Rattle.pybuf_buffer.proofs.lending.has_writable_run.Met.{met as asked}
 use Rattle.pybuf_buffer.specs.contracts.lending.writable_run as lends
 use Rattle.pybuf_buffer.proofs.lending.writable_run.Met.{met as lent}
 
--- the exporter with these bytes in place of those of its k-th view
-abbrev written : Exporter → ℕ → List ℕ → Exporter
-written e k = written_from e (slice_index (layout_of e k).starts 0)
-
 abbrev stayed : Stays f.ended.signature.params f.ended.kept
 stayed = (stay_dropped _ yes, (stay_dropped _ no, tt))
 
 -- how the function ends, with the buffer b, whose lifetime is κ₀, and the exporter s, whose lifetime is κ
-module _ {M : Type 1} {𝓤 : Ura M} (𝓛 : Logic 𝓤) (at_mem : Memory → SProp 𝓤) (run : Routine → Fun 𝓤) (κ₀ κ : Lft) (q₀ q : Share) (b : Bor ℕ) (s : MutBor Exporter) where
+module _ {M : Type 1} {𝓤 : Ura M} (𝓛 : Logic 𝓤) (at_mem : Memory → SProp 𝓤) (run : Routine → Fun 𝓤) (κ₀ κ : Lft) (q₀ q : Share) (b : Bor ℕ) (s : MutBor StoredExporter) where
   open 𝓛 use {A}
 
   abbrev c : Clauses 𝓤 f.ended
@@ -44,20 +39,20 @@ module _ {M : Type 1} {𝓤 : Ura M} (𝓛 : Logic 𝓤) (at_mem : Memory → SP
   Lent = MutSlice (named 1) κ u8
 
   -- with the slice r
-  exits : (r : MutBor (List ℕ)) → is_writable_run (layout_of s.now b.now) ≡ true → r.now ≡ content_of_layout s.now.bytes (layout_of s.now b.now)
-      → ent 𝓤 (sep 𝓤 (sem 𝓛 (Lent.own_val r (slice_val r.ref_ptr (length r.now) ∷ []))) (sep 𝓤 (sem 𝓛 (follows S (Array u8 0) s.ghost_name r.ghost_name (written s.now b.now))) (sep 𝓤 (A.lft κ q) (A.lft κ₀ q₀))))
+  exits : (r : MutBor (List ℕ)) → is_writable_run (layout_of s.now.exporter b.now) ≡ true → r.now ≡ content_of_layout s.now.exporter.bytes (layout_of s.now.exporter b.now)
+      → ent 𝓤 (sep 𝓤 (sem 𝓛 (Lent.own_val r (slice_val r.ref_ptr (length r.now) ∷ []))) (sep 𝓤 (sem 𝓛 (follows S (Array u8 0) s.ghost_name r.ghost_name (run_written s.now b.now))) (sep 𝓤 (A.lft κ q) (A.lft κ₀ q₀))))
       (Post (live 1 (of_list (slice_val r.ref_ptr (length r.now) ∷ []))))
   unfolding follows_by
   exits r writable value =
       let v = slice_val r.ref_ptr (length r.now) in
-      qed 𝓛 (‵ (Lent.own_val r (v ∷ [])) ∷ ‵ (follows S (Array u8 0) s.ghost_name r.ghost_name (written s.now b.now)) ∷ ‵ (flft κ q) ∷ ‵ (flft κ₀ q₀) ∷ []) ∵
+      qed 𝓛 (‵ (Lent.own_val r (v ∷ [])) ∷ ‵ (follows S (Array u8 0) s.ghost_name r.ghost_name (run_written s.now b.now)) ∷ ‵ (flft κ q) ∷ ‵ (flft κ₀ q₀) ∷ []) ∵
       use1 𝓛 (‵ ((OP.the_row Lent).own_val (Some r) (live 1 (of_list (v ∷ [])) ∷ []))) (Some-of 𝓛 Lent r v) $
       suffices ! _ (ends_at 𝓛 f.ended stayed c y (live 1 (of_list (v ∷ []))) (Some r) (tt, (tt, tt)) (tt, (tt, tt))) $
       nothing ! $ nothing ! $ fjoin ! $ nothing ! $ fjoin ! $ join ! $ nothing ! $ move ! (3 ∷ 0 ∷ []) $ join ! $ move ! (3 ∷ 0 ∷ []) $ join ! $ join ! $
       frame ! $ says ! (writable, value) $ done !
 
   -- with none, and the exporter as it was
-  leaves : is_writable_run (layout_of s.now b.now) ≡ false
+  leaves : is_writable_run (layout_of s.now.exporter b.now) ≡ false
       → ent 𝓤 (sep 𝓤 (sem 𝓛 ((MutRef (named 1) κ S).own_val s (mut_vals s))) (sep 𝓤 (A.lft κ q) (A.lft κ₀ q₀))) (Post (live 0 (of_list [])))
   unfolding follows_by
   leaves not_writable =
@@ -79,7 +74,7 @@ as_contiguous_mut_spec 𝓤 𝓛 𝓜 𝓡 wired =
     let Shared = ShrRef (named 0) κs.0 B in let Ref = MutRef (named 1) κ S in let Lent = MutSlice (named 1) κ u8 in
     let y : W.Ghost = ((κs, qs, bounds, a, (shr_vals b, (mut_vals s, tt))), tt) in
     qed 𝓛 (((‵ (flft κs.0 qs.0) ⊛ ‵ (flft κ q) ⊛ ‵ ftrue) ⊛ ‵ (Shared.own_val b (shr_vals b)) ⊛ ‵ (Ref.own_val s (mut_vals s)) ⊛ ‵ ftrue)
-    ∷ raw (fact 𝓤 (is_live s.now k ≡ true)) ∷ []) ∵
+    ∷ raw (fact 𝓤 (is_live s.now.exporter k ≡ true)) ∷ []) ∵
     split ! $ split ! $ move ! (1 ∷ []) $ split ! $ move ! (3 ∷ []) $ split ! $ move ! (1 ∷ []) $ split ! $
     move ! (6 ∷ []) $ heard ! _ (λ living. keep ! (2 ∷ 5 ∷ 0 ∷ 3 ∷ []) $
     -- [the buffer; its token; the exporter; its token]
@@ -106,14 +101,14 @@ as_contiguous_mut_spec 𝓤 𝓛 𝓜 𝓡 wired =
     let za : A.Ghost = (((α ∷ [], tt), (full_share, tt), tt, (record s { ghost_name = δ }, (k, tt)), (mut_vals s, (vint w64 k ∷ [], tt))), tt) in
     nothing ! $ owned ! usize _ (uint_Makes 𝓛 w64) k _ (refl, low) $ join ! $ move ! (1 ∷ 0 ∷ []) $ join ! $
     nothing ! $ move ! (3 ∷ 0 ∷ []) $ join ! $ join ! $
-    use0 𝓛 (raw (fact 𝓤 (is_live s.now k ≡ true))) (fact_i 𝓤 _ (emp 𝓤) living) $ move ! (1 ∷ 0 ∷ []) $ use2 𝓛 (raw (A.pre za)) (id⊢ 𝓤 _) $
+    use0 𝓛 (raw (fact 𝓤 (is_live s.now.exporter k ≡ true))) (fact_i 𝓤 _ (emp 𝓤) living) $ move ! (1 ∷ 0 ∷ []) $ use2 𝓛 (raw (A.pre za)) (id⊢ 𝓤 _) $
     calls_at ! fm A (asked 𝓤 𝓛 𝓜 𝓡 (code.calls-pybuf_buffer::lending::has_writable_run 𝓡.env wired)) za (and_then ! (get ! refl) (and_then ! (get ! refl) (no_more !))) (λ t.
     use1 𝓛 (later (some (λ (answer : Bool). ((‵ (flft (α ∷ []) full_share) ⊛ ‵ ftrue) ⊛ ‵ (bool.own_val answer (t ∷ []))) ⊛
-    some (λ (ws : Exporter × (Unit {0} × Unit {0})). ‵ (lasts asks.ended za.0.0 za.0.3 ws) ⊛ (raw (fact 𝓤 (answer ≡ is_writable_run (layout_of s.now k))) ⊛ raw (fact 𝓤 (ws.0 ≡ s.now))))))) (id⊢ 𝓤 _) $
+    some (λ (ws : StoredExporter × (Unit {0} × Unit {0})). ‵ (lasts asks.ended za.0.0 za.0.3 ws) ⊛ (raw (fact 𝓤 (answer ≡ is_writable_run (layout_of s.now.exporter k))) ⊛ raw (fact 𝓤 (ws.0 ≡ s.now))))))) (id⊢ 𝓤 _) $
     await ! tt $ pick ! (λ answer. split ! $ split ! $ split ! $ lft_end ! tt $ move ! (2 ∷ []) $ facts ! bool _ (shows 𝓛 bool) answer (t ∷ []) (λ is_answer.
     lands_as ! (ap only is_answer) refl (tt, tt) $
     move ! (2 ∷ []) $ pick ! (λ ws. split ! $ move ! (1 ∷ []) $ split ! $ heard ! _ (λ right. heard ! _ (λ same. fsplit ! $ fsplit ! $
-    rewrite ! 0 (λ (m : Exporter). ‵ (fres δ (S.coded.code m))) same refl $
+    rewrite ! 0 (λ (m : StoredExporter). ‵ (fres δ (S.coded.code m))) same refl $
     -- [the loan's last value; its borrow; nothing; it is over; nothing; what the lender keeps; the buffer's token; nothing]
     move ! (3 ∷ 5 ∷ 0 ∷ []) $ use3 𝓛 (later (‵ (Ref.own_val s (mut_vals s)) ⊛ ‵ (flft κ q))) (comes_back 𝓛 S (named 1) κ (α ∷ []) q s.ghost_name rb ro δ s.now s.now) $ await ! tt $ split ! $
     -- [the exporter; its token; three that are done with; the buffer's token; nothing]
@@ -125,11 +120,11 @@ as_contiguous_mut_spec 𝓤 𝓛 𝓜 𝓡 wired =
     let z : G.Ghost = (((κ, tt), (q, tt), tt, (s, (k, tt)), (mut_vals s, (vint w64 k ∷ [], tt))), tt) in
     nothing ! $ owned ! usize _ (uint_Makes 𝓛 w64) k _ (refl, low) $ join ! $ move ! (1 ∷ 0 ∷ []) $ join ! $
     nothing ! $ move ! (2 ∷ 0 ∷ []) $ join ! $ join ! $
-    use0 𝓛 (raw (fact 𝓤 (is_writable_run (layout_of s.now k) ≡ true))) (fact_i 𝓤 _ (emp 𝓤) writable) $ use0 𝓛 (raw (fact 𝓤 (is_live s.now k ≡ true))) (fact_i 𝓤 _ (emp 𝓤) living) $ join ! $
+    use0 𝓛 (raw (fact 𝓤 (is_writable_run (layout_of s.now.exporter k) ≡ true))) (fact_i 𝓤 _ (emp 𝓤) writable) $ use0 𝓛 (raw (fact 𝓤 (is_live s.now.exporter k ≡ true))) (fact_i 𝓤 _ (emp 𝓤) living) $ join ! $
     move ! (1 ∷ 0 ∷ []) $ use2 𝓛 (raw (G.pre z)) (id⊢ 𝓤 _) $
     calls_at ! fm G (lent 𝓤 𝓛 𝓜 𝓡 (code.calls-pybuf_buffer::lending::writable_run 𝓡.env wired)) z (and_then ! (get ! refl) (and_then ! (get ! refl) (no_more !))) (λ w.
     use1 𝓛 (later (some (λ (r : MutBor (List ℕ)). ((‵ (flft κ q) ⊛ ‵ ftrue) ⊛ ‵ (Lent.own_val r (w ∷ []))) ⊛
-    some (λ (us : Unit {0} × (Unit {0} × Unit {0})). ‵ (lasts lends.ended z.0.0 z.0.3 us) ⊛ (‵ (follows S (Array u8 0) s.ghost_name r.ghost_name (written s.now k)) ⊛ raw (fact 𝓤 (r.now ≡ content_of_layout s.now.bytes (layout_of s.now k)))))))) (id⊢ 𝓤 _) $
+    some (λ (us : Unit {0} × (Unit {0} × Unit {0})). ‵ (lasts lends.ended z.0.0 z.0.3 us) ⊛ (‵ (follows S (Array u8 0) s.ghost_name r.ghost_name (run_written s.now k)) ⊛ raw (fact 𝓤 (r.now ≡ content_of_layout s.now.exporter.bytes (layout_of s.now.exporter k)))))))) (id⊢ 𝓤 _) $
     await ! tt $ pick ! (λ r. split ! $ split ! $ split ! $ move ! (3 ∷ []) $ pick ! (λ us. split ! $ drop ! $ split ! $ move ! (1 ∷ []) $ heard ! _ (λ value.
     move ! (3 ∷ []) $ peeks ! Lent _ (shows 𝓛 Lent) r (w ∷ []) (λ laid.
     let v' = slice_val r.ref_ptr (length r.now) in

@@ -2,7 +2,7 @@
 use Rattle.pybuf_buffer.proofs.Walking.{◌≡◌, ℕ, List, [], ◌∷◌, refl, ap, ◌∙◌, subst, ◌<◌, ◌^◌, true, false, MutBor, length, w64, proved, id⊢, emp, ftrue, flft, named, Val, vint, fact, fact_i, tables, ‵, raw, ◌⊛◌, some, later, ◌$◌, ◌∵◌, !, qed, done, move, keep, drop, rewrite, use0, use1, use2, split, join, fjoin, pick, await, suffices, frame, enter, addr, stop, returns, no_more, and_then, alloc_all, pass_all, free_all, look_at, get, through, sets, lands_as, u8, usize, yes, no, shows, uint_Makes, follows, MutRef, ShrRef, mut_vals, mut_Tells, shr_vals, shr_Tells, MutSlice, slice_val, plain, shr_ref_to, nothing, owned, peeks, facts, heard, only, calls_at, lasts, triple_of, framed, Stays, walk_of, says, stay_dropped, Goes-dropped, Goes-spent_ref, ends_at}
 use Rattle.std.specs.Borrow.{Array}
 use Rattle.pybuf_state.specs.Live.{is_live, layout_of}
-use Rattle.pybuf_exporter.specs.Lending.{overwritten_exporter}
+use Rattle.pybuf_exporter.specs.Lending.{overwritten}
 use Rattle.pybuf_buffer.specs.contracts.buffer.PyBuffer.{the_row as B}
 use Rattle.pybuf_exporter.specs.contracts.exporter.ExporterState.{the_row as S}
 use Rattle.pybuf_buffer.specs.contracts.buffer.PyBuffer.obj_bytes_mut as f
@@ -27,7 +27,7 @@ obj_bytes_mut_spec 𝓤 𝓛 𝓜 𝓡 wired =
     let Shared = ShrRef (named 0) κs.0 B in let Ref = MutRef (named 1) κ S in let Lent = MutSlice (named 1) κ u8 in
     let y : W.Ghost = ((κs, qs, bounds, a, (shr_vals b, (mut_vals s, tt))), tt) in
     qed 𝓛 (((‵ (flft κs.0 qs.0) ⊛ ‵ (flft κ q) ⊛ ‵ ftrue) ⊛ ‵ (Shared.own_val b (shr_vals b)) ⊛ ‵ (Ref.own_val s (mut_vals s)) ⊛ ‵ ftrue)
-    ∷ (raw (fact 𝓤 (is_live s.now k ≡ true)) ⊛ raw (fact 𝓤 ((layout_of s.now k).readonly ≡ false))) ∷ []) ∵
+    ∷ (raw (fact 𝓤 (is_live s.now.exporter k ≡ true)) ⊛ raw (fact 𝓤 ((layout_of s.now.exporter k).readonly ≡ false))) ∷ []) ∵
     split ! $ split ! $ move ! (1 ∷ []) $ split ! $ move ! (3 ∷ []) $ split ! $ move ! (1 ∷ []) $ split ! $
     move ! (6 ∷ []) $ split ! $ heard ! _ (λ living. heard ! _ (λ writable. keep ! (2 ∷ 5 ∷ 0 ∷ 3 ∷ []) $
     -- [the buffer; its token; the exporter; its token]
@@ -49,11 +49,11 @@ obj_bytes_mut_spec 𝓤 𝓛 𝓜 𝓡 wired =
     let z : G.Ghost = (((κ, tt), (q, tt), tt, (s, (k, tt)), (mut_vals s, (vint w64 k ∷ [], tt))), tt) in
     nothing ! $ owned ! usize _ (uint_Makes 𝓛 w64) k _ (refl, low) $ join ! $ move ! (3 ∷ 0 ∷ []) $ join ! $
     nothing ! $ move ! (4 ∷ 0 ∷ []) $ join ! $ join ! $
-    use0 𝓛 (raw (fact 𝓤 ((layout_of s.now k).readonly ≡ false))) (fact_i 𝓤 _ (emp 𝓤) writable) $ use0 𝓛 (raw (fact 𝓤 (is_live s.now k ≡ true))) (fact_i 𝓤 _ (emp 𝓤) living) $ join ! $
+    use0 𝓛 (raw (fact 𝓤 ((layout_of s.now.exporter k).readonly ≡ false))) (fact_i 𝓤 _ (emp 𝓤) writable) $ use0 𝓛 (raw (fact 𝓤 (is_live s.now.exporter k ≡ true))) (fact_i 𝓤 _ (emp 𝓤) living) $ join ! $
     move ! (1 ∷ 0 ∷ []) $ use2 𝓛 (raw (G.pre z)) (id⊢ 𝓤 _) $
     calls_at ! fm G (lent 𝓤 𝓛 𝓜 𝓡 (code.calls-pybuf_buffer::lending::all_bytes 𝓡.env wired)) z (and_then ! (get ! refl) (and_then ! (get ! refl) (no_more !))) (λ w.
     use1 𝓛 (later (some (λ (r : MutBor (List ℕ)). ((‵ (flft κ q) ⊛ ‵ ftrue) ⊛ ‵ (Lent.own_val r (w ∷ []))) ⊛
-    some (λ (ws : Unit {0} × (Unit {0} × Unit {0})). ‵ (lasts lends.ended z.0.0 z.0.3 ws) ⊛ (‵ (follows S (Array u8 0) s.ghost_name r.ghost_name (overwritten_exporter s.now)) ⊛ raw (fact 𝓤 (r.now ≡ s.now.bytes))))))) (id⊢ 𝓤 _) $
+    some (λ (ws : Unit {0} × (Unit {0} × Unit {0})). ‵ (lasts lends.ended z.0.0 z.0.3 ws) ⊛ (‵ (follows S (Array u8 0) s.ghost_name r.ghost_name (overwritten s.now)) ⊛ raw (fact 𝓤 (r.now ≡ s.now.exporter.bytes))))))) (id⊢ 𝓤 _) $
     await ! tt $ pick ! (λ r. split ! $ split ! $ split ! $ move ! (3 ∷ []) $ pick ! (λ ws. split ! $ drop ! $ split ! $ move ! (1 ∷ []) $ heard ! _ (λ value.
     move ! (3 ∷ []) $ peeks ! Lent _ (shows 𝓛 Lent) r (w ∷ []) (λ lies.
     let v = slice_val r.ref_ptr (length r.now) in

@@ -4,6 +4,7 @@ use Rattle.pybuf_command.specs.declared.kinds.Subject.TheVariants as subjects
 use Rattle.pybuf_state.specs.Answers.{exporter_of, Answers}
 use Rattle.pybuf_exporter.specs.Step.{answer_of}
 use Rattle.pybuf_exporter.proofs.Every.{closes_sound}
+use Rattle.pybuf_exporter.proofs.Counting.{closes_stored}
 use Rattle.pybuf_exporter.proofs.exporter.ExporterState.append.Goals as goal
 
 pub invariant_of-self : goal.invariant_of-self
@@ -22,3 +23,10 @@ returns-clause-ok c =
     let answer : Answers (answer_of e subjects.Own (verbs.Append c.args.value.now) c.args.loans.now) e c.append.result (exporter_of c.append.new.parts) = search (rules, c.is_value_known.ensures, c.append.ensures.answer) in
     rw (← c.self.view_is)
     (c.closed.ensures.ok (answer_of e subjects.Own (verbs.Append c.args.value.now) c.args.loans.now) e (exporter_of c.append.new.parts) answer)
+
+pub returns-clause-err : goal.returns-clause-err
+returns-clause-err c =
+    let e = exporter_of c.self.inside.parts in
+    let answer : Answers (answer_of e subjects.Own (verbs.Append c.args.value.now) c.args.loans.now) e c.append.result (exporter_of c.append.new.parts) = search (rules, c.is_value_known.ensures, c.append.ensures.answer) in
+    rw (← c.self.view_is)
+    (closes_stored (answer_of e subjects.Own (verbs.Append c.args.value.now) c.args.loans.now) e (exporter_of c.append.new.parts) c.self.inside.parts.bytes.room c.append.new.parts.bytes.room c.append.result c.closed.result answer c.append.ensures.err_room c.closed.ensures.memory)

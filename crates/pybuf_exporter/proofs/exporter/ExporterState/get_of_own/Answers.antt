@@ -3,6 +3,7 @@ use Rattle.pybuf_command.specs.declared.kinds.Subject.TheVariants as subjects
 use Rattle.pybuf_state.specs.Answers.{exporter_of}
 use Rattle.pybuf_exporter.specs.Step.{answer_of}
 use Rattle.pybuf_exporter.proofs.Every.{closes_sound}
+use Rattle.pybuf_exporter.proofs.Counting.{closes_stored, always_on_err}
 use Rattle.pybuf_exporter.proofs.exporter.ExporterState.get_of_own.Goals as goal
 
 pub invariant_of-self : goal.invariant_of-self
@@ -19,3 +20,9 @@ returns-clause-ok c =
     let e = exporter_of c.self.inside.parts in
     rw (← c.self.view_is)
     (c.closed.ensures.ok (answer_of e subjects.Own (verbs.Get c.args.key.now) c.args.loans.now) e (exporter_of c.get_of_own.new.parts) c.get_of_own.ensures.answer)
+
+pub returns-clause-err : goal.returns-clause-err
+returns-clause-err c =
+    let e = exporter_of c.self.inside.parts in
+    rw (← c.self.view_is)
+    (closes_stored (answer_of e subjects.Own (verbs.Get c.args.key.now) c.args.loans.now) e (exporter_of c.get_of_own.new.parts) c.self.inside.parts.bytes.room c.get_of_own.new.parts.bytes.room c.get_of_own.result c.closed.result c.get_of_own.ensures.answer (always_on_err _ c.get_of_own.result c.get_of_own.ensures.room) c.closed.ensures.memory)

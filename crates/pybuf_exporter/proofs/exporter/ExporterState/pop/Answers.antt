@@ -3,6 +3,7 @@ use Rattle.pybuf_command.specs.declared.kinds.Subject.TheVariants as subjects
 use Rattle.pybuf_state.specs.Answers.{exporter_of}
 use Rattle.pybuf_exporter.specs.Step.{answer_of}
 use Rattle.pybuf_exporter.proofs.Every.{closes_sound}
+use Rattle.pybuf_exporter.proofs.Counting.{closes_stored}
 use Rattle.pybuf_exporter.proofs.exporter.ExporterState.pop.Goals as goal
 
 pub invariant_of-self : goal.invariant_of-self
@@ -19,3 +20,9 @@ returns-clause-ok c =
     let e = exporter_of c.self.inside.parts in
     rw (← c.self.view_is)
     (c.closed.ensures.ok (answer_of e subjects.Own (verbs.Pop c.args.index.now) c.args.loans.now) e (exporter_of c.pop.new.parts) c.pop.ensures.answer)
+
+pub returns-clause-err : goal.returns-clause-err
+returns-clause-err c =
+    let e = exporter_of c.self.inside.parts in
+    rw (← c.self.view_is)
+    (closes_stored (answer_of e subjects.Own (verbs.Pop c.args.index.now) c.args.loans.now) e (exporter_of c.pop.new.parts) c.self.inside.parts.bytes.room c.pop.new.parts.bytes.room c.pop.result c.closed.result c.pop.ensures.answer c.pop.ensures.err_room c.closed.ensures.memory)

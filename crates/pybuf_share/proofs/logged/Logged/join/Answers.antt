@@ -12,4 +12,4 @@ returns-in-Ok-clause-theirs g c =
     let agree : Agree log c.args.kind c.args.bytes c.args.sessions.items = search rules in
     λ plain.
     subst (λ (xs : List Entry). AreTheirs c.args.sessions.items xs) (sym c.from_vec.ensures)
-    (theirs_are log c.args.kind c.args.bytes c.args.sessions.items inside.state inside.calls.total g.L.Ledger.parts agree c.self.invariant.0 c.requires.all c.count_calls.ensures.own c.count_calls.ensures.counted plain)
+    (theirs_are log c.args.kind c.args.bytes c.args.sessions.items inside.state.exporter inside.calls.total g.L.Ledger.parts agree c.self.invariant.0 c.requires.all c.count_calls.ensures.own c.count_calls.ensures.counted plain)

@@ -13,7 +13,7 @@ invariant_of-self-2 g c =
     let log : Log = record { kind = inside.kind; opening = inside.opening; entries = inside.history.items } in
     let session = c.args.session in
     let command = c.args.own in
-    let new = c.step_copied.new.self in
+    let new = c.step_copied.new.self.exporter in
     let stepped = c.in_ok-reply.ensures.ok in
     let replays = c.self.invariant.0.replays in
     let moved : new ≡ (step_by (state_of log) command).0 =
@@ -23,7 +23,7 @@ invariant_of-self-2 g c =
     let entry = ap₂ (λ (asked : LocalCommand) (reply : LocalReply). let x : Entry = record { session = session; command = asked; reply = reply } in x) c.requires.same replied in
     let all : c.push_reserved.new.items.items ≡ log.entries ++ entry_now log session command ∷ [] =
     c.push_reserved.ensures ∙ ap₂ (λ (xs : List Entry) (x : Entry). xs ++ x ∷ []) c.in_ok-reserve.ensures.items entry in
-    let kept : IsKept (noted log session command) new (inside.calls.total + 1) = noted_kept log session command inside.state new inside.calls.total c.self.invariant.0 moved in (
+    let kept : IsKept (noted log session command) new (inside.calls.total + 1) = noted_kept log session command inside.state.exporter new inside.calls.total c.self.invariant.0 moved in (
       subst (λ (xs : List Entry). IsKept (record { kind = inside.kind; opening = inside.opening; entries = xs }) new c.add.new.self.total) (sym all)
           (subst (λ (n : ℕ). IsKept (noted log session command) new n) (sym c.add.ensures.total) kept),
       c.self.invariant.1,

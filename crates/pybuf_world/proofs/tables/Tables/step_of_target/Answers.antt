@@ -14,7 +14,7 @@ answer-requires-clause-copy c =
     let loans : List (ℕ × Loan) = loans_of w c.args.target.exporter c.args.verb.now in
     let after : World = world_of_tables c.local_step.new.self in
     let stepped : local_step w c.args.target c.args.verb.now loans (slice_get w.exporters c.args.target.exporter) ≡ (after, c.in_ok-reply.reply) =
-    with_room c.args.self.now.exporters.items c.reserve.new.self.items c.args.self.now.handles.items c.args.target c.args.verb.now after c.in_ok-reply.reply c.in_ok-reserve.ensures.items c.in_ok-reply.ensures.ok in
+    with_room c.args.self.now.exporters c.reserve.new.self.items c.args.self.now.handles.items c.args.target c.args.verb.now after c.in_ok-reply.reply c.in_ok-reserve.ensures.items c.in_ok-reply.ensures.ok in
     copy_asked c.fresh_replies_are_copies.ensures w c.args.target c.args.verb.now loans (slice_get w.exporters c.args.target.exporter) after c.in_ok-reply.reply refl stepped
 
 pub returns-clause-ok : goal.returns-clause-ok
@@ -23,7 +23,7 @@ returns-clause-ok c =
     let loans : List (ℕ × Loan) = loans_of w c.args.target.exporter c.args.verb.now in
     let after : World = world_of_tables c.local_step.new.self in
     let stepped : local_step w c.args.target c.args.verb.now loans (slice_get w.exporters c.args.target.exporter) ≡ (after, c.in_ok-reply.reply) =
-    with_room c.args.self.now.exporters.items c.reserve.new.self.items c.args.self.now.handles.items c.args.target c.args.verb.now after c.in_ok-reply.reply c.in_ok-reserve.ensures.items c.in_ok-reply.ensures.ok in
+    with_room c.args.self.now.exporters c.reserve.new.self.items c.args.self.now.handles.items c.args.target c.args.verb.now after c.in_ok-reply.reply c.in_ok-reserve.ensures.items c.in_ok-reply.ensures.ok in
     subst (λ (p : World × Reply). IfOk c.answer.result (λ r. p ≡ (world_of_tables c.answer.new.self, r)))
     (sym (answer_of_local w c.args.target c.args.verb.now loans (slice_get w.exporters c.args.target.exporter) after c.in_ok-reply.reply refl stepped)) c.answer.ensures.ok
 
@@ -33,7 +33,7 @@ returns-clause-err c =
     let loans : List (ℕ × Loan) = loans_of w c.args.target.exporter c.args.verb.now in
     let after : World = world_of_tables c.local_step.new.self in
     let stepped : local_step w c.args.target c.args.verb.now loans (slice_get w.exporters c.args.target.exporter) ≡ (after, c.in_ok-reply.reply) =
-    with_room c.args.self.now.exporters.items c.reserve.new.self.items c.args.self.now.handles.items c.args.target c.args.verb.now after c.in_ok-reply.reply c.in_ok-reserve.ensures.items c.in_ok-reply.ensures.ok in
+    with_room c.args.self.now.exporters c.reserve.new.self.items c.args.self.now.handles.items c.args.target c.args.verb.now after c.in_ok-reply.reply c.in_ok-reserve.ensures.items c.in_ok-reply.ensures.ok in
     both_on_err (world_of_tables c.answer.new.self ≡ after) (IsFresh c.in_ok-reply.reply) (world_of_tables c.answer.new.self ≡ w) c.answer.result
     (λ same fresh. same ∙ left_alone c.fresh_replies_are_copies.ensures w c.args.target c.args.verb.now loans (slice_get w.exporters c.args.target.exporter) after c.in_ok-reply.reply refl stepped fresh)
     c.answer.ensures.err c.answer.ensures.only_fresh

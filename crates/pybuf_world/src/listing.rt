@@ -1,0 +1,105 @@
+//! The exporters of a world, in a list.
+ghost use Rattle.std.specs.Prelude.{◌≡◌, ◌<◌, ◌++◌, [], ◌∷◌, length, set, slice_get, Some, Ok, Err, OnOk, OnErr, MatchResult};
+ghost use Rattle.std.specs.Option.{option_copied};
+
+use pybuf_exporter::ExporterState;
+use pybuf_value::{Fault, Made};
+use std::alloc::Global;
+use std::marker::Model;
+use std::mem;
+
+/// Exporters, in the order in which they were made. A clause sees each without the room before its bytes: nothing is
+/// said of the room of what a world keeps.
+#[derive(Debug, Drop)]
+pub struct ExporterList {
+    exporters: Vec<ExporterState>,
+}
+
+impl Model for ExporterList {
+    ghost use Rattle.std.specs.Prelude.{List};
+    ghost use Rattle.pybuf_state.specs.Exporter.{Exporter};
+    ghost use Rattle.pybuf_world.specs.Listing.{exporters_of};
+
+    ghost Value = { List Exporter };
+
+    ghost view = { λ l. exporters_of l.exporters.items };
+}
+
+/// The exporter of a number among others.
+fn nth(exporters: &[ExporterState], number: usize) -> Option<&ExporterState>
+    ensures { option_copied result ≡ slice_get exporters.now number }
+{
+    exporters.get(number)
+}
+
+impl ExporterList {
+    ghost use Rattle.pybuf_world.specs.Listing.{exporters_of, lent_exporter, released_among};
+
+    /// No exporters. Takes no memory.
+    pub fn new(alloc: Global) -> ExporterList
+        ensures { result ≡ [] }
+    {
+        ExporterList {
+            exporters: Vec::new(alloc),
+        }
+    }
+
+    /// The number of exporters.
+    pub fn len(&self) -> usize
+        ensures { result ≡ length self.now }
+    {
+        self.exporters.len()
+    }
+
+    /// The exporters, in order.
+    pub fn as_slice(&self) -> &[ExporterState]
+        ensures { exporters_of result.now ≡ self.now }
+    {
+        self.exporters.as_slice()
+    }
+
+    /// The exporter of a number; None exactly where there is none.
+    pub fn get(&self, number: usize) -> Option<&ExporterState>
+        ensures { lent_exporter result ≡ slice_get self.now number }
+    {
+        nth(self.exporters.as_slice(), number)
+    }
+
+    /// Adds an exporter behind all others. Where memory runs out, nothing is changed.
+    pub fn push(&mut self, exporter: ExporterState) -> Made<()>
+        ensures ok { OnOk result (self.new ≡ self.old ++ exporter.exporter ∷ []) }
+        ensures err { OnErr result (self.new ≡ self.old) }
+    {
+        self.exporters.push(exporter)?;
+        Ok(())
+    }
+
+    /// Puts another exporter in place of the one of a number, which is handed out.
+    pub fn replace(&mut self, number: usize, exporter: ExporterState) -> ExporterState
+        requires { number < length self.old }
+        ensures value { slice_get self.old number ≡ Some result.exporter }
+        ensures items { self.new ≡ set self.old number exporter.exporter }
+    {
+        mem::replace(&mut self.exporters[number], exporter)
+    }
+
+    /// Puts an exporter in place of the one of a number.
+    pub fn put(&mut self, number: usize, exporter: ExporterState)
+        requires { number < length self.old }
+        ensures { self.new ≡ set self.old number exporter.exporter }
+    {
+        self.exporters[number] = exporter;
+    }
+
+    /// Releases a view of the exporter of a number; releasing it again changes nothing. Takes no memory.
+    ///
+    /// Refused with `UnknownName` exactly where the view was never given.
+    pub fn release_view(&mut self, number: usize, view: usize) -> Result<(), Fault>
+        requires { number < length self.old }
+        ensures exact { MatchResult result (λ _. released_among self.old number view (slice_get self.old number) ≡ Ok self.new) (λ f. released_among self.old number view (slice_get self.old number) ≡ Err f) }
+        ensures err { OnErr result (self.new ≡ self.old) }
+    {
+        let holder = &mut self.exporters[number];
+        holder.release_view(view)
+    }
+}
