@@ -108,7 +108,7 @@ fn carry_view<A: Ledger, B: Ledger, R: Wait>(
 }
 
 /// A bytearray of these bytes with both of its sessions.
-pub(crate) fn exporter<L: Ledger>(
+fn exporter<L: Ledger>(
     alloc: Global,
     blank: Blank,
     bytes: &[u8],
