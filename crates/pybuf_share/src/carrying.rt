@@ -5,6 +5,7 @@ ghost use Rattle.pybuf_command.specs.Loans.{loan_of};
 ghost use Rattle.pybuf_command.specs.declared.loans.Loan.TheVariants as loan;
 ghost use Rattle.pybuf_state.specs.Fits.{LoansFit};
 ghost use Rattle.pybuf_share.specs.Carrying as spec;
+ghost use Rattle.pybuf_share.specs.Sessions.{IsAnswered};
 
 use crate::session::Session;
 use crate::shared::SharedExporter;
