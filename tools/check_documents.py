@@ -6,10 +6,15 @@
 - A must-fail edit that a document shows has to lie in a folder `must-fail/`, or to turn a line that a block of changes of
   that document puts in.
 - An input of the program has to be an example of `examples/`, with the output that the document shows.
+- A session that stands beside Python has to be an example, with these replies, and Python, run here, has to give what the
+  replies say.
+- Each example has to be named in `examples/README.md`.
+- A picture has to be what `tools/draw_pictures.py` draws from the replies of its examples.
 - A line in a table of `docs/COMMANDS.md` has to stand in an example, with the reply of the table. A value in its table of
   values has to stand in the input of one, and a reply in its table of replies in the output of one.
 - A file or a folder that a document names has to be there, and so has a case or a test that `docs/DIFFERENCES.md` names.
-- `docs/DEFINITIONS.md` has to name each file of definitions but those of laws.
+- `docs/DEFINITIONS.md` has to name each file of definitions but those of laws, and those that the contract of `serve`
+  imports, through others too, under the heading that says so, and no others there.
 """
 
 import pathlib
@@ -17,8 +22,17 @@ import re
 import shlex
 import sys
 
+sys.dont_write_bytecode = True
+
+import draw_pictures
+
 ROOT = pathlib.Path(__file__).resolve().parent.parent
-DOCUMENTS = [ROOT / "README.md", ROOT / "CONTRIBUTING.md", ROOT / "CHANGELOG.md"] + sorted((ROOT / "docs").glob("*.md"))
+TOP = [ROOT / "README.md", ROOT / "CONTRIBUTING.md", ROOT / "CHANGELOG.md", ROOT / "examples/README.md"]
+DOCUMENTS = TOP + sorted((ROOT / "docs").glob("*.md"))
+# The heading of the definitions that the contract of `serve` cites.
+CITED = "## Cited by the contract of `serve`"
+# The head of a session that is shown beside Python.
+BESIDE_PYTHON = "| Line | Reply | In Python |"
 ENDINGS = {"rust": ".rt", "antt": ".antt"}
 faults = []
 
@@ -124,8 +138,15 @@ def shown_behind(lines, at):
 
 
 def check_inputs(document, lines, examples):
-    """Inputs that a document pipes into the program, or writes into a file."""
+    """Inputs that a document pipes into the program, writes into a file, or takes from an example."""
     for at, line in enumerate(lines):
+        tried = re.fullmatch(r" {4}\$ (?:cd crates/pybuf && )?rt try < \.\./\.\./examples/(\S+)", line)
+        if tried is not None:
+            stored, shown = ROOT / "examples" / f"{tried[1]}.stdout", shown_behind(lines, at + 1)
+            if not stored.exists():
+                report(document, at + 1, f"there is no example {tried[1]}")
+            elif shown and shown != stored.read_text():
+                report(document, at + 1, "the example has another output")
         piped = re.fullmatch(r" {4}\$ (printf .*) \| pybuf", line)
         if piped is not None:
             text = shlex.split(piped[1])[1].replace("\\n", "\n")
@@ -138,6 +159,52 @@ def check_inputs(document, lines, examples):
                 report(document, at + 1, "no example has this input")
             elif not any(given == text and written in plain_blocks(lines) for given, written in examples):
                 report(document, at + 1, "the output of this input is not shown")
+
+
+def in_python(statement, names):
+    """What Python does, as a reply: a value, a refusal, or nothing."""
+    try:
+        try:
+            value = eval(statement, names)
+        except SyntaxError:
+            exec(statement, names)
+            return None
+    except Exception as fault:
+        return f"! {type(fault).__name__}"
+    return None if value is None else repr(value)
+
+
+def check_beside_python(document, lines, examples):
+    """A session that stands beside Python. What Python has no statement for is said in words."""
+    given, written, names = "", "", {}
+    for number, cells in rows(lines, BESIDE_PYTHON):
+        line, reply = (quoted(cell)[0] for cell in cells[:2])
+        given, written = given + line + "\n", written + reply + "\n"
+        if cells[2] != f"`{cells[2].strip('`')}`":
+            continue
+        done = in_python(cells[2].strip("`"), names)
+        if done != (None if re.fullmatch(r"ok|h[0-9]+", reply) else reply):
+            report(document, number, f"Python does not reply {reply}: {done}")
+    if given and (given, written) not in examples:
+        report(document, 1, "no example has the session that stands beside Python")
+    if not given and document == ROOT / "README.md":
+        report(document, 1, "no session stands beside Python")
+
+
+def check_examples(document, lines):
+    """Every example is named."""
+    named = {name for line in lines for name in quoted(line)}
+    for path in sorted((ROOT / "examples").glob("*.stdout")):
+        if path.stem not in named:
+            report(document, 1, f"the example {path.stem} is not named")
+
+
+def check_pictures():
+    """Every picture is there, as it is drawn from what is stored of its examples."""
+    drawn = {ROOT / "docs" / name: text for name, text in draw_pictures.pictures(draw_pictures.stored).items()}
+    for path in sorted({*drawn, *(ROOT / "docs").glob("*.svg")}):
+        if not path.exists() or drawn.get(path) != path.read_text():
+            report(path, 1, "tools/draw_pictures.py draws another picture")
 
 
 def plain_blocks(lines):
@@ -169,18 +236,24 @@ def quoted(cell):
 
 
 def check_tables(document, lines, examples):
-    """Lines and replies of the tables of commands, methods, properties and refusals."""
+    """Lines and replies of the tables of commands, methods (behind `call h0`), properties (behind `prop` and a handle) and
+    refusals."""
     pairs = set()
     for given, written in examples:
         pairs.update(zip(given.split("\n"), written.split("\n")))
     wanted = []
-    for head in ["| Line | What it does |", "| METHOD and its arguments |"]:
+    for head, front in [("| Line | What it does |", ""), ("| METHOD and its arguments |", "call h0 ")]:
         for number, cells in rows(lines, head):
-            wanted += [(number, line, reply) for line, reply in zip(quoted(cells[2]), quoted(cells[3]))]
-    for number, cells in rows(lines, "| Name | Of |"):
-        for name in quoted(cells[0]):
+            shown = quoted(cells[2])
+            if len(shown) % 2:
+                report(document, number, "there are not as many replies as lines")
+            wanted += [(number, front + line, reply) for line, reply in zip(shown[::2], shown[1::2])]
+    for number, cells in rows(lines, "| Name | Property | Reply |"):
+        if len(quoted(cells[0])) != len(quoted(cells[2])):
+            report(document, number, "there are not as many replies as properties")
+        for name, reply in zip(quoted(cells[0]), quoted(cells[2])):
             subject = "h0" if name == "exports" else "h1"
-            wanted.append((number, f"prop {subject} {name}", quoted(cells[3])[0]))
+            wanted.append((number, f"prop {subject} {name}", reply))
     for number, cells in rows(lines, "| Refusal | Where it comes |"):
         wanted.append((number, quoted(cells[2])[0], quoted(cells[0])[0]))
     if not wanted:
@@ -191,7 +264,7 @@ def check_tables(document, lines, examples):
     words = {word for given, _ in examples for line in given.split("\n") for word in line.split(" ")}
     replies = {reply for _, written in examples for reply in written.split("\n")}
     spelled = [(number, value) for number, cells in rows(lines, "| Spelling | Value |") for value in quoted(cells[2])]
-    written = [(number, reply) for number, cells in rows(lines, "| Reply | Text |") for reply in quoted(cells[2])]
+    written = [(number, reply) for number, cells in rows(lines, "| Reply | Example |") for reply in quoted(cells[1])]
     if not spelled or not written:
         report(document, 1, "the tables of values and of replies were not found")
     for number, value in spelled:
@@ -215,6 +288,36 @@ def named_definitions(lines):
                 yield number, f"crates/{folder}{name.removesuffix('.antt')}.antt", whole is not None or name.endswith(".antt")
 
 
+def imported_definitions(start):
+    """The files of definitions that one imports, through others too, and that one."""
+    found, waiting = set(), [start]
+    while waiting:
+        path = waiting.pop()
+        if path in found:
+            continue
+        found.add(path)
+        for crate, name in re.findall(r"^use Rattle\.(pybuf_\w+)\.specs\.(\w+)", path.read_text(), re.MULTILINE):
+            other = ROOT / "crates" / crate / "specs" / f"{name}.antt"
+            if other.exists():
+                waiting.append(other)
+    return {str(path.relative_to(ROOT)) for path in found}
+
+
+def check_cited(document, lines):
+    """The section on what the contract of `serve` cites names the files that it imports, and no others."""
+    start = next((at for at, line in enumerate(lines) if line.startswith(CITED)), None)
+    if start is None:
+        report(document, 1, f"there is no heading {CITED}")
+        return
+    end = next(at for at, line in enumerate([*lines[start + 1 :], "## "], start + 1) if line.startswith("## "))
+    named = {name for _, name, _ in named_definitions(lines[start:end]) if (ROOT / name).exists()}
+    cited = imported_definitions(ROOT / "crates/pybuf_cli/specs/Program.antt")
+    for name in sorted(cited - named):
+        report(document, start + 1, f"{name} is imported by the contract of `serve`, and is not named in this section")
+    for name in sorted(named - cited):
+        report(document, start + 1, f"{name} is not imported by the contract of `serve`")
+
+
 def check_definitions(document, lines):
     """Every file of definitions is named, and every file that is named is there."""
     named = set()
@@ -228,21 +331,25 @@ def check_definitions(document, lines):
 
 
 def check_differences(document, lines):
-    """The cases and the tests that show a difference."""
-    for number, cells in ((at, line.strip().strip("|").split(" | ")) for at, line in enumerate(lines, 1) if line.startswith("|")):
-        folder = "differences"
-        for top, title in re.findall(r"`cases/(\w+)`|\"((?:[^\"`]|`[^`]*`)+)\"", cells[-1]):
-            if top:
-                folder = top
-                continue
-            name = re.sub("[^A-Za-z0-9]+", "-", title.replace("'", "")).strip("-")
-            if not (ROOT / "cases" / folder / name).exists():
-                report(document, number, f"no case of cases/{folder} is named: {title}")
-        for names, crate in re.findall(r"tests? ((?:`\w+`(?:,| and)? ?)+)of `(pybuf_\w+)`", cells[-1]):
+    """The cases and the tests that show a difference: a name of three words or more is a case, or stands in a table's output.
+    Each line of a list names one, or clauses or tests in general."""
+    printed = (ROOT / "crates" / "pybuf_method_tables" / "stdout").read_text().split()
+    listed = [(number, line) for number, line in enumerate(lines, 1) if line.startswith("- ")]
+    if not listed:
+        report(document, 1, "the differences were not found")
+    for number, line in listed:
+        cases = [name for name in quoted(line) if re.fullmatch(r"(?:\w+/)?[A-Za-z0-9]+(?:-[A-Za-z0-9]+){2,}", name)]
+        for name in cases:
+            if not (ROOT / "cases" / (name if "/" in name else f"differences/{name}")).exists() and name not in printed:
+                report(document, number, f"no case and no line of pybuf_method_tables is named {name}")
+        tests = re.findall(r"((?:`\w+`(?:,| and)? ?)+)of `(pybuf_tests\w*)`", line)
+        for names, crate in tests:
             source = "".join(path.read_text() for path in (ROOT / "crates" / crate / "src").glob("**/*.rt"))
             for name in quoted(names):
                 if f"fn {name}(" not in source:
                     report(document, number, f"{crate} has no test {name}")
+        if not cases and not tests and not re.search(r"`cases/|tests of `|clauses|`pybuf_method_tables`", line):
+            report(document, number, "nothing that shows the difference is named")
 
 
 def check_names(document, lines):
@@ -271,14 +378,19 @@ def main():
         lines = document.read_text().split("\n")
         check_blocks(document, lines, kept)
         check_inputs(document, lines, examples)
+        check_beside_python(document, lines, examples)
         check_edits(document, lines)
         check_names(document, lines)
         if document.name == "DEFINITIONS.md":
             check_definitions(document, lines)
+            check_cited(document, lines)
         if document.name == "DIFFERENCES.md":
             check_differences(document, lines)
         if document.name == "COMMANDS.md":
             check_tables(document, lines, examples)
+        if document == ROOT / "examples/README.md":
+            check_examples(document, lines)
+    check_pictures()
     for fault in faults:
         print(fault)
     return 1 if faults else 0

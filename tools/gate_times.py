@@ -4,14 +4,13 @@
     python3 tools/gate_times.py [COMMAND..]     COMMAND is `.ci/run` if none is given
 
 What the command prints is passed on. Each second the processes of the prover are looked at, and behind the
-command's output stand, by the processor time of each: what was proved (a crate, its tests, the base of its
-edits, one of its edits), when it began, how long it took, and its processor time; then the sums of each
-kind. It ends with the status of the command. A proof that was kept takes no process, so a run of which all is
-kept shows nothing: what a change costs is seen in the run that proves it first.
+command's output stand, by the processor time of each: what was proved (a crate, its tests, one of its edits, the
+crate again behind its edits) or built, when it began, how long it took, and its processor time; then the sums of
+each kind. It ends with the status of the command. The first edit of a crate proves the whole crate once more. A gate
+proves all from nothing; where COMMAND is an `rt check`, what was kept takes no process, and isn't told.
 """
 import os
 import pathlib
-import re
 import subprocess
 import sys
 import time
@@ -46,10 +45,28 @@ def processes():
     return found
 
 
-def edit_named(crate, number):
-    """The name of an edit by its place among those of a crate."""
-    edits = sorted((ROOT / "crates" / crate / "must-fail").glob("*.edit"))
-    return edits[number].stem if number < len(edits) else str(number)
+def edited(crate, edit):
+    """What an edit makes of each file that it changes."""
+    file, old, texts = None, None, {}
+    for line in read(edit).split("\n"):
+        if line.startswith("file: "):
+            file = line.removeprefix("file: ").strip()
+        elif line.startswith("old: "):
+            old = line.removeprefix("old: ")
+        elif line.startswith("new:") and file and old:
+            text = texts.get(file) or read(ROOT / "crates" / crate / file)
+            texts[file] = text.replace(old, line.removeprefix("new:").removeprefix(" "))
+            old = None
+    return texts
+
+
+def edit_named(crate, folder):
+    """The name of the edit that a copy of a crate was made by. None for the crate as it is."""
+    for edit in sorted((ROOT / "crates" / crate / "must-fail").glob("*.edit")):
+        texts = edited(crate, edit)
+        if texts and all(read(f"{folder}/{file}") == text for file, text in texts.items()):
+            return edit.stem
+    return None
 
 
 def what(words, folder):
@@ -57,12 +74,13 @@ def what(words, folder):
     if "--crate-name" not in words or words[1] not in ("build", "check"):
         return None
     crate = words[words.index("--crate-name") + 1]
-    over = words[words.index("--incremental") + 1] if "--incremental" in words else ""
     if "rt-edit" in folder:
-        place = re.search(r"/(seed|\d+)$", over)
-        if place and place[1] != "seed":
-            return "edit", f"{crate}/{edit_named(crate, int(place[1]))}"
-        return ("base of edits" if place else "edit from nothing"), crate
+        name = edit_named(crate, folder)
+        if name is None:
+            return "crate behind its edits", crate
+        return ("edit" if "--incremental" in words else "edit from nothing"), f"{crate}/{name}"
+    if "--crate-checked" in words:
+        return "build of what was proved", crate
     return ("tests" if "--test" in words else "proof"), crate
 
 

@@ -9,10 +9,11 @@ too.
 
 A case is a file NAME, which is the input, with what has to be written for it beside it, NAME.stdout. NAME.args has the
 words behind the program's name, a word a line, none where it isn't there, and NAME.status the status that has to come,
-0 where it isn't there. Nothing may come on standard error. Each line of `cases/no-commands.txt` is an input of its own.
+0 where it isn't there. On standard error has to come the line of that status, and nothing where it has none. Each line of
+`cases/no-commands.txt` is an input of its own.
 
 As many cases run side by side as there are processors. A folder that isn't there or has no case, and a file that neither
-is a case nor belongs to one, fail too.
+is a case nor belongs to one nor is a README.md, fail too.
 """
 
 import ast
@@ -29,12 +30,23 @@ from concurrent.futures import ThreadPoolExecutor
 ROOT = pathlib.Path(__file__).resolve().parent.parent
 PROGRAM = ROOT / "crates/pybuf/out/pybuf"
 NO_COMMANDS = ROOT / "cases/no-commands.txt"
+PAGE = "README.md"
 SECONDS = 10
 # How many bytes an input can have.
 LIMIT = 1_048_576
 # Many times what the program needs for any input here, and less than three dozen lists of a million places.
 ADDRESS_SPACE = 256 * 1024 * 1024
-DONE, BAD_LINE, NO_MEMORY, TOO_LONG = 0, 2, 3, 7
+DONE, BAD_LINE, NO_MEMORY, USAGE, TOO_LONG = 0, 2, 3, 6, 7
+# What is said on standard error of a status that the output doesn't tell.
+COMPLAINTS = {
+    NO_MEMORY: b"pybuf: no memory\n",
+    USAGE: b"pybuf: usage: pybuf [run | make N] < lines\n",
+    TOO_LONG: b"pybuf: more than 1,048,576 bytes\n",
+}
+
+# Commands of which the third finds no memory in that, and no other does, and such of which the third's reply finds none.
+GREATER = b"new bytearray x61\nget h0 0\ncall h0 mul 60000000000\nget h0 0\n"
+LONGER = b"new bytearray 75000000\nget h0 0\nbytes h0\nget h0 0\n"
 
 # `address_space` is how many bytes the process may map, or None for no such limit.
 Case = collections.namedtuple("Case", "name given written status words address_space", defaults=((), None))
@@ -78,8 +90,9 @@ def differences(program, case):
         found.append(f"signal {-process.returncode} ended it")
     elif process.returncode != case.status:
         found.append(f"the status has to be {case.status}, and is {process.returncode}")
-    if complaint:
-        found.append(f"on standard error came {shown(complaint)}")
+    expected = COMPLAINTS.get(case.status, b"")
+    if complaint != expected:
+        found.append(f"on standard error has to come {shown(expected)}, and came {shown(complaint)}")
     return [it for it in found if it is not None]
 
 
@@ -91,7 +104,7 @@ def folder_of(path):
     files = {it.name for it in path.iterdir() if it.is_file()}
     inputs = sorted(name for name in files if f"{name}.stdout" in files)
     belonging = {name + ending for name in inputs for ending in ("", ".stdout", ".args", ".status")}
-    strays = sorted(it.name for it in path.iterdir() if it.name not in files & belonging)
+    strays = sorted(it.name for it in path.iterdir() if it.name not in {*(files & belonging), PAGE})
     faults = [f"{name} neither is a case nor belongs to one" for name in strays]
     cases = []
     for name in inputs:
@@ -174,6 +187,10 @@ def large_inputs():
         Case("ten thousand views of a million bytes", views, handles + b"ok\n7\n", DONE, (), ADDRESS_SPACE),
         # That there is no more memory than that, and that the want of it has a status of its own.
         Case("more bytes than there is memory for", b"new bytearray 1000000000\n", b"", NO_MEMORY, (), ADDRESS_SPACE),
+        # What was replied before is written, whether the command finds no memory or its reply doesn't: each of these
+        # bytes is four in the reply.
+        Case("a command that finds no memory, behind others", GREATER, b"h0\n97\n", NO_MEMORY, (), ADDRESS_SPACE),
+        Case("a reply that finds no memory, behind others", LONGER, b"h0\n0\n", NO_MEMORY, (), ADDRESS_SPACE),
     ]
     return Folder("large inputs", [*cases, *long_words()], [])
 

@@ -1,5 +1,6 @@
 //! The program `pybuf`: it hands the words after its name, its input and its output to the top
-//! call. Where that returns, its status is the status of the process.
+//! call. Where that returns, its status is the status of the process, and one line on standard error
+//! says why nothing was run to its end.
 #![tactic(auto)]
 
 use pybuf_cli::{ReaderSource, Status, WriterSink, serve};
@@ -30,6 +31,19 @@ fn words<R: Env + AllocGlobal>(rt: &R) -> Result<Vec<Text>, Status> {
     }
 }
 
+/// What a status means that the output doesn't tell.
+fn complaint(status: Status) -> Option<&'static str> {
+    match status {
+        Status::Done | Status::BadLine => None,
+        Status::NoMemory => Some("no memory"),
+        Status::ReadFault => Some("the input could not be read"),
+        Status::WriteFault => Some("the output could not be written"),
+        Status::Usage => Some("usage: pybuf [run | make N] < lines"),
+        Status::TooLong => Some("more than 1,048,576 bytes"),
+        Status::Disagree => Some("the sessions disagree with their history"),
+    }
+}
+
 fn main(rt: HostRuntime) -> ExitCode {
     let status = match words(&rt) {
         Ok(words) => {
@@ -39,5 +53,9 @@ fn main(rt: HostRuntime) -> ExitCode {
         }
         Err(status) => status,
     };
+    if let Some(complaint) = complaint(status) {
+        // where it can't be told, the status still tells it
+        let _ = eprintln!(rt; "pybuf: {complaint}");
+    }
     ExitCode::from(status.number())
 }

@@ -12,7 +12,7 @@ use Rattle.pybuf_line.specs.Replies.{reply_line, reply_lines}
 use Rattle.pybuf_cli.specs.Devices.{Put, PutPrefix, Sends}
 use Rattle.pybuf_cli.specs.Program.{program, due_for}
 use Rattle.pybuf_cli.specs.Running.{IsSpelled, AreSpelled, IsCarriedOut, IsAnswered}
-use Rattle.pybuf_cli.proofs.Sending.{put_both, put_front, put_then_front, sends_nothing, sends_more}
+use Rattle.pybuf_cli.proofs.Sending.{put_both, put_then_front, sends_nothing, sends_more}
 
 -- The lines that are left are commands. What they reply in this world comes behind a text, of which a part was put and the other
 -- part waits, and both are what is due for the input.
@@ -59,6 +59,13 @@ carried_out w next c r text longer stepped pushed = (
   pushed ∙ ap (λ (p : World × Reply). text ++ reply_line handle_text p.1) (sym stepped),
 )
 
+-- a reply that was written apart stands behind those that wait
+pub answered_behind : (w next : World) (line waiting before reply : List ℕ) → before ≡ [] → IsAnswered w line before next reply →
+    IsAnswered w line waiting next (waiting ++ reply)
+answered_behind w next line waiting before reply none answered c is =
+    let step = answered c is in
+    (step.0, ap (λ (x : List ℕ). waiting ++ x) (step.1 ∙ ap (λ (x : List ℕ). x ++ reply_line handle_text (wstep w c).1) none))
+
 -- the first line that is left is a command
 pub spelled_first : (input rest line after : List ℕ) (w : World) (old : Option (List ℕ)) (waiting : List ℕ) (held : Option (List ℕ)) →
     IsRunning input rest w old waiting held → lines rest ≡ line ∷ lines after → IsSpelled line
@@ -103,13 +110,14 @@ goes_on input rest line after w next old mid new waiting longer left so cut answ
       sends = sends_more old mid new so.text waiting shown longer sent.sent left so.sends step.1 sent.whole sent.put;
     }
 
--- a run that stops before a line, or while it is run
-pub stops_before : (input rest : List ℕ) (w : World) (old : Option (List ℕ)) (waiting : List ℕ) (held : Option (List ℕ)) →
-    IsRunning input rest w old waiting held → PutPrefix old (due_for (commands_in handle_in input)) held
-stops_before input rest w old waiting held so =
+-- a run that stops before a line, or while it is run, with the front of what waits put
+pub stops_before : (input rest : List ℕ) (w : World) (old mid new : Option (List ℕ)) (waiting lent : List ℕ) →
+    IsRunning input rest w old waiting mid → lent ≡ waiting → PutPrefix mid lent new → PutPrefix old (due_for (commands_in handle_in input)) new
+stops_before input rest w old mid new waiting lent so same front =
     let others = reply_lines handle_text (replies_of w so.commands) in
-    put_front old held (due_for (commands_in handle_in input)) so.sends.sent (waiting ++ others)
-    (so.due ∙ (ap (λ (x : List ℕ). x ++ others) so.sends.whole ∙ append_assoc so.sends.sent waiting others)) so.sends.put
+    let last : PutPrefix mid waiting new = subst (λ (x : List ℕ). PutPrefix mid x new) same front in
+    put_then_front old mid new (due_for (commands_in handle_in input)) so.sends.sent waiting others
+    (so.due ∙ ap (λ (x : List ℕ). x ++ others) so.sends.whole) so.sends.put last
 
 -- and one that stops where the text behind a line is put
 pub stops_behind : (input rest line after : List ℕ) (w next : World) (old mid new : Option (List ℕ)) (waiting longer : List ℕ) →

@@ -29,6 +29,37 @@ put_then_front old mid new text first second rest e before after =
     e ∙ (ap (λ x. (first ++ x) ++ rest) (sym (take-append-drop n second)) ∙ ends first (take n second) (drop n second) rest) in
     put_front old new text (first ++ take n second) (drop n second ++ rest) split (put_both old mid new first (take n second) before after.2)
 
+-- one that was put whole is its own front
+pub put_whole : (old new : Option (List ℕ)) (text : List ℕ) → Put old text new → PutPrefix old text new
+put_whole old new text put = put_front old new text text [] (sym (append-nil text)) put
+
+-- the front of a text was put, before which nothing was
+pub front_of_both : (old new : Option (List ℕ)) (first second : List ℕ) → PutPrefix old first new → PutPrefix old (first ++ second) new
+front_of_both old new first second front = put_then_front old old new (first ++ second) [] first second refl (put_nothing old) front
+
+-- a text was put, and the front of the last one behind it
+pub first_and_front : (old mid new : Option (List ℕ)) (first second : List ℕ) → Put old first mid → PutPrefix mid second new →
+    PutPrefix old (first ++ second) new
+first_and_front old mid new first second put front =
+    put_then_front old mid new (first ++ second) first second [] (sym (append-nil (first ++ second))) put front
+
+-- two texts were put, and nothing waits
+pub sends_all : (old mid new : Option (List ℕ)) (first second rest : List ℕ) → Put old first mid → Put mid second new → rest ≡ [] →
+    Sends old (first ++ second) rest new
+sends_all old mid new first second rest before after none = record {
+  sent = first ++ second;
+  whole = sym (ap (λ x. (first ++ second) ++ x) none ∙ append-nil (first ++ second));
+  put = put_both old mid new first second before after;
+}
+
+-- a text was put, and nothing waits
+pub sends_whole : (old new : Option (List ℕ)) (text rest : List ℕ) → Put old text new → rest ≡ [] → Sends old text rest new
+sends_whole old new text rest put none = record {
+  sent = text;
+  whole = sym (ap (λ x. text ++ x) none ∙ append-nil text);
+  put = put;
+}
+
 -- nothing is put, and the whole text waits
 pub sends_later : (old : Option (List ℕ)) (text : List ℕ) → Sends old text text old
 sends_later old text = record { sent = []; whole = refl; put = put_nothing old }

@@ -1,15 +1,17 @@
 -- What was read and put, where the source tells its bytes.
-use Rattle.std.proofs.Common.{◌≡◌, ℕ, ◌≤◌, List, [], ◌++◌, length, take, drop, Option, Some, Ok, Err, refl, sym, ◌∙◌, ap, arith}
+use Rattle.std.proofs.Common.{◌≡◌, ◌↔◌, ◌⊎◌, ℕ, suc, ◌<◌, ◌≤◌, List, [], ◌++◌, length, take, drop, Option, Some, Result, Ok, Err, inl, inr, refl, sym, ◌∙◌, ap, arith}
 use Rattle.std.proofs.lemmas.List.{append-nil, nil_from_length, length-append, drop_at}
 use Rattle.pybuf_command.specs.declared.worlds.Command.{Command}
 use Rattle.pybuf_world.specs.World.{empty_world}
 use Rattle.pybuf_world.specs.Sound.{StaysSound}
 use Rattle.pybuf_cli.specs.declared.forms.Form.{Form}
+use Rattle.pybuf_cli.specs.declared.status.Status.{Status}
+use Rattle.pybuf_cli.specs.declared.status.Status.TheVariants as status
 use Rattle.pybuf_cli.specs.Devices.{Took, AtEnd, Put, PutPrefix}
 use Rattle.pybuf_line.specs.Scalars.{handle_in}
 use Rattle.pybuf_line.specs.Lines.{commands_in}
 use Rattle.pybuf_line.specs.Replies.{bad_line_text}
-use Rattle.pybuf_cli.specs.Program.{most, program, text_due, IsDone, IsBadLine, IsTooLong}
+use Rattle.pybuf_cli.specs.Program.{most, program, text_due, ending_for, IsDone, IsBadLine, IsTooLong, TakesFront}
 
 -- what was taken up to the end is all that there was
 pub took_all : (old new : Option (List ℕ)) (input bytes : List ℕ) → Took old bytes new → AtEnd new → old ≡ Some input →
@@ -57,6 +59,44 @@ took_too_many old new input taken told =
       long = omega (arith, ap length t.1, length-append taken.0 t.0, taken.1);
       rest = t.2 ∙ ap Some (sym rest);
     }
+
+-- a run whose bytes so far were taken
+pub took_so_far : (old new : Option (List ℕ)) (input bytes : List ℕ) (result : Status) → Took old bytes new → length bytes ≤ suc most →
+    ((result ≡ status.TooLong) ↔ (length bytes ≡ suc most)) → old ≡ Some input → TakesFront input result new
+took_so_far old new input bytes result took few which told =
+    let t = took input told in
+    record {
+      count = length bytes;
+      within = omega (arith, ap length t.1, length-append bytes t.0);
+      bounded = few;
+      rest = t.2 ∙ ap Some (sym (ap (drop (length bytes)) t.1 ∙ drop_at bytes t.0 (length bytes) refl));
+      too_long = which;
+    }
+
+-- one that took no byte too many, and doesn't say so
+pub took_few : (old new : Option (List ℕ)) (input bytes : List ℕ) (result : Status) → Took old bytes new → length bytes ≤ most →
+    (result ≡ status.TooLong → ⊥) → old ≡ Some input → TakesFront input result new
+took_few old new input bytes result took few other told =
+    took_so_far old new input bytes result took (omega (arith, few))
+    (λ long. absurd (other long), λ many. absurd (omega (arith, few, many))) told
+
+-- one that took a byte too many, and says so
+pub took_one_more : (old new : Option (List ℕ)) (input : List ℕ) (result : Status) →
+    ((bytes : List ℕ) × (length bytes ≡ 1048577) × Took old bytes new) → result ≡ status.TooLong → old ≡ Some input → TakesFront input result new
+took_one_more old new input result taken long told =
+    took_so_far old new input taken.0 result taken.2 (omega (arith, taken.1)) (λ _. taken.1, λ _. long) told
+
+-- an input that was read to its end was answered by no status for one that is too long
+pub answered_otherwise : (read : Result (List Command) ℕ) (result : Status) →
+    (result ≡ ending_for read) ⊎ ((result ≡ status.NoMemory) ⊎ (result ≡ status.WriteFault)) → result ≡ status.TooLong → ⊥
+answered_otherwise (Ok commands) result (inl done) long = let e : status.Done ≡ status.TooLong = sym done ∙ long in cc
+answered_otherwise (Err line) result (inl bad) long = let e : status.BadLine ≡ status.TooLong = sym bad ∙ long in cc
+answered_otherwise read result (inr (inl none)) long = let e : status.NoMemory ≡ status.TooLong = sym none ∙ long in cc
+answered_otherwise read result (inr (inr failed)) long = let e : status.WriteFault ≡ status.TooLong = sym failed ∙ long in cc
+
+-- at the end of the source nothing is left unread
+pub none_unread : (left : Option (List ℕ)) (rest : List ℕ) → AtEnd left → left ≡ Some rest → 0 < length rest → ⊥
+none_unread left rest end told some = omega (arith, end rest told, some)
 
 -- over an empty sink, what it holds is what was put
 pub held_is : (held_before held text : List ℕ) → held_before ≡ [] → Put (Some held_before) text (Some held) → held ≡ text

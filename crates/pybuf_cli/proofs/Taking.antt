@@ -1,17 +1,39 @@
 -- What stands at the front of a list, and what is left behind it.
-use Rattle.std.proofs.Common.{◌≡◌, ℕ, ◌+◌, ◌-◌, ◌≤◌, List, ◌++◌, take, drop, length, Option, Some, refl, sym, ◌∙◌, ap, arith}
+use Rattle.std.proofs.Common.{◌≡◌, ℕ, ◌+◌, ◌-◌, ◌<◌, ◌≤◌, min, List, [], ◌++◌, take, drop, length, Option, Some, refl, sym, ◌∙◌, ap, subst, arith}
 use Rattle.std.proofs.lemmas.List.{take-append-drop, drop-drop, take_rest, take-take, append_assoc, length-take, length-drop}
 use Rattle.std.proofs.Math.Seq.{take-add}
-use Rattle.pybuf_cli.specs.Devices.{Took, Put}
+use Rattle.pybuf_cli.specs.Devices.{Took, AtEnd, Put}
 
--- a source whose bytes stand in a list goes on in that list
-pub took_front : (left bytes lent front : List ℕ) (taken count : ℕ) → drop taken bytes ≡ left → lent ≡ bytes →
-    front ≡ take count (take (length lent - taken) (drop taken lent)) → Took (Some left) front (Some (drop (taken + count) bytes))
-took_front left bytes lent front taken count view same e l h =
-    let here : l ≡ drop taken bytes = cc in
-    let moved : front ≡ take count (drop taken bytes) = e ∙ (ap (λ x. take count (take (length x - taken) (drop taken x))) same ∙ ap (take count) (take_rest bytes taken)) in
-    let rest : drop count (drop taken bytes) ≡ drop (taken + count) bytes = drop-drop count taken bytes in
-    (drop (taken + count) bytes, here ∙ (sym (take-append-drop count (drop taken bytes)) ∙ (ap (λ x. x ++ drop count (drop taken bytes)) (sym moved) ∙ ap (λ x. front ++ x) rest)), refl)
+-- what was moved is the front of what was left, and what is left now is the rest
+pub took_front : (left rest front : List ℕ) (count : ℕ) → front ≡ take count left → rest ≡ drop count left → Took (Some left) front (Some rest)
+took_front left rest front count moved stays l h =
+    let here : l ≡ left = cc in
+    (rest, here ∙ (sym (take-append-drop count left) ∙ (ap (λ x. x ++ drop count left) (sym moved) ∙ ap (λ x. front ++ x) (sym stays))), refl)
+
+-- where nothing was moved though there was room, nothing was left
+pub none_left : (left rest : List ℕ) (room most count : ℕ) → count ≡ min (min (length left) room) most → rest ≡ drop count left →
+    count ≡ 0 → 0 < room → 0 < most → AtEnd (Some rest)
+none_left left rest room most count is stays none some more r told =
+    let same : r ≡ rest = cc in
+    omega (arith, ap length same, ap length stays, length-drop count left, is, none, some, more)
+
+-- a slice of the bytes from a place on is what is left there
+pub lent_rest : (left bytes lent : List ℕ) (taken : ℕ) → drop taken bytes ≡ left → lent ≡ bytes →
+    take (length lent - taken) (drop taken lent) ≡ left
+lent_rest left bytes lent taken view same =
+    ap (λ x. take (length x - taken) (drop taken x)) same ∙ (take_rest bytes taken ∙ view)
+
+-- and what is left after more was moved
+pub left_after : (left bytes : List ℕ) (taken count : ℕ) → drop taken bytes ≡ left → drop (taken + count) bytes ≡ drop count left
+left_after left bytes taken count view = sym (drop-drop count taken bytes) ∙ ap (drop count) view
+
+-- nothing was taken yet
+pub took_nothing : (old : Option (List ℕ)) → Took old [] old
+took_nothing old left told = (left, refl, told)
+
+-- and nothing more since
+pub took_still : (old mid new : Option (List ℕ)) (bytes : List ℕ) → new ≡ mid → Took old bytes mid → Took old bytes new
+took_still old mid new bytes same took = subst (λ (left : Option (List ℕ)). Took old bytes left) (sym same) took
 
 -- the front of a text, and then the front of a piece of the rest
 pub take_further : (text : List ℕ) (at count room : ℕ) → count ≤ length (take room (drop at text)) →

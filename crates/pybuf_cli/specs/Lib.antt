@@ -1,4 +1,5 @@
 pub mod Devices
+pub mod Failing
 pub mod Endings
 pub mod Program
 pub mod Running

@@ -89,6 +89,15 @@ pub record IsTooLong (input : List ℕ) (left : Option (List ℕ)) : Type 0 wher
   pub long : most < length input
   pub rest : left ≡ Some (drop (suc most) input)
 
+-- A run took the front of its input, and no more of it than is read but for one byte, which it took exactly where that is how
+-- it ended.
+pub record TakesFront (input : List ℕ) (result : Status) (left : Option (List ℕ)) : Type 0 where
+  pub count : ℕ
+  pub within : count ≤ length input
+  pub bounded : count ≤ suc most
+  pub rest : left ≡ Some (drop count input)
+  pub too_long : (result ≡ status.TooLong) ↔ (count ≡ suc most)
+
 -- What the top call owes for its words: its status, and the source and the sink before and after it,
 -- by what they tell of their bytes and by the counts of their faults. A clause that speaks of one
 -- form names it, so a further form is a further clause.
@@ -106,6 +115,10 @@ pub record Serves {S K : Type 0} (words : List (List ℕ)) (result : Status)
       IsBadLine input (bytes_left source) (bytes_held sink_before) (bytes_held sink)
   pub too_long : form_of words ≡ Some form.Run → result ≡ status.TooLong → (input : List ℕ) → bytes_left source_before ≡ Some input →
       IsTooLong input (bytes_left source)
+  pub takes_front : form_of words ≡ Some form.Run → (input : List ℕ) → bytes_left source_before ≡ Some input →
+      TakesFront input result (bytes_left source)
+  pub unread_writes_nothing : form_of words ≡ Some form.Run → (rest : List ℕ) → bytes_left source ≡ Some rest → 0 < length rest →
+      sink ≡ sink_before
   -- The form `make`, whatever the source tells: it isn't read.
   pub made : (n : ℕ) → form_of words ≡ Some (form.Make n) → result ≡ status.Done → Put (bytes_held sink_before) (summary n) (bytes_held sink)
   pub made_prefix : (n : ℕ) → form_of words ≡ Some (form.Make n) → PutPrefix (bytes_held sink_before) (summary n) (bytes_held sink)

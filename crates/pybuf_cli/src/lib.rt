@@ -3,6 +3,7 @@
 
 mod adapters;
 mod devices;
+mod failing;
 mod forms;
 mod laws;
 mod loops;
@@ -13,6 +14,7 @@ mod writing;
 
 pub use adapters::{ReaderSource, WriterSink};
 pub use devices::{Failed, PutFault, Sink, Source};
+pub use failing::{ListSink, ListSource};
 pub use forms::{Form, form_named};
 pub use laws::{runs_reply_single_lines, scripts_are_spelled};
 pub use memory::{QuietSink, QuietSource};

@@ -1,5 +1,5 @@
 //! The loops that read a whole input and write a whole text.
-ghost use Rattle.std.specs.Prelude.{◌≡◌, ◌<◌, ◌≤◌, ◌+◌, IfOk, OnOk, OnErr, IfErr, length, List, ℕ};
+ghost use Rattle.std.specs.Prelude.{◌≡◌, ◌≢◌, ◌<◌, ◌≤◌, ◌+◌, IfOk, OnOk, OnErr, IfErr, length, List, ℕ};
 ghost use Rattle.pybuf_cli.specs.Devices.{Took, AtEnd, Put, PutPrefix, Rose};
 ghost use Rattle.pybuf_cli.specs.declared.loops.ReadStop.{ReadStop};
 ghost use Rattle.pybuf_cli.specs.declared.devices.PutFault.{PutFault};
@@ -44,6 +44,8 @@ pub fn read_all<S: Source>(alloc: Global, source: &mut S) -> Result<Vec<u8>, Rea
     ensures limit { IfOk result (λ input. length input.items ≤ MOST) }
     ensures too_long { IfErr result (λ stop. stop ≡ ReadStop.TooLong →
         (bytes : List ℕ) × (length bytes ≡ MOST + 1) × Took (S.bytes_left source.old) bytes (S.bytes_left source.new)) }
+    ensures stopped { IfErr result (λ stop. stop ≢ ReadStop.TooLong →
+        (bytes : List ℕ) × (length bytes ≤ MOST) × Took (S.bytes_left source.old) bytes (S.bytes_left source.new)) }
     ensures rose { IfErr result (λ stop. stop ≡ ReadStop.Failed → Rose (S.faults source.old) (S.faults source.new)) }
     ensures later { S.faults source.old ≤ S.faults source.new }
 {
@@ -57,7 +59,10 @@ pub fn read_all<S: Source>(alloc: Global, source: &mut S) -> Result<Vec<u8>, Rea
         if count == 0 {
             return Ok(input);
         }
-        input.extend_from_slice(&room[..count])?;
+        match input.extend_from_slice(&room[..count]) {
+            Ok(()) => {}
+            Err(_) => unreachable!(),
+        }
         if input.len() > MOST {
             return Err(ReadStop::TooLong);
         }

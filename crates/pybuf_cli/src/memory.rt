@@ -1,8 +1,8 @@
 //! Sources and sinks in memory, which never fail.
-ghost use Rattle.std.specs.Prelude.{◌≡◌, ◌≤◌, ◌⊎◌, List, ℕ, [], Some, drop, take, length, vec_len};
+ghost use Rattle.std.specs.Prelude.{◌≡◌, ◌≤◌, ◌++◌, List, ℕ, [], Some, OnOk, OnErr, drop, take, length, min, vec_len};
 
 use crate::devices::{Failed, PutFault, Sink, Source};
-use pybuf_value::ByteList;
+use pybuf_value::{ByteList, Made};
 use std::alloc::Global;
 use std::marker::Model;
 
@@ -38,6 +38,17 @@ impl QuietSource {
     {
         &self.bytes[self.taken..]
     }
+
+    /// Moves the next bytes into the front of the room, as many as there are and fit, and no more than that.
+    pub(crate) fn move_next(&mut self, room: &mut [u8], most: usize) -> usize
+        ensures count { result ≡ min (min (length self.old) (length room.old)) most }
+        ensures moved { take result room.new ≡ take result self.old }
+        ensures left { self.new ≡ drop result self.old }
+    {
+        let count = move_front(&self.bytes[self.taken..], room, most);
+        self.taken += count;
+        count
+    }
 }
 
 impl Source for QuietSource {
@@ -46,20 +57,19 @@ impl Source for QuietSource {
     ghost faults = { λ _. 0 };
 
     fn take(&mut self, room: &mut [u8]) -> Result<usize, Failed> {
-        let count = move_front(&self.bytes[self.taken..], room);
-        self.taken += count;
-        Ok(count)
+        let most = room.len();
+        Ok(self.move_next(room, most))
     }
 }
 
-/// Copies the front of a slice to the front of the room, as much as there is and fits.
-fn move_front(from: &[u8], room: &mut [u8]) -> usize
-    ensures fits { result ≤ length room.old }
+/// Copies the front of a slice to the front of the room, as much as there is and fits, and no more than
+/// that.
+fn move_front(from: &[u8], room: &mut [u8], most: usize) -> usize
+    ensures count { result ≡ min (min (length from.now) (length room.old)) most }
     ensures there { result ≤ length from.now }
-    ensures all { length room.old ≤ result ⊎ length from.now ≤ result }
     ensures copied { take result room.new ≡ take result from.now }
 {
-    let count = from.len().min(room.len());
+    let count = from.len().min(room.len()).min(most);
     room[..count].copy_from_slice(&from[..count]);
     count
 }
@@ -100,6 +110,15 @@ impl QuietSink {
         let QuietSink { bytes } = self;
         ByteList::from_vec(bytes)
     }
+
+    /// Puts the whole piece. Where memory runs out, nothing is put.
+    pub(crate) fn keep(&mut self, piece: &[u8]) -> Made<()>
+        ensures ok { OnOk result (self.new ≡ self.old ++ piece.now) }
+        ensures err { OnErr result (self.new ≡ self.old) }
+    {
+        self.bytes.extend_from_slice(piece)?;
+        Ok(())
+    }
 }
 
 impl Sink for QuietSink {
@@ -108,7 +127,7 @@ impl Sink for QuietSink {
     ghost faults = { λ _. 0 };
 
     fn put(&mut self, piece: &[u8]) -> Result<usize, PutFault> {
-        self.bytes.extend_from_slice(piece)?;
+        self.keep(piece)?;
         Ok(piece.len())
     }
 }

@@ -1,5 +1,5 @@
 //! The top call: from the words and the input to the output and the status.
-ghost use Rattle.std.specs.Prelude.{◌≡◌, ◌≢◌, ◌≤◌, ◌⊎◌, ◌^◌, List, [], ℕ, ◌↔◌, IfOk, Some, None, Ok, Err, length, take};
+ghost use Rattle.std.specs.Prelude.{◌≡◌, ◌≢◌, ◌<◌, ◌≤◌, ◌⊎◌, ◌^◌, List, [], ℕ, ◌↔◌, IfOk, Some, None, Ok, Err, length, take};
 ghost use Rattle.pybuf_command.specs.declared.worlds.Command.{Command};
 ghost use Rattle.pybuf_world.specs.World.{empty_world};
 ghost use Rattle.pybuf_world.specs.Sound.{StaysSound};
@@ -10,7 +10,7 @@ ghost use Rattle.pybuf_line.specs.Replies.{bad_line_text};
 ghost use Rattle.pybuf_make.specs.Summary.{summary};
 ghost use Rattle.pybuf_cli.specs.declared.forms.Form.{Form};
 ghost use Rattle.pybuf_cli.specs.Running.{AreSpelled};
-ghost use Rattle.pybuf_cli.specs.Program.{form_of, program, due_for, ending_for, text_due, ending, IsDone, IsBadLine, IsTooLong, Serves};
+ghost use Rattle.pybuf_cli.specs.Program.{form_of, program, due_for, ending_for, text_due, ending, IsDone, IsBadLine, IsTooLong, TakesFront, Serves};
 
 use crate::devices::{PutFault, Sink, Source};
 use crate::forms::{Form, form_named};
@@ -94,6 +94,10 @@ fn run<S: Source, K: Sink>(alloc: Global, source: &mut S, sink: &mut K) -> Statu
         IsBadLine input (S.bytes_left source.new) (K.bytes_held sink.old) (K.bytes_held sink.new) }
     ensures too_long { result ≡ Status.TooLong → (input : List ℕ) → S.bytes_left source.old ≡ Some input →
         IsTooLong input (S.bytes_left source.new) }
+    ensures takes_front { (input : List ℕ) → S.bytes_left source.old ≡ Some input →
+        TakesFront input result (S.bytes_left source.new) }
+    ensures unread_writes_nothing { (rest : List ℕ) → S.bytes_left source.new ≡ Some rest → 0 < length rest →
+        sink.new ≡ sink.old }
     ensures prefix { (input : List ℕ) → S.bytes_left source.old ≡ Some input →
         PutPrefix (K.bytes_held sink.old) (text_due Form.Run input) (K.bytes_held sink.new) }
     ensures complete { (input : List ℕ) → S.bytes_left source.old ≡ Some input →
@@ -136,7 +140,8 @@ fn make<K: Sink>(alloc: Global, sink: &mut K, number: u16) -> Status
 /// With no word, or with the one word `run`, it reads the whole input, at most 1,048,576 bytes,
 /// looks whether each line is a command, runs them in order in a new world, and puts one line for
 /// each reply. What it needs more memory for is given up with `NoMemory` at any point; what was put then
-/// is the front of what was due.
+/// is the front of what was due. Where a command needs it, the replies of those before it are put first, as
+/// far as the sink takes them.
 ///
 /// With the word `make` and a number from 1 to 4,096 it reads nothing: it makes the script of that
 /// number command by command, runs it in a new world, and puts the five lines that tell of its run.

@@ -1,5 +1,5 @@
 //! The lines of an input, run one after the other, with a line for each reply.
-ghost use Rattle.std.specs.Prelude.{◌≡◌, ◌≤◌, ◌^◌, OnOk, OnErr, IfErr};
+ghost use Rattle.std.specs.Prelude.{◌≡◌, ◌≤◌, ◌^◌, [], ◌++◌, OnOk, OnErr, IfErr};
 ghost use Rattle.pybuf_line.specs.Scalars.{handle_in};
 ghost use Rattle.pybuf_line.specs.Lines.{commands_in};
 ghost use Rattle.pybuf_cli.specs.Devices.{Put, PutPrefix, Rose, Sends};
@@ -17,7 +17,8 @@ use std::alloc::Global;
 
 /// Puts the text, and leaves none to wait.
 fn send<K: Sink>(sink: &mut K, text: &mut Vec<u8>) -> Result<(), PutFault>
-    ensures sent { OnOk result (Sends (K.bytes_held sink.old) text.old.items text.new.items (K.bytes_held sink.new)) }
+    ensures put { OnOk result (Put (K.bytes_held sink.old) text.old.items (K.bytes_held sink.new)) }
+    ensures empty { OnOk result (text.new.items ≡ []) }
     ensures prefix { OnErr result (PutPrefix (K.bytes_held sink.old) text.old.items (K.bytes_held sink.new)) }
     ensures rose { IfErr result (λ fault. fault ≡ PutFault.Failed → Rose (K.faults sink.old) (K.faults sink.new)) }
     ensures later { K.faults sink.old ≤ K.faults sink.new }
@@ -25,6 +26,50 @@ fn send<K: Sink>(sink: &mut K, text: &mut Vec<u8>) -> Result<(), PutFault>
     write_all(sink, text.as_slice())?;
     text.clear();
     Ok(())
+}
+
+/// Puts the text where it is long.
+fn send_long<K: Sink>(sink: &mut K, text: &mut Vec<u8>) -> Result<(), PutFault>
+    ensures sent { OnOk result (Sends (K.bytes_held sink.old) text.old.items text.new.items (K.bytes_held sink.new)) }
+    ensures prefix { OnErr result (PutPrefix (K.bytes_held sink.old) text.old.items (K.bytes_held sink.new)) }
+    ensures rose { IfErr result (λ fault. fault ≡ PutFault.Failed → Rose (K.faults sink.old) (K.faults sink.new)) }
+    ensures later { K.faults sink.old ≤ K.faults sink.new }
+{
+    if text.len() < PIECE {
+        return Ok(());
+    }
+    send(sink, text)
+}
+
+/// Adds a reply to those that wait, and puts these where they are long. A reply that is long by itself,
+/// or for which there is no more room, is put from where it was written.
+fn send_reply<K: Sink>(
+    sink: &mut K,
+    text: &mut Vec<u8>,
+    reply: &mut Vec<u8>,
+) -> Result<(), PutFault>
+    ensures sent { OnOk result (Sends (K.bytes_held sink.old) (text.old.items ++ reply.old.items) text.new.items (K.bytes_held sink.new)) }
+    ensures empty { OnOk result (reply.new.items ≡ []) }
+    ensures prefix { OnErr result (PutPrefix (K.bytes_held sink.old) (text.old.items ++ reply.old.items) (K.bytes_held sink.new)) }
+    ensures rose { IfErr result (λ fault. fault ≡ PutFault.Failed → Rose (K.faults sink.old) (K.faults sink.new)) }
+    ensures later { K.faults sink.old ≤ K.faults sink.new }
+{
+    if reply.len() < PIECE {
+        if text.extend_from_slice(reply.as_slice()).is_ok() {
+            reply.clear();
+            return send_long(sink, text);
+        }
+    }
+    send(sink, text)?;
+    send(sink, reply)
+}
+
+/// Puts as much of the text as the sink takes.
+fn send_front<K: Sink>(sink: &mut K, text: &[u8])
+    ensures prefix { PutPrefix (K.bytes_held sink.old) text.now (K.bytes_held sink.new) }
+    ensures later { K.faults sink.old ≤ K.faults sink.new }
+{
+    let _ = write_all(sink, text);
 }
 
 /// Carries out a command, and adds the line of its reply to the text.
@@ -60,7 +105,8 @@ fn answer_line<'a>(
 }
 
 /// Runs the lines of an input in a new world, and puts a line for each reply, a piece at a time. No
-/// command is kept and no reply.
+/// command is kept and no reply. Where memory runs out in a command, the replies of those before it are
+/// put first.
 pub fn run_lines<K: Sink>(alloc: Global, sink: &mut K, input: &[u8]) -> Result<(), PutFault>
     requires { AreSpelled input.now }
     ensures all { OnOk result (Put (K.bytes_held sink.old) (due_for (commands_in handle_in input.now)) (K.bytes_held sink.new)) }
@@ -71,12 +117,15 @@ pub fn run_lines<K: Sink>(alloc: Global, sink: &mut K, input: &[u8]) -> Result<(
     let mut world = World::new(alloc);
     let mut words = Vec::new(alloc);
     let mut text = Vec::new(alloc);
+    // A reply is written apart from those that wait: it may be one for which there is no memory.
+    let mut reply = Vec::new(alloc);
     let mut rest = input;
     'running: while let Some((line, after)) = next_line(rest) {
-        answer_line(alloc, &mut world, &mut words, line, &mut text)?;
-        if text.len() >= PIECE {
-            send(sink, &mut text)?;
-        }
+        let Ok(()) = answer_line(alloc, &mut world, &mut words, line, &mut reply) else {
+            send_front(sink, text.as_slice());
+            return Err(PutFault::NoMemory);
+        };
+        send_reply(sink, &mut text, &mut reply)?;
         rest = after;
     }
     write_all(sink, text.as_slice())

@@ -1,11 +1,6 @@
-//! Readers and writers that fail in mid-stream: alone, call by call, and under the top call.
-use pybuf_cli::{
-    Failed, PutFault, QuietSink, QuietSource, ReaderSource, Sink, Source, Status, WriterSink,
-    serve_alone,
-};
-use pybuf_value::ByteList;
+//! Readers and writers that fail in mid-stream, call by call.
+use pybuf_cli::{Failed, PutFault, ReaderSource, Sink, Source, WriterSink};
 use std::io::{Error, ErrorKind, Read, Write};
-use std::test::Fail;
 
 /// The six lines of the program's stored run.
 const INPUT: &[u8] =
@@ -27,50 +22,6 @@ impl Read for FaultyReader {
         buf[..count].copy_from_slice(&INPUT[..count]);
         Ok(count)
     }
-}
-
-/// Keeps the first byte that it is given, and fails at the call after.
-#[derive(Drop)]
-struct FaultyWriter {
-    first: Option<u8>,
-}
-
-impl Write for FaultyWriter {
-    fn write(&mut self, buf: &[u8]) -> std::io::Result<usize> {
-        if self.first.is_some() {
-            return Err(Error::from(ErrorKind::Other));
-        }
-        self.first = buf.first().copied();
-        Ok(buf.len().min(1))
-    }
-
-    fn flush(&mut self) -> std::io::Result<()> {
-        Ok(())
-    }
-}
-
-#[test]
-fn a_source_that_fails(rt: HostRuntime) {
-    let mut source = ReaderSource::new(FaultyReader { calls: 0 });
-    let mut sink = QuietSink::new(rt.alloc());
-    assert_eq!(rt;
-        serve_alone(rt.alloc(), &[], &mut source, &mut sink),
-        Status::ReadFault
-    );
-    assert!(rt; sink.bytes().is_empty());
-    assert_eq!(rt; source.faults(), 1);
-}
-
-#[test]
-fn a_sink_that_fails(rt: HostRuntime) -> Result<(), Fail> {
-    let mut source = QuietSource::new(ByteList::from_vec(Vec::from_slice(rt.alloc(), INPUT)?));
-    let mut sink = WriterSink::new(FaultyWriter { first: None });
-    assert_eq!(rt;
-        serve_alone(rt.alloc(), &[], &mut source, &mut sink),
-        Status::WriteFault
-    );
-    assert_eq!(rt; sink.faults(), 1);
-    Ok(())
 }
 
 // The call that fails is counted, and so is the next one.

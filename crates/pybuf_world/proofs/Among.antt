@@ -1,7 +1,7 @@
 -- An exporter that steps, with the others lent to it, does what it does by its loans.
-use Rattle.std.proofs.Common.{◌≡◌, ◌≢◌, ℕ, zero, suc, ◌<◌, List, [], ◌∷◌, ◌++◌, length, map, set, Bool, true, false, true≢false, get_or, ap, ap₂, sym, ◌∙◌, refl, subst, arith}
+use Rattle.std.proofs.Common.{◌≡◌, ◌≢◌, ℕ, suc, ◌<◌, List, [], ◌∷◌, ◌++◌, length, map, set, Bool, true, false, true≢false, get_or, ap, ap₂, sym, ◌∙◌, refl, arith}
 use Rattle.std.specs.Prelude.{◌==◌, ◌&&◌, ◌||◌, IfOk, OnErr, slice_get, Option, Some, None, Result, Ok, Err, if◌then◌else◌}
-use Rattle.std.specs.List.{list_all, list_any, flat_map}
+use Rattle.std.specs.List.{list_all, list_any}
 use Rattle.std.specs.Option.{option_map}
 use Rattle.std.proofs.lemmas.Bool.{eqb-true, eq-eqb, ne_eqb}
 use Rattle.std.proofs.lemmas.Option.{slice_get-get_or}
@@ -19,9 +19,9 @@ use Rattle.pybuf_command.specs.declared.loans.Loan.TheVariants as loan
 use Rattle.pybuf_command.specs.Handles.{handles_in_slice, handles_in, handles_in_option, handle_of_value, handle_of_option, handles_of, handles_read}
 use Rattle.pybuf_command.specs.Loans.{loan_of}
 use Rattle.pybuf_state.specs.Exporter.{Exporter}
-use Rattle.pybuf_state.specs.Loans.{Lent, given_loan, names_of, is_named, are_named, lent_as, lents_by, loan_of_snap, snap_in, subject_in}
+use Rattle.pybuf_state.specs.Loans.{Lent, given_loan, names_of, is_named, lent_as, lents_by, loan_of_snap, snap_in, subject_in}
 use Rattle.pybuf_state.specs.Names.{loan_of_own}
-use Rattle.pybuf_exporter.specs.Step.{estep, estep_by}
+use Rattle.pybuf_exporter.specs.Step.{estep_by}
 use Rattle.pybuf_exporter.specs.Laws.{AreAlike, NamesAlikeDoTheSame}
 use Rattle.pybuf_world.specs.declared.named.Named.{Named}
 use Rattle.pybuf_world.specs.declared.named.Target.{Target}

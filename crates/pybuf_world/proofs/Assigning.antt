@@ -1,6 +1,6 @@
 -- `set` of a view by a slice, as a command on a world, is by value.
 use Rattle.std.proofs.Common.{◌≡◌, ◌⊎◌, inl, inr, ℕ, ◌*◌, ◌<◌, List, [], ◌∷◌, ◌++◌, length, map, Bool, true, false, ap, ap₂, sym, ◌∙◌, refl, subst}
-use Rattle.std.specs.Prelude.{◌≢◌, All, set, ◌&&◌, ◌==◌, Option, Some, None, slice_get, IfSome, if◌then◌else◌}
+use Rattle.std.specs.Prelude.{◌≢◌, set, ◌&&◌, ◌==◌, Option, Some, None, slice_get, IfSome, if◌then◌else◌}
 use Rattle.std.proofs.lemmas.Bool.{eq-eqb}
 use Rattle.std.proofs.lemmas.Bool.Decides.{eqb_tells}
 use Rattle.pybuf_value.specs.declared.faults.Fault.{Fault}

@@ -1,5 +1,5 @@
 pub mod Lists
-pub mod Listing
+pub mod WithoutRoom
 pub mod Steps
 pub mod Handles
 pub mod Given

@@ -1,12 +1,13 @@
-use Rattle.std.proofs.Common.{◌≤◌, ◌-◌, vec_len}
+use Rattle.std.proofs.Common.{◌≤◌, ◌-◌, vec_len, vec_capacity}
 use Rattle.pybuf_cli.specs.Devices.{Took}
 use Rattle.pybuf_cli.proofs.loops.read_all.Given as goal
 
--- what was taken so far, and how much
-pub record Reads (Bytes Later Limit : Type 0) : Type 0 where
+-- what was taken so far, how much, and that there is room for the rest
+pub record Reads (Bytes Later Limit Room : Type 0) : Type 0 where
   pub bytes : Bytes
   pub later : Later
   pub limit : Limit
+  pub room : Room
 
 abbrev pub invariant-reading : goal.invariant-reading
 invariant-reading g l =
@@ -14,6 +15,7 @@ invariant-reading g l =
     (Took (g.S.Source.bytes_left l.fn.source) l.input.items (g.S.Source.bytes_left l.source))
     (g.S.Source.faults l.fn.source ≤ g.S.Source.faults l.source)
     (vec_len l.input ≤ 1048576)
+    (1048577 ≤ vec_capacity l.input)
 
 abbrev pub decreases-reading : goal.decreases-reading
 decreases-reading g l = 1048577 - vec_len l.input

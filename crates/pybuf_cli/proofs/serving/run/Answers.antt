@@ -1,4 +1,5 @@
-use Rattle.pybuf_cli.proofs.Served.{ran, refused, took_too_many}
+use Rattle.std.proofs.Common.{refl, arith, absurd}
+use Rattle.pybuf_cli.proofs.Served.{ran, refused, took_too_many, took_all, took_few, took_one_more, answered_otherwise, none_unread}
 use Rattle.pybuf_cli.proofs.serving.run.Goals as goal
 
 pub returns-in-Ok-clause-done : goal.returns-in-Ok-clause-done
@@ -11,6 +12,19 @@ returns-in-Ok-clause-bad_line g c =
     λ bad input told. refused _ _ _ _ input c.in-Ok.input.items c.as_slice.result.now c.in-Ok.ensures.took c.in-Ok.ensures.end c.in-Ok.ensures.limit
     c.as_slice.ensures.value (c.answer.ensures.bad_line bad) told
 
+pub returns-in-Ok-clause-takes_front : goal.returns-in-Ok-clause-takes_front
+returns-in-Ok-clause-takes_front g c =
+    λ input told. took_few _ _ input c.in-Ok.input.items c.answer.result c.in-Ok.ensures.took c.in-Ok.ensures.limit
+    (answered_otherwise _ c.answer.result c.answer.ensures.ending) told
+
+pub returns-in-Ok-clause-unread_writes_nothing : goal.returns-in-Ok-clause-unread_writes_nothing
+returns-in-Ok-clause-unread_writes_nothing g c =
+    λ rest told some. absurd (none_unread _ rest c.in-Ok.ensures.end told some)
+
 pub returns-in-Err-TooLong-clause-too_long : goal.returns-in-Err-TooLong-clause-too_long
 returns-in-Err-TooLong-clause-too_long g c =
     λ _ input told. took_too_many _ _ input (c.in-Err-TooLong.ensures.too_long c.in-Err-TooLong.field-0-is) told
+
+pub returns-in-Err-TooLong-clause-takes_front : goal.returns-in-Err-TooLong-clause-takes_front
+returns-in-Err-TooLong-clause-takes_front g c =
+    λ input told. took_one_more _ _ input _ (c.in-Err-TooLong.ensures.too_long c.in-Err-TooLong.field-0-is) refl told

@@ -20,6 +20,8 @@ returns-in-Some-Run g c =
       done = λ _. c.run.ensures.done;
       bad_line = λ _. c.run.ensures.bad_line;
       too_long = λ _. c.run.ensures.too_long;
+      takes_front = λ _. c.run.ensures.takes_front;
+      unread_writes_nothing = λ _. c.run.ensures.unread_writes_nothing;
       made = λ n other. absurd (run_is_no_make c.args.words.now c.form_named.result n c.form_named.ensures is other);
       made_prefix = λ n other. absurd (run_is_no_make c.args.words.now c.form_named.result n c.form_named.ensures is other);
       made_reads_nothing = λ n other. absurd (run_is_no_make c.args.words.now c.form_named.result n c.form_named.ensures is other);
@@ -49,6 +51,8 @@ returns-in-Some-Make g c =
       done = λ other. absurd (make_is_no_run words c.form_named.result c.in-Some-Make.number c.form_named.ensures is other);
       bad_line = λ other. absurd (make_is_no_run words c.form_named.result c.in-Some-Make.number c.form_named.ensures is other);
       too_long = λ other. absurd (make_is_no_run words c.form_named.result c.in-Some-Make.number c.form_named.ensures is other);
+      takes_front = λ other. absurd (make_is_no_run words c.form_named.result c.in-Some-Make.number c.form_named.ensures is other);
+      unread_writes_nothing = λ other. absurd (make_is_no_run words c.form_named.result c.in-Some-Make.number c.form_named.ensures is other);
       made = of_number words c.form_named.result c.in-Some-Make.number
           (λ n. c.make.result ≡ status.Done → Put (g.K.Sink.bytes_held c.args.sink.now) (summary n) (g.K.Sink.bytes_held c.make.new.sink))
           c.form_named.ensures is c.make.ensures.put;

@@ -1,6 +1,6 @@
 -- A list of exporters without their room.
-use Rattle.std.proofs.Common.{◌≡◌, ℕ, ◌<◌, List, length, map, set, get_or, ap, sym, ◌∙◌, refl}
-use Rattle.std.specs.Prelude.{slice_get, Option, Some, None, Result, Ok, Err}
+use Rattle.std.proofs.Common.{◌≡◌, ℕ, ◌<◌, List, length, set, get_or, ap, sym, ◌∙◌}
+use Rattle.std.specs.Prelude.{slice_get, Option, Some, None, Result, Ok, Err, MatchResult}
 use Rattle.std.specs.Option.{option_map}
 use Rattle.std.proofs.lemmas.List.{map-set, length-map}
 use Rattle.std.proofs.lemmas.Option.{slice_get-map, slice_get-get_or}
@@ -44,3 +44,15 @@ released_in_world w i k None es is = absurd (cc)
 pub refused_in_world : (w : World) (i k : ℕ) (o : Option Exporter) (f : Fault) → released_among w.exporters i k o ≡ Err f → released_in_exporter w i k o ≡ Err f
 refused_in_world w i k (Some e) f is = world_refused w i k (released_in e k) f is
 refused_in_world w i k None f is = let same : fault.UnknownName ≡ f = cc in ap (λ (x : Fault). let gone : Result World Fault = Err x in gone) same
+
+-- an exporter of the list whose view was released, or wasn't
+pub released_listed : {A : Type 0} (ss : List StoredExporter) (es : List Exporter) (i k : ℕ) (s new : StoredExporter) (r : Result A Fault) → exporters_of ss ≡ es → slice_get (exporters_of ss) i ≡ Some s.exporter
+    → MatchResult r (λ x. released_in s.exporter k ≡ Ok new.exporter) (λ f. released_in s.exporter k ≡ Err f)
+    → MatchResult r (λ x. released_among es i k (slice_get es i) ≡ Ok (exporters_of (set ss i new))) (λ f. released_among es i k (slice_get es i) ≡ Err f)
+released_listed ss es i k s new (Ok x) shown at is =
+    let there : slice_get es i ≡ Some s.exporter = ap (λ (xs : List Exporter). slice_get xs i) (sym shown) ∙ at in
+    let after : exporters_of (set ss i new) ≡ set es i new.exporter = put_at ss i new ∙ ap (λ (xs : List Exporter). set xs i new.exporter) shown in
+    released_ok es i k s.exporter new.exporter there is ∙ ap (λ (xs : List Exporter). let listed : Result (List Exporter) Fault = Ok xs in listed) (sym after)
+released_listed ss es i k s new (Err f) shown at is =
+    let there : slice_get es i ≡ Some s.exporter = ap (λ (xs : List Exporter). slice_get xs i) (sym shown) ∙ at in
+    released_err es i k s.exporter f there is
