@@ -9,3 +9,5 @@ pub mod Viewing
 pub mod Assigning
 pub mod Owning
 pub mod Sounding
+pub mod Arguments
+pub mod Faults

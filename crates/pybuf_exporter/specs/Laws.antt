@@ -8,6 +8,7 @@ use Rattle.pybuf_value.specs.declared.values.Value.TheVariants as value
 use Rattle.pybuf_value.specs.declared.snaps.Snap.{Snap}
 use Rattle.pybuf_struct.specs.Formats.{Format, format_of}
 use Rattle.pybuf_struct.specs.Values.{item_of, values}
+use Rattle.pybuf_bytes.specs.Options.{bytes_of_options}
 use Rattle.pybuf_desc.specs.Layouts.{Layout}
 use Rattle.pybuf_desc.specs.Items.{bytes_at}
 use Rattle.pybuf_command.specs.declared.kinds.ExporterKind.TheVariants as kind
@@ -166,3 +167,9 @@ abbrev pub SubjectsStay : Type 0
 SubjectsStay =
     (e : Exporter) (s : Subject) (v : Verb) (loans : List (ℕ × Loan)) (other : Subject) → IsSoundExporter e → has_subject e other ≡ true
     → has_subject (estep e s v loans).0 other ≡ true
+
+-- No command is refused with `StructError`, and neither is anything new by what it is made of: whether a text is a
+-- format is asked where a view is made by a descriptor, and by no command.
+pub record StructErrorIsNeverReplied : Type 0 where
+  pub commands : (e : Exporter) (s : Subject) (v : Verb) (loans : List (ℕ × Loan)) → (estep e s v loans).1 ≢ reply.Refused fault.Struct
+  pub options : (pairs : List (ℕ × Snap)) (source encoding errors : Option Value) → bytes_of_options pairs source encoding errors ≢ Err fault.Struct

@@ -1,5 +1,5 @@
 //! Laws over every command, from the laws of the rows.
-ghost use Rattle.pybuf_exporter.specs.Laws.{CommandsKeepSound, LengthsStayUnderCommands, ReadOnlyBytesStayUnderCommands, IteratorsStayUnderCommands, OthersLeaveIterators, IterationChangesNothingElse, IteratorsGiveTheBytes, ReadingInPlaceChangesNothing, RefusedCommandsChangeNothing, FreshRepliesAreCopies, NamesAlikeDoTheSame, ItemsAreRead, ResizingIsRefusedWhileExported, AddingItselfIsRefused, OnlyByteArraysAreAddedTo, ShownTextsAreOneLine};
+ghost use Rattle.pybuf_exporter.specs.Laws.{CommandsKeepSound, LengthsStayUnderCommands, ReadOnlyBytesStayUnderCommands, IteratorsStayUnderCommands, OthersLeaveIterators, IterationChangesNothingElse, IteratorsGiveTheBytes, ReadingInPlaceChangesNothing, RefusedCommandsChangeNothing, FreshRepliesAreCopies, NamesAlikeDoTheSame, ItemsAreRead, ResizingIsRefusedWhileExported, AddingItselfIsRefused, OnlyByteArraysAreAddedTo, ShownTextsAreOneLine, StructErrorIsNeverReplied};
 ghost use Rattle.pybuf_exporter.specs.Iterating.{IteratorsGiveTheItems, ReleasedViewsAreNotIterated, OtherShapesAreNotIterated, IteratorsStopPastTheEntries, ExhaustedIteratorsStop};
 ghost use Rattle.pybuf_exporter.specs.Assigning.{StepsAssignByValue, SnapsHoldTheItems};
 ghost use Rattle.pybuf_exporter.specs.Laws.{CommandsKeepItemsApart, RepliedNamesAreThere, SubjectsStay};
@@ -110,6 +110,15 @@ pub fn iterators_give_the_bytes()
 /// A refused command changes nothing of its exporter.
 pub fn refused_commands_change_nothing()
     ensures { RefusedCommandsChangeNothing }
+{
+    rows_are_safe();
+    pybuf_state::reading_keeps();
+}
+
+/// No command is refused with `StructError`: a cast takes native codes alone, and an item is read and written by the
+/// format of its view.
+pub fn struct_error_is_never_replied()
+    ensures { StructErrorIsNeverReplied }
 {
     rows_are_safe();
     pybuf_state::reading_keeps();

@@ -19,7 +19,8 @@ pub use laws::{
     lengths_stay, names_alike_do_the_same, others_leave_iterators, owning_replies_change_nothing,
     queues_move_few_bytes, reading_in_place_changes_nothing, readonly_bytes_stay,
     refused_commands_change_nothing, replied_names_are_there, resizing_is_refused_while_exported,
-    shown_texts_are_one_line, snaps_hold_the_items, steps_assign_by_value, subjects_stay,
+    shown_texts_are_one_line, snaps_hold_the_items, steps_assign_by_value,
+    struct_error_is_never_replied, subjects_stay,
 };
 pub use pybuf_command::{
     ExporterKind, Loan, LoanList, LocalCommand, LocalReply, PropertyName, Subject, Verb,

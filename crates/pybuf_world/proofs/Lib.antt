@@ -14,3 +14,4 @@ pub mod Releases
 pub mod Copies
 pub mod Shown
 pub mod Assigning
+pub mod Faults

@@ -25,7 +25,7 @@ use Rattle.pybuf_world.proofs.Lists.{slice_get-append, set-slice_get}
 -- ---- refusals
 
 -- a copy is replied by handles
-copy_no_refusal : (viewed : Bool) (next : ℕ) (f : Fault) → reply_with_copy viewed next ≡ reply.Refused f → ⊥
+pub copy_no_refusal : (viewed : Bool) (next : ℕ) (f : Fault) → reply_with_copy viewed next ≡ reply.Refused f → ⊥
 copy_no_refusal true next f is = cc
 copy_no_refusal false next f is = cc
 

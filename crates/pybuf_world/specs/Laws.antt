@@ -26,6 +26,10 @@ use Rattle.pybuf_world.specs.Sound.{IsSoundWorld, StaysSound}
 abbrev pub RefusalsChangeNothing : Type 0
 RefusalsChangeNothing = (w : World) (c : Command) (f : Fault) → (wstep w c).1 ≡ reply.Refused f → (wstep w c).0 ≡ w
 
+-- no command is refused with `StructError`
+abbrev pub NoReplyIsAStructError : Type 0
+NoReplyIsAStructError = (w : World) (c : Command) → (wstep w c).1 ≢ reply.Refused fault.Struct
+
 -- a handle names after a command what it named before
 abbrev pub HandlesStay : Type 0
 HandlesStay = (w : World) (c : Command) (handle : ℕ) → handle < length w.handles → slice_get (wstep w c).0.handles handle ≡ slice_get w.handles handle

@@ -1,6 +1,6 @@
 //! Laws over every command on a world, from the laws over every command on one exporter.
 ghost use Rattle.pybuf_rows_views.specs.Laws.{ReleasingTwiceIsOnce};
-ghost use Rattle.pybuf_world.specs.Laws.{RefusalsChangeNothing, HandlesStay, ReleasingByHandleTwiceIsOnce, WorldLengthsStay, WorldReadOnlyBytesStay, WorldIteratorsStay, WorldShownTextsAreOneLine, CopiesAreExportersOfTheirOwn, UnviewedCopiesAreExportersOfTheirOwn, NewExportersStandBehind, UnknownSourcesAreRefused, RunsStaySound};
+ghost use Rattle.pybuf_world.specs.Laws.{RefusalsChangeNothing, NoReplyIsAStructError, HandlesStay, ReleasingByHandleTwiceIsOnce, WorldLengthsStay, WorldReadOnlyBytesStay, WorldIteratorsStay, WorldShownTextsAreOneLine, CopiesAreExportersOfTheirOwn, UnviewedCopiesAreExportersOfTheirOwn, NewExportersStandBehind, UnknownSourcesAreRefused, RunsStaySound};
 ghost use Rattle.pybuf_world.specs.Exporters.{ExporterLaws};
 ghost use Rattle.pybuf_world.specs.Laws.{RunsKeepItemsApart, ReleasesAreRefusedByName};
 ghost use Rattle.pybuf_world.specs.Assigning.{LoansOfWorldsFit, WorldStepsAssignByValue};
@@ -10,6 +10,13 @@ pub fn refusals_change_nothing()
     ensures { RefusalsChangeNothing }
 {
     pybuf_exporter::refused_commands_change_nothing();
+}
+
+/// No command of a world is refused with `StructError`: it is the answer of calls of the library that are given a format.
+pub fn no_reply_is_a_struct_error()
+    ensures { NoReplyIsAStructError }
+{
+    pybuf_exporter::struct_error_is_never_replied();
 }
 
 /// A handle names after a command what it named before.
