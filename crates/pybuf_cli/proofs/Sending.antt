@@ -33,24 +33,37 @@ put_then_front old mid new text first second rest e before after =
 pub put_whole : (old new : Option (List ℕ)) (text : List ℕ) → Put old text new → PutPrefix old text new
 put_whole old new text put = put_front old new text text [] (sym (append-nil text)) put
 
--- the front of a text was put, before which nothing was
-pub front_of_both : (old new : Option (List ℕ)) (first second : List ℕ) → PutPrefix old first new → PutPrefix old (first ++ second) new
-front_of_both old new first second front = put_then_front old old new (first ++ second) [] first second refl (put_nothing old) front
+-- the front of a text that stands for another
+pub front_same : (old new : Option (List ℕ)) (text both : List ℕ) → text ≡ both → PutPrefix old text new → PutPrefix old both new
+front_same old new text both same front = subst (λ (x : List ℕ). PutPrefix old x new) same front
 
--- a text was put, and the front of the last one behind it
-pub first_and_front : (old mid new : Option (List ℕ)) (first second : List ℕ) → Put old first mid → PutPrefix mid second new →
+-- the front of a text was put, and nothing of the one behind it
+pub front_of_both : (old new : Option (List ℕ)) (first second lent : List ℕ) → lent ≡ first → PutPrefix old lent new →
     PutPrefix old (first ++ second) new
-first_and_front old mid new first second put front =
-    put_then_front old mid new (first ++ second) first second [] (sym (append-nil (first ++ second))) put front
+front_of_both old new first second lent e front =
+    put_then_front old old new (first ++ second) [] first second refl (put_nothing old) (front_same old new lent first e front)
+
+-- a text was put, and the front of the one behind it
+pub first_and_front : (old mid new : Option (List ℕ)) (first second lent then : List ℕ) → lent ≡ first → then ≡ second → Put old lent mid →
+    PutPrefix mid then new → PutPrefix old (first ++ second) new
+first_and_front old mid new first second lent then e f put front =
+    put_then_front old mid new (first ++ second) lent then []
+    (ap (λ x. x ++ second) (sym e) ∙ (ap (λ x. lent ++ x) (sym f) ∙ sym (append-nil (lent ++ then)))) put front
 
 -- two texts were put, and nothing waits
-pub sends_all : (old mid new : Option (List ℕ)) (first second rest : List ℕ) → Put old first mid → Put mid second new → rest ≡ [] →
-    Sends old (first ++ second) rest new
-sends_all old mid new first second rest before after none = record {
-  sent = first ++ second;
-  whole = sym (ap (λ x. (first ++ second) ++ x) none ∙ append-nil (first ++ second));
-  put = put_both old mid new first second before after;
+pub sends_all : (old mid new : Option (List ℕ)) (first second lent then rest : List ℕ) → lent ≡ first → then ≡ second → Put old lent mid →
+    Put mid then new → rest ≡ [] → Sends old (first ++ second) rest new
+sends_all old mid new first second lent then rest e f before after none = record {
+  sent = lent ++ then;
+  whole =
+      ap (λ x. x ++ second) (sym e)
+      ∙ (ap (λ x. lent ++ x) (sym f) ∙ sym (ap (λ x. (lent ++ then) ++ x) none ∙ append-nil (lent ++ then)));
+  put = put_both old mid new lent then before after;
 }
+
+-- what stands for two texts was put, or waits
+pub sends_same : (old new : Option (List ℕ)) (text both rest : List ℕ) → text ≡ both → Sends old text rest new → Sends old both rest new
+sends_same old new text both rest same sends = subst (λ (x : List ℕ). Sends old x rest new) same sends
 
 -- a text was put, and nothing waits
 pub sends_whole : (old new : Option (List ℕ)) (text rest : List ℕ) → Put old text new → rest ≡ [] → Sends old text rest new

@@ -1,10 +1,12 @@
 -- What was read and put, where the source tells its bytes.
-use Rattle.std.proofs.Common.{◌≡◌, ◌↔◌, ◌⊎◌, ℕ, suc, ◌<◌, ◌≤◌, List, [], ◌++◌, length, take, drop, Option, Some, Result, Ok, Err, inl, inr, refl, sym, ◌∙◌, ap, arith}
+use Rattle.std.proofs.Common.{◌≡◌, ◌≢◌, ◌↔◌, ◌⊎◌, ℕ, suc, ◌<◌, ◌≤◌, List, [], ◌++◌, length, take, drop, Option, Some, Result, Ok, Err, inl, inr, refl, sym, ◌∙◌, ap, arith}
 use Rattle.std.proofs.lemmas.List.{append-nil, nil_from_length, length-append, drop_at}
 use Rattle.pybuf_command.specs.declared.worlds.Command.{Command}
 use Rattle.pybuf_world.specs.World.{empty_world}
 use Rattle.pybuf_world.specs.Sound.{StaysSound}
 use Rattle.pybuf_cli.specs.declared.forms.Form.{Form}
+use Rattle.pybuf_cli.specs.declared.loops.ReadStop.{ReadStop}
+use Rattle.pybuf_cli.specs.declared.loops.ReadStop.TheVariants as stops
 use Rattle.pybuf_cli.specs.declared.status.Status.{Status}
 use Rattle.pybuf_cli.specs.declared.status.Status.TheVariants as status
 use Rattle.pybuf_cli.specs.Devices.{Took, AtEnd, Put, PutPrefix}
@@ -79,6 +81,26 @@ pub took_few : (old new : Option (List ℕ)) (input bytes : List ℕ) (result : 
 took_few old new input bytes result took few other told =
     took_so_far old new input bytes result took (omega (arith, few))
     (λ long. absurd (other long), λ many. absurd (omega (arith, few, many))) told
+
+-- and one that stopped before
+pub stopped_short : (old new : Option (List ℕ)) (input : List ℕ) (stop other : ReadStop) (result : Status) →
+    (stop ≢ stops.TooLong → (bytes : List ℕ) × (length bytes ≤ 1048576) × Took old bytes new) → stop ≡ other → (other ≡ stops.TooLong → ⊥) →
+    (result ≡ status.TooLong → ⊥) → old ≡ Some input → TakesFront input result new
+stopped_short old new input stop other result taken is isnt ends told =
+    let so = taken (λ long. isnt (sym is ∙ long)) in
+    took_few old new input so.0 result so.2 (omega (arith, so.1)) ends told
+
+pub no_memory_is_short : stops.NoMemory ≡ stops.TooLong → ⊥
+no_memory_is_short e = cc
+
+pub failed_is_short : stops.Failed ≡ stops.TooLong → ⊥
+failed_is_short e = cc
+
+pub no_memory_ends_short : status.NoMemory ≡ status.TooLong → ⊥
+no_memory_ends_short e = cc
+
+pub fault_ends_short : status.ReadFault ≡ status.TooLong → ⊥
+fault_ends_short e = cc
 
 -- one that took a byte too many, and says so
 pub took_one_more : (old new : Option (List ℕ)) (input : List ℕ) (result : Status) →

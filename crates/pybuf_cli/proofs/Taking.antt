@@ -1,8 +1,10 @@
 -- What stands at the front of a list, and what is left behind it.
-use Rattle.std.proofs.Common.{◌≡◌, ℕ, ◌+◌, ◌-◌, ◌<◌, ◌≤◌, min, List, [], ◌++◌, take, drop, length, Option, Some, refl, sym, ◌∙◌, ap, subst, arith}
+use Rattle.std.proofs.Common.{◌≡◌, ℕ, ◌+◌, ◌-◌, ◌<◌, ◌≤◌, ◌^◌, min, Bool, true, false, List, [], ◌++◌, take, drop, length, Option, Some, Result, Ok, Err, refl, sym, ◌∙◌, ap, subst, arith}
 use Rattle.std.proofs.lemmas.List.{take-append-drop, drop-drop, take_rest, take-take, append_assoc, length-take, length-drop}
 use Rattle.std.proofs.Math.Seq.{take-add}
-use Rattle.pybuf_cli.specs.Devices.{Took, AtEnd, Put}
+use Rattle.pybuf_cli.specs.Devices.{Took, AtEnd, Put, Counts}
+use Rattle.pybuf_cli.specs.declared.devices.PutFault.{PutFault}
+use Rattle.pybuf_cli.specs.declared.devices.PutFault.TheVariants as fault
 
 -- what was moved is the front of what was left, and what is left now is the rest
 pub took_front : (left rest front : List ℕ) (count : ℕ) → front ≡ take count left → rest ≡ drop count left → Took (Some left) front (Some rest)
@@ -26,6 +28,25 @@ lent_rest left bytes lent taken view same =
 -- and what is left after more was moved
 pub left_after : (left bytes : List ℕ) (taken count : ℕ) → drop taken bytes ≡ left → drop (taken + count) bytes ≡ drop count left
 left_after left bytes taken count view = sym (drop-drop count taken bytes) ∙ ap (drop count) view
+
+-- a count that is shown, and what it came to
+pub counted : (shown before after : ℕ) → before ≡ shown → before ≤ after → after < 2 ^ 64 → Counts shown after
+counted shown before after same later bounded = record { later = omega (arith, same, later); bounded = bounded }
+
+-- a call that wasn't told to fail, and ended otherwise
+didnt_fail : (asked told : Bool) (r : Result ℕ PutFault) → asked ≡ told → asked ≡ false → (r ≡ Err fault.Failed → ⊥) →
+    (r ≡ Err fault.Failed → told ≡ true) × (told ≡ true → r ≡ Err fault.Failed)
+didnt_fail asked told r same off other = (λ e. absurd (other e), λ on. absurd (let bad : true ≡ false = sym on ∙ (sym same ∙ off) in cc))
+
+pub moved_some : (asked told : Bool) (r : Result ℕ PutFault) (count : ℕ) → r ≡ Ok count → asked ≡ told → asked ≡ false →
+    (r ≡ Err fault.Failed → told ≡ true) × (told ≡ true → r ≡ Err fault.Failed)
+moved_some asked told r count is same off =
+    didnt_fail asked told r same off (λ e. let bad : Ok count ≡ Err fault.Failed = sym is ∙ e in cc)
+
+pub found_no_memory : (asked told : Bool) (r : Result ℕ PutFault) → r ≡ Err fault.NoMemory → asked ≡ told → asked ≡ false →
+    (r ≡ Err fault.Failed → told ≡ true) × (told ≡ true → r ≡ Err fault.Failed)
+found_no_memory asked told r is same off =
+    didnt_fail asked told r same off (λ e. let bad : Err fault.NoMemory ≡ Err fault.Failed = sym is ∙ e in cc)
 
 -- nothing was taken yet
 pub took_nothing : (old : Option (List ℕ)) → Took old [] old

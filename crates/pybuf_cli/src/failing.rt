@@ -1,5 +1,5 @@
 //! Sources and sinks in memory that fail at the calls that they are told.
-ghost use Rattle.std.specs.Prelude.{◌≡◌, ◌↔◌, ◌==◌, ◌<◌, ◌≤◌, List, ℕ, [], Some, Err, true, IfOk, IfErr, OnErr, IsErr, if◌then◌else◌, drop, take, length, min, ◌++◌};
+ghost use Rattle.std.specs.Prelude.{◌≡◌, ◌↔◌, ◌==◌, ◌<◌, ◌≤◌, ◌^◌, List, ℕ, [], Some, Err, true, IfOk, IfErr, OnErr, IsErr, if◌then◌else◌, drop, take, length, min, ◌++◌};
 ghost use Rattle.std.specs.List.{list_any};
 ghost use Rattle.pybuf_cli.specs.Devices.{Took, AtEnd, Put, Rose, Counts};
 ghost use Rattle.pybuf_cli.specs.Failing.{Failing, fails_next, one_more, after_fault, with_bytes};
@@ -39,13 +39,17 @@ impl Calls {
         ensures failing { self.new.failing ≡ self.old.failing }
         ensures made { self.new.made ≡ one_more self.old.made }
         ensures failed { self.new.failed ≡ (if result then one_more self.old.failed else self.old.failed) }
+        ensures later { self.old.failed ≤ self.new.failed }
+        ensures bounded { self.new.failed < 2 ^ 64 }
     {
+        let failed = self.failed;
         let fails = self.failing.as_slice().contains(&self.made);
         self.made = self.made.saturating_add(1);
         if fails {
-            self.failed = self.failed.saturating_add(1);
+            self.failed = failed.saturating_add(1);
+            return true;
         }
-        fails
+        false
     }
 }
 
@@ -191,7 +195,9 @@ impl Sink for ListSink {
             return Err(PutFault::Failed);
         }
         let count = self.most.min(piece.len());
-        self.sink.keep(&piece[..count])?;
+        let Ok(()) = self.sink.keep(&piece[..count]) else {
+            return Err(PutFault::NoMemory);
+        };
         Ok(count)
     }
 }

@@ -1,5 +1,5 @@
 //! The lines of an input, run one after the other, with a line for each reply.
-ghost use Rattle.std.specs.Prelude.{◌≡◌, ◌≤◌, ◌^◌, [], ◌++◌, OnOk, OnErr, IfErr};
+ghost use Rattle.std.specs.Prelude.{◌≡◌, ◌≤◌, ◌^◌, true, false, [], ◌++◌, OnOk, OnErr, IfErr};
 ghost use Rattle.pybuf_line.specs.Scalars.{handle_in};
 ghost use Rattle.pybuf_line.specs.Lines.{commands_in};
 ghost use Rattle.pybuf_cli.specs.Devices.{Put, PutPrefix, Rose, Sends};
@@ -41,8 +41,27 @@ fn send_long<K: Sink>(sink: &mut K, text: &mut Vec<u8>) -> Result<(), PutFault>
     send(sink, text)
 }
 
+/// Adds a reply to those that wait, and leaves none, where it is short and there is room for it.
+fn joins(text: &mut Vec<u8>, reply: &mut Vec<u8>) -> bool
+    ensures text { result ≡ true → text.new.items ≡ text.old.items ++ reply.old.items }
+    ensures empty { result ≡ true → reply.new.items ≡ [] }
+    ensures text_apart { result ≡ false → text.new.items ≡ text.old.items }
+    ensures reply_apart { result ≡ false → reply.new.items ≡ reply.old.items }
+{
+    if reply.len() >= PIECE {
+        return false;
+    }
+    match text.extend_from_slice(reply.as_slice()) {
+        Ok(()) => {
+            reply.clear();
+            true
+        }
+        Err(_) => false,
+    }
+}
+
 /// Adds a reply to those that wait, and puts these where they are long. A reply that is long by itself,
-/// or for which there is no more room, is put from where it was written.
+/// or for which there is no room, is put from where it was written.
 fn send_reply<K: Sink>(
     sink: &mut K,
     text: &mut Vec<u8>,
@@ -54,11 +73,8 @@ fn send_reply<K: Sink>(
     ensures rose { IfErr result (λ fault. fault ≡ PutFault.Failed → Rose (K.faults sink.old) (K.faults sink.new)) }
     ensures later { K.faults sink.old ≤ K.faults sink.new }
 {
-    if reply.len() < PIECE {
-        if text.extend_from_slice(reply.as_slice()).is_ok() {
-            reply.clear();
-            return send_long(sink, text);
-        }
+    if joins(text, reply) {
+        return send_long(sink, text);
     }
     send(sink, text)?;
     send(sink, reply)

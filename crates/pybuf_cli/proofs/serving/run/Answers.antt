@@ -1,5 +1,5 @@
-use Rattle.std.proofs.Common.{refl, arith, absurd}
-use Rattle.pybuf_cli.proofs.Served.{ran, refused, took_too_many, took_all, took_few, took_one_more, answered_otherwise, none_unread}
+use Rattle.std.proofs.Common.{refl}
+use Rattle.pybuf_cli.proofs.Served.{ran, refused, took_too_many, took_all, took_few, took_one_more, stopped_short, no_memory_is_short, failed_is_short, no_memory_ends_short, fault_ends_short, answered_otherwise, none_unread}
 use Rattle.pybuf_cli.proofs.serving.run.Goals as goal
 
 pub returns-in-Ok-clause-done : goal.returns-in-Ok-clause-done
@@ -28,3 +28,12 @@ returns-in-Err-TooLong-clause-too_long g c =
 pub returns-in-Err-TooLong-clause-takes_front : goal.returns-in-Err-TooLong-clause-takes_front
 returns-in-Err-TooLong-clause-takes_front g c =
     λ input told. took_one_more _ _ input _ (c.in-Err-TooLong.ensures.too_long c.in-Err-TooLong.field-0-is) refl told
+
+pub returns-in-Err-NoMemory-clause-takes_front : goal.returns-in-Err-NoMemory-clause-takes_front
+returns-in-Err-NoMemory-clause-takes_front g c =
+    λ input told. stopped_short _ _ input _ _ _ c.in-Err-NoMemory.ensures.stopped c.in-Err-NoMemory.field-0-is no_memory_is_short no_memory_ends_short
+    told
+
+pub returns-in-Err-Failed-clause-takes_front : goal.returns-in-Err-Failed-clause-takes_front
+returns-in-Err-Failed-clause-takes_front g c =
+    λ input told. stopped_short _ _ input _ _ _ c.in-Err-Failed.ensures.stopped c.in-Err-Failed.field-0-is failed_is_short fault_ends_short told
