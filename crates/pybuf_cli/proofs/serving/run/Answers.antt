@@ -1,5 +1,5 @@
 use Rattle.std.proofs.Common.{refl}
-use Rattle.pybuf_cli.proofs.Served.{ran, refused, took_too_many, took_all, took_few, took_one_more, stopped_short, no_memory_is_short, failed_is_short, no_memory_ends_short, fault_ends_short, answered_otherwise, none_unread}
+use Rattle.pybuf_cli.proofs.Served.{ran, refused, took_too_many, took_few, took_one_more, stopped_short, no_memory_is_short, failed_is_short, no_memory_ends_short, fault_ends_short, answered_otherwise, none_unread}
 use Rattle.pybuf_cli.proofs.serving.run.Goals as goal
 
 pub returns-in-Ok-clause-done : goal.returns-in-Ok-clause-done

@@ -1,4 +1,4 @@
-use Rattle.std.proofs.Common.{refl, ◌∙◌, sym, ap}
+use Rattle.std.proofs.Common.{refl, ◌∙◌, ap}
 use Rattle.pybuf_cli.specs.Failing.{Failing, fails_next}
 use Rattle.pybuf_cli.proofs.Taking.{counted, moved_some, found_no_memory}
 use Rattle.pybuf_cli.proofs.failing.ListSinkSink.put.Goals as goal
