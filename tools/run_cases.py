@@ -44,9 +44,9 @@ COMPLAINTS = {
     TOO_LONG: b"pybuf: more than 1,048,576 bytes\n",
 }
 
-# Commands of which the third finds no memory in that, and no other does, and such of which the third's reply finds none.
+# Commands of which the third finds no memory, and such of which the reply to the third finds none, and no others.
 GREATER = b"new bytearray x61\nget h0 0\ncall h0 mul 60000000000\nget h0 0\n"
-LONGER = b"new bytearray 75000000\nget h0 0\nbytes h0\nget h0 0\n"
+LONGER = b"new bytearray 15000000\nget h0 0\nbytes h0\nget h0 0\n"
 
 # `address_space` is how many bytes the process may map, or None for no such limit.
 Case = collections.namedtuple("Case", "name given written status words address_space", defaults=((), None))
@@ -188,9 +188,9 @@ def large_inputs():
         # That there is no more memory than that, and that the want of it has a status of its own.
         Case("more bytes than there is memory for", b"new bytearray 1000000000\n", b"", NO_MEMORY, (), ADDRESS_SPACE),
         # What was replied before is written, whether the command finds no memory or its reply doesn't: each of these
-        # bytes is four in the reply.
+        # bytes is four in the reply. (A quarter of that memory, which is sooner used up.)
         Case("a command that finds no memory, behind others", GREATER, b"h0\n97\n", NO_MEMORY, (), ADDRESS_SPACE),
-        Case("a reply that finds no memory, behind others", LONGER, b"h0\n0\n", NO_MEMORY, (), ADDRESS_SPACE),
+        Case("a reply that finds no memory, behind others", LONGER, b"h0\n0\n", NO_MEMORY, (), ADDRESS_SPACE // 4),
     ]
     return Folder("large inputs", [*cases, *long_words()], [])
 

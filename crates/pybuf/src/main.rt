@@ -1,6 +1,6 @@
 //! The program `pybuf`: it hands the words after its name, its input and its output to the top
 //! call. Where that returns, its status is the status of the process, and one line on standard error
-//! says why nothing was run to its end.
+//! says what a status means that the output doesn't tell.
 #![tactic(auto)]
 
 use pybuf_cli::{ReaderSource, Status, WriterSink, serve};
