@@ -1,6 +1,7 @@
 pub mod Faults
 pub mod Follows
 pub mod Joins
+pub mod Lends
 pub mod Replays
 pub mod Runs
 pub mod Scripts

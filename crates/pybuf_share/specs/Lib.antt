@@ -1,3 +1,4 @@
+pub mod Carrying
 pub mod Finishing
 pub mod History
 pub mod Joining

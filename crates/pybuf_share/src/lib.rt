@@ -2,6 +2,7 @@
 //! and what these have to show at the end.
 #![tactic(auto)]
 
+mod carrying;
 mod checks;
 mod entries;
 mod gate;

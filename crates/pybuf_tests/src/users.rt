@@ -1,6 +1,8 @@
-//! The four users of the library (`pybuf_uses`): what no clause says, that their calls succeed with ample
+//! The five users of the library (`pybuf_uses`): what no clause says, that their calls succeed with ample
 //! memory, and with which answers. What the documents show of them stands here word for word.
-use pybuf_uses::{Header, Interpreter, LineBuffer, NumberArray, Reading, Statement, WeatherLog};
+use pybuf_uses::{
+    Handover, Header, Interpreter, LineBuffer, NumberArray, Reading, Statement, WeatherLog,
+};
 use pybuf_view::{ByteList, Fault, Halt, Item, PyBuffer, Reply, Scalar, Text};
 use std::alloc::Global;
 use std::test::Fail;
@@ -146,5 +148,16 @@ fn a_program_is_run(rt: HostRuntime) -> Result<(), Fail> {
         told_all.push(told(answer))?;
     }
     assert_eq!(rt; told_all.as_slice(), [0, 1, -1, -1, -3, -9].as_slice());
+    Ok(())
+}
+
+#[test]
+fn bytes_are_handed_over(rt: HostRuntime) -> Result<(), Fail> {
+    let alloc = rt.alloc();
+    let from = ByteList::from_slice(alloc, b"cd")?;
+    let to = ByteList::from_slice(alloc, b"ab")?;
+    let both = Handover::between(&rt, alloc, from, to)?;
+    assert_eq!(rt; both.given(), b"cd".as_slice());
+    assert_eq!(rt; both.taken(), b"abcd".as_slice());
     Ok(())
 }

@@ -5,6 +5,8 @@
 #[cfg(test)]
 mod appending;
 #[cfg(test)]
+mod carrying;
+#[cfg(test)]
 mod drawing;
 #[cfg(test)]
 mod drawn;
@@ -18,6 +20,8 @@ mod flags;
 mod histories;
 #[cfg(test)]
 mod meetings;
+#[cfg(test)]
+mod ring;
 #[cfg(test)]
 mod scripts;
 #[cfg(test)]

@@ -1,6 +1,7 @@
 mod NumberLemmas
 mod OutLemmas
 mod PushLemmas
+mod HandLemmas
 mod DigitLemmas
 mod PlaceLemmas
 mod SpanLemmas

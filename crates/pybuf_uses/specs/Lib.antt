@@ -2,3 +2,4 @@ pub mod Numbers
 pub mod Log
 pub mod Lines
 pub mod Program
+pub mod Handing

@@ -1,11 +1,13 @@
-//! Four users of the library, each with a contract in words of its own.
+//! Five users of the library, each with a contract in words of its own.
 #![tactic(auto)]
 
+mod handover;
 mod interpreter;
 mod line_buffer;
 mod number_array;
 mod weather_log;
 
+pub use handover::Handover;
 pub use interpreter::{Interpreter, Statement};
 pub use line_buffer::LineBuffer;
 pub use number_array::NumberArray;
