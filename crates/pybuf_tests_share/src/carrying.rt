@@ -156,7 +156,72 @@ fn finish<L: Ledger>(
     written
 }
 
+/// Both sessions of an exporter make a view of a byte each.
+fn view_both<L: Ledger, R: Wait>(
+    rt: &R,
+    alloc: Global,
+    shared: &SharedExporter<L>,
+    first: &mut Session<L>,
+    second: &mut Session<L>,
+) -> Made<()>
+    ensures number { first.new.number ≡ first.old.number }
+    ensures parts { first.new.parts ≡ first.old.parts }
+    ensures other_number { second.new.number ≡ second.old.number }
+    ensures other_parts { second.new.parts ≡ second.old.parts }
+{
+    view_own(rt, alloc, shared, first)?;
+    view_own(rt, alloc, shared, second)
+}
+
+/// The first sessions of two exporters carry a byte from each other, or the second ones do.
+fn carry_both<A: Ledger, B: Ledger, R: Wait>(
+    rt: &R,
+    alloc: Global,
+    left: &SharedExporter<A>,
+    ours: &mut Session<A>,
+    right: &SharedExporter<B>,
+    theirs: &mut Session<B>,
+    told: &mut Vec<u8>,
+) -> Made<()>
+    ensures number { ours.new.number ≡ ours.old.number }
+    ensures parts { ours.new.parts ≡ ours.old.parts }
+    ensures other_number { theirs.new.number ≡ theirs.old.number }
+    ensures other_parts { theirs.new.parts ≡ theirs.old.parts }
+{
+    carry_view(rt, alloc, left, ours, right, theirs, told)?;
+    carry_view(rt, alloc, right, theirs, left, ours, told)
+}
+
 /// One after another each session carries a byte, of a view that the session of its number has of the other exporter.
+/// Of a view that was never given nothing is carried.
+fn carry_all<A: Ledger, B: Ledger, R: Wait>(
+    rt: &R,
+    alloc: Global,
+    left: &SharedExporter<A>,
+    left_first: &mut Session<A>,
+    left_second: &mut Session<A>,
+    right: &SharedExporter<B>,
+    right_first: &mut Session<B>,
+    right_second: &mut Session<B>,
+    told: &mut Vec<u8>,
+) -> Made<()>
+    ensures left_number { left_first.new.number ≡ left_first.old.number }
+    ensures left_parts { left_first.new.parts ≡ left_first.old.parts }
+    ensures left_second_number { left_second.new.number ≡ left_second.old.number }
+    ensures left_second_parts { left_second.new.parts ≡ left_second.old.parts }
+    ensures right_number { right_first.new.number ≡ right_first.old.number }
+    ensures right_parts { right_first.new.parts ≡ right_first.old.parts }
+    ensures right_second_number { right_second.new.number ≡ right_second.old.number }
+    ensures right_second_parts { right_second.new.parts ≡ right_second.old.parts }
+{
+    view_both(rt, alloc, left, left_first, left_second)?;
+    view_both(rt, alloc, right, right_first, right_second)?;
+    carry_both(rt, alloc, left, left_first, right, right_first, told)?;
+    carry_both(rt, alloc, left, left_second, right, right_second, told)?;
+    let none = Subject::View(2);
+    carry_from(rt, alloc, left, left_first, right, right_first, none, told)
+}
+
 fn two_exporters<A: Ledger, B: Ledger, R: Wait>(
     rt: &R,
     alloc: Global,
@@ -171,67 +236,40 @@ fn two_exporters<A: Ledger, B: Ledger, R: Wait>(
     requires right_parts { right.parts ≡ B.parts }
     requires right_two { right.parts ≡ 2 }
 {
-    let Some((left, mut left_first, mut left_second)) = exporter::<A>(alloc, left, b"abcd")? else {
+    let Some(left) = exporter::<A>(alloc, left, b"abcd")? else {
         return Ok(());
     };
-    let Some((right, mut right_first, mut right_second)) = exporter::<B>(alloc, right, b"wxyz")?
-    else {
+    let Some(right) = exporter::<B>(alloc, right, b"wxyz")? else {
         return Ok(());
     };
-    view_own(rt, alloc, &left, &mut left_first)?;
-    view_own(rt, alloc, &left, &mut left_second)?;
-    view_own(rt, alloc, &right, &mut right_first)?;
-    view_own(rt, alloc, &right, &mut right_second)?;
-    carry_view(
+    both_exporters(rt, alloc, left, right, told)
+}
+
+fn both_exporters<A: Ledger, B: Ledger, R: Wait>(
+    rt: &R,
+    alloc: Global,
+    left: (SharedExporter<A>, Session<A>, Session<A>),
+    right: (SharedExporter<B>, Session<B>, Session<B>),
+    told: &mut Vec<u8>,
+) -> Made<()>
+    requires left { AreAll A.parts (left.1 ∷ left.2 ∷ []) }
+    requires right { AreAll B.parts (right.1 ∷ right.2 ∷ []) }
+{
+    let (one, mut first, mut second) = left;
+    let (other, mut third, mut fourth) = right;
+    carry_all(
         rt,
         alloc,
-        &left,
-        &mut left_first,
-        &right,
-        &mut right_first,
+        &one,
+        &mut first,
+        &mut second,
+        &other,
+        &mut third,
+        &mut fourth,
         told,
     )?;
-    carry_view(
-        rt,
-        alloc,
-        &left,
-        &mut left_second,
-        &right,
-        &mut right_second,
-        told,
-    )?;
-    carry_view(
-        rt,
-        alloc,
-        &right,
-        &mut right_first,
-        &left,
-        &mut left_first,
-        told,
-    )?;
-    carry_view(
-        rt,
-        alloc,
-        &right,
-        &mut right_second,
-        &left,
-        &mut left_second,
-        told,
-    )?;
-    // of a view that was never given nothing is carried
-    let none = Subject::View(2);
-    carry_from(
-        rt,
-        alloc,
-        &left,
-        &mut left_first,
-        &right,
-        &mut right_first,
-        none,
-        told,
-    )?;
-    finish(alloc, left, left_first, left_second, told)?;
-    finish(alloc, right, right_first, right_second, told)
+    finish(alloc, one, first, second, told)?;
+    finish(alloc, other, third, fourth, told)
 }
 
 fn two_exporters_by_brand<R: Wait>(rt: &R, alloc: Global, told: &mut Vec<u8>) -> Made<()> {

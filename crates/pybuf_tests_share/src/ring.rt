@@ -139,24 +139,23 @@ fn four_threads<
     one.wrapping_add(other)
 }
 
-/// An exporter with one byte and three sessions: of its own thread, and of those behind it and before it. None where
-/// memory ran out.
-fn post<L: Ledger>(
-    alloc: Global,
-    blank: Blank,
-    byte: &[u8],
-) -> Option<(SharedExporter<L>, Session<L>, Session<L>, Session<L>)>
+/// An exporter with one byte and three sessions: of its own thread, and of those of its neighbours.
+#[derive(Drop)]
+struct Post<L: Ledger> {
+    shared: SharedExporter<L>,
+    own: Session<L>,
+    before: Session<L>,
+    behind: Session<L>,
+}
+
+/// None where memory ran out.
+fn post<L: Ledger>(alloc: Global, blank: Blank, byte: &[u8]) -> Option<Post<L>>
     requires name { blank.name ≡ L.name }
     requires parts { blank.parts ≡ L.parts }
     requires three { blank.parts ≡ 3 }
 {
     match started(alloc, blank, byte) {
-        Ok((shared, sessions)) => {
-            let mut sessions = sessions;
-            let third = sessions.pop()?;
-            let second = sessions.pop()?;
-            Some((shared, sessions.pop()?, second, third))
-        }
+        Ok((shared, sessions)) => manned(shared, sessions),
         Err(_) => None,
     }
 }
@@ -174,8 +173,148 @@ fn started<L: Ledger>(
     SharedExporter::start(alloc, blank, ExporterKind::ByteArray, bytes, 3)
 }
 
+fn manned<L: Ledger>(shared: SharedExporter<L>, sessions: Vec<Session<L>>) -> Option<Post<L>> {
+    let mut sessions = sessions;
+    let own = sessions.pop()?;
+    let before = sessions.pop()?;
+    let behind = sessions.pop()?;
+    Some(Post {
+        shared,
+        own,
+        before,
+        behind,
+    })
+}
+
 /// The ring: the last of eight exporters is a neighbour of the first.
 fn ring<
+    A: Ledger + Send + Sync,
+    B: Ledger + Send + Sync,
+    C: Ledger + Send + Sync,
+    D: Ledger + Send + Sync,
+    E: Ledger + Send + Sync,
+    F: Ledger + Send + Sync,
+    G: Ledger + Send + Sync,
+    H: Ledger + Send + Sync,
+    R: Threads + Wait + Sync,
+>(
+    rt: &R,
+    alloc: Global,
+    posts: (Post<A>, Post<B>, Post<C>, Post<D>),
+    others: (Post<E>, Post<F>, Post<G>, Post<H>),
+    there: &Count,
+) -> u64 {
+    let (a, b, c, d) = posts;
+    let (e, f, g, h) = others;
+    let Post {
+        shared: a,
+        own: a_own,
+        before: a_before,
+        behind: a_behind,
+    } = a;
+    let Post {
+        shared: b,
+        own: b_own,
+        before: b_before,
+        behind: b_behind,
+    } = b;
+    let Post {
+        shared: c,
+        own: c_own,
+        before: c_before,
+        behind: c_behind,
+    } = c;
+    let Post {
+        shared: d,
+        own: d_own,
+        before: d_before,
+        behind: d_behind,
+    } = d;
+    let Post {
+        shared: e,
+        own: e_own,
+        before: e_before,
+        behind: e_behind,
+    } = e;
+    let Post {
+        shared: f,
+        own: f_own,
+        before: f_before,
+        behind: f_behind,
+    } = f;
+    let Post {
+        shared: g,
+        own: g_own,
+        before: g_before,
+        behind: g_behind,
+    } = g;
+    let Post {
+        shared: h,
+        own: h_own,
+        before: h_before,
+        behind: h_behind,
+    } = h;
+    let (one, other) = thread::join(
+        rt,
+        || {
+            four_threads(
+                rt,
+                alloc,
+                (&h, h_before),
+                (&a, a_own, a_before),
+                (&b, b_own, b_before, b_behind),
+                (&c, c_own, c_before, c_behind),
+                (&d, d_own, d_behind),
+                (&e, e_behind),
+                there,
+            )
+        },
+        || {
+            four_threads(
+                rt,
+                alloc,
+                (&d, d_before),
+                (&e, e_own, e_before),
+                (&f, f_own, f_before, f_behind),
+                (&g, g_own, g_before, g_behind),
+                (&h, h_own, h_behind),
+                (&a, a_behind),
+                there,
+            )
+        },
+    );
+    one.wrapping_add(other)
+}
+
+/// Four exporters of the ring.
+fn posts<A: Ledger, B: Ledger, C: Ledger, D: Ledger>(
+    alloc: Global,
+    a: Blank,
+    b: Blank,
+    c: Blank,
+    d: Blank,
+) -> Option<(Post<A>, Post<B>, Post<C>, Post<D>)>
+    requires name_a { a.name ≡ A.name }
+    requires parts_a { a.parts ≡ A.parts }
+    requires three_a { a.parts ≡ 3 }
+    requires name_b { b.name ≡ B.name }
+    requires parts_b { b.parts ≡ B.parts }
+    requires three_b { b.parts ≡ 3 }
+    requires name_c { c.name ≡ C.name }
+    requires parts_c { c.parts ≡ C.parts }
+    requires three_c { c.parts ≡ 3 }
+    requires name_d { d.name ≡ D.name }
+    requires parts_d { d.parts ≡ D.parts }
+    requires three_d { d.parts ≡ 3 }
+{
+    let a = post::<A>(alloc, a, b"a")?;
+    let b = post::<B>(alloc, b, b"b")?;
+    let c = post::<C>(alloc, c, b"c")?;
+    let d = post::<D>(alloc, d, b"d")?;
+    Some((a, b, c, d))
+}
+
+fn ring_of_blanks<
     A: Ledger + Send + Sync,
     B: Ledger + Send + Sync,
     C: Ledger + Send + Sync,
@@ -223,64 +362,17 @@ fn ring<
     requires parts_h { h.parts ≡ H.parts }
     requires three_h { h.parts ≡ 3 }
 {
-    let Some((a, a_own, a_before, a_behind)) = post::<A>(alloc, a, b"a") else {
+    let Some(first) = posts::<A, B, C, D>(alloc, a, b, c, d) else {
         return 0;
     };
-    let Some((b, b_own, b_before, b_behind)) = post::<B>(alloc, b, b"b") else {
+    let Some(second) = posts::<E, F, G, H>(alloc, e, f, g, h) else {
         return 0;
     };
-    let Some((c, c_own, c_before, c_behind)) = post::<C>(alloc, c, b"c") else {
-        return 0;
-    };
-    let Some((d, d_own, d_before, d_behind)) = post::<D>(alloc, d, b"d") else {
-        return 0;
-    };
-    let Some((e, e_own, e_before, e_behind)) = post::<E>(alloc, e, b"e") else {
-        return 0;
-    };
-    let Some((f, f_own, f_before, f_behind)) = post::<F>(alloc, f, b"f") else {
-        return 0;
-    };
-    let Some((g, g_own, g_before, g_behind)) = post::<G>(alloc, g, b"g") else {
-        return 0;
-    };
-    let Some((h, h_own, h_before, h_behind)) = post::<H>(alloc, h, b"h") else {
-        return 0;
-    };
-    let (one, other) = thread::join(
-        rt,
-        || {
-            four_threads(
-                rt,
-                alloc,
-                (&h, h_before),
-                (&a, a_own, a_before),
-                (&b, b_own, b_before, b_behind),
-                (&c, c_own, c_before, c_behind),
-                (&d, d_own, d_behind),
-                (&e, e_behind),
-                there,
-            )
-        },
-        || {
-            four_threads(
-                rt,
-                alloc,
-                (&d, d_before),
-                (&e, e_own, e_before),
-                (&f, f_own, f_before, f_behind),
-                (&g, g_own, g_before, g_behind),
-                (&h, h_own, h_behind),
-                (&a, a_behind),
-                there,
-            )
-        },
-    );
-    one.wrapping_add(other)
+    ring(rt, alloc, first, second, there)
 }
 
 fn ring_by_brand<R: Threads + Wait + Sync>(rt: &R, alloc: Global) -> u64 {
-    ring::<Brand, Brand, Brand, Brand, Brand, Brand, Brand, Brand, R>(
+    ring_of_blanks::<Brand, Brand, Brand, Brand, Brand, Brand, Brand, Brand, R>(
         rt,
         alloc,
         Blank::new(3),
