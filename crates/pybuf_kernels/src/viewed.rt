@@ -85,7 +85,8 @@ pub fn lend_view(alloc: Global, view: &PyMemoryView) -> Made<LoanList>
 /// So many items of a format, of a size, one after the other.
 fn items_of(alloc: Global, format: &str, size: usize, count: usize) -> Made<BufferDescriptor> {
     let mut dims = DimList::new(alloc);
-    dims.push((count, size as isize, 0))?;
+    let stride = size.min(isize::MAX as usize) as isize;
+    dims.push((count, stride, 0))?;
     let format = Text::from_string(String::from_str(alloc, format)?);
     let len = count.saturating_mul(size);
     Ok(BufferDescriptor::raw(len, false, size, format, dims))

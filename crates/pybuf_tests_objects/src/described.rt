@@ -16,7 +16,7 @@ use std::test::Fail;
 #[derive(Clone, Copy)]
 enum Call {
     /// A view by a format, from a place on, of so many items of a size, which lie one after the other.
-    New(&'static str, usize, usize, isize),
+    New(&'static str, usize, usize, usize),
     Assign(usize, usize),
     Backwards(usize),
     Equal(usize, usize),
@@ -36,13 +36,13 @@ enum Call {
     ToReadOnly(usize),
 }
 
-fn described(alloc: Global, format: &str, count: usize, size: isize) -> Made<BufferDescriptor> {
+fn described(alloc: Global, format: &str, count: usize, size: usize) -> Made<BufferDescriptor> {
     let mut dims = DimList::new(alloc);
-    dims.push((count, size, 0))?;
+    let stride = size.min(isize::MAX as usize) as isize;
+    dims.push((count, stride, 0))?;
     let format = Text::from_string(String::from_str(alloc, format)?);
-    let itemsize = size as usize;
-    let len = count.saturating_mul(itemsize);
-    Ok(BufferDescriptor::raw(len, false, itemsize, format, dims))
+    let len = count.saturating_mul(size);
+    Ok(BufferDescriptor::raw(len, false, size, format, dims))
 }
 
 /// One more buffer.
