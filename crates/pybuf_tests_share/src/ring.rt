@@ -149,7 +149,7 @@ struct Post<L: Ledger> {
 }
 
 /// None where memory ran out.
-fn post<L: Ledger>(alloc: Global, blank: Blank, byte: &[u8]) -> Option<Post<L>>
+fn made_post<L: Ledger>(alloc: Global, blank: Blank, byte: &[u8]) -> Option<Post<L>>
     requires name { blank.name ≡ L.name }
     requires parts { blank.parts ≡ L.parts }
     requires three { blank.parts ≡ 3 }
@@ -307,10 +307,10 @@ fn posts<A: Ledger, B: Ledger, C: Ledger, D: Ledger>(
     requires parts_d { d.parts ≡ D.parts }
     requires three_d { d.parts ≡ 3 }
 {
-    let a = post::<A>(alloc, a, b"a")?;
-    let b = post::<B>(alloc, b, b"b")?;
-    let c = post::<C>(alloc, c, b"c")?;
-    let d = post::<D>(alloc, d, b"d")?;
+    let a = made_post::<A>(alloc, a, b"a")?;
+    let b = made_post::<B>(alloc, b, b"b")?;
+    let c = made_post::<C>(alloc, c, b"c")?;
+    let d = made_post::<D>(alloc, d, b"d")?;
     Some((a, b, c, d))
 }
 

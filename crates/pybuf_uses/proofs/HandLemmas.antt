@@ -1,5 +1,5 @@
 -- What one session did with a locked buffer, and what two of them did with two.
-use Rattle.std.proofs.Common.{◌≡◌, inl, inr, ℕ, ◌<◌, List, [], ◌∷◌, ◌++◌, length, map, get_or, Bool, true, Option, Some, None, refl, ap, sym, ◌∙◌, subst, arith}
+use Rattle.std.proofs.Common.{◌≡◌, inl, inr, ℕ, ◌<◌, List, [], ◌∷◌, ◌++◌, length, map, get_or, Bool, true, Option, Some, None, Result, Ok, Err, IfOk, refl, ap, sym, ◌∙◌, subst, arith}
 use Rattle.std.specs.Prelude.{if◌then◌else◌}
 use Rattle.std.specs.List.{All}
 use Rattle.std.proofs.lemmas.Bool.{eq-eqb}
@@ -50,6 +50,14 @@ are_its s entries number theirs =
 pub is_alone : (opening : Opening) (s : Asker) (joined : Joined) → s.number ≡ 0 → IsJoined opening.kind opening.bytes (s ∷ []) joined → AreTheirs (s ∷ []) joined.entries → IsAlone opening s joined
 is_alone opening s joined number is theirs = record { is = is; own = are_its s joined.entries number theirs }
 
+-- where what is put together is of that session
+pub alone_by : (opening : Opening) (s : Asker) (ss : List Asker) (r : Result Joined FinishFault) → ss ≡ s ∷ [] → s.number ≡ 0 → s.is_plain ≡ true → IfOk r (λ joined. IsJoined opening.kind opening.bytes ss joined)
+    → (ArePlain ss → IfOk r (λ joined. AreTheirs ss joined.entries)) → IfOk r (λ joined. IsAlone opening s joined)
+alone_by opening s ss (Ok joined) are number plain is theirs =
+    is_alone opening s joined number (subst (λ (l : List Asker). IsJoined opening.kind opening.bytes l joined) are is)
+    (subst (λ (l : List Asker). AreTheirs l joined.entries) are (theirs (subst ArePlain (sym are) (is_plain s plain))))
+alone_by opening s ss (Err fault) are number plain is theirs = is
+
 pub is_whole : (opening : Opening) (s : Asker) (joined : Joined) → IsAlone opening s joined → IsWhole joined
 is_whole opening s joined alone = record { opening = opening; sessions = s ∷ []; is = alone.is }
 
@@ -60,7 +68,7 @@ one_entry command after answered = ap (λ (s : Asker). map (λ (r : Receipt). r.
 
 -- what a history is that such a call is the whole of
 module _ (opening : Opening) (command : LocalCommand) (after : Asker) (joined : Joined) (answered : IsAnswered (new_session 0) command after) (alone : IsAlone opening after joined) where
-  entry : Entry
+  abbrev entry : Entry
   entry = record { session = 0; command = command; reply = answered.reply }
 
   entries_are : joined.entries ≡ entry ∷ []
