@@ -1,6 +1,6 @@
 -- The indices of a slice are places of elements.
 use Rattle.std.proofs.Common.{length}
-use Rattle.pybuf_tests_bytes.proofs.slices.set_picked.Goals as goal
+use Rattle.pybuf_tests_slices.proofs.slices.set_picked.Goals as goal
 
 pub do_set_indexes-requires-clause-inside : goal.do_set_indexes-requires-clause-inside
 do_set_indexes-requires-clause-inside c =
