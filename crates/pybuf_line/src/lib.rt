@@ -23,6 +23,9 @@ pub use laws::{
 };
 pub use parsing::{command, command_of_line};
 pub use splitting::next_line;
-pub use texts::{push_bad_line, push_reply, push_reply_line};
+pub use texts::{
+    Part, push_bad_line, push_decimal, push_list, push_nested, push_reply, push_reply_line,
+    push_tuple,
+};
 pub use unread::{Misread, Unread};
 pub use words::is_word;

@@ -14,7 +14,7 @@ use pybuf_value::{
 };
 
 /// Adds a decimal number.
-fn push_decimal(out: &mut Vec<u8>, number: u64) -> Made<()>
+pub fn push_decimal(out: &mut Vec<u8>, number: u64) -> Made<()>
     ensures { OnOk result (out.new.items ≡ out.old.items ++ decimal number) }
 {
     let mut buffer = Buffer::new();
@@ -22,8 +22,8 @@ fn push_decimal(out: &mut Vec<u8>, number: u64) -> Made<()>
     Ok(())
 }
 
-/// What a tuple or a list may have as its parts.
-trait Part {
+/// What a tuple or a list of a reply may have as its parts.
+pub trait Part {
     // the text of a part
     ghost text: { Self → List ℕ };
 
@@ -68,7 +68,7 @@ fn push_next_parts<T: Part>(out: &mut Vec<u8>, parts: &[T]) -> Made<()>
 }
 
 /// Adds a tuple.
-fn push_tuple<T: Part>(out: &mut Vec<u8>, parts: &[T]) -> Made<()>
+pub fn push_tuple<T: Part>(out: &mut Vec<u8>, parts: &[T]) -> Made<()>
     ensures { OnOk result (out.new.items ≡ out.old.items ++ tuple_text T.text parts.now) }
 {
     match parts {
@@ -100,7 +100,7 @@ impl Part for Item {
 }
 
 /// Adds a list.
-fn push_list<T: Part>(out: &mut Vec<u8>, parts: &[T]) -> Made<()>
+pub fn push_list<T: Part>(out: &mut Vec<u8>, parts: &[T]) -> Made<()>
     ensures { OnOk result (out.new.items ≡ out.old.items ++ list_text T.text parts.now) }
 {
     match parts {
@@ -116,7 +116,7 @@ fn push_list<T: Part>(out: &mut Vec<u8>, parts: &[T]) -> Made<()>
 }
 
 /// Adds items nested by a shape. Each block is lent, and none is copied.
-fn push_nested(out: &mut Vec<u8>, shape: &[usize], items: &[Item]) -> Made<()>
+pub fn push_nested(out: &mut Vec<u8>, shape: &[usize], items: &[Item]) -> Made<()>
     ensures { OnOk result (out.new.items ≡ out.old.items ++ nested_text (item_text handle_text) shape.now items.now) }
 {
     match shape {

@@ -1,0 +1,5 @@
+use Rattle.pybuf_histories.proofs.EntryLaws.{replies_single}
+use Rattle.pybuf_histories.proofs.laws.replies_of_entries_are_single_lines.Goals as goal
+
+pub returns : goal.returns
+returns c = replies_single c.replies_are_single_lines.ensures.handles c.shown_texts_are_one_line.ensures

@@ -1,0 +1,7 @@
+pub mod Commands
+pub mod Entries
+pub mod Faults
+pub mod Laws
+pub mod Names
+pub mod Replies
+pub mod Words

@@ -1,0 +1,9 @@
+pub mod Numerals
+pub mod Putting
+pub mod Blanks
+pub mod Growing
+pub mod Lines
+pub mod Runnable
+pub mod Renaming
+pub mod Written
+pub mod OfLines

@@ -1,0 +1,88 @@
+-- What lines ask, one line on.
+use Rattle.std.proofs.Common.{◌≡◌, ℕ, ◌+◌, ◌≤◌, List, [], ◌∷◌, ◌++◌, length, refl, sym, ◌∙◌, ap, Bool, true, false, cond, ◌==◌, arith}
+use Rattle.std.specs.Prelude.{Result, Ok, Err, Some, None}
+use Rattle.std.proofs.lemmas.List.{append_assoc, append-nil}
+use Rattle.std.proofs.lemmas.List.Splits.{length-slice_split}
+use Rattle.std.proofs.lemmas.List.Sums.{count_by-le-length}
+use Rattle.pybuf_command.specs.declared.commands.LocalCommand.{LocalCommand}
+use Rattle.pybuf_line.specs.Lines.{lines, without_empty_last}
+use Rattle.pybuf_line.specs.Parts.{parts_at}
+use Rattle.pybuf_sessions.specs.declared.asks.Ask.{Ask}
+use Rattle.pybuf_sessions.specs.Asks.{ask_in}
+use Rattle.pybuf_sessions.specs.Scripts.{scripts_of, added}
+use Rattle.pybuf_sessions.specs.Sessions.{ask_before, asks_from, scripts_for}
+use Rattle.pybuf_sessions.proofs.Growing.{one_ask_more}
+
+-- asks before those of a reading
+abbrev pub onto : List Ask → Result (List Ask) ℕ → Result (List Ask) ℕ
+onto asks (Ok rest) = Ok (asks ++ rest)
+onto asks (Err n) = Err n
+
+onto_before : (asks : List Ask) (n : ℕ) (a : Ask) (rest : Result (List Ask) ℕ) → onto asks (ask_before n (Some a) rest) ≡ onto (asks ++ a ∷ []) rest
+onto_before asks n a (Ok rest) = ap Ok (sym (append_assoc asks (a ∷ []) rest))
+onto_before asks n a (Err m) = refl
+
+onto_nothing : (rest : Result (List Ask) ℕ) → rest ≡ onto [] rest
+onto_nothing (Ok rest) = refl
+onto_nothing (Err n) = refl
+
+-- Lines ask so much before a line of a number, and there are these scripts.
+pub record AskedSoFar (all : Result (List Ask) ℕ) (scripts : List (List LocalCommand)) (n : ℕ) (left : List (List ℕ)) : Type 0 where
+  pub asks : List Ask
+  pub kept : scripts ≡ scripts_of asks
+  pub whole : all ≡ onto asks (asks_from n left)
+
+pub nothing_asked : (all : Result (List Ask) ℕ) (scripts : List (List LocalCommand)) (n : ℕ) (left : List (List ℕ)) →
+    all ≡ asks_from n left → scripts ≡ [] ∷ [] → AskedSoFar all scripts n left
+nothing_asked all scripts n left e s = record {
+  asks = [];
+  kept = s;
+  whole = e ∙ onto_nothing (asks_from n left);
+}
+
+pub one_asked : (all : Result (List Ask) ℕ) (scripts more : List (List LocalCommand)) (n n2 : ℕ) (left after : List (List ℕ)) (line : List ℕ) (a : Ask) →
+    AskedSoFar all scripts n left → left ≡ line ∷ after → ask_in line ≡ Some a → more ≡ added a.session a.command scripts → n2 ≡ n + 1 →
+    AskedSoFar all more n2 after
+one_asked all scripts more n n2 left after line a far cut asks grown next = record {
+  asks = far.asks ++ a ∷ [];
+  kept = grown ∙ (ap (added a.session a.command) far.kept ∙ sym (one_ask_more far.asks a));
+  whole =
+      far.whole
+      ∙ (ap (λ l. onto far.asks (asks_from n l)) cut
+      ∙ (ap (λ x. onto far.asks (ask_before n x (asks_from (n + 1) after))) asks
+      ∙ (onto_before far.asks n a (asks_from (n + 1) after) ∙ ap (λ k. onto (far.asks ++ a ∷ []) (asks_from k after)) (sym next))));
+}
+
+pub none_asked : (all : Result (List Ask) ℕ) (scripts : List (List LocalCommand)) (n : ℕ) (left after : List (List ℕ)) (line : List ℕ) →
+    AskedSoFar all scripts n left → left ≡ line ∷ after → ask_in line ≡ None → scripts_for all ≡ Err n
+none_asked all scripts n left after line far cut none =
+    ap scripts_for
+    (far.whole ∙ (ap (λ l. onto far.asks (asks_from n l)) cut ∙ ap (λ x. onto far.asks (ask_before n x (asks_from (n + 1) after))) none))
+
+pub all_asked : (all : Result (List Ask) ℕ) (scripts : List (List LocalCommand)) (n : ℕ) (left : List (List ℕ)) →
+    AskedSoFar all scripts n left → left ≡ [] → scripts_for all ≡ Ok scripts
+all_asked all scripts n left far none =
+    ap scripts_for (far.whole ∙ ap (λ l. onto far.asks (asks_from n l)) none)
+    ∙ (ap (λ asks. Ok (scripts_of asks)) (append-nil far.asks) ∙ ap Ok (sym far.kept))
+
+-- ---- numbers of lines
+
+last_fewer : (part : List ℕ) (empty : Bool) → length (cond empty [] (part ∷ [])) ≤ 1
+last_fewer part true = omega arith
+last_fewer part false = omega arith
+
+fewer : (parts : List (List ℕ)) → length (without_empty_last parts) ≤ length parts
+fewer [] = omega arith
+fewer (part ∷ []) = last_fewer part (length part == 0)
+fewer (part ∷ next ∷ more) = omega (arith, fewer (next ∷ more))
+
+-- there is at most one line more than there are bytes
+pub few_lines : (input : List ℕ) → length (lines input) ≤ length input + 1
+few_lines input =
+    let whole = fewer (parts_at 10 input) in
+    let parts = length-slice_split (λ b. b == 10) input in
+    omega (arith, whole, parts, count_by-le-length (λ b. b == 10) input)
+
+-- there is a line left, so the count of lines read is below the count of all
+pub counted : (n : ℕ) (left after all : List (List ℕ)) (line : List ℕ) → left ≡ line ∷ after → n + length left ≡ length all + 1 → n + 1 + length after ≡ length all + 1
+counted n left after all line cut h = omega (arith, ap length cut, h)
