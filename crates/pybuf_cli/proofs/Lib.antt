@@ -2,6 +2,8 @@ pub mod Taking
 pub mod Outcomes
 pub mod Served
 pub mod Sending
+pub mod Entries
+pub mod Shared
 pub mod Running
 pub mod OneForm
 pub mod ReplyLaws

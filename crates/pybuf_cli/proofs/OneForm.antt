@@ -1,64 +1,45 @@
--- What the form owes that the words ask for is owed by each form that they ask for.
-use Rattle.std.proofs.Common.{◌≡◌, ◌⊎◌, ℕ, List, Option, Some, None, inl, inr, sym, ◌∙◌, subst}
+-- What is owed for the form that words ask for.
+use Rattle.std.proofs.Common.{◌≡◌, ◌⊎◌, ℕ, List, Option, Some, None, inl, inr, sym, ◌∙◌, ap, refl, subst, arith}
 use Rattle.pybuf_cli.specs.declared.forms.Form.{Form}
-use Rattle.pybuf_cli.specs.declared.forms.Form.TheVariants as form
 use Rattle.pybuf_cli.specs.declared.status.Status.{Status}
 use Rattle.pybuf_cli.specs.declared.status.Status.TheVariants as status
-use Rattle.pybuf_cli.specs.Devices.{PutPrefix}
-use Rattle.pybuf_cli.specs.Program.{form_of, text_due, ending}
+use Rattle.pybuf_cli.specs.declared.forms.Form.TheVariants as form
+use Rattle.pybuf_cli.specs.Devices.{Rose}
+use Rattle.pybuf_cli.specs.Program.{alone}
+use Rattle.pybuf_cli.specs.Serving.{ServesForm, Serves}
 
-pub some_form : (words : List (List ℕ)) (read : Option Form) (f : Form) → read ≡ form_of words → read ≡ Some f → form_of words ≡ None → ⊥
-some_form words read f e is none =
-    let all : None ≡ Some f = sym none ∙ (sym e ∙ is) in
-    cc
+other_form : (asked : Option Form) (f : Form) → asked ≡ Some f → asked ≡ None → ⊥
+other_form asked f is none = let both : Some f ≡ None = sym is ∙ none in cc
 
--- words ask for one form
-pub same_form : (words : List (List ℕ)) (read : Option Form) (asked f : Form) → read ≡ form_of words → read ≡ Some asked →
-    form_of words ≡ Some f → asked ≡ f
-same_form words read asked f e is other =
-    let both : Some asked ≡ Some f = sym is ∙ (e ∙ other) in
-    cc
+same_form : (asked : Option Form) (f other : Form) → asked ≡ Some f → asked ≡ Some other → f ≡ other
+same_form asked f other is so = let both : Some f ≡ Some other = sym is ∙ so in cc
 
--- a run is no script
-pub run_is_no_make : (words : List (List ℕ)) (read : Option Form) (n : ℕ) → read ≡ form_of words → read ≡ Some form.Run →
-    form_of words ≡ Some (form.Make n) → ⊥
-run_is_no_make words read n e is other =
-    let same : form.Run ≡ form.Make n = same_form words read form.Run (form.Make n) e is other in
-    cc
+-- words that ask for no form are refused, where that is all that was done
+pub serves_none : {S K : Type 0} (asked : Option Form) (bytes_left : S → Option (List ℕ)) (source_faults : S → ℕ) (bytes_held : K → Option (List ℕ))
+    (sink_faults : K → ℕ) (source : S) (sink : K) → asked ≡ None →
+    Serves asked status.Usage bytes_left source_faults bytes_held sink_faults source source sink sink
+serves_none asked bytes_left source_faults bytes_held sink_faults source sink none = record {
+  usage = (λ _. none, λ _. refl);
+  usage_reads_nothing = λ _. refl;
+  usage_writes_nothing = λ _. refl;
+  served = λ f is. absurd (other_form asked f is none);
+}
 
-pub make_is_no_run : (words : List (List ℕ)) (read : Option Form) (n : ℕ) → read ≡ form_of words → read ≡ Some (form.Make n) →
-    form_of words ≡ Some form.Run → ⊥
-make_is_no_run words read n e is other =
-    let same : form.Make n ≡ form.Run = same_form words read (form.Make n) form.Run e is other in
-    cc
-
-pub same_number : (words : List (List ℕ)) (read : Option Form) (n m : ℕ) → read ≡ form_of words → read ≡ Some (form.Make n) →
-    form_of words ≡ Some (form.Make m) → n ≡ m
-same_number words read n m e is other =
-    let same : form.Make n ≡ form.Make m = same_form words read (form.Make n) (form.Make m) e is other in
-    cc
-
--- what holds of a script of this number holds of that which the words ask for
-pub of_number : (words : List (List ℕ)) (read : Option Form) (n : ℕ) (P : ℕ → Type 0) → read ≡ form_of words → read ≡ Some (form.Make n) →
-    P n → (m : ℕ) → form_of words ≡ Some (form.Make m) → P m
-of_number words read n P e is holds m other = subst P (same_number words read n m e is other) holds
-
-pub prefix_of_form : (words : List (List ℕ)) (read : Option Form) (asked : Form) (left held_before held : Option (List ℕ)) →
-    read ≡ form_of words → read ≡ Some asked →
-    ((input : List ℕ) → left ≡ Some input → PutPrefix held_before (text_due asked input) held) →
-    (f : Form) → form_of words ≡ Some f → (input : List ℕ) → left ≡ Some input → PutPrefix held_before (text_due f input) held
-prefix_of_form words read asked left held_before held e is front f other =
-    subst (λ (g : Form). (input : List ℕ) → left ≡ Some input → PutPrefix held_before (text_due g input) held)
-    (same_form words read asked f e is other) front
-
-pub complete_of_form : (words : List (List ℕ)) (read : Option Form) (asked : Form) (left : Option (List ℕ)) (result : Status) (Reads Writes : Type 0) →
-    read ≡ form_of words → read ≡ Some asked →
-    ((input : List ℕ) → left ≡ Some input → ¬ Reads → ¬ Writes → (result ≡ ending asked input) ⊎ (result ≡ status.NoMemory)) →
-    (f : Form) → form_of words ≡ Some f → (input : List ℕ) → left ≡ Some input → ¬ Reads → ¬ Writes →
-    (result ≡ ending f input) ⊎ (result ≡ status.NoMemory)
-complete_of_form words read asked left result Reads Writes e is whole f other =
-    subst (λ (g : Form). (input : List ℕ) → left ≡ Some input → ¬ Reads → ¬ Writes → (result ≡ ending g input) ⊎ (result ≡ status.NoMemory))
-    (same_form words read asked f e is other) whole
+-- Words that ask for a form get what is owed for it. So an arm for a form has only that to show, and that it doesn't refuse
+-- its words.
+pub serves_form : {S K : Type 0} (asked : Option Form) (f : Form) (result : Status)
+    (bytes_left : S → Option (List ℕ)) (source_faults : S → ℕ) (bytes_held : K → Option (List ℕ)) (sink_faults : K → ℕ)
+    (source_before source : S) (sink_before sink : K) → asked ≡ Some f → (result ≡ status.Usage → ⊥) →
+    ServesForm f result bytes_left source_faults bytes_held sink_faults source_before source sink_before sink →
+    Serves asked result bytes_left source_faults bytes_held sink_faults source_before source sink_before sink
+serves_form asked f result bytes_left source_faults bytes_held sink_faults source_before source sink_before sink is other served = record {
+  usage = (λ refused. absurd (other refused), λ none. absurd (other_form asked f is none));
+  usage_reads_nothing = λ refused. absurd (other refused);
+  usage_writes_nothing = λ refused. absurd (other refused);
+  served = λ g so.
+      subst (λ (h : Form). ServesForm h result bytes_left source_faults bytes_held sink_faults source_before source sink_before sink)
+      (same_form asked f g is so) served;
+}
 
 -- a script ends well, or for want of memory, where the sink doesn't fail
 pub made_whole : (result : Status) (Writes : Type 0) → (result ≡ status.Done) ⊎ ((result ≡ status.NoMemory) ⊎ (result ≡ status.WriteFault)) →
@@ -79,3 +60,54 @@ pub made_ends_so : (result other : Status) → (result ≡ status.Done) ⊎ ((re
 made_ends_so result other (inl done) is = subst is_end_of_make (sym done ∙ is) tt
 made_ends_so result other (inr (inl none)) is = subst is_end_of_make (sym none ∙ is) tt
 made_ends_so result other (inr (inr failed)) is = subst is_end_of_make (sym failed ∙ is) tt
+
+-- what is owed with one thread is what is owed, for words that don't ask for more
+pub serves_as : {S K : Type 0} (asked other : Option Form) (result : Status)
+    (bytes_left : S → Option (List ℕ)) (source_faults : S → ℕ) (bytes_held : K → Option (List ℕ)) (sink_faults : K → ℕ)
+    (source_before source : S) (sink_before sink : K) → asked ≡ other →
+    Serves asked result bytes_left source_faults bytes_held sink_faults source_before source sink_before sink →
+    Serves other result bytes_left source_faults bytes_held sink_faults source_before source sink_before sink
+serves_as asked other result bytes_left source_faults bytes_held sink_faults source_before source sink_before sink same serves =
+    subst (λ (x : Option Form). Serves x result bytes_left source_faults bytes_held sink_faults source_before source sink_before sink) same serves
+
+-- a source that never fails is read, and a sink that never fails is written
+pub reads_well : {S K : Type 0} (asked : Option Form) (result : Status)
+    (bytes_left : S → Option (List ℕ)) (source_faults : S → ℕ) (bytes_held : K → Option (List ℕ)) (sink_faults : K → ℕ)
+    (source_before source : S) (sink_before sink : K) →
+    Serves asked result bytes_left source_faults bytes_held sink_faults source_before source sink_before sink →
+    ¬ (Rose (source_faults source_before) (source_faults source)) → result ≡ status.ReadFault → ⊥
+reads_well None result bytes_left source_faults bytes_held sink_faults source_before source sink_before sink serves well is =
+    let both : status.Usage ≡ status.ReadFault = sym (serves.usage.1 refl) ∙ is in cc
+reads_well (Some f) result bytes_left source_faults bytes_held sink_faults source_before source sink_before sink serves well is =
+    well ((serves.served f refl).read_fault is)
+
+pub writes_well : {S K : Type 0} (asked : Option Form) (result : Status)
+    (bytes_left : S → Option (List ℕ)) (source_faults : S → ℕ) (bytes_held : K → Option (List ℕ)) (sink_faults : K → ℕ)
+    (source_before source : S) (sink_before sink : K) →
+    Serves asked result bytes_left source_faults bytes_held sink_faults source_before source sink_before sink →
+    ¬ (Rose (sink_faults sink_before) (sink_faults sink)) → result ≡ status.WriteFault → ⊥
+writes_well None result bytes_left source_faults bytes_held sink_faults source_before source sink_before sink serves well is =
+    let both : status.Usage ≡ status.WriteFault = sym (serves.usage.1 refl) ∙ is in cc
+writes_well (Some f) result bytes_left source_faults bytes_held sink_faults source_before source sink_before sink serves well is =
+    well ((serves.served f refl).write_fault is)
+
+no_sessions_alone : (asked : Option Form) → alone asked ≡ Some form.Share → ⊥
+no_sessions_alone None is = cc
+no_sessions_alone (Some form.Run) is = cc
+no_sessions_alone (Some form.Share) is = cc
+no_sessions_alone (Some (form.Make n)) is = cc
+
+-- with one thread alone nobody disagrees
+pub agrees_alone : {S K : Type 0} (asked other : Option Form) (result : Status)
+    (bytes_left : S → Option (List ℕ)) (source_faults : S → ℕ) (bytes_held : K → Option (List ℕ)) (sink_faults : K → ℕ)
+    (source_before source : S) (sink_before sink : K) → other ≡ alone asked →
+    Serves other result bytes_left source_faults bytes_held sink_faults source_before source sink_before sink → result ≡ status.Disagree → ⊥
+agrees_alone asked None result bytes_left source_faults bytes_held sink_faults source_before source sink_before sink same serves is =
+    let both : status.Usage ≡ status.Disagree = sym (serves.usage.1 refl) ∙ is in cc
+agrees_alone asked (Some f) result bytes_left source_faults bytes_held sink_faults source_before source sink_before sink same serves is =
+    no_sessions_alone asked (sym same ∙ ap Some ((serves.served f refl).disagree is))
+
+-- what never fails counts no fault
+pub never_rose : (before after : ℕ) → before ≡ 0 → after ≡ 0 → Rose before after → ⊥
+never_rose before after none still (inl more) = omega (arith, none, still, more)
+never_rose before after none still (inr last) = omega (arith, still, last)

@@ -91,3 +91,29 @@ sends_more old mid new text waiting line longer sent rest before e f put = recor
       ∙ (ap (λ x. before.sent ++ x) (sym e ∙ f) ∙ sym (append_assoc before.sent sent rest)));
   put = put_both old mid new before.sent sent before.put put;
 }
+
+-- what waits is put, and so the whole text is
+pub sends_put : (old mid new : Option (List ℕ)) (text waiting lent : List ℕ) → Sends old text waiting mid → lent ≡ waiting → Put mid lent new → Put old text new
+sends_put old mid new text waiting lent sends same put =
+    let last : Put mid waiting new = subst (λ (x : List ℕ). Put mid x new) same put in
+    subst (λ (x : List ℕ). Put old x new) (sym sends.whole) (put_both old mid new sends.sent waiting sends.put last)
+
+-- and with more behind it
+pub sends_then_put : (old mid new : Option (List ℕ)) (text waiting more : List ℕ) → Sends old text waiting mid → Put mid (waiting ++ more) new →
+    Put old (text ++ more) new
+sends_then_put old mid new text waiting more sends put =
+    let whole : text ++ more ≡ sends.sent ++ (waiting ++ more) = ap (λ x. x ++ more) sends.whole ∙ append_assoc sends.sent waiting more in
+    subst (λ (x : List ℕ). Put old x new) (sym whole) (put_both old mid new sends.sent (waiting ++ more) sends.put put)
+
+-- the front of what waits is put, with more behind it that isn't
+pub sends_front : (old mid new : Option (List ℕ)) (text waiting lent rest both : List ℕ) → Sends old text waiting mid → both ≡ text ++ rest →
+    lent ≡ waiting → PutPrefix mid lent new → PutPrefix old both new
+sends_front old mid new text waiting lent rest both sends is same front =
+    put_then_front old mid new both sends.sent waiting rest (is ∙ ap (λ x. x ++ rest) sends.whole) sends.put (front_same mid new lent waiting same front)
+
+-- the front of what waits and of more, with still more behind it
+pub sends_then_front : (old mid new : Option (List ℕ)) (text waiting more rest both : List ℕ) → Sends old text waiting mid →
+    both ≡ (text ++ more) ++ rest → PutPrefix mid (waiting ++ more) new → PutPrefix old both new
+sends_then_front old mid new text waiting more rest both sends is front =
+    let whole : text ++ more ≡ sends.sent ++ (waiting ++ more) = ap (λ x. x ++ more) sends.whole ∙ append_assoc sends.sent waiting more in
+    put_then_front old mid new both sends.sent (waiting ++ more) rest (is ∙ ap (λ x. x ++ rest) whole) sends.put front

@@ -1,5 +1,5 @@
 -- What was read and put, where the source tells its bytes.
-use Rattle.std.proofs.Common.{◌≡◌, ◌≢◌, ◌↔◌, ◌⊎◌, ℕ, suc, ◌<◌, ◌≤◌, List, [], ◌++◌, length, take, drop, Option, Some, Result, Ok, Err, inl, inr, refl, sym, ◌∙◌, ap, arith}
+use Rattle.std.proofs.Common.{◌≡◌, ◌≢◌, ◌↔◌, ◌⊎◌, ℕ, suc, ◌<◌, ◌≤◌, List, [], ◌++◌, length, take, drop, Option, Some, Result, Ok, Err, inl, inr, refl, sym, ◌∙◌, ap, subst, arith}
 use Rattle.std.proofs.lemmas.List.{append-nil, nil_from_length, length-append, drop_at}
 use Rattle.pybuf_command.specs.declared.worlds.Command.{Command}
 use Rattle.pybuf_world.specs.World.{empty_world}
@@ -9,11 +9,12 @@ use Rattle.pybuf_cli.specs.declared.loops.ReadStop.{ReadStop}
 use Rattle.pybuf_cli.specs.declared.loops.ReadStop.TheVariants as stops
 use Rattle.pybuf_cli.specs.declared.status.Status.{Status}
 use Rattle.pybuf_cli.specs.declared.status.Status.TheVariants as status
-use Rattle.pybuf_cli.specs.Devices.{Took, AtEnd, Put, PutPrefix}
+use Rattle.pybuf_cli.specs.Devices.{Took, AtEnd, Put, PutsFrontOf}
 use Rattle.pybuf_line.specs.Scalars.{handle_in}
 use Rattle.pybuf_line.specs.Lines.{commands_in}
 use Rattle.pybuf_line.specs.Replies.{bad_line_text}
-use Rattle.pybuf_cli.specs.Program.{most, program, text_due, ending_for, IsDone, IsBadLine, IsTooLong, TakesFront}
+use Rattle.pybuf_cli.specs.Program.{most, program, ending_for, IsDone, IsBadLine, IsTooLong, TakesFront}
+use Rattle.pybuf_cli.specs.Serving.{IsDue, Ends}
 
 -- what was taken up to the end is all that there was
 pub took_all : (old new : Option (List ℕ)) (input bytes : List ℕ) → Took old bytes new → AtEnd new → old ≡ Some input →
@@ -140,14 +141,21 @@ quiet_refused input told held_before held out left same empty kept bad =
     (bad.line, sym (ap (commands_in handle_in) same) ∙ bad.first, kept ∙ held_is held_before held (bad_line_text bad.line) empty bad.put)
 
 pub quiet_front : (f : Form) (input told held_before held out : List ℕ) → told ≡ input → held_before ≡ [] → out ≡ held →
-    PutPrefix (Some held_before) (text_due f told) (Some held) →
-    (count : ℕ) × (count ≤ length (text_due f input)) × (out ≡ take count (text_due f input))
-quiet_front f input told held_before held out same empty kept front =
-    let n = front.0 in (
+    PutsFrontOf (λ text. IsDue f told text) (Some held_before) (Some held) →
+    (text : List ℕ) × IsDue f input text × (count : ℕ) × (count ≤ length text) × (out ≡ take count text)
+quiet_front f input told held_before held out same empty kept put =
+    let n = put.front.0 in (
+      put.text,
+      subst (λ (x : List ℕ). IsDue f x put.text) same put.due,
       n,
-      omega (arith, front.1, ap (λ x. length (text_due f x)) same),
-      kept ∙ (held_is held_before held (take n (text_due f told)) empty front.2 ∙ ap (λ x. take n (text_due f x)) same),
+      put.front.1,
+      kept ∙ held_is held_before held (take n put.text) empty put.front.2,
     )
+
+-- how a form ended over the bytes of a source is how it ends over the same bytes
+pub quiet_ends : (f : Form) (input told : List ℕ) (result : Status) → told ≡ input → (Ends f told result) ⊎ (result ≡ status.NoMemory) →
+    (Ends f input result) ⊎ (result ≡ status.NoMemory)
+quiet_ends f input told result same ended = subst (λ (x : List ℕ). (Ends f x result) ⊎ (result ≡ status.NoMemory)) same ended
 
 pub quiet_made : (text held_before held out : List ℕ) → held_before ≡ [] → out ≡ held → Put (Some held_before) text (Some held) → out ≡ text
 quiet_made text held_before held out empty kept put = kept ∙ held_is held_before held text empty put

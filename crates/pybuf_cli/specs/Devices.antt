@@ -17,6 +17,12 @@ Put old bytes new = (held : List ℕ) → old ≡ Some held → new ≡ Some (he
 abbrev pub PutPrefix : Option (List ℕ) → List ℕ → Option (List ℕ) → Type 0
 PutPrefix old text new = (count : ℕ) × (count ≤ length text) × Put old (take count text) new
 
+-- so it has of a text of which something holds
+pub record PutsFrontOf (Due : List ℕ → Type 0) (old new : Option (List ℕ)) : Type 0 where
+  pub text : List ℕ
+  pub due : Due text
+  pub front : PutPrefix old text new
+
 -- A count of faults rose in a call. One that stands at its end can't rise.
 abbrev pub Rose : ℕ → ℕ → Type 0
 Rose old new = (old < new) ⊎ (new ≡ 2 ^ 64 - 1)

@@ -8,9 +8,8 @@ use Rattle.pybuf_line.specs.Scalars.{handle_in}
 use Rattle.pybuf_line.specs.Lines.{commands_in}
 use Rattle.pybuf_command.specs.Shown.{reply_text}
 use Rattle.pybuf_line.specs.Laws.{IsOneLine}
-use Rattle.pybuf_cli.specs.declared.forms.Form.TheVariants as form
 use Rattle.pybuf_cli.specs.declared.status.Status.TheVariants as status
-use Rattle.pybuf_cli.specs.Program.{program, text_due, ending}
+use Rattle.pybuf_cli.specs.Program.{program, run_text, run_ending}
 use Rattle.pybuf_cli.specs.Scripts.{script_text}
 
 -- The text of each reply of a run is one line, of whatever commands in whatever world and whatever the names of handles
@@ -26,4 +25,4 @@ ScriptsAreSpelled = (n : ℕ) → n ≤ 4096 → commands_in handle_in (script_t
 -- That text isn't too long, so what a run of it has to write are the replies to the script, of which its summary tells.
 abbrev pub ScriptsAreRun : Type 0
 ScriptsAreRun =
-    (n : ℕ) → n ≤ 4096 → (text_due form.Run (script_text n) ≡ program (script n)) × (ending form.Run (script_text n) ≡ status.Done)
+    (n : ℕ) → n ≤ 4096 → (run_text (script_text n) ≡ program (script n)) × (run_ending (script_text n) ≡ status.Done)

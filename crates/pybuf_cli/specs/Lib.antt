@@ -2,6 +2,8 @@ pub mod Devices
 pub mod Failing
 pub mod Endings
 pub mod Program
+pub mod Sharing
+pub mod Serving
 pub mod Running
 pub mod Scripts
 pub mod Laws

@@ -1,6 +1,7 @@
 //! What the words after the program's name ask for.
-ghost use Rattle.std.specs.Prelude.{◌≡◌};
-ghost use Rattle.pybuf_cli.specs.Program.{script_number_in, form_of};
+ghost use Rattle.std.specs.Prelude.{◌≡◌, true, false, Some};
+ghost use Rattle.pybuf_cli.specs.declared.forms.Form.{Form};
+ghost use Rattle.pybuf_cli.specs.Program.{script_number_in, form_of, alone};
 
 use itoa::Buffer;
 use pybuf_line::is_word;
@@ -11,6 +12,8 @@ use pybuf_value::Text;
 pub enum Form {
     /// To run the commands of its input, a line each.
     Run,
+    /// To let sessions carry out the lines of its input on one exporter.
+    Share,
     /// To run the script of a number, from 1 to 4,096, and to tell of its run.
     Make(u16),
 }
@@ -50,6 +53,9 @@ pub fn form_named(words: &[Text]) -> Option<Form>
             if is_word(word.as_slice(), "run") {
                 return Some(Form::Run);
             }
+            if is_word(word.as_slice(), "share") {
+                return Some(Form::Share);
+            }
             None
         }
         [word, number] => {
@@ -62,5 +68,18 @@ pub fn form_named(words: &[Text]) -> Option<Form>
             None
         }
         _ => None,
+    }
+}
+
+/// Whether the words ask for sessions, which need more than one thread.
+pub(crate) fn is_shared(words: &[Text]) -> bool
+    ensures shared { result ≡ true → form_of words.now ≡ Some Form.Share }
+    ensures other { result ≡ false → alone (form_of words.now) ≡ form_of words.now }
+{
+    match form_named(words) {
+        Some(Form::Share) => true,
+        Some(Form::Run) => false,
+        Some(Form::Make(_)) => false,
+        None => false,
     }
 }

@@ -8,7 +8,9 @@ mod forms;
 mod laws;
 mod loops;
 mod memory;
+mod putting;
 mod serving;
+mod sharing;
 mod status;
 mod writing;
 
@@ -18,5 +20,5 @@ pub use failing::{ListSink, ListSource};
 pub use forms::{Form, form_named};
 pub use laws::{runs_reply_single_lines, scripts_are_spelled};
 pub use memory::{QuietSink, QuietSource};
-pub use serving::{serve, serve_alone, serve_bytes};
+pub use serving::{serve, serve_alone, serve_bytes, serve_gated};
 pub use status::Status;

@@ -10,17 +10,21 @@ ghost use Rattle.pybuf_line.specs.Replies.{bad_line_text};
 ghost use Rattle.pybuf_make.specs.Summary.{summary};
 ghost use Rattle.pybuf_cli.specs.declared.forms.Form.{Form};
 ghost use Rattle.pybuf_cli.specs.Running.{AreSpelled};
-ghost use Rattle.pybuf_cli.specs.Program.{form_of, program, due_for, ending_for, text_due, ending, IsDone, IsBadLine, IsTooLong, TakesFront, Serves};
+ghost use Rattle.pybuf_cli.specs.Program.{form_of, alone, program, due_for, ending_for, run_text, run_ending, IsDone, IsBadLine, IsTooLong, TakesFront};
+ghost use Rattle.pybuf_cli.specs.Serving.{IsDue, Ends, Serves};
 
 use crate::devices::{PutFault, Sink, Source};
-use crate::forms::{Form, form_named};
+use crate::forms::{Form, form_named, is_shared};
 use crate::loops::{ReadStop, read_all, write_all};
 use crate::memory::{QuietSink, QuietSource};
+use crate::putting::write_bad_line;
+use crate::sharing::share;
 use crate::status::Status;
 use crate::writing::run_lines;
-use pybuf_line::{Misread, check_lines, push_bad_line};
+use pybuf_line::{Misread, check_lines};
 use pybuf_make::make_summary;
-use pybuf_value::{ByteList, Made, Text};
+use pybuf_share::{Gate, OpenGate};
+use pybuf_value::{ByteList, Text};
 use pybuf_world::runs_stay_sound;
 use std::alloc::Global;
 use std::sync::Wait;
@@ -38,32 +42,6 @@ fn run_commands<K: Sink>(alloc: Global, sink: &mut K, input: &[u8]) -> Status
         Ok(()) => Status::Done,
         Err(PutFault::Failed) => Status::WriteFault,
         Err(PutFault::NoMemory) => Status::NoMemory,
-    }
-}
-
-/// The text that tells which line is no command.
-fn bad_line(alloc: Global, number: u64) -> Made<Vec<u8>>
-    ensures { IfOk result (λ text. text.items ≡ bad_line_text number) }
-{
-    let mut text = Vec::new(alloc);
-    push_bad_line(&mut text, number)?;
-    Ok(text)
-}
-
-/// Puts which line is no command.
-fn write_bad_line<K: Sink>(alloc: Global, sink: &mut K, number: u64) -> Status
-    ensures put { result ≡ Status.BadLine → Put (K.bytes_held sink.old) (bad_line_text number) (K.bytes_held sink.new) }
-    ensures prefix { PutPrefix (K.bytes_held sink.old) (bad_line_text number) (K.bytes_held sink.new) }
-    ensures rose { result ≡ Status.WriteFault → Rose (K.faults sink.old) (K.faults sink.new) }
-    ensures ending { (result ≡ Status.BadLine) ⊎ ((result ≡ Status.NoMemory) ⊎ (result ≡ Status.WriteFault)) }
-{
-    match bad_line(alloc, number) {
-        Ok(text) => match write_all(sink, text.as_slice()) {
-            Ok(()) => Status::BadLine,
-            Err(PutFault::Failed) => Status::WriteFault,
-            Err(PutFault::NoMemory) => Status::NoMemory,
-        },
-        Err(_) => Status::NoMemory,
     }
 }
 
@@ -99,10 +77,10 @@ fn run<S: Source, K: Sink>(alloc: Global, source: &mut S, sink: &mut K) -> Statu
     ensures unread_writes_nothing { (rest : List ℕ) → S.bytes_left source.new ≡ Some rest → 0 < length rest →
         sink.new ≡ sink.old }
     ensures prefix { (input : List ℕ) → S.bytes_left source.old ≡ Some input →
-        PutPrefix (K.bytes_held sink.old) (text_due Form.Run input) (K.bytes_held sink.new) }
+        PutPrefix (K.bytes_held sink.old) (run_text input) (K.bytes_held sink.new) }
     ensures complete { (input : List ℕ) → S.bytes_left source.old ≡ Some input →
         ¬ (Rose (S.faults source.old) (S.faults source.new)) → ¬ (Rose (K.faults sink.old) (K.faults sink.new)) →
-        (result ≡ ending Form.Run input) ⊎ (result ≡ Status.NoMemory) }
+        (result ≡ run_ending input) ⊎ (result ≡ Status.NoMemory) }
     ensures read_fault { result ≡ Status.ReadFault → Rose (S.faults source.old) (S.faults source.new) }
     ensures write_fault { result ≡ Status.WriteFault → Rose (K.faults sink.old) (K.faults sink.new) }
     ensures read_fault_writes_nothing { result ≡ Status.ReadFault → sink.new ≡ sink.old }
@@ -135,7 +113,7 @@ fn make<K: Sink>(alloc: Global, sink: &mut K, number: u16) -> Status
     }
 }
 
-/// Does all that the program `pybuf` does, but for forms of words that need more than one thread.
+/// Does all that the program `pybuf` does, but for the word `share`, which needs more than one thread: here it is refused.
 ///
 /// With no word, or with the one word `run`, it reads the whole input, at most 1,048,576 bytes,
 /// looks whether each line is a command, runs them in order in a new world, and puts one line for
@@ -154,10 +132,11 @@ pub fn serve_alone<S: Source, K: Sink>(
     source: &mut S,
     sink: &mut K,
 ) -> Status
-    ensures { Serves words.now result S.bytes_left S.faults K.bytes_held K.faults source.old source.new sink.old sink.new }
+    ensures { Serves (alone (form_of words.now)) result S.bytes_left S.faults K.bytes_held K.faults source.old source.new sink.old sink.new }
 {
     match form_named(words) {
         None => Status::Usage,
+        Some(Form::Share) => Status::Usage,
         Some(Form::Run) => run(alloc, source, sink),
         Some(Form::Make(number)) => make(alloc, sink, number),
     }
@@ -166,17 +145,17 @@ pub fn serve_alone<S: Source, K: Sink>(
 /// Does what `serve_alone` does with bytes in memory: gives the bytes that it puts, and its status.
 /// Nothing can fail but memory.
 pub fn serve_bytes(alloc: Global, words: &[Text], input: ByteList) -> (ByteList, Status)
-    ensures usage { (result.1 ≡ Status.Usage) ↔ (form_of words.now ≡ None) }
+    ensures usage { (result.1 ≡ Status.Usage) ↔ (alone (form_of words.now) ≡ None) }
     ensures usage_writes_nothing { result.1 ≡ Status.Usage → result.0 ≡ [] }
     ensures done { form_of words.now ≡ Some Form.Run → result.1 ≡ Status.Done →
         (commands : List Command) × (commands_in handle_in input ≡ Ok commands) × (result.0 ≡ program commands) }
     ensures bad_line { form_of words.now ≡ Some Form.Run → result.1 ≡ Status.BadLine →
         (line : ℕ) × (commands_in handle_in input ≡ Err line) × (result.0 ≡ bad_line_text line) }
     ensures made { (n : ℕ) → form_of words.now ≡ Some (Form.Make n) → result.1 ≡ Status.Done → result.0 ≡ summary n }
-    ensures prefix { (f : Form) → form_of words.now ≡ Some f →
-        (count : ℕ) × (count ≤ length (text_due f input)) × (result.0 ≡ take count (text_due f input)) }
-    ensures complete { (f : Form) → form_of words.now ≡ Some f →
-        (result.1 ≡ ending f input) ⊎ (result.1 ≡ Status.NoMemory) }
+    ensures prefix { (f : Form) → alone (form_of words.now) ≡ Some f →
+        (text : List ℕ) × IsDue f input text × (count : ℕ) × (count ≤ length text) × (result.0 ≡ take count text) }
+    ensures complete { (f : Form) → alone (form_of words.now) ≡ Some f →
+        (Ends f input result.1) ⊎ (result.1 ≡ Status.NoMemory) }
     ensures no_read_fault { result.1 ≢ Status.ReadFault }
     ensures no_write_fault { result.1 ≢ Status.WriteFault }
     ensures disagree { result.1 ≢ Status.Disagree }
@@ -187,16 +166,45 @@ pub fn serve_bytes(alloc: Global, words: &[Text], input: ByteList) -> (ByteList,
     (sink.into_bytes(), status)
 }
 
-/// Does all that the program `pybuf` does. Other threads are started only for the forms of words
-/// that need them, of which none is built.
+/// Does all that the program `pybuf` does, with a gate that is called before and in each call of a session
+/// (`SharedExporter::call_gated`).
+///
+/// With the one word `share` it reads the whole input, at most 1,048,576 bytes, and looks whether it has a first line
+/// `new KIND xHEX` and lines of sessions behind it. Each session carries out its lines, in order, on the one exporter, in a
+/// thread of its own, and all wait for the lock. Then it puts a line for each command of the history that they made, with
+/// its reply, how many they are, and the bytes in the end. Which order sessions have among each other is open.
+///
+/// Other words are served as by `serve_alone`. With `share` it ends where each call of the source, the sink and the gate does
+/// and each thread gets its turn: no proof says that these do.
+pub fn serve_gated<R: Threads + Wait + Sync, S: Source, K: Sink, G: Gate + Sync>(
+    rt: &R,
+    alloc: Global,
+    words: &[Text],
+    source: &mut S,
+    sink: &mut K,
+    gate: &G,
+) -> Status
+    ensures { Serves (form_of words.now) result S.bytes_left S.faults K.bytes_held K.faults source.old source.new sink.old sink.new }
+{
+    if is_shared(words) {
+        return share(rt, alloc, source, sink, gate);
+    }
+    serve_alone(alloc, words, source, sink)
+}
+
+/// Does all that the program `pybuf` does: what `serve_gated` does with a gate that does nothing. Other threads are started
+/// for the word `share` alone.
 pub fn serve<R: Threads + Wait + Sync, S: Source, K: Sink>(
-    _rt: &R,
+    rt: &R,
     alloc: Global,
     words: &[Text],
     source: &mut S,
     sink: &mut K,
 ) -> Status
-    ensures { Serves words.now result S.bytes_left S.faults K.bytes_held K.faults source.old source.new sink.old sink.new }
+    ensures { Serves (form_of words.now) result S.bytes_left S.faults K.bytes_held K.faults source.old source.new sink.old sink.new }
 {
+    if is_shared(words) {
+        return serve_gated(rt, alloc, words, source, sink, &OpenGate);
+    }
     serve_alone(alloc, words, source, sink)
 }

@@ -1,92 +1,20 @@
 //! The lines of an input, run one after the other, with a line for each reply.
-ghost use Rattle.std.specs.Prelude.{◌≡◌, ◌≤◌, ◌^◌, true, false, [], ◌++◌, OnOk, OnErr, IfErr};
+ghost use Rattle.std.specs.Prelude.{◌≡◌, ◌≤◌, OnOk, OnErr, IfErr};
 ghost use Rattle.pybuf_line.specs.Scalars.{handle_in};
 ghost use Rattle.pybuf_line.specs.Lines.{commands_in};
-ghost use Rattle.pybuf_cli.specs.Devices.{Put, PutPrefix, Rose, Sends};
+ghost use Rattle.pybuf_cli.specs.Devices.{Put, PutPrefix, Rose};
 ghost use Rattle.pybuf_cli.specs.Program.{due_for};
 ghost use Rattle.pybuf_cli.specs.Running.{IsSpelled, AreSpelled, IsCarriedOut, IsAnswered};
 ghost use Rattle.pybuf_cli.specs.declared.devices.PutFault.{PutFault};
 
 use crate::devices::{PutFault, Sink};
-use crate::loops::{PIECE, write_all};
+use crate::loops::write_all;
+use crate::putting::{send_front, send_reply};
 use pybuf_command::Command;
 use pybuf_line::{Unread, command_of_line, let_go, next_line, push_reply_line};
 use pybuf_value::{Made, NoMemory};
 use pybuf_world::World;
 use std::alloc::Global;
-
-/// Puts the text, and leaves none to wait.
-fn send<K: Sink>(sink: &mut K, text: &mut Vec<u8>) -> Result<(), PutFault>
-    ensures put { OnOk result (Put (K.bytes_held sink.old) text.old.items (K.bytes_held sink.new)) }
-    ensures empty { OnOk result (text.new.items ≡ []) }
-    ensures prefix { OnErr result (PutPrefix (K.bytes_held sink.old) text.old.items (K.bytes_held sink.new)) }
-    ensures rose { IfErr result (λ fault. fault ≡ PutFault.Failed → Rose (K.faults sink.old) (K.faults sink.new)) }
-    ensures later { K.faults sink.old ≤ K.faults sink.new }
-{
-    write_all(sink, text.as_slice())?;
-    text.clear();
-    Ok(())
-}
-
-/// Puts the text where it is long.
-fn send_long<K: Sink>(sink: &mut K, text: &mut Vec<u8>) -> Result<(), PutFault>
-    ensures sent { OnOk result (Sends (K.bytes_held sink.old) text.old.items text.new.items (K.bytes_held sink.new)) }
-    ensures prefix { OnErr result (PutPrefix (K.bytes_held sink.old) text.old.items (K.bytes_held sink.new)) }
-    ensures rose { IfErr result (λ fault. fault ≡ PutFault.Failed → Rose (K.faults sink.old) (K.faults sink.new)) }
-    ensures later { K.faults sink.old ≤ K.faults sink.new }
-{
-    if text.len() < PIECE {
-        return Ok(());
-    }
-    send(sink, text)
-}
-
-/// Adds a reply to those that wait, and leaves none, where it is short and there is room for it.
-fn joins(text: &mut Vec<u8>, reply: &mut Vec<u8>) -> bool
-    ensures text { result ≡ true → text.new.items ≡ text.old.items ++ reply.old.items }
-    ensures empty { result ≡ true → reply.new.items ≡ [] }
-    ensures text_apart { result ≡ false → text.new.items ≡ text.old.items }
-    ensures reply_apart { result ≡ false → reply.new.items ≡ reply.old.items }
-{
-    if reply.len() >= PIECE {
-        return false;
-    }
-    match text.extend_from_slice(reply.as_slice()) {
-        Ok(()) => {
-            reply.clear();
-            true
-        }
-        Err(_) => false,
-    }
-}
-
-/// Adds a reply to those that wait, and puts these where they are long. A reply that is long by itself,
-/// or for which there is no room, is put from where it was written.
-fn send_reply<K: Sink>(
-    sink: &mut K,
-    text: &mut Vec<u8>,
-    reply: &mut Vec<u8>,
-) -> Result<(), PutFault>
-    ensures sent { OnOk result (Sends (K.bytes_held sink.old) (text.old.items ++ reply.old.items) text.new.items (K.bytes_held sink.new)) }
-    ensures empty { OnOk result (reply.new.items ≡ []) }
-    ensures prefix { OnErr result (PutPrefix (K.bytes_held sink.old) (text.old.items ++ reply.old.items) (K.bytes_held sink.new)) }
-    ensures rose { IfErr result (λ fault. fault ≡ PutFault.Failed → Rose (K.faults sink.old) (K.faults sink.new)) }
-    ensures later { K.faults sink.old ≤ K.faults sink.new }
-{
-    if joins(text, reply) {
-        return send_long(sink, text);
-    }
-    send(sink, text)?;
-    send(sink, reply)
-}
-
-/// Puts as much of the text as the sink takes.
-fn send_front<K: Sink>(sink: &mut K, text: &[u8])
-    ensures prefix { PutPrefix (K.bytes_held sink.old) text.now (K.bytes_held sink.new) }
-    ensures later { K.faults sink.old ≤ K.faults sink.new }
-{
-    let _ = write_all(sink, text);
-}
 
 /// Carries out a command, and adds the line of its reply to the text.
 fn answer_command(world: &mut World, command: &Command, text: &mut Vec<u8>) -> Made<()>

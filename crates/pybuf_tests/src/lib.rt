@@ -1,5 +1,5 @@
-//! Tests of what the program has not: a source and a sink that fail, bytes in place of devices, and the
-//! four users of the library.
+//! Tests of what the program has not: a source and a sink that fail, bytes in place of devices,
+//! sessions that wait for each other, and the four users of the library.
 #![tactic(auto)]
 
 #[cfg(test)]
@@ -8,5 +8,7 @@ mod devices;
 mod failing;
 #[cfg(test)]
 mod rows;
+#[cfg(test)]
+mod sharing;
 #[cfg(test)]
 mod users;

@@ -21,6 +21,8 @@ mod histories;
 #[cfg(test)]
 mod meetings;
 #[cfg(test)]
+mod refused;
+#[cfg(test)]
 mod ring;
 #[cfg(test)]
 mod scripts;

@@ -1,7 +1,7 @@
 use Rattle.std.proofs.lemmas.Result.{on_err_weaker}
 use Rattle.pybuf_cli.proofs.Outcomes.{on_err, follows_on_ok}
 use Rattle.pybuf_cli.proofs.Sending.{sends_all, sends_same, front_same, front_of_both, first_and_front}
-use Rattle.pybuf_cli.proofs.writing.send_reply.Goals as goal
+use Rattle.pybuf_cli.proofs.putting.send_reply.Goals as goal
 
 pub returns-then-joins-clause-sent : goal.returns-then-joins-clause-sent
 returns-then-joins-clause-sent g c =

@@ -1,0 +1,64 @@
+-- What the top call owes: whatever form the words ask for, and what each form owes by itself.
+use Rattle.std.specs.Prelude.{◌≡◌, ◌↔◌, ◌⊎◌, ℕ, List, Option, Some, None}
+use Rattle.pybuf_make.specs.Summary.{summary}
+use Rattle.pybuf_cli.specs.declared.forms.Form.{Form}
+use Rattle.pybuf_cli.specs.declared.forms.Form.TheVariants as form
+use Rattle.pybuf_cli.specs.declared.status.Status.{Status}
+use Rattle.pybuf_cli.specs.declared.status.Status.TheVariants as status
+use Rattle.pybuf_cli.specs.Devices.{PutsFrontOf, Rose}
+use Rattle.pybuf_cli.specs.Program.{run_text, run_ending, Runs, Makes}
+use Rattle.pybuf_cli.specs.Sharing.{IsDueShared, EndsShared, Shares}
+
+-- The text is due for a form and an input. A script's summary is due whatever the input is, which isn't read.
+abbrev pub IsDue : Form → List ℕ → List ℕ → Type 0
+IsDue form.Run input text = text ≡ run_text input
+IsDue form.Share input text = IsDueShared input text
+IsDue (form.Make n) input text = text ≡ summary n
+
+-- A form ends so over an input, where memory suffices and neither source nor sink fails.
+abbrev pub Ends : Form → List ℕ → Status → Type 0
+Ends form.Run input result = result ≡ run_ending input
+Ends form.Share input result = EndsShared input result
+Ends (form.Make n) input result = result ≡ status.Done
+
+-- what one form owes, and no other does
+abbrev pub Owes : {S K : Type 0} → Form → Status → (S → Option (List ℕ)) → (K → Option (List ℕ)) → S → S → K → K → Type 0
+Owes form.Run result bytes_left bytes_held source_before source sink_before sink =
+    Runs result bytes_left bytes_held source_before source sink_before sink
+Owes form.Share result bytes_left bytes_held source_before source sink_before sink =
+    Shares result bytes_left bytes_held source_before source sink_before sink
+Owes (form.Make n) result bytes_left bytes_held source_before source sink_before sink =
+    Makes n result bytes_held source_before source sink_before sink
+
+-- What is owed for a form that the words ask for.
+pub record ServesForm {S K : Type 0} (f : Form) (result : Status)
+    (bytes_left : S → Option (List ℕ)) (source_faults : S → ℕ) (bytes_held : K → Option (List ℕ)) (sink_faults : K → ℕ)
+    (source_before source : S) (sink_before sink : K) : Type 0 where
+  -- What this form alone owes.
+  pub own : Owes f result bytes_left bytes_held source_before source sink_before sink
+  -- Each form, where the source tells its bytes.
+  pub prefix : (input : List ℕ) → bytes_left source_before ≡ Some input → PutsFrontOf (λ text. IsDue f input text) (bytes_held sink_before) (bytes_held sink)
+  pub complete : (input : List ℕ) → bytes_left source_before ≡ Some input →
+      ¬ (Rose (source_faults source_before) (source_faults source)) → ¬ (Rose (sink_faults sink_before) (sink_faults sink)) →
+      (Ends f input result) ⊎ (result ≡ status.NoMemory)
+  -- Faults are the devices'.
+  pub read_fault : result ≡ status.ReadFault → Rose (source_faults source_before) (source_faults source)
+  pub write_fault : result ≡ status.WriteFault → Rose (sink_faults sink_before) (sink_faults sink)
+  pub read_fault_writes_nothing : result ≡ status.ReadFault → sink ≡ sink_before
+  pub too_long_writes_nothing : result ≡ status.TooLong → sink ≡ sink_before
+  -- Sessions alone can disagree with their history.
+  pub disagree : result ≡ status.Disagree → f ≡ form.Share
+
+-- What the top call owes for the form that its words ask for, if they ask for one: its status, and the source and the sink
+-- before and after it, by what they tell of their bytes and by the counts of their faults. A clause that speaks of one form
+-- stands with that form (`Owes`).
+pub record Serves {S K : Type 0} (asked : Option Form) (result : Status)
+    (bytes_left : S → Option (List ℕ)) (source_faults : S → ℕ) (bytes_held : K → Option (List ℕ)) (sink_faults : K → ℕ)
+    (source_before source : S) (sink_before sink : K) : Type 0 where
+  -- Words that are no form are refused before anything is read or written.
+  pub usage : (result ≡ status.Usage) ↔ (asked ≡ None)
+  pub usage_reads_nothing : result ≡ status.Usage → source ≡ source_before
+  pub usage_writes_nothing : result ≡ status.Usage → sink ≡ sink_before
+  -- Words that are one get what is owed for it.
+  pub served : (f : Form) → asked ≡ Some f →
+      ServesForm f result bytes_left source_faults bytes_held sink_faults source_before source sink_before sink

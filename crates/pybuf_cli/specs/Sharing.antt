@@ -1,0 +1,106 @@
+-- What sessions of one exporter may come to, and what is written of it.
+use Rattle.std.specs.Prelude.{◌≡◌, ◌≢◌, ◌⊎◌, ℕ, ◌≤◌, Bool, true, false, List, [], length, nat_lt, Option, Some, Result, Ok, Err}
+use Rattle.pybuf_state.specs.Exporter.{Exporter}
+use Rattle.pybuf_share.specs.declared.entries.Entry.{Entry}
+use Rattle.pybuf_share.specs.declared.joined.FinishFault.{FinishFault}
+use Rattle.pybuf_share.specs.declared.joined.FinishFault.TheVariants as why
+use Rattle.pybuf_share.specs.History.{replay, IsLegal}
+use Rattle.pybuf_share.specs.Joining.{Joins}
+use Rattle.pybuf_share.specs.Running.{IsNotRun}
+use Rattle.pybuf_sessions.specs.declared.sessions.Sessions.{Sessions}
+use Rattle.pybuf_sessions.specs.Sessions.{sessions_in}
+use Rattle.pybuf_histories.specs.Entries.{shared_text}
+use Rattle.pybuf_histories.specs.Faults.{fault_text}
+use Rattle.pybuf_line.specs.Replies.{bad_line_text}
+use Rattle.pybuf_cli.specs.declared.status.Status.{Status}
+use Rattle.pybuf_cli.specs.declared.status.Status.TheVariants as status
+use Rattle.pybuf_cli.specs.Devices.{Put}
+use Rattle.pybuf_cli.specs.Program.{most, ReadsInput}
+
+-- A text of a history that these sessions may have made: it is legal from the kind and the bytes that they begin with, the
+-- entries of each session follow its script, and the exporter in which it ends is the one whose bytes are written.
+pub record IsShared (s : Sessions) (text : List ℕ) : Type 0 where
+  pub entries : List Entry
+  pub state : Exporter
+  pub legal : IsLegal s.kind s.bytes entries
+  pub replays : state ≡ replay s.kind s.bytes entries
+  pub joins : Joins s.scripts entries
+  pub written : text ≡ shared_text entries state
+
+-- A text of why these sessions have no history, with the two values that differ or don't rise. Of want of memory it is empty.
+pub record IsFaulty (s : Sessions) (text : List ℕ) : Type 0 where
+  pub fault : FinishFault
+  pub shown : IsNotRun s.kind s.bytes s.scripts fault
+  pub written : text ≡ fault_text fault
+
+-- a text of what these sessions may come to: their order in time is open, so there may be many
+abbrev pub IsOfSessions : Sessions → List ℕ → Type 0
+IsOfSessions s text = (IsShared s text) ⊎ (IsFaulty s text)
+
+-- A text that may be due for the lines of an input: of its first line that is wrong, or of what its sessions come to. For an
+-- input that is too long none is due.
+abbrev pub IsDueOfLines : Bool → Result Sessions ℕ → List ℕ → Type 0
+IsDueOfLines true read text = text ≡ []
+IsDueOfLines false (Err line) text = text ≡ bad_line_text line
+IsDueOfLines false (Ok s) text = IsOfSessions s text
+
+abbrev pub IsDueShared : List ℕ → List ℕ → Type 0
+IsDueShared input text = IsDueOfLines (nat_lt most (length input)) (sessions_in input) text
+
+-- how they may end, where memory suffices and neither source nor sink fails
+abbrev pub EndsOfLines : Bool → Result Sessions ℕ → Status → Type 0
+EndsOfLines true read result = result ≡ status.TooLong
+EndsOfLines false (Err line) result = result ≡ status.BadLine
+EndsOfLines false (Ok s) result = (result ≡ status.Done) ⊎ (result ≡ status.Disagree)
+
+abbrev pub EndsShared : List ℕ → Status → Type 0
+EndsShared input result = EndsOfLines (nat_lt most (length input)) (sessions_in input) result
+
+-- The text of a history that sessions may have made was put, no more and no less.
+pub record PutsHistory (s : Sessions) (held_before held : Option (List ℕ)) : Type 0 where
+  pub text : List ℕ
+  pub shared : IsShared s text
+  pub put : Put held_before text held
+
+-- The text of a fault was put, no more and no less, whose two values differ or don't rise.
+pub record PutsFault (s : Sessions) (held_before held : Option (List ℕ)) : Type 0 where
+  pub fault : FinishFault
+  pub shown : IsNotRun s.kind s.bytes s.scripts fault
+  pub two_values : fault ≢ why.NoMemory
+  pub put : Put held_before (fault_text fault) held
+
+-- All of an input was read, its lines are those of sessions, and the text of a history of theirs was put.
+pub record IsDoneShared (input : List ℕ) (left held_before held : Option (List ℕ)) : Type 0 where
+  pub all_read : left ≡ Some []
+  pub short : length input ≤ most
+  pub sessions : Sessions
+  pub spelled : sessions_in input ≡ Ok sessions
+  pub put : PutsHistory sessions held_before held
+
+-- All of an input was read, its lines are those of sessions, and the text of a fault of theirs was put.
+pub record IsDisagreed (input : List ℕ) (left held_before held : Option (List ℕ)) : Type 0 where
+  pub all_read : left ≡ Some []
+  pub short : length input ≤ most
+  pub sessions : Sessions
+  pub spelled : sessions_in input ≡ Ok sessions
+  pub put : PutsFault sessions held_before held
+
+-- All of an input was read, one of its lines is the first that is wrong, and the text that tells its number was put, no more
+-- and no less.
+pub record IsBadLineShared (input : List ℕ) (left held_before held : Option (List ℕ)) : Type 0 where
+  pub all_read : left ≡ Some []
+  pub short : length input ≤ most
+  pub line : ℕ
+  pub first : sessions_in input ≡ Err line
+  pub put : Put held_before (bad_line_text line) held
+
+-- What the form `share` owes, where the source tells its bytes.
+pub record Shares {S K : Type 0} (result : Status) (bytes_left : S → Option (List ℕ)) (bytes_held : K → Option (List ℕ))
+    (source_before source : S) (sink_before sink : K) : Type 0 where
+  pub reads : ReadsInput result bytes_left source_before source sink_before sink
+  pub done : result ≡ status.Done → (input : List ℕ) → bytes_left source_before ≡ Some input →
+      IsDoneShared input (bytes_left source) (bytes_held sink_before) (bytes_held sink)
+  pub bad_line : result ≡ status.BadLine → (input : List ℕ) → bytes_left source_before ≡ Some input →
+      IsBadLineShared input (bytes_left source) (bytes_held sink_before) (bytes_held sink)
+  pub disagree : result ≡ status.Disagree → (input : List ℕ) → bytes_left source_before ≡ Some input →
+      IsDisagreed input (bytes_left source) (bytes_held sink_before) (bytes_held sink)
