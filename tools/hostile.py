@@ -7,17 +7,19 @@
 It is no part of the gate. The program is `crates/pybuf/out/pybuf`, or what `--program` names. It ends with status 1 where a
 run ended otherwise than it may.
 
-`refused` runs a few cases of `cases/worked` with one growth of memory refused, the first, then the second, and so on until a
+`refused` runs a few cases of `cases/worked`, and two inputs of `share`, with one growth of memory refused, the first, then the second, and so on until a
 run needs no more of them, and once more with every growth refused from there on. A run may end with what is written of the
 case and status 0; else it has to end with status 3, its line on standard error, and the replies of the first commands, each
-whole. What refuses is a small library, compiled by `cc`, that stands before the C library's `malloc`. With `--try` the
+whole. Of sessions in an order that is open, what is written has to be what one thread gets, as far as it goes
+(`tools/check_sessions.py`). What refuses is a small library, compiled by `cc`, that stands before the C library's `malloc`. With `--try` the
 toolchain refuses, by `rt try --fail-alloc`, which builds the program anew for each number: that takes a minute for each,
 so `--last` says which number is the last.
 
 `mutated` takes a case of `cases/worked` or `examples`, of which each line is a command, and changes one line: a byte is
 changed, put in, left out or doubled, two bytes change places, two parts between blanks do, or a number becomes another.
 Lines that would ask for more than a million bytes are drawn again. The program has to end with status 0 and as many lines
-of replies as the input has lines, or with status 2 and the number of the changed line.
+of replies as the input has lines, or with status 2 and the number of the changed line. So it does with lines of the cases of
+`share`, of which what is written has to be what one thread gets too.
 """
 
 import argparse
@@ -31,8 +33,12 @@ import sys
 import tempfile
 from concurrent.futures import ThreadPoolExecutor
 
+sys.dont_write_bytecode = True
+
+import check_sessions
+
 ROOT = pathlib.Path(__file__).resolve().parent.parent
-WORKED = ROOT / "cases/worked"
+WORKED, SESSIONS = ROOT / "cases/worked", ROOT / "cases/sessions"
 SECONDS = 20
 DONE, BAD_LINE, NO_MEMORY = 0, 2, 3
 NO_MEMORY_LINE = b"pybuf: no memory\n"
@@ -43,6 +49,8 @@ REFUSED = [
     "a-header-is-written-through-casts-and-bytes-are-added-once-no-view-is-left",
     "edits-by-slices-and-by-indices",
 ]
+# Inputs of `share`: one session with views, an iterator and copies, and two whose order is open.
+REFUSED_SESSIONS = ["names-in-replies", "two-sessions-write-six-bytes"]
 # Stands before `malloc` and what else gives memory: refuses the growth of the number in REFUSE_AT, with REFUSE_ON=1 all
 # behind it too, and writes a byte to standard error's neighbour, 3, when it first does.
 REFUSING = r"""
@@ -62,9 +70,9 @@ static int refuse(void) {
         text = getenv("REFUSE_ON");
         on = text && text[0] == '1';
     }
-    seen++;
-    if (at == 0 || seen < at || (seen > at && !on)) return 0;
-    if (seen == at && write(3, "r", 1) != 1) _exit(99);
+    long number = __atomic_add_fetch(&seen, 1, __ATOMIC_SEQ_CST);
+    if (at == 0 || number < at || (number > at && !on)) return 0;
+    if (number == at && write(3, "r", 1) != 1) _exit(99);
     errno = ENOMEM;
     return 1;
 }
@@ -97,12 +105,27 @@ int posix_memalign(void **out, size_t align, size_t size) {
 Ended = collections.namedtuple("Ended", "status written complaint refused", defaults=(None,))
 
 
-def run(program, given, environment=None, told=None):
+def run(program, given, environment=None, told=None, words=()):
     """Runs the program on an input. `told` is the end of a pipe to which it may write as number 3."""
     keep = {} if told is None else {"pass_fds": (3,), "preexec_fn": lambda: os.dup2(told, 3)}
     pipes = dict.fromkeys(("stdout", "stderr"), subprocess.PIPE)
-    ended = subprocess.run([program], input=given, env=environment or {}, timeout=SECONDS, **pipes, **keep)
+    ended = subprocess.run([program, *words], input=given, env=environment or {}, timeout=SECONDS, **pipes, **keep)
     return Ended(ended.returncode, ended.stdout, ended.stderr)
+
+
+def lines_of(text):
+    return text.removesuffix(b"\n").split(b"\n") if text else []
+
+
+def fault_of_shared(program, given, ended):
+    """The same of sessions, whose order is open."""
+    if ended.status not in (DONE, NO_MEMORY):
+        return f"it ended with status {ended.status}"
+    if ended.complaint != (NO_MEMORY_LINE if ended.status else b""):
+        return f"on standard error came {ended.complaint!r}"
+    if ended.written and not ended.written.endswith(b"\n"):
+        return f"the last line of {ended.written!r} is not whole"
+    return check_sessions.fault_of(program, lines_of(given), lines_of(ended.written), ended.status == DONE)
 
 
 def fault_of(ended, whole):
@@ -128,29 +151,30 @@ def refusing_library(folder):
     return library
 
 
-def with_refusal(program, library, given, number, behind):
+def with_refusal(program, library, given, number, behind, words):
     """A run with the growth of this number refused, and all behind it too where `behind` says so."""
     reading, writing = os.pipe()
     environment = {"LD_PRELOAD": str(library), "REFUSE_AT": str(number), "REFUSE_ON": str(int(behind))}
-    ended = run(program, given, environment, writing)
+    ended = run(program, given, environment, writing, words)
     os.close(writing)
     with os.fdopen(reading, "rb") as told:
         return ended._replace(refused=told.read() != b"")
 
 
-def refused_of_case(program, library, name, behind):
+def refused_of_case(program, library, folder, name, behind):
     """The runs of a case with one number after the other, until a run needs no more growths: a fault or None for each."""
-    given, whole = (WORKED / name).read_bytes(), (WORKED / f"{name}.stdout").read_bytes()
+    given, whole = (folder / name).read_bytes(), (folder / f"{name}.stdout").read_bytes()
+    words = ["share"] if folder == SESSIONS else []
     statuses, fronts, faults = collections.Counter(), collections.Counter(), []
     number = 1
     while True:
-        ended = with_refusal(program, library, given, number, behind)
+        ended = with_refusal(program, library, given, number, behind, words)
         if not ended.refused:
             break
         statuses[ended.status] += 1
         if ended.status == NO_MEMORY:
             fronts[ended.written.count(b"\n")] += 1
-        fault = fault_of(ended, whole)
+        fault = fault_of_shared(program, given, ended) if words else fault_of(ended, whole)
         if fault:
             faults.append(f"{name}, growth {number}: {fault}")
         number += 1
@@ -170,8 +194,9 @@ def refused(program):
         return [
             fault
             for behind in (False, True)
-            for name in REFUSED
-            for fault in refused_of_case(program, library, name, behind)
+            for where, names in ((WORKED, REFUSED), (SESSIONS, REFUSED_SESSIONS))
+            for name in names
+            for fault in refused_of_case(program, library, where, name, behind)
         ]
 
 
@@ -199,8 +224,8 @@ NUMBERS = [b"0", b"-1", b"1", b"2", b"7", b"255", b"256", b"65536", b"999999"]
 NUMBERS += [b"9223372036854775808", b"-9223372036854775809", b"18446744073709551616"]
 NUMBERS += [b"170141183460469231731687303715884105727", b"-170141183460469231731687303715884105728", b"1" + b"0" * 40]
 BYTES = bytes(range(32, 127)) + b"\t\r\x00\xff\x80" + b"0123456789abcdefhvx'(),:[]<>=! " * 4
-# A number that may be the size of something, and is larger than a million.
-LARGE = re.compile(rb"(?<![0-9A-Za-z])[0-9]{7,19}(?![0-9])")
+# A number that may be the size of something, and is larger than a million. It may begin with zeros.
+LARGE = re.compile(rb"(?<![0-9A-Za-z])0*[0-9]{7,19}(?![0-9])")
 
 
 def changed(draw, line):
@@ -261,8 +286,41 @@ def fault_of_mutated(program, lines, number):
     return ended.status, fault and f"{lines[number - 1]!r}, line {number} of {lines!r}: {fault}"
 
 
+def fault_of_mutated_sessions(program, lines, number):
+    """The same of lines of sessions."""
+    try:
+        ended = run(program, b"".join(line + b"\n" for line in lines), words=["share"])
+        fault = None
+        if ended.status == BAD_LINE:
+            if ended.written != b"line %d is not a command\n" % number or ended.complaint:
+                fault = f"{ended.written!r} came, and line {number} was changed"
+        elif ended.status == DONE:
+            fault = check_sessions.fault_of(program, lines, lines_of(ended.written))
+        else:
+            fault = f"it ended with status {ended.status}"
+    except subprocess.TimeoutExpired:
+        return None, f"{lines[number - 1]!r}: it had not ended after {SECONDS} seconds"
+    return ended.status, fault and f"{lines[number - 1]!r}, line {number} of {lines!r}: {fault}"
+
+
 def mutated(program, count, seed):
     draw = random.Random(seed)
+    faults = mutated_cases(program, count, draw)
+    inputs = [path for path in sorted(SESSIONS.iterdir()) if not path.suffix]
+    inputs = [it.read_bytes() for it in inputs if b" is not a command" not in it.with_name(it.name + ".stdout").read_bytes()]
+    inputs = [it for it in map(lines_of, inputs) if len(it) > 1]
+    drawn = [mutated_input(draw, inputs) for _ in range(count // 5)]
+    with ThreadPoolExecutor(os.cpu_count() or 1) as pool:
+        results = list(pool.map(lambda it: fault_of_mutated_sessions(program, *it), drawn))
+    statuses = collections.Counter(status for status, _ in results)
+    print(
+        f"{count // 5} lines changed in {len(inputs)} inputs of sessions: {statuses[DONE]} are still commands, of which one thread gets "
+        f"what was written; {statuses[BAD_LINE]} are none, and their number was told"
+    )
+    return faults + [fault for _, fault in results if fault]
+
+
+def mutated_cases(program, count, draw):
     inputs = [path for folder in (WORKED, ROOT / "examples") for path in sorted(folder.iterdir())]
     inputs = [it for it in inputs if not it.suffix and not it.with_name(it.name + ".args").exists()]
     # (a case whose output tells of a line that is no command has such a line already)
@@ -273,7 +331,7 @@ def mutated(program, count, seed):
         results = list(pool.map(lambda it: fault_of_mutated(program, *it), drawn))
     statuses = collections.Counter(status for status, _ in results)
     print(
-        f"{count} lines changed in {len(inputs)} cases, drawn by seed {seed}: {statuses[DONE]} are still commands, and as many "
+        f"{count} lines changed in {len(inputs)} cases: {statuses[DONE]} are still commands, and as many "
         f"replies were written as the case has commands; {statuses[BAD_LINE]} are none, and their number was told"
     )
     return [fault for _, fault in results if fault]

@@ -12,6 +12,10 @@ words behind the program's name, a word a line, none where it isn't there, and N
 0 where it isn't there. On standard error has to come the line of that status, and nothing where it has none. Each line of
 `cases/no-commands.txt` is an input of its own.
 
+Of `share` the order of the sessions among each other is open. So where an input has lines of more than one, what is written
+has to be what one thread gets in the order that stands there (`tools/check_sessions.py`), and what is kept has to be so too.
+Some such inputs are drawn.
+
 As many cases run side by side as there are processors. A folder that isn't there or has no case, and a file that neither
 is a case nor belongs to one nor is a README.md, fail too.
 """
@@ -27,6 +31,10 @@ import subprocess
 import sys
 from concurrent.futures import ThreadPoolExecutor
 
+sys.dont_write_bytecode = True
+
+import check_sessions
+
 ROOT = pathlib.Path(__file__).resolve().parent.parent
 PROGRAM = ROOT / "crates/pybuf/out/pybuf"
 NO_COMMANDS = ROOT / "cases/no-commands.txt"
@@ -40,7 +48,7 @@ DONE, BAD_LINE, NO_MEMORY, USAGE, TOO_LONG = 0, 2, 3, 6, 7
 # What is said on standard error of a status that the output doesn't tell.
 COMPLAINTS = {
     NO_MEMORY: b"pybuf: no memory\n",
-    USAGE: b"pybuf: usage: pybuf [run | make N] < lines\n",
+    USAGE: b"pybuf: usage: pybuf [run | share | make N] < lines\n",
     TOO_LONG: b"pybuf: more than 1,048,576 bytes\n",
 }
 
@@ -49,6 +57,7 @@ GREATER = b"new bytearray x61\nget h0 0\ncall h0 mul 60000000000\nget h0 0\n"
 LONGER = b"new bytearray 15000000\nget h0 0\nbytes h0\nget h0 0\n"
 
 # `address_space` is how many bytes the process may map, or None for no such limit.
+# `written` is None where only the checker of sessions says what may come.
 Case = collections.namedtuple("Case", "name given written status words address_space", defaults=((), None))
 # `faults` are what is wrong with the folder itself.
 Folder = collections.namedtuple("Folder", "name cases faults")
@@ -70,6 +79,25 @@ def first_difference(wanted, came):
     return None
 
 
+def has_open_order(case):
+    """Whether it is an input with lines of several sessions, so that their order is open."""
+    sessions = {line.split(b" ")[0] for line in case.given.split(b"\n")[1:] if line}
+    return list(case.words) == [b"share"] and case.status == DONE and len(sessions) > 1
+
+
+def difference(program, case, written):
+    """What differs of what was written, as a text, or None."""
+    if not has_open_order(case):
+        return first_difference(case.written, written)
+    given = case.given.removesuffix(b"\n").split(b"\n")
+    for what, text in (("what is written", written), ("what is kept", case.written)):
+        # (what lacks its last line feed has a last line that doesn't end)
+        fault = text is not None and check_sessions.fault_of(program, given, text.split(b"\n")[:-1])
+        if fault:
+            return f"{what} is not what one thread gets: {fault}"
+    return None
+
+
 def differences(program, case):
     """What differs when the case is run, as texts."""
     pipes = dict.fromkeys(("stdin", "stdout", "stderr"), subprocess.PIPE)
@@ -85,7 +113,7 @@ def differences(program, case):
                 return [f"it had not ended after {SECONDS} seconds"]
     except (OSError, ValueError) as error:
         return [f"it was not run: {error}"]
-    found = [first_difference(case.written, written)]
+    found = [difference(program, case, written)]
     if process.returncode < 0:
         found.append(f"signal {-process.returncode} ended it")
     elif process.returncode != case.status:
@@ -166,11 +194,23 @@ def long_words():
         yield Case(name, b"new bytearray x616263\nget h0 " + word + b"\n", written, status)
 
 
+def drawn_sessions():
+    """Inputs of sessions that are drawn, the same ones each time."""
+    inputs = check_sessions.drawn(16, 17, 16, 200)
+    given = (b"".join(line + b"\n" for line in lines) for lines in inputs)
+    # (one with lines of no session or of one alone is no such case)
+    cases = [Case(f"input {number}", it, None, DONE, [b"share"]) for number, it in enumerate(given, 1)]
+    return Folder("drawn sessions", [it for it in cases if has_open_order(it)], [])
+
+
 def large_inputs():
     """Cases that are too large to be kept as files."""
     made, count = b"new bytearray x\n", 149_792
     lines = made + count * b"len h0\n" + made
     assert len(lines) == LIMIT
+    asked = 104_856
+    shared = b"new bytearray x\n" + asked * b"0 len own\n"
+    assert len(shared) == LIMIT
     views = b"new bytearray 1000000\n" + 10_000 * b"view h0\n" + b"set h1 999999 7\nget h10000 999999\n"
     handles = b"".join(b"h%d\n" % number for number in range(10_001))
     cases = [
@@ -182,6 +222,10 @@ def large_inputs():
         Case("the longest input", LIMIT * b"a", b"line 1 is not a command\n", BAD_LINE),
         # One byte more is too long, whatever the lines are.
         Case("the longest input, and one byte more", (LIMIT + 1) * b"a", b"", TOO_LONG),
+        # So it is of sessions, of which none begins.
+        Case("the longest input of sessions", shared, b"0: len own -> 0\n" * asked + b"calls %d\nbytes b''\n" % asked, DONE, [b"share"]),
+        Case("the longest input of sessions, and one byte more", shared + b"\n", b"", TOO_LONG, [b"share"]),
+        Case("the longest line of sessions", LIMIT * b"a", b"line 1 is not a command\n", BAD_LINE, [b"share"]),
         # The byte that is written through the first view is read through the last. A view that kept a list of its
         # places would need more memory than there is.
         Case("ten thousand views of a million bytes", views, handles + b"ok\n7\n", DONE, (), ADDRESS_SPACE),
@@ -200,7 +244,7 @@ def folders(named):
     if named:
         return [folder_of(pathlib.Path(name).resolve()) for name in named]
     kept = sorted(path for path in (ROOT / "cases").glob("*") if path.is_dir())
-    return [*map(folder_of, [ROOT / "examples", *kept]), no_commands(), large_inputs()]
+    return [*map(folder_of, [ROOT / "examples", *kept]), no_commands(), drawn_sessions(), large_inputs()]
 
 
 def main(words):
