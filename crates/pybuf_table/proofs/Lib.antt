@@ -1,0 +1,11 @@
+pub mod RowLemmas
+pub mod FieldLemmas
+pub mod ChosenLemmas
+pub mod Words
+pub mod Spelled
+pub mod FieldViewLemmas
+pub mod Numbered
+pub mod Orders
+pub mod Staying
+pub mod Setting
+pub mod Slicing

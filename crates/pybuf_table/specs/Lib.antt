@@ -1,0 +1,7 @@
+pub mod Records
+pub mod Offsets
+pub mod Chosen
+pub mod Lending
+pub mod FieldTexts
+pub mod FieldViews
+pub mod Laws
