@@ -1,0 +1,4 @@
+mod Sound
+mod Runs
+mod Lengths
+mod Viewing

@@ -1,0 +1,3 @@
+pub mod Array
+pub mod Operations
+pub mod Parts

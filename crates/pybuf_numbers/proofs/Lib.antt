@@ -1,0 +1,12 @@
+mod Sizes
+mod Ranges
+mod Pieces
+mod Edited
+mod EightItems
+mod Digits
+mod CodeLemmas
+mod Searching
+mod Inserting
+mod Turning
+mod Again
+mod Walking

@@ -1,0 +1,51 @@
+//! Numbers that are written over others.
+ghost use Rattle.std.specs.Prelude.{◌≡◌, ◌+◌, ◌*◌, ◌<◌, ◌≤◌, ◌++◌, true, length, map, set, take, drop, reverse};
+ghost use Rattle.std.specs.List.{flat_map};
+ghost use Rattle.std.specs.Simd.{first_chunks};
+ghost use Rattle.pybuf_numbers.specs.Codes.{holds};
+ghost use Rattle.pybuf_numbers.specs.Numbers as spec;
+
+use crate::codes::ArrayCode;
+use crate::reads::start_of;
+use crate::words::word_of;
+
+/// Puts a number in place of the one at a place.
+#[inline]
+pub fn put_number(code: ArrayCode, bytes: &mut [u8], place: usize, number: i128)
+    requires whole { spec.is_whole code bytes.old ≡ true }
+    requires there { place < length (spec.numbers_of code bytes.old) }
+    requires range { holds code number ≡ true }
+    ensures numbers { spec.numbers_of code bytes.new ≡ set (spec.numbers_of code bytes.old) place number }
+    ensures length { length bytes.new ≡ length bytes.old }
+{
+    let at = start_of(code, bytes, place);
+    let size = code.size();
+    let word = word_of(code, number);
+    bytes[at..at + size].copy_from_slice(&word[..size]);
+}
+
+/// Turns each piece of a size round.
+fn turn_pieces<const SIZE: usize>(bytes: &mut [u8], count: usize)
+    requires { SIZE * count ≤ length bytes.old }
+    ensures { bytes.new ≡ flat_map reverse (first_chunks SIZE count bytes.old) ++ drop (SIZE * count) bytes.old }
+{
+    for k in 0..count {
+        let at = SIZE * k;
+        bytes[at..at + SIZE].reverse();
+    }
+}
+
+/// Reverses the bytes of each number. It is one pass, and takes no memory.
+pub fn swap_numbers(code: ArrayCode, bytes: &mut [u8])
+    requires { spec.is_whole code bytes.old ≡ true }
+    ensures numbers { spec.numbers_of code bytes.new ≡ map (spec.swapped code) (spec.numbers_of code bytes.old) }
+    ensures length { length bytes.new ≡ length bytes.old }
+{
+    let count = bytes.len() / code.size();
+    match code.size() {
+        1 => {}
+        2 => turn_pieces::<2>(bytes, count),
+        4 => turn_pieces::<4>(bytes, count),
+        _ => turn_pieces::<8>(bytes, count),
+    }
+}
