@@ -1,6 +1,7 @@
 """Compares what the documents show with what is run as a test, and ends with status 1 where they differ.
 
 - A block of Rust or of definitions has to stand word for word in a source of `crates/`.
+- A block of C, `rs` or Python has to be a file of `bindings/`.
 - A block of changes has to begin with the name of a file, in which its lines before or after the change stand. One that
   only takes lines out has to find them there, unless the changes of the document were made.
 - A must-fail edit that a document shows has to lie in a folder `must-fail/`, or to turn a line that a block of changes of
@@ -34,6 +35,7 @@ CITED = "## Cited by the contract of `serve`"
 # The head of a session that is shown beside Python.
 BESIDE_PYTHON = "| Line | Reply | In Python |"
 ENDINGS = {"rust": ".rt", "antt": ".antt"}
+BOUND = {"c": "c/*.c", "rs": "rust/examples/*.rs", "python": "python/*.py"}
 faults = []
 
 
@@ -98,6 +100,10 @@ def check_blocks(document, lines, kept):
             continue
         if language == "diff":
             changes.append((start, lines[start : number - 1]))
+        if language in BOUND:
+            block = "".join(part + "\n" for part in lines[start : number - 1])
+            if not any(path.read_text() == block for path in (ROOT / "bindings").glob(BOUND[language])):
+                report(document, start, f"the block is no file of bindings/{BOUND[language]}")
         ending = ENDINGS.get(language)
         if ending is not None:
             block = stripped(lines[start : number - 1])
@@ -311,7 +317,7 @@ def check_cited(document, lines):
         return
     end = next(at for at, line in enumerate([*lines[start + 1 :], "## "], start + 1) if line.startswith("## "))
     named = {name for _, name, _ in named_definitions(lines[start:end]) if (ROOT / name).exists()}
-    cited = imported_definitions(ROOT / "crates/pybuf_cli/specs/Program.antt")
+    cited = imported_definitions(ROOT / "crates/pybuf_cli/specs/Serving.antt")
     for name in sorted(cited - named):
         report(document, start + 1, f"{name} is imported by the contract of `serve`, and is not named in this section")
     for name in sorted(named - cited):

@@ -1,0 +1,166 @@
+/* What the calls of pybuf.h test before they read anything, and how rooms and results are told. Prints what is wrong. */
+#include "pybuf.h"
+
+#include <stdio.h>
+#include <stdlib.h>
+#include <string.h>
+
+static int wrong;
+
+#define WANT(status, call)                                                                             \
+    do {                                                                                               \
+        pybuf_status got = (call);                                                                     \
+        if (got != (status)) {                                                                         \
+            printf("line %d: %s, not %s\n", __LINE__, pybuf_status_name(got), pybuf_status_name(status)); \
+            wrong++;                                                                                   \
+        }                                                                                              \
+    } while (0)
+
+#define HOLDS(condition)                                        \
+    do {                                                        \
+        if (!(condition)) {                                     \
+            printf("line %d: not %s\n", __LINE__, #condition);  \
+            wrong++;                                            \
+        }                                                       \
+    } while (0)
+
+static const size_t too_long = (size_t)PTRDIFF_MAX + 1;
+
+static void null_pointers(pybuf_world *world)
+{
+    size_t length = 7;
+    pybuf_object object = 7;
+    pybuf_number number = {7, false};
+    pybuf_slice all = {0, 0, 0, false, false, false};
+    bool truth;
+    pybuf_truth compared;
+    char room[4];
+    WANT(PYBUF_NULL_POINTER, pybuf_world_new(NULL));
+    WANT(PYBUF_OK, pybuf_world_free(NULL));
+    WANT(PYBUF_NULL_POINTER, pybuf_world_run(NULL, "view h0\n", 8, NULL, NULL));
+    WANT(PYBUF_NULL_POINTER, pybuf_world_run(world, NULL, 8, NULL, NULL));
+    WANT(PYBUF_NULL_POINTER, pybuf_world_reply(NULL, 0, room, sizeof room, &length));
+    WANT(PYBUF_NULL_POINTER, pybuf_world_reply(world, 0, NULL, 4, &length));
+    WANT(PYBUF_NULL_POINTER, pybuf_world_reply(world, 0, room, sizeof room, NULL));
+    WANT(PYBUF_NULL_POINTER, pybuf_new(NULL, PYBUF_BYTES, "a", 1, &object));
+    WANT(PYBUF_NULL_POINTER, pybuf_new(world, PYBUF_BYTES, NULL, 1, &object));
+    WANT(PYBUF_NULL_POINTER, pybuf_new(world, PYBUF_BYTES, "a", 1, NULL));
+    WANT(PYBUF_NULL_POINTER, pybuf_view(world, 0, NULL));
+    WANT(PYBUF_NULL_POINTER, pybuf_to_contiguous(world, 0, &object, NULL));
+    WANT(PYBUF_NULL_POINTER, pybuf_cast(world, 0, NULL, NULL, 0, &object));
+    WANT(PYBUF_NULL_POINTER, pybuf_get(world, 0, 0, NULL));
+    WANT(PYBUF_NULL_POINTER, pybuf_get_at(world, 0, NULL, 1, &number));
+    WANT(PYBUF_NULL_POINTER, pybuf_get_slice(world, 0, NULL, &object));
+    WANT(PYBUF_NULL_POINTER, pybuf_set_slice(world, 0, NULL, "a", 1));
+    WANT(PYBUF_NULL_POINTER, pybuf_set_slice(world, 0, &all, NULL, 1));
+    WANT(PYBUF_NULL_POINTER, pybuf_bytes(world, 0, NULL, 1, &length));
+    WANT(PYBUF_NULL_POINTER, pybuf_length(world, 0, NULL));
+    WANT(PYBUF_NULL_POINTER, pybuf_items(world, 0, NULL, 1, &length));
+    WANT(PYBUF_NULL_POINTER, pybuf_compare(world, 0, PYBUF_EQ, NULL, 1, &compared));
+    WANT(PYBUF_NULL_POINTER, pybuf_contains(world, 0, "a", 1, NULL));
+    WANT(PYBUF_NULL_POINTER, pybuf_contains(world, 0, NULL, 1, &truth));
+    WANT(PYBUF_NULL_POINTER, pybuf_next(world, 0, NULL, &number));
+    WANT(PYBUF_NULL_POINTER, pybuf_last_bytes(world, NULL, 1, &length));
+    HOLDS(length == 7 && object == 7 && number.magnitude == 7);
+}
+
+static void no_worlds(void)
+{
+    /* memory that is no world, and is as large as one */
+    void *other = calloc(1, 64);
+    pybuf_world *world = (pybuf_world *)other;
+    pybuf_object object;
+    size_t length;
+    WANT(PYBUF_NO_WORLD, pybuf_world_run(world, "", 0, NULL, NULL));
+    WANT(PYBUF_NO_WORLD, pybuf_world_reply(world, 0, NULL, 0, &length));
+    WANT(PYBUF_NO_WORLD, pybuf_new(world, PYBUF_BYTES, "a", 1, &object));
+    WANT(PYBUF_NO_WORLD, pybuf_view(world, 0, &object));
+    WANT(PYBUF_NO_WORLD, pybuf_world_free(world));
+    free(other);
+}
+
+static void lengths(pybuf_world *world)
+{
+    size_t length = 7;
+    pybuf_object object, empty;
+    pybuf_number number;
+    WANT(PYBUF_TOO_LONG, pybuf_world_run(world, "", too_long, NULL, NULL));
+    WANT(PYBUF_TOO_LONG, pybuf_world_reply(world, 0, NULL, too_long, &length));
+    WANT(PYBUF_TOO_LONG, pybuf_new(world, PYBUF_BYTES, "", too_long, &object));
+    WANT(PYBUF_TOO_LONG, pybuf_get_at(world, 0, NULL, (size_t)PTRDIFF_MAX / 8 + 1, &number));
+    WANT(PYBUF_TOO_LONG, pybuf_bytes(world, 0, NULL, SIZE_MAX, &length));
+    HOLDS(length == 7);
+    size_t count = 7;
+    WANT(PYBUF_OK, pybuf_world_run(world, NULL, 0, &count, NULL));
+    HOLDS(count == 0);
+    WANT(PYBUF_OK, pybuf_new(world, PYBUF_BYTEARRAY, NULL, 0, &empty));
+    WANT(PYBUF_OK, pybuf_bytes(world, empty, NULL, 0, &length));
+    HOLDS(length == 0);
+    WANT(PYBUF_OK, pybuf_extend(world, empty, NULL, 0));
+}
+
+static void rooms(pybuf_world *world)
+{
+    char room[4] = "....";
+    size_t length = 0, count = 0;
+    uint64_t line = 0;
+    pybuf_object array, view, shaped;
+    WANT(PYBUF_OK, pybuf_new(world, PYBUF_BYTEARRAY, "abcdef", 6, &array));
+    WANT(PYBUF_TOO_SMALL, pybuf_bytes(world, array, room, sizeof room, &length));
+    HOLDS(length == 6 && memcmp(room, "....", 4) == 0);
+    char enough[8] = "........";
+    WANT(PYBUF_OK, pybuf_last_bytes(world, enough, sizeof enough, &length));
+    HOLDS(length == 6 && memcmp(enough, "abcdef..", 8) == 0);
+    WANT(PYBUF_BAD_LINE, pybuf_world_run(world, "new bytes x61\nno\n", 17, &count, &line));
+    HOLDS(line == 2 && count == 0);
+    WANT(PYBUF_NOTHING, pybuf_world_reply(world, 0, room, sizeof room, &length));
+    WANT(PYBUF_OK, pybuf_world_run(world, "new bytes x61", 13, &count, &line));
+    HOLDS(count == 1);
+    WANT(PYBUF_OK, pybuf_world_reply(world, 0, room, sizeof room, &length));
+    HOLDS(length == 2 && room[0] == 'h');
+    WANT(PYBUF_OK, pybuf_view(world, array, &view));
+    const int64_t two_by_three[] = {2, 3};
+    pybuf_number items[6];
+    WANT(PYBUF_OK, pybuf_cast(world, view, "B", two_by_three, 2, &shaped));
+    WANT(PYBUF_TOO_SMALL, pybuf_items(world, shaped, items, 5, &count));
+    HOLDS(count == 6);
+    WANT(PYBUF_OK, pybuf_items(world, shaped, items, 6, &count));
+    HOLDS(count == 6 && items[5].magnitude == 'f' && !items[5].negative);
+    WANT(PYBUF_OK, pybuf_property_numbers(world, shaped, PYBUF_SHAPE, items, 6, &count));
+    HOLDS(count == 2 && items[0].magnitude == 2 && items[1].magnitude == 3);
+}
+
+static void refusals(pybuf_world *world)
+{
+    pybuf_object bytes, made;
+    pybuf_number number;
+    pybuf_truth truth;
+    WANT(PYBUF_OK, pybuf_new(world, PYBUF_BYTES, "abc", 3, &bytes));
+    WANT(PYBUF_INDEX_ERROR, pybuf_get(world, bytes, 3, &number));
+    WANT(PYBUF_UNKNOWN_NAME, pybuf_set(world, bytes, 0, pybuf_number_of(1)));
+    WANT(PYBUF_UNKNOWN_NAME, pybuf_get(world, 1000000, 0, &number));
+    WANT(PYBUF_BAD_ARGUMENT, pybuf_new(world, (pybuf_kind)4, "a", 1, &made));
+    WANT(PYBUF_BAD_ARGUMENT, pybuf_property_number(world, bytes, (pybuf_property)13, &number));
+    WANT(PYBUF_BAD_ARGUMENT, pybuf_compare(world, bytes, (pybuf_operator)6, "a", 1, &truth));
+    WANT(PYBUF_OK, pybuf_view(world, bytes, &made));
+    WANT(PYBUF_BAD_ARGUMENT, pybuf_cast(world, made, "\xff", NULL, 0, &made));
+    WANT(PYBUF_OK, pybuf_compare(world, bytes, PYBUF_LT, "abd", 3, &truth));
+    HOLDS(truth == PYBUF_TRUE);
+}
+
+int main(void)
+{
+    pybuf_world *world = NULL;
+    WANT(PYBUF_OK, pybuf_world_new(&world));
+    null_pointers(world);
+    no_worlds();
+    lengths(world);
+    rooms(world);
+    refusals(world);
+    WANT(PYBUF_OK, pybuf_world_free(world));
+    if (wrong)
+        printf("%d wrong\n", wrong);
+    else
+        printf("all calls answer as they should\n");
+    return wrong != 0;
+}

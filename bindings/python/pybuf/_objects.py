@@ -1,0 +1,419 @@
+"""`ByteArray` and `MemoryView`, which behave as Python's own.
+
+Each `ByteArray` has a world of its own, which its views share and which is freed with the last of them.
+"""
+import ast
+import ctypes
+
+from ._calls import (Number, Slice, Status, call, index_of, numbers_by, raise_for, raw, text_by, word_of)
+from ._worlds import World
+
+_BYTEARRAY = 1
+_NAMES = {'nbytes': 2, 'readonly': 3, 'itemsize': 4, 'ndim': 5, 'shape': 6, 'strides': 7, 'format': 9, 'contiguous': 10,
+          'c_contiguous': 11, 'f_contiguous': 12, 'exports': 0}
+_OPERATORS = {'==': 0, '!=': 1, '<': 2, '<=': 3, '>': 4, '>=': 5}
+
+
+def _content(value):
+    """The bytes of what is read as bytes: an object of ours, one of Python's, or numbers from 0 to 255."""
+    if isinstance(value, (ByteArray, MemoryView)):
+        return value.tobytes()
+    if isinstance(value, str):
+        raise TypeError('a text is not read as bytes')
+    return bytes(value)
+
+
+def _lent(value):
+    """The bytes of an object that has a buffer."""
+    if isinstance(value, (ByteArray, MemoryView)):
+        return value.tobytes()
+    return bytes(memoryview(value))
+
+
+def _byte(value):
+    """A byte as a number, with Python's refusals: of what is no index, and of a number that is no byte."""
+    number = index_of(value)
+    if not 0 <= number <= 255:
+        raise ValueError('byte must be in range(0, 256)')
+    return Number.of(number)
+
+
+class _Object:
+    """What a world and a number name."""
+
+    _world = None
+    _object = None
+
+    @property
+    def _at(self):
+        return self._world.pointer, self._object
+
+    def _one(self, name, *arguments):
+        made = ctypes.c_uint64()
+        call(name, *self._at, *arguments, ctypes.byref(made))
+        return made.value
+
+    def _number(self, name, *arguments):
+        number = Number()
+        call(name, *self._at, *arguments, ctypes.byref(number))
+        return number.value()
+
+    def _length(self):
+        length = ctypes.c_size_t()
+        call('length', *self._at, ctypes.byref(length))
+        return length.value
+
+    def __len__(self):
+        return self._length()
+
+    def tobytes(self):
+        """A copy of the bytes."""
+        return text_by('bytes', *self._at)
+
+    def _compares(self, operator, other):
+        truth = ctypes.c_int()
+        if isinstance(other, _Object):
+            if other._world is self._world:
+                call('compare_with', *self._at, _OPERATORS[operator], other._object, ctypes.byref(truth))
+                return NotImplemented if truth.value == 2 else bool(truth.value)
+            other = other.tobytes()
+        try:
+            other = _lent(other)
+        except TypeError:
+            return NotImplemented
+        call('compare', *self._at, _OPERATORS[operator], other, len(other), ctypes.byref(truth))
+        return NotImplemented if truth.value == 2 else bool(truth.value)
+
+    def __eq__(self, other):
+        return self._compares('==', other)
+
+    def __ne__(self, other):
+        return self._compares('!=', other)
+
+
+class ByteArray(_Object):
+    """A bytearray."""
+
+    __hash__ = None
+
+    def __init__(self, source=b'', encoding=None, errors=None):
+        if isinstance(source, str):
+            if encoding is None:
+                raise TypeError('string argument without an encoding')
+            source = source.encode(encoding, errors or 'strict')
+        elif encoding is not None or errors is not None:
+            raise TypeError('encoding or errors without a string argument')
+        content = _content(source)
+        self._world = World()
+        made = ctypes.c_uint64()
+        call('new', self._world.pointer, _BYTEARRAY, content, len(content), ctypes.byref(made))
+        self._object = made.value
+
+    def __repr__(self):
+        return f'ByteArray({self.tobytes()!r})'
+
+    def __bytes__(self):
+        return self.tobytes()
+
+    def __iter__(self):
+        index = 0
+        while index < len(self):
+            yield self[index]
+            index += 1
+
+    def __lt__(self, other):
+        return self._compares('<', other)
+
+    def __le__(self, other):
+        return self._compares('<=', other)
+
+    def __gt__(self, other):
+        return self._compares('>', other)
+
+    def __ge__(self, other):
+        return self._compares('>=', other)
+
+    def __getitem__(self, key):
+        if isinstance(key, slice):
+            return ByteArray(text_by('get_slice_bytes', *self._at, ctypes.byref(Slice.of(key))))
+        if not hasattr(key, '__index__'):
+            raise TypeError('bytearray indices must be integers or slices')
+        return self._number('get', word_of(key))
+
+    def __setitem__(self, key, value):
+        if isinstance(key, slice):
+            content = _content(value) if not isinstance(value, int) else None
+            if content is None:
+                raise TypeError('can assign only bytes, buffers, or iterables of ints in range(0, 256)')
+            call('set_slice', *self._at, ctypes.byref(Slice.of(key)), content, len(content))
+            return
+        if not hasattr(key, '__index__'):
+            raise TypeError('bytearray indices must be integers or slices')
+        index = word_of(key)
+        call('set', *self._at, index, _byte(value))
+
+    def __delitem__(self, key):
+        if isinstance(key, slice):
+            call('delete_slice', *self._at, ctypes.byref(Slice.of(key)))
+            return
+        if not hasattr(key, '__index__'):
+            raise TypeError('bytearray indices must be integers or slices')
+        call('delete', *self._at, word_of(key))
+
+    def __contains__(self, value):
+        truth = ctypes.c_bool()
+        if hasattr(value, '__index__'):
+            call('contains_byte', *self._at, _byte(value), ctypes.byref(truth))
+        else:
+            content = _lent(value)
+            call('contains', *self._at, content, len(content), ctypes.byref(truth))
+        return truth.value
+
+    def __add__(self, other):
+        try:
+            return ByteArray(self.tobytes() + _lent(other))
+        except TypeError:
+            raise TypeError(f"can't concat {type(other).__name__} to bytearray") from None
+
+    def __iadd__(self, other):
+        content = _lent(other)
+        call('extend', *self._at, content, len(content))
+        return self
+
+    def __mul__(self, count):
+        return ByteArray(self.tobytes() * index_of(count))
+
+    __rmul__ = __mul__
+
+    def __imul__(self, count):
+        call('repeat', *self._at, word_of(count))
+        return self
+
+    def append(self, value):
+        call('append', *self._at, _byte(value))
+
+    def extend(self, values):
+        if values is self:
+            call('extend_by', *self._at, self._object)
+            return
+        content = _content(values) if not isinstance(values, int) else None
+        if content is None:
+            raise TypeError("can't extend bytearray with int")
+        call('extend', *self._at, content, len(content))
+
+    def insert(self, index, value):
+        number = _byte(value)
+        call('insert', *self._at, max(-1 << 63, min((1 << 63) - 1, index_of(index))), number)
+
+    def pop(self, index=None):
+        return self._number('pop_last') if index is None else self._number('pop', word_of(index))
+
+    def remove(self, value):
+        call('remove', *self._at, _byte(value))
+
+    def clear(self):
+        call('clear', *self._at)
+
+    def reverse(self):
+        call('reverse', *self._at)
+
+    def copy(self):
+        return ByteArray(self.tobytes())
+
+
+def _spelled(value):
+    """A value as lines spell it."""
+    if value is None or isinstance(value, (bool, int)):
+        return repr(value)
+    if isinstance(value, str):
+        if not value.isascii() or not value.isprintable() or "'" in value or '\\' in value:
+            raise NotImplementedError('a text that lines do not spell')
+        return f"'{value}'"
+    if isinstance(value, (tuple, list)):
+        inside = ','.join(_spelled(part) for part in value)
+        if isinstance(value, tuple) and len(value) == 1:
+            inside += ','
+        return f'({inside})' if isinstance(value, tuple) else f'[{inside}]'
+    if isinstance(value, slice):
+        return f'{value.start}:{value.stop}:{value.step}'
+    return 'x' + _lent(value).hex()
+
+
+_REFUSALS = {name: status for status, name in {
+    Status.INDEX_ERROR: 'IndexError', Status.VALUE_ERROR: 'ValueError', Status.TYPE_ERROR: 'TypeError',
+    Status.BUFFER_ERROR: 'BufferError', Status.STRUCT_ERROR: 'StructError', Status.OVERFLOW_ERROR: 'OverflowError',
+    Status.NOT_IMPLEMENTED_ERROR: 'NotImplementedError', Status.UNKNOWN_NAME: 'UnknownName'}.items()}
+
+
+def _method(name):
+    def called(self, *arguments):
+        words = [f'call h{self._object} {name}'] + [_spelled(argument) for argument in arguments]
+        reply, = self._world.run(' '.join(words))
+        if reply.startswith('! '):
+            raise_for(_REFUSALS[reply[2:]])
+        value = ast.literal_eval(reply)
+        if isinstance(value, bytes):
+            return ByteArray(value)
+        if isinstance(value, list):
+            parts = [ByteArray(part) for part in value]
+            return tuple(parts) if name in ('partition', 'rpartition') else parts
+        return value
+    called.__name__ = name
+    called.__doc__ = f'`bytearray.{name}`, by the world\'s line `call`.'
+    return called
+
+
+for _name in ('capitalize center count endswith expandtabs find index isalnum isalpha isascii isdigit islower isspace istitle '
+              'isupper join ljust lower lstrip partition removeprefix removesuffix replace rfind rindex rjust rpartition rsplit '
+              'rstrip split splitlines startswith strip swapcase title translate upper zfill').split():
+    setattr(ByteArray, _name, _method(_name))
+
+
+class MemoryView(_Object):
+    """A view of a `ByteArray` or of another view, or of a copy of any other object with a buffer."""
+
+    def __init__(self, source):
+        if not isinstance(source, (ByteArray, MemoryView)):
+            source = ByteArray(_lent(source))
+        self._keep(source, source._one('view'))
+
+    def _keep(self, source, made):
+        self._world = source._world
+        self._object = made
+        self.obj = source if isinstance(source, ByteArray) else source.obj
+
+    def _made(self, made):
+        view = object.__new__(type(self))
+        view._keep(self, made)
+        return view
+
+    def __repr__(self):
+        return text_by('shown', *self._at).decode()
+
+    def release(self):
+        """Releases the view. A second time changes nothing."""
+        call('release', *self._at)
+
+    def __enter__(self):
+        self._alive()
+        return self
+
+    def __exit__(self, *exception):
+        self.release()
+
+    def _alive(self):
+        """Raises Python's ValueError where the view was released."""
+        self._property('nbytes')
+
+    def __bytes__(self):
+        return self.tobytes()
+
+    def __iter__(self):
+        if self.ndim != 1:
+            raise NotImplementedError('memoryview: sub-views are not implemented')
+        return (self[index] for index in range(len(self)))
+
+    def __getitem__(self, key):
+        if isinstance(key, slice):
+            return self._made(self._one('get_slice', ctypes.byref(Slice.of(key))))
+        if isinstance(key, tuple):
+            indices = [word_of(part) for part in key]
+            return self._item('get_at', (ctypes.c_int64 * len(indices))(*indices), len(indices))
+        if not hasattr(key, '__index__'):
+            self._alive()
+            raise TypeError('memoryview: invalid slice key')
+        return self._item('get', word_of(key))
+
+    def _item(self, name, *arguments):
+        number = Number()
+        status = raw[name](*self._at, *arguments, ctypes.byref(number))
+        if status == Status.NOTHING:  # an item that is bytes
+            return text_by('last_bytes', self._world.pointer)
+        if status:
+            raise_for(status)
+        return bool(number.magnitude) if self.format in ('?', '@?') else number.value()
+
+    def __setitem__(self, key, value):
+        if isinstance(key, slice):
+            words = ctypes.byref(Slice.of(key))
+            if isinstance(value, _Object) and value._world is self._world:
+                call('set_slice_of', *self._at, words, value._object)
+            else:
+                content = _lent(value)
+                call('set_slice', *self._at, words, content, len(content))
+            return
+        if isinstance(key, tuple):
+            indices = [word_of(part) for part in key]
+            arguments = 'set_at', (ctypes.c_int64 * len(indices))(*indices), len(indices)
+        elif hasattr(key, '__index__'):
+            arguments = 'set', word_of(key)
+        else:
+            self._alive()
+            raise TypeError('memoryview: invalid slice key')
+        if self.format in ('c', '@c'):
+            self._set_byte(key, value)
+            return
+        if not hasattr(value, '__index__'):
+            raise TypeError(f'memoryview: invalid type for format {self.format!r}')
+        number = index_of(value)
+        name, *rest = arguments
+        wide = abs(number) >= 1 << 64
+        status = raw[name](*self._at, *rest, Number.of(0 if wide else number))
+        if status == Status.OK and not wide:
+            return
+        if wide or status == Status.TYPE_ERROR and not self.readonly:
+            # the kind was right, so the number doesn't fit: Python's ValueError
+            raise ValueError(f'memoryview: invalid value for format {self.format!r}')
+        raise_for(status)
+
+    def _set_byte(self, key, value):
+        """Writes an item that is bytes, by a line."""
+        if self.readonly:
+            raise TypeError('cannot modify read-only memory')
+        self[key]  # a key is looked at before a value
+        if not isinstance(value, bytes):
+            raise TypeError("memoryview: invalid type for format 'c'")
+        if len(value) != 1:
+            raise ValueError("memoryview: invalid value for format 'c'")
+        reply, = self._world.run(f'set h{self._object} {_spelled(key)} {_spelled(value)}')
+        if reply != 'ok':
+            raise_for(_REFUSALS[reply[2:]])
+
+    def tolist(self):
+        """The items, in lists by the shape."""
+        shape = self.shape
+        if self.format in ('c', '@c'):
+            items = [bytes((byte,)) for byte in self.tobytes()]
+        else:
+            items = numbers_by('items', *self._at)
+            if self.format in ('?', '@?'):
+                items = [bool(item) for item in items]
+        for width in reversed(shape[1:]):
+            items = [items[at:at + width] for at in range(0, len(items), width)]
+        return items
+
+    def cast(self, format, shape=None):
+        if shape is None:
+            return self._made(self._one('cast', format.encode(), None, 0))
+        sizes = [word_of(size) for size in shape]
+        return self._made(self._one('cast', format.encode(), (ctypes.c_int64 * max(len(sizes), 1))(*sizes), len(sizes)))
+
+    def toreadonly(self):
+        return self._made(self._one('to_readonly'))
+
+    def hex(self, *arguments):
+        return self.tobytes().hex(*arguments)
+
+    def _property(self, name):
+        return self._number('property_number', _NAMES[name])
+
+    nbytes = property(lambda self: self._property('nbytes'))
+    itemsize = property(lambda self: self._property('itemsize'))
+    ndim = property(lambda self: self._property('ndim'))
+    readonly = property(lambda self: bool(self._property('readonly')))
+    contiguous = property(lambda self: bool(self._property('contiguous')))
+    c_contiguous = property(lambda self: bool(self._property('c_contiguous')))
+    f_contiguous = property(lambda self: bool(self._property('f_contiguous')))
+    shape = property(lambda self: tuple(numbers_by('property_numbers', *self._at, _NAMES['shape'])))
+    strides = property(lambda self: tuple(numbers_by('property_numbers', *self._at, _NAMES['strides'])))
+    format = property(lambda self: text_by('property_text', *self._at, _NAMES['format']).decode())

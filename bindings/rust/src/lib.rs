@@ -1,0 +1,24 @@
+//! Python's `bytearray` and `memoryview` by the proved library pybuf, over its archive.
+//!
+//! ```
+//! use pybuf::{ByteArray, Error};
+//!
+//! let array = ByteArray::new(b"\x01\x00\x02\x00")?;
+//! let numbers = array.view()?.cast("H")?;
+//! assert_eq!(numbers.get(0)?, 1);
+//! numbers.set(1, 258)?;
+//! assert_eq!(array.to_bytes()?, b"\x01\x00\x02\x01");
+//! // two views are unreleased: the one of all bytes, which is dropped, is released with its value
+//! assert_eq!(array.append(0), Err(Error::Buffer));
+//! drop(numbers);
+//! array.append(0)?;
+//! # Ok::<(), Error>(())
+//! ```
+mod calls;
+mod error;
+mod objects;
+mod world;
+
+pub use error::{Error, Result};
+pub use objects::{ByteArray, Iter, MemoryView, Slice};
+pub use world::{RunError, World};

@@ -1,0 +1,87 @@
+//! Worlds, by lines.
+use crate::calls::{self, copied, done, RawWorld};
+use crate::error::{Error, Result};
+use std::fmt;
+use std::ptr;
+
+/// Why a text of lines wasn't run, or not to its end.
+#[derive(Clone, Copy, Debug, PartialEq, Eq)]
+pub enum RunError {
+    /// The first line that is no command, from 1. Nothing was run.
+    BadLine(u64),
+    Failed(Error),
+}
+
+impl fmt::Display for RunError {
+    fn fmt(&self, f: &mut fmt::Formatter<'_>) -> fmt::Result {
+        match self {
+            RunError::BadLine(line) => write!(f, "line {line} is not a command"),
+            RunError::Failed(error) => error.fmt(f),
+        }
+    }
+}
+
+impl std::error::Error for RunError {}
+
+impl From<Error> for RunError {
+    fn from(error: Error) -> RunError {
+        RunError::Failed(error)
+    }
+}
+
+/// A world of objects, which runs lines, as the program does.
+///
+/// ```
+/// let mut world = pybuf::World::new()?;
+/// let replies = world.run("new bytearray x616263\nview h0\nset h1 0 65\nget h1 0\nbytes h1\nrelease h1\n")?;
+/// assert_eq!(replies, ["h0", "h1", "ok", "65", "b'Abc'", "ok"]);
+/// # Ok::<(), pybuf::RunError>(())
+/// ```
+pub struct World {
+    pointer: *mut RawWorld,
+}
+
+impl World {
+    /// A world with nothing in it.
+    pub fn new() -> Result<World> {
+        let mut pointer = ptr::null_mut();
+        // The pointer is to a place that is ours.
+        done(unsafe { calls::pybuf_world_new(&mut pointer) })?;
+        Ok(World { pointer })
+    }
+
+    /// The replies to the lines of a text. A refusal is a reply that begins with `!`.
+    pub fn run(&mut self, text: &str) -> std::result::Result<Vec<String>, RunError> {
+        let (mut count, mut line) = (0, 0);
+        // The text is read during the call alone, and the world is used by this call alone.
+        let status = unsafe { calls::pybuf_world_run(self.pointer, text.as_ptr(), text.len(), &mut count, &mut line) };
+        if status == 4 {
+            return Err(RunError::BadLine(line));
+        }
+        done(status)?;
+        let reply = |index| {
+            let text = copied(|room, room_length, length| unsafe {
+                calls::pybuf_world_reply(self.pointer, index, room, room_length, length)
+            })?;
+            Ok(String::from_utf8_lossy(&text).into_owned())
+        };
+        (0..count).map(reply).collect()
+    }
+
+    pub(crate) fn pointer(&self) -> *mut RawWorld {
+        self.pointer
+    }
+}
+
+impl fmt::Debug for World {
+    fn fmt(&self, f: &mut fmt::Formatter<'_>) -> fmt::Result {
+        f.debug_struct("World").finish_non_exhaustive()
+    }
+}
+
+impl Drop for World {
+    fn drop(&mut self) {
+        // The world is ours, and is not used again.
+        unsafe { calls::pybuf_world_free(self.pointer) };
+    }
+}

@@ -1,0 +1,3 @@
+pub mod Status
+pub mod Worlds
+pub mod Numbers

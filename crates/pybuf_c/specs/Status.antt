@@ -1,0 +1,24 @@
+-- The numbers of what calls answer.
+use Rattle.std.specs.Prelude.{ℕ}
+use Rattle.pybuf_value.specs.declared.faults.Fault.{Fault}
+use Rattle.pybuf_value.specs.declared.faults.Fault.TheVariants as fault
+use Rattle.pybuf_console.specs.declared.console.Handed.{Handed}
+use Rattle.pybuf_console.specs.declared.console.Handed.TheVariants as handed
+
+-- of a refusal, by Python's exception
+abbrev pub fault_number : Fault → ℕ
+fault_number fault.Index = 16
+fault_number fault.Value = 17
+fault_number fault.Kind = 18
+fault_number fault.Buffer = 19
+fault_number fault.Struct = 20
+fault_number fault.Overflow = 21
+fault_number fault.NotImplemented = 22
+fault_number fault.UnknownName = 23
+
+-- of what became of a text that was asked for
+abbrev pub handed_number : Handed → ℕ
+handed_number handed.Whole = 0
+handed_number handed.NoMemory = 1
+handed_number handed.TooSmall = 3
+handed_number handed.Nothing = 5

@@ -1,0 +1,30 @@
+//! One command, asked of the world of a handle.
+ghost use Rattle.std.specs.Prelude.{◌≡◌, ◌≢◌};
+ghost use Rattle.pybuf_console.specs.Held.{held};
+ghost use Rattle.pybuf_c.specs.Worlds.{BothHold, NoneHold, Answers};
+
+use crate::status::{NO_MEMORY, NO_WORLD, answer_number};
+use pybuf_command::Command;
+use pybuf_console::WorldHandle;
+use pybuf_value::NoMemory;
+use std::alloc::Global;
+
+/// Asks a command, whose reply the world keeps.
+pub fn ask(handle: &mut WorldHandle, alloc: Global, command: Command) -> u32
+    ensures memory { result ≡ 1 → held handle.new ≡ held handle.old }
+    ensures none { result ≡ 2 → NoneHold (held handle.old) (held handle.new) }
+    ensures answered { result ≢ 1 → result ≢ 2 → BothHold (Answers command result) (held handle.old) (held handle.new) }
+{
+    let Some(mut console) = handle.take(alloc) else {
+        command.let_go();
+        return NO_WORLD;
+    };
+    let asked = console.ask(&command);
+    let refusal = console.refusal();
+    handle.put(console);
+    command.let_go();
+    match asked {
+        Ok(()) => answer_number(refusal),
+        Err(NoMemory) => NO_MEMORY,
+    }
+}

@@ -1,0 +1,34 @@
+//! The calls of a program in C on worlds, each over a call that is proved.
+#![tactic(auto)]
+
+mod asking;
+mod edits;
+mod numbers;
+mod objects;
+mod replies;
+mod status;
+mod worlds;
+
+pub use edits::{
+    pybuf_proved_append, pybuf_proved_clear, pybuf_proved_copy, pybuf_proved_delete,
+    pybuf_proved_delete_slice, pybuf_proved_extend, pybuf_proved_extend_by, pybuf_proved_insert,
+    pybuf_proved_pop, pybuf_proved_pop_last, pybuf_proved_remove, pybuf_proved_repeat,
+    pybuf_proved_reverse, pybuf_proved_take,
+};
+pub use objects::{
+    pybuf_proved_bytes, pybuf_proved_cast, pybuf_proved_cast_to_shape, pybuf_proved_compare,
+    pybuf_proved_compare_with, pybuf_proved_contains, pybuf_proved_contains_byte, pybuf_proved_get,
+    pybuf_proved_get_at, pybuf_proved_get_slice, pybuf_proved_items, pybuf_proved_iterate,
+    pybuf_proved_length, pybuf_proved_new, pybuf_proved_next, pybuf_proved_property,
+    pybuf_proved_release, pybuf_proved_set, pybuf_proved_set_at, pybuf_proved_set_slice,
+    pybuf_proved_set_slice_of, pybuf_proved_shown, pybuf_proved_to_contiguous,
+    pybuf_proved_to_readonly, pybuf_proved_view,
+};
+pub use replies::{
+    pybuf_proved_last_bytes, pybuf_proved_last_kind, pybuf_proved_last_number,
+    pybuf_proved_last_objects, pybuf_proved_last_part, pybuf_proved_last_part_count,
+};
+pub use worlds::{
+    pybuf_proved_world_free, pybuf_proved_world_new, pybuf_proved_world_reply,
+    pybuf_proved_world_run,
+};

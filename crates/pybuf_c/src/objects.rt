@@ -1,0 +1,615 @@
+//! Commands for the objects of a world, by numbers and bytes.
+ghost use Rattle.std.specs.Prelude.{◌≡◌, ◌≢◌, ◌<◌, Some, None};
+ghost use Rattle.pybuf_command.specs.declared.commands.Verb.TheVariants as verb;
+ghost use Rattle.pybuf_command.specs.declared.worlds.Command.TheVariants as command;
+ghost use Rattle.pybuf_value.specs.declared.values.Value.TheVariants as value;
+ghost use Rattle.pybuf_console.specs.Held.{held};
+ghost use Rattle.pybuf_console.specs.Values.{bytes_value, number_value, object_value, signed, slice_of, source_of, text_value, tuple_of};
+ghost use Rattle.pybuf_c.specs.Worlds.{BothHold, NoneHold, Answers};
+ghost use Rattle.std.specs.Str.{IsUtf8};
+ghost use Rattle.pybuf_command.specs.declared.kinds.ExporterKind.{ExporterKind};
+ghost use Rattle.pybuf_command.specs.declared.commands.PropertyName.{PropertyName};
+ghost use Rattle.pybuf_value.specs.declared.values.CompareOp.{CompareOp};
+ghost use Rattle.pybuf_c.specs.Numbers.{kind_number, operator_number, property_number};
+
+use crate::asking::ask;
+use crate::numbers::{kind_numbered, operator_numbered, property_numbered};
+use crate::status::{BAD_ARGUMENT, NO_MEMORY};
+use pybuf_command::{Command, Verb};
+use pybuf_console::{
+    SliceWords, WorldHandle, bytes_value, number_value, object_value, signed, slice_of, source_of,
+    text_value, tuple_of,
+};
+use pybuf_value::{NoMemory, Value};
+use std::alloc::Global;
+
+/// Makes an exporter of a kind, of these bytes.
+#[unsafe(no_mangle)]
+pub extern "C" fn pybuf_proved_new(
+    handle: &mut WorldHandle,
+    alloc: Global,
+    kind: u32,
+    bytes: &[u8],
+) -> u32
+    ensures memory { result ≡ 1 → held handle.new ≡ held handle.old }
+    ensures none { result ≡ 2 → NoneHold (held handle.old) (held handle.new) }
+    ensures bad { result ≡ 6 → 3 < kind }
+    ensures bad_kept { result ≡ 6 → held handle.new ≡ held handle.old }
+    ensures answered { result ≢ 1 → result ≢ 2 → result ≢ 6 → (made : ExporterKind) → kind_number made ≡ kind → BothHold (Answers (command.New made (source_of bytes.now)) result) (held handle.old) (held handle.new) }
+{
+    let Some(kind) = kind_numbered(kind) else {
+        return BAD_ARGUMENT;
+    };
+    match source_of(alloc, bytes) {
+        Ok(options) => ask(handle, alloc, Command::New { kind, options }),
+        Err(NoMemory) => NO_MEMORY,
+    }
+}
+
+/// Makes a view of an object.
+#[unsafe(no_mangle)]
+pub extern "C" fn pybuf_proved_view(handle: &mut WorldHandle, alloc: Global, subject: u64) -> u32
+    ensures memory { result ≡ 1 → held handle.new ≡ held handle.old }
+    ensures none { result ≡ 2 → NoneHold (held handle.old) (held handle.new) }
+    ensures answered { result ≢ 1 → result ≢ 2 → BothHold (Answers (command.Do subject verb.View) result) (held handle.old) (held handle.new) }
+{
+    ask(
+        handle,
+        alloc,
+        Command::Do {
+            subject,
+            verb: Verb::View,
+        },
+    )
+}
+
+/// Makes a view of the same items that may only be read.
+#[unsafe(no_mangle)]
+pub extern "C" fn pybuf_proved_to_readonly(
+    handle: &mut WorldHandle,
+    alloc: Global,
+    subject: u64,
+) -> u32
+    ensures memory { result ≡ 1 → held handle.new ≡ held handle.old }
+    ensures none { result ≡ 2 → NoneHold (held handle.old) (held handle.new) }
+    ensures answered { result ≢ 1 → result ≢ 2 → BothHold (Answers (command.Do subject verb.ToReadonly) result) (held handle.old) (held handle.new) }
+{
+    ask(
+        handle,
+        alloc,
+        Command::Do {
+            subject,
+            verb: Verb::ToReadonly,
+        },
+    )
+}
+
+/// Makes a vector of the bytes of a view, and a view of it.
+#[unsafe(no_mangle)]
+pub extern "C" fn pybuf_proved_to_contiguous(
+    handle: &mut WorldHandle,
+    alloc: Global,
+    subject: u64,
+) -> u32
+    ensures memory { result ≡ 1 → held handle.new ≡ held handle.old }
+    ensures none { result ≡ 2 → NoneHold (held handle.old) (held handle.new) }
+    ensures answered { result ≢ 1 → result ≢ 2 → BothHold (Answers (command.Do subject verb.ToContiguous) result) (held handle.old) (held handle.new) }
+{
+    ask(
+        handle,
+        alloc,
+        Command::Do {
+            subject,
+            verb: Verb::ToContiguous,
+        },
+    )
+}
+
+/// Makes a view of the bytes of a view as items of a format.
+#[unsafe(no_mangle)]
+pub extern "C" fn pybuf_proved_cast(
+    handle: &mut WorldHandle,
+    alloc: Global,
+    subject: u64,
+    format: &[u8],
+) -> u32
+    ensures memory { result ≡ 1 → held handle.new ≡ held handle.old }
+    ensures none { result ≡ 2 → NoneHold (held handle.old) (held handle.new) }
+    ensures bad { result ≡ 6 → IsUtf8 format.now → ⊥ }
+    ensures bad_kept { result ≡ 6 → held handle.new ≡ held handle.old }
+    ensures answered { result ≢ 1 → result ≢ 2 → result ≢ 6 → BothHold (Answers (command.Do subject (verb.Cast (text_value format.now) None)) result) (held handle.old) (held handle.new) }
+{
+    match text_value(alloc, format) {
+        Ok(Some(format)) => ask(
+            handle,
+            alloc,
+            Command::Do {
+                subject,
+                verb: Verb::Cast {
+                    format,
+                    shape: None,
+                },
+            },
+        ),
+        Ok(None) => BAD_ARGUMENT,
+        Err(NoMemory) => NO_MEMORY,
+    }
+}
+
+/// Makes a view of the bytes of a view as items of a format, in a shape.
+#[unsafe(no_mangle)]
+pub extern "C" fn pybuf_proved_cast_to_shape(
+    handle: &mut WorldHandle,
+    alloc: Global,
+    subject: u64,
+    format: &[u8],
+    shape: &[i64],
+) -> u32
+    ensures memory { result ≡ 1 → held handle.new ≡ held handle.old }
+    ensures none { result ≡ 2 → NoneHold (held handle.old) (held handle.new) }
+    ensures bad { result ≡ 6 → IsUtf8 format.now → ⊥ }
+    ensures bad_kept { result ≡ 6 → held handle.new ≡ held handle.old }
+    ensures answered { result ≢ 1 → result ≢ 2 → result ≢ 6 → BothHold (Answers (command.Do subject (verb.Cast (text_value format.now) (Some (tuple_of shape.now)))) result) (held handle.old) (held handle.new) }
+{
+    let Ok(shape) = tuple_of(alloc, shape) else {
+        return NO_MEMORY;
+    };
+    match text_value(alloc, format) {
+        Ok(Some(format)) => ask(
+            handle,
+            alloc,
+            Command::Do {
+                subject,
+                verb: Verb::Cast {
+                    format,
+                    shape: Some(shape),
+                },
+            },
+        ),
+        Ok(None) => BAD_ARGUMENT,
+        Err(NoMemory) => NO_MEMORY,
+    }
+}
+
+/// Reads the item at an index.
+#[unsafe(no_mangle)]
+pub extern "C" fn pybuf_proved_get(
+    handle: &mut WorldHandle,
+    alloc: Global,
+    subject: u64,
+    index: i64,
+) -> u32
+    ensures memory { result ≡ 1 → held handle.new ≡ held handle.old }
+    ensures none { result ≡ 2 → NoneHold (held handle.old) (held handle.new) }
+    ensures answered { result ≢ 1 → result ≢ 2 → BothHold (Answers (command.Do subject (verb.Get (number_value index))) result) (held handle.old) (held handle.new) }
+{
+    ask(
+        handle,
+        alloc,
+        Command::Do {
+            subject,
+            verb: Verb::Get {
+                key: number_value(index as i128),
+            },
+        },
+    )
+}
+
+/// Reads the item at an index for each dimension.
+#[unsafe(no_mangle)]
+pub extern "C" fn pybuf_proved_get_at(
+    handle: &mut WorldHandle,
+    alloc: Global,
+    subject: u64,
+    indices: &[i64],
+) -> u32
+    ensures memory { result ≡ 1 → held handle.new ≡ held handle.old }
+    ensures none { result ≡ 2 → NoneHold (held handle.old) (held handle.new) }
+    ensures answered { result ≢ 1 → result ≢ 2 → BothHold (Answers (command.Do subject (verb.Get (tuple_of indices.now))) result) (held handle.old) (held handle.new) }
+{
+    match tuple_of(alloc, indices) {
+        Ok(key) => ask(
+            handle,
+            alloc,
+            Command::Do {
+                subject,
+                verb: Verb::Get { key },
+            },
+        ),
+        Err(NoMemory) => NO_MEMORY,
+    }
+}
+
+/// Reads a slice: bytes of an exporter, a new view of a view.
+#[unsafe(no_mangle)]
+pub extern "C" fn pybuf_proved_get_slice(
+    handle: &mut WorldHandle,
+    alloc: Global,
+    subject: u64,
+    words: &SliceWords,
+) -> u32
+    ensures memory { result ≡ 1 → held handle.new ≡ held handle.old }
+    ensures none { result ≡ 2 → NoneHold (held handle.old) (held handle.new) }
+    ensures answered { result ≢ 1 → result ≢ 2 → BothHold (Answers (command.Do subject (verb.Get (value.Slice (slice_of words.now)))) result) (held handle.old) (held handle.new) }
+{
+    ask(
+        handle,
+        alloc,
+        Command::Do {
+            subject,
+            verb: Verb::Get {
+                key: Value::Slice(slice_of(words)),
+            },
+        },
+    )
+}
+
+/// Writes the item at an index.
+#[unsafe(no_mangle)]
+pub extern "C" fn pybuf_proved_set(
+    handle: &mut WorldHandle,
+    alloc: Global,
+    subject: u64,
+    index: i64,
+    magnitude: u64,
+    negative: bool,
+) -> u32
+    ensures memory { result ≡ 1 → held handle.new ≡ held handle.old }
+    ensures none { result ≡ 2 → NoneHold (held handle.old) (held handle.new) }
+    ensures answered { result ≢ 1 → result ≢ 2 → BothHold (Answers (command.Do subject (verb.Set (number_value index) (number_value (signed negative magnitude)))) result) (held handle.old) (held handle.new) }
+{
+    ask(
+        handle,
+        alloc,
+        Command::Do {
+            subject,
+            verb: Verb::Set {
+                key: number_value(index as i128),
+                value: number_value(signed(negative, magnitude)),
+            },
+        },
+    )
+}
+
+/// Writes the item at an index for each dimension.
+#[unsafe(no_mangle)]
+pub extern "C" fn pybuf_proved_set_at(
+    handle: &mut WorldHandle,
+    alloc: Global,
+    subject: u64,
+    indices: &[i64],
+    magnitude: u64,
+    negative: bool,
+) -> u32
+    ensures memory { result ≡ 1 → held handle.new ≡ held handle.old }
+    ensures none { result ≡ 2 → NoneHold (held handle.old) (held handle.new) }
+    ensures answered { result ≢ 1 → result ≢ 2 → BothHold (Answers (command.Do subject (verb.Set (tuple_of indices.now) (number_value (signed negative magnitude)))) result) (held handle.old) (held handle.new) }
+{
+    match tuple_of(alloc, indices) {
+        Ok(key) => ask(
+            handle,
+            alloc,
+            Command::Do {
+                subject,
+                verb: Verb::Set {
+                    key,
+                    value: number_value(signed(negative, magnitude)),
+                },
+            },
+        ),
+        Err(NoMemory) => NO_MEMORY,
+    }
+}
+
+/// Puts bytes in place of a slice.
+#[unsafe(no_mangle)]
+pub extern "C" fn pybuf_proved_set_slice(
+    handle: &mut WorldHandle,
+    alloc: Global,
+    subject: u64,
+    words: &SliceWords,
+    bytes: &[u8],
+) -> u32
+    ensures memory { result ≡ 1 → held handle.new ≡ held handle.old }
+    ensures none { result ≡ 2 → NoneHold (held handle.old) (held handle.new) }
+    ensures answered { result ≢ 1 → result ≢ 2 → BothHold (Answers (command.Do subject (verb.Set (value.Slice (slice_of words.now)) (bytes_value bytes.now))) result) (held handle.old) (held handle.new) }
+{
+    match bytes_value(alloc, bytes) {
+        Ok(value) => ask(
+            handle,
+            alloc,
+            Command::Do {
+                subject,
+                verb: Verb::Set {
+                    key: Value::Slice(slice_of(words)),
+                    value,
+                },
+            },
+        ),
+        Err(NoMemory) => NO_MEMORY,
+    }
+}
+
+/// Puts what another object holds in place of a slice.
+#[unsafe(no_mangle)]
+pub extern "C" fn pybuf_proved_set_slice_of(
+    handle: &mut WorldHandle,
+    alloc: Global,
+    subject: u64,
+    words: &SliceWords,
+    other: u64,
+) -> u32
+    ensures memory { result ≡ 1 → held handle.new ≡ held handle.old }
+    ensures none { result ≡ 2 → NoneHold (held handle.old) (held handle.new) }
+    ensures answered { result ≢ 1 → result ≢ 2 → BothHold (Answers (command.Do subject (verb.Set (value.Slice (slice_of words.now)) (object_value other))) result) (held handle.old) (held handle.new) }
+{
+    ask(
+        handle,
+        alloc,
+        Command::Do {
+            subject,
+            verb: Verb::Set {
+                key: Value::Slice(slice_of(words)),
+                value: object_value(other),
+            },
+        },
+    )
+}
+
+/// Releases a view.
+#[unsafe(no_mangle)]
+pub extern "C" fn pybuf_proved_release(handle: &mut WorldHandle, alloc: Global, subject: u64) -> u32
+    ensures memory { result ≡ 1 → held handle.new ≡ held handle.old }
+    ensures none { result ≡ 2 → NoneHold (held handle.old) (held handle.new) }
+    ensures answered { result ≢ 1 → result ≢ 2 → BothHold (Answers (command.Do subject verb.Release) result) (held handle.old) (held handle.new) }
+{
+    ask(
+        handle,
+        alloc,
+        Command::Do {
+            subject,
+            verb: Verb::Release,
+        },
+    )
+}
+
+/// Reads the length.
+#[unsafe(no_mangle)]
+pub extern "C" fn pybuf_proved_length(handle: &mut WorldHandle, alloc: Global, subject: u64) -> u32
+    ensures memory { result ≡ 1 → held handle.new ≡ held handle.old }
+    ensures none { result ≡ 2 → NoneHold (held handle.old) (held handle.new) }
+    ensures answered { result ≢ 1 → result ≢ 2 → BothHold (Answers (command.Do subject verb.Len) result) (held handle.old) (held handle.new) }
+{
+    ask(
+        handle,
+        alloc,
+        Command::Do {
+            subject,
+            verb: Verb::Len,
+        },
+    )
+}
+
+/// Reads the bytes.
+#[unsafe(no_mangle)]
+pub extern "C" fn pybuf_proved_bytes(handle: &mut WorldHandle, alloc: Global, subject: u64) -> u32
+    ensures memory { result ≡ 1 → held handle.new ≡ held handle.old }
+    ensures none { result ≡ 2 → NoneHold (held handle.old) (held handle.new) }
+    ensures answered { result ≢ 1 → result ≢ 2 → BothHold (Answers (command.Do subject verb.ToBytes) result) (held handle.old) (held handle.new) }
+{
+    ask(
+        handle,
+        alloc,
+        Command::Do {
+            subject,
+            verb: Verb::ToBytes,
+        },
+    )
+}
+
+/// Reads the items of a view, row by row.
+#[unsafe(no_mangle)]
+pub extern "C" fn pybuf_proved_items(handle: &mut WorldHandle, alloc: Global, subject: u64) -> u32
+    ensures memory { result ≡ 1 → held handle.new ≡ held handle.old }
+    ensures none { result ≡ 2 → NoneHold (held handle.old) (held handle.new) }
+    ensures answered { result ≢ 1 → result ≢ 2 → BothHold (Answers (command.Do subject verb.ToList) result) (held handle.old) (held handle.new) }
+{
+    ask(
+        handle,
+        alloc,
+        Command::Do {
+            subject,
+            verb: Verb::ToList,
+        },
+    )
+}
+
+/// Reads a property.
+#[unsafe(no_mangle)]
+pub extern "C" fn pybuf_proved_property(
+    handle: &mut WorldHandle,
+    alloc: Global,
+    subject: u64,
+    name: u32,
+) -> u32
+    ensures memory { result ≡ 1 → held handle.new ≡ held handle.old }
+    ensures none { result ≡ 2 → NoneHold (held handle.old) (held handle.new) }
+    ensures bad { result ≡ 6 → 12 < name }
+    ensures bad_kept { result ≡ 6 → held handle.new ≡ held handle.old }
+    ensures answered { result ≢ 1 → result ≢ 2 → result ≢ 6 → (asked : PropertyName) → property_number asked ≡ name → BothHold (Answers (command.Do subject (verb.Property asked)) result) (held handle.old) (held handle.new) }
+{
+    match property_numbered(name) {
+        Some(name) => ask(
+            handle,
+            alloc,
+            Command::Do {
+                subject,
+                verb: Verb::Property { name },
+            },
+        ),
+        None => BAD_ARGUMENT,
+    }
+}
+
+/// Compares an object with bytes.
+#[unsafe(no_mangle)]
+pub extern "C" fn pybuf_proved_compare(
+    handle: &mut WorldHandle,
+    alloc: Global,
+    subject: u64,
+    operator: u32,
+    bytes: &[u8],
+) -> u32
+    ensures memory { result ≡ 1 → held handle.new ≡ held handle.old }
+    ensures none { result ≡ 2 → NoneHold (held handle.old) (held handle.new) }
+    ensures bad { result ≡ 6 → 5 < operator }
+    ensures bad_kept { result ≡ 6 → held handle.new ≡ held handle.old }
+    ensures answered { result ≢ 1 → result ≢ 2 → result ≢ 6 → (op : CompareOp) → operator_number op ≡ operator → BothHold (Answers (command.Do subject (verb.Compare op (bytes_value bytes.now))) result) (held handle.old) (held handle.new) }
+{
+    let Some(op) = operator_numbered(operator) else {
+        return BAD_ARGUMENT;
+    };
+    match bytes_value(alloc, bytes) {
+        Ok(other) => ask(
+            handle,
+            alloc,
+            Command::Do {
+                subject,
+                verb: Verb::Compare { op, other },
+            },
+        ),
+        Err(NoMemory) => NO_MEMORY,
+    }
+}
+
+/// Compares an object with another.
+#[unsafe(no_mangle)]
+pub extern "C" fn pybuf_proved_compare_with(
+    handle: &mut WorldHandle,
+    alloc: Global,
+    subject: u64,
+    operator: u32,
+    other: u64,
+) -> u32
+    ensures memory { result ≡ 1 → held handle.new ≡ held handle.old }
+    ensures none { result ≡ 2 → NoneHold (held handle.old) (held handle.new) }
+    ensures bad { result ≡ 6 → 5 < operator }
+    ensures bad_kept { result ≡ 6 → held handle.new ≡ held handle.old }
+    ensures answered { result ≢ 1 → result ≢ 2 → result ≢ 6 → (op : CompareOp) → operator_number op ≡ operator → BothHold (Answers (command.Do subject (verb.Compare op (object_value other))) result) (held handle.old) (held handle.new) }
+{
+    match operator_numbered(operator) {
+        Some(op) => ask(
+            handle,
+            alloc,
+            Command::Do {
+                subject,
+                verb: Verb::Compare {
+                    op,
+                    other: object_value(other),
+                },
+            },
+        ),
+        None => BAD_ARGUMENT,
+    }
+}
+
+/// Asks whether bytes stand in bytes or a bytearray.
+#[unsafe(no_mangle)]
+pub extern "C" fn pybuf_proved_contains(
+    handle: &mut WorldHandle,
+    alloc: Global,
+    subject: u64,
+    bytes: &[u8],
+) -> u32
+    ensures memory { result ≡ 1 → held handle.new ≡ held handle.old }
+    ensures none { result ≡ 2 → NoneHold (held handle.old) (held handle.new) }
+    ensures answered { result ≢ 1 → result ≢ 2 → BothHold (Answers (command.Do subject (verb.Contains (bytes_value bytes.now))) result) (held handle.old) (held handle.new) }
+{
+    match bytes_value(alloc, bytes) {
+        Ok(value) => ask(
+            handle,
+            alloc,
+            Command::Do {
+                subject,
+                verb: Verb::Contains { value },
+            },
+        ),
+        Err(NoMemory) => NO_MEMORY,
+    }
+}
+
+/// Asks whether a byte stands in bytes or a bytearray.
+#[unsafe(no_mangle)]
+pub extern "C" fn pybuf_proved_contains_byte(
+    handle: &mut WorldHandle,
+    alloc: Global,
+    subject: u64,
+    magnitude: u64,
+    negative: bool,
+) -> u32
+    ensures memory { result ≡ 1 → held handle.new ≡ held handle.old }
+    ensures none { result ≡ 2 → NoneHold (held handle.old) (held handle.new) }
+    ensures answered { result ≢ 1 → result ≢ 2 → BothHold (Answers (command.Do subject (verb.Contains (number_value (signed negative magnitude)))) result) (held handle.old) (held handle.new) }
+{
+    ask(
+        handle,
+        alloc,
+        Command::Do {
+            subject,
+            verb: Verb::Contains {
+                value: number_value(signed(negative, magnitude)),
+            },
+        },
+    )
+}
+
+/// Makes an iterator.
+#[unsafe(no_mangle)]
+pub extern "C" fn pybuf_proved_iterate(handle: &mut WorldHandle, alloc: Global, subject: u64) -> u32
+    ensures memory { result ≡ 1 → held handle.new ≡ held handle.old }
+    ensures none { result ≡ 2 → NoneHold (held handle.old) (held handle.new) }
+    ensures answered { result ≢ 1 → result ≢ 2 → BothHold (Answers (command.Do subject verb.Iter) result) (held handle.old) (held handle.new) }
+{
+    ask(
+        handle,
+        alloc,
+        Command::Do {
+            subject,
+            verb: Verb::Iter,
+        },
+    )
+}
+
+/// Reads the next item of an iterator.
+#[unsafe(no_mangle)]
+pub extern "C" fn pybuf_proved_next(handle: &mut WorldHandle, alloc: Global, subject: u64) -> u32
+    ensures memory { result ≡ 1 → held handle.new ≡ held handle.old }
+    ensures none { result ≡ 2 → NoneHold (held handle.old) (held handle.new) }
+    ensures answered { result ≢ 1 → result ≢ 2 → BothHold (Answers (command.Do subject verb.Next) result) (held handle.old) (held handle.new) }
+{
+    ask(
+        handle,
+        alloc,
+        Command::Do {
+            subject,
+            verb: Verb::Next,
+        },
+    )
+}
+
+/// Reads how an object is shown.
+#[unsafe(no_mangle)]
+pub extern "C" fn pybuf_proved_shown(handle: &mut WorldHandle, alloc: Global, subject: u64) -> u32
+    ensures memory { result ≡ 1 → held handle.new ≡ held handle.old }
+    ensures none { result ≡ 2 → NoneHold (held handle.old) (held handle.new) }
+    ensures answered { result ≢ 1 → result ≢ 2 → BothHold (Answers (command.Do subject verb.Repr) result) (held handle.old) (held handle.new) }
+{
+    ask(
+        handle,
+        alloc,
+        Command::Do {
+            subject,
+            verb: Verb::Repr,
+        },
+    )
+}

@@ -1,0 +1,160 @@
+//! What the last reply of a world tells, by its kind.
+ghost use Rattle.std.specs.Prelude.{◌≡◌, ◌≢◌, ◌≤◌, ◌↔◌, Some, None, IsSomeAnd};
+ghost use Rattle.pybuf_console.specs.Console.{Hands};
+ghost use Rattle.pybuf_console.specs.Held.{held};
+ghost use Rattle.pybuf_console.specs.Values.{signed, IsNoWord};
+ghost use Rattle.pybuf_console.specs.Replies as replies;
+ghost use Rattle.pybuf_console.specs.declared.console.Handed.TheVariants as handed;
+
+use crate::status::{NO_WORLD, NOTHING, OK, handed_number};
+use pybuf_console::{WorldHandle, kind_of, number_of, objects_of, part_at, part_count, word_of};
+use std::alloc::Global;
+
+/// Tells which kind the last reply is of.
+#[unsafe(no_mangle)]
+pub extern "C" fn pybuf_proved_last_kind(
+    handle: &mut WorldHandle,
+    alloc: Global,
+    kind: &mut u32,
+) -> u32
+    ensures kept { held handle.new ≡ held handle.old }
+    ensures none { (result ≡ 2) ↔ (held handle.old ≡ None) }
+    ensures ok { result ≢ 2 → (result ≡ 0) × IsSomeAnd (held handle.old) (λ console. kind.new ≡ replies.kind_of console.last) }
+{
+    let Some(console) = handle.take(alloc) else {
+        return NO_WORLD;
+    };
+    *kind = kind_of(console.last());
+    handle.put(console);
+    OK
+}
+
+/// Tells the objects that were made: one twice, or an exporter and its view.
+#[unsafe(no_mangle)]
+pub extern "C" fn pybuf_proved_last_objects(
+    handle: &mut WorldHandle,
+    alloc: Global,
+    exporter: &mut u64,
+    view: &mut u64,
+) -> u32
+    ensures kept { held handle.new ≡ held handle.old }
+    ensures none { (result ≡ 2) ↔ (held handle.old ≡ None) }
+    ensures ok { result ≡ 0 → IsSomeAnd (held handle.old) (λ console. replies.objects_of console.last ≡ Some (exporter.new, view.new)) }
+    ensures nothing { result ≡ 5 → IsSomeAnd (held handle.old) (λ console. replies.objects_of console.last ≡ None) }
+    ensures status { result ≢ 0 → result ≢ 2 → result ≡ 5 }
+{
+    let Some(console) = handle.take(alloc) else {
+        return NO_WORLD;
+    };
+    let objects = objects_of(console.last());
+    handle.put(console);
+    match objects {
+        Some((own, viewed)) => {
+            *exporter = own;
+            *view = viewed;
+            OK
+        }
+        None => NOTHING,
+    }
+}
+
+/// Tells the number that the last reply is, as a size and a sign.
+#[unsafe(no_mangle)]
+pub extern "C" fn pybuf_proved_last_number(
+    handle: &mut WorldHandle,
+    alloc: Global,
+    magnitude: &mut u64,
+    negative: &mut bool,
+) -> u32
+    ensures kept { held handle.new ≡ held handle.old }
+    ensures none { (result ≡ 2) ↔ (held handle.old ≡ None) }
+    ensures ok { result ≡ 0 → IsSomeAnd (held handle.old) (λ console. replies.number_of console.last ≡ Some (signed negative.new magnitude.new)) }
+    ensures nothing { result ≡ 5 → IsSomeAnd (held handle.old) (λ console. IsNoWord (replies.number_of console.last)) }
+    ensures status { result ≢ 0 → result ≢ 2 → result ≡ 5 }
+{
+    let Some(console) = handle.take(alloc) else {
+        return NO_WORLD;
+    };
+    let word = word_of(number_of(console.last()));
+    handle.put(console);
+    match word {
+        Some((size, below)) => {
+            *magnitude = size;
+            *negative = below;
+            OK
+        }
+        None => NOTHING,
+    }
+}
+
+/// Tells how many parts the last reply has.
+#[unsafe(no_mangle)]
+pub extern "C" fn pybuf_proved_last_part_count(
+    handle: &mut WorldHandle,
+    alloc: Global,
+    count: &mut usize,
+) -> u32
+    ensures kept { held handle.new ≡ held handle.old }
+    ensures none { (result ≡ 2) ↔ (held handle.old ≡ None) }
+    ensures ok { result ≢ 2 → (result ≡ 0) × IsSomeAnd (held handle.old) (λ console. count.new ≡ replies.part_count console.last) }
+{
+    let Some(console) = handle.take(alloc) else {
+        return NO_WORLD;
+    };
+    *count = part_count(console.last());
+    handle.put(console);
+    OK
+}
+
+/// Tells the number at a place of the last reply, as a size and a sign.
+#[unsafe(no_mangle)]
+pub extern "C" fn pybuf_proved_last_part(
+    handle: &mut WorldHandle,
+    alloc: Global,
+    index: usize,
+    magnitude: &mut u64,
+    negative: &mut bool,
+) -> u32
+    ensures kept { held handle.new ≡ held handle.old }
+    ensures none { (result ≡ 2) ↔ (held handle.old ≡ None) }
+    ensures ok { result ≡ 0 → IsSomeAnd (held handle.old) (λ console. replies.part_at console.last index ≡ Some (signed negative.new magnitude.new)) }
+    ensures nothing { result ≡ 5 → IsSomeAnd (held handle.old) (λ console. IsNoWord (replies.part_at console.last index)) }
+    ensures status { result ≢ 0 → result ≢ 2 → result ≡ 5 }
+{
+    let Some(console) = handle.take(alloc) else {
+        return NO_WORLD;
+    };
+    let word = word_of(part_at(console.last(), index));
+    handle.put(console);
+    match word {
+        Some((size, below)) => {
+            *magnitude = size;
+            *negative = below;
+            OK
+        }
+        None => NOTHING,
+    }
+}
+
+/// Copies the bytes that the last reply is, or those of its text, into the room, and tells their number.
+#[unsafe(no_mangle)]
+pub extern "C" fn pybuf_proved_last_bytes(
+    handle: &mut WorldHandle,
+    alloc: Global,
+    room: &mut [u8],
+    count: &mut usize,
+) -> u32
+    ensures kept { held handle.new ≡ held handle.old }
+    ensures none { (result ≡ 2) ↔ (held handle.old ≡ None) }
+    ensures whole { result ≡ 0 → IsSomeAnd (held handle.old) (λ console. Hands handed.Whole (replies.bytes_of console.last) room.old room.new count.old count.new) }
+    ensures small { result ≡ 3 → IsSomeAnd (held handle.old) (λ console. Hands handed.TooSmall (replies.bytes_of console.last) room.old room.new count.old count.new) }
+    ensures nothing { result ≡ 5 → IsSomeAnd (held handle.old) (λ console. Hands handed.Nothing (replies.bytes_of console.last) room.old room.new count.old count.new) }
+    ensures status { result ≤ 5 }
+{
+    let Some(console) = handle.take(alloc) else {
+        return NO_WORLD;
+    };
+    let handed = console.hand_last(room, count);
+    handle.put(console);
+    handed_number(handed)
+}

@@ -1,0 +1,76 @@
+-- A world with the replies that are kept of what was asked of it.
+use Rattle.std.specs.Prelude.{◌≡◌, ◌⊎◌, ◌<◌, ℕ, List, [], ◌++◌, length, take, drop, Option, Some, None, Result, Ok, Err}
+use Rattle.pybuf_command.specs.declared.worlds.Command.{Command}
+use Rattle.pybuf_command.specs.declared.worlds.Reply.{Reply}
+use Rattle.pybuf_command.specs.declared.worlds.Reply.TheVariants as reply
+use Rattle.pybuf_command.specs.Shown.{reply_text}
+use Rattle.pybuf_value.specs.declared.faults.Fault.{Fault}
+use Rattle.pybuf_value.specs.Spelling.{handle_text}
+use Rattle.pybuf_world.specs.World.{World, empty_world, wstep, world_after_all, replies_of}
+use Rattle.pybuf_world.specs.Sound.{StopsAt}
+use Rattle.pybuf_line.specs.Scalars.{handle_in}
+use Rattle.pybuf_line.specs.Lines.{commands_in}
+use Rattle.pybuf_line.specs.declared.unread.Misread.{Misread}
+use Rattle.pybuf_line.specs.declared.unread.Misread.TheVariants as misread
+use Rattle.pybuf_console.specs.declared.console.Handed.{Handed}
+use Rattle.pybuf_console.specs.declared.console.Handed.TheVariants as handed
+
+-- A world, the replies of the lines that were run in it last, and the reply of the one command that was asked last.
+pub record Console : Type 0 where
+  pub world : World
+  pub replies : List Reply
+  pub last : Reply
+
+abbrev pub empty_console : Console
+empty_console = record { world = empty_world; replies = []; last = reply.Ok }
+
+-- Each line of the text is a command. The world has stepped by all of them, and their replies stand in place of those before.
+pub record HasRun (text : List ℕ) (old new : Console) : Type 0 where
+  pub commands : List Command
+  pub spelled : commands_in handle_in text ≡ Ok commands
+  pub world : new.world ≡ world_after_all old.world commands
+  pub replies : new.replies ≡ replies_of old.world commands
+  pub last : new.last ≡ old.last
+
+-- Each line of the text is a command. The world has stepped by some of them from the first on, and has the replies of these.
+pub record HasStopped (text : List ℕ) (old new : Console) : Type 0 where
+  pub commands : List Command
+  pub spelled : commands_in handle_in text ≡ Ok commands
+  pub stopped : StopsAt old.world commands new.world [] new.replies
+  pub last : new.last ≡ old.last
+
+-- What comes of a text: all of it was run; or nothing was, since the line of this number is the first that is no command; or
+-- memory ran out, before the first command or behind some.
+abbrev pub Runs : {X : Type 0} → Result X Misread → List ℕ → Console → Console → Type 0
+Runs (Ok x) text old new = HasRun text old new
+Runs (Err (misread.BadLine n)) text old new = (commands_in handle_in text ≡ Err n) × (new ≡ old)
+Runs (Err misread.NoMemory) text old new = (new ≡ old) ⊎ HasStopped text old new
+
+-- A text stands at the front of a room, and behind it the room is as before.
+pub record IsCopied (text old new : List ℕ) : Type 0 where
+  pub front : take (length text) new ≡ text
+  pub rest : drop (length text) new ≡ drop (length text) old
+
+-- What is handed out of a text, where there is one: a copy with its length; or its length alone, where the room is shorter.
+abbrev pub Hands : Handed → Option (List ℕ) → List ℕ → List ℕ → ℕ → ℕ → Type 0
+Hands handed.Whole (Some text) old new length_old length_new = (length_new ≡ length text) × IsCopied text old new
+Hands handed.Whole None old new length_old length_new = ⊥
+Hands handed.TooSmall (Some text) old new length_old length_new = (length_new ≡ length text) × (length old < length text) × (new ≡ old)
+Hands handed.TooSmall None old new length_old length_new = ⊥
+Hands handed.Nothing text old new length_old length_new = (text ≡ None) × (new ≡ old) × (length_new ≡ length_old)
+Hands handed.NoMemory text old new length_old length_new = (new ≡ old) × (length_new ≡ length_old)
+
+-- the text of a reply
+abbrev pub shown_reply : Option Reply → Option (List ℕ)
+shown_reply (Some reply) = Some (reply_text handle_text reply)
+shown_reply None = None
+
+-- One command was carried out, and its reply is the last one. The replies of lines stay.
+pub record HasAsked (command : Command) (old new : Console) : Type 0 where
+  pub step : wstep old.world command ≡ (new.world, new.last)
+  pub replies : new.replies ≡ old.replies
+
+-- why a command was refused
+abbrev pub refusal_of : Reply → Option Fault
+refusal_of (reply.Refused fault) = Some fault
+refusal_of _ = None

@@ -1,0 +1,6 @@
+pub mod Console
+pub mod Inputs
+pub mod Owned
+pub mod Held
+pub mod Values
+pub mod Replies

@@ -1,0 +1,99 @@
+//! Values of commands, made of the numbers and bytes that a caller passes.
+ghost use Rattle.std.specs.Prelude.{◌≡◌, IfOk, MatchOption};
+ghost use Rattle.std.specs.Str.{IsUtf8};
+ghost use Rattle.pybuf_console.specs.Values as spec;
+
+use pybuf_command::ByteInnerNewOptions;
+use pybuf_value::{ByteList, Made, PySlice, Scalar, ScalarList, Text, Value};
+use std::alloc::Global;
+
+/// A slice whose parts may be absent.
+#[repr(C)]
+#[derive(Clone, Copy)]
+pub struct SliceWords {
+    pub start: i64,
+    pub stop: i64,
+    pub step: i64,
+    pub has_start: bool,
+    pub has_stop: bool,
+    pub has_step: bool,
+}
+
+/// A number as a value.
+pub fn number_value(number: i128) -> Value
+    ensures { result ≡ spec.number_value number }
+{
+    Value::One(Scalar::Int(number))
+}
+
+/// What an object names, as a value.
+pub fn object_value(handle: u64) -> Value
+    ensures { result ≡ spec.object_value handle }
+{
+    Value::One(Scalar::Handle(handle))
+}
+
+/// A copy of bytes as a value.
+pub fn bytes_value(alloc: Global, bytes: &[u8]) -> Made<Value>
+    ensures { IfOk result (λ value. value ≡ spec.bytes_value bytes.now) }
+{
+    Ok(Value::One(Scalar::Bytes(ByteList::from_slice(alloc, bytes)?)))
+}
+
+/// A part of a slice, or none.
+fn part_of(there: bool, number: i64) -> Scalar
+    ensures { result ≡ spec.part_of there number }
+{
+    if there {
+        Scalar::Int(number as i128)
+    } else {
+        Scalar::None
+    }
+}
+
+/// A slice as a value.
+pub fn slice_of(words: &SliceWords) -> PySlice
+    ensures { result ≡ spec.slice_of words.now }
+{
+    PySlice {
+        start: part_of(words.has_start, words.start),
+        stop: part_of(words.has_stop, words.stop),
+        step: part_of(words.has_step, words.step),
+    }
+}
+
+/// What an exporter is made of, where it is bytes.
+pub fn source_of(alloc: Global, bytes: &[u8]) -> Made<ByteInnerNewOptions>
+    ensures { IfOk result (λ options. options ≡ spec.source_of bytes.now) }
+{
+    let source = Some(bytes_value(alloc, bytes)?);
+    Ok(ByteInnerNewOptions {
+        source,
+        encoding: None,
+        errors: None,
+    })
+}
+
+/// A copy of a text as a value, where its bytes are UTF-8.
+pub fn text_value(alloc: Global, bytes: &[u8]) -> Made<Option<Value>>
+    ensures { IfOk result (λ made. MatchOption made (IsUtf8 bytes.now → ⊥) (λ value. value ≡ spec.text_value bytes.now)) }
+{
+    match str::from_utf8(bytes) {
+        Ok(text) => {
+            let text = Text::from_string(String::from_str(alloc, text)?);
+            Ok(Some(Value::One(Scalar::Text(text))))
+        }
+        Err(_) => Ok(None),
+    }
+}
+
+/// Numbers as a tuple.
+pub fn tuple_of(alloc: Global, numbers: &[i64]) -> Made<Value>
+    ensures { IfOk result (λ value. value ≡ spec.tuple_of numbers.now) }
+{
+    let mut parts = ScalarList::new(alloc);
+    for number in numbers {
+        parts.push(Scalar::Int(*number as i128))?;
+    }
+    Ok(Value::Tuple(parts))
+}

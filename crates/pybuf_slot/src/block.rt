@@ -1,0 +1,37 @@
+//! A box as the address of its value.
+ghost use Rattle.std.specs.Prelude.{◌≡◌};
+ghost use Rattle.std.specs.Box.Ownership.{box_owns};
+
+use std::alloc::Allocator;
+use std::marker::Model;
+
+/// A value on the heap, by its address and the allocator that frees it. It owns what a box owns.
+pub struct Block<T, A: Allocator> {
+    pub at: *mut T,
+    pub alloc: A,
+    pub ghost value: { T },
+}
+
+impl<T, A: Allocator> Model for Block<T, A> {
+    ghost also_owns = { λ b. box_owns (A.dealloc_token b.alloc) T.row b.at b.value };
+}
+
+impl<T, A: Allocator> Block<T, A> {
+    /// The box, taken apart.
+    pub fn of(owned: Box<T, A>) -> Block<T, A>
+    where
+        T: Drop,
+        ensures { result.value ≡ owned.value }
+    {
+        let (at, alloc) = Box::into_raw_with_allocator(owned);
+        Block { at, alloc }
+    }
+
+    /// The box again.
+    pub fn into_box(self) -> Box<T, A>
+        ensures { result.value ≡ self.value }
+    {
+        let Block { at, alloc } = self;
+        unsafe { Box::from_raw(alloc, at) }
+    }
+}
