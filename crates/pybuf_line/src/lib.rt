@@ -22,10 +22,12 @@ pub use laws::{
     scalars_read_back, values_read_back, words_are_the_line, words_read_back,
 };
 pub use parsing::{command, command_of_line};
-pub use splitting::next_line;
+pub use scalars::{scalar, word_number};
+pub use spellings::value;
+pub use splitting::{fill_words, next_line};
 pub use texts::{
     Part, push_bad_line, push_decimal, push_list, push_nested, push_reply, push_reply_line,
     push_tuple,
 };
 pub use unread::{Misread, Unread};
-pub use words::is_word;
+pub use words::{is_word, operator_named};
