@@ -2,3 +2,4 @@ mod Sound
 mod Runs
 mod Lengths
 mod Viewing
+mod Slicing

@@ -1,3 +1,4 @@
 pub mod Array
 pub mod Operations
 pub mod Parts
+pub mod Laws

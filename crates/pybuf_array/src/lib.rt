@@ -7,11 +7,13 @@
 
 mod array;
 mod edits;
+mod laws;
 mod numbers;
 mod operations;
 mod running;
 mod views;
 
 pub use array::PyArray;
+pub use laws::{lengths_stay_while_viewed, slices_of_slices_pick_among_picks};
 pub use operations::{ArrayOp, ArrayReply, ArrayReplyList, IntList};
 pub use pybuf_numbers::ArrayCode;

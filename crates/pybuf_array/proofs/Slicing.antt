@@ -1,0 +1,165 @@
+-- A slice of a slice of a view, by what both pick.
+use Rattle.std.proofs.Common.{◌≡◌, ◌≢◌, ℕ, zero, suc, ◌<◌, true, false, List, [], ◌∷◌, ◌++◌, length, refl, sym, ◌∙◌, ap, subst, arith, ℤ, pos, negsuc}
+use Rattle.std.specs.Prelude.{Option, Some, None, Result, Ok, Err, IfOk, slice_get}
+use Rattle.std.specs.List.{All, cons_option}
+use Rattle.std.specs.Option.{ok_or, option_and_then}
+use Rattle.std.proofs.lemmas.Int.{ints}
+use Rattle.std.proofs.lemmas.Option.{slice_get-get_or}
+use Rattle.pybuf_value.specs.declared.faults.Fault.{Fault}
+use Rattle.pybuf_value.specs.declared.faults.Fault.TheVariants as fault
+use Rattle.pybuf_value.specs.declared.values.Scalar.{Scalar}
+use Rattle.pybuf_value.specs.declared.values.Scalar.TheVariants as scalar
+use Rattle.pybuf_value.specs.declared.values.PySlice.{PySlice}
+use Rattle.pybuf_value.specs.Refusing.{◌>>=◌, unless}
+use Rattle.pybuf_index.specs.Parts.{SliceParts, nonzero, step_in, part_in, nearest_word, clamped_parts, saturated_parts_of, picks_of}
+use Rattle.pybuf_index.specs.Laws.{EachSlice, PicksAre}
+use Rattle.pybuf_slice.specs.Reads.{elements_at}
+use Rattle.pybuf_array.specs.Array.{Array, ArrayView, live_view, with_view, view_sliced}
+use Rattle.pybuf_array.specs.Laws.{picks_of_picks, SlicesOfSlices}
+
+-- ---- elements of elements
+
+-- an element that is there is the first of those at its index and others
+with_first : (xs : List ℕ) (p x : ℕ) (ps : List ℕ) → slice_get xs p ≡ Some x → elements_at xs (p ∷ ps) ≡ x ∷ elements_at xs ps
+with_first xs p x ps there = ap (λ (o : Option ℕ). cons_option o (elements_at xs ps)) there
+
+rest_below : (n p : ℕ) (ps : List ℕ) → All (λ i. i < n) (p ∷ ps) → All (λ i. i < n) ps
+rest_below n p ps below = λ k d there. below (suc k) d (omega (arith, there))
+
+first_there : (xs : List ℕ) (p : ℕ) (ps : List ℕ) → All (λ i. i < length xs) (p ∷ ps) → (x : ℕ) × (slice_get xs p ≡ Some x)
+first_there xs p ps below = (_, slice_get-get_or xs p 0 (below 0 0 (omega arith)))
+
+as_many : (xs ps : List ℕ) → All (λ i. i < length xs) ps → length (elements_at xs ps) ≡ length ps
+as_many xs [] below = refl
+as_many xs (p ∷ ps) below =
+    let there = first_there xs p ps below in
+    ap (λ (ys : List ℕ). length ys) (with_first xs p there.0 ps there.1) ∙ ap suc (as_many xs ps (rest_below (length xs) p ps below))
+
+-- the element at a place of such a list is the one at the index that stands there
+element_there : (xs ps : List ℕ) (k : ℕ) → All (λ i. i < length xs) ps →
+    slice_get (elements_at xs ps) k ≡ option_and_then (slice_get xs) (slice_get ps k)
+element_there xs [] k below = refl
+element_there xs (p ∷ ps) zero below =
+    let there = first_there xs p ps below in
+    ap (λ (ys : List ℕ). slice_get ys 0) (with_first xs p there.0 ps there.1) ∙ sym there.1
+element_there xs (p ∷ ps) (suc k) below =
+    let there = first_there xs p ps below in
+    ap (λ (ys : List ℕ). slice_get ys (suc k)) (with_first xs p there.0 ps there.1) ∙ element_there xs ps k (rest_below (length xs) p ps below)
+
+one_more : (xs : List ℕ) (o : Option ℕ) (qs : List ℕ) →
+    cons_option (option_and_then (slice_get xs) o) (elements_at xs qs) ≡ elements_at xs (cons_option o qs)
+one_more xs None qs = refl
+one_more xs (Some p) qs = refl
+
+chosen_twice : (xs ps qs : List ℕ) → All (λ i. i < length xs) ps → elements_at (elements_at xs ps) qs ≡ elements_at xs (elements_at ps qs)
+chosen_twice xs ps [] below = refl
+chosen_twice xs ps (q ∷ qs) below =
+    ap (λ (o : Option ℕ). cons_option o (elements_at (elements_at xs ps) qs)) (element_there xs ps q below)
+    ∙ (ap (cons_option (option_and_then (slice_get xs) (slice_get ps q))) (chosen_twice xs ps qs below)
+    ∙ one_more xs (slice_get ps q) (elements_at ps qs))
+
+-- ---- the step of a slice is not 0
+
+still_nonzero : (n : ℤ) → n ≢ pos 0 → nearest_word n ≢ pos 0
+still_nonzero (pos zero) moves = λ e. moves refl
+still_nonzero (pos (suc n)) moves = λ e. omega (arith, ints, e)
+still_nonzero (negsuc n) moves = λ e. omega (arith, ints, e)
+
+nonzero_moves : (n : ℤ) → IfOk (nonzero n) (λ step. step ≢ pos 0)
+nonzero_moves (pos zero) = tt
+nonzero_moves (pos (suc n)) = λ e. omega (arith, ints, e)
+nonzero_moves (negsuc n) = λ e. omega (arith, ints, e)
+
+step_moves : (s : Scalar) → IfOk (step_in s) (λ step. step ≢ pos 0)
+step_moves scalar.None = λ e. omega (arith, ints, e)
+step_moves (scalar.Bool true) = λ e. omega (arith, ints, e)
+step_moves (scalar.Bool false) = tt
+step_moves (scalar.Int n) = nonzero_moves n
+step_moves (scalar.Text t) = tt
+step_moves (scalar.Bytes b) = tt
+step_moves scalar.Ellipsis = tt
+step_moves (scalar.Handle h) = tt
+
+chain_moves : (step : Result ℤ Fault) (start stop : Result (Option ℤ) Fault) → IfOk step (λ s. s ≢ pos 0) →
+    IfOk (step >>= (λ s. start >>= (λ a. stop >>= (λ o. Ok (record { start = a; stop = o; step = s })))) >>= (λ parts. Ok (clamped_parts parts)))
+    (λ parts. parts.step ≢ pos 0)
+chain_moves (Err f) start stop moves = tt
+chain_moves (Ok s) (Err f) stop moves = tt
+chain_moves (Ok s) (Ok a) (Err f) moves = tt
+chain_moves (Ok s) (Ok a) (Ok o) moves = still_nonzero s moves
+
+parts_move : (s : PySlice) (parts : SliceParts) → saturated_parts_of s ≡ Ok parts → parts.step ≢ pos 0
+parts_move s parts is =
+    subst (λ (r : Result SliceParts Fault). IfOk r (λ p. p.step ≢ pos 0)) is
+    (chain_moves (step_in s.step) (part_in s.start) (part_in s.stop) (step_moves s.step))
+
+-- ---- slices of views
+
+-- the array with one more view, which shows what a slice of another picks, and the number of the view
+abbrev with_slice : Array → ArrayView → SliceParts → Array × ℕ
+with_slice a v parts = (with_view a (elements_at v.indices (picks_of (length v.indices) parts)), length a.views)
+
+abbrev slicing : Array → ArrayView → Result SliceParts Fault → Result (Array × ℕ) Fault
+slicing a v read = read >>= (λ parts. Ok (with_slice a v parts))
+
+-- a view that was sliced, by the parts of the slice
+record IsSliced (a : Array) (v : ArrayView) (read : Result SliceParts Fault) (b : Array) (m : ℕ) : Type 0 where
+  parts : SliceParts
+  is : read ≡ Ok parts
+  after : b ≡ with_view a (elements_at v.indices (picks_of (length v.indices) parts))
+  number : m ≡ length a.views
+
+sliced_by : (a : Array) (v : ArrayView) (read : Result SliceParts Fault) (b : Array) (m : ℕ) →
+    slicing a v read ≡ Ok (b, m) →
+    IsSliced a v read b m
+sliced_by a v (Ok parts) b m is =
+    let done : with_slice a v parts ≡ (b, m) = cc in
+    record {
+      parts = parts;
+      is = refl;
+      after = ap (λ (x : Array × ℕ). x.0) (sym done);
+      number = ap (λ (x : Array × ℕ). x.1) (sym done);
+    }
+sliced_by a v (Err f) b m is = absurd (cc)
+
+sliced : (a b : Array) (v : ArrayView) (k m : ℕ) (s : PySlice) → live_view a k ≡ Ok v → view_sliced a k s ≡ Ok (b, m) →
+    IsSliced a v (saturated_parts_of s) b m
+sliced a b v k m s live is =
+    sliced_by a v (saturated_parts_of s) b m
+    (ap (λ (r : Result ArrayView Fault). r >>= (λ w. slicing a w (saturated_parts_of s))) (sym live) ∙ is)
+
+last_there : (views : List ArrayView) (v : ArrayView) → slice_get (views ++ v ∷ []) (length views) ≡ Some v
+last_there [] v = refl
+last_there (w ∷ views) v = last_there views v
+
+-- the view that was made last is unreleased
+last_live : (a : Array) (indices : List ℕ) → live_view (with_view a indices) (length a.views) ≡ Ok (record { indices = indices; released = false })
+last_live a indices =
+    ap (λ (o : Option ArrayView). ok_or o fault.UnknownName >>= (λ v. unless v.released fault.Value >>= (λ _. Ok v)))
+    (last_there a.views (record { indices = indices; released = false }))
+
+pub slices_of_slices : EachSlice PicksAre → SlicesOfSlices
+slices_of_slices picks_are a b c v k m n s t live once twice =
+    let first = sliced a b v k m s live once in
+    let chosen : List ℕ = elements_at v.indices (picks_of (length v.indices) first.parts) in
+    let made : ArrayView = record { indices = chosen; released = false } in
+    let next : live_view b m ≡ Ok made =
+    ap (λ (x : Array). live_view x m) first.after ∙ (ap (live_view (with_view a chosen)) first.number ∙ last_live a chosen) in
+    let second = sliced b c made m n t next twice in
+    let below : All (λ i. i < length v.indices) (picks_of (length v.indices) first.parts) =
+    (picks_are (length v.indices) first.parts.start first.parts.stop first.parts.step (parts_move s first.parts first.is)).inside in
+    let long : length chosen ≡ length (picks_of (length v.indices) first.parts) = as_many v.indices (picks_of (length v.indices) first.parts) below in
+    let shown : elements_at chosen (picks_of (length chosen) second.parts) ≡ elements_at v.indices (picks_of_picks (length v.indices) first.parts second.parts) =
+    ap (λ (l : ℕ). elements_at chosen (picks_of l second.parts)) long
+    ∙ chosen_twice v.indices (picks_of (length v.indices) first.parts) (picks_of (length (picks_of (length v.indices) first.parts)) second.parts) below in
+    record {
+      first = first.parts;
+      second = second.parts;
+      first_of = first.is;
+      second_of = second.is;
+      shown =
+          ap (λ (x : Array). slice_get x.views n) second.after
+          ∙ (ap (slice_get (with_view b (elements_at chosen (picks_of (length chosen) second.parts))).views) second.number
+          ∙ (last_there b.views (record { indices = elements_at chosen (picks_of (length chosen) second.parts); released = false })
+          ∙ ap (λ (i : List ℕ). Some (record { indices = i; released = false })) shown));
+    }

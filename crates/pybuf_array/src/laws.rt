@@ -1,0 +1,17 @@
+//! Laws of arrays.
+ghost use Rattle.pybuf_array.specs.Laws.{LengthsStayWhileViewed, SlicesOfSlices};
+
+use pybuf_index::indices_of_a_slice;
+
+/// However the operations of a run are cut in two, the number of numbers doesn't change in the second part where a view
+/// that was made in the first is unreleased at its end.
+pub fn lengths_stay_while_viewed()
+    ensures { LengthsStayWhileViewed }
+{}
+
+/// A slice of a slice of a view shows those of its numbers that the second slice picks among the picks of the first.
+pub fn slices_of_slices_pick_among_picks()
+    ensures { SlicesOfSlices }
+{
+    indices_of_a_slice();
+}
