@@ -1,0 +1,5 @@
+pub mod Numbers
+pub mod NextLines
+pub mod ReplyLaws
+pub mod LineLaws
+pub mod ReadBack
