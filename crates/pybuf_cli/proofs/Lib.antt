@@ -10,3 +10,6 @@ pub mod ReplyLaws
 pub mod ScriptLaws
 pub mod ScriptNumbers
 pub mod ScriptLengths
+pub mod Pieces
+pub mod ArrayRunning
+pub mod ArrayServed

@@ -96,6 +96,7 @@ no_sessions_alone None is = cc
 no_sessions_alone (Some form.Run) is = cc
 no_sessions_alone (Some form.Share) is = cc
 no_sessions_alone (Some (form.Make n)) is = cc
+no_sessions_alone (Some (form.Array c)) is = cc
 
 -- with one thread alone nobody disagrees
 pub agrees_alone : {S K : Type 0} (asked other : Option Form) (result : Status)

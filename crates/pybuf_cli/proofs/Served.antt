@@ -110,9 +110,9 @@ took_one_more old new input result taken long told =
     took_so_far old new input taken.0 result taken.2 (omega (arith, taken.1)) (λ _. taken.1, λ _. long) told
 
 -- an input that was read to its end was answered by no status for one that is too long
-pub answered_otherwise : (read : Result (List Command) ℕ) (result : Status) →
+pub answered_otherwise : {X : Type 0} (read : Result X ℕ) (result : Status) →
     (result ≡ ending_for read) ⊎ ((result ≡ status.NoMemory) ⊎ (result ≡ status.WriteFault)) → result ≡ status.TooLong → ⊥
-answered_otherwise (Ok commands) result (inl done) long = let e : status.Done ≡ status.TooLong = sym done ∙ long in cc
+answered_otherwise (Ok all) result (inl done) long = let e : status.Done ≡ status.TooLong = sym done ∙ long in cc
 answered_otherwise (Err line) result (inl bad) long = let e : status.BadLine ≡ status.TooLong = sym bad ∙ long in cc
 answered_otherwise read result (inr (inl none)) long = let e : status.NoMemory ≡ status.TooLong = sym none ∙ long in cc
 answered_otherwise read result (inr (inr failed)) long = let e : status.WriteFault ≡ status.TooLong = sym failed ∙ long in cc

@@ -3,7 +3,9 @@ pub mod Failing
 pub mod Endings
 pub mod Program
 pub mod Sharing
+pub mod Arrays
 pub mod Serving
 pub mod Running
+pub mod ArrayRunning
 pub mod Scripts
 pub mod Laws

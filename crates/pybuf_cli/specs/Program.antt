@@ -6,6 +6,8 @@ use Rattle.pybuf_command.specs.declared.worlds.Command.{Command}
 use Rattle.pybuf_world.specs.World.{empty_world, replies_of}
 use Rattle.pybuf_world.specs.Sound.{StaysSound}
 use Rattle.pybuf_make.specs.Summary.{summary}
+use Rattle.pybuf_numbers.specs.declared.codes.ArrayCode.{ArrayCode}
+use Rattle.pybuf_numbers.specs.Codes.{code_of}
 use Rattle.pybuf_cli.specs.declared.forms.Form.{Form}
 use Rattle.pybuf_cli.specs.declared.forms.Form.TheVariants as form
 use Rattle.pybuf_cli.specs.declared.status.Status.{Status}
@@ -32,13 +34,26 @@ abbrev pub made : Option ℕ → Option Form
 made (Some n) = Some (form.Make n)
 made None = None
 
+-- the code of an array that a word of one letter stands for
+abbrev pub array_code_in : List ℕ → Option ArrayCode
+array_code_in (letter ∷ []) = code_of letter
+array_code_in _ = None
+
+abbrev pub array_of : Option ArrayCode → Option Form
+array_of (Some c) = Some (form.Array c)
+array_of None = None
+
 -- What the words ask for: a run with none, or with the one word `run`; sessions with the one word `share`; with the word
--- `make` and a number, what is told of the script of that number. Other words are no form.
+-- `make` and a number, what is told of the script of that number; with the word `array` and a code, a run of operations on an
+-- array of that code. Other words are no form.
 abbrev pub form_of : List (List ℕ) → Option Form
 form_of [] = Some form.Run
 form_of (word ∷ []) = if bytes_eq word (codes "run") then Some form.Run else (if bytes_eq word (codes "share") then Some form.Share else None)
-form_of (word ∷ number ∷ []) = if bytes_eq word (codes "make") then made (script_number_in number) else None
-form_of (word ∷ number ∷ further ∷ more) = None
+form_of (word ∷ argument ∷ []) =
+    if bytes_eq word (codes "make") then made (script_number_in argument)
+    else if bytes_eq word (codes "array") then array_of (array_code_in argument)
+    else None
+form_of (word ∷ argument ∷ further ∷ more) = None
 
 -- what they ask for where there is one thread alone, which sessions need more of
 abbrev pub alone : Option Form → Option Form
@@ -54,8 +69,9 @@ abbrev pub due_for : Result (List Command) ℕ → List ℕ
 due_for (Ok commands) = program commands
 due_for (Err n) = bad_line_text n
 
-abbrev pub ending_for : Result (List Command) ℕ → Status
-ending_for (Ok commands) = status.Done
+-- how lines end that spell something, each of them, or where one is the first that spells nothing
+abbrev pub ending_for : {X : Type 0} → Result X ℕ → Status
+ending_for (Ok read) = status.Done
 ending_for (Err n) = status.BadLine
 
 -- the text that is due for a run of an input: none where it is too long

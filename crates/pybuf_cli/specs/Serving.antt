@@ -8,18 +8,21 @@ use Rattle.pybuf_cli.specs.declared.status.Status.TheVariants as status
 use Rattle.pybuf_cli.specs.Devices.{PutsFrontOf, Rose}
 use Rattle.pybuf_cli.specs.Program.{run_text, run_ending, Runs, Makes}
 use Rattle.pybuf_cli.specs.Sharing.{IsDueShared, EndsShared, Shares}
+use Rattle.pybuf_cli.specs.Arrays.{array_run_text, array_run_ending, RunsArray}
 
 -- The text is due for a form and an input. A script's summary is due whatever the input is, which isn't read.
 abbrev pub IsDue : Form → List ℕ → List ℕ → Type 0
 IsDue form.Run input text = text ≡ run_text input
 IsDue form.Share input text = IsDueShared input text
 IsDue (form.Make n) input text = text ≡ summary n
+IsDue (form.Array c) input text = text ≡ array_run_text c input
 
 -- A form ends so over an input, where memory suffices and neither source nor sink fails.
 abbrev pub Ends : Form → List ℕ → Status → Type 0
 Ends form.Run input result = result ≡ run_ending input
 Ends form.Share input result = EndsShared input result
 Ends (form.Make n) input result = result ≡ status.Done
+Ends (form.Array c) input result = result ≡ array_run_ending input
 
 -- what one form owes, and no other does
 abbrev pub Owes : {S K : Type 0} → Form → Status → (S → Option (List ℕ)) → (K → Option (List ℕ)) → S → S → K → K → Type 0
@@ -29,6 +32,8 @@ Owes form.Share result bytes_left bytes_held source_before source sink_before si
     Shares result bytes_left bytes_held source_before source sink_before sink
 Owes (form.Make n) result bytes_left bytes_held source_before source sink_before sink =
     Makes n result bytes_held source_before source sink_before sink
+Owes (form.Array c) result bytes_left bytes_held source_before source sink_before sink =
+    RunsArray c result bytes_left bytes_held source_before source sink_before sink
 
 -- What is owed for a form that the words ask for.
 pub record ServesForm {S K : Type 0} (f : Form) (result : Status)

@@ -1,9 +1,10 @@
 //! What the words after the program's name ask for.
 ghost use Rattle.std.specs.Prelude.{◌≡◌, true, false, Some};
 ghost use Rattle.pybuf_cli.specs.declared.forms.Form.{Form};
-ghost use Rattle.pybuf_cli.specs.Program.{script_number_in, form_of, alone};
+ghost use Rattle.pybuf_cli.specs.Program.{script_number_in, array_code_in, form_of, alone};
 
 use itoa::Buffer;
+use pybuf_array::ArrayCode;
 use pybuf_line::is_word;
 use pybuf_value::Text;
 
@@ -16,6 +17,8 @@ pub enum Form {
     Share,
     /// To run the script of a number, from 1 to 4,096, and to tell of its run.
     Make(u16),
+    /// To carry out the operations of its input, a line each, on an array of a code.
+    Array(ArrayCode),
 }
 
 /// The greatest number of a script.
@@ -43,6 +46,16 @@ fn script_number(word: &Text) -> Option<u16>
     None
 }
 
+/// The code of an array that a word of one letter stands for.
+fn array_code(word: &Text) -> Option<ArrayCode>
+    ensures { result ≡ array_code_in word.now }
+{
+    match word.as_slice() {
+        [letter] => ArrayCode::from_byte(*letter),
+        _ => None,
+    }
+}
+
 /// What the words ask for: `None` exactly where they are none that the program knows.
 pub fn form_named(words: &[Text]) -> Option<Form>
     ensures { result ≡ form_of words.now }
@@ -58,10 +71,16 @@ pub fn form_named(words: &[Text]) -> Option<Form>
             }
             None
         }
-        [word, number] => {
+        [word, argument] => {
             if is_word(word.as_slice(), "make") {
-                return match script_number(number) {
+                return match script_number(argument) {
                     Some(number) => Some(Form::Make(number)),
+                    None => None,
+                };
+            }
+            if is_word(word.as_slice(), "array") {
+                return match array_code(argument) {
+                    Some(code) => Some(Form::Array(code)),
                     None => None,
                 };
             }
@@ -80,6 +99,7 @@ pub(crate) fn is_shared(words: &[Text]) -> bool
         Some(Form::Share) => true,
         Some(Form::Run) => false,
         Some(Form::Make(_)) => false,
+        Some(Form::Array(_)) => false,
         None => false,
     }
 }

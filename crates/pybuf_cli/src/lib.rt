@@ -2,6 +2,7 @@
 #![tactic(auto)]
 
 mod adapters;
+mod arrays;
 mod devices;
 mod failing;
 mod forms;

@@ -8,11 +8,16 @@ ghost use Rattle.pybuf_line.specs.Scalars.{handle_in};
 ghost use Rattle.pybuf_line.specs.Lines.{commands_in};
 ghost use Rattle.pybuf_line.specs.Replies.{bad_line_text};
 ghost use Rattle.pybuf_make.specs.Summary.{summary};
+ghost use Rattle.pybuf_numbers.specs.declared.codes.ArrayCode.{ArrayCode};
+ghost use Rattle.pybuf_array.specs.declared.operations.ArrayOp.{ArrayOp};
+ghost use Rattle.pybuf_array_lines.specs.Inputs.{operations_in};
 ghost use Rattle.pybuf_cli.specs.declared.forms.Form.{Form};
 ghost use Rattle.pybuf_cli.specs.Running.{AreSpelled};
 ghost use Rattle.pybuf_cli.specs.Program.{form_of, alone, program, due_for, ending_for, run_text, run_ending, IsDone, IsBadLine, IsTooLong, TakesFront};
+ghost use Rattle.pybuf_cli.specs.Arrays.{array_program};
 ghost use Rattle.pybuf_cli.specs.Serving.{IsDue, Ends, Serves};
 
+use crate::arrays::run_array;
 use crate::devices::{PutFault, Sink, Source};
 use crate::forms::{Form, form_named, is_shared};
 use crate::loops::{ReadStop, read_all, write_all};
@@ -123,6 +128,10 @@ fn make<K: Sink>(alloc: Global, sink: &mut K, number: u16) -> Status
 ///
 /// With the word `make` and a number from 1 to 4,096 it reads nothing: it makes the script of that
 /// number command by command, runs it in a new world, and puts the five lines that tell of its run.
+///
+/// With the word `array` and the letter of a code it reads the whole input likewise, looks whether each line is an
+/// operation, carries them out in order on a new array of that code, and puts one line for each reply.
+///
 /// Other words are refused with `Usage`.
 ///
 /// It ends where each call of the source and of the sink does.
@@ -139,6 +148,7 @@ pub fn serve_alone<S: Source, K: Sink>(
         Some(Form::Share) => Status::Usage,
         Some(Form::Run) => run(alloc, source, sink),
         Some(Form::Make(number)) => make(alloc, sink, number),
+        Some(Form::Array(code)) => run_array(alloc, code, source, sink),
     }
 }
 
@@ -152,6 +162,10 @@ pub fn serve_bytes(alloc: Global, words: &[Text], input: ByteList) -> (ByteList,
     ensures bad_line { form_of words.now ≡ Some Form.Run → result.1 ≡ Status.BadLine →
         (line : ℕ) × (commands_in handle_in input ≡ Err line) × (result.0 ≡ bad_line_text line) }
     ensures made { (n : ℕ) → form_of words.now ≡ Some (Form.Make n) → result.1 ≡ Status.Done → result.0 ≡ summary n }
+    ensures array_done { (c : ArrayCode) → form_of words.now ≡ Some (Form.Array c) → result.1 ≡ Status.Done →
+        (operations : List ArrayOp) × (operations_in input ≡ Ok operations) × (result.0 ≡ array_program c operations) }
+    ensures array_bad_line { (c : ArrayCode) → form_of words.now ≡ Some (Form.Array c) → result.1 ≡ Status.BadLine →
+        (line : ℕ) × (operations_in input ≡ Err line) × (result.0 ≡ bad_line_text line) }
     ensures prefix { (f : Form) → alone (form_of words.now) ≡ Some f →
         (text : List ℕ) × IsDue f input text × (count : ℕ) × (count ≤ length text) × (result.0 ≡ take count text) }
     ensures complete { (f : Form) → alone (form_of words.now) ≡ Some f →

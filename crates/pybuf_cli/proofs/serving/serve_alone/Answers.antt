@@ -58,3 +58,26 @@ returns-in-Some-Make g c =
       too_long_writes_nothing = λ long. absurd (Ends status.TooLong long);
       disagree = λ other. absurd (Ends status.Disagree other);
     })
+
+pub returns-in-Some-Array : goal.returns-in-Some-Array
+returns-in-Some-Array g c =
+    let is : form_of c.args.words.now ≡ Some (form.Array c.in-Some-Array.code) =
+    sym c.form_named.ensures ∙ (c.in-Some-Array.is ∙ ap Some c.in-Some-Array.field-0-is) in
+    serves_form _ (form.Array c.in-Some-Array.code) c.run_array.result _ _ _ _ _ _ _ _ (ap alone is) c.run_array.ensures.usage (record {
+      own = record {
+        reads = record {
+          too_long = c.run_array.ensures.too_long;
+          takes_front = c.run_array.ensures.takes_front;
+          unread_writes_nothing = c.run_array.ensures.unread_writes_nothing;
+        };
+        done = c.run_array.ensures.done;
+        bad_line = c.run_array.ensures.bad_line;
+      };
+      prefix = λ input told. record { text = _; due = refl; front = c.run_array.ensures.prefix input told };
+      complete = c.run_array.ensures.complete;
+      read_fault = c.run_array.ensures.read_fault;
+      write_fault = c.run_array.ensures.write_fault;
+      read_fault_writes_nothing = c.run_array.ensures.read_fault_writes_nothing;
+      too_long_writes_nothing = c.run_array.ensures.too_long_writes_nothing;
+      disagree = λ other. absurd (c.run_array.ensures.disagree other);
+    })

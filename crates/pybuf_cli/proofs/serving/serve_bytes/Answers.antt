@@ -1,6 +1,7 @@
 use Rattle.std.proofs.Common.{ap, refl}
 use Rattle.pybuf_cli.specs.Program.{alone, form_of}
 use Rattle.pybuf_cli.proofs.Served.{quiet_ran, quiet_refused, quiet_made, quiet_front, quiet_ends}
+use Rattle.pybuf_cli.proofs.ArrayServed as array
 use Rattle.pybuf_cli.proofs.OneForm.{never_rose, reads_well, writes_well, agrees_alone}
 use Rattle.pybuf_cli.proofs.serving.serve_bytes.Goals as goal
 
@@ -23,6 +24,16 @@ pub returns-clause-made : goal.returns-clause-made
 returns-clause-made c =
     λ n asked done. quiet_made _ c.new-sink.result c.serve_alone-status.new.sink c.into_bytes.result c.new-sink.ensures c.into_bytes.ensures
     ((c.serve_alone-status.ensures.served _ (ap alone asked)).own.made done)
+
+pub returns-clause-array_done : goal.returns-clause-array_done
+returns-clause-array_done c =
+    λ code f done. array.quiet_ran code c.args.input c.new-source.result c.new-sink.result c.serve_alone-status.new.sink c.into_bytes.result _
+    c.new-source.ensures c.new-sink.ensures c.into_bytes.ensures ((c.serve_alone-status.ensures.served _ (ap alone f)).own.done done c.new-source.result refl)
+
+pub returns-clause-array_bad_line : goal.returns-clause-array_bad_line
+returns-clause-array_bad_line c =
+    λ code f bad. array.quiet_refused c.args.input c.new-source.result c.new-sink.result c.serve_alone-status.new.sink c.into_bytes.result _
+    c.new-source.ensures c.new-sink.ensures c.into_bytes.ensures ((c.serve_alone-status.ensures.served _ (ap alone f)).own.bad_line bad c.new-source.result refl)
 
 pub returns-clause-complete : goal.returns-clause-complete
 returns-clause-complete c =

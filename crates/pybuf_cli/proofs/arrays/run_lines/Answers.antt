@@ -1,0 +1,45 @@
+use Rattle.std.proofs.Common.{arith}
+use Rattle.std.proofs.lemmas.Result.{on_err_weaker}
+use Rattle.pybuf_cli.proofs.Outcomes.{on_err, follows_on_ok}
+use Rattle.pybuf_cli.proofs.ArrayRunning.{spelled_first, goes_on, stopped_before, stopped_behind, ended}
+use Rattle.pybuf_cli.proofs.arrays.run_lines.Goals as goal
+
+pub answer_line-requires : goal.answer_line-requires
+answer_line-requires g c =
+    spelled_first c.args.code c.args.input.now c.running.rest.now c.in-Some.line.now c.in-Some.after.now c.running.array _ _ _ c.running.invariant.lines
+    c.in-Some.ensures
+
+pub returns-in_default-answer_line-clause-prefix : goal.returns-in_default-answer_line-clause-prefix
+returns-in_default-answer_line-clause-prefix g c =
+    stopped_before c.args.code c.args.input.now c.running.rest.now c.running.array _ _ _ c.running.text.items c.as_slice.result.now
+    c.running.invariant.lines c.as_slice.ensures.value c.send_front.ensures.prefix
+
+pub returns-in_err-send_reply-clause-prefix : goal.returns-in_err-send_reply-clause-prefix
+returns-in_err-send_reply-clause-prefix g c =
+    on_err c.from_residual.result
+    (stopped_behind c.args.code c.args.input.now c.running.rest.now c.in-Some.line.now c.in-Some.after.now c.running.array c.answer_line.new.array _ _ _
+    c.running.text.items c.running.reply.items c.answer_line.new.text.items c.running.invariant.lines c.in-Some.ensures c.running.invariant.apart
+    c.in-Ok.ensures c.in_err-send_reply.ensures.prefix)
+
+pub running-preserved : goal.running-preserved
+running-preserved g c = record {
+  lines = goes_on c.args.code c.args.input.now c.running.rest.now c.in-Some.line.now c.in-Some.after.now c.running.array c.answer_line.new.array _ _ _
+      c.running.text.items c.running.reply.items c.answer_line.new.text.items c.send_reply.new.text.items c.running.invariant.lines c.in-Some.ensures
+      c.running.invariant.apart c.in-Ok.ensures c.in_ok-send_reply.ensures.sent;
+  apart = c.in_ok-send_reply.ensures.empty;
+  later = omega (arith, c.running.invariant.later, c.send_reply.ensures.later);
+}
+
+pub returns-clause-all : goal.returns-clause-all
+returns-clause-all g c =
+    follows_on_ok c.write_all.result
+    (λ put. ended c.args.code c.args.input.now c.running.rest.now c.running.array _ _ _ c.running.text.items c.as_slice-2.result.now
+    c.running.invariant.lines c.in_default.ensures c.as_slice-2.ensures.value put)
+    c.write_all.ensures.all
+
+pub returns-clause-prefix : goal.returns-clause-prefix
+returns-clause-prefix g c =
+    on_err_weaker c.write_all.result
+    (λ front. stopped_before c.args.code c.args.input.now c.running.rest.now c.running.array _ _ _ c.running.text.items c.as_slice-2.result.now
+    c.running.invariant.lines c.as_slice-2.ensures.value front)
+    c.write_all.ensures.prefix

@@ -1,0 +1,152 @@
+//! The lines of an input, carried out one after the other on an array, with a line for each reply.
+ghost use Rattle.std.specs.Prelude.{◌≡◌, ◌≢◌, ◌<◌, ◌≤◌, ◌⊎◌, ℕ, List, length, Some, Ok, Err, OnOk, OnErr, IfErr};
+ghost use Rattle.pybuf_array.specs.declared.operations.ArrayOp.{ArrayOp};
+ghost use Rattle.pybuf_array.specs.Array.{new_array};
+ghost use Rattle.pybuf_array.specs.Operations.{KeepsLengthWhileViewed};
+ghost use Rattle.pybuf_array_lines.specs.Inputs.{operations_in};
+ghost use Rattle.pybuf_line.specs.Replies.{bad_line_text};
+ghost use Rattle.pybuf_cli.specs.Devices.{Put, PutPrefix, Rose};
+ghost use Rattle.pybuf_cli.specs.Program.{ending_for, IsTooLong, TakesFront};
+ghost use Rattle.pybuf_cli.specs.Arrays.{array_program, array_due_for, array_run_text, array_run_ending, IsDoneArray, IsBadLineArray};
+ghost use Rattle.pybuf_cli.specs.ArrayRunning.{IsOperation, AreOperations, IsCarriedOut, IsAnswered};
+ghost use Rattle.pybuf_cli.specs.declared.devices.PutFault.{PutFault};
+
+use crate::devices::{PutFault, Sink, Source};
+use crate::loops::{ReadStop, read_all, write_all};
+use crate::putting::{send_front, send_reply, write_bad_line};
+use crate::status::Status;
+use pybuf_array::{ArrayCode, ArrayOp, PyArray, lengths_stay_while_viewed};
+use pybuf_array_lines::{check_operations, operation_of_line, push_array_reply_line};
+use pybuf_line::{Misread, Unread, next_line};
+use pybuf_value::{Made, NoMemory};
+use std::alloc::Global;
+
+/// Carries out an operation, and adds the line of its reply to the text.
+fn answer_operation(array: &mut PyArray, operation: &ArrayOp, text: &mut Vec<u8>) -> Made<()>
+    ensures { OnOk result (IsCarriedOut array.old operation.now text.old.items array.new text.new.items) }
+{
+    match array.step(operation) {
+        Ok(reply) => push_array_reply_line(text, &reply),
+        Err(NoMemory) => Err(NoMemory),
+    }
+}
+
+/// Carries out the operation of a line, and adds the line of its reply to the text.
+fn answer_line<'a>(
+    alloc: Global,
+    array: &mut PyArray,
+    words: &mut Vec<&'a [u8]>,
+    line: &'a [u8],
+    text: &mut Vec<u8>,
+) -> Made<()>
+    requires { IsOperation line.now }
+    ensures { OnOk result (IsAnswered array.old line.now text.old.items array.new text.new.items) }
+{
+    match operation_of_line(alloc, words, line) {
+        Ok(operation) => answer_operation(array, &operation, text),
+        Err(Unread::NoMemory) => Err(NoMemory),
+        Err(Unread::NoCommand) => unreachable!(),
+    }
+}
+
+/// Carries out the lines of an input on a new array, and puts a line for each reply, a piece at a time. No operation is
+/// kept and no reply. Where memory runs out in an operation, the replies of those before it are put first.
+fn run_lines<K: Sink>(
+    alloc: Global,
+    code: ArrayCode,
+    sink: &mut K,
+    input: &[u8],
+) -> Result<(), PutFault>
+    requires { AreOperations input.now }
+    ensures all { OnOk result (Put (K.bytes_held sink.old) (array_due_for code (operations_in input.now)) (K.bytes_held sink.new)) }
+    ensures prefix { OnErr result (PutPrefix (K.bytes_held sink.old) (array_due_for code (operations_in input.now)) (K.bytes_held sink.new)) }
+    ensures rose { IfErr result (λ fault. fault ≡ PutFault.Failed → Rose (K.faults sink.old) (K.faults sink.new)) }
+    ensures later { K.faults sink.old ≤ K.faults sink.new }
+{
+    let mut array = PyArray::new(alloc, code);
+    let mut words = Vec::new(alloc);
+    let mut text = Vec::new(alloc);
+    // A reply is written apart from those that wait: it may be one for which there is no memory.
+    let mut reply = Vec::new(alloc);
+    let mut rest = input;
+    'running: while let Some((line, after)) = next_line(rest) {
+        let Ok(()) = answer_line(alloc, &mut array, &mut words, line, &mut reply) else {
+            send_front(sink, text.as_slice());
+            return Err(PutFault::NoMemory);
+        };
+        send_reply(sink, &mut text, &mut reply)?;
+        rest = after;
+    }
+    write_all(sink, text.as_slice())
+}
+
+/// Runs the lines of an input, each of which is an operation, and puts their replies.
+fn run_operations<K: Sink>(alloc: Global, code: ArrayCode, sink: &mut K, input: &[u8]) -> Status
+    requires { AreOperations input.now }
+    ensures put { result ≡ Status.Done → Put (K.bytes_held sink.old) (array_due_for code (operations_in input.now)) (K.bytes_held sink.new) }
+    ensures prefix { PutPrefix (K.bytes_held sink.old) (array_due_for code (operations_in input.now)) (K.bytes_held sink.new) }
+    ensures rose { result ≡ Status.WriteFault → Rose (K.faults sink.old) (K.faults sink.new) }
+    ensures ending { (result ≡ Status.Done) ⊎ ((result ≡ Status.NoMemory) ⊎ (result ≡ Status.WriteFault)) }
+{
+    match run_lines(alloc, code, sink, input) {
+        Ok(()) => Status::Done,
+        Err(PutFault::Failed) => Status::WriteFault,
+        Err(PutFault::NoMemory) => Status::NoMemory,
+    }
+}
+
+/// Answers an input: runs its lines, or tells the first that is no operation. Lines are read twice, so that no list of
+/// operations is kept.
+fn answer<K: Sink>(alloc: Global, code: ArrayCode, sink: &mut K, input: &[u8]) -> Status
+    ensures done { result ≡ Status.Done → (operations : List ArrayOp) × (operations_in input.now ≡ Ok operations)
+        × KeepsLengthWhileViewed (new_array code) operations × Put (K.bytes_held sink.old) (array_program code operations) (K.bytes_held sink.new) }
+    ensures bad_line { result ≡ Status.BadLine → (line : ℕ) × (operations_in input.now ≡ Err line)
+        × Put (K.bytes_held sink.old) (bad_line_text line) (K.bytes_held sink.new) }
+    ensures prefix { PutPrefix (K.bytes_held sink.old) (array_due_for code (operations_in input.now)) (K.bytes_held sink.new) }
+    ensures rose { result ≡ Status.WriteFault → Rose (K.faults sink.old) (K.faults sink.new) }
+    ensures ending { (result ≡ ending_for (operations_in input.now)) ⊎ ((result ≡ Status.NoMemory) ⊎ (result ≡ Status.WriteFault)) }
+{
+    lengths_stay_while_viewed();
+    match check_operations(alloc, input) {
+        Ok(()) => run_operations(alloc, code, sink, input),
+        Err(Misread::BadLine(number)) => write_bad_line(alloc, sink, number),
+        Err(Misread::NoMemory) => Status::NoMemory,
+    }
+}
+
+/// Reads the whole input, and answers it by an array of a code.
+pub(crate) fn run_array<S: Source, K: Sink>(
+    alloc: Global,
+    code: ArrayCode,
+    source: &mut S,
+    sink: &mut K,
+) -> Status
+    ensures done { result ≡ Status.Done → (input : List ℕ) → S.bytes_left source.old ≡ Some input →
+        IsDoneArray code input (S.bytes_left source.new) (K.bytes_held sink.old) (K.bytes_held sink.new) }
+    ensures bad_line { result ≡ Status.BadLine → (input : List ℕ) → S.bytes_left source.old ≡ Some input →
+        IsBadLineArray input (S.bytes_left source.new) (K.bytes_held sink.old) (K.bytes_held sink.new) }
+    ensures too_long { result ≡ Status.TooLong → (input : List ℕ) → S.bytes_left source.old ≡ Some input →
+        IsTooLong input (S.bytes_left source.new) }
+    ensures takes_front { (input : List ℕ) → S.bytes_left source.old ≡ Some input →
+        TakesFront input result (S.bytes_left source.new) }
+    ensures unread_writes_nothing { (rest : List ℕ) → S.bytes_left source.new ≡ Some rest → 0 < length rest →
+        sink.new ≡ sink.old }
+    ensures prefix { (input : List ℕ) → S.bytes_left source.old ≡ Some input →
+        PutPrefix (K.bytes_held sink.old) (array_run_text code input) (K.bytes_held sink.new) }
+    ensures complete { (input : List ℕ) → S.bytes_left source.old ≡ Some input →
+        ¬ (Rose (S.faults source.old) (S.faults source.new)) → ¬ (Rose (K.faults sink.old) (K.faults sink.new)) →
+        (result ≡ array_run_ending input) ⊎ (result ≡ Status.NoMemory) }
+    ensures read_fault { result ≡ Status.ReadFault → Rose (S.faults source.old) (S.faults source.new) }
+    ensures write_fault { result ≡ Status.WriteFault → Rose (K.faults sink.old) (K.faults sink.new) }
+    ensures read_fault_writes_nothing { result ≡ Status.ReadFault → sink.new ≡ sink.old }
+    ensures too_long_writes_nothing { result ≡ Status.TooLong → sink.new ≡ sink.old }
+    ensures usage { result ≢ Status.Usage }
+    ensures disagree { result ≢ Status.Disagree }
+{
+    match read_all(alloc, source) {
+        Ok(input) => answer(alloc, code, sink, input.as_slice()),
+        Err(ReadStop::NoMemory) => Status::NoMemory,
+        Err(ReadStop::Failed) => Status::ReadFault,
+        Err(ReadStop::TooLong) => Status::TooLong,
+    }
+}
