@@ -153,7 +153,7 @@ def check_inputs(document, lines, examples):
                 report(document, at + 1, f"there is no example {tried[1]}")
             elif shown and shown != stored.read_text():
                 report(document, at + 1, "the example has another output")
-        piped = re.fullmatch(r" {4}\$ (printf .*) \| pybuf", line)
+        piped = re.fullmatch(r" {4}\$ (printf .*) \| pybuf(?: array [a-zA-Z])?", line)
         if piped is not None:
             text = shlex.split(piped[1])[1].replace("\\n", "\n")
             if (text, shown_behind(lines, at + 1)) not in examples:
@@ -242,13 +242,13 @@ def quoted(cell):
 
 
 def check_tables(document, lines, examples):
-    """Lines and replies of the tables of commands, methods (behind `call h0`), properties (behind `prop` and a handle) and
-    refusals."""
+    """Lines and replies of the tables of commands, operations, methods (behind `call h0`), properties (behind `prop` and a
+    handle) and refusals."""
     pairs = set()
     for given, written in examples:
         pairs.update(zip(given.split("\n"), written.split("\n")))
     wanted = []
-    for head, front in [("| Line | What it does |", ""), ("| METHOD and its arguments |", "call h0 ")]:
+    for head, front in [("| Line | What it does |", ""), ("| METHOD and its arguments |", "call h0 "), ("| Operation | What it does |", "")]:
         for number, cells in rows(lines, head):
             shown = quoted(cells[2])
             if len(shown) % 2:

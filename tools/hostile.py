@@ -7,7 +7,7 @@
 It is no part of the gate. The program is `crates/pybuf/out/pybuf`, or what `--program` names. It ends with status 1 where a
 run ended otherwise than it may.
 
-`refused` runs a few cases of `cases/worked`, and two inputs of `share`, with one growth of memory refused, the first, then the second, and so on until a
+`refused` runs a few cases of `cases/worked`, two of them of `array`, and two inputs of `share`, with one growth of memory refused, the first, then the second, and so on until a
 run needs no more of them, and once more with every growth refused from there on. A run may end with what is written of the
 case and status 0; else it has to end with status 3, its line on standard error, and the replies of the first commands, each
 whole. Of sessions in an order that is open, what is written has to be what one thread gets, as far as it goes
@@ -19,7 +19,7 @@ so `--last` says which number is the last.
 changed, put in, left out or doubled, two bytes change places, two parts between blanks do, or a number becomes another.
 Lines that would ask for more than a million bytes are drawn again. The program has to end with status 0 and as many lines
 of replies as the input has lines, or with status 2 and the number of the changed line. So it does with lines of the cases of
-`share`, of which what is written has to be what one thread gets too.
+`share`, of which what is written has to be what one thread gets too, and with those of `cases/arrays`.
 """
 
 import argparse
@@ -38,7 +38,7 @@ sys.dont_write_bytecode = True
 import check_sessions
 
 ROOT = pathlib.Path(__file__).resolve().parent.parent
-WORKED, SESSIONS = ROOT / "cases/worked", ROOT / "cases/sessions"
+WORKED, SESSIONS, ARRAYS = ROOT / "cases/worked", ROOT / "cases/sessions", ROOT / "cases/arrays"
 SECONDS = 20
 DONE, BAD_LINE, NO_MEMORY = 0, 2, 3
 NO_MEMORY_LINE = b"pybuf: no memory\n"
@@ -48,6 +48,8 @@ REFUSED = [
     "a-slice-is-assigned-one-place-on",
     "a-header-is-written-through-casts-and-bytes-are-added-once-no-view-is-left",
     "edits-by-slices-and-by-indices",
+    "a-typed-array-isnt-resized-while-a-view-is-unreleased",
+    "a-number-of-a-typed-array-is-set-through-a-slice-of-a-view",
 ]
 # Inputs of `share`: one session with views, an iterator and copies, and two whose order is open.
 REFUSED_SESSIONS = ["names-in-replies", "two-sessions-write-six-bytes"]
@@ -161,10 +163,16 @@ def with_refusal(program, library, given, number, behind, words):
         return ended._replace(refused=told.read() != b"")
 
 
+def words_of(path):
+    """The words of a case."""
+    args = path.with_name(path.name + ".args")
+    return args.read_text().split() if args.exists() else []
+
+
 def refused_of_case(program, library, folder, name, behind):
     """The runs of a case with one number after the other, until a run needs no more growths: a fault or None for each."""
     given, whole = (folder / name).read_bytes(), (folder / f"{name}.stdout").read_bytes()
-    words = ["share"] if folder == SESSIONS else []
+    words = words_of(folder / name)
     statuses, fronts, faults = collections.Counter(), collections.Counter(), []
     number = 1
     while True:
@@ -174,7 +182,7 @@ def refused_of_case(program, library, folder, name, behind):
         statuses[ended.status] += 1
         if ended.status == NO_MEMORY:
             fronts[ended.written.count(b"\n")] += 1
-        fault = fault_of_shared(program, given, ended) if words else fault_of(ended, whole)
+        fault = fault_of_shared(program, given, ended) if folder == SESSIONS else fault_of(ended, whole)
         if fault:
             faults.append(f"{name}, growth {number}: {fault}")
         number += 1
@@ -265,10 +273,10 @@ def mutated_input(draw, inputs):
             return lines, at + 1
 
 
-def fault_of_mutated(program, lines, number):
+def fault_of_mutated(program, lines, number, words=()):
     """How the run ended, and what is wrong with it, or None."""
     try:
-        ended = run(program, b"".join(line + b"\n" for line in lines))
+        ended = run(program, b"".join(line + b"\n" for line in lines), words=words)
     except subprocess.TimeoutExpired:
         return None, f"{lines[number - 1]!r}: it had not ended after {SECONDS} seconds"
     fault = None
@@ -305,7 +313,7 @@ def fault_of_mutated_sessions(program, lines, number):
 
 def mutated(program, count, seed):
     draw = random.Random(seed)
-    faults = mutated_cases(program, count, draw)
+    faults = mutated_cases(program, count, draw) + mutated_arrays(program, count // 5, draw)
     inputs = [path for path in sorted(SESSIONS.iterdir()) if not path.suffix]
     inputs = [it.read_bytes() for it in inputs if b" is not a command" not in it.with_name(it.name + ".stdout").read_bytes()]
     inputs = [it for it in map(lines_of, inputs) if len(it) > 1]
@@ -318,6 +326,25 @@ def mutated(program, count, seed):
         f"what was written; {statuses[BAD_LINE]} are none, and their number was told"
     )
     return faults + [fault for _, fault in results if fault]
+
+
+def mutated_arrays(program, count, draw):
+    """Lines of operations of arrays."""
+    cases = [path for path in sorted(ARRAYS.iterdir()) if not path.suffix]
+    drawn = []
+    for _ in range(count):
+        case = draw.choice(cases)
+        # (the first lines are enough: those of a case don't ask for more as they go on)
+        lines, number = mutated_input(draw, [lines_of(case.read_bytes())[:40]])
+        drawn.append((lines, number, words_of(case)))
+    with ThreadPoolExecutor(os.cpu_count() or 1) as pool:
+        results = list(pool.map(lambda it: fault_of_mutated(program, *it), drawn))
+    statuses = collections.Counter(status for status, _ in results)
+    print(
+        f"{count} lines changed in {len(cases)} cases of arrays: {statuses[DONE]} are still operations, and as many replies were "
+        f"written as the case has lines; {statuses[BAD_LINE]} are none, and their number was told"
+    )
+    return [fault for _, fault in results if fault]
 
 
 def mutated_cases(program, count, draw):

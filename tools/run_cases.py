@@ -4,13 +4,13 @@
     python3 tools/run_cases.py [PROGRAM [FOLDER..]]
 
 PROGRAM is what the gate built, `crates/pybuf/out/pybuf`, where none is named. The FOLDERs are `examples` and every
-folder of `cases/`; where none is named, the lines of `cases/no-commands.txt` and the inputs that are made here are run
-too.
+folder of `cases/`; where none is named, the lines of `cases/no-commands.txt` and `cases/no-operations.txt` and the inputs
+that are made here are run too.
 
 A case is a file NAME, which is the input, with what has to be written for it beside it, NAME.stdout. NAME.args has the
 words behind the program's name, a word a line, none where it isn't there, and NAME.status the status that has to come,
 0 where it isn't there. On standard error has to come the line of that status, and nothing where it has none. Each line of
-`cases/no-commands.txt` is an input of its own.
+`cases/no-commands.txt` is an input of its own, and so is each of `cases/no-operations.txt`, of the words `array H`.
 
 Of `share` the order of the sessions among each other is open. So where an input has lines of more than one, what is written
 has to be what one thread gets in the order that stands there (`tools/check_sessions.py`), and what is kept has to be so too.
@@ -37,7 +37,8 @@ import check_sessions
 
 ROOT = pathlib.Path(__file__).resolve().parent.parent
 PROGRAM = ROOT / "crates/pybuf/out/pybuf"
-NO_COMMANDS = ROOT / "cases/no-commands.txt"
+# Files of lines that are wrong, and the words with which each of them is read.
+WRONG_LINES = {"no-commands": (), "no-operations": (b"array", b"H")}
 PAGE = "README.md"
 SECONDS = 10
 # How many bytes an input can have.
@@ -48,7 +49,7 @@ DONE, BAD_LINE, NO_MEMORY, USAGE, TOO_LONG = 0, 2, 3, 6, 7
 # What is said on standard error of a status that the output doesn't tell.
 COMPLAINTS = {
     NO_MEMORY: b"pybuf: no memory\n",
-    USAGE: b"pybuf: usage: pybuf [run | share | make N] < lines\n",
+    USAGE: b"pybuf: usage: pybuf [run | share | make N | array CODE] < lines\n",
     TOO_LONG: b"pybuf: more than 1,048,576 bytes\n",
 }
 
@@ -151,10 +152,10 @@ def folder_of(path):
     return Folder(label, cases, faults)
 
 
-def no_commands():
-    """The lines that are no commands, each alone."""
-    cases, faults = [], []
-    lines = NO_COMMANDS.read_text().split("\n") if NO_COMMANDS.is_file() else []
+def wrong_lines(name, words):
+    """The lines of a file, each alone: none is a command, or with these words an operation."""
+    path, cases, faults = ROOT / f"cases/{name}.txt", [], []
+    lines = path.read_text().split("\n") if path.is_file() else []
     for number, text in enumerate(lines, 1):
         if not text or text.startswith("#"):
             continue
@@ -163,10 +164,10 @@ def no_commands():
         except (SyntaxError, ValueError):
             line = None
         if not isinstance(line, bytes) or b"\n" in line:
-            faults.append(f"line {number} of {NO_COMMANDS.relative_to(ROOT)} is no literal of the bytes of one line")
+            faults.append(f"line {number} of {path.relative_to(ROOT)} is no literal of the bytes of one line")
         else:
-            cases.append(Case(text, line + b"\n", b"line 1 is not a command\n", BAD_LINE))
-    return Folder("no-commands", cases, faults)
+            cases.append(Case(text, line + b"\n", b"line 1 is not a command\n", BAD_LINE, words))
+    return Folder(name, cases, faults)
 
 
 def long_words():
@@ -213,6 +214,10 @@ def large_inputs():
     assert len(shared) == LIMIT
     views = b"new bytearray 1000000\n" + 10_000 * b"view h0\n" + b"set h1 999999 7\nget h10000 999999\n"
     handles = b"".join(b"h%d\n" % number for number in range(10_001))
+    # A quarter of a million numbers in one line, and a view of a view of a view of them.
+    listed = b"extend [258" + 249_999 * b",258" + b"]\nbyteswap\n"
+    viewed = b"view\nvslice 0 None:None:-1\nvslice 1 1:None:-9223372036854775808\nvget 2 -1\nlen\nappend 0\n"
+    released = b"release 0\nrelease 1\nrelease 2\npop\n"
     cases = [
         # As many lines as an input can hold, each with its reply; more than 64 KiB are written in several pieces.
         Case("as many lines as an input can hold", lines, b"h0\n" + count * b"0\n" + b"h1\n", DONE),
@@ -226,6 +231,16 @@ def large_inputs():
         Case("the longest input of sessions", shared, b"0: len own -> 0\n" * asked + b"calls %d\nbytes b''\n" % asked, DONE, [b"share"]),
         Case("the longest input of sessions, and one byte more", shared + b"\n", b"", TOO_LONG, [b"share"]),
         Case("the longest line of sessions", LIMIT * b"a", b"line 1 is not a command\n", BAD_LINE, [b"share"]),
+        # The longest input of operations: each is answered, and their replies are written in several pieces.
+        Case("as many operations as an input can hold", LIMIT // 4 * b"len\n", LIMIT // 4 * b"0\n", DONE, [b"array", b"b"]),
+        Case("the longest input of operations, and one byte more", LIMIT // 4 * b"len\n" + b"\n", b"", TOO_LONG, [b"array", b"b"]),
+        Case(
+            "a quarter of a million numbers in a list",
+            listed + viewed + released,
+            b"ok\nok\nv0\nv1\nv2\n513\n250000\n! BufferError\nok\nok\nok\n513\n",
+            DONE,
+            [b"array", b"H"],
+        ),
         # The byte that is written through the first view is read through the last. A view that kept a list of its
         # places would need more memory than there is.
         Case("ten thousand views of a million bytes", views, handles + b"ok\n7\n", DONE, (), ADDRESS_SPACE),
@@ -244,7 +259,8 @@ def folders(named):
     if named:
         return [folder_of(pathlib.Path(name).resolve()) for name in named]
     kept = sorted(path for path in (ROOT / "cases").glob("*") if path.is_dir())
-    return [*map(folder_of, [ROOT / "examples", *kept]), no_commands(), drawn_sessions(), large_inputs()]
+    wrong = [wrong_lines(name, words) for name, words in WRONG_LINES.items()]
+    return [*map(folder_of, [ROOT / "examples", *kept]), *wrong, drawn_sessions(), large_inputs()]
 
 
 def main(words):
