@@ -1,5 +1,5 @@
 -- What was read and put of the operations of an array, where the source tells its bytes.
-use Rattle.std.proofs.Common.{◌≡◌, ℕ, ◌≤◌, List, [], length, Option, Some, Result, Ok, Err, sym, ◌∙◌, ap, arith}
+use Rattle.std.proofs.Common.{◌≡◌, ℕ, ◌≤◌, List, [], length, Option, Some, Ok, Err, sym, ◌∙◌, ap, arith}
 use Rattle.pybuf_numbers.specs.declared.codes.ArrayCode.{ArrayCode}
 use Rattle.pybuf_array.specs.declared.operations.ArrayOp.{ArrayOp}
 use Rattle.pybuf_array.specs.Array.{new_array}
