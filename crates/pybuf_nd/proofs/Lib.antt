@@ -1,0 +1,12 @@
+pub mod Answered
+pub mod ChainLemmas
+pub mod CutBits
+pub mod Cutting
+pub mod IndexLemmas
+pub mod MadeLemmas
+pub mod Ordering
+pub mod Planing
+pub mod Remaps
+pub mod Spread
+pub mod Transposing
+pub mod Walks

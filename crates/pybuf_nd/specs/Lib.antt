@@ -1,0 +1,8 @@
+pub mod Axes
+pub mod Chains
+pub mod ColumnOrder
+pub mod Dims
+pub mod IndexMaps
+pub mod Laws
+pub mod Planes
+pub mod Selections

@@ -1,0 +1,24 @@
+//! Laws of the definitions that the contracts cite. Each stands on a function with an empty body.
+ghost use Rattle.pybuf_nd.specs.Laws.{ViewsGoByIndices, ChainsStand, TransposingTwiceIsNothing, TranspositionsAreColumnOrder};
+
+/// The item of a view that is made by indices lies, at any indices, where the given view's lies at the
+/// indices that are made of them.
+pub fn views_go_by_indices()
+    ensures { ViewsGoByIndices }
+{}
+
+/// However many views are made one of another, the last descriptor is valid for the same bytes, and stands
+/// for the view that the steps make of the view that the first one stands for.
+pub fn chains_stand()
+    ensures { ChainsStand }
+{}
+
+/// The transposition of a transposition has each item where it was.
+pub fn transposing_twice_is_nothing()
+    ensures { TransposingTwiceIsNothing }
+{}
+
+/// The bytes of the items of a transposition, row-major, are those of the view's items in column order.
+pub fn transpositions_are_column_order()
+    ensures { TranspositionsAreColumnOrder }
+{}

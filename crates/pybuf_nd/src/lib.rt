@@ -1,0 +1,16 @@
+//! Views in several dimensions: slices in each of them, their axes in any order, and the items at one place of an axis.
+#![tactic(auto)]
+
+mod axes;
+mod laws;
+mod made;
+mod plane;
+mod selection;
+
+pub use axes::{permute, transpose};
+pub use laws::{
+    chains_stand, transposing_twice_is_nothing, transpositions_are_column_order,
+    views_go_by_indices,
+};
+pub use plane::pick;
+pub use selection::slice_all;
