@@ -1,6 +1,6 @@
 //! Numbers as a size and a sign.
 ghost use Rattle.std.specs.Prelude.{◌≡◌, Some, MatchOption};
-ghost use Rattle.pybuf_console.specs.Values as spec;
+ghost use Rattle.pybuf_crossing.specs.Words as spec;
 
 /// The number of a size and a sign.
 pub fn signed(negative: bool, magnitude: u64) -> i128

@@ -1,0 +1,57 @@
+-- `into_block` moves two fields, and what they own goes with them. Assumes `Logic`.
+use Rattle.std.proofs.Common.{◌≡◌, List, [], ◌∷◌, ◌++◌, refl, sym, subst}
+use mir.Val.{Val}
+use base.Logic.{SProp, ent, id⊢}
+use base.Fml.{ftrue, fsep}
+use contract.Monad.{fact}
+use contract.Running.{tables}
+use prog.Wp.{WpFn}
+use types.Kit.{Item, ‵, raw, ◌⊛◌, ◌$◌, ◌∵◌, !, qed, by, move, drop, use1, join, split, rewrite, fsplit, fjoin, suffices, done}
+use types.Part.{whole, sub, agg}
+use types.Run.{stop, fld, no_more, and_then, of_opd, returns, enter}
+use types.ByLocal.{alloc_all, pass_all, free_all, look_at, get, get_in, sets}
+use denote.Exit.{yes}
+use denote.RattleType.{RattleType}
+use denote.Signature.{type_at}
+use denote.Steps.{heard, nothing}
+use denote.Triple.Walked.{says, Stays, stay_dropped, walk_of, ends_at, Goes-dropped}
+use Rattle.std.specs.Prelude.{Bool, true}
+use Rattle.std.proofs.raw_atomic.Walks.{proved_at}
+use Rattle.std_alloc.proofs.BoxSteps.Form.{D, B, word, box_typed}
+use Rattle.std_alloc.proofs.BoxSteps.Steps.{box_out, box_in}
+use Rattle.pybuf_packer.proofs.Rows.{E, OfAddress}
+use Rattle.pybuf_packer.specs.contracts.address.PackerAddress as address
+use Rattle.pybuf_packer.specs.contracts.address.PackerAddress.into_block as F
+use Rattle.pybuf_packer.specs.contracts.address.PackerAddress.into_block.Key.{name as #self}
+use Rattle.pybuf_packer.proofs.address.PackerAddress.into_block.Statement.{statement}
+use Rattle.pybuf_packer.proofs.address.PackerAddress.into_block.Code as code
+
+abbrev stayed : Stays (F.ended).signature.params (F.ended).kept
+stayed = (stay_dropped OfAddress yes, tt)
+
+pub into_block_spec : {M : Type 1} → statement M
+into_block_spec 𝓤 𝓛 𝓜 𝓡 wired =
+    let 𝓣 = tables 𝓤 𝓛.H 𝓜 𝓡 𝓡.env in
+    let c = F.clauses 𝓛 𝓜.mem 𝓡.returns in
+    proved_at 𝓛 F.ended stayed c 𝓜 𝓡 (Goes-dropped 𝓛 0 OfAddress yes (λ κs x f. refl), tt) #self code.function (code.unfolded 𝓤 𝓛.H 𝓜 𝓡 wired) (λ z are.
+    let Post : Val → SProp 𝓤 = (walk_of 𝓛 F.ended stayed c).post z in
+    let was = z.0.3.0 in
+    let v : D E = record { ptr = was.at; alloc = was.alloc; value = was.packer } in
+    let To = type_at (F.signature).result tt in
+    let made : To.Denot = record { at = v.ptr; alloc = v.alloc; value = v.value } in
+    let From : RattleType = address.the_row in
+    let filled : Bool → From.Denot = λ full. record { at = was.at; alloc = was.alloc; full = full; packer = was.packer } in
+    qed 𝓛 ((‵ ftrue ⊛ ‵ (fsep (From.own_val was z.0.4.0) ftrue)) ∷ raw (fact 𝓤 (was.full ≡ true)) ∷ []) ∵ move ! (1 ∷ []) $ heard ! (was.full ≡ true) (λ full. split ! $ drop ! $ fsplit ! $
+    rewrite ! 0 (λ (f : Bool). ‵ (From.own_val (filled f) z.0.4.0)) full refl $ use1 𝓛 (‵ ((B E).own_val v z.0.4.0)) (id⊢ 𝓤 _) $
+    box_out E ! v z.0.4.0 (λ b o hv e ws fits. box_in E ! v b o v.value e refl $ use1 𝓛 (‵ (To.own_val made (word E hv b o ∷ []))) (id⊢ 𝓤 _) $ move ! (1 ∷ []) $ drop ! $
+    let w = word E hv b o in
+    let Γ : List (Item 𝓤) = ‵ (To.own_val made (w ∷ [])) ∷ [] in
+    by ! (subst (λ (us : List Val). ent 𝓤 (types.Kit.⋆ 𝓛 Γ) (WpFn 𝓤 𝓛.H 𝓣.C 𝓣.Λ code.function (us ++ []) Post)) (sym ws)
+    (qed 𝓛 Γ ∵ enter ! 𝓣.C 𝓣.Λ code.function (w ∷ []) _ $ alloc_all ! (λ ls. pass_all ! refl (box_typed E hv b o fits, tt) $
+    sets ! (of_opd ! (get_in ! (fld ! refl (stop !)) (sub ! 0 refl (whole !)))) refl (tt, tt) $
+    sets ! (of_opd ! (get_in ! (fld ! refl (stop !)) (sub ! 1 refl (whole !)))) refl fits $
+    sets ! (of_opd ! (get ! refl)) refl (tt, tt) $
+    sets ! (agg ! (and_then ! (get ! refl) (and_then ! (get ! refl) (no_more !)))) refl (box_typed E hv b o fits) $
+    returns ! (look_at ! 0 refl) $ free_all ! refl $
+    suffices ! _ (ends_at 𝓛 F.ended stayed c z w made (tt, tt) (tt, tt)) $ says ! refl $
+    nothing ! $ nothing ! $ fjoin ! $ join ! $ nothing ! $ join ! $ done !))))))

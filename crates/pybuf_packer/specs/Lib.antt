@@ -1,0 +1,3 @@
+pub mod Packer
+pub mod Owned
+pub mod Held
