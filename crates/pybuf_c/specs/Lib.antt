@@ -1,3 +1,4 @@
 pub mod Status
+pub mod Holding
 pub mod Worlds
 pub mod Numbers

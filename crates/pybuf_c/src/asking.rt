@@ -1,7 +1,8 @@
 //! One command, asked of the world of a handle.
 ghost use Rattle.std.specs.Prelude.{◌≡◌, ◌≢◌};
 ghost use Rattle.pybuf_console.specs.Held.{held};
-ghost use Rattle.pybuf_c.specs.Worlds.{BothHold, NoneHold, Answers};
+ghost use Rattle.pybuf_c.specs.Holding.{BothHold, NoneHold};
+ghost use Rattle.pybuf_c.specs.Worlds.{Answers};
 
 use crate::status::{NO_MEMORY, NO_WORLD, answer_number};
 use pybuf_command::Command;

@@ -4,15 +4,16 @@ ghost use Rattle.pybuf_command.specs.declared.commands.Verb.TheVariants as verb;
 ghost use Rattle.pybuf_command.specs.declared.worlds.Command.TheVariants as command;
 ghost use Rattle.pybuf_value.specs.declared.values.Value.TheVariants as value;
 ghost use Rattle.pybuf_console.specs.Held.{held};
-ghost use Rattle.pybuf_console.specs.Values.{bytes_value, number_value, object_value, signed, slice_of};
-ghost use Rattle.pybuf_c.specs.Worlds.{BothHold, NoneHold, Answers};
+ghost use Rattle.pybuf_console.specs.Values.{bytes_value, number_value, object_value, slice_of};
+ghost use Rattle.pybuf_crossing.specs.Words.{signed};
+ghost use Rattle.pybuf_c.specs.Holding.{BothHold, NoneHold};
+ghost use Rattle.pybuf_c.specs.Worlds.{Answers};
 
 use crate::asking::ask;
 use crate::status::NO_MEMORY;
 use pybuf_command::{Command, Verb};
-use pybuf_console::{
-    SliceWords, WorldHandle, bytes_value, number_value, object_value, signed, slice_of,
-};
+use pybuf_console::{SliceWords, WorldHandle, bytes_value, number_value, object_value, slice_of};
+use pybuf_crossing::signed;
 use pybuf_value::{NoMemory, Value};
 use std::alloc::Global;
 

@@ -1,8 +1,9 @@
-//! The calls of a program in C on worlds, each over a call that is proved.
+//! The calls of a program in C on worlds and on formats, each over a call that is proved.
 #![tactic(auto)]
 
 mod asking;
 mod edits;
+mod formats;
 mod numbers;
 mod objects;
 mod replies;
@@ -14,6 +15,12 @@ pub use edits::{
     pybuf_proved_delete_slice, pybuf_proved_extend, pybuf_proved_extend_by, pybuf_proved_insert,
     pybuf_proved_pop, pybuf_proved_pop_last, pybuf_proved_remove, pybuf_proved_repeat,
     pybuf_proved_reverse, pybuf_proved_take,
+};
+pub use formats::{
+    pybuf_proved_format_clear, pybuf_proved_format_free, pybuf_proved_format_layout,
+    pybuf_proved_format_pack, pybuf_proved_format_parse, pybuf_proved_format_put_bytes,
+    pybuf_proved_format_put_number, pybuf_proved_format_unpack, pybuf_proved_format_value,
+    pybuf_proved_format_value_bytes,
 };
 pub use objects::{
     pybuf_proved_bytes, pybuf_proved_cast, pybuf_proved_cast_to_shape, pybuf_proved_compare,

@@ -4,8 +4,10 @@ ghost use Rattle.pybuf_command.specs.declared.commands.Verb.TheVariants as verb;
 ghost use Rattle.pybuf_command.specs.declared.worlds.Command.TheVariants as command;
 ghost use Rattle.pybuf_value.specs.declared.values.Value.TheVariants as value;
 ghost use Rattle.pybuf_console.specs.Held.{held};
-ghost use Rattle.pybuf_console.specs.Values.{bytes_value, number_value, object_value, signed, slice_of, source_of, text_value, tuple_of};
-ghost use Rattle.pybuf_c.specs.Worlds.{BothHold, NoneHold, Answers};
+ghost use Rattle.pybuf_console.specs.Values.{bytes_value, number_value, object_value, slice_of, source_of, text_value, tuple_of};
+ghost use Rattle.pybuf_crossing.specs.Words.{signed};
+ghost use Rattle.pybuf_c.specs.Holding.{BothHold, NoneHold};
+ghost use Rattle.pybuf_c.specs.Worlds.{Answers};
 ghost use Rattle.std.specs.Str.{IsUtf8};
 ghost use Rattle.pybuf_command.specs.declared.kinds.ExporterKind.{ExporterKind};
 ghost use Rattle.pybuf_command.specs.declared.commands.PropertyName.{PropertyName};
@@ -17,9 +19,10 @@ use crate::numbers::{kind_numbered, operator_numbered, property_numbered};
 use crate::status::{BAD_ARGUMENT, NO_MEMORY};
 use pybuf_command::{Command, Verb};
 use pybuf_console::{
-    SliceWords, WorldHandle, bytes_value, number_value, object_value, signed, slice_of, source_of,
+    SliceWords, WorldHandle, bytes_value, number_value, object_value, slice_of, source_of,
     text_value, tuple_of,
 };
+use pybuf_crossing::signed;
 use pybuf_value::{NoMemory, Value};
 use std::alloc::Global;
 

@@ -1,13 +1,14 @@
 //! What the last reply of a world tells, by its kind.
 ghost use Rattle.std.specs.Prelude.{◌≡◌, ◌≢◌, ◌≤◌, ◌↔◌, Some, None, IsSomeAnd};
-ghost use Rattle.pybuf_console.specs.Console.{Hands};
 ghost use Rattle.pybuf_console.specs.Held.{held};
-ghost use Rattle.pybuf_console.specs.Values.{signed, IsNoWord};
 ghost use Rattle.pybuf_console.specs.Replies as replies;
-ghost use Rattle.pybuf_console.specs.declared.console.Handed.TheVariants as handed;
+ghost use Rattle.pybuf_crossing.specs.Rooms.{Hands};
+ghost use Rattle.pybuf_crossing.specs.Words.{signed, IsNoWord};
+ghost use Rattle.pybuf_crossing.specs.declared.rooms.Handed.TheVariants as handed;
 
 use crate::status::{NO_WORLD, NOTHING, OK, handed_number};
-use pybuf_console::{WorldHandle, kind_of, number_of, objects_of, part_at, part_count, word_of};
+use pybuf_console::{WorldHandle, kind_of, number_of, objects_of, part_at, part_count};
+use pybuf_crossing::word_of;
 use std::alloc::Global;
 
 /// Tells which kind the last reply is of.

@@ -1,9 +1,8 @@
 //! The numbers that calls answer.
 ghost use Rattle.std.specs.Prelude.{◌≡◌};
 ghost use Rattle.pybuf_c.specs.Status as spec;
-ghost use Rattle.pybuf_c.specs.Worlds.{answer_number};
 
-use pybuf_console::Handed;
+use pybuf_crossing::Handed;
 use pybuf_value::Fault;
 
 /// Done.
@@ -18,9 +17,10 @@ pub const TOO_SMALL: u32 = 3;
 pub const BAD_LINE: u32 = 4;
 /// There is no such reply, or it is of another kind.
 pub const NOTHING: u32 = 5;
-
 /// A number that is passed stands for nothing, or a text is no UTF-8.
 pub const BAD_ARGUMENT: u32 = 6;
+/// The handle holds no format.
+pub const NO_FORMAT: u32 = 9;
 
 /// The number of a refusal.
 pub fn fault_number(fault: Fault) -> u32
@@ -40,7 +40,7 @@ pub fn fault_number(fault: Fault) -> u32
 
 /// The number of a reply to a command.
 pub fn answer_number(refusal: Option<Fault>) -> u32
-    ensures { result ≡ answer_number refusal }
+    ensures { result ≡ spec.answer_number refusal }
 {
     match refusal {
         None => OK,

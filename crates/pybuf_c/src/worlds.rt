@@ -1,11 +1,12 @@
 //! Worlds by lines: a new one, a text of lines that is run, and the replies.
 ghost use Rattle.std.specs.Prelude.{◌≡◌, ◌≢◌, ◌↔◌, ◌≤◌, ◌⊎◌, length, slice_get, Some, None, Err, IsSomeAnd, IfSome};
-ghost use Rattle.pybuf_console.specs.Console.{empty_console, HasRun, HasStopped, Hands, shown_reply};
+ghost use Rattle.pybuf_console.specs.Console.{empty_console, HasRun, HasStopped, shown_reply};
 ghost use Rattle.pybuf_console.specs.Held.{held};
-ghost use Rattle.pybuf_console.specs.declared.console.Handed.TheVariants as handed;
+ghost use Rattle.pybuf_crossing.specs.Rooms.{Hands};
+ghost use Rattle.pybuf_crossing.specs.declared.rooms.Handed.TheVariants as handed;
 ghost use Rattle.pybuf_line.specs.Lines.{commands_in};
 ghost use Rattle.pybuf_line.specs.Scalars.{handle_in};
-ghost use Rattle.pybuf_c.specs.Worlds.{BothHold};
+ghost use Rattle.pybuf_c.specs.Holding.{BothHold};
 
 use crate::status::{BAD_LINE, NO_MEMORY, NO_WORLD, OK, handed_number};
 use pybuf_console::{Console, WorldHandle};

@@ -1,5 +1,5 @@
 -- A world with the replies that are kept of what was asked of it.
-use Rattle.std.specs.Prelude.{◌≡◌, ◌⊎◌, ◌<◌, ℕ, List, [], ◌++◌, length, take, drop, Option, Some, None, Result, Ok, Err}
+use Rattle.std.specs.Prelude.{◌≡◌, ◌⊎◌, ℕ, List, [], Option, Some, None, Result, Ok, Err}
 use Rattle.pybuf_command.specs.declared.worlds.Command.{Command}
 use Rattle.pybuf_command.specs.declared.worlds.Reply.{Reply}
 use Rattle.pybuf_command.specs.declared.worlds.Reply.TheVariants as reply
@@ -12,8 +12,6 @@ use Rattle.pybuf_line.specs.Scalars.{handle_in}
 use Rattle.pybuf_line.specs.Lines.{commands_in}
 use Rattle.pybuf_line.specs.declared.unread.Misread.{Misread}
 use Rattle.pybuf_line.specs.declared.unread.Misread.TheVariants as misread
-use Rattle.pybuf_console.specs.declared.console.Handed.{Handed}
-use Rattle.pybuf_console.specs.declared.console.Handed.TheVariants as handed
 
 -- A world, the replies of the lines that were run in it last, and the reply of the one command that was asked last.
 pub record Console : Type 0 where
@@ -45,20 +43,6 @@ abbrev pub Runs : {X : Type 0} → Result X Misread → List ℕ → Console →
 Runs (Ok x) text old new = HasRun text old new
 Runs (Err (misread.BadLine n)) text old new = (commands_in handle_in text ≡ Err n) × (new ≡ old)
 Runs (Err misread.NoMemory) text old new = (new ≡ old) ⊎ HasStopped text old new
-
--- A text stands at the front of a room, and behind it the room is as before.
-pub record IsCopied (text old new : List ℕ) : Type 0 where
-  pub front : take (length text) new ≡ text
-  pub rest : drop (length text) new ≡ drop (length text) old
-
--- What is handed out of a text, where there is one: a copy with its length; or its length alone, where the room is shorter.
-abbrev pub Hands : Handed → Option (List ℕ) → List ℕ → List ℕ → ℕ → ℕ → Type 0
-Hands handed.Whole (Some text) old new length_old length_new = (length_new ≡ length text) × IsCopied text old new
-Hands handed.Whole None old new length_old length_new = ⊥
-Hands handed.TooSmall (Some text) old new length_old length_new = (length_new ≡ length text) × (length old < length text) × (new ≡ old)
-Hands handed.TooSmall None old new length_old length_new = ⊥
-Hands handed.Nothing text old new length_old length_new = (text ≡ None) × (new ≡ old) × (length_new ≡ length_old)
-Hands handed.NoMemory text old new length_old length_new = (new ≡ old) × (length_new ≡ length_old)
 
 -- the text of a reply
 abbrev pub shown_reply : Option Reply → Option (List ℕ)

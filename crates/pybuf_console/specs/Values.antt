@@ -1,5 +1,5 @@
 -- Values of commands, by the numbers and bytes that a caller passes.
-use Rattle.std.specs.Prelude.{ℕ, ◌^◌, ◌≤◌, unsigned_abs, ℤ, pos, neg_ℤ, Bool, true, false, List, map, Option, Some, None}
+use Rattle.std.specs.Prelude.{ℕ, ℤ, Bool, true, false, List, map, Some, None}
 use Rattle.pybuf_value.specs.declared.values.Scalar.{Scalar}
 use Rattle.pybuf_value.specs.declared.values.Scalar.TheVariants as scalar
 use Rattle.pybuf_value.specs.declared.values.PySlice.{PySlice}
@@ -7,16 +7,6 @@ use Rattle.pybuf_value.specs.declared.values.Value.{Value}
 use Rattle.pybuf_value.specs.declared.values.Value.TheVariants as value
 use Rattle.pybuf_command.specs.declared.options.ByteInnerNewOptions.{ByteInnerNewOptions}
 use Rattle.pybuf_console.specs.declared.values.SliceWords.{SliceWords}
-
--- the number of a size and a sign
-abbrev pub signed : Bool → ℕ → ℤ
-signed false magnitude = pos magnitude
-signed true magnitude = neg_ℤ (pos magnitude)
-
--- there is no number, or its size is past 64 bits
-abbrev pub IsNoWord : Option ℤ → Type 0
-IsNoWord None = Unit {0}
-IsNoWord (Some number) = 2 ^ 64 ≤ unsigned_abs number
 
 abbrev pub number_value : ℤ → Value
 number_value number = value.One (scalar.Int number)

@@ -1,28 +1,17 @@
 //! A world with the replies of the lines that were run in it last.
 ghost use Rattle.std.specs.Prelude.{◌≡◌, Some, length, slice_get, OnOk, OnErr};
-ghost use Rattle.pybuf_console.specs.Console.{Hands, shown_reply};
+ghost use Rattle.pybuf_console.specs.Console.{shown_reply};
+ghost use Rattle.pybuf_crossing.specs.Rooms.{Hands};
 
-use crate::copying::copy_front;
 use crate::inputs::commands_of;
 use crate::replies::bytes_of;
 use pybuf_command::{Command, Reply, ReplyList};
+use pybuf_crossing::{Handed, hand_bytes};
 use pybuf_line::{Misread, push_reply};
 use pybuf_value::{Fault, Made, NoMemory};
 use pybuf_world::World;
 use std::alloc::Global;
 use std::marker::Model;
-
-/// What became of a text that was asked for.
-#[derive(Clone, Copy, Debug, PartialEq, Eq)]
-pub enum Handed {
-    /// It was copied.
-    Whole,
-    /// The room is too small for it.
-    TooSmall,
-    /// There is no such text.
-    Nothing,
-    NoMemory,
-}
 
 /// A world, the replies of the lines that were run in it last, and the reply of the one command that was asked last.
 #[derive(Debug, Drop)]
@@ -40,25 +29,13 @@ impl Model for Console {
     ghost view = { λ c. record { world = c.world; replies = c.replies; last = c.last } };
 }
 
-/// Copies a text into a room, where it is long enough, and tells the length of the text.
-fn hand_text(text: &[u8], room: &mut [u8], count: &mut usize) -> Handed
-    ensures { Hands result (Some text.now) room.old room.new count.old count.new }
-{
-    *count = text.len();
-    if room.len() < text.len() {
-        return Handed::TooSmall;
-    }
-    copy_front(text, room);
-    Handed::Whole
-}
-
 /// Copies the text of a reply into a room.
 fn hand_reply(alloc: Global, reply: &Reply, room: &mut [u8], count: &mut usize) -> Handed
     ensures { Hands result (shown_reply (Some reply.now)) room.old room.new count.old count.new }
 {
     let mut text = Vec::new(alloc);
     match push_reply(&mut text, reply) {
-        Ok(()) => hand_text(text.as_slice(), room, count),
+        Ok(()) => hand_bytes(text.as_slice(), room, count),
         Err(NoMemory) => Handed::NoMemory,
     }
 }
@@ -141,7 +118,7 @@ impl Console {
         ensures { Hands result (replies.bytes_of self.now.last) room.old room.new count.old count.new }
     {
         match bytes_of(&self.last) {
-            Some(bytes) => hand_text(bytes, room, count),
+            Some(bytes) => hand_bytes(bytes, room, count),
             None => Handed::Nothing,
         }
     }

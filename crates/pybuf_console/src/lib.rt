@@ -3,17 +3,14 @@
 
 mod address;
 mod console;
-mod copying;
 mod handle;
 mod inputs;
 mod replies;
 mod values;
-mod words;
 
-pub use console::{Console, Handed};
+pub use console::Console;
 pub use handle::WorldHandle;
 pub use replies::{kind_of, number_of, objects_of, part_at, part_count};
 pub use values::{
     SliceWords, bytes_value, number_value, object_value, slice_of, source_of, text_value, tuple_of,
 };
-pub use words::{signed, word_of};

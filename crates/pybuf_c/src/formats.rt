@@ -1,0 +1,245 @@
+//! Formats: one that a text spells, its size, values that it packs, and values that it unpacks.
+ghost use Rattle.std.specs.Prelude.{◌≡◌, ◌≢◌, ◌↔◌, length, slice_get, Some, None, Ok, IfSome, IsSomeAnd};
+ghost use Rattle.pybuf_value.specs.declared.values.Scalar.TheVariants as scalar;
+ghost use Rattle.pybuf_struct.specs.Formats.{fields};
+ghost use Rattle.pybuf_struct.specs.Offsets.{packed_at};
+ghost use Rattle.pybuf_struct.specs.Values.{unpacked_values};
+ghost use Rattle.pybuf_crossing.specs.Rooms.{Hands};
+ghost use Rattle.pybuf_crossing.specs.Words.{signed, IsNoWord};
+ghost use Rattle.pybuf_crossing.specs.declared.rooms.Handed.TheVariants as handed;
+ghost use Rattle.pybuf_packer.specs.Held.{held};
+ghost use Rattle.pybuf_packer.specs.Packer.{packer_of, without_values, with_value, Packs, HasUnpacked, value_kind, value_number, value_bytes};
+ghost use Rattle.pybuf_packer.specs.declared.packer.Packed.TheVariants as packed;
+ghost use Rattle.pybuf_c.specs.Holding.{BothHold, NoneHold};
+ghost use Rattle.pybuf_c.specs.Status.{result_number};
+
+use crate::status::{NO_FORMAT, NO_MEMORY, NOTHING, OK, TOO_SMALL, fault_number, handed_number};
+use pybuf_crossing::{signed, word_of};
+use pybuf_packer::{FormatHandle, Packed, Packer};
+use pybuf_value::{Halt, NoMemory};
+use std::alloc::Global;
+
+/// Makes the format that a text spells in the handle. One that it held is freed.
+#[unsafe(no_mangle)]
+pub extern "C" fn pybuf_proved_format_parse(
+    handle: &mut FormatHandle,
+    alloc: Global,
+    text: &[u8],
+) -> u32
+    ensures ok { result ≡ 0 → IsSomeAnd (held handle.new) (λ packer. packer_of text.now ≡ Ok packer) }
+    ensures err { result ≢ 0 → held handle.new ≡ held handle.old }
+    ensures status { result ≢ 1 → result ≡ result_number (packer_of text.now) }
+{
+    match Packer::parse(alloc, text) {
+        Ok(packer) => match Box::new(alloc, packer) {
+            Ok(packer) => {
+                handle.put(packer);
+                OK
+            }
+            Err(_) => NO_MEMORY,
+        },
+        Err(Halt::Refused(fault)) => fault_number(fault),
+        Err(Halt::NoMemory) => NO_MEMORY,
+    }
+}
+
+/// Frees the format of the handle, which holds none then.
+#[unsafe(no_mangle)]
+pub extern "C" fn pybuf_proved_format_free(handle: &mut FormatHandle, alloc: Global)
+    ensures { held handle.new ≡ None }
+{
+    *handle = FormatHandle::empty(alloc);
+}
+
+/// Tells the number of bytes of the format, and of the values that it reads or writes.
+#[unsafe(no_mangle)]
+pub extern "C" fn pybuf_proved_format_layout(
+    handle: &mut FormatHandle,
+    alloc: Global,
+    size: &mut usize,
+    count: &mut usize,
+) -> u32
+    ensures kept { held handle.new ≡ held handle.old }
+    ensures none { (result ≡ 9) ↔ (held handle.old ≡ None) }
+    ensures ok { result ≢ 9 → result ≡ 0 }
+    ensures size { IfSome (held handle.old) (λ packer. size.new ≡ packer.format.size) }
+    ensures count { IfSome (held handle.old) (λ packer. count.new ≡ length (fields packer.format)) }
+{
+    let Some(packer) = handle.take(alloc) else {
+        return NO_FORMAT;
+    };
+    *size = packer.size();
+    *count = packer.field_count();
+    handle.put(packer);
+    OK
+}
+
+/// Lets go of the values that were put for the format, or that it unpacked.
+#[unsafe(no_mangle)]
+pub extern "C" fn pybuf_proved_format_clear(handle: &mut FormatHandle, alloc: Global) -> u32
+    ensures none { result ≡ 9 → NoneHold (held handle.old) (held handle.new) }
+    ensures ok { result ≢ 9 → (result ≡ 0) × BothHold (λ old new. new ≡ without_values old) (held handle.old) (held handle.new) }
+{
+    let Some(mut packer) = handle.take(alloc) else {
+        return NO_FORMAT;
+    };
+    packer.clear();
+    handle.put(packer);
+    OK
+}
+
+/// Puts a number behind the values of the format, by its size and its sign.
+#[unsafe(no_mangle)]
+pub extern "C" fn pybuf_proved_format_put_number(
+    handle: &mut FormatHandle,
+    alloc: Global,
+    magnitude: u64,
+    negative: bool,
+) -> u32
+    ensures memory { result ≡ 1 → held handle.new ≡ held handle.old }
+    ensures none { result ≡ 9 → NoneHold (held handle.old) (held handle.new) }
+    ensures ok { result ≢ 1 → result ≢ 9 → (result ≡ 0) × BothHold (λ old new. new ≡ with_value old (scalar.Int (signed negative magnitude))) (held handle.old) (held handle.new) }
+{
+    let Some(mut packer) = handle.take(alloc) else {
+        return NO_FORMAT;
+    };
+    let made = packer.put_number(signed(negative, magnitude));
+    handle.put(packer);
+    match made {
+        Ok(()) => OK,
+        Err(NoMemory) => NO_MEMORY,
+    }
+}
+
+/// Puts a copy of bytes behind the values of the format.
+#[unsafe(no_mangle)]
+pub extern "C" fn pybuf_proved_format_put_bytes(
+    handle: &mut FormatHandle,
+    alloc: Global,
+    bytes: &[u8],
+) -> u32
+    ensures memory { result ≡ 1 → held handle.new ≡ held handle.old }
+    ensures none { result ≡ 9 → NoneHold (held handle.old) (held handle.new) }
+    ensures ok { result ≢ 1 → result ≢ 9 → (result ≡ 0) × BothHold (λ old new. new ≡ with_value old (scalar.Bytes bytes.now)) (held handle.old) (held handle.new) }
+{
+    let Some(mut packer) = handle.take(alloc) else {
+        return NO_FORMAT;
+    };
+    let made = packer.put_bytes(alloc, bytes);
+    handle.put(packer);
+    match made {
+        Ok(()) => OK,
+        Err(NoMemory) => NO_MEMORY,
+    }
+}
+
+/// Writes the bytes of the values to the front of the room, and tells how many they are, also where it is too small. Takes no memory.
+#[unsafe(no_mangle)]
+pub extern "C" fn pybuf_proved_format_pack(
+    handle: &mut FormatHandle,
+    alloc: Global,
+    room: &mut [u8],
+    count: &mut usize,
+) -> u32
+    ensures kept { held handle.new ≡ held handle.old }
+    ensures none { (result ≡ 9) ↔ (held handle.old ≡ None) }
+    ensures whole { result ≡ 0 → IsSomeAnd (held handle.old) (λ packer. Packs packed.Whole packer room.old room.new) }
+    ensures small { result ≡ 3 → IsSomeAnd (held handle.old) (λ packer. Packs packed.TooSmall packer room.old room.new) }
+    ensures refused { result ≢ 0 → result ≢ 3 → result ≢ 9 → IsSomeAnd (held handle.old) (λ packer. result ≡ result_number (packed_at packer.format packer.values 0 room.old)) }
+    ensures left { result ≢ 0 → room.new ≡ room.old }
+    ensures counted { IfSome (held handle.old) (λ packer. count.new ≡ packer.format.size) }
+{
+    let Some(packer) = handle.take(alloc) else {
+        return NO_FORMAT;
+    };
+    *count = packer.size();
+    let became = packer.pack(room);
+    handle.put(packer);
+    match became {
+        Packed::Whole => OK,
+        Packed::TooSmall => TOO_SMALL,
+        Packed::Refused(fault) => fault_number(fault),
+    }
+}
+
+/// Reads the values of the bytes by the format, which keeps them in place of those before.
+#[unsafe(no_mangle)]
+pub extern "C" fn pybuf_proved_format_unpack(
+    handle: &mut FormatHandle,
+    alloc: Global,
+    bytes: &[u8],
+) -> u32
+    ensures ok { result ≡ 0 → BothHold (HasUnpacked bytes.now) (held handle.old) (held handle.new) }
+    ensures none { (result ≡ 9) ↔ (held handle.old ≡ None) }
+    ensures kept { result ≢ 0 → held handle.new ≡ held handle.old }
+    ensures refused { result ≢ 0 → result ≢ 1 → result ≢ 9 → IsSomeAnd (held handle.old) (λ packer. result ≡ result_number (unpacked_values packer.format bytes.now)) }
+{
+    let Some(mut packer) = handle.take(alloc) else {
+        return NO_FORMAT;
+    };
+    let unpacked = packer.unpack(alloc, bytes);
+    handle.put(packer);
+    match unpacked {
+        Ok(()) => OK,
+        Err(Halt::Refused(fault)) => fault_number(fault),
+        Err(Halt::NoMemory) => NO_MEMORY,
+    }
+}
+
+/// Tells which kind the value at a place is of, and its number as a size and a sign: 0 or 1 of a truth value, and of bytes how
+/// many they are.
+#[unsafe(no_mangle)]
+pub extern "C" fn pybuf_proved_format_value(
+    handle: &mut FormatHandle,
+    alloc: Global,
+    index: usize,
+    kind: &mut u32,
+    magnitude: &mut u64,
+    negative: &mut bool,
+) -> u32
+    ensures kept { held handle.new ≡ held handle.old }
+    ensures none { (result ≡ 9) ↔ (held handle.old ≡ None) }
+    ensures kind { result ≡ 0 → IsSomeAnd (held handle.old) (λ packer. kind.new ≡ value_kind (slice_get packer.values index)) }
+    ensures number { result ≡ 0 → IsSomeAnd (held handle.old) (λ packer. value_number (slice_get packer.values index) ≡ Some (signed negative.new magnitude.new)) }
+    ensures nothing { result ≡ 5 → IsSomeAnd (held handle.old) (λ packer. IsNoWord (value_number (slice_get packer.values index))) }
+    ensures status { result ≢ 0 → result ≢ 9 → result ≡ 5 }
+{
+    let Some(packer) = handle.take(alloc) else {
+        return NO_FORMAT;
+    };
+    *kind = packer.kind_at(index);
+    let word = word_of(packer.number_at(index));
+    handle.put(packer);
+    match word {
+        Some((size, below)) => {
+            *magnitude = size;
+            *negative = below;
+            OK
+        }
+        None => NOTHING,
+    }
+}
+
+/// Copies the bytes of the value at a place to the room, and tells how many they are.
+#[unsafe(no_mangle)]
+pub extern "C" fn pybuf_proved_format_value_bytes(
+    handle: &mut FormatHandle,
+    alloc: Global,
+    index: usize,
+    room: &mut [u8],
+    count: &mut usize,
+) -> u32
+    ensures kept { held handle.new ≡ held handle.old }
+    ensures none { (result ≡ 9) ↔ (held handle.old ≡ None) }
+    ensures whole { result ≡ 0 → IsSomeAnd (held handle.old) (λ packer. Hands handed.Whole (value_bytes (slice_get packer.values index)) room.old room.new count.old count.new) }
+    ensures small { result ≡ 3 → IsSomeAnd (held handle.old) (λ packer. Hands handed.TooSmall (value_bytes (slice_get packer.values index)) room.old room.new count.old count.new) }
+    ensures nothing { result ≡ 5 → IsSomeAnd (held handle.old) (λ packer. Hands handed.Nothing (value_bytes (slice_get packer.values index)) room.old room.new count.old count.new) }
+    ensures status { result ≢ 0 → result ≢ 3 → result ≢ 5 → result ≡ 9 }
+{
+    let Some(packer) = handle.take(alloc) else {
+        return NO_FORMAT;
+    };
+    let handed = packer.hand_bytes(index, room, count);
+    handle.put(packer);
+    handed_number(handed)
+}
