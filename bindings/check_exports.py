@@ -12,6 +12,7 @@ TOP = pathlib.Path(__file__).resolve().parent.parent
 HEADER = TOP / 'bindings/c/exports.h'
 SINGLE = {
     '&mut WorldHandle': 'proved_handle *',
+    '&mut FormatHandle': 'proved_handle *',
     '&SliceWords': 'const pybuf_slice *',
     '&mut usize': 'size_t *',
     '&mut u64': 'uint64_t *',
@@ -60,7 +61,7 @@ def text():
 
 #include "pybuf.h"
 
-/* As the proved library lays a handle out. One of zeros holds no world. */
+/* As the proved library lays a handle out, that of a world and that of a format. One of zeros holds nothing. */
 typedef struct {
     void *at;
     bool full;

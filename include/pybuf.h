@@ -4,8 +4,8 @@
  * it is passed and calls the proved library. docs/BINDINGS.md has a first program.
  *
  * What a caller owes, and nothing tests:
- *   - A world is used by one call at a time. Another thread may use it once a lock or a join stands between.
- *   - A world that was freed, or a pointer that came from nowhere, is not passed on.
+ *   - A world or a format is used by one call at a time. Another thread may use it once a lock or a join stands between.
+ *   - A world or a format that was freed, or a pointer that came from nowhere, is not passed on.
  *   - A pointer and a length name memory that is there, that is the caller's to read (or to write, where it is a room), and
  *     that no other thread changes during the call.
  *   - Rooms and results lie apart from each other, and from the bytes that are passed in.
@@ -35,6 +35,7 @@ typedef enum pybuf_status {
     PYBUF_BAD_ARGUMENT = 6,   /* a number stands for nothing, as an unknown kind or property */
     PYBUF_NULL_POINTER = 7,   /* a pointer that is needed is null */
     PYBUF_TOO_LONG = 8,       /* a length is past PTRDIFF_MAX */
+    PYBUF_NO_FORMAT = 9,      /* the pointer is no format */
     PYBUF_INDEX_ERROR = 16,
     PYBUF_VALUE_ERROR = 17,
     PYBUF_TYPE_ERROR = 18,
@@ -223,6 +224,73 @@ pybuf_status pybuf_take(pybuf_world *world, pybuf_object vector, void *room, siz
 
 /* The bytes, or the text, that the last call for objects in this world replied, once more. */
 pybuf_status pybuf_last_bytes(pybuf_world *world, void *room, size_t room_length, size_t *length);
+
+/* ---- formats ---- */
+
+/* A format of Python's module struct, as struct.Struct holds one. It needs no world. Codes of floats and pointers are refused, and
+ * so are blanks; 'u' is a code, a signed number of four bytes. */
+typedef struct pybuf_format pybuf_format;
+
+/* Of which kind a value is that is packed or unpacked. */
+typedef enum pybuf_value_kind {
+    PYBUF_NUMBER_VALUE = 0, /* a whole number */
+    PYBUF_TRUTH_VALUE = 1,  /* of the code '?': the number is 0 or 1 */
+    PYBUF_BYTES_VALUE = 2   /* of the codes 'c', 's' and 'p' */
+} pybuf_value_kind;
+
+/* A value. A number and a truth value have no bytes: a null pointer and a length of 0. Bytes have the number 0. */
+typedef struct pybuf_value {
+    pybuf_value_kind kind;
+    pybuf_number number;
+    const void *bytes;
+    size_t length;
+} pybuf_value;
+
+static inline pybuf_value pybuf_number_value(pybuf_number number)
+{
+    pybuf_value made;
+    made.kind = PYBUF_NUMBER_VALUE;
+    made.number = number;
+    made.bytes = NULL;
+    made.length = 0;
+    return made;
+}
+
+static inline pybuf_value pybuf_bytes_value(const void *bytes, size_t length)
+{
+    pybuf_value made = pybuf_number_value(pybuf_number_of(0));
+    made.kind = PYBUF_BYTES_VALUE;
+    made.bytes = bytes;
+    made.length = length;
+    return made;
+}
+
+/* Makes the format that a text spells, which is the caller's to free. On any other status *format is null.
+ * PYBUF_STRUCT_ERROR: the text spells none. */
+pybuf_status pybuf_format_parse(const char *text, size_t length, pybuf_format **format);
+
+/* Frees a format. A null pointer is let be. The pointer is not used again. */
+pybuf_status pybuf_format_free(pybuf_format *format);
+
+/* struct.calcsize: the number of bytes; and the number of values that the format packs and unpacks. */
+pybuf_status pybuf_format_size(pybuf_format *format, size_t *size);
+pybuf_status pybuf_format_count(pybuf_format *format, size_t *count);
+
+/* Writes the bytes of the values to the front of the room. *length is the format's size, also where the room is too small; the
+ * values aren't looked at then. A truth value counts as its number, and the code '?' takes a number. Refused with
+ * PYBUF_STRUCT_ERROR where there are more values or fewer than the format has, or one is out of its code's range, and with
+ * PYBUF_TYPE_ERROR where one is a number for bytes, or bytes for '?'; the room is then as before.
+ * PYBUF_BAD_ARGUMENT: a value is of an unknown kind. */
+pybuf_status pybuf_format_pack(pybuf_format *format, const pybuf_value *values, size_t count, void *room, size_t room_length, size_t *length);
+
+/* Reads the values of the bytes, which are to be as many as the format's size; else PYBUF_STRUCT_ERROR. *count is how many values
+ * the format has, also where the room is too small; nothing was read then. A value that is bytes says their length alone: its
+ * pointer is null, and the call below copies them. */
+pybuf_status pybuf_format_unpack(pybuf_format *format, const void *bytes, size_t length, pybuf_value *room, size_t room_count, size_t *count);
+
+/* Copies to the room the bytes of the value of this number, from 0, that this format unpacked last. *length is how many they are,
+ * also where the room is too small. PYBUF_NOTHING: there is no such value, it isn't bytes, or the format has packed since. */
+pybuf_status pybuf_format_value_bytes(pybuf_format *format, size_t index, void *room, size_t room_length, size_t *length);
 
 #ifdef __cplusplus
 }

@@ -4,7 +4,7 @@
 
 #include "pybuf.h"
 
-/* As the proved library lays a handle out. One of zeros holds no world. */
+/* As the proved library lays a handle out, that of a world and that of a format. One of zeros holds nothing. */
 typedef struct {
     void *at;
     bool full;
@@ -24,6 +24,16 @@ uint32_t pybuf_proved_delete_slice(proved_handle *handle, uint64_t subject, cons
 uint32_t pybuf_proved_repeat(proved_handle *handle, uint64_t subject, int64_t count);
 uint32_t pybuf_proved_copy(proved_handle *handle, uint64_t subject);
 uint32_t pybuf_proved_take(proved_handle *handle, uint64_t subject);
+uint32_t pybuf_proved_format_parse(proved_handle *handle, const uint8_t *text, size_t text_length);
+void pybuf_proved_format_free(proved_handle *handle);
+uint32_t pybuf_proved_format_layout(proved_handle *handle, size_t *size, size_t *count);
+uint32_t pybuf_proved_format_clear(proved_handle *handle);
+uint32_t pybuf_proved_format_put_number(proved_handle *handle, uint64_t magnitude, bool negative);
+uint32_t pybuf_proved_format_put_bytes(proved_handle *handle, const uint8_t *bytes, size_t bytes_length);
+uint32_t pybuf_proved_format_pack(proved_handle *handle, uint8_t *room, size_t room_length, size_t *count);
+uint32_t pybuf_proved_format_unpack(proved_handle *handle, const uint8_t *bytes, size_t bytes_length);
+uint32_t pybuf_proved_format_value(proved_handle *handle, size_t index, uint32_t *kind, uint64_t *magnitude, bool *negative);
+uint32_t pybuf_proved_format_value_bytes(proved_handle *handle, size_t index, uint8_t *room, size_t room_length, size_t *count);
 uint32_t pybuf_proved_new(proved_handle *handle, uint32_t kind, const uint8_t *bytes, size_t bytes_length);
 uint32_t pybuf_proved_view(proved_handle *handle, uint64_t subject);
 uint32_t pybuf_proved_to_readonly(proved_handle *handle, uint64_t subject);

@@ -1,5 +1,5 @@
-/* Makes and frees a million worlds with a bytearray and a view, and as many bytearrays' contents within one: the memory that the
- * process has after the first thousand is to be what it has at the end, within 1 MiB. */
+/* Makes and frees a million worlds with a bytearray and a view, and then a million formats that pack and unpack: the memory that the
+ * process has after the first thousand of each is to be what it has at the end, within 1 MiB. */
 #include "pybuf.h"
 
 #include <stdio.h>
@@ -18,7 +18,7 @@ static long pages(void)
     return resident;
 }
 
-static void one(void)
+static void one_world(void)
 {
     pybuf_world *world;
     pybuf_object array, view;
@@ -29,14 +29,34 @@ static void one(void)
     }
 }
 
-int main(void)
+static void one_format(void)
+{
+    pybuf_format *format;
+    pybuf_value values[2] = {pybuf_number_value(pybuf_number_of(-1)), pybuf_bytes_value("abc", 3)}, got[2];
+    char room[8];
+    size_t length, count;
+    if (pybuf_format_parse("<i4s", 4, &format) || pybuf_format_pack(format, values, 2, room, sizeof room, &length)
+        || pybuf_format_unpack(format, room, length, got, 2, &count) || pybuf_format_value_bytes(format, 1, room, sizeof room, &length)
+        || pybuf_format_free(format)) {
+        printf("a call failed\n");
+        exit(1);
+    }
+}
+
+/* How many bytes more the process has after a million. */
+static long more_after(void (*one)(void))
 {
     for (int i = 0; i < 1000; i++)
         one();
     long before = pages();
     for (int i = 0; i < 1000000; i++)
         one();
-    long more = (pages() - before) * sysconf(_SC_PAGESIZE);
-    printf("%ld bytes more after a million worlds\n", more);
-    return more > 1 << 20;
+    return (pages() - before) * sysconf(_SC_PAGESIZE);
+}
+
+int main(void)
+{
+    long worlds = more_after(one_world), formats = more_after(one_format);
+    printf("%ld bytes more after a million worlds, %ld after a million formats\n", worlds, formats);
+    return worlds > 1 << 20 || formats > 1 << 20;
 }

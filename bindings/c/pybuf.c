@@ -9,8 +9,14 @@
 
 /* Stands at the head of what was handed out, and is overwritten where that is freed. */
 #define A_WORLD UINT64_C(0x646c726f77667562)
+#define A_FORMAT UINT64_C(0x74616d726f667562)
 
 struct pybuf_world {
+    uint64_t mark;
+    proved_handle handle;
+};
+
+struct pybuf_format {
     uint64_t mark;
     proved_handle handle;
 };
@@ -28,6 +34,12 @@ static uint8_t no_bytes[1];
     do {                                                        \
         NEEDS((world) != NULL, PYBUF_NULL_POINTER);             \
         NEEDS((world)->mark == A_WORLD, PYBUF_NO_WORLD);        \
+    } while (0)
+
+#define NEEDS_FORMAT(format)                                    \
+    do {                                                        \
+        NEEDS((format) != NULL, PYBUF_NULL_POINTER);            \
+        NEEDS((format)->mark == A_FORMAT, PYBUF_NO_FORMAT);     \
     } while (0)
 
 #define NEEDS_BYTES(pointer, length)                                    \
@@ -58,6 +70,7 @@ const char *pybuf_status_name(pybuf_status status)
     case PYBUF_BAD_ARGUMENT: return "bad argument";
     case PYBUF_NULL_POINTER: return "null pointer";
     case PYBUF_TOO_LONG: return "too long";
+    case PYBUF_NO_FORMAT: return "no format";
     case PYBUF_INDEX_ERROR: return "IndexError";
     case PYBUF_VALUE_ERROR: return "ValueError";
     case PYBUF_TYPE_ERROR: return "TypeError";
@@ -552,4 +565,138 @@ pybuf_status pybuf_last_bytes(pybuf_world *world, void *room, size_t room_length
     NEEDS_BYTES(room, room_length);
     NEEDS(length != NULL, PYBUF_NULL_POINTER);
     return one_text(world, room, room_length, length);
+}
+
+/* ---- formats ---- */
+
+pybuf_status pybuf_format_parse(const char *text, size_t length, pybuf_format **format)
+{
+    NEEDS(format != NULL, PYBUF_NULL_POINTER);
+    *format = NULL;
+    NEEDS_BYTES(text, length);
+    pybuf_format *made = (pybuf_format *)calloc(1, sizeof *made);
+    NEEDS(made != NULL, PYBUF_NO_MEMORY);
+    uint32_t status = pybuf_proved_format_parse(&made->handle, bytes_at(text), length);
+    if (status != PYBUF_OK) {
+        free(made);
+        return (pybuf_status)status;
+    }
+    made->mark = A_FORMAT;
+    *format = made;
+    return PYBUF_OK;
+}
+
+pybuf_status pybuf_format_free(pybuf_format *format)
+{
+    NEEDS(format != NULL, PYBUF_OK);
+    NEEDS_FORMAT(format);
+    pybuf_proved_format_free(&format->handle);
+    format->mark = 0;
+    free(format);
+    return PYBUF_OK;
+}
+
+pybuf_status pybuf_format_size(pybuf_format *format, size_t *size)
+{
+    size_t count = 0;
+    NEEDS_FORMAT(format);
+    NEEDS(size != NULL, PYBUF_NULL_POINTER);
+    return (pybuf_status)pybuf_proved_format_layout(&format->handle, size, &count);
+}
+
+pybuf_status pybuf_format_count(pybuf_format *format, size_t *count)
+{
+    size_t size = 0;
+    NEEDS_FORMAT(format);
+    NEEDS(count != NULL, PYBUF_NULL_POINTER);
+    return (pybuf_status)pybuf_proved_format_layout(&format->handle, &size, count);
+}
+
+/* Whether the pointer of a value may be read. */
+static pybuf_status value_status(const pybuf_value *value)
+{
+    switch (value->kind) {
+    case PYBUF_NUMBER_VALUE:
+    case PYBUF_TRUTH_VALUE:
+        return PYBUF_OK;
+    case PYBUF_BYTES_VALUE:
+        NEEDS_BYTES(value->bytes, value->length);
+        return PYBUF_OK;
+    }
+    return PYBUF_BAD_ARGUMENT;
+}
+
+static pybuf_status put_values(proved_handle *handle, const pybuf_value *values, size_t count)
+{
+    for (size_t i = 0; i < count; i++)
+        if (values[i].kind == PYBUF_BYTES_VALUE)
+            ASKS(pybuf_proved_format_put_bytes(handle, bytes_at(values[i].bytes), values[i].length));
+        else
+            ASKS(pybuf_proved_format_put_number(handle, values[i].number.magnitude, values[i].number.negative));
+    return PYBUF_OK;
+}
+
+pybuf_status pybuf_format_pack(pybuf_format *format, const pybuf_value *values, size_t count, void *room, size_t room_length, size_t *length)
+{
+    size_t size = 0, fields = 0;
+    NEEDS_FORMAT(format);
+    NEEDS_COUNT(values, count);
+    NEEDS_BYTES(room, room_length);
+    NEEDS(length != NULL, PYBUF_NULL_POINTER);
+    for (size_t i = 0; i < count; i++)
+        ASKS(value_status(&values[i]));
+    ASKS(pybuf_proved_format_layout(&format->handle, &size, &fields));
+    if (size > room_length) {
+        *length = size;
+        return PYBUF_TOO_SMALL;
+    }
+    ASKS(pybuf_proved_format_clear(&format->handle));
+    pybuf_status packed = put_values(&format->handle, values, count);
+    if (packed == PYBUF_OK)
+        packed = (pybuf_status)pybuf_proved_format_pack(&format->handle, room_at(room), room_length, &size);
+    ASKS(pybuf_proved_format_clear(&format->handle));
+    if (packed == PYBUF_OK)
+        *length = size;
+    return packed;
+}
+
+static pybuf_status value_at(proved_handle *handle, size_t index, pybuf_value *value)
+{
+    uint32_t kind = 0;
+    pybuf_number number = {0, false};
+    ASKS(pybuf_proved_format_value(handle, index, &kind, &number.magnitude, &number.negative));
+    if (kind == PYBUF_BYTES_VALUE) {
+        *value = pybuf_bytes_value(NULL, (size_t)number.magnitude);
+    } else {
+        *value = pybuf_number_value(number);
+        value->kind = (pybuf_value_kind)kind;
+    }
+    return PYBUF_OK;
+}
+
+pybuf_status pybuf_format_unpack(pybuf_format *format, const void *bytes, size_t length, pybuf_value *room, size_t room_count, size_t *count)
+{
+    size_t size = 0, fields = 0;
+    NEEDS_FORMAT(format);
+    NEEDS_BYTES(bytes, length);
+    NEEDS_COUNT(room, room_count);
+    NEEDS(count != NULL, PYBUF_NULL_POINTER);
+    ASKS(pybuf_proved_format_layout(&format->handle, &size, &fields));
+    if (fields > room_count) {
+        *count = fields;
+        return PYBUF_TOO_SMALL;
+    }
+    ASKS(pybuf_proved_format_unpack(&format->handle, bytes_at(bytes), length));
+    for (size_t i = 0; i < fields; i++)
+        ASKS(value_at(&format->handle, i, &room[i]));
+    *count = fields;
+    return PYBUF_OK;
+}
+
+pybuf_status pybuf_format_value_bytes(pybuf_format *format, size_t index, void *room, size_t room_length, size_t *length)
+{
+    NEEDS_FORMAT(format);
+    NEEDS_BYTES(room, room_length);
+    NEEDS(length != NULL, PYBUF_NULL_POINTER);
+    return (pybuf_status)pybuf_proved_format_value_bytes(&format->handle, index, room_at(room), room_length, length);
 }

@@ -148,6 +148,130 @@ static void refusals(pybuf_world *world)
     HOLDS(truth == PYBUF_TRUE);
 }
 
+static pybuf_format *parsed(const char *text)
+{
+    pybuf_format *format = NULL;
+    WANT(PYBUF_OK, pybuf_format_parse(text, strlen(text), &format));
+    return format;
+}
+
+static void format_pointers(pybuf_world *world)
+{
+    pybuf_format *format = parsed("<H2s");
+    pybuf_format *other = (pybuf_format *)(void *)world;
+    pybuf_value values[2] = {pybuf_number_value(pybuf_number_of(1)), pybuf_bytes_value("ab", 2)};
+    size_t length = 7;
+    char room[4] = "....";
+    WANT(PYBUF_NULL_POINTER, pybuf_format_parse("H", 1, NULL));
+    WANT(PYBUF_OK, pybuf_format_free(NULL));
+    WANT(PYBUF_NULL_POINTER, pybuf_format_size(NULL, &length));
+    WANT(PYBUF_NULL_POINTER, pybuf_format_size(format, NULL));
+    WANT(PYBUF_NULL_POINTER, pybuf_format_count(format, NULL));
+    WANT(PYBUF_NULL_POINTER, pybuf_format_pack(NULL, values, 2, room, 4, &length));
+    WANT(PYBUF_NULL_POINTER, pybuf_format_pack(format, NULL, 2, room, 4, &length));
+    WANT(PYBUF_NULL_POINTER, pybuf_format_pack(format, values, 2, NULL, 4, &length));
+    WANT(PYBUF_NULL_POINTER, pybuf_format_pack(format, values, 2, room, 4, NULL));
+    values[1].bytes = NULL;
+    WANT(PYBUF_NULL_POINTER, pybuf_format_pack(format, values, 2, room, 4, &length));
+    WANT(PYBUF_NULL_POINTER, pybuf_format_unpack(NULL, room, 4, values, 2, &length));
+    WANT(PYBUF_NULL_POINTER, pybuf_format_unpack(format, NULL, 4, values, 2, &length));
+    WANT(PYBUF_NULL_POINTER, pybuf_format_unpack(format, room, 4, NULL, 2, &length));
+    WANT(PYBUF_NULL_POINTER, pybuf_format_unpack(format, room, 4, values, 2, NULL));
+    WANT(PYBUF_NULL_POINTER, pybuf_format_value_bytes(format, 0, NULL, 4, &length));
+    WANT(PYBUF_NULL_POINTER, pybuf_format_value_bytes(format, 0, room, 4, NULL));
+    HOLDS(length == 7 && memcmp(room, "....", 4) == 0);
+
+    WANT(PYBUF_NO_FORMAT, pybuf_format_size(other, &length));
+    WANT(PYBUF_NO_FORMAT, pybuf_format_pack(other, values, 1, room, 4, &length));
+    WANT(PYBUF_NO_FORMAT, pybuf_format_unpack(other, room, 4, values, 2, &length));
+    WANT(PYBUF_NO_FORMAT, pybuf_format_value_bytes(other, 0, room, 4, &length));
+    WANT(PYBUF_NO_FORMAT, pybuf_format_free(other));
+    WANT(PYBUF_NO_WORLD, pybuf_world_run((pybuf_world *)(void *)format, "", 0, NULL, NULL));
+    WANT(PYBUF_NO_WORLD, pybuf_world_free((pybuf_world *)(void *)format));
+    WANT(PYBUF_OK, pybuf_format_free(format));
+
+    pybuf_format *none = format;
+    WANT(PYBUF_TOO_LONG, pybuf_format_parse("", too_long, &none));
+    HOLDS(none == NULL);
+    WANT(PYBUF_NULL_POINTER, pybuf_format_parse(NULL, 1, &none));
+    WANT(PYBUF_STRUCT_ERROR, pybuf_format_parse("H ", 2, &none));
+    WANT(PYBUF_STRUCT_ERROR, pybuf_format_parse("d", 1, &none));
+    WANT(PYBUF_STRUCT_ERROR, pybuf_format_parse("9223372036854775808x", 20, &none));
+    HOLDS(none == NULL);
+    WANT(PYBUF_OK, pybuf_format_parse("9223372036854775807x", 20, &none));
+    WANT(PYBUF_OK, pybuf_format_size(none, &length));
+    HOLDS(length == (size_t)PTRDIFF_MAX);
+    WANT(PYBUF_TOO_LONG, pybuf_format_pack(none, NULL, 0, NULL, too_long, &length));
+    WANT(PYBUF_TOO_LONG, pybuf_format_unpack(none, NULL, too_long, values, 2, &length));
+    WANT(PYBUF_TOO_LONG, pybuf_format_pack(none, NULL, (size_t)PTRDIFF_MAX / sizeof *values + 1, room, 4, &length));
+    WANT(PYBUF_TOO_SMALL, pybuf_format_pack(none, NULL, 0, room, 4, &length));
+    WANT(PYBUF_STRUCT_ERROR, pybuf_format_unpack(none, room, 4, values, 2, &length));
+    WANT(PYBUF_OK, pybuf_format_free(none));
+}
+
+static void format_rooms(void)
+{
+    pybuf_format *format = parsed(">hQ3s?c0x");
+    pybuf_value values[5], read[5];
+    char room[16] = "................", text[3] = "...";
+    size_t length = 0, count = 0;
+    values[0] = pybuf_number_value(pybuf_number_of(-2));
+    values[1] = pybuf_number_value((pybuf_number){UINT64_MAX, false});
+    values[2] = pybuf_bytes_value("ab", 2);
+    values[3] = pybuf_number_value(pybuf_number_of(9));
+    values[4] = pybuf_bytes_value("z", 1);
+    WANT(PYBUF_OK, pybuf_format_size(format, &length));
+    WANT(PYBUF_OK, pybuf_format_count(format, &count));
+    HOLDS(length == 15 && count == 5);
+    length = 0;
+    WANT(PYBUF_TOO_SMALL, pybuf_format_pack(format, values, 5, room, 14, &length));
+    HOLDS(length == 15 && room[0] == '.');
+    WANT(PYBUF_OK, pybuf_format_pack(format, values, 5, room, sizeof room, &length));
+    HOLDS(length == 15 && memcmp(room, "\xff\xfe\xff\xff\xff\xff\xff\xff\xff\xff" "ab\0\1z.", 16) == 0);
+    count = 0;
+    WANT(PYBUF_TOO_SMALL, pybuf_format_unpack(format, room, 15, read, 4, &count));
+    HOLDS(count == 5);
+    WANT(PYBUF_STRUCT_ERROR, pybuf_format_unpack(format, room, 16, read, 5, &count));
+    WANT(PYBUF_NOTHING, pybuf_format_value_bytes(format, 2, text, sizeof text, &length));
+    WANT(PYBUF_OK, pybuf_format_unpack(format, room, 15, read, 5, &count));
+    HOLDS(read[0].kind == PYBUF_NUMBER_VALUE && read[0].number.magnitude == 2 && read[0].number.negative);
+    HOLDS(read[1].number.magnitude == UINT64_MAX && !read[1].number.negative && read[1].length == 0);
+    HOLDS(read[2].kind == PYBUF_BYTES_VALUE && read[2].length == 3 && !read[2].bytes && read[2].number.magnitude == 0);
+    HOLDS(read[3].kind == PYBUF_TRUTH_VALUE && read[3].number.magnitude == 1);
+    WANT(PYBUF_TOO_SMALL, pybuf_format_value_bytes(format, 2, text, 2, &length));
+    HOLDS(length == 3 && text[0] == '.');
+    WANT(PYBUF_OK, pybuf_format_value_bytes(format, 2, text, sizeof text, &length));
+    HOLDS(length == 3 && memcmp(text, "ab", 3) == 0);
+    WANT(PYBUF_NOTHING, pybuf_format_value_bytes(format, 0, text, sizeof text, &length));
+    WANT(PYBUF_NOTHING, pybuf_format_value_bytes(format, 5, text, sizeof text, &length));
+    HOLDS(length == 3);
+    WANT(PYBUF_OK, pybuf_format_pack(format, values, 5, room, sizeof room, &length));
+    WANT(PYBUF_NOTHING, pybuf_format_value_bytes(format, 2, text, sizeof text, &length));
+
+    memset(room, '.', sizeof room);
+    WANT(PYBUF_STRUCT_ERROR, pybuf_format_pack(format, values, 4, room, sizeof room, &length));
+    WANT(PYBUF_STRUCT_ERROR, pybuf_format_pack(format, NULL, 0, room, sizeof room, &length));
+    values[0] = pybuf_number_value(pybuf_number_of(32768));
+    WANT(PYBUF_STRUCT_ERROR, pybuf_format_pack(format, values, 5, room, sizeof room, &length));
+    values[0] = pybuf_number_value(pybuf_number_of(1));
+    values[2] = pybuf_number_value(pybuf_number_of(1));
+    WANT(PYBUF_TYPE_ERROR, pybuf_format_pack(format, values, 5, room, sizeof room, &length));
+    values[2].kind = (pybuf_value_kind)3;
+    WANT(PYBUF_BAD_ARGUMENT, pybuf_format_pack(format, values, 5, room, sizeof room, &length));
+    values[2] = pybuf_bytes_value("", too_long);
+    WANT(PYBUF_TOO_LONG, pybuf_format_pack(format, values, 5, room, sizeof room, &length));
+    values[2] = pybuf_bytes_value(NULL, 0);
+    HOLDS(length == 15 && room[0] == '.');
+    WANT(PYBUF_OK, pybuf_format_pack(format, values, 5, room, sizeof room, &length));
+    WANT(PYBUF_OK, pybuf_format_free(format));
+
+    format = parsed("");
+    WANT(PYBUF_OK, pybuf_format_pack(format, NULL, 0, NULL, 0, &length));
+    WANT(PYBUF_OK, pybuf_format_unpack(format, NULL, 0, NULL, 0, &count));
+    HOLDS(length == 0 && count == 0);
+    WANT(PYBUF_OK, pybuf_format_free(format));
+}
+
 int main(void)
 {
     pybuf_world *world = NULL;
@@ -157,6 +281,8 @@ int main(void)
     lengths(world);
     rooms(world);
     refusals(world);
+    format_pointers(world);
+    format_rooms();
     WANT(PYBUF_OK, pybuf_world_free(world));
     if (wrong)
         printf("%d wrong\n", wrong);

@@ -1,4 +1,5 @@
-/* Times a million calls of append, set and get, each in nanoseconds of the processor. */
+/* Times a million calls of append, set and get, and of pack and unpack by a format of two numbers, each in nanoseconds of the
+ * processor. */
 #include "pybuf.h"
 
 #include <stdio.h>
@@ -11,6 +12,26 @@ static double now(void)
     struct timespec at;
     clock_gettime(CLOCK_PROCESS_CPUTIME_ID, &at);
     return (double)at.tv_sec * 1e9 + (double)at.tv_nsec;
+}
+
+static int times_of_formats(void)
+{
+    pybuf_format *format;
+    pybuf_value values[2] = {pybuf_number_value(pybuf_number_of(1)), pybuf_number_value(pybuf_number_of(2))}, read[2];
+    char room[6];
+    size_t length, count;
+    int wrong = 0;
+    if (pybuf_format_parse("<HI", 3, &format))
+        return 1;
+    double start = now();
+    for (int i = 0; i < CALLS; i++)
+        wrong |= pybuf_format_pack(format, values, 2, room, sizeof room, &length);
+    double packed = now();
+    for (int i = 0; i < CALLS; i++)
+        wrong |= pybuf_format_unpack(format, room, sizeof room, read, 2, &count);
+    double unpacked = now();
+    printf("pack %.1f\nunpack %.1f\n", (packed - start) / CALLS, (unpacked - packed) / CALLS);
+    return wrong || read[1].number.magnitude != 2 || pybuf_format_free(format);
 }
 
 int main(void)
@@ -35,5 +56,5 @@ int main(void)
     }
     double read = now();
     printf("append %.1f\nset %.1f\nget %.1f\n", (appended - start) / CALLS, (written - appended) / CALLS, (read - written) / CALLS);
-    return wrong || sum != 7 * (uint64_t)CALLS || pybuf_world_free(world);
+    return wrong || sum != 7 * (uint64_t)CALLS || pybuf_world_free(world) || times_of_formats();
 }

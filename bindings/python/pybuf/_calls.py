@@ -19,6 +19,7 @@ class Status(enum.IntEnum):
     BAD_ARGUMENT = 6
     NULL_POINTER = 7
     TOO_LONG = 8
+    NO_FORMAT = 9
     INDEX_ERROR = 16
     VALUE_ERROR = 17
     TYPE_ERROR = 18
@@ -56,6 +57,22 @@ class Number(ctypes.Structure):
         return -self.magnitude if self.negative else self.magnitude
 
 
+NUMBER_VALUE, TRUTH_VALUE, BYTES_VALUE = range(3)
+
+
+class Value(ctypes.Structure):
+    """A value that a format packs or unpacks (pybuf_value)."""
+    _fields_ = [('kind', ctypes.c_int), ('number', Number), ('bytes', ctypes.c_char_p), ('length', ctypes.c_size_t)]
+
+    @classmethod
+    def of_number(cls, number, kind=NUMBER_VALUE):
+        return cls(kind, number, None, 0)
+
+    @classmethod
+    def of_bytes(cls, content):
+        return cls(BYTES_VALUE, Number(), content, len(content))
+
+
 class Slice(ctypes.Structure):
     _fields_ = [(name, ctypes.c_int64) for name in ('start', 'stop', 'step')] + [
         (name, ctypes.c_bool) for name in ('has_start', 'has_stop', 'has_step')]
@@ -81,11 +98,11 @@ def index_of(value):
         raise TypeError(f'{type(value).__name__} cannot be interpreted as an integer') from None
 
 
-def word_of(value):
-    """An index that fits a word."""
+def word_of(value, refusal=IndexError):
+    """An index that fits a word; else it is refused."""
     number = index_of(value)
     if not -1 << 63 <= number < 1 << 63:
-        raise IndexError('cannot fit an index into a word')
+        raise refusal('cannot fit an index into a word')
     return number
 
 
@@ -96,7 +113,7 @@ def _library():
 
 
 _LIB = _library()
-_WORLD = ctypes.c_void_p
+_WORLD = _FORMAT = ctypes.c_void_p
 _OBJECT = ctypes.c_uint64
 _SIZE = ctypes.c_size_t
 _PARAMETERS = {
@@ -141,6 +158,13 @@ _PARAMETERS = {
     'delete_slice': [_WORLD, _OBJECT, ctypes.POINTER(Slice)],
     'repeat': [_WORLD, _OBJECT, ctypes.c_int64],
     'last_bytes': [_WORLD, ctypes.c_char_p, _SIZE, ctypes.POINTER(_SIZE)],
+    'format_parse': [ctypes.c_char_p, _SIZE, ctypes.POINTER(_FORMAT)],
+    'format_free': [_FORMAT],
+    'format_size': [_FORMAT, ctypes.POINTER(_SIZE)],
+    'format_count': [_FORMAT, ctypes.POINTER(_SIZE)],
+    'format_pack': [_FORMAT, ctypes.POINTER(Value), _SIZE, ctypes.c_char_p, _SIZE, ctypes.POINTER(_SIZE)],
+    'format_unpack': [_FORMAT, ctypes.c_char_p, _SIZE, ctypes.POINTER(Value), _SIZE, ctypes.POINTER(_SIZE)],
+    'format_value_bytes': [_FORMAT, _SIZE, ctypes.c_char_p, _SIZE, ctypes.POINTER(_SIZE)],
 }
 for _name, _parameters in _PARAMETERS.items():
     _function = getattr(_LIB, f'pybuf_{_name}')
@@ -184,3 +208,11 @@ def numbers_by(name, *arguments):
             return [number.value() for number in room[:count.value]]
         if status != Status.TOO_SMALL:
             raise_for(status)
+
+
+def values_by(count, name, *arguments):
+    """The values that a call writes to a room for so many."""
+    room = (Value * max(count, 1))()
+    told = _SIZE()
+    call(name, *arguments, room, count, ctypes.byref(told))
+    return room[:told.value]

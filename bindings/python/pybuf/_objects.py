@@ -202,11 +202,11 @@ class ByteArray(_Object):
         call('extend', *self._at, content, len(content))
 
     def insert(self, index, value):
-        number = _byte(value)
-        call('insert', *self._at, max(-1 << 63, min((1 << 63) - 1, index_of(index))), number)
+        index = word_of(index, OverflowError)
+        call('insert', *self._at, index, _byte(value))
 
     def pop(self, index=None):
-        return self._number('pop_last') if index is None else self._number('pop', word_of(index))
+        return self._number('pop_last') if index is None else self._number('pop', word_of(index, OverflowError))
 
     def remove(self, value):
         call('remove', *self._at, _byte(value))
@@ -219,6 +219,17 @@ class ByteArray(_Object):
 
     def copy(self):
         return ByteArray(self.tobytes())
+
+    def decode(self, encoding='utf-8', errors='strict'):
+        """The text of the bytes, by Python's own codecs."""
+        return self.tobytes().decode(encoding, errors)
+
+    @classmethod
+    def fromhex(cls, text):
+        """The bytes that digits spell, as Python reads them."""
+        return cls(bytes.fromhex(text))
+
+    maketrans = staticmethod(bytes.maketrans)
 
 
 def _spelled(value):
@@ -245,9 +256,25 @@ _REFUSALS = {name: status for status, name in {
     Status.NOT_IMPLEMENTED_ERROR: 'NotImplementedError', Status.UNKNOWN_NAME: 'UnknownName'}.items()}
 
 
+# what a method's arguments are called, and what stands for those that are left out
+_ARGUMENTS = {'split': {'sep': None, 'maxsplit': -1}, 'rsplit': {'sep': None, 'maxsplit': -1}, 'splitlines': {'keepends': False},
+              'expandtabs': {'tabsize': 8}, 'translate': {'': None, 'delete': b''}}
+
+
+def _in_order(name, arguments, named):
+    """The arguments of a method by their places."""
+    known = _ARGUMENTS.get(name, {})
+    free = list(known)[len(arguments):]
+    wrong = [word for word in named if not word or word not in free]
+    if wrong:
+        raise TypeError(f'{name}() has no argument {wrong[0]!r} that is left')
+    last = max((free.index(word) + 1 for word in named), default=0)
+    return list(arguments) + [named.get(word, known[word]) for word in free[:last]]
+
+
 def _method(name):
-    def called(self, *arguments):
-        words = [f'call h{self._object} {name}'] + [_spelled(argument) for argument in arguments]
+    def called(self, *arguments, **named):
+        words = [f'call h{self._object} {name}'] + [_spelled(argument) for argument in _in_order(name, arguments, named)]
         reply, = self._world.run(' '.join(words))
         if reply.startswith('! '):
             raise_for(_REFUSALS[reply[2:]])
@@ -263,24 +290,52 @@ def _method(name):
     return called
 
 
+def _hex(self, sep=None, bytes_per_sep=1):
+    """The digits of the bytes, with a separator between groups."""
+    if sep is None:
+        return self.tobytes().hex()
+    if isinstance(sep, str):
+        sep = sep.encode()
+    return _method('hex')(self if isinstance(self, ByteArray) else ByteArray(self), sep, index_of(bytes_per_sep))
+
+
 for _name in ('capitalize center count endswith expandtabs find index isalnum isalpha isascii isdigit islower isspace istitle '
-              'isupper join ljust lower lstrip partition removeprefix removesuffix replace rfind rindex rjust rpartition rsplit '
+              'isupper ljust lower lstrip partition removeprefix removesuffix replace rfind rindex rjust rpartition rsplit '
               'rstrip split splitlines startswith strip swapcase title translate upper zfill').split():
     setattr(ByteArray, _name, _method(_name))
+ByteArray.hex = _hex
+ByteArray.join = lambda self, parts: _joined(self, list(parts))
+_joined = _method('join')
+
+
+# the formats whose views have a hash, as in Python
+_HASHED = ('B', 'b', 'c', '@B', '@b', '@c')
 
 
 class MemoryView(_Object):
     """A view of a `ByteArray` or of another view, or of a copy of any other object with a buffer."""
 
+    _constant = False
+
     def __init__(self, source):
-        if not isinstance(source, (ByteArray, MemoryView)):
-            source = ByteArray(_lent(source))
-        self._keep(source, source._one('view'))
+        if isinstance(source, (ByteArray, MemoryView)):
+            self._keep(source, source._one('view'))
+            return
+        with memoryview(source) as view:
+            readonly = view.readonly
+        whole = MemoryView(ByteArray(_lent(source)))
+        self._keep(whole, whole._one('to_readonly' if readonly else 'view'))
+        self._constant = isinstance(source, bytes)
+        self._source = source
+        whole.release()
 
     def _keep(self, source, made):
         self._world = source._world
         self._object = made
-        self.obj = source if isinstance(source, ByteArray) else source.obj
+        if isinstance(source, MemoryView):
+            self._source, self._constant = source._source, source._constant
+        else:
+            self._source = source
 
     def _made(self, made):
         view = object.__new__(type(self))
@@ -353,7 +408,11 @@ class MemoryView(_Object):
         if self.format in ('c', '@c'):
             self._set_byte(key, value)
             return
+        if self.format in ('?', '@?'):
+            value = bool(value)
         if not hasattr(value, '__index__'):
+            if not self.readonly:
+                self[key]
             raise TypeError(f'memoryview: invalid type for format {self.format!r}')
         number = index_of(value)
         name, *rest = arguments
@@ -362,9 +421,14 @@ class MemoryView(_Object):
         if status == Status.OK and not wide:
             return
         if wide or status == Status.TYPE_ERROR and not self.readonly:
+            self[key]  # a key is looked at before a value
             # the kind was right, so the number doesn't fit: Python's ValueError
             raise ValueError(f'memoryview: invalid value for format {self.format!r}')
         raise_for(status)
+
+    def __delitem__(self, key):
+        self._alive()
+        raise TypeError('cannot delete memory')
 
     def _set_byte(self, key, value):
         """Writes an item that is bytes, by a line."""
@@ -401,8 +465,16 @@ class MemoryView(_Object):
     def toreadonly(self):
         return self._made(self._one('to_readonly'))
 
-    def hex(self, *arguments):
-        return self.tobytes().hex(*arguments)
+    hex = _hex
+
+    def __hash__(self):
+        if not self.readonly:
+            raise ValueError('cannot hash writable memoryview object')
+        if self.format not in _HASHED:
+            raise ValueError("memoryview: hashing is restricted to formats 'B', 'b' or 'c'")
+        if not self._constant:
+            raise TypeError("unhashable type: 'ByteArray'")
+        return hash(self.tobytes())
 
     def _property(self, name):
         return self._number('property_number', _NAMES[name])
@@ -416,4 +488,6 @@ class MemoryView(_Object):
     f_contiguous = property(lambda self: bool(self._property('f_contiguous')))
     shape = property(lambda self: tuple(numbers_by('property_numbers', *self._at, _NAMES['shape'])))
     strides = property(lambda self: tuple(numbers_by('property_numbers', *self._at, _NAMES['strides'])))
+    suboffsets = property(lambda self: self._alive() or ())
+    obj = property(lambda self: self._alive() or self._source)
     format = property(lambda self: text_by('property_text', *self._at, _NAMES['format']).decode())

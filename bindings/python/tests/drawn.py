@@ -1,13 +1,15 @@
 """Draws operations, carries each out on Python's own object and on ours side by side, and compares values and exceptions.
 
-    drawn.py [SEED [COUNT]]     COUNT operations for bytearrays and as many for views; the first difference ends it with 1
+    drawn.py [SEED [COUNT]]     COUNT operations for bytearrays, and as many for views and for formats; the first difference ends it
+                                with 1
 """
 import pathlib
 import random
+import struct
 import sys
 
 sys.path.insert(0, str(pathlib.Path(__file__).resolve().parent.parent))
-from pybuf import ByteArray, MemoryView  # noqa: E402
+from pybuf import ByteArray, MemoryView, Struct  # noqa: E402
 
 
 def plain(value):
@@ -63,9 +65,9 @@ def array_operation(draw):
     return draw.choice([
         (f'append {n}', lambda a: a.append(n)),
         (f'extend {content}', lambda a: a.extend(content)),
-        (f'insert {index} {n}', lambda a: a.insert(draw_index(index), n)),
+        (f'insert {index} {n}', lambda a: a.insert(index, n)),
         ('pop', lambda a: a.pop()),
-        (f'pop {index}', lambda a: a.pop(draw_index(index))),
+        (f'pop {index}', lambda a: a.pop(index)),
         (f'remove {n}', lambda a: a.remove(n)),
         ('reverse', lambda a: a.reverse()),
         ('clear', lambda a: a.clear()),
@@ -97,14 +99,46 @@ def array_operation(draw):
         (f'partition {content}', lambda a: a.partition(content)),
         (f'zfill {n % 20}', lambda a: a.zfill(n % 20)),
         ('splitlines', lambda a: a.splitlines()),
+        (f'+= {content}', lambda a: a.__iadd__(content)),
+        (f'*= {n % 3}', lambda a: a.__imul__(n % 3)),
+        (f'hex {content[:1]} {n % 4 - 2}', lambda a: a.hex(content[:1] or b'-', n % 4 - 2)),
+        ('hex', lambda a: a.hex()),
+        ('decode', lambda a: a.decode('ascii')),
+        (f'fromhex {n % 256:02x} 4a', lambda a: type(a).fromhex(f'{n % 256:02x} 4a')),
+        (f'join {content}', lambda a: a.join([content, a, other])),
+        (f'translate {content}', lambda a: a.translate(bytes(reversed(range(256))), delete=content)),
+        (f'find {content} {n} {index}', lambda a: a.find(content, n, index)),
+        (f'rfind {n}', lambda a: a.rfind(n)),
+        (f'rindex {content}', lambda a: a.rindex(content, index)),
+        (f'startswith {content, other}', lambda a: a.startswith((content, other), 0, n)),
+        (f'endswith {content}', lambda a: a.endswith(content)),
+        (f'rsplit {content} 1', lambda a: a.rsplit(content, maxsplit=1)),
+        ('splitlines True', lambda a: a.splitlines(keepends=True)),
+        (f'expandtabs {n % 9}', lambda a: a.expandtabs(tabsize=n % 9)),
+        (f'center {n % 12}', lambda a: a.center(n % 12, b'*')),
+        (f'removeprefix {content}', lambda a: a.removeprefix(content)),
+        (f'rpartition {content}', lambda a: a.rpartition(content)),
+        (f'replace {content} 1', lambda a: a.replace(content, other, 1)),
+        ('isupper', lambda a: (a.isupper(), a.isspace(), a.isalnum(), a.istitle(), a.isascii())),
+        ('swapcase', lambda a: (a.swapcase(), a.capitalize(), a.lower())),
+        ('reversed', lambda a: list(reversed(a))),
+        ('bool', bool),
+        ('sorted', sorted),
+        ('hash', hash),
+        (f'{n} times', lambda a: a.count(n)),
+        (f'!= text {content}', lambda a: (a != content.decode(), a == 7, a == None)),  # noqa: E711
+        (f'>= {content}', lambda a: (a >= content, a <= bytearray(other), a > memoryview(content))),
+        (f'extend numbers {n}', lambda a: a.extend([1, n, 2])),
+        ('extend text', lambda a: a.extend('ab')),
+        (f'new {n}', lambda a: type(a)(n) if -4 < n < 300 else None),
+        (f'new {content}', lambda a: (type(a)(list(content)), type(a)(content.decode(), 'ascii'))),
+        ('new text', lambda a: type(a)('ab')),
+        ('no separator', lambda a: a.split(b'')),
+        ('wrong name', lambda a: a.split(separator=b'a')),
+        ('unordered', lambda a: a < 7),
         ('wrong kind', lambda a: a.append('x')),
         ('wrong key', lambda a: a['x']),
     ])
-
-
-def draw_index(index):
-    """A place of `insert` and `pop` that fits a word: past it Python raises OverflowError, as we do for neither."""
-    return max(-1000, min(1000, index))
 
 
 def whole(k):
@@ -140,8 +174,74 @@ def view_operation(draw):
         ('hex', lambda m: m.hex()),
         ('wrong key', lambda m: m['x']),
         ('view', lambda m: m[k].tolist()),
+        ('in', lambda m: n in m),
+        (f'hex {content[:1]}', lambda m: m.hex(':', 2)),
+        ('hash', hash),
+        ('suboffsets', lambda m: m.suboffsets),
+        ('tobytes', lambda m: m.tobytes()),
+        ('reversed', lambda m: list(reversed(m))),
+        (f'get {index % 3}, {n % 3}', lambda m: m[index % 3, n % 3]),
+        (f'set {index % 3}, {n % 3}', assigned((index % 3, n % 3), n)),
+        (f'bytes {content}', assigned(index, content[:1])),
+        (f'del {index}', deleted(index)),
+        ('with', within),
         ('release', lambda m: m.release()),
     ])
+
+
+def within(subject):
+    with subject as view:
+        return view.nbytes
+
+
+def a_format(draw):
+    """The text of a format, with the code of each of its values."""
+    text, codes = draw.choice(['', '@', '=', '<', '>', '!']), []
+    for _ in range(draw.randrange(5)):
+        code = draw.choice('xcbB?hHiIlLqQsp' + ('nN' if text in ('', '@') else ''))
+        count = draw.choice(['', '', '0', '1', '2', '03', '5', '12'])
+        if code == 'p' and count == '0':
+            continue  # Python's own reads and writes a byte outside such a field
+        text += count + code
+        codes += [code] if code in 'sp' else [] if code == 'x' else [code] * int(count or 1)
+    if draw.random() < 0.1:  # maybe none
+        text = draw.choice([text + '3', text + 'y', 'z' + text, '99999999999999999999b'])
+    return text, codes
+
+
+def a_value(draw, code):
+    if draw.random() < 0.1:
+        return draw.choice([None, 'a', b'', b'xyz', bytearray(b'q'), 1 << 70, -1 << 70, 1.5, True, []])
+    if code in 'csp':
+        return bytes(draw.randrange(256) for _ in range(1 if code == 'c' else draw.randrange(14)))
+    return draw.choice([0, 1, -1, 127, 128, -128, 255, 32767, 65535, 65536, -32768, 1 << 31, (1 << 32) - 1, 1 << 63, (1 << 64) - 1])
+
+
+def put(f, offset, values):
+    """What stands in a room after a pack, where it isn't refused: Python's own leaves the values before the refused one."""
+    room = bytearray(b'.' * 40)
+    f.pack_into(room, offset, *values)
+    return bytes(room)
+
+
+def format_operations(draw, codes, size):
+    """Operations for a format, with their words."""
+    values = [a_value(draw, code) for code in codes][:draw.choice([99] * 9 + [1])]
+    content = bytes(draw.choice([0, 1, 2, 3, 127, 128, 255]) for _ in range(size))
+    offset = draw.choice([0, 1, 5, 39, 41, -1, -20, -41, 1 << 70])
+    return [
+        ('size', lambda f: (f.size, f.format)),
+        (f'pack {values}', lambda f: f.pack(*values)),
+        (f'unpack {content}', lambda f: f.unpack(content)),
+        ('unpack other', lambda f: f.unpack(bytearray(content + b'a'))),
+        ('unpack number', lambda f: f.unpack(7)),
+        (f'iter {content}', lambda f: list(f.iter_unpack(memoryview(content * 3)))),
+        ('iter other', lambda f: list(f.iter_unpack(content + b'ab'))),
+        (f'from {offset}', lambda f: f.unpack_from(content * 2 + b'abc', offset)),
+        ('from', lambda f: f.unpack_from(buffer=content + b'abc')),
+        (f'into {offset} {values}', lambda f: put(f, offset, values)),
+        ('into bytes', lambda f: f.pack_into(content, 0, *values)),
+    ]
 
 
 def differs(words, before, theirs, ours):
@@ -175,12 +275,31 @@ def compare_views(draw, count):
             words, operation = view_operation(draw)
             said.append(words)
             answers = [outcome(operation, view) for view in pair]
+            if answers == [('raises', NotImplementedError), ('raises', ValueError)] and {'release', 'with'} & set(said):
+                continue  # Python counts the dimensions of a released view before it refuses to iterate over it
             if answers[0] != answers[1] or bytes(theirs) != bytes(ours):
                 differs(said, content, (answers[0], bytes(theirs)), (answers[1], bytes(ours)))
             if answers[0][0] == 'memoryview':  # go on with the view that was made
                 pair = operation(pair[0]), operation(pair[1])
                 if not pair[0].nbytes and not pair[0].contiguous:
                     break  # a view without bytes is contiguous here: docs/DIFFERENCES.md
+
+
+def compare_formats(draw, count):
+    while count > 0:
+        text, codes = a_format(draw)
+        made = outcome(struct.Struct, text), outcome(Struct, text)
+        if made[0][0] == 'raises' or made[1][0] == 'raises':
+            if made[0] != made[1]:
+                differs('a format', text, *made)
+            count -= 1
+            continue
+        theirs, ours = made[0][1], made[1][1]
+        for words, operation in format_operations(draw, codes, min(theirs.size, 100)):
+            answers = outcome(operation, theirs), outcome(operation, ours)
+            if answers[0] != answers[1]:
+                differs(words, text, *answers)
+            count -= 1
 
 
 def main():
@@ -192,7 +311,8 @@ def main():
     draw = random.Random(seed)
     compare_arrays(draw, count)
     compare_views(draw, count)
-    print(f'{2 * count} drawn operations answer as Python\'s own objects do')
+    compare_formats(draw, count)
+    print(f'{3 * count} drawn operations answer as Python\'s own objects do')
 
 
 main()

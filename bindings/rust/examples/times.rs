@@ -1,5 +1,6 @@
-//! Times a million calls of append, set and get, each in nanoseconds of the processor.
-use pybuf::{ByteArray, Error};
+//! Times a million calls of append, set and get, and of pack and unpack by a format of two numbers, each in nanoseconds of the
+//! processor.
+use pybuf::{ByteArray, Error, Format, Value};
 use std::ffi::c_long;
 
 extern "C" {
@@ -28,5 +29,11 @@ fn main() -> Result<(), Error> {
         Ok(())
     })?;
     assert_eq!(sum, 7 * CALLS);
+
+    let format = Format::new("<HI")?;
+    let values = [Value::Number(1), Value::Number(2)];
+    let mut room = [0; 6];
+    timed("pack", |_| format.pack_into(&mut room, &values).map(|_| ()))?;
+    timed("unpack", |_| format.unpack(b"\x01\0\x02\0\0\0").map(|_| ()))?;
     Ok(())
 }

@@ -7,6 +7,11 @@ pub struct RawWorld {
 }
 
 #[repr(C)]
+pub struct RawFormat {
+    hidden: [u8; 0],
+}
+
+#[repr(C)]
 #[derive(Clone, Copy, Default)]
 pub struct Number {
     pub magnitude: u64,
@@ -43,7 +48,32 @@ pub struct Words {
     pub has_step: bool,
 }
 
+pub const NUMBER_VALUE: i32 = 0;
+pub const TRUTH_VALUE: i32 = 1;
+pub const BYTES_VALUE: i32 = 2;
+
+#[repr(C)]
+#[derive(Clone, Copy)]
+pub struct RawValue {
+    pub kind: i32,
+    pub number: Number,
+    pub bytes: *const u8,
+    pub length: usize,
+}
+
+impl Default for RawValue {
+    fn default() -> RawValue {
+        RawValue {
+            kind: NUMBER_VALUE,
+            number: Number::default(),
+            bytes: std::ptr::null(),
+            length: 0,
+        }
+    }
+}
+
 type World = *mut RawWorld;
+type Format = *mut RawFormat;
 
 extern "C" {
     pub fn pybuf_world_new(world: *mut World) -> i32;
@@ -82,6 +112,13 @@ extern "C" {
     pub fn pybuf_reverse(world: World, array: u64) -> i32;
     pub fn pybuf_delete_slice(world: World, array: u64, slice: *const Words) -> i32;
     pub fn pybuf_repeat(world: World, array: u64, count: i64) -> i32;
+    pub fn pybuf_format_parse(text: *const u8, length: usize, format: *mut Format) -> i32;
+    pub fn pybuf_format_free(format: Format) -> i32;
+    pub fn pybuf_format_size(format: Format, size: *mut usize) -> i32;
+    pub fn pybuf_format_count(format: Format, count: *mut usize) -> i32;
+    pub fn pybuf_format_pack(format: Format, values: *const RawValue, count: usize, room: *mut u8, room_length: usize, length: *mut usize) -> i32;
+    pub fn pybuf_format_unpack(format: Format, bytes: *const u8, length: usize, room: *mut RawValue, room_count: usize, count: *mut usize) -> i32;
+    pub fn pybuf_format_value_bytes(format: Format, index: usize, room: *mut u8, room_length: usize, length: *mut usize) -> i32;
 }
 
 const TOO_SMALL: i32 = 3;

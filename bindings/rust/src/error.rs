@@ -5,9 +5,11 @@ use std::fmt;
 #[derive(Clone, Copy, Debug, PartialEq, Eq, Hash)]
 pub enum Error {
     NoMemory,
+    /// A room is too small.
+    TooSmall,
     /// An item is no number, or there is no such reply.
     Nothing,
-    /// A number stands for nothing, or a format holds a zero byte.
+    /// A number stands for nothing, or a view's format holds a zero byte.
     BadArgument,
     Index,
     Value,
@@ -27,6 +29,7 @@ impl Error {
     pub(crate) fn of(status: i32) -> Error {
         match status {
             1 => Error::NoMemory,
+            3 => Error::TooSmall,
             5 => Error::Nothing,
             6 => Error::BadArgument,
             16 => Error::Index,
@@ -46,6 +49,7 @@ impl fmt::Display for Error {
     fn fmt(&self, f: &mut fmt::Formatter<'_>) -> fmt::Result {
         f.write_str(match self {
             Error::NoMemory => "no memory",
+            Error::TooSmall => "room too small",
             Error::Nothing => "no such reply",
             Error::BadArgument => "bad argument",
             Error::Index => "IndexError",

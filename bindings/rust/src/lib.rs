@@ -1,4 +1,4 @@
-//! Python's `bytearray` and `memoryview` by the proved library pybuf, over its archive.
+//! Python's `bytearray`, `memoryview` and `struct.Struct` by the proved library pybuf, over its archive.
 //!
 //! ```
 //! use pybuf::{ByteArray, Error};
@@ -16,9 +16,11 @@
 //! ```
 mod calls;
 mod error;
+mod formats;
 mod objects;
 mod world;
 
 pub use error::{Error, Result};
+pub use formats::{Format, Value};
 pub use objects::{ByteArray, Iter, MemoryView, Slice};
 pub use world::{RunError, World};

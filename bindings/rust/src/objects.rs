@@ -183,6 +183,12 @@ impl ByteArray {
         Ok(self.len()? == 0)
     }
 
+    /// How many views of it are unreleased.
+    pub fn exports(&self) -> Result<usize> {
+        let exports = self.object.number(|world, array, number| unsafe { calls::pybuf_property_number(world, array, 0, number) })?;
+        Ok(exports as usize)
+    }
+
     /// A copy of the bytes.
     pub fn to_bytes(&self) -> Result<Vec<u8>> {
         self.object.bytes()

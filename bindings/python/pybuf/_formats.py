@@ -1,0 +1,145 @@
+"""`Struct`, which behaves as Python's `struct.Struct`."""
+import ctypes
+import re
+
+from ._calls import BYTES_VALUE, TRUTH_VALUE, Number, Value, call, index_of, struct_error, text_by, values_by, word_of
+from ._objects import ByteArray, MemoryView
+
+# a number that no code but '?' takes, in place of one past 64 bits
+_PAST_ALL = -(1 << 64) + 1
+
+
+def _content(buffer):
+    """The bytes of an object that has a buffer of one piece."""
+    if isinstance(buffer, (ByteArray, MemoryView)):
+        if isinstance(buffer, MemoryView) and not buffer.c_contiguous:
+            raise BufferError('memoryview: underlying buffer is not C-contiguous')
+        return buffer.tobytes()
+    with memoryview(buffer) as view:
+        if not view.c_contiguous:
+            raise BufferError('memoryview: underlying buffer is not C-contiguous')
+        return view.tobytes()
+
+
+def _place(offset, size, length, refusal):
+    """The place of so many bytes from an offset on, which counts from the end where it is negative."""
+    offset = word_of(offset, refusal)
+    if offset < 0:
+        if offset + size > 0 or offset + length < 0:
+            raise struct_error(f'offset {offset} out of range for {length}-byte buffer')
+        offset += length
+    if length - offset < size:
+        raise struct_error(f'a buffer of at least {offset + size} bytes is required, it has {length}')
+    return offset
+
+
+class Struct:
+    """A format of the module `struct`. Codes of floats and pointers are none here, nor are blanks."""
+
+    _pointer = None
+
+    def __init__(self, format):
+        if isinstance(format, str):
+            format = format.encode('ascii')
+        elif not isinstance(format, bytes):
+            raise TypeError(f'Struct() argument 1 must be a str or bytes object, not {type(format).__name__}')
+        pointer = ctypes.c_void_p()
+        call('format_parse', format, len(format), ctypes.byref(pointer))
+        self._pointer = pointer
+        self.format = format.decode('ascii')
+        self.size = self._told('format_size')
+        self._count = self._told('format_count')
+
+    def __del__(self):
+        if self._pointer:
+            pointer, self._pointer = self._pointer, None
+            call('format_free', pointer)
+
+    def __repr__(self):
+        return f'Struct({self.format!r})'
+
+    def _told(self, name):
+        told = ctypes.c_size_t()
+        call(name, self._pointer, ctypes.byref(told))
+        return told.value
+
+    def _codes(self):
+        """The code of each value."""
+        for count, code in re.findall(r'(\d*)(\D)', self.format.lstrip('@=<>!')):
+            if code in 'sp':
+                yield code
+            elif code != 'x':
+                for _ in range(int(count or 1)):
+                    yield code
+
+    def pack(self, *values):
+        if len(values) != self._count:
+            raise struct_error(f'pack expected {self._count} items for packing (got {len(values)})')
+        words = (Value * max(self._count, 1))(*map(_packed_as, self._codes(), values))
+        room = ctypes.create_string_buffer(max(self.size, 1))
+        length = ctypes.c_size_t()
+        call('format_pack', self._pointer, words, self._count, room, self.size, ctypes.byref(length))
+        return room.raw[:length.value]
+
+    def pack_into(self, buffer, offset, *values):
+        """Writes the bytes of the values into a buffer. A refusal changes nothing."""
+        if len(values) != self._count:
+            raise struct_error(f'pack_into expected {self._count} items for packing (got {len(values)})')
+        ours = isinstance(buffer, (ByteArray, MemoryView))
+        view = MemoryView(buffer) if ours else memoryview(buffer)
+        with view:
+            if view.readonly:
+                raise TypeError('a read-write bytes-like object is required')
+            if not view.c_contiguous:
+                raise BufferError('memoryview: underlying buffer is not C-contiguous')
+            offset = _place(offset, self.size, view.nbytes, IndexError)
+            packed = self.pack(*values)
+            with view.cast('B') as room:
+                room[offset:offset + self.size] = packed
+
+    def unpack(self, buffer):
+        content = _content(buffer)
+        if len(content) != self.size:
+            raise struct_error(f'unpack requires a buffer of {self.size} bytes')
+        return self._values(content)
+
+    def unpack_from(self, buffer, offset=0):
+        content = _content(buffer)
+        offset = _place(offset, self.size, len(content), OverflowError)
+        return self._values(content[offset:offset + self.size])
+
+    def iter_unpack(self, buffer):
+        if self.size == 0:
+            raise struct_error('cannot iteratively unpack with a struct of length 0')
+        content = _content(buffer)
+        if len(content) % self.size:
+            raise struct_error(f'iterative unpacking requires a buffer of a multiple of {self.size} bytes')
+        return map(self._values, (content[at:at + self.size] for at in range(0, len(content), self.size)))
+
+    def _values(self, content):
+        read = values_by(self._count, 'format_unpack', self._pointer, content, len(content))
+        return tuple(self._value(index, value) for index, value in enumerate(read))
+
+    def _value(self, index, value):
+        if value.kind == BYTES_VALUE:
+            return text_by('format_value_bytes', self._pointer, index)
+        number = value.number.value()
+        return bool(number) if value.kind == TRUTH_VALUE else number
+
+
+def _packed_as(code, value):
+    """A value for a call, with Python's refusals of its kind."""
+    if code == '?':
+        return Value.of_number(Number.of(bool(value)), TRUTH_VALUE)
+    if code == 'c':
+        if not isinstance(value, bytes) or len(value) != 1:
+            raise struct_error('char format requires a bytes object of length 1')
+        return Value.of_bytes(value)
+    if code in 'sp':
+        if not isinstance(value, (bytes, bytearray, ByteArray)):
+            raise struct_error(f"argument for '{code}' must be a bytes object")
+        return Value.of_bytes(bytes(value))
+    if not hasattr(value, '__index__'):
+        raise struct_error('required argument is not an integer')
+    number = index_of(value)
+    return Value.of_number(Number.of(number if abs(number) < 1 << 64 else _PAST_ALL))
