@@ -1,5 +1,6 @@
 """`Struct`, which behaves as Python's `struct.Struct`."""
 import ctypes
+import functools
 import re
 
 from ._calls import BYTES_VALUE, TRUTH_VALUE, Number, Value, call, index_of, struct_error, text_by, values_by, word_of
@@ -63,19 +64,16 @@ class Struct:
         call(name, self._pointer, ctypes.byref(told))
         return told.value
 
+    @functools.cached_property
     def _codes(self):
         """The code of each value."""
-        for count, code in re.findall(r'(\d*)(\D)', self.format.lstrip('@=<>!')):
-            if code in 'sp':
-                yield code
-            elif code != 'x':
-                for _ in range(int(count or 1)):
-                    yield code
+        parts = re.findall(r'(\d*)(\D)', self.format.lstrip('@=<>!'))
+        return ''.join(code if code in 'sp' else code * int(count or 1) for count, code in parts if code != 'x')
 
     def pack(self, *values):
         if len(values) != self._count:
             raise struct_error(f'pack expected {self._count} items for packing (got {len(values)})')
-        words = (Value * max(self._count, 1))(*map(_packed_as, self._codes(), values))
+        words = (Value * max(self._count, 1))(*map(_packed_as, self._codes, values))
         room = ctypes.create_string_buffer(max(self.size, 1))
         length = ctypes.c_size_t()
         call('format_pack', self._pointer, words, self._count, room, self.size, ctypes.byref(length))

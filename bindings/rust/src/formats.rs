@@ -134,8 +134,10 @@ impl Format {
 
     /// The values of the bytes.
     pub fn unpack(&self, bytes: &[u8]) -> Result<Vec<Value>> {
-        let read = copied(|room, room_count, count| unsafe {
-            calls::pybuf_format_unpack(self.pointer, bytes.as_ptr(), bytes.len(), room, room_count, count)
+        let mut read = vec![RawValue::default(); self.count()?];
+        let mut count = 0;
+        done(unsafe {
+            calls::pybuf_format_unpack(self.pointer, bytes.as_ptr(), bytes.len(), read.as_mut_ptr(), read.len(), &mut count)
         })?;
         read.iter().enumerate().map(|(index, value)| self.value(index, value)).collect()
     }
