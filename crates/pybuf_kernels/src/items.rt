@@ -1,12 +1,9 @@
 //! Items one by one: of views, by their formats, and of a bytearray that grows and shrinks.
 
-use crate::answers::Answer;
-use crate::data::drawn;
-use crate::kernel::Kernel;
 use crate::keys::number;
-use crate::plan::Plan;
-use crate::viewed::Viewed;
+use crate::viewed::{Viewed, items_of};
 use pybuf_command::{LoanList, LocalReply};
+use pybuf_measure::{Answer, Kernel, Plan, drawn};
 use pybuf_object::PyByteArray;
 use pybuf_value::{Halt, Item, Made, Scalar};
 use std::alloc::Global;
@@ -76,7 +73,10 @@ impl Form {
         let mut viewed = Viewed::whole(alloc, bytes)?;
         match self {
             Form::Byte | Form::Number => viewed.cast(alloc, format, None)?,
-            Form::Record => viewed.describe(alloc, format, size, plan.count)?,
+            Form::Record => {
+                let descriptor = items_of(alloc, format, size, plan.count)?;
+                viewed.describe(alloc, descriptor, 0)?;
+            }
         }
         Ok(viewed)
     }

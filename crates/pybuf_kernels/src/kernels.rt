@@ -1,16 +1,17 @@
 //! The kernels by their names.
 
+use crate::codes::Code;
 use crate::drawn_queue::DrawnQueue;
 use crate::items::{AppendPop, Form};
-use crate::kernel::{Measured, Stop, measure};
 use crate::making::{MakePlainViews, MakeViews, Making};
-use crate::plan::Plan;
 use crate::queues::Queue;
 use crate::records::{Packing, Records};
+use crate::rows::{Order, Rows, RowsDoing, RowsViewed};
 use crate::strings::{Call, Method};
 use crate::viewed::Part;
 use crate::views::{Doing, Views};
 use crate::worlds::{Beside, Question};
+use pybuf_measure::{Measured, Plan, Stop, measure};
 use std::time::CpuClock;
 
 /// What a kernel does.
@@ -18,6 +19,8 @@ use std::time::CpuClock;
 pub enum Work {
     /// Something is done with views of one object.
     Views(Doing),
+    /// Something is done with rows of numbers, along which these lie so.
+    Rows(Order, Code, RowsDoing),
     /// Something is asked of an object, with another beside it.
     Beside(Question),
     /// Views are made and released.
@@ -37,24 +40,142 @@ pub enum Work {
 }
 
 /// All kernels, in the order in which they are measured. `z` and `cba` stand nowhere in a drawn text.
-pub const KERNELS: [(&str, Work); 58] = [
+pub const KERNELS: [(&str, Work); 86] = [
     (
         "tobytes-contiguous",
         Work::Views(Doing::ToBytes(Part::Whole)),
     ),
     (
         "tobytes-stepped",
-        Work::Views(Doing::ToBytes(Part::EveryOther)),
+        Work::Views(Doing::ToBytes(Part::EveryOther(Code::Byte))),
+    ),
+    (
+        "tobytes-stepped-H",
+        Work::Views(Doing::ToBytes(Part::EveryOther(Code::Short))),
+    ),
+    (
+        "tobytes-stepped-i",
+        Work::Views(Doing::ToBytes(Part::EveryOther(Code::Int))),
+    ),
+    (
+        "tobytes-stepped-q",
+        Work::Views(Doing::ToBytes(Part::EveryOther(Code::Long))),
     ),
     (
         "tobytes-reversed",
-        Work::Views(Doing::ToBytes(Part::Backwards)),
+        Work::Views(Doing::ToBytes(Part::Backwards(Code::Byte))),
+    ),
+    (
+        "tobytes-reversed-H",
+        Work::Views(Doing::ToBytes(Part::Backwards(Code::Short))),
+    ),
+    (
+        "tobytes-reversed-i",
+        Work::Views(Doing::ToBytes(Part::Backwards(Code::Int))),
+    ),
+    (
+        "tobytes-reversed-q",
+        Work::Views(Doing::ToBytes(Part::Backwards(Code::Long))),
     ),
     ("tobytes-planes", Work::Views(Doing::ToBytes(Part::Planes))),
+    (
+        "tobytes-stepped-rows-B",
+        Work::Rows(Order::EveryOther, Code::Byte, RowsDoing::ToBytes),
+    ),
+    (
+        "tobytes-stepped-rows-H",
+        Work::Rows(Order::EveryOther, Code::Short, RowsDoing::ToBytes),
+    ),
+    (
+        "tobytes-stepped-rows-i",
+        Work::Rows(Order::EveryOther, Code::Int, RowsDoing::ToBytes),
+    ),
+    (
+        "tobytes-stepped-rows-q",
+        Work::Rows(Order::EveryOther, Code::Long, RowsDoing::ToBytes),
+    ),
+    (
+        "tobytes-reversed-rows-B",
+        Work::Rows(Order::Backwards, Code::Byte, RowsDoing::ToBytes),
+    ),
+    (
+        "tobytes-reversed-rows-H",
+        Work::Rows(Order::Backwards, Code::Short, RowsDoing::ToBytes),
+    ),
+    (
+        "tobytes-reversed-rows-i",
+        Work::Rows(Order::Backwards, Code::Int, RowsDoing::ToBytes),
+    ),
+    (
+        "tobytes-reversed-rows-q",
+        Work::Rows(Order::Backwards, Code::Long, RowsDoing::ToBytes),
+    ),
     ("set-contiguous", Work::Beside(Question::Set(Part::Whole))),
-    ("set-stepped", Work::Beside(Question::Set(Part::EveryOther))),
-    ("set-reversed", Work::Beside(Question::Set(Part::Backwards))),
+    (
+        "set-stepped",
+        Work::Beside(Question::Set(Part::EveryOther(Code::Byte))),
+    ),
+    (
+        "set-stepped-H",
+        Work::Beside(Question::Set(Part::EveryOther(Code::Short))),
+    ),
+    (
+        "set-stepped-i",
+        Work::Beside(Question::Set(Part::EveryOther(Code::Int))),
+    ),
+    (
+        "set-stepped-q",
+        Work::Beside(Question::Set(Part::EveryOther(Code::Long))),
+    ),
+    (
+        "set-reversed",
+        Work::Beside(Question::Set(Part::Backwards(Code::Byte))),
+    ),
+    (
+        "set-reversed-H",
+        Work::Beside(Question::Set(Part::Backwards(Code::Short))),
+    ),
+    (
+        "set-reversed-i",
+        Work::Beside(Question::Set(Part::Backwards(Code::Int))),
+    ),
+    (
+        "set-reversed-q",
+        Work::Beside(Question::Set(Part::Backwards(Code::Long))),
+    ),
     ("set-planes", Work::Beside(Question::Set(Part::Planes))),
+    (
+        "set-stepped-rows-B",
+        Work::Rows(Order::EveryOther, Code::Byte, RowsDoing::Set),
+    ),
+    (
+        "set-stepped-rows-H",
+        Work::Rows(Order::EveryOther, Code::Short, RowsDoing::Set),
+    ),
+    (
+        "set-stepped-rows-i",
+        Work::Rows(Order::EveryOther, Code::Int, RowsDoing::Set),
+    ),
+    (
+        "set-stepped-rows-q",
+        Work::Rows(Order::EveryOther, Code::Long, RowsDoing::Set),
+    ),
+    (
+        "set-reversed-rows-B",
+        Work::Rows(Order::Backwards, Code::Byte, RowsDoing::Set),
+    ),
+    (
+        "set-reversed-rows-H",
+        Work::Rows(Order::Backwards, Code::Short, RowsDoing::Set),
+    ),
+    (
+        "set-reversed-rows-i",
+        Work::Rows(Order::Backwards, Code::Int, RowsDoing::Set),
+    ),
+    (
+        "set-reversed-rows-q",
+        Work::Rows(Order::Backwards, Code::Long, RowsDoing::Set),
+    ),
     ("set-overlapping", Work::Views(Doing::Shift)),
     ("set-itself", Work::Views(Doing::Reverse)),
     ("views", Work::Make(Making::View)),
@@ -128,6 +249,10 @@ pub fn measure_work<R: CpuClock + AllocGlobal>(
     let alloc = rt.alloc();
     match work {
         Work::Views(doing) => measure(rt, plan, Views::of(alloc, plan, doing)?),
+        Work::Rows(order, code, doing) => {
+            let rows = Rows { order, code };
+            measure(rt, plan, RowsViewed::of(alloc, plan, rows, doing)?)
+        }
         Work::Beside(question) => measure(rt, plan, Beside::of(alloc, plan, question)?),
         Work::Make(making) => measure(rt, plan, MakeViews { making, plan }),
         Work::MakePlainly(making) => measure(rt, plan, MakePlainViews { making, plan }),

@@ -6,43 +6,31 @@
 //! name and a check sum are printed, and with `time` the nanoseconds of processor time that all calls took.
 #![tactic(auto)]
 
-mod answers;
+mod codes;
 mod data;
 mod drawn_queue;
 mod items;
-mod kernel;
 mod kernels;
 mod keys;
 mod making;
-mod plan;
 mod queues;
 mod records;
+mod replies;
+mod rows;
 mod strings;
 mod viewed;
 mod views;
 mod worlds;
 
-use kernel::{Measured, Stop};
 use kernels::{KERNELS, measure_work};
-use plan::{Plan, name_of, plan_of, words_of};
-use std::io;
+use pybuf_measure::{Plan, Stop, asks_for, name_of, plan_of, status_of, tell, words_of};
 use std::process::ExitCode;
 use std::time::CpuClock;
-
-/// Prints what a kernel says, and how long it took where that is asked for.
-fn tell<R: Print>(rt: &R, plan: Plan, name: &str, measured: Measured) -> io::Result<()> {
-    let Measured { mark, nanoseconds } = measured;
-    if plan.is_timed {
-        println!(rt; "{name} {mark} {nanoseconds}")
-    } else {
-        println!(rt; "{name} {mark}")
-    }
-}
 
 /// Measures the kernel of a name, or all of them.
 fn run<R: CpuClock + AllocGlobal + Print>(rt: &R, plan: Plan, word: &str) -> Result<(), Stop> {
     for (name, work) in &KERNELS {
-        if word == "all" || word == *name {
+        if asks_for(word, name) {
             let measured = measure_work(rt, plan, *work)?;
             tell(rt, plan, name, measured)?;
         }
@@ -53,9 +41,5 @@ fn run<R: CpuClock + AllocGlobal + Print>(rt: &R, plan: Plan, word: &str) -> Res
 fn main(rt: HostRuntime) -> ExitCode {
     let words = words_of(&rt);
     let plan = plan_of(words.as_slice());
-    match run(&rt, plan, name_of(words.as_slice())) {
-        Ok(()) => ExitCode::from(0),
-        Err(Stop::NoMemory(_)) => ExitCode::from(3),
-        Err(Stop::Device(_)) => ExitCode::from(5),
-    }
+    status_of(run(&rt, plan, name_of(words.as_slice())))
 }

@@ -1,12 +1,9 @@
 //! Views that are made and released again.
 
-use crate::answers::Answer;
-use crate::data::drawn;
-use crate::kernel::Kernel;
 use crate::keys::{slice, text};
-use crate::plan::Plan;
-use crate::viewed::{PLANE, Viewed, view_of};
+use crate::viewed::{Viewed, view_of};
 use pybuf_command::{LoanList, LocalReply};
+use pybuf_measure::{Answer, Kernel, PLANE, Plan, drawn};
 use pybuf_memoryobject::PyMemoryView;
 use pybuf_value::{Halt, Made};
 use std::alloc::Global;

@@ -1,11 +1,8 @@
 //! A bytearray that is used as a queue.
 
-use crate::answers::{Answer, mark_of_bytes};
-use crate::data::drawn;
-use crate::kernel::Kernel;
 use crate::keys::number;
-use crate::plan::Plan;
 use pybuf_command::LoanList;
+use pybuf_measure::{Answer, Kernel, Plan, drawn, mark_of_bytes};
 use pybuf_object::PyByteArray;
 use pybuf_value::Made;
 use std::alloc::Global;
@@ -43,7 +40,7 @@ impl Kernel for Queue {
         Ok(Answer::Nothing)
     }
 
-    fn written(&self) -> i128 {
-        mark_of_bytes(self.object.borrow_buf())
+    fn written(&self, _alloc: Global) -> Made<i128> {
+        Ok(mark_of_bytes(self.object.borrow_buf()))
     }
 }

@@ -1,12 +1,10 @@
 //! Records by a format of `struct`.
 
-use crate::answers::{Answer, mark_of_bytes};
 use crate::items::{Form, count_of_values};
-use crate::kernel::Kernel;
-use crate::plan::Plan;
 use crate::viewed::Viewed;
 use pybuf_buffer::PyBuffer;
 use pybuf_exporter::ExporterState;
+use pybuf_measure::{Answer, Kernel, Plan, mark_of_bytes};
 use pybuf_struct::FormatSpec;
 use pybuf_value::{ByteList, Made, Outcome, Scalar, ScalarList, SnapList};
 use std::alloc::Global;
@@ -158,7 +156,7 @@ impl Kernel for Records {
         }
     }
 
-    fn written(&self) -> i128 {
-        mark_of_bytes(self.viewed.object.borrow_buf())
+    fn written(&self, _alloc: Global) -> Made<i128> {
+        Ok(mark_of_bytes(self.viewed.object.borrow_buf()))
     }
 }

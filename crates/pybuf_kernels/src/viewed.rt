@@ -2,29 +2,27 @@
 ghost use Rattle.std.specs.Prelude.{IfOk};
 ghost use Rattle.pybuf_state.specs.Fits.{LoansFit};
 
-use crate::data::drawn;
+use crate::codes::Code;
 use crate::keys::{slice, text};
-use crate::plan::Plan;
+use crate::replies::answer_of;
 use pybuf_buffer::PyBuffer;
 use pybuf_command::{Loan, LoanList, LocalReply};
 use pybuf_desc::BufferDescriptor;
+use pybuf_measure::{Answer, PLANE, Plan, drawn};
 use pybuf_memoryobject::PyMemoryView;
 use pybuf_object::PyByteArray;
 use pybuf_value::{DimList, Made, Outcome, Scalar, ScalarList, Text, Value};
 use std::alloc::Global;
-
-/// The number of bytes of a plane of 256 rows of 16 bytes.
-pub const PLANE: usize = 4_096;
 
 /// Which bytes of a bytearray a view has.
 #[derive(Clone, Copy)]
 pub enum Part {
     /// All.
     Whole,
-    /// Every other.
-    EveryOther,
-    /// All, from the last on.
-    Backwards,
+    /// Every other number of a code.
+    EveryOther(Code),
+    /// All, from the last number of a code on.
+    Backwards(Code),
     /// Every other plane of 256 rows of 16.
     Planes,
 }
@@ -33,17 +31,17 @@ impl Part {
     /// The size of a bytearray of which the view has as many bytes as the plan says.
     pub fn source_size(self, plan: Plan) -> usize {
         match self {
-            Part::Whole | Part::Backwards => plan.size,
-            Part::EveryOther | Part::Planes => plan.size.saturating_mul(2),
+            Part::Whole | Part::Backwards(_) => plan.size,
+            Part::EveryOther(_) | Part::Planes => plan.size.saturating_mul(2),
         }
     }
 
-    /// The slice that makes the view, of all bytes or of all planes.
+    /// The slice that makes the view, of all bytes, numbers or planes.
     pub fn key(self) -> Value {
         let step = match self {
             Part::Whole => 1,
-            Part::Backwards => -1,
-            Part::EveryOther | Part::Planes => 2,
+            Part::Backwards(_) => -1,
+            Part::EveryOther(_) | Part::Planes => 2,
         };
         slice(None, None, Some(step))
     }
@@ -82,8 +80,8 @@ pub fn lend_view(alloc: Global, view: &PyMemoryView) -> Made<LoanList>
     Ok(loans)
 }
 
-/// So many items of a format, of a size, one after the other.
-fn items_of(alloc: Global, format: &str, size: usize, count: usize) -> Made<BufferDescriptor> {
+/// What describes so many items of a format, of a size, one after the other.
+pub fn items_of(alloc: Global, format: &str, size: usize, count: usize) -> Made<BufferDescriptor> {
     let mut dims = DimList::new(alloc);
     let stride = size.min(isize::MAX as usize) as isize;
     dims.push((count, stride, 0))?;
@@ -116,15 +114,27 @@ impl Viewed {
         Ok(())
     }
 
-    /// Goes on with a view of as many items of a format, which may be one that no view is cast to.
-    pub fn describe(&mut self, alloc: Global, format: &str, size: usize, count: usize) -> Made<()> {
-        let descriptor = items_of(alloc, format, size, count)?;
-        let number = match PyBuffer::new(alloc, self.object.state_mut(), descriptor, 0)? {
+    /// Goes on with a view that is described, whose first item begins at a byte.
+    pub fn describe(
+        &mut self,
+        alloc: Global,
+        descriptor: BufferDescriptor,
+        start: usize,
+    ) -> Made<()> {
+        let state = self.object.state_mut();
+        let number = match PyBuffer::new(alloc, state, descriptor, start)? {
             Outcome::Done(buffer) => buffer.number(),
             Outcome::Refused(_) => usize::MAX,
         };
         self.view = PyMemoryView::of(number);
         Ok(())
+    }
+
+    /// `view.tobytes()`.
+    pub fn copy(&mut self, alloc: Global) -> Made<Answer> {
+        let state = self.object.state_mut();
+        let reply = self.view.tobytes(state, LoanList::new(alloc))?;
+        Ok(answer_of(reply))
     }
 
     /// Goes on with the view in planes of so many bytes.
@@ -137,8 +147,12 @@ impl Viewed {
     pub fn part(alloc: Global, plan: Plan, part: Part) -> Made<Viewed> {
         let size = part.source_size(plan);
         let mut viewed = Viewed::whole(alloc, drawn(alloc, plan.seed, size)?)?;
-        if let Part::Planes = part {
-            viewed.cast_to_planes(alloc, size)?;
+        match part {
+            Part::Whole => {}
+            Part::EveryOther(code) | Part::Backwards(code) => {
+                viewed.cast(alloc, code.format(), None)?;
+            }
+            Part::Planes => viewed.cast_to_planes(alloc, size)?,
         }
         viewed.view = viewed.sliced(alloc, part.key())?;
         Ok(viewed)

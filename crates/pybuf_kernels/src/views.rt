@@ -1,13 +1,10 @@
 //! A view of a bytearray, or two.
 
-use crate::answers::{Answer, mark_of_bytes};
-use crate::data::drawn;
 use crate::items::{Form, get_all, get_all_plainly, set_all, set_all_plainly};
-use crate::kernel::Kernel;
 use crate::keys::{handle, slice};
-use crate::plan::Plan;
+use crate::replies::answer_of;
 use crate::viewed::{Part, Viewed, lend_view};
-use pybuf_command::LoanList;
+use pybuf_measure::{Answer, Kernel, Plan, drawn, mark_of_bytes};
 use pybuf_memoryobject::PyMemoryView;
 use pybuf_value::{CompareOp, Made, Value};
 use std::alloc::Global;
@@ -76,19 +73,12 @@ fn other_view(alloc: Global, viewed: &mut Viewed, plan: Plan, doing: Doing) -> M
     }
 }
 
-/// `view.tobytes()`.
-fn copy(alloc: Global, viewed: &mut Viewed) -> Made<Answer> {
-    let state = viewed.object.state_mut();
-    let reply = viewed.view.tobytes(state, LoanList::new(alloc))?;
-    Ok(Answer::of_local(reply))
-}
-
 /// `view[key] = other`.
 fn assign(alloc: Global, viewed: &mut Viewed, key: Value, other: &PyMemoryView) -> Made<Answer> {
     let loans = lend_view(alloc, other)?;
     let state = viewed.object.state_mut();
     let reply = viewed.view.setitem(state, key, handle(0), loans)?;
-    Ok(Answer::of_local(reply))
+    Ok(answer_of(reply))
 }
 
 /// `view == other`.
@@ -96,7 +86,7 @@ fn compare(alloc: Global, viewed: &mut Viewed, other: &PyMemoryView) -> Made<Ans
     let loans = lend_view(alloc, other)?;
     let state = viewed.object.state_mut();
     let reply = viewed.view.cmp(state, CompareOp::Eq, handle(0), loans)?;
-    Ok(Answer::of_local(reply))
+    Ok(answer_of(reply))
 }
 
 impl Views {
@@ -117,7 +107,7 @@ impl Kernel for Views {
     fn call(&mut self, alloc: Global) -> Made<Answer> {
         let viewed = &mut self.viewed;
         match self.doing {
-            Doing::ToBytes(_) => copy(alloc, viewed),
+            Doing::ToBytes(_) => viewed.copy(alloc),
             Doing::Get(_) => get_all(alloc, viewed, self.count),
             Doing::Set(_, limit) => set_all(alloc, viewed, self.count, limit),
             Doing::GetPlainly(_) => Answer::of_plain(get_all_plainly(viewed, self.count)),
@@ -130,10 +120,10 @@ impl Kernel for Views {
         }
     }
 
-    fn written(&self) -> i128 {
+    fn written(&self, _alloc: Global) -> Made<i128> {
         match self.doing {
-            Doing::ToBytes(_) | Doing::Get(_) | Doing::GetPlainly(_) => 0,
-            _ => mark_of_bytes(self.viewed.object.borrow_buf()),
+            Doing::ToBytes(_) | Doing::Get(_) | Doing::GetPlainly(_) => Ok(0),
+            _ => Ok(mark_of_bytes(self.viewed.object.borrow_buf())),
         }
     }
 }

@@ -1,12 +1,11 @@
 //! Commands of a world, by which one object's bytes are read beside another's.
 
-use crate::answers::{Answer, mark_of_bytes};
-use crate::data::{drawn, drawn_text, widened};
-use crate::kernel::Kernel;
+use crate::codes::Code;
+use crate::data::{drawn_text, widened};
 use crate::keys::{handle, number, slice, text};
-use crate::plan::Plan;
 use crate::viewed::{Part, planes_of};
 use pybuf_command::{ByteInnerNewOptions, ExporterKind, MethodCall, MethodName, Verb};
+use pybuf_measure::{Answer, Kernel, Plan, drawn, mark_of_bytes};
 use pybuf_value::{ByteList, CompareOp, Item, Made, Scalar, Value, ValueList};
 use pybuf_world::{Command, Reply, World};
 use std::alloc::Global;
@@ -112,11 +111,16 @@ fn cast_to_planes(alloc: Global, world: &mut World, size: usize) -> Made<()> {
     cast(alloc, world, 3, "B", shape)
 }
 
-/// Makes the part of handle 3 that is assigned: handle 4, or 5 where it is one of planes.
+/// Makes the part of handle 3 that is assigned. Of planes it is handle 5; of numbers it is handle 6, and handle 4 is the
+/// numbers of handle 1.
 fn make_part(alloc: Global, world: &mut World, plan: Plan, part: Part) -> Made<()> {
     match part {
         Part::Whole => Ok(()),
-        Part::EveryOther | Part::Backwards => pick(world, 3, part.key()),
+        Part::EveryOther(code) | Part::Backwards(code) => {
+            cast(alloc, world, 1, code.format(), None)?;
+            cast(alloc, world, 3, code.format(), None)?;
+            pick(world, 5, part.key())
+        }
         Part::Planes => {
             cast_to_planes(alloc, world, part.source_size(plan))?;
             pick(world, 4, part.key())
@@ -126,8 +130,9 @@ fn make_part(alloc: Global, world: &mut World, plan: Plan, part: Part) -> Made<(
 
 /// Makes handles 4 and 5, which are handles 1 and 3 from the last byte on.
 fn make_reversed(world: &mut World) -> Made<()> {
-    pick(world, 1, Part::Backwards.key())?;
-    pick(world, 3, Part::Backwards.key())
+    let key = Part::Backwards(Code::Byte);
+    pick(world, 1, key.key())?;
+    pick(world, 3, key.key())
 }
 
 /// Makes handles 4 and 5, of the same numbers: of `H` in the first object, and of `i` in the second.
@@ -144,7 +149,7 @@ fn make_codes(alloc: Global, world: &mut World, plan: Plan) -> Made<()> {
 fn make_all(alloc: Global, world: &mut World, plan: Plan, question: Question) -> Made<()> {
     if let Question::Set(part) = question {
         let size = match part {
-            Part::EveryOther => part.source_size(plan),
+            Part::EveryOther(_) => part.source_size(plan),
             _ => plan.size,
         };
         make(world, 0, vec![in alloc; 0u8; size]?)?;
@@ -167,8 +172,8 @@ fn make_all(alloc: Global, world: &mut World, plan: Plan, question: Question) ->
 fn set_part(plan: Plan, part: Part) -> Command {
     match part {
         Part::Whole => set(1, part.key(), 3),
-        Part::EveryOther => set(1, part.key(), 4),
-        Part::Backwards => set(1, Part::Whole.key(), 4),
+        Part::EveryOther(_) => set(4, part.key(), 6),
+        Part::Backwards(_) => set(4, Part::Whole.key(), 6),
         Part::Planes => set(0, slice(Some(0), Some(plan.size as i128), None), 5),
     }
 }
@@ -209,10 +214,10 @@ impl Kernel for Beside {
         }
     }
 
-    fn written(&self) -> i128 {
+    fn written(&self, _alloc: Global) -> Made<i128> {
         match self.world.exporters().first() {
-            Some(first) => mark_of_bytes(first.bytes()),
-            None => -1,
+            Some(first) => Ok(mark_of_bytes(first.bytes())),
+            None => Ok(-1),
         }
     }
 }

@@ -12,9 +12,9 @@ pub trait Kernel {
     /// One call.
     fn call(&mut self, alloc: Global) -> Made<Answer>;
 
-    /// The check sum of the bytes that the calls wrote; 0 where they write none.
-    fn written(&self) -> i128 {
-        0
+    /// The check sum of what the calls wrote, made once the time was taken; 0 where they write nothing.
+    fn written(&self, _alloc: Global) -> Made<i128> {
+        Ok(0)
     }
 }
 
@@ -73,8 +73,9 @@ pub fn measure<R: CpuClock + AllocGlobal, K: Kernel + Drop>(
     let start = time_now(rt, plan)?;
     let last = call_all(alloc, &mut kernel, plan.calls, first)?;
     let end = time_now(rt, plan)?;
+    let written = kernel.written(alloc)?;
     Ok(Measured {
-        mark: last.mark().wrapping_add(kernel.written()),
+        mark: last.mark().wrapping_add(written),
         nanoseconds: end.saturating_sub(start).as_nanos(),
     })
 }

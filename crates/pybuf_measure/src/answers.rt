@@ -1,8 +1,6 @@
 //! What a kernel answers, and its check sum.
 
-use pybuf_command::LocalReply;
-use pybuf_value::{ByteList, ByteLists, Halt, Made, NoMemory, Outcome, Tried};
-use std::alloc::Global;
+use pybuf_value::{ByteList, ByteLists, Halt, Made, NoMemory, NumberList, Outcome, Tried};
 
 /// What a call of a kernel answers. `Refused` is no answer of a kernel that works as it should.
 #[derive(Drop)]
@@ -11,6 +9,7 @@ pub enum Answer {
     Number(i128),
     Bytes(Vec<u8>),
     Parts(ByteLists),
+    Numbers(NumberList),
     Refused,
 }
 
@@ -44,6 +43,17 @@ fn mark_of_parts(parts: &[ByteList]) -> i128 {
     mark_of(parts.len(), sum)
 }
 
+/// The mark of numbers: the first once, the second twice, and so on.
+pub fn mark_of_numbers(numbers: &[i128]) -> i128 {
+    let mut sum = 0i128;
+    let mut weight = 0i128;
+    for number in numbers {
+        weight = weight.wrapping_add(1);
+        sum = sum.wrapping_add(number.wrapping_mul(weight));
+    }
+    sum
+}
+
 impl Answer {
     /// The bytes that a call gives, or its refusal.
     pub fn of_bytes(answer: Tried<Vec<u8>>) -> Made<Answer> {
@@ -62,23 +72,14 @@ impl Answer {
         }
     }
 
-    /// The reply of an object.
-    pub fn of_local(reply: LocalReply) -> Answer {
-        match reply {
-            LocalReply::Ok => Answer::Nothing,
-            LocalReply::Bytes(bytes) => Answer::Bytes(bytes.into_vec()),
-            LocalReply::Truth(truth) => Answer::Number(truth as i128),
-            _ => Answer::Refused,
-        }
-    }
-
-    /// The check sum: that of the bytes, of the parts, or the number.
+    /// The check sum: that of the bytes, of the parts or of the numbers, or the number.
     pub fn mark(&self) -> i128 {
         match self {
             Answer::Nothing => 0,
             Answer::Number(number) => *number,
             Answer::Bytes(bytes) => mark_of_bytes(bytes.as_slice()),
             Answer::Parts(parts) => mark_of_parts(parts.as_slice()),
+            Answer::Numbers(numbers) => mark_of_numbers(numbers.as_slice()),
             Answer::Refused => -1,
         }
     }

@@ -1,8 +1,10 @@
 //! What a run is asked for, by the words after the program's name.
 
-use crate::viewed::PLANE;
 use std::env;
 use std::env::Env;
+
+/// The number of bytes of a plane of 256 rows of 16 bytes.
+pub const PLANE: usize = 4_096;
 
 /// One mebibyte.
 const MEBIBYTE: u64 = 1_048_576;
