@@ -1,32 +1,21 @@
-"""What crates/pybuf_kernels does, by Python's own calls on the same bytes, with the same words.
+"""What crates/pybuf_kernels does, by Python's own calls on the same bytes, with the same words (`measuring.py`).
 
-The words are a kernel, or `all`; how often it is called; the bytes of a kernel over bytes; the items of a
-kernel over items; the seed of the bytes; and `time`, where the time is to be told. For each kernel its name and
-a check sum are printed, and with `time` the nanoseconds of processor time that all calls took. The kernel
-`copy` copies so many bytes from one place to another, and nothing else. A kernel behind `numpy-` is what numpy does
-of it, and `numpy-names` alone prints which there are.
+The kernel `copy` copies so many bytes from one place to another, and nothing else. A kernel behind `numpy-` is what
+numpy does of it, and `numpy-names` alone prints which there are.
 """
 import ctypes
+import pathlib
 import struct
 import sys
-import time
 import zlib
 
+sys.path.insert(0, str(pathlib.Path(__file__).resolve().parent))
+
+import measuring
+from measuring import MASK, Kernel, as_number, count_of, drawn, mark_of_bytes, no_answer
+
 PLANE = 4_096
-MASK = 2**64 - 1
 RECORD = struct.Struct("<4sHHII")
-
-
-def drawn(plan, size):
-    """So many drawn bytes, by the shifts of Marsaglia's xorshift."""
-    state = plan.seed * 0x9E3779B97F4A7C15 & MASK | 1
-    numbers = []
-    for _ in range(size // 8):
-        state ^= state << 13 & MASK
-        state ^= state >> 7
-        state ^= state << 17 & MASK
-        numbers.append(state)
-    return struct.pack(f"<{len(numbers)}Q", *numbers) + bytes(size % 8)
 
 
 def letter_of(byte):
@@ -43,52 +32,13 @@ def drawn_text(plan):
     return drawn(plan, plan.size).translate(bytes(map(letter_of, range(256)))).replace(b"cba", b"cbd")
 
 
-def mark_of_bytes(made):
-    """The length and Adler's check sum."""
-    return (len(made) << 32) + zlib.adler32(made)
-
-
 def mark_of_parts(parts):
     """The number of parts and the check sum of all, with a bar behind each."""
     return (len(parts) << 32) + zlib.adler32(b"".join([part + b"|" for part in parts]))
 
 
-def count_of(item):
-    """What an item counts: a number itself, a record each of its values, as often as its place says."""
-    if isinstance(item, int):
-        return item
-    return sum(weight * (value if isinstance(value, int) else sum(value)) for weight, value in enumerate(item, 1))
-
-
-def as_number(answer):
-    return int(answer)
-
-
-class Kernel:
-    """What is called, how the last answer is marked, and what the calls write to."""
-
-    def __init__(self, call, mark, written=None):
-        self.call, self.mark, self.written = call, mark, written
-
-    def measure(self, calls):
-        """The check sum, and the nanoseconds of processor time of so many calls after a first."""
-        call = self.call
-        answer = call()
-        start = time.process_time_ns()
-        for _ in range(calls):
-            answer = call()
-        taken = time.process_time_ns() - start
-        written = 0 if self.written is None else mark_of_bytes(self.written)
-        return self.mark(answer) + written, taken
-
-
 def in_planes(view):
     return view.cast("B", (len(view) // PLANE, 256, 16))
-
-
-def no_answer(answer):
-    assert answer is None
-    return 0
 
 
 # copies
@@ -102,12 +52,12 @@ def of_contiguous(plan):
     return to_bytes(memoryview(bytearray(drawn(plan, plan.size))))
 
 
-def of_stepped(plan):
-    return to_bytes(memoryview(bytearray(drawn(plan, 2 * plan.size)))[::2])
+def of_stepped(code):
+    return lambda plan: to_bytes(memoryview(bytearray(drawn(plan, 2 * plan.size))).cast(code)[::2])
 
 
-def of_reversed(plan):
-    return to_bytes(memoryview(bytearray(drawn(plan, plan.size)))[::-1])
+def of_reversed(code):
+    return lambda plan: to_bytes(memoryview(bytearray(drawn(plan, plan.size))).cast(code)[::-1])
 
 
 def of_planes(plan):
@@ -129,14 +79,22 @@ def set_contiguous(plan):
     return assigned(object, memoryview(object), slice(None, None, 1), memoryview(bytearray(drawn(plan, plan.size))))
 
 
-def set_stepped(plan):
-    object = bytearray(2 * plan.size)
-    return assigned(object, memoryview(object), slice(None, None, 2), memoryview(bytearray(drawn(plan, 2 * plan.size)))[::2])
+def set_stepped(code):
+    def kernel(plan):
+        object = bytearray(2 * plan.size)
+        source = memoryview(bytearray(drawn(plan, 2 * plan.size))).cast(code)[::2]
+        return assigned(object, memoryview(object).cast(code), slice(None, None, 2), source)
+
+    return kernel
 
 
-def set_reversed(plan):
-    object = bytearray(plan.size)
-    return assigned(object, memoryview(object), slice(None, None, 1), memoryview(bytearray(drawn(plan, plan.size)))[::-1])
+def set_reversed(code):
+    def kernel(plan):
+        object = bytearray(plan.size)
+        source = memoryview(bytearray(drawn(plan, plan.size))).cast(code)[::-1]
+        return assigned(object, memoryview(object).cast(code), slice(None, None, 1), source)
+
+    return kernel
 
 
 def set_planes(plan):
@@ -155,6 +113,41 @@ def set_itself(plan):
     object = bytearray(drawn(plan, plan.size))
     view = memoryview(object)
     return assigned(object, view, slice(None, None, -1), view)
+
+
+# rows along which items lie apart, or backwards: no slice of a memoryview makes them, but one of an array of Python's
+# own tests does
+
+CODES = {"B": 1, "H": 2, "i": 4, "q": 8}
+ROW, STEPPED_ROW = 256, 520
+# for each order how many items a row has, and which of them are taken
+ORDERS = {"stepped": (STEPPED_ROW, slice(0, 2 * ROW, 2)), "reversed": (ROW, slice(None, None, -1))}
+
+
+def rows_kernel(order, code, doing):
+    """What is done with rows of numbers, which lie behind as much room as is asked for."""
+    width, taken = ORDERS[order]
+
+    def kernel(plan):
+        import _testbuffer
+
+        count = plan.size // (ROW * CODES[code])
+        room = plan.size if doing == "set" else 0
+        object = bytearray(room) + drawn(plan, count * width * CODES[code])
+        numbers = memoryview(object)[room:].cast(code, (count, width))
+        view = memoryview(_testbuffer.ndarray(numbers, getbuf=_testbuffer.PyBUF_FULL_RO)[:, taken])
+        return assigned(object, object, slice(0, plan.size), view) if doing == "set" else to_bytes(view)
+
+    return kernel
+
+
+def kernels_of_rows(doing):
+    return {f"{doing}-{order}-rows-{code}": rows_kernel(order, code, doing) for order in ORDERS for code in CODES}
+
+
+def by_code(name, kernel):
+    """A kernel on bytes, and on numbers of more bytes each."""
+    return {name: kernel("B"), **{f"{name}-{code}": kernel(code) for code in "Hiq"}}
 
 
 # views that are made and released
@@ -441,13 +434,15 @@ def copy(plan):
 
 KERNELS = {
     "tobytes-contiguous": of_contiguous,
-    "tobytes-stepped": of_stepped,
-    "tobytes-reversed": of_reversed,
+    **by_code("tobytes-stepped", of_stepped),
+    **by_code("tobytes-reversed", of_reversed),
     "tobytes-planes": of_planes,
+    **kernels_of_rows("tobytes"),
     "set-contiguous": set_contiguous,
-    "set-stepped": set_stepped,
-    "set-reversed": set_reversed,
+    **by_code("set-stepped", set_stepped),
+    **by_code("set-reversed", set_reversed),
     "set-planes": set_planes,
+    **kernels_of_rows("set"),
     "set-overlapping": set_overlapping,
     "set-itself": set_itself,
     "views": views,
@@ -512,8 +507,31 @@ def numpy_kernels():
     except ImportError:
         return {}
 
-    def array(plan, size):
-        return numpy.frombuffer(bytearray(drawn(plan, size)), dtype=numpy.uint8)
+    def array(plan, size, code="B"):
+        return numpy.frombuffer(bytearray(drawn(plan, size)), dtype=code)
+
+    def rows(plan, order, code):
+        width, taken = ORDERS[order]
+        count = plan.size // (ROW * CODES[code])
+        return array(plan, count * width * CODES[code], code).reshape(count, width)[:, taken]
+
+    def told_rows(order, code):
+        return lambda plan: told(rows(plan, order, code))
+
+    def set_rows(order, code):
+        return lambda plan: put_in(array(plan, plan.size, code).reshape(-1, ROW), rows(plan, order, code))
+
+    def told_stepped(code):
+        return lambda plan: told(array(plan, 2 * plan.size, code)[::2])
+
+    def told_reversed(code):
+        return lambda plan: told(array(plan, plan.size, code)[::-1])
+
+    def put_stepped(code):
+        return lambda plan: put_in(array(plan, 2 * plan.size, code)[::2], array(plan, 2 * plan.size, code)[::2])
+
+    def put_reversed(code):
+        return lambda plan: put_in(array(plan, plan.size, code), array(plan, plan.size, code)[::-1])
 
     def in_numpy_planes(array):
         return array.reshape(len(array) // PLANE, 256, 16)
@@ -552,12 +570,14 @@ def numpy_kernels():
 
     return {
         "tobytes-contiguous": lambda plan: told(array(plan, plan.size)),
-        "tobytes-stepped": lambda plan: told(array(plan, 2 * plan.size)[::2]),
-        "tobytes-reversed": lambda plan: told(array(plan, plan.size)[::-1]),
+        **by_code("tobytes-stepped", told_stepped),
+        **by_code("tobytes-reversed", told_reversed),
+        **{f"tobytes-{order}-rows-{code}": told_rows(order, code) for order in ORDERS for code in CODES},
+        **{f"set-{order}-rows-{code}": set_rows(order, code) for order in ORDERS for code in CODES},
         "tobytes-planes": lambda plan: told(in_numpy_planes(array(plan, 2 * plan.size))[::2]),
         "set-contiguous": lambda plan: put_in(array(plan, plan.size), array(plan, plan.size)),
-        "set-stepped": lambda plan: put_in(array(plan, 2 * plan.size)[::2], array(plan, 2 * plan.size)[::2]),
-        "set-reversed": lambda plan: put_in(array(plan, plan.size), array(plan, plan.size)[::-1]),
+        **by_code("set-stepped", put_stepped),
+        **by_code("set-reversed", put_reversed),
         "set-planes": lambda plan: put_in(array(plan, plan.size).reshape(-1, 256, 16), in_numpy_planes(array(plan, 2 * plan.size))[::2]),
         "set-overlapping": overlapping,
         "set-itself": itself,
@@ -567,27 +587,13 @@ def numpy_kernels():
     }
 
 
-class Plan:
-    """The sizes of the kernels."""
-
-    def __init__(self, size, count, seed):
-        self.size, self.count, self.seed = size, count, seed
-
-
 def main():
     if sys.argv[1] == "numpy-names":
         print(*numpy_kernels())
-        return
-    name, calls, size, count, seed = sys.argv[1], *map(int, sys.argv[2:6])
-    plan = Plan(size, count, seed)
-    if name.startswith("numpy-"):
-        mark, taken = numpy_kernels()[name.removeprefix("numpy-")](plan).measure(calls)
-        print(name, mark, taken)
-        return
-    for each, kernel in {**KERNELS, "copy": copy}.items():
-        if name == each or name == "all" and each != "copy":
-            mark, taken = kernel(plan).measure(calls)
-            print(each, mark, *[taken for word in sys.argv[6:] if word == "time"])
+    elif sys.argv[1].startswith("numpy-"):
+        measuring.run({f"numpy-{name}": kernel for name, kernel in numpy_kernels().items()})
+    else:
+        measuring.run(KERNELS, {"copy": copy})
 
 
 if __name__ == "__main__":
