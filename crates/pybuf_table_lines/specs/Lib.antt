@@ -1,0 +1,4 @@
+pub mod Queries
+pub mod Listings
+pub mod Texts
+pub mod Laws

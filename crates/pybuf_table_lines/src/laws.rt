@@ -1,0 +1,11 @@
+//! Laws of what is written of a table.
+ghost use Rattle.pybuf_table_lines.specs.Laws.{RowsAreSingle};
+
+use pybuf_line::replies_are_single_lines;
+
+/// The line of a record is one line, whatever its values are.
+pub fn rows_are_single_lines()
+    ensures { RowsAreSingle }
+{
+    replies_are_single_lines();
+}
