@@ -38,9 +38,12 @@ fn complaint(status: Status) -> Option<&'static str> {
         Status::NoMemory => Some("no memory"),
         Status::ReadFault => Some("the input could not be read"),
         Status::WriteFault => Some("the output could not be written"),
-        Status::Usage => Some("usage: pybuf [run | share | make N | array CODE] < lines"),
+        Status::Usage => Some(
+            "usage: pybuf [run | share | make N | array CODE | table FORMAT [K OP N]] < input",
+        ),
         Status::TooLong => Some("more than 1,048,576 bytes"),
         Status::Disagree => Some("the sessions disagree with their history"),
+        Status::BadData => Some("the input is no whole number of records"),
     }
 }
 

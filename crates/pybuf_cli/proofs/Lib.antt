@@ -5,6 +5,7 @@ pub mod Sending
 pub mod Entries
 pub mod Shared
 pub mod Running
+pub mod Tabling
 pub mod OneForm
 pub mod ReplyLaws
 pub mod ScriptLaws

@@ -1,12 +1,17 @@
 -- What is owed for the form that words ask for.
-use Rattle.std.proofs.Common.{◌≡◌, ◌⊎◌, ℕ, List, Option, Some, None, inl, inr, sym, ◌∙◌, ap, refl, subst, arith}
+use Rattle.std.proofs.Common.{◌≡◌, ◌≢◌, ◌⊎◌, ℕ, Bool, true, false, cond, List, [], ◌∷◌, length, Option, Some, None, inl, inr, sym, ◌∙◌, ap, refl, subst, arith}
+use Rattle.std.specs.Prelude.{codes}
+use Rattle.std.specs.Str.{bytes_eq}
 use Rattle.pybuf_cli.specs.declared.forms.Form.{Form}
 use Rattle.pybuf_cli.specs.declared.status.Status.{Status}
 use Rattle.pybuf_cli.specs.declared.status.Status.TheVariants as status
 use Rattle.pybuf_cli.specs.declared.forms.Form.TheVariants as form
+use Rattle.pybuf_numbers.specs.declared.codes.ArrayCode.{ArrayCode}
+use Rattle.pybuf_table_lines.specs.Listings.{Listing, listing_in}
 use Rattle.pybuf_cli.specs.Devices.{Rose}
-use Rattle.pybuf_cli.specs.Program.{alone}
+use Rattle.pybuf_cli.specs.Program.{script_number_in, made, array_code_in, array_of, tabled, form_of, take_memory, AskForTable, alone}
 use Rattle.pybuf_cli.specs.Serving.{ServesForm, Serves}
+use Rattle.pybuf_cli.proofs.Tabling.{no_memory_so, no_memory_serves}
 
 other_form : (asked : Option Form) (f : Form) → asked ≡ Some f → asked ≡ None → ⊥
 other_form asked f is none = let both : Some f ≡ None = sym is ∙ none in cc
@@ -15,27 +20,61 @@ same_form : (asked : Option Form) (f other : Form) → asked ≡ Some f → aske
 same_form asked f other is so = let both : Some f ≡ Some other = sym is ∙ so in cc
 
 -- words that ask for no form are refused, where that is all that was done
-pub serves_none : {S K : Type 0} (asked : Option Form) (bytes_left : S → Option (List ℕ)) (source_faults : S → ℕ) (bytes_held : K → Option (List ℕ))
+pub serves_none : {S K : Type 0} (words : List (List ℕ)) (asked : Option Form) (bytes_left : S → Option (List ℕ)) (source_faults : S → ℕ) (bytes_held : K → Option (List ℕ))
     (sink_faults : K → ℕ) (source : S) (sink : K) → asked ≡ None →
-    Serves asked status.Usage bytes_left source_faults bytes_held sink_faults source source sink sink
-serves_none asked bytes_left source_faults bytes_held sink_faults source sink none = record {
-  usage = (λ _. none, λ _. refl);
-  usage_reads_nothing = λ _. refl;
-  usage_writes_nothing = λ _. refl;
+    Serves words asked status.Usage bytes_left source_faults bytes_held sink_faults source source sink sink
+serves_none words asked bytes_left source_faults bytes_held sink_faults source sink none = record {
+  usage = λ _. none;
+  refused = λ _. inl refl;
+  refused_reads_nothing = λ _. refl;
+  refused_writes_nothing = λ _. refl;
   served = λ f is. absurd (other_form asked f is none);
 }
 
+-- a table is served, and nothing else that isn't refused, where there is no memory to read words
+without_memory : {S K : Type 0} (f : Form) (bytes_left : S → Option (List ℕ)) (source_faults : S → ℕ) (bytes_held : K → Option (List ℕ))
+    (sink_faults : K → ℕ) (source : S) (sink : K) → AskForTable (Some f) →
+    ServesForm f status.NoMemory bytes_left source_faults bytes_held sink_faults source source sink sink
+without_memory form.Run bytes_left source_faults bytes_held sink_faults source sink asks = absurd asks
+without_memory form.Share bytes_left source_faults bytes_held sink_faults source sink asks = absurd asks
+without_memory (form.Make n) bytes_left source_faults bytes_held sink_faults source sink asks = absurd asks
+without_memory (form.Array c) bytes_left source_faults bytes_held sink_faults source sink asks = absurd asks
+without_memory (form.Table l) bytes_left source_faults bytes_held sink_faults source sink asks =
+    no_memory_serves l bytes_left source_faults bytes_held sink_faults source sink
+
+-- so words are served for which there is no memory
+pub serves_unread : {S K : Type 0} (words : List (List ℕ)) (asked : Option Form) (bytes_left : S → Option (List ℕ)) (source_faults : S → ℕ)
+    (bytes_held : K → Option (List ℕ)) (sink_faults : K → ℕ) (source : S) (sink : K) → take_memory words ≡ true → AskForTable asked →
+    Serves words asked status.NoMemory bytes_left source_faults bytes_held sink_faults source source sink sink
+serves_unread words asked bytes_left source_faults bytes_held sink_faults source sink memory asks = record {
+  usage = λ e. absurd (no_memory_so status.Usage e);
+  refused = λ _. inr (memory, refl);
+  refused_reads_nothing = λ _. refl;
+  refused_writes_nothing = λ _. refl;
+  served = λ f is. without_memory f bytes_left source_faults bytes_held sink_faults source sink (subst AskForTable is asks);
+}
+
+-- what asks for a table does so where there is one thread
+pub asks_alone : (asked : Option Form) → AskForTable asked → AskForTable (alone asked)
+asks_alone None asks = asks
+asks_alone (Some form.Run) asks = asks
+asks_alone (Some form.Share) asks = absurd asks
+asks_alone (Some (form.Make n)) asks = asks
+asks_alone (Some (form.Array c)) asks = asks
+asks_alone (Some (form.Table l)) asks = asks
+
 -- Words that ask for a form get what is owed for it. So an arm for a form has only that to show, and that it doesn't refuse
 -- its words.
-pub serves_form : {S K : Type 0} (asked : Option Form) (f : Form) (result : Status)
+pub serves_form : {S K : Type 0} (words : List (List ℕ)) (asked : Option Form) (f : Form) (result : Status)
     (bytes_left : S → Option (List ℕ)) (source_faults : S → ℕ) (bytes_held : K → Option (List ℕ)) (sink_faults : K → ℕ)
     (source_before source : S) (sink_before sink : K) → asked ≡ Some f → (result ≡ status.Usage → ⊥) →
     ServesForm f result bytes_left source_faults bytes_held sink_faults source_before source sink_before sink →
-    Serves asked result bytes_left source_faults bytes_held sink_faults source_before source sink_before sink
-serves_form asked f result bytes_left source_faults bytes_held sink_faults source_before source sink_before sink is other served = record {
-  usage = (λ refused. absurd (other refused), λ none. absurd (other_form asked f is none));
-  usage_reads_nothing = λ refused. absurd (other refused);
-  usage_writes_nothing = λ refused. absurd (other refused);
+    Serves words asked result bytes_left source_faults bytes_held sink_faults source_before source sink_before sink
+serves_form words asked f result bytes_left source_faults bytes_held sink_faults source_before source sink_before sink is other served = record {
+  usage = λ refused. absurd (other refused);
+  refused = λ none. absurd (other_form asked f is none);
+  refused_reads_nothing = λ none. absurd (other_form asked f is none);
+  refused_writes_nothing = λ none. absurd (other_form asked f is none);
   served = λ g so.
       subst (λ (h : Form). ServesForm h result bytes_left source_faults bytes_held sink_faults source_before source sink_before sink)
       (same_form asked f g is so) served;
@@ -62,33 +101,44 @@ made_ends_so result other (inr (inl none)) is = subst is_end_of_make (sym none �
 made_ends_so result other (inr (inr failed)) is = subst is_end_of_make (sym failed ∙ is) tt
 
 -- what is owed with one thread is what is owed, for words that don't ask for more
-pub serves_as : {S K : Type 0} (asked other : Option Form) (result : Status)
+pub serves_as : {S K : Type 0} (words : List (List ℕ)) (asked other : Option Form) (result : Status)
     (bytes_left : S → Option (List ℕ)) (source_faults : S → ℕ) (bytes_held : K → Option (List ℕ)) (sink_faults : K → ℕ)
     (source_before source : S) (sink_before sink : K) → asked ≡ other →
-    Serves asked result bytes_left source_faults bytes_held sink_faults source_before source sink_before sink →
-    Serves other result bytes_left source_faults bytes_held sink_faults source_before source sink_before sink
-serves_as asked other result bytes_left source_faults bytes_held sink_faults source_before source sink_before sink same serves =
-    subst (λ (x : Option Form). Serves x result bytes_left source_faults bytes_held sink_faults source_before source sink_before sink) same serves
+    Serves words asked result bytes_left source_faults bytes_held sink_faults source_before source sink_before sink →
+    Serves words other result bytes_left source_faults bytes_held sink_faults source_before source sink_before sink
+serves_as words asked other result bytes_left source_faults bytes_held sink_faults source_before source sink_before sink same serves =
+    subst (λ (x : Option Form). Serves words x result bytes_left source_faults bytes_held sink_faults source_before source sink_before sink) same serves
+
+-- words that are refused have no other status
+abbrev is_refusal : Status → Type 0
+is_refusal status.Usage = Unit {0}
+is_refusal status.NoMemory = Unit {0}
+is_refusal _ = ⊥
+
+refused_so : (words : List (List ℕ)) (result other : Status) → (result ≡ status.Usage) ⊎ ((take_memory words ≡ true) × (result ≡ status.NoMemory)) →
+    result ≡ other → is_refusal other
+refused_so words result other (inl usage) is = subst is_refusal (sym usage ∙ is) tt
+refused_so words result other (inr memory) is = subst is_refusal (sym memory.1 ∙ is) tt
 
 -- a source that never fails is read, and a sink that never fails is written
-pub reads_well : {S K : Type 0} (asked : Option Form) (result : Status)
+pub reads_well : {S K : Type 0} (words : List (List ℕ)) (asked : Option Form) (result : Status)
     (bytes_left : S → Option (List ℕ)) (source_faults : S → ℕ) (bytes_held : K → Option (List ℕ)) (sink_faults : K → ℕ)
     (source_before source : S) (sink_before sink : K) →
-    Serves asked result bytes_left source_faults bytes_held sink_faults source_before source sink_before sink →
+    Serves words asked result bytes_left source_faults bytes_held sink_faults source_before source sink_before sink →
     ¬ (Rose (source_faults source_before) (source_faults source)) → result ≡ status.ReadFault → ⊥
-reads_well None result bytes_left source_faults bytes_held sink_faults source_before source sink_before sink serves well is =
-    let both : status.Usage ≡ status.ReadFault = sym (serves.usage.1 refl) ∙ is in cc
-reads_well (Some f) result bytes_left source_faults bytes_held sink_faults source_before source sink_before sink serves well is =
+reads_well words None result bytes_left source_faults bytes_held sink_faults source_before source sink_before sink serves well is =
+    refused_so words result status.ReadFault (serves.refused refl) is
+reads_well words (Some f) result bytes_left source_faults bytes_held sink_faults source_before source sink_before sink serves well is =
     well ((serves.served f refl).read_fault is)
 
-pub writes_well : {S K : Type 0} (asked : Option Form) (result : Status)
+pub writes_well : {S K : Type 0} (words : List (List ℕ)) (asked : Option Form) (result : Status)
     (bytes_left : S → Option (List ℕ)) (source_faults : S → ℕ) (bytes_held : K → Option (List ℕ)) (sink_faults : K → ℕ)
     (source_before source : S) (sink_before sink : K) →
-    Serves asked result bytes_left source_faults bytes_held sink_faults source_before source sink_before sink →
+    Serves words asked result bytes_left source_faults bytes_held sink_faults source_before source sink_before sink →
     ¬ (Rose (sink_faults sink_before) (sink_faults sink)) → result ≡ status.WriteFault → ⊥
-writes_well None result bytes_left source_faults bytes_held sink_faults source_before source sink_before sink serves well is =
-    let both : status.Usage ≡ status.WriteFault = sym (serves.usage.1 refl) ∙ is in cc
-writes_well (Some f) result bytes_left source_faults bytes_held sink_faults source_before source sink_before sink serves well is =
+writes_well words None result bytes_left source_faults bytes_held sink_faults source_before source sink_before sink serves well is =
+    refused_so words result status.WriteFault (serves.refused refl) is
+writes_well words (Some f) result bytes_left source_faults bytes_held sink_faults source_before source sink_before sink serves well is =
     well ((serves.served f refl).write_fault is)
 
 no_sessions_alone : (asked : Option Form) → alone asked ≡ Some form.Share → ⊥
@@ -97,15 +147,59 @@ no_sessions_alone (Some form.Run) is = cc
 no_sessions_alone (Some form.Share) is = cc
 no_sessions_alone (Some (form.Make n)) is = cc
 no_sessions_alone (Some (form.Array c)) is = cc
+no_sessions_alone (Some (form.Table l)) is = cc
+
+-- ---- which words ask for sessions
+
+alone_same : (asked : Option Form) → (asked ≡ Some form.Share → ⊥) → alone asked ≡ asked
+alone_same None other = refl
+alone_same (Some form.Run) other = refl
+alone_same (Some form.Share) other = absurd (other refl)
+alone_same (Some (form.Make n)) other = refl
+alone_same (Some (form.Array c)) other = refl
+alone_same (Some (form.Table l)) other = refl
+
+one_word : (run share : Bool) → share ≡ false → cond run (Some form.Run) (cond share (Some form.Share) None) ≡ Some form.Share → ⊥
+one_word true share other is = cc
+one_word false true other is = cc
+one_word false false other is = cc
+
+more_words : (table : Bool) (l : Option Listing) → cond table (tabled l) None ≡ Some form.Share → ⊥
+more_words true (Some l) is = cc
+more_words true None is = cc
+more_words false l is = cc
+
+two_words : (make array table : Bool) (n : Option ℕ) (c : Option ArrayCode) (l : Option Listing) →
+    cond make (made n) (cond array (array_of c) (cond table (tabled l) None)) ≡ Some form.Share → ⊥
+two_words true array table (Some n) c l is = cc
+two_words true array table None c l is = cc
+two_words false true table n (Some c) l is = cc
+two_words false true table n None l is = cc
+two_words false false table n c l is = more_words table l is
+
+-- one word that isn't `share` asks for none
+pub alone_one : (word : List ℕ) → bytes_eq word (codes "share") ≡ false → alone (form_of (word ∷ [])) ≡ form_of (word ∷ [])
+alone_one word other = alone_same (form_of (word ∷ [])) (one_word (bytes_eq word (codes "run")) (bytes_eq word (codes "share")) other)
+
+-- nor does another number of words
+pub alone_others : (words : List (List ℕ)) → length words ≢ 1 → alone (form_of words) ≡ form_of words
+alone_others [] other = refl
+alone_others (word ∷ []) other = absurd (other refl)
+alone_others (word ∷ argument ∷ []) other =
+    alone_same (form_of (word ∷ argument ∷ []))
+    (two_words (bytes_eq word (codes "make")) (bytes_eq word (codes "array")) (bytes_eq word (codes "table")) (script_number_in argument)
+    (array_code_in argument) (listing_in (argument ∷ [])))
+alone_others (word ∷ argument ∷ further ∷ more) other =
+    alone_same (form_of (word ∷ argument ∷ further ∷ more)) (more_words (bytes_eq word (codes "table")) (listing_in (argument ∷ further ∷ more)))
 
 -- with one thread alone nobody disagrees
-pub agrees_alone : {S K : Type 0} (asked other : Option Form) (result : Status)
+pub agrees_alone : {S K : Type 0} (words : List (List ℕ)) (asked other : Option Form) (result : Status)
     (bytes_left : S → Option (List ℕ)) (source_faults : S → ℕ) (bytes_held : K → Option (List ℕ)) (sink_faults : K → ℕ)
     (source_before source : S) (sink_before sink : K) → other ≡ alone asked →
-    Serves other result bytes_left source_faults bytes_held sink_faults source_before source sink_before sink → result ≡ status.Disagree → ⊥
-agrees_alone asked None result bytes_left source_faults bytes_held sink_faults source_before source sink_before sink same serves is =
-    let both : status.Usage ≡ status.Disagree = sym (serves.usage.1 refl) ∙ is in cc
-agrees_alone asked (Some f) result bytes_left source_faults bytes_held sink_faults source_before source sink_before sink same serves is =
+    Serves words other result bytes_left source_faults bytes_held sink_faults source_before source sink_before sink → result ≡ status.Disagree → ⊥
+agrees_alone words asked None result bytes_left source_faults bytes_held sink_faults source_before source sink_before sink same serves is =
+    refused_so words result status.Disagree (serves.refused refl) is
+agrees_alone words asked (Some f) result bytes_left source_faults bytes_held sink_faults source_before source sink_before sink same serves is =
     no_sessions_alone asked (sym same ∙ ap Some ((serves.served f refl).disagree is))
 
 -- what never fails counts no fault

@@ -13,3 +13,4 @@ exit_number status.WriteFault = 5
 exit_number status.Usage = 6
 exit_number status.TooLong = 7
 exit_number status.Disagree = 8
+exit_number status.BadData = 9

@@ -4,6 +4,7 @@ pub mod Endings
 pub mod Program
 pub mod Sharing
 pub mod Arrays
+pub mod Tables
 pub mod Serving
 pub mod Running
 pub mod ArrayRunning

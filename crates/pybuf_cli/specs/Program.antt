@@ -1,5 +1,5 @@
 -- What the program does with its words and its input.
-use Rattle.std.specs.Prelude.{◌≡◌, ◌↔◌, ◌⊎◌, ℕ, ◌<◌, ◌≤◌, suc, List, [], ◌∷◌, length, drop, codes, nat_lt, nat_le, ◌&&◌, decimal, Option, Some, None, Result, Ok, Err, if◌then◌else◌}
+use Rattle.std.specs.Prelude.{◌≡◌, ◌↔◌, ◌⊎◌, ℕ, ◌<◌, ◌≤◌, suc, Bool, false, List, [], ◌∷◌, length, drop, codes, nat_lt, nat_le, ◌&&◌, decimal, Option, Some, None, Result, Ok, Err, if◌then◌else◌}
 use Rattle.std.specs.Str.{bytes_eq}
 use Rattle.std.specs.Str.Parse.{digits_value}
 use Rattle.pybuf_command.specs.declared.worlds.Command.{Command}
@@ -8,6 +8,7 @@ use Rattle.pybuf_world.specs.Sound.{StaysSound}
 use Rattle.pybuf_make.specs.Summary.{summary}
 use Rattle.pybuf_numbers.specs.declared.codes.ArrayCode.{ArrayCode}
 use Rattle.pybuf_numbers.specs.Codes.{code_of}
+use Rattle.pybuf_table_lines.specs.Listings.{Listing, listing_in}
 use Rattle.pybuf_cli.specs.declared.forms.Form.{Form}
 use Rattle.pybuf_cli.specs.declared.forms.Form.TheVariants as form
 use Rattle.pybuf_cli.specs.declared.status.Status.{Status}
@@ -43,17 +44,33 @@ abbrev pub array_of : Option ArrayCode → Option Form
 array_of (Some c) = Some (form.Array c)
 array_of None = None
 
+abbrev pub tabled : Option Listing → Option Form
+tabled (Some l) = Some (form.Table l)
+tabled None = None
+
 -- What the words ask for: a run with none, or with the one word `run`; sessions with the one word `share`; with the word
 -- `make` and a number, what is told of the script of that number; with the word `array` and a code, a run of operations on an
--- array of that code. Other words are no form.
+-- array of that code; with the word `table`, the records of a format, or those that a query chooses. Other words are no form.
 abbrev pub form_of : List (List ℕ) → Option Form
 form_of [] = Some form.Run
 form_of (word ∷ []) = if bytes_eq word (codes "run") then Some form.Run else (if bytes_eq word (codes "share") then Some form.Share else None)
 form_of (word ∷ argument ∷ []) =
     if bytes_eq word (codes "make") then made (script_number_in argument)
     else if bytes_eq word (codes "array") then array_of (array_code_in argument)
+    else if bytes_eq word (codes "table") then tabled (listing_in (argument ∷ []))
     else None
-form_of (word ∷ argument ∷ further ∷ more) = None
+form_of (word ∷ argument ∷ further ∷ more) = if bytes_eq word (codes "table") then tabled (listing_in (argument ∷ further ∷ more)) else None
+
+-- Words that take memory to be read: those behind `table`, since a format is kept with its fields.
+abbrev pub take_memory : List (List ℕ) → Bool
+take_memory (word ∷ argument ∷ more) = bytes_eq word (codes "table")
+take_memory _ = false
+
+-- the words ask for a table or for nothing
+abbrev pub AskForTable : Option Form → Type 0
+AskForTable None = Unit {0}
+AskForTable (Some (form.Table l)) = Unit {0}
+AskForTable (Some _) = ⊥
 
 -- what they ask for where there is one thread alone, which sessions need more of
 abbrev pub alone : Option Form → Option Form

@@ -1,14 +1,16 @@
 -- What the top call owes: whatever form the words ask for, and what each form owes by itself.
-use Rattle.std.specs.Prelude.{◌≡◌, ◌↔◌, ◌⊎◌, ℕ, List, Option, Some, None}
+use Rattle.std.specs.Prelude.{◌≡◌, ◌⊎◌, ℕ, true, List, Option, Some, None}
 use Rattle.pybuf_make.specs.Summary.{summary}
+use Rattle.pybuf_table_lines.specs.Listings.{Listing}
 use Rattle.pybuf_cli.specs.declared.forms.Form.{Form}
 use Rattle.pybuf_cli.specs.declared.forms.Form.TheVariants as form
 use Rattle.pybuf_cli.specs.declared.status.Status.{Status}
 use Rattle.pybuf_cli.specs.declared.status.Status.TheVariants as status
 use Rattle.pybuf_cli.specs.Devices.{PutsFrontOf, Rose}
-use Rattle.pybuf_cli.specs.Program.{run_text, run_ending, Runs, Makes}
+use Rattle.pybuf_cli.specs.Program.{take_memory, run_text, run_ending, Runs, Makes}
 use Rattle.pybuf_cli.specs.Sharing.{IsDueShared, EndsShared, Shares}
 use Rattle.pybuf_cli.specs.Arrays.{array_run_text, array_run_ending, RunsArray}
+use Rattle.pybuf_cli.specs.Tables.{table_text, table_ending, ListsTable}
 
 -- The text is due for a form and an input. A script's summary is due whatever the input is, which isn't read.
 abbrev pub IsDue : Form → List ℕ → List ℕ → Type 0
@@ -16,6 +18,7 @@ IsDue form.Run input text = text ≡ run_text input
 IsDue form.Share input text = IsDueShared input text
 IsDue (form.Make n) input text = text ≡ summary n
 IsDue (form.Array c) input text = text ≡ array_run_text c input
+IsDue (form.Table l) input text = text ≡ table_text l input
 
 -- A form ends so over an input, where memory suffices and neither source nor sink fails.
 abbrev pub Ends : Form → List ℕ → Status → Type 0
@@ -23,6 +26,7 @@ Ends form.Run input result = result ≡ run_ending input
 Ends form.Share input result = EndsShared input result
 Ends (form.Make n) input result = result ≡ status.Done
 Ends (form.Array c) input result = result ≡ array_run_ending input
+Ends (form.Table l) input result = result ≡ table_ending l input
 
 -- what one form owes, and no other does
 abbrev pub Owes : {S K : Type 0} → Form → Status → (S → Option (List ℕ)) → (K → Option (List ℕ)) → S → S → K → K → Type 0
@@ -34,6 +38,8 @@ Owes (form.Make n) result bytes_left bytes_held source_before source sink_before
     Makes n result bytes_held source_before source sink_before sink
 Owes (form.Array c) result bytes_left bytes_held source_before source sink_before sink =
     RunsArray c result bytes_left bytes_held source_before source sink_before sink
+Owes (form.Table l) result bytes_left bytes_held source_before source sink_before sink =
+    ListsTable l result bytes_left bytes_held source_before source sink_before sink
 
 -- What is owed for a form that the words ask for.
 pub record ServesForm {S K : Type 0} (f : Form) (result : Status)
@@ -53,17 +59,21 @@ pub record ServesForm {S K : Type 0} (f : Form) (result : Status)
   pub too_long_writes_nothing : result ≡ status.TooLong → sink ≡ sink_before
   -- Sessions alone can disagree with their history.
   pub disagree : result ≡ status.Disagree → f ≡ form.Share
+  -- A table alone can have bytes left over.
+  pub bad_data : result ≡ status.BadData → (l : Listing) × (f ≡ form.Table l)
 
--- What the top call owes for the form that its words ask for, if they ask for one: its status, and the source and the sink
--- before and after it, by what they tell of their bytes and by the counts of their faults. A clause that speaks of one form
--- stands with that form (`Owes`).
-pub record Serves {S K : Type 0} (asked : Option Form) (result : Status)
+-- What the top call owes for its words and for the form that they ask for, if they ask for one: its status, and the source
+-- and the sink before and after it, by what they tell of their bytes and by the counts of their faults. A clause that speaks
+-- of one form stands with that form (`Owes`).
+pub record Serves {S K : Type 0} (words : List (List ℕ)) (asked : Option Form) (result : Status)
     (bytes_left : S → Option (List ℕ)) (source_faults : S → ℕ) (bytes_held : K → Option (List ℕ)) (sink_faults : K → ℕ)
     (source_before source : S) (sink_before sink : K) : Type 0 where
-  -- Words that are no form are refused before anything is read or written.
-  pub usage : (result ≡ status.Usage) ↔ (asked ≡ None)
-  pub usage_reads_nothing : result ≡ status.Usage → source ≡ source_before
-  pub usage_writes_nothing : result ≡ status.Usage → sink ≡ sink_before
+  -- Words that are no form are refused before anything is read or written, unless there is no memory to read them. None is
+  -- taken but for the words of a table.
+  pub usage : result ≡ status.Usage → asked ≡ None
+  pub refused : asked ≡ None → (result ≡ status.Usage) ⊎ ((take_memory words ≡ true) × (result ≡ status.NoMemory))
+  pub refused_reads_nothing : asked ≡ None → source ≡ source_before
+  pub refused_writes_nothing : asked ≡ None → sink ≡ sink_before
   -- Words that are one get what is owed for it.
   pub served : (f : Form) → asked ≡ Some f →
       ServesForm f result bytes_left source_faults bytes_held sink_faults source_before source sink_before sink

@@ -142,6 +142,7 @@ pub(crate) fn run_array<S: Source, K: Sink>(
     ensures too_long_writes_nothing { result ≡ Status.TooLong → sink.new ≡ sink.old }
     ensures usage { result ≢ Status.Usage }
     ensures disagree { result ≢ Status.Disagree }
+    ensures bad_data { result ≢ Status.BadData }
 {
     match read_all(alloc, source) {
         Ok(input) => answer(alloc, code, sink, input.as_slice()),

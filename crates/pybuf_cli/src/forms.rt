@@ -1,15 +1,18 @@
 //! What the words after the program's name ask for.
-ghost use Rattle.std.specs.Prelude.{◌≡◌, true, false, Some};
+ghost use Rattle.std.specs.Prelude.{◌≡◌, true, false, Some, IfOk, OnErr};
+ghost use Rattle.pybuf_table_lines.specs.Listings.{listing_in};
 ghost use Rattle.pybuf_cli.specs.declared.forms.Form.{Form};
-ghost use Rattle.pybuf_cli.specs.Program.{script_number_in, array_code_in, form_of, alone};
+ghost use Rattle.pybuf_cli.specs.Program.{script_number_in, array_code_in, tabled, form_of, take_memory, AskForTable, alone};
 
 use itoa::Buffer;
 use pybuf_array::ArrayCode;
 use pybuf_line::is_word;
-use pybuf_value::Text;
+use pybuf_table_lines::{Listing, listing_of_words};
+use pybuf_value::{Made, Text};
+use std::alloc::Global;
 
 /// What the program is asked to do.
-#[derive(Clone, Copy, Debug, PartialEq, Eq)]
+#[derive(Debug, Drop)]
 pub enum Form {
     /// To run the commands of its input, a line each.
     Run,
@@ -19,6 +22,8 @@ pub enum Form {
     Make(u16),
     /// To carry out the operations of its input, a line each, on an array of a code.
     Array(ArrayCode),
+    /// To write records of its input, a line each.
+    Table(Listing),
 }
 
 /// The greatest number of a script.
@@ -56,37 +61,58 @@ fn array_code(word: &Text) -> Option<ArrayCode>
     }
 }
 
-/// What the words ask for: `None` exactly where they are none that the program knows.
-pub fn form_named(words: &[Text]) -> Option<Form>
-    ensures { result ≡ form_of words.now }
+/// The records that the words behind `table` ask for.
+fn table_named(alloc: Global, words: &[Text]) -> Made<Option<Form>>
+    ensures { IfOk result (λ form. form ≡ tabled (listing_in words.now)) }
+{
+    match listing_of_words(alloc, words)? {
+        Some(listing) => Ok(Some(Form::Table(listing))),
+        None => Ok(None),
+    }
+}
+
+/// What the words ask for: `None` exactly where they are none that the program knows. Memory is taken for the words behind
+/// `table` alone.
+pub fn form_named(alloc: Global, words: &[Text]) -> Made<Option<Form>>
+    ensures form { IfOk result (λ form. form ≡ form_of words.now) }
+    ensures memory { OnErr result (take_memory words.now ≡ true) }
+    ensures table { OnErr result (AskForTable (form_of words.now)) }
 {
     match words {
-        [] => Some(Form::Run),
+        [] => Ok(Some(Form::Run)),
         [word] => {
             if is_word(word.as_slice(), "run") {
-                return Some(Form::Run);
+                return Ok(Some(Form::Run));
             }
             if is_word(word.as_slice(), "share") {
-                return Some(Form::Share);
+                return Ok(Some(Form::Share));
             }
-            None
+            Ok(None)
         }
         [word, argument] => {
             if is_word(word.as_slice(), "make") {
                 return match script_number(argument) {
-                    Some(number) => Some(Form::Make(number)),
-                    None => None,
+                    Some(number) => Ok(Some(Form::Make(number))),
+                    None => Ok(None),
                 };
             }
             if is_word(word.as_slice(), "array") {
                 return match array_code(argument) {
-                    Some(code) => Some(Form::Array(code)),
-                    None => None,
+                    Some(code) => Ok(Some(Form::Array(code))),
+                    None => Ok(None),
                 };
             }
-            None
+            if is_word(word.as_slice(), "table") {
+                return table_named(alloc, &words[1..]);
+            }
+            Ok(None)
         }
-        _ => None,
+        [word, arguments @ ..] => {
+            if is_word(word.as_slice(), "table") {
+                return table_named(alloc, arguments);
+            }
+            Ok(None)
+        }
     }
 }
 
@@ -95,11 +121,8 @@ pub(crate) fn is_shared(words: &[Text]) -> bool
     ensures shared { result ≡ true → form_of words.now ≡ Some Form.Share }
     ensures other { result ≡ false → alone (form_of words.now) ≡ form_of words.now }
 {
-    match form_named(words) {
-        Some(Form::Share) => true,
-        Some(Form::Run) => false,
-        Some(Form::Make(_)) => false,
-        Some(Form::Array(_)) => false,
-        None => false,
+    match words {
+        [word] => is_word(word.as_slice(), "share"),
+        _ => false,
     }
 }

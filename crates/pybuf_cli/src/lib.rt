@@ -13,6 +13,7 @@ mod putting;
 mod serving;
 mod sharing;
 mod status;
+mod tables;
 mod writing;
 
 pub use adapters::{ReaderSource, WriterSink};

@@ -1,5 +1,5 @@
 //! The top call: from the words and the input to the output and the status.
-ghost use Rattle.std.specs.Prelude.{◌≡◌, ◌≢◌, ◌<◌, ◌≤◌, ◌⊎◌, ◌^◌, List, [], ℕ, ◌↔◌, IfOk, Some, None, Ok, Err, length, take};
+ghost use Rattle.std.specs.Prelude.{◌≡◌, ◌≢◌, ◌<◌, ◌≤◌, ◌⊎◌, ◌^◌, List, [], ℕ, true, IfOk, Some, None, Ok, Err, length, take};
 ghost use Rattle.pybuf_command.specs.declared.worlds.Command.{Command};
 ghost use Rattle.pybuf_world.specs.World.{empty_world};
 ghost use Rattle.pybuf_world.specs.Sound.{StaysSound};
@@ -11,9 +11,11 @@ ghost use Rattle.pybuf_make.specs.Summary.{summary};
 ghost use Rattle.pybuf_numbers.specs.declared.codes.ArrayCode.{ArrayCode};
 ghost use Rattle.pybuf_array.specs.declared.operations.ArrayOp.{ArrayOp};
 ghost use Rattle.pybuf_array_lines.specs.Inputs.{operations_in};
+ghost use Rattle.pybuf_table_lines.specs.Listings.{Listing};
+ghost use Rattle.pybuf_table_lines.specs.Texts.{listing_text, left_over, left_over_text};
 ghost use Rattle.pybuf_cli.specs.declared.forms.Form.{Form};
 ghost use Rattle.pybuf_cli.specs.Running.{AreSpelled};
-ghost use Rattle.pybuf_cli.specs.Program.{form_of, alone, program, due_for, ending_for, run_text, run_ending, IsDone, IsBadLine, IsTooLong, TakesFront};
+ghost use Rattle.pybuf_cli.specs.Program.{form_of, take_memory, alone, program, due_for, ending_for, run_text, run_ending, IsDone, IsBadLine, IsTooLong, TakesFront};
 ghost use Rattle.pybuf_cli.specs.Arrays.{array_program};
 ghost use Rattle.pybuf_cli.specs.Serving.{IsDue, Ends, Serves};
 
@@ -25,6 +27,7 @@ use crate::memory::{QuietSink, QuietSource};
 use crate::putting::write_bad_line;
 use crate::sharing::share;
 use crate::status::Status;
+use crate::tables::table;
 use crate::writing::run_lines;
 use pybuf_line::{Misread, check_lines};
 use pybuf_make::make_summary;
@@ -92,6 +95,7 @@ fn run<S: Source, K: Sink>(alloc: Global, source: &mut S, sink: &mut K) -> Statu
     ensures too_long_writes_nothing { result ≡ Status.TooLong → sink.new ≡ sink.old }
     ensures usage { result ≢ Status.Usage }
     ensures disagree { result ≢ Status.Disagree }
+    ensures bad_data { result ≢ Status.BadData }
 {
     match read_all(alloc, source) {
         Ok(input) => answer(alloc, sink, input.as_slice()),
@@ -132,7 +136,12 @@ fn make<K: Sink>(alloc: Global, sink: &mut K, number: u16) -> Status
 /// With the word `array` and the letter of a code it reads the whole input likewise, looks whether each line is an
 /// operation, carries them out in order on a new array of that code, and puts one line for each reply.
 ///
-/// Other words are refused with `Usage`.
+/// With the word `table` and a format it reads the whole input, at most 1,048,576 bytes, and puts a line for each record of
+/// it, a tuple of its values; with the number of a field, an operator and a whole number behind the format, a line for each
+/// record whose field compares so. Where the input is no whole number of records, it puts how many bytes are left over, and
+/// ends with `BadData`.
+///
+/// Other words are refused with `Usage`. Memory to read the words is taken for those behind `table` alone.
 ///
 /// It ends where each call of the source and of the sink does.
 pub fn serve_alone<S: Source, K: Sink>(
@@ -141,22 +150,27 @@ pub fn serve_alone<S: Source, K: Sink>(
     source: &mut S,
     sink: &mut K,
 ) -> Status
-    ensures { Serves (alone (form_of words.now)) result S.bytes_left S.faults K.bytes_held K.faults source.old source.new sink.old sink.new }
+    ensures { Serves words.now (alone (form_of words.now)) result S.bytes_left S.faults K.bytes_held K.faults source.old source.new sink.old sink.new }
 {
-    match form_named(words) {
+    let Ok(form) = form_named(alloc, words) else {
+        return Status::NoMemory;
+    };
+    match form {
         None => Status::Usage,
         Some(Form::Share) => Status::Usage,
         Some(Form::Run) => run(alloc, source, sink),
         Some(Form::Make(number)) => make(alloc, sink, number),
         Some(Form::Array(code)) => run_array(alloc, code, source, sink),
+        Some(Form::Table(listing)) => table(alloc, source, sink, &listing),
     }
 }
 
 /// Does what `serve_alone` does with bytes in memory: gives the bytes that it puts, and its status.
 /// Nothing can fail but memory.
 pub fn serve_bytes(alloc: Global, words: &[Text], input: ByteList) -> (ByteList, Status)
-    ensures usage { (result.1 ≡ Status.Usage) ↔ (alone (form_of words.now) ≡ None) }
-    ensures usage_writes_nothing { result.1 ≡ Status.Usage → result.0 ≡ [] }
+    ensures usage { result.1 ≡ Status.Usage → alone (form_of words.now) ≡ None }
+    ensures refused { alone (form_of words.now) ≡ None → (result.1 ≡ Status.Usage) ⊎ ((take_memory words.now ≡ true) × (result.1 ≡ Status.NoMemory)) }
+    ensures refused_writes_nothing { alone (form_of words.now) ≡ None → result.0 ≡ [] }
     ensures done { form_of words.now ≡ Some Form.Run → result.1 ≡ Status.Done →
         (commands : List Command) × (commands_in handle_in input ≡ Ok commands) × (result.0 ≡ program commands) }
     ensures bad_line { form_of words.now ≡ Some Form.Run → result.1 ≡ Status.BadLine →
@@ -166,6 +180,10 @@ pub fn serve_bytes(alloc: Global, words: &[Text], input: ByteList) -> (ByteList,
         (operations : List ArrayOp) × (operations_in input ≡ Ok operations) × (result.0 ≡ array_program c operations) }
     ensures array_bad_line { (c : ArrayCode) → form_of words.now ≡ Some (Form.Array c) → result.1 ≡ Status.BadLine →
         (line : ℕ) × (operations_in input ≡ Err line) × (result.0 ≡ bad_line_text line) }
+    ensures listed { (l : Listing) → form_of words.now ≡ Some (Form.Table l) → result.1 ≡ Status.Done →
+        (left_over l input ≡ 0) × (result.0 ≡ listing_text l input) }
+    ensures bad_data { (l : Listing) → form_of words.now ≡ Some (Form.Table l) → result.1 ≡ Status.BadData →
+        (0 < left_over l input) × (result.0 ≡ left_over_text (left_over l input)) }
     ensures prefix { (f : Form) → alone (form_of words.now) ≡ Some f →
         (text : List ℕ) × IsDue f input text × (count : ℕ) × (count ≤ length text) × (result.0 ≡ take count text) }
     ensures complete { (f : Form) → alone (form_of words.now) ≡ Some f →
@@ -198,7 +216,7 @@ pub fn serve_gated<R: Threads + Wait + Sync, S: Source, K: Sink, G: Gate + Sync>
     sink: &mut K,
     gate: &G,
 ) -> Status
-    ensures { Serves (form_of words.now) result S.bytes_left S.faults K.bytes_held K.faults source.old source.new sink.old sink.new }
+    ensures { Serves words.now (form_of words.now) result S.bytes_left S.faults K.bytes_held K.faults source.old source.new sink.old sink.new }
 {
     if is_shared(words) {
         return share(rt, alloc, source, sink, gate);
@@ -215,7 +233,7 @@ pub fn serve<R: Threads + Wait + Sync, S: Source, K: Sink>(
     source: &mut S,
     sink: &mut K,
 ) -> Status
-    ensures { Serves (form_of words.now) result S.bytes_left S.faults K.bytes_held K.faults source.old source.new sink.old sink.new }
+    ensures { Serves words.now (form_of words.now) result S.bytes_left S.faults K.bytes_held K.faults source.old source.new sink.old sink.new }
 {
     if is_shared(words) {
         return serve_gated(rt, alloc, words, source, sink, &OpenGate);

@@ -210,6 +210,7 @@ pub(crate) fn share<R: Threads + Wait + Sync, S: Source, K: Sink, G: Gate + Sync
     ensures read_fault_writes_nothing { result ≡ Status.ReadFault → sink.new ≡ sink.old }
     ensures too_long_writes_nothing { result ≡ Status.TooLong → sink.new ≡ sink.old }
     ensures usage { result ≢ Status.Usage }
+    ensures bad_data { result ≢ Status.BadData }
 {
     match read_all(alloc, source) {
         Ok(input) => answer(rt, alloc, sink, input.as_slice(), gate),

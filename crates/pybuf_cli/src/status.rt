@@ -21,10 +21,12 @@ pub enum Status {
     TooLong,
     /// Sessions that share an exporter disagree with its history.
     Disagree,
+    /// The input is no whole number of records. How many bytes are left over is all that was written.
+    BadData,
 }
 
 impl Status {
-    /// The exit status of the process: 0 for `Done`, and 2 to 8 for the others in their order.
+    /// The exit status of the process: 0 for `Done`, and 2 to 9 for the others in their order.
     pub fn number(self) -> u8
         ensures { result ≡ exit_number self }
     {
@@ -37,6 +39,7 @@ impl Status {
             Status::Usage => 6,
             Status::TooLong => 7,
             Status::Disagree => 8,
+            Status::BadData => 9,
         }
     }
 }

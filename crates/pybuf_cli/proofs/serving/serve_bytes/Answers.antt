@@ -2,6 +2,7 @@ use Rattle.std.proofs.Common.{ap, refl}
 use Rattle.pybuf_cli.specs.Program.{alone, form_of}
 use Rattle.pybuf_cli.proofs.Served.{quiet_ran, quiet_refused, quiet_made, quiet_front, quiet_ends}
 use Rattle.pybuf_cli.proofs.ArrayServed as array
+use Rattle.pybuf_cli.proofs.Tabling.{quiet_listed, quiet_bad_data}
 use Rattle.pybuf_cli.proofs.OneForm.{never_rose, reads_well, writes_well, agrees_alone}
 use Rattle.pybuf_cli.proofs.serving.serve_bytes.Goals as goal
 
@@ -35,16 +36,28 @@ returns-clause-array_bad_line c =
     λ code f bad. array.quiet_refused c.args.input c.new-source.result c.new-sink.result c.serve_alone-status.new.sink c.into_bytes.result _
     c.new-source.ensures c.new-sink.ensures c.into_bytes.ensures ((c.serve_alone-status.ensures.served _ (ap alone f)).own.bad_line bad c.new-source.result refl)
 
+pub returns-clause-listed : goal.returns-clause-listed
+returns-clause-listed c =
+    λ l asked done. quiet_listed l c.args.input c.new-source.result c.new-sink.result c.serve_alone-status.new.sink c.into_bytes.result _
+    c.new-source.ensures c.new-sink.ensures c.into_bytes.ensures
+    ((c.serve_alone-status.ensures.served _ (ap alone asked)).own.done done c.new-source.result refl)
+
+pub returns-clause-bad_data : goal.returns-clause-bad_data
+returns-clause-bad_data c =
+    λ l asked bad. quiet_bad_data l c.args.input c.new-source.result c.new-sink.result c.serve_alone-status.new.sink c.into_bytes.result _
+    c.new-source.ensures c.new-sink.ensures c.into_bytes.ensures
+    ((c.serve_alone-status.ensures.served _ (ap alone asked)).own.bad_data bad c.new-source.result refl)
+
 pub returns-clause-complete : goal.returns-clause-complete
 returns-clause-complete c =
     λ f asked. quiet_ends f c.args.input c.new-source.result c.serve_alone-status.result c.new-source.ensures
     ((c.serve_alone-status.ensures.served f asked).complete c.new-source.result refl (never_rose 0 0 refl refl) (never_rose 0 0 refl refl))
 
 pub returns-clause-no_read_fault : goal.returns-clause-no_read_fault
-returns-clause-no_read_fault c = reads_well _ _ _ _ _ _ _ _ _ _ c.serve_alone-status.ensures (never_rose 0 0 refl refl)
+returns-clause-no_read_fault c = reads_well _ _ _ _ _ _ _ _ _ _ _ c.serve_alone-status.ensures (never_rose 0 0 refl refl)
 
 pub returns-clause-no_write_fault : goal.returns-clause-no_write_fault
-returns-clause-no_write_fault c = writes_well _ _ _ _ _ _ _ _ _ _ c.serve_alone-status.ensures (never_rose 0 0 refl refl)
+returns-clause-no_write_fault c = writes_well _ _ _ _ _ _ _ _ _ _ _ c.serve_alone-status.ensures (never_rose 0 0 refl refl)
 
 pub returns-clause-disagree : goal.returns-clause-disagree
-returns-clause-disagree c = agrees_alone (form_of c.args.words.now) _ _ _ _ _ _ _ _ _ _ refl c.serve_alone-status.ensures
+returns-clause-disagree c = agrees_alone _ (form_of c.args.words.now) _ _ _ _ _ _ _ _ _ _ refl c.serve_alone-status.ensures

@@ -5,7 +5,7 @@ use Rattle.pybuf_cli.proofs.serving.serve_gated.Goals as goal
 
 pub returns-then-is_shared : goal.returns-then-is_shared
 returns-then-is_shared g c =
-    serves_form _ form.Share c.share.result _ _ _ _ _ _ _ _ (c.is_shared.ensures.shared c.if-is_shared.true) c.share.ensures.usage (record {
+    serves_form _ _ form.Share c.share.result _ _ _ _ _ _ _ _ (c.is_shared.ensures.shared c.if-is_shared.true) c.share.ensures.usage (record {
       own = record {
         reads = record {
           too_long = c.share.ensures.too_long;
@@ -23,7 +23,8 @@ returns-then-is_shared g c =
       read_fault_writes_nothing = c.share.ensures.read_fault_writes_nothing;
       too_long_writes_nothing = c.share.ensures.too_long_writes_nothing;
       disagree = λ _. refl;
+      bad_data = λ other. absurd (c.share.ensures.bad_data other);
     })
 
 pub returns : goal.returns
-returns g c = serves_as _ _ c.serve_alone.result _ _ _ _ _ _ _ _ (c.is_shared.ensures.other c.if-is_shared.false) c.serve_alone.ensures
+returns g c = serves_as _ _ _ c.serve_alone.result _ _ _ _ _ _ _ _ (c.is_shared.ensures.other c.if-is_shared.false) c.serve_alone.ensures
