@@ -7,7 +7,7 @@
 It is no part of the gate. The program is `crates/pybuf/out/pybuf`, or what `--program` names. It ends with status 1 where a
 run ended otherwise than it may.
 
-`refused` runs a few cases of `cases/worked`, two of them of `array`, and two inputs of `share`, with one growth of memory refused, the first, then the second, and so on until a
+`refused` runs a few cases of `cases/worked`, two of them of `array`, two inputs of `share` and three of `table`, with one growth of memory refused, the first, then the second, and so on until a
 run needs no more of them, and once more with every growth refused from there on. A run may end with what is written of the
 case and status 0; else it has to end with status 3, its line on standard error, and the replies of the first commands, each
 whole. Of sessions in an order that is open, what is written has to be what one thread gets, as far as it goes
@@ -38,7 +38,7 @@ sys.dont_write_bytecode = True
 import check_sessions
 
 ROOT = pathlib.Path(__file__).resolve().parent.parent
-WORKED, SESSIONS, ARRAYS = ROOT / "cases/worked", ROOT / "cases/sessions", ROOT / "cases/arrays"
+WORKED, SESSIONS, ARRAYS, TABLES = (ROOT / "cases" / name for name in ("worked", "sessions", "arrays", "tables"))
 SECONDS = 20
 DONE, BAD_LINE, NO_MEMORY = 0, 2, 3
 NO_MEMORY_LINE = b"pybuf: no memory\n"
@@ -53,6 +53,8 @@ REFUSED = [
 ]
 # Inputs of `share`: one session with views, an iterator and copies, and two whose order is open.
 REFUSED_SESSIONS = ["names-in-replies", "two-sessions-write-six-bytes"]
+# Inputs of `table`: records of several values, some that are chosen, and some that are chosen by bytes.
+REFUSED_TABLES = ["tables-07", "a-record-that-is-chosen", "bytes-are-no-number"]
 # Stands before `malloc` and what else gives memory: refuses the growth of the number in REFUSE_AT, with REFUSE_ON=1 all
 # behind it too, and writes a byte to standard error's neighbour, 3, when it first does.
 REFUSING = r"""
@@ -202,7 +204,7 @@ def refused(program):
         return [
             fault
             for behind in (False, True)
-            for where, names in ((WORKED, REFUSED), (SESSIONS, REFUSED_SESSIONS))
+            for where, names in ((WORKED, REFUSED), (SESSIONS, REFUSED_SESSIONS), (TABLES, REFUSED_TABLES))
             for name in names
             for fault in refused_of_case(program, library, where, name, behind)
         ]

@@ -45,12 +45,13 @@ SECONDS = 10
 LIMIT = 1_048_576
 # Many times what the program needs for any input here, and less than three dozen lists of a million places.
 ADDRESS_SPACE = 256 * 1024 * 1024
-DONE, BAD_LINE, NO_MEMORY, USAGE, TOO_LONG = 0, 2, 3, 6, 7
+DONE, BAD_LINE, NO_MEMORY, USAGE, TOO_LONG, BAD_DATA = 0, 2, 3, 6, 7, 9
 # What is said on standard error of a status that the output doesn't tell.
 COMPLAINTS = {
     NO_MEMORY: b"pybuf: no memory\n",
-    USAGE: b"pybuf: usage: pybuf [run | share | make N | array CODE] < lines\n",
+    USAGE: b"pybuf: usage: pybuf [run | share | make N | array CODE | table FORMAT [K OP N]] < input\n",
     TOO_LONG: b"pybuf: more than 1,048,576 bytes\n",
+    BAD_DATA: b"pybuf: the input is no whole number of records\n",
 }
 
 # Commands of which the third finds no memory, and such of which the reply to the third finds none, and no others.
@@ -241,6 +242,12 @@ def large_inputs():
             DONE,
             [b"array", b"H"],
         ),
+        # As many records as an input can hold, each with its line, which takes no more memory than one does; of such an
+        # input with one byte more, and of one with a byte that makes no whole record, none is written.
+        Case("the longest table", LIMIT * b"\7", b"(7,)\n" * LIMIT, DONE, [b"table", b"B"], ADDRESS_SPACE // 4),
+        Case("records that are chosen of the longest table", (LIMIT // 2) * b"\7\1", b"(7,)\n" * (LIMIT // 2), DONE, [b"table", b"B", b"0", b">", b"1"], ADDRESS_SPACE // 4),
+        Case("the longest table, and one byte more", (LIMIT + 1) * b"\7", b"", TOO_LONG, [b"table", b"B"]),
+        Case("the longest table of which a byte is left over", LIMIT * b"\7", b"1 bytes left over\n", BAD_DATA, [b"table", b"3B"]),
         # The byte that is written through the first view is read through the last. A view that kept a list of its
         # places would need more memory than there is.
         Case("ten thousand views of a million bytes", views, handles + b"ok\n7\n", DONE, (), ADDRESS_SPACE),
