@@ -7,4 +7,5 @@ mod PlaceLemmas
 mod SpanLemmas
 mod RoomLemmas
 mod LogLemmas
+mod ElfLemmas
 mod WorldLemmas

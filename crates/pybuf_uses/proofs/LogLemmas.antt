@@ -31,7 +31,7 @@ take_less (suc m) (suc j) [] less = refl
 take_less (suc m) (suc j) (x ∷ xs) less = ap (λ rest. x ∷ rest) (take_less m j xs (omega arith))
 
 -- bytes that lie in the first so many
-in_head : (file : List ℕ) (size start head : ℕ) → start + size ≤ head → bytes_at (take head file) size start ≡ bytes_at file size start
+pub in_head : (file : List ℕ) (size start head : ℕ) → start + size ≤ head → bytes_at (take head file) size start ≡ bytes_at file size start
 in_head file size start head inside =
     let whole : head ≡ start + (head - start) = omega arith in
     ap (λ n. take size (drop start (take n file))) whole

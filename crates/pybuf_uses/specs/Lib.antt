@@ -3,3 +3,4 @@ pub mod Log
 pub mod Lines
 pub mod Program
 pub mod Handing
+pub mod Elf

@@ -1,0 +1,5 @@
+use Rattle.pybuf_uses.proofs.ElfLemmas.{sections_sized}
+use Rattle.pybuf_uses.proofs.elf_file.section_records.Goals as goal
+
+pub returns-clause-size : goal.returns-clause-size
+returns-clause-size c = sections_sized c.records_of.result c.records_of.ensures
