@@ -127,11 +127,19 @@ def check_edits(document, lines):
 
 
 def outputs():
-    """Of each example its input and its output."""
+    """Of each example its input, a character a byte, and its output."""
     found = []
     for path in sorted((ROOT / "examples").glob("*.stdout")):
-        found.append((path.with_suffix("").read_text(), path.read_text()))
+        found.append((path.with_suffix("").read_bytes().decode("latin-1"), path.read_text()))
     return found
+
+
+def words_of(given, written):
+    """The words of each example with this input and this output."""
+    for path in sorted((ROOT / "examples").glob("*.stdout")):
+        words = path.with_suffix(".args")
+        if (path.with_suffix("").read_bytes().decode("latin-1"), path.read_text()) == (given, written):
+            yield words.read_text().split("\n")[:-1] if words.exists() else []
 
 
 def shown_behind(lines, at):
@@ -153,11 +161,11 @@ def check_inputs(document, lines, examples):
                 report(document, at + 1, f"there is no example {tried[1]}")
             elif shown and shown != stored.read_text():
                 report(document, at + 1, "the example has another output")
-        piped = re.fullmatch(r" {4}\$ (printf .*) \| pybuf(?: array [a-zA-Z])?", line)
+        piped = re.fullmatch(r" {4}\$ (printf .*) \| pybuf((?: (?:array|table) .*)?)", line)
         if piped is not None:
-            text = shlex.split(piped[1])[1].replace("\\n", "\n")
-            if (text, shown_behind(lines, at + 1)) not in examples:
-                report(document, at + 1, "no example has this input and this output")
+            text = shlex.split(piped[1])[1].encode().decode("unicode_escape")
+            if shlex.split(piped[2]) not in words_of(text, shown_behind(lines, at + 1)):
+                report(document, at + 1, "no example has this input, these words and this output")
         if re.fullmatch(r" {4}\$ cat > \S+ <<'END'", line) is not None:
             end = lines.index("    END", at)
             text = "".join(part[4:] + "\n" for part in lines[at + 1 : end])
