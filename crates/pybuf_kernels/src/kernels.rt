@@ -39,8 +39,9 @@ pub enum Work {
     Call(Method),
 }
 
-/// All kernels, in the order in which they are measured. `z` and `cba` stand nowhere in a drawn text.
-pub const KERNELS: [(&str, Work); 86] = [
+/// Kernels of bytes that views give or are assigned. With those below in the order in which they are measured; each table is
+/// lent by a function of its own, since one that lent all would be too large for the prover.
+pub const COPY_KERNELS: [(&str, Work); 38] = [
     (
         "tobytes-contiguous",
         Work::Views(Doing::ToBytes(Part::Whole)),
@@ -178,6 +179,10 @@ pub const KERNELS: [(&str, Work); 86] = [
     ),
     ("set-overlapping", Work::Views(Doing::Shift)),
     ("set-itself", Work::Views(Doing::Reverse)),
+];
+
+/// Kernels of views that are made, of items, of records and of bytearrays that grow and shrink.
+pub const ITEM_KERNELS: [(&str, Work); 25] = [
     ("views", Work::Make(Making::View)),
     ("slices", Work::Make(Making::Slice)),
     ("slices-planes", Work::Make(Making::SliceOfPlanes)),
@@ -215,6 +220,10 @@ pub const KERNELS: [(&str, Work); 86] = [
     ("queue-long", Work::Queue(100_000)),
     ("queue-short", Work::Queue(10)),
     ("queue-drawn", Work::DrawnQueue),
+];
+
+/// Kernels of comparison and of methods of bytes. `z` and `cba` stand nowhere in a drawn text.
+pub const METHOD_KERNELS: [(&str, Work); 23] = [
     ("compare", Work::Views(Doing::Compare)),
     ("compare-beside", Work::Beside(Question::Compare)),
     ("compare-reversed", Work::Beside(Question::CompareReversed)),

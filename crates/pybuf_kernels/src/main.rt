@@ -22,20 +22,56 @@ mod viewed;
 mod views;
 mod worlds;
 
-use kernels::{KERNELS, measure_work};
+use kernels::{COPY_KERNELS, ITEM_KERNELS, METHOD_KERNELS, Work, measure_work};
 use pybuf_measure::{Plan, Stop, asks_for, name_of, plan_of, status_of, tell, words_of};
 use std::process::ExitCode;
 use std::time::CpuClock;
 
-/// Measures the kernel of a name, or all of them.
-fn run<R: CpuClock + AllocGlobal + Print>(rt: &R, plan: Plan, word: &str) -> Result<(), Stop> {
-    for (name, work) in &KERNELS {
+/// Measures those of some kernels that a word asks for.
+fn run_some<R: CpuClock + AllocGlobal + Print>(
+    rt: &R,
+    plan: Plan,
+    word: &str,
+    kernels: &[(&str, Work)],
+) -> Result<(), Stop> {
+    for (name, work) in kernels {
         if asks_for(word, name) {
             let measured = measure_work(rt, plan, *work)?;
             tell(rt, plan, name, measured)?;
         }
     }
     Ok(())
+}
+
+fn run_copies<R: CpuClock + AllocGlobal + Print>(
+    rt: &R,
+    plan: Plan,
+    word: &str,
+) -> Result<(), Stop> {
+    run_some(rt, plan, word, &COPY_KERNELS)
+}
+
+fn run_items<R: CpuClock + AllocGlobal + Print>(
+    rt: &R,
+    plan: Plan,
+    word: &str,
+) -> Result<(), Stop> {
+    run_some(rt, plan, word, &ITEM_KERNELS)
+}
+
+fn run_methods<R: CpuClock + AllocGlobal + Print>(
+    rt: &R,
+    plan: Plan,
+    word: &str,
+) -> Result<(), Stop> {
+    run_some(rt, plan, word, &METHOD_KERNELS)
+}
+
+/// Measures the kernel of a name, or all of them.
+fn run<R: CpuClock + AllocGlobal + Print>(rt: &R, plan: Plan, word: &str) -> Result<(), Stop> {
+    run_copies(rt, plan, word)?;
+    run_items(rt, plan, word)?;
+    run_methods(rt, plan, word)
 }
 
 fn main(rt: HostRuntime) -> ExitCode {
