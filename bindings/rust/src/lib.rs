@@ -8,7 +8,7 @@
 //! assert_eq!(numbers.get(0)?, 1);
 //! numbers.set(1, 258)?;
 //! assert_eq!(array.to_bytes()?, b"\x01\x00\x02\x01");
-//! // two views are unreleased: the one of all bytes, which is dropped, is released with its value
+//! // one view is unreleased: that of all bytes was released when its value was dropped
 //! assert_eq!(array.append(0), Err(Error::Buffer));
 //! drop(numbers);
 //! array.append(0)?;
