@@ -35,3 +35,6 @@ pub mod StepsOfLines
 pub mod LineLemmas
 pub mod LinePieces
 pub mod LinePairs
+pub mod ColumnRuns
+pub mod ColumnViews
+pub mod ColumnSteps

@@ -47,7 +47,7 @@ strides_fail size k dims h g more unfit fit =
 
 -- ---- what `is_contiguous` says
 
-no_place : (size : ℕ) (start : ℤ) (xs : List ℤ) → length xs ≡ 0 → IsContiguous size start xs
+pub no_place : (size : ℕ) (start : ℤ) (xs : List ℤ) → length xs ≡ 0 → IsContiguous size start xs
 no_place size start [] e = refl
 no_place size start (x ∷ xs) e = absurd (let wrong : suc (length xs) ≡ 0 = e in omega arith)
 
@@ -89,7 +89,7 @@ bytes_fit d can some = subst (λ n. d.itemsize * n < 2 ^ 63) (sym (product-exten
 pub no_item : (d : Descriptor) → IsPlaceable d → d.len ≡ 0 → product (shape_of d.dims) ≡ 0
 no_item d can e = no_product d.itemsize (product (shape_of d.dims)) d.len can.placed.valid.len can.placed.valid.some_size e
 
-one_of : (n : ℕ) → 0 < n → (1 < n → ⊥) → 1 ≡ n
+pub one_of : (n : ℕ) → 0 < n → (1 < n → ⊥) → 1 ≡ n
 one_of zero more few = absurd (omega (arith, more))
 one_of (suc zero) more few = refl
 one_of (suc (suc n)) more few = absurd (few (omega arith))

@@ -8,6 +8,8 @@ use Rattle.pybuf_desc.specs.Apart.{HasItemsApart}
 use Rattle.pybuf_desc.specs.Items.{content_of_layout}
 use Rattle.pybuf_desc.specs.Contiguous.{is_contiguous_layout}
 use Rattle.pybuf_desc.specs.Strides.{AreRowMajor, HasRowMajorStrides}
+use Rattle.pybuf_desc.specs.ColumnOrder.{is_f_contiguous_layout}
+use Rattle.pybuf_desc.specs.ColumnMajor.{HasColumnMajorStrides}
 use Rattle.pybuf_desc.specs.Casts.{cast_count, cast_of}
 use Rattle.pybuf_desc.specs.ShapedCasts.{cast_to}
 use Rattle.pybuf_desc.specs.Packed.{row_major_of}
@@ -147,6 +149,13 @@ abbrev pub ContiguityIsOfStrides : Type 0
 ContiguityIsOfStrides =
     (d : Descriptor) (start : ℕ) (view : Layout) → IsPlaced d start → Stands d start view → 0 < length view.starts
     → (is_contiguous_layout view ≡ true) ↔ (HasRowMajorStrides view)
+
+-- where there are items, they lie one after the other in column order exactly if the strides are
+-- column-major
+abbrev pub FContiguityIsOfStrides : Type 0
+FContiguityIsOfStrides =
+    (d : Descriptor) (start : ℕ) (view : Layout) → IsPlaced d start → Stands d start view → 0 < length view.starts
+    → (is_f_contiguous_layout view ≡ true) ↔ (HasColumnMajorStrides view)
 
 -- the items of a descriptor lie without a gap wherever they start, or nowhere
 abbrev pub ContiguityIsTheSameAnywhere : Type 0

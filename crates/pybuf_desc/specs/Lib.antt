@@ -20,3 +20,5 @@ pub mod Pairs
 pub mod KeptDims
 pub mod KeptFormats
 pub mod SegmentLines
+pub mod ColumnOrder
+pub mod ColumnMajor

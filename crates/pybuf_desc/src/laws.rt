@@ -1,5 +1,5 @@
 //! Laws of the definitions that the contracts cite. Each stands on a function with an empty body.
-ghost use Rattle.pybuf_desc.specs.Laws.{CastsShareTheirBytes, CastsStayInside, CastsHaveTheirShape, CastsAreContiguous, FlatCastsHaveOneDimension, ShapedCastsShareTheirBytes, ShapedCastsStayInside, ShapedCastsHaveTheirShape, CopiesHaveTheirBytes, SlicesStayInside, SlicesHaveTheirShape, SlicingBackTwiceIsNothing, WholeLayoutsLieApart, SlicesLieApart, CastsLieApart, RowMajorLayoutsLieApart, PlacedDescriptorsStand, DescriptorsStandForOneView, DescribedViewsHaveTheirShape, ValidWhereItemsLieInside, ContiguityIsOfStrides, ContiguityIsTheSameAnywhere, PositionsArePlaces, TailsAreGreatest, RangesHaveTheContent, RangesStayInside, LinesLieInside, LinesHaveTheirPieces};
+ghost use Rattle.pybuf_desc.specs.Laws.{CastsShareTheirBytes, CastsStayInside, CastsHaveTheirShape, CastsAreContiguous, FlatCastsHaveOneDimension, ShapedCastsShareTheirBytes, ShapedCastsStayInside, ShapedCastsHaveTheirShape, CopiesHaveTheirBytes, SlicesStayInside, SlicesHaveTheirShape, SlicingBackTwiceIsNothing, WholeLayoutsLieApart, SlicesLieApart, CastsLieApart, RowMajorLayoutsLieApart, PlacedDescriptorsStand, DescriptorsStandForOneView, DescribedViewsHaveTheirShape, ValidWhereItemsLieInside, ContiguityIsOfStrides, FContiguityIsOfStrides, ContiguityIsTheSameAnywhere, PositionsArePlaces, TailsAreGreatest, RangesHaveTheContent, RangesStayInside, LinesLieInside, LinesHaveTheirPieces};
 
 /// The items of a cast of a contiguous view have the view's bytes in their order: its items lie one
 /// new item size apart from the view's first place on, and make up all its bytes.
@@ -112,6 +112,12 @@ pub fn valid_where_items_lie_inside()
 /// item size times the number of items of the later dimensions.
 pub fn contiguity_is_of_strides()
     ensures { ContiguityIsOfStrides }
+{}
+
+/// Items lie one after the other in column order exactly if each dimension of more than one entry has as
+/// stride the item size times the product of the earlier entries.
+pub fn f_contiguity_is_of_strides()
+    ensures { FContiguityIsOfStrides }
 {}
 
 /// Whether the items of a descriptor lie one after the other doesn't depend on where they start.
