@@ -120,7 +120,7 @@ strides_from_column size (dim ∷ dims) some p e =
 
 -- ---- what contracts say of it
 
-column_without_a_gap : (size : ℕ) (dims : List (ℕ × ℤ × ℤ)) (p : ℤ) → column_places dims p ≡ run size p (product (shape_of dims)) → IsContiguous size p (column_places dims p)
+pub column_without_a_gap : (size : ℕ) (dims : List (ℕ × ℤ × ℤ)) (p : ℤ) → column_places dims p ≡ run size p (product (shape_of dims)) → IsContiguous size p (column_places dims p)
 column_without_a_gap size dims p e =
     e ∙ ap (λ k. run size p k) (sym (length-column_places dims p)) ∙ sym (map-run-0 size (length (column_places dims p)) p)
 

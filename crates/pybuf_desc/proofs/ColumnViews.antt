@@ -41,7 +41,7 @@ map_where : {X A : Type 0} (P : X → Type 0) (f g : X → A) (xs : List X) → 
 map_where P f g [] all e = refl
 map_where P f g (x ∷ xs) all e = ap₂ (λ y ys. y ∷ ys) (e x all.0) (map_where P f g xs all.1 e)
 
-all-append : {A : Type 0} (P : A → Type 0) (xs ys : List A) → AllByRecursion P xs → AllByRecursion P ys → AllByRecursion P (xs ++ ys)
+pub all-append : {A : Type 0} (P : A → Type 0) (xs ys : List A) → AllByRecursion P xs → AllByRecursion P ys → AllByRecursion P (xs ++ ys)
 all-append P [] ys h g = g
 all-append P (x ∷ xs) ys h g = (h.0, all-append P xs ys h.1 g)
 

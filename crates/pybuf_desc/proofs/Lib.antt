@@ -38,3 +38,4 @@ pub mod LinePairs
 pub mod ColumnRuns
 pub mod ColumnViews
 pub mod ColumnSteps
+pub mod ColumnCasts

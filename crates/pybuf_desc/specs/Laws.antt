@@ -6,12 +6,13 @@ use Rattle.pybuf_index.specs.Parts.{SliceParts}
 use Rattle.pybuf_desc.specs.Layouts.{Layout, HasItemsOfItsShape, LiesInside, product, bytes_layout, bytes_layout_from}
 use Rattle.pybuf_desc.specs.Apart.{HasItemsApart}
 use Rattle.pybuf_desc.specs.Items.{content_of_layout}
-use Rattle.pybuf_desc.specs.Contiguous.{is_contiguous_layout}
+use Rattle.pybuf_desc.specs.Contiguous.{starts_from, is_contiguous_layout}
 use Rattle.pybuf_desc.specs.Strides.{AreRowMajor, HasRowMajorStrides}
-use Rattle.pybuf_desc.specs.ColumnOrder.{is_f_contiguous_layout}
+use Rattle.pybuf_desc.specs.ColumnOrder.{column_starts, is_f_contiguous_layout}
 use Rattle.pybuf_desc.specs.ColumnMajor.{HasColumnMajorStrides}
 use Rattle.pybuf_desc.specs.Casts.{cast_count, cast_of}
 use Rattle.pybuf_desc.specs.ShapedCasts.{cast_to}
+use Rattle.pybuf_desc.specs.ColumnCasts.{column_cast_to}
 use Rattle.pybuf_desc.specs.Packed.{row_major_of}
 use Rattle.pybuf_desc.specs.Slices.{slice_of}
 use Rattle.pybuf_desc.specs.Descriptor.{Descriptor}
@@ -70,6 +71,21 @@ abbrev pub ShapedCastsHaveTheirShape : Type 0
 ShapedCastsHaveTheirShape =
     (view : Layout) (format : List ℕ) (size : ℕ) (shape : List ℕ) → 0 < size → length view.starts * view.itemsize ≡ product shape * size
     → HasItemsOfItsShape (cast_to view format size shape)
+
+-- The items of a cast in column order, taken in that order, lie one new item size apart from the first
+-- place of the view on.
+abbrev pub ColumnCastsFollowColumnOrder : Type 0
+ColumnCastsFollowColumnOrder =
+    (view : Layout) (format : List ℕ) (size : ℕ) (shape : List ℕ) → 0 < length view.starts
+    → column_starts (column_cast_to view format size shape) ≡ starts_from view.starts size (product shape)
+
+abbrev pub ColumnCastsAreFContiguous : Type 0
+ColumnCastsAreFContiguous =
+    (view : Layout) (format : List ℕ) (size : ℕ) (shape : List ℕ) → is_f_contiguous_layout (column_cast_to view format size shape) ≡ true
+
+abbrev pub ColumnCastsHaveTheirShape : Type 0
+ColumnCastsHaveTheirShape =
+    (view : Layout) (format : List ℕ) (size : ℕ) (shape : List ℕ) → 0 < length view.starts → HasItemsOfItsShape (column_cast_to view format size shape)
 
 -- ---- copies
 

@@ -22,3 +22,4 @@ pub mod KeptFormats
 pub mod SegmentLines
 pub mod ColumnOrder
 pub mod ColumnMajor
+pub mod ColumnCasts

@@ -1,5 +1,5 @@
 //! Laws of the definitions that the contracts cite. Each stands on a function with an empty body.
-ghost use Rattle.pybuf_desc.specs.Laws.{CastsShareTheirBytes, CastsStayInside, CastsHaveTheirShape, CastsAreContiguous, FlatCastsHaveOneDimension, ShapedCastsShareTheirBytes, ShapedCastsStayInside, ShapedCastsHaveTheirShape, CopiesHaveTheirBytes, SlicesStayInside, SlicesHaveTheirShape, SlicingBackTwiceIsNothing, WholeLayoutsLieApart, SlicesLieApart, CastsLieApart, RowMajorLayoutsLieApart, PlacedDescriptorsStand, DescriptorsStandForOneView, DescribedViewsHaveTheirShape, ValidWhereItemsLieInside, ContiguityIsOfStrides, FContiguityIsOfStrides, ContiguityIsTheSameAnywhere, PositionsArePlaces, TailsAreGreatest, RangesHaveTheContent, RangesStayInside, LinesLieInside, LinesHaveTheirPieces};
+ghost use Rattle.pybuf_desc.specs.Laws.{CastsShareTheirBytes, CastsStayInside, CastsHaveTheirShape, CastsAreContiguous, FlatCastsHaveOneDimension, ShapedCastsShareTheirBytes, ShapedCastsStayInside, ShapedCastsHaveTheirShape, ColumnCastsFollowColumnOrder, ColumnCastsAreFContiguous, ColumnCastsHaveTheirShape, CopiesHaveTheirBytes, SlicesStayInside, SlicesHaveTheirShape, SlicingBackTwiceIsNothing, WholeLayoutsLieApart, SlicesLieApart, CastsLieApart, RowMajorLayoutsLieApart, PlacedDescriptorsStand, DescriptorsStandForOneView, DescribedViewsHaveTheirShape, ValidWhereItemsLieInside, ContiguityIsOfStrides, FContiguityIsOfStrides, ContiguityIsTheSameAnywhere, PositionsArePlaces, TailsAreGreatest, RangesHaveTheContent, RangesStayInside, LinesLieInside, LinesHaveTheirPieces};
 
 /// The items of a cast of a contiguous view have the view's bytes in their order: its items lie one
 /// new item size apart from the view's first place on, and make up all its bytes.
@@ -40,6 +40,22 @@ pub fn shaped_casts_stay_inside()
 /// A cast to a shape has as many items as the shape says.
 pub fn shaped_casts_have_their_shape()
     ensures { ShapedCastsHaveTheirShape }
+{}
+
+/// The items of a cast in column order, taken in that order, lie one new item size apart from the
+/// view's first place on.
+pub fn column_casts_follow_column_order()
+    ensures { ColumnCastsFollowColumnOrder }
+{}
+
+/// The items of a cast in column order lie one after the other in that order.
+pub fn column_casts_are_f_contiguous()
+    ensures { ColumnCastsAreFContiguous }
+{}
+
+/// A cast in column order has as many items as its shape says.
+pub fn column_casts_have_their_shape()
+    ensures { ColumnCastsHaveTheirShape }
 {}
 
 /// The bytes of a view, copied, hold its items one after the other, in its shape: with the same
