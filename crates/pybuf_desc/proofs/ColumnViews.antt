@@ -56,7 +56,7 @@ first_index : (dim : ℕ × ℤ × ℤ) (dims : List (ℕ × ℤ × ℤ)) (indic
 first_index dim dims indices a zero fits h = tt
 first_index dim dims indices a (suc n) fits h = ((omega (arith, fits), h), first_index dim dims indices (a + 1) n (omega (arith, fits)) h)
 
-column_indices : (dims : List (ℕ × ℤ × ℤ)) → AllByRecursion (λ indices. AreIndices indices dims) (column_index_lists (shape_of dims))
+pub column_indices : (dims : List (ℕ × ℤ × ℤ)) → AllByRecursion (λ indices. AreIndices indices dims) (column_index_lists (shape_of dims))
 column_indices [] = (tt, tt)
 column_indices (dim ∷ dims) =
     all_of_each (λ indices. AreIndices indices dims) (λ indices. AreIndices indices (dim ∷ dims)) (λ (indices : List ℕ). map (λ index. index ∷ indices) (range_with_len 0 dim.0)) (column_index_lists (shape_of dims))

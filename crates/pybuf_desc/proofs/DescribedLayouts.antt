@@ -202,7 +202,7 @@ start_of_map [] k q found = absurd (cc)
 start_of_map (x ∷ xs) zero q found = let same : pos x ≡ q = cc in ap (λ (z : ℤ). Some (nat_abs z)) same
 start_of_map (x ∷ xs) (suc k) q found = start_of_map xs k q found
 
-inside_at : (size room : ℕ) (ps : List ℤ) (k : ℕ) (q : ℤ) → All (IsInside size room) ps → slice_get ps k ≡ Some q → IsInside size room q
+pub inside_at : (size room : ℕ) (ps : List ℤ) (k : ℕ) (q : ℤ) → All (IsInside size room) ps → slice_get ps k ≡ Some q → IsInside size room q
 inside_at size room [] k q all found = absurd (cc)
 inside_at size room (p ∷ ps) zero q all found = let same : p ≡ q = cc in subst (IsInside size room) same (All-head (IsInside size room) p ps all)
 inside_at size room (p ∷ ps) (suc k) q all found = inside_at size room ps k q (All-tail (IsInside size room) p ps all) found

@@ -39,3 +39,4 @@ pub mod ColumnRuns
 pub mod ColumnViews
 pub mod ColumnSteps
 pub mod ColumnCasts
+pub mod ColumnWalks

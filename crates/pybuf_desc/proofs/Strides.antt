@@ -23,7 +23,7 @@ pub size_below : (size k : ℕ) (dims : List (ℕ × ℤ × ℤ)) → All (λ di
 size_below size k dims some h =
     lt_of_le_of_lt (mul-le-mul_left size (product-drop-le k dims (AreNonzero-from_All dims some))) h
 
-drop_before : (dims : List (ℕ × ℤ × ℤ)) (k : ℕ) → 0 < k → k ≤ length dims → drop (k - 1) dims ≡ dim_at dims (k - 1) ∷ drop k dims
+pub drop_before : (dims : List (ℕ × ℤ × ℤ)) (k : ℕ) → 0 < k → k ≤ length dims → drop (k - 1) dims ≡ dim_at dims (k - 1) ∷ drop k dims
 drop_before dims zero h g = absurd (omega arith)
 drop_before dims (suc k) h g =
     subst (λ j. drop j dims ≡ dim_at dims j ∷ drop (suc k) dims) (let e : k ≡ suc k - 1 = omega arith in e) (drop-cons dims k (0, pos 0, pos 0) g)

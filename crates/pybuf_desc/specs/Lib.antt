@@ -23,3 +23,4 @@ pub mod SegmentLines
 pub mod ColumnOrder
 pub mod ColumnMajor
 pub mod ColumnCasts
+pub mod ColumnSegments

@@ -3,6 +3,7 @@
 
 mod casts;
 mod checks;
+mod columns;
 mod contiguous;
 mod descriptor;
 mod dims;
@@ -16,6 +17,7 @@ mod positions;
 mod segments;
 mod sliced;
 
+pub use columns::ColumnSegments;
 pub use descriptor::BufferDescriptor;
 pub use kept_format::KeptFormat;
 pub use laws::{
