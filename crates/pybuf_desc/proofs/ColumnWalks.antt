@@ -1,5 +1,6 @@
 -- The walk over the items in column order.
 use Rattle.std.proofs.Common.{◌≡◌, ℕ, zero, suc, ◌+◌, ◌-◌, ◌*◌, ◌^◌, ◌<◌, ◌≤◌, ℤ, pos, ◌+ℤ◌, ◌≤ℤ◌, nat_abs, Bool, true, false, List, [], ◌∷◌, ◌++◌, length, get_or, set, reverse, take, drop, replicate, map, flat_map, refl, ap, ap₂, sym, ◌∙◌, subst, arith}
+use Rattle.std.specs.Prelude.{All}
 use Rattle.std.specs.List.{AllByRecursion, range_with_len}
 use Rattle.std.specs.declared.ops.Range.{Range}
 use Rattle.std.proofs.lemmas.Int.{ints}
@@ -62,12 +63,14 @@ all_turned : {X : Type 0} (P : X → Type 0) (xs : List X) → AllByRecursion P 
 all_turned P [] all = tt
 all_turned P (x ∷ xs) all = subst (AllByRecursion P) (sym (reverse_cons x xs)) (all-append P (reverse xs) (x ∷ []) (all_turned P xs all.1) (all.0, tt))
 
+pub columns_within : (d : Descriptor) (start room : ℕ) → All (IsInside d.itemsize room) (places d.dims (pos start)) → AllByRecursion (IsInside d.itemsize room) (column_places d.dims (pos start))
+columns_within d start room inside =
+    subst (AllByRecursion (IsInside d.itemsize room)) (sym (column_places_by_indices d.dims (pos start)))
+    (all_mapped (λ indices. AreIndices indices d.dims) (IsInside d.itemsize room) (λ indices. pos start +ℤ offset_of indices d.dims) (column_index_lists (shape_of d.dims)) (column_indices d.dims)
+    (λ indices h. inside_at d.itemsize room (places d.dims (pos start)) (number_of_item indices d.dims) (pos start +ℤ offset_of indices d.dims) inside (place_of_item indices d.dims (pos start) h)))
+
 columns_inside : (d : Descriptor) (start : ℕ) → IsPlaced d start → AllByRecursion (IsInside d.itemsize top) (column_places d.dims (pos start))
-columns_inside d start placed =
-    inside_more d.itemsize placed.room (column_places d.dims (pos start)) placed.room_fits
-    (subst (AllByRecursion (IsInside d.itemsize placed.room)) (sym (column_places_by_indices d.dims (pos start)))
-    (all_mapped (λ indices. AreIndices indices d.dims) (IsInside d.itemsize placed.room) (λ indices. pos start +ℤ offset_of indices d.dims) (column_index_lists (shape_of d.dims)) (column_indices d.dims)
-    (λ indices h. inside_at d.itemsize placed.room (places d.dims (pos start)) (number_of_item indices d.dims) (pos start +ℤ offset_of indices d.dims) placed.valid.inside (place_of_item indices d.dims (pos start) h))))
+columns_inside d start placed = inside_more d.itemsize placed.room (column_places d.dims (pos start)) placed.room_fits (columns_within d start placed.room placed.valid.inside)
 
 no_size : (size : ℕ) (ps : List ℤ) → AllByRecursion (IsInside size top) ps → AllByRecursion (IsInside 0 top) ps
 no_size size [] all = tt

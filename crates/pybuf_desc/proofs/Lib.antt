@@ -40,3 +40,4 @@ pub mod ColumnViews
 pub mod ColumnSteps
 pub mod ColumnCasts
 pub mod ColumnWalks
+pub mod ColumnRanges

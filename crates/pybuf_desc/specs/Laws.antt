@@ -5,7 +5,7 @@ use Rattle.std.specs.declared.ops.Range.{Range}
 use Rattle.pybuf_index.specs.Parts.{SliceParts}
 use Rattle.pybuf_desc.specs.Layouts.{Layout, HasItemsOfItsShape, LiesInside, product, bytes_layout, bytes_layout_from}
 use Rattle.pybuf_desc.specs.Apart.{HasItemsApart}
-use Rattle.pybuf_desc.specs.Items.{content_of_layout}
+use Rattle.pybuf_desc.specs.Items.{bytes_of_items, content_of_layout}
 use Rattle.pybuf_desc.specs.Contiguous.{starts_from, is_contiguous_layout}
 use Rattle.pybuf_desc.specs.Strides.{AreRowMajor, HasRowMajorStrides}
 use Rattle.pybuf_desc.specs.ColumnOrder.{column_starts, is_f_contiguous_layout}
@@ -21,6 +21,7 @@ use Rattle.pybuf_desc.specs.Valid.{IsValid, IsPlaced}
 use Rattle.pybuf_desc.specs.Positions.{AreIndices, offset_of, number_of_item}
 use Rattle.pybuf_desc.specs.Tails.{tail_of, tail_of_strides}
 use Rattle.pybuf_desc.specs.Segments.{ranges_of, bytes_of, bytes_in}
+use Rattle.pybuf_desc.specs.ColumnSegments.{column_ranges_of}
 use Rattle.pybuf_desc.specs.SegmentLines.{ranges_of_line, IsLine}
 use Rattle.pybuf_desc.specs.declared.line.SegmentLine.{SegmentLine}
 use Rattle.pybuf_apart.specs.Apart.{place_of, AreInside, pieces_at}
@@ -215,6 +216,16 @@ abbrev pub RangesStayInside : Type 0
 RangesStayInside =
     (d : Descriptor) (start joined : ℕ) (view : Layout) (room : ℕ) → IsPlaced d start → joined ≤ tail_of d → Stands d start view → LiesInside room view
     → All (λ (range : Range ℕ). range.end ≤ room) (ranges_of d (pos start) joined)
+
+-- of a walk in column order: the bytes at the ranges, end to end, are those of the items in column order
+abbrev pub ColumnRangesHaveTheContent : Type 0
+ColumnRangesHaveTheContent =
+    (d : Descriptor) (start : ℕ) (view : Layout) (bytes : List ℕ) → Stands d start view
+    → flat_map (λ range. bytes_in bytes range) (column_ranges_of d (pos start)) ≡ bytes_of_items bytes view.itemsize (column_starts view)
+
+abbrev pub ColumnRangesStayInside : Type 0
+ColumnRangesStayInside =
+    (d : Descriptor) (start room : ℕ) → IsValid d start room → All (λ (range : Range ℕ). range.end ≤ room) (column_ranges_of d (pos start))
 
 -- The items of a line lie among bytes where each byte of its ranges does.
 abbrev pub LinesLieInside : Type 0

@@ -1,5 +1,5 @@
 //! Laws of the definitions that the contracts cite. Each stands on a function with an empty body.
-ghost use Rattle.pybuf_desc.specs.Laws.{CastsShareTheirBytes, CastsStayInside, CastsHaveTheirShape, CastsAreContiguous, FlatCastsHaveOneDimension, ShapedCastsShareTheirBytes, ShapedCastsStayInside, ShapedCastsHaveTheirShape, ColumnCastsFollowColumnOrder, ColumnCastsAreFContiguous, ColumnCastsHaveTheirShape, CopiesHaveTheirBytes, SlicesStayInside, SlicesHaveTheirShape, SlicingBackTwiceIsNothing, WholeLayoutsLieApart, SlicesLieApart, CastsLieApart, RowMajorLayoutsLieApart, PlacedDescriptorsStand, DescriptorsStandForOneView, DescribedViewsHaveTheirShape, ValidWhereItemsLieInside, ContiguityIsOfStrides, FContiguityIsOfStrides, ContiguityIsTheSameAnywhere, PositionsArePlaces, TailsAreGreatest, RangesHaveTheContent, RangesStayInside, LinesLieInside, LinesHaveTheirPieces};
+ghost use Rattle.pybuf_desc.specs.Laws.{CastsShareTheirBytes, CastsStayInside, CastsHaveTheirShape, CastsAreContiguous, FlatCastsHaveOneDimension, ShapedCastsShareTheirBytes, ShapedCastsStayInside, ShapedCastsHaveTheirShape, ColumnCastsFollowColumnOrder, ColumnCastsAreFContiguous, ColumnCastsHaveTheirShape, CopiesHaveTheirBytes, SlicesStayInside, SlicesHaveTheirShape, SlicingBackTwiceIsNothing, WholeLayoutsLieApart, SlicesLieApart, CastsLieApart, RowMajorLayoutsLieApart, PlacedDescriptorsStand, DescriptorsStandForOneView, DescribedViewsHaveTheirShape, ValidWhereItemsLieInside, ContiguityIsOfStrides, FContiguityIsOfStrides, ContiguityIsTheSameAnywhere, PositionsArePlaces, TailsAreGreatest, RangesHaveTheContent, RangesStayInside, ColumnRangesHaveTheContent, ColumnRangesStayInside, LinesLieInside, LinesHaveTheirPieces};
 
 /// The items of a cast of a contiguous view have the view's bytes in their order: its items lie one
 /// new item size apart from the view's first place on, and make up all its bytes.
@@ -163,6 +163,17 @@ pub fn ranges_have_the_content()
 /// of the tail are joined.
 pub fn ranges_stay_inside()
     ensures { RangesStayInside }
+{}
+
+/// The bytes at the ranges of a walk in column order, one range after the other, are those of the items
+/// in column order.
+pub fn column_ranges_have_the_content()
+    ensures { ColumnRangesHaveTheContent }
+{}
+
+/// Where a descriptor is valid, the ranges of a walk in column order lie inside.
+pub fn column_ranges_stay_inside()
+    ensures { ColumnRangesStayInside }
 {}
 
 /// The items of a line lie among bytes where each byte of its ranges does.
