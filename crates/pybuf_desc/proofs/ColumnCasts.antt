@@ -9,9 +9,8 @@ use Rattle.pybuf_desc.specs.Contiguous.{starts_from}
 use Rattle.pybuf_desc.specs.Descriptor.{Descriptor, shape_of, strides_of}
 use Rattle.pybuf_desc.specs.Places.{places, Stands}
 use Rattle.pybuf_desc.specs.Valid.{IsInside, IsValid, IsPlaceable}
-use Rattle.pybuf_desc.specs.RowMajor.{IsContiguous}
 use Rattle.pybuf_desc.specs.ColumnOrder.{column_starts, is_f_contiguous_layout}
-use Rattle.pybuf_desc.specs.ColumnMajor.{column_places, AreColumnMajorStrides, column_major_dims, column_cast}
+use Rattle.pybuf_desc.specs.ColumnMajor.{AreColumnMajorStrides, column_major_dims, column_cast}
 use Rattle.pybuf_desc.specs.ColumnCasts.{column_major_strides, column_major_starts, column_starts_from, column_cast_to}
 use Rattle.pybuf_desc.proofs.Steps.{blocks_apart, places-cons}
 use Rattle.pybuf_desc.proofs.Products.{AreNonzero-from_All, product-extent}

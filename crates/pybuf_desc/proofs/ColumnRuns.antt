@@ -1,5 +1,5 @@
 -- Items one after the other in column order, and strides that make them so.
-use Rattle.std.proofs.Common.{◌≡◌, ℕ, zero, suc, ◌+◌, ◌*◌, ◌^◌, ◌<◌, ◌≤◌, ℤ, pos, ◌+ℤ◌, ◌*ℤ◌, List, [], ◌∷◌, ◌++◌, length, length-append, map, flat_map, refl, ap, ap₂, sym, ◌∙◌, subst, arith, zero-mul, mul_comm, mul_assoc, ◌↔◌}
+use Rattle.std.proofs.Common.{◌≡◌, ℕ, zero, suc, ◌+◌, ◌*◌, ◌<◌, ℤ, pos, ◌+ℤ◌, ◌*ℤ◌, List, [], ◌∷◌, ◌++◌, length, length-append, map, flat_map, refl, ap, ap₂, sym, ◌∙◌, subst, arith, zero-mul, mul_comm, ◌↔◌}
 use Rattle.std.specs.List.{range_with_len}
 use Rattle.std.proofs.lemmas.Int.{ints}
 use Rattle.pybuf_desc.specs.Layouts.{product}

@@ -1,5 +1,5 @@
 -- Column-major strides, from the first dimension to the last.
-use Rattle.std.proofs.Common.{◌≡◌, ℕ, zero, suc, ◌+◌, ◌*◌, ◌^◌, ◌<◌, ◌≤◌, ℤ, pos, List, [], ◌∷◌, length, drop, drop-cons, refl, ap, sym, ◌∙◌, subst, arith, le-mul_of_pos_right, mul_assoc, ◌↔◌, All}
+use Rattle.std.proofs.Common.{◌≡◌, ℕ, zero, suc, ◌+◌, ◌*◌, ◌^◌, ◌<◌, ◌≤◌, ℤ, pos, List, [], ◌∷◌, length, drop, drop-cons, ap, sym, ◌∙◌, subst, arith, le-mul_of_pos_right, mul_assoc, ◌↔◌, All}
 use Rattle.pybuf_desc.specs.Layouts.{product}
 use Rattle.pybuf_desc.specs.Descriptor.{shape_of}
 use Rattle.pybuf_desc.specs.ColumnMajor.{AreColumnMajorStrides}

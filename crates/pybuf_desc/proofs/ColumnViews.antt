@@ -1,11 +1,11 @@
 -- The items of a view in column order are the places of its descriptor in column order.
-use Rattle.std.proofs.Common.{◌≡◌, ℕ, zero, suc, ◌+◌, ◌*◌, ◌<◌, ◌≤◌, ℤ, pos, ◌+ℤ◌, ◌*ℤ◌, nat_abs, eqb, Bool, true, false, ◌||◌, ◌==◌, List, [], ◌∷◌, ◌++◌, length, get_or, map, flat_map, refl, ap, ap₂, sym, ◌∙◌, subst, arith, IsTrue, ◌↔◌, Some, slice_get}
+use Rattle.std.proofs.Common.{◌≡◌, ℕ, zero, suc, ◌+◌, ◌*◌, ◌<◌, ◌≤◌, ℤ, pos, ◌+ℤ◌, ◌*ℤ◌, nat_abs, eqb, Bool, true, ◌||◌, ◌==◌, List, [], ◌∷◌, ◌++◌, length, get_or, map, flat_map, refl, ap, ap₂, sym, ◌∙◌, subst, arith, IsTrue, ◌↔◌, Some, slice_get}
 use Rattle.std.specs.List.{range_with_len, AllByRecursion}
 use Rattle.std.specs.Prelude.{bytes_eq}
 use Rattle.std.specs.Bool.{Decides}
 use Rattle.std.proofs.lemmas.Bool.{ne_eqb}
 use Rattle.std.proofs.lemmas.Int.{ints}
-use Rattle.std.proofs.lemmas.List.{map-append, length-map}
+use Rattle.std.proofs.lemmas.List.{map-append}
 use Rattle.std.proofs.lemmas.List.Folds.{flat_map-map}
 use Rattle.std.proofs.lemmas.Simd.{map-map}
 use Rattle.std.proofs.lemmas.Slice.Eq.{bytes_eq-Decides}
@@ -20,7 +20,7 @@ use Rattle.pybuf_desc.specs.ColumnMajor.{column_places, AreColumnMajorStrides, A
 use Rattle.pybuf_desc.proofs.Indices.{place_of_item}
 use Rattle.pybuf_desc.proofs.Strides.{some_entries, no_place}
 use Rattle.pybuf_desc.proofs.DescribedLayouts.{abs_of_pos, pos_of_run, first_place, same_tests, items_of}
-use Rattle.pybuf_desc.proofs.ColumnRuns.{length-column_places, column_without_items, column_by_strides}
+use Rattle.pybuf_desc.proofs.ColumnRuns.{length-column_places, column_by_strides}
 
 -- ---- lists
 

@@ -1,17 +1,15 @@
 -- The walk over the items in column order.
-use Rattle.std.proofs.Common.{◌≡◌, ℕ, zero, suc, ◌+◌, ◌-◌, ◌*◌, ◌^◌, ◌<◌, ◌≤◌, ℤ, pos, ◌+ℤ◌, ◌≤ℤ◌, nat_abs, Bool, true, false, List, [], ◌∷◌, ◌++◌, length, get_or, set, reverse, take, drop, replicate, map, flat_map, refl, ap, ap₂, sym, ◌∙◌, subst, arith}
+use Rattle.std.proofs.Common.{◌≡◌, ℕ, zero, suc, ◌+◌, ◌-◌, ◌^◌, ◌<◌, ◌≤◌, ℤ, pos, ◌+ℤ◌, nat_abs, true, List, [], ◌∷◌, ◌++◌, length, set, reverse, take, drop, replicate, map, flat_map, refl, ap, ap₂, sym, ◌∙◌, subst, arith}
 use Rattle.std.specs.Prelude.{All}
 use Rattle.std.specs.List.{AllByRecursion, range_with_len}
-use Rattle.std.specs.declared.ops.Range.{Range}
 use Rattle.std.proofs.lemmas.Int.{ints}
 use Rattle.std.proofs.lemmas.List.{reverse-append, length-reverse}
-use Rattle.std.proofs.lemmas.List.Elements.{recursion_from_All}
 use Rattle.pybuf_desc.specs.Layouts.{product}
 use Rattle.pybuf_desc.specs.Descriptor.{Descriptor, shape_of}
 use Rattle.pybuf_desc.specs.Places.{places}
 use Rattle.pybuf_desc.specs.Valid.{IsInside, IsPlaced}
 use Rattle.pybuf_desc.specs.Positions.{AreIndices, offset_of, number_of_item}
-use Rattle.pybuf_desc.specs.Segments.{line, range_at, bytes_of, HasPlaces, IsRow, rows_left}
+use Rattle.pybuf_desc.specs.Segments.{line, range_at, bytes_of, HasPlaces, rows_left}
 use Rattle.pybuf_desc.specs.ColumnOrder.{column_index_lists}
 use Rattle.pybuf_desc.specs.ColumnMajor.{column_places}
 use Rattle.pybuf_desc.specs.ColumnSegments.{column_ranges_of, column_item_bytes, IsColumnWalk, AreColumns}

@@ -1,4 +1,4 @@
-use Rattle.std.proofs.Common.{◌≡◌, ◌<◌, ◌≤◌, ◌*◌, ◌^◌, pos, arith, rules, ap, sym, ◌∙◌, SFits, w64, to_z, length}
+use Rattle.std.proofs.Common.{◌≡◌, ◌<◌, ◌≤◌, pos, arith, rules, ap, sym, ◌∙◌, SFits, w64, to_z, length}
 use Rattle.std.proofs.lemmas.Int.{ints, to_z-of_z, to_z_pos}
 use Rattle.pybuf_desc.proofs.Moves.{dim_at}
 use Rattle.pybuf_desc.proofs.ColumnSteps.{column_size, next_column_size, column_kept, column_alone}
