@@ -12,6 +12,7 @@ use pybuf_value::{ByteList, Fault, Made, Outcome, Scalar, ScalarList, Tried};
 use std::alloc::Global;
 
 /// The value of a field's bytes.
+#[inline(always)]
 fn value_of(alloc: Global, order: Endianness, code: FormatType, bytes: &[u8]) -> Made<Scalar>
     requires { IsTrue (is_length order code (length bytes.now)) }
     ensures { IfOk result (λ v. v ≡ value_of order code bytes.now) }
