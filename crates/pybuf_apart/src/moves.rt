@@ -36,8 +36,24 @@ fn copy_item(bytes: &mut [u8], at: usize, source: &[u8], there: usize, size: usi
     bytes[at..at + size].copy_from_slice(&source[there..there + size]);
 }
 
-/// Copies items of a size that is known when this is compiled.
-fn copy_sized<const SIZE: usize, const TO_FALLS: bool, const FROM_FALLS: bool>(
+/// Copies one item of a size that is known when this is compiled. It is read whole before any of it is written:
+/// else each item would cost a test whether the places overlap.
+#[inline]
+fn copy_word<const SIZE: usize>(bytes: &mut [u8], at: usize, source: &[u8], there: usize)
+    requires inside { at + SIZE ≤ length bytes.old }
+    requires source_inside { there + SIZE ≤ length source.now }
+    ensures copied { bytes.new ≡ with_piece bytes.old at (take SIZE (drop there source.now)) }
+    ensures long { length bytes.new ≡ length bytes.old }
+{
+    let mut item = [0; SIZE];
+    item.copy_from_slice(&source[there..there + SIZE]);
+    bytes[at..at + SIZE].copy_from_slice(&item);
+}
+
+/// Copies items of a size that is known when this is compiled, by steps that may be known too where this is
+/// called: so it stands in each of its callers.
+#[inline(always)]
+fn copy_words<const SIZE: usize, const TO_FALLS: bool, const FROM_FALLS: bool>(
     bytes: &mut [u8],
     to: usize,
     to_step: usize,
@@ -54,7 +70,68 @@ fn copy_sized<const SIZE: usize, const TO_FALLS: bool, const FROM_FALLS: bool>(
     for k in 0..count {
         let at = place::<TO_FALLS>(to, to_step, k);
         let there = place::<FROM_FALLS>(from, from_step, k);
-        copy_item(bytes, at, source, there, SIZE);
+        copy_word::<SIZE>(bytes, at, source, there);
+    }
+}
+
+/// Copies items of a size that is known when this is compiled, by any steps. It stands by itself: within a long
+/// function the loop would lack registers.
+#[inline(never)]
+fn copy_sized<const SIZE: usize, const TO_FALLS: bool, const FROM_FALLS: bool>(
+    bytes: &mut [u8],
+    to: usize,
+    to_step: usize,
+    source: &[u8],
+    from: usize,
+    from_step: usize,
+    count: usize,
+)
+    requires some_size { 0 < SIZE }
+    requires inside { AreInside TO_FALLS to to_step count SIZE (length bytes.old) }
+    requires source_inside { AreInside FROM_FALLS from from_step count SIZE (length source.now) }
+    ensures { bytes.new ≡ moved_at bytes.old (place_of TO_FALLS to to_step) source.now (place_of FROM_FALLS from from_step) SIZE count }
+{
+    copy_words::<SIZE, TO_FALLS, FROM_FALLS>(bytes, to, to_step, source, from, from_step, count);
+}
+
+/// Copies bytes that lie apart by a step that is known when this is compiled to where they lie one after the
+/// other.
+#[inline(never)]
+fn gather_bytes<const STEP: usize, const TO_FALLS: bool, const FROM_FALLS: bool>(
+    bytes: &mut [u8],
+    to: usize,
+    source: &[u8],
+    from: usize,
+    count: usize,
+)
+    requires inside { AreInside TO_FALLS to 1 count 1 (length bytes.old) }
+    requires source_inside { AreInside FROM_FALLS from STEP count 1 (length source.now) }
+    ensures { bytes.new ≡ moved_at bytes.old (place_of TO_FALLS to 1) source.now (place_of FROM_FALLS from STEP) 1 count }
+{
+    copy_words::<1, TO_FALLS, FROM_FALLS>(bytes, to, 1, source, from, STEP, count);
+}
+
+/// Copies bytes, with the loop for their steps: those of a reversed row and of every other byte of a row have one
+/// of their own.
+fn copy_bytes<const TO_FALLS: bool, const FROM_FALLS: bool>(
+    bytes: &mut [u8],
+    to: usize,
+    to_step: usize,
+    source: &[u8],
+    from: usize,
+    from_step: usize,
+    count: usize,
+)
+    requires inside { AreInside TO_FALLS to to_step count 1 (length bytes.old) }
+    requires source_inside { AreInside FROM_FALLS from from_step count 1 (length source.now) }
+    ensures { bytes.new ≡ moved_at bytes.old (place_of TO_FALLS to to_step) source.now (place_of FROM_FALLS from from_step) 1 count }
+{
+    match (to_step, from_step) {
+        (1, 1) => gather_bytes::<1, TO_FALLS, FROM_FALLS>(bytes, to, source, from, count),
+        (1, 2) => gather_bytes::<2, TO_FALLS, FROM_FALLS>(bytes, to, source, from, count),
+        _ => copy_sized::<1, TO_FALLS, FROM_FALLS>(
+            bytes, to, to_step, source, from, from_step, count,
+        ),
     }
 }
 
@@ -98,7 +175,7 @@ fn copy_by_size<const TO_FALLS: bool, const FROM_FALLS: bool>(
     let (at, at_step) = (to.start, to.step);
     let (there, there_step) = (from.start, from.step);
     match size {
-        1 => copy_sized::<1, TO_FALLS, FROM_FALLS>(
+        1 => copy_bytes::<TO_FALLS, FROM_FALLS>(
             bytes, at, at_step, source, there, there_step, count,
         ),
         2 => copy_sized::<2, TO_FALLS, FROM_FALLS>(

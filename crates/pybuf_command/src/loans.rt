@@ -1,7 +1,10 @@
 //! What the handles of a command name, lent to one exporter.
-ghost use Rattle.std.specs.Prelude.{◌≡◌, ◌==◌, ◌<◌, ◌^◌, List, [], ◌∷◌, ◌++◌, ℕ, length, OnOk, OnErr};
+ghost use Rattle.std.specs.Prelude.{◌≡◌, ◌==◌, ◌&&◌, ◌<◌, ◌^◌, true, List, [], ◌∷◌, ◌++◌, ℕ, length, OnOk, OnErr};
+ghost use Rattle.std.specs.Option.{option_copied};
 ghost use Rattle.pybuf_command.specs.declared.loans.Loan.{Loan};
+ghost use Rattle.pybuf_command.specs.Loans.{loan_of, are_placed_from};
 
+use crate::handles::loan_of;
 use pybuf_value::{Made, Snap, Twin};
 use std::alloc::Global;
 use std::marker::Model;
@@ -36,11 +39,45 @@ impl Twin for Loan {
     }
 }
 
+/// Whether each handle is its pair's place in the list.
+fn are_placed(loans: &[(u64, Loan)]) -> bool
+    ensures { result ≡ are_placed_from 0 loans.now }
+{
+    for at in 0..loans.len() {
+        if loans[at].0 != at as u64 {
+            return false;
+        }
+    }
+    true
+}
+
+/// Whether that stays so with a pair of a handle more.
+fn stays_placed(placed: bool, loans: &[(u64, Loan)], handle: u64) -> bool
+    ensures { result ≡ (placed && handle == length loans.now) }
+{
+    placed && handle == loans.len() as u64
+}
+
+/// The loan of a handle in a list whose handles are the places of their pairs.
+fn loan_in_place(loans: &[(u64, Loan)], handle: u64) -> Option<&Loan>
+    requires { are_placed_from 0 loans.now ≡ true }
+    ensures { option_copied result ≡ loan_of loans.now handle }
+{
+    match loans.get(handle as usize) {
+        Some(pair) => Some(&pair.1),
+        None => None,
+    }
+}
+
 /// Pairs of a handle and what it names, of which the first pair of a handle counts. A clause sees
 /// the list of pairs.
+///
+/// Where each handle is its pair's place, as in the lines of sessions, a loan is found without a search.
 #[derive(Debug, Drop)]
 pub struct LoanList {
     loans: Vec<(u64, Loan)>,
+    placed: bool,
+    ghost known: { placed ≡ are_placed_from 0 loans.items },
 }
 
 impl Model for LoanList {
@@ -56,6 +93,7 @@ impl LoanList {
     {
         LoanList {
             loans: Vec::new(alloc),
+            placed: true,
         }
     }
 
@@ -82,26 +120,41 @@ impl LoanList {
     }
 
     /// Adds a handle with what it names at the end. Where memory runs out, the list is as before.
+    #[tactic(auto, using(crate::proofs::Places::placed_and_one))]
     pub fn push(&mut self, pair: (u64, Loan)) -> Made<()>
         ensures ok { OnOk result (self.new ≡ self.old ++ pair ∷ []) }
         ensures err { OnErr result (self.new ≡ self.old) }
     {
+        let placed = stays_placed(self.placed, self.loans.as_slice(), pair.0);
         self.loans.push(pair)?;
+        self.placed = placed;
         Ok(())
+    }
+
+    /// The loan of the first pair of a handle, None exactly where there is no such pair.
+    pub fn loan(&self, handle: u64) -> Option<&Loan>
+        ensures { option_copied result ≡ loan_of self.now handle }
+    {
+        if self.placed {
+            loan_in_place(self.loans.as_slice(), handle)
+        } else {
+            loan_of(self.loans.as_slice(), handle)
+        }
     }
 
     /// The same loans, in order. Takes no memory.
     pub fn from_vec(loans: Vec<(u64, Loan)>) -> LoanList
         ensures { result ≡ loans.items }
     {
-        LoanList { loans }
+        let placed = are_placed(loans.as_slice());
+        LoanList { loans, placed }
     }
 
     /// The same loans, in order. Takes no memory.
     pub fn into_vec(self) -> Vec<(u64, Loan)>
         ensures { result.items ≡ self }
     {
-        let LoanList { loans } = self;
+        let LoanList { loans, placed: _ } = self;
         loans
     }
 }
@@ -128,6 +181,6 @@ impl Twin for LoanList {
             let loan = pair.1.copy(alloc)?;
             loans.push((pair.0, loan))?;
         }
-        Ok(LoanList { loans })
+        Ok(LoanList::from_vec(loans))
     }
 }

@@ -24,7 +24,7 @@ use Rattle.pybuf_desc.proofs.Track.{here}
 
 -- ---- the view of a descriptor
 
-abs_of_pos : (xs : List ℕ) → map nat_abs (map (λ x. pos x) xs) ≡ xs
+pub abs_of_pos : (xs : List ℕ) → map nat_abs (map (λ x. pos x) xs) ≡ xs
 abs_of_pos [] = refl
 abs_of_pos (x ∷ xs) = ap (λ (ys : List ℕ). x ∷ ys) (abs_of_pos xs)
 
@@ -55,7 +55,7 @@ one_view d start view stands =
     let starts = starts_of_stands d start view stands in
     rw (stands.format, stands.itemsize, stands.shape, starts, stands.strides, stands.readonly) refl
 
-items_of : (d : Descriptor) (start : ℕ) (view : Layout) → Stands d start view → length view.starts ≡ product (shape_of d.dims)
+pub items_of : (d : Descriptor) (start : ℕ) (view : Layout) → Stands d start view → length view.starts ≡ product (shape_of d.dims)
 items_of d start view stands = sym (length-map view.starts (λ x. pos x)) ∙ ap (λ (ps : List ℤ). length ps) (sym stands.starts) ∙ length-places d.dims (pos start)
 
 pub described_shape : (d : Descriptor) (start : ℕ) (view : Layout) → Stands d start view → HasItemsOfItsShape view
@@ -101,7 +101,7 @@ valid_where_inside d start room view placed stands = (valid_from_inside d start 
 
 -- ---- without a gap
 
-pos_of_run : (s size : ℕ) (ks : List ℕ) → map (λ k. pos s +ℤ pos (k * size)) ks ≡ map (λ x. pos x) (map (λ k. s + k * size) ks)
+pub pos_of_run : (s size : ℕ) (ks : List ℕ) → map (λ k. pos s +ℤ pos (k * size)) ks ≡ map (λ x. pos x) (map (λ k. s + k * size) ks)
 pos_of_run s size [] = refl
 pos_of_run s size (k ∷ ks) = ap (λ (ps : List ℤ). pos (s + k * size) ∷ ps) (pos_of_run s size ks)
 
@@ -119,7 +119,7 @@ same_run size (s ∷ starts) start ps same first =
       (λ flat. same ∙ ap (map (λ x. pos x)) flat ∙ sym each),
     )
 
-first_place : (d : Descriptor) (start : ℤ) → 0 < length (places d.dims start) → get_or (places d.dims start) 0 (pos 0) ≡ start
+pub first_place : (d : Descriptor) (start : ℤ) → 0 < length (places d.dims start) → get_or (places d.dims start) 0 (pos 0) ≡ start
 first_place d start some = first-places d.dims start (pos 0) (some_entries d.dims (subst (λ (n : ℕ). 0 < n) (length-places d.dims start) some))
 
 -- the places of the descriptor lie without a gap exactly where those of its view do
@@ -152,7 +152,7 @@ gapless_placed d can told start =
     let stands = stands_at d can.start can.placed in
     contiguous_anywhere d (pos can.start) start ((contiguous_alike d can.start (layout_at d can.start) stands).1 (told can.start (layout_at d can.start) stands))
 
-same_tests : (a b : Bool) → ((a ≡ true) → (b ≡ true)) → ((b ≡ true) → (a ≡ true)) → a ≡ b
+pub same_tests : (a b : Bool) → ((a ≡ true) → (b ≡ true)) → ((b ≡ true) → (a ≡ true)) → a ≡ b
 same_tests true b f g = sym (f refl)
 same_tests false true f g = g refl
 same_tests false false f g = refl
@@ -202,7 +202,7 @@ start_of_map [] k q found = absurd (cc)
 start_of_map (x ∷ xs) zero q found = let same : pos x ≡ q = cc in ap (λ (z : ℤ). Some (nat_abs z)) same
 start_of_map (x ∷ xs) (suc k) q found = start_of_map xs k q found
 
-inside_at : (size room : ℕ) (ps : List ℤ) (k : ℕ) (q : ℤ) → All (IsInside size room) ps → slice_get ps k ≡ Some q → IsInside size room q
+pub inside_at : (size room : ℕ) (ps : List ℤ) (k : ℕ) (q : ℤ) → All (IsInside size room) ps → slice_get ps k ≡ Some q → IsInside size room q
 inside_at size room [] k q all found = absurd (cc)
 inside_at size room (p ∷ ps) zero q all found = let same : p ≡ q = cc in subst (IsInside size room) same (All-head (IsInside size room) p ps all)
 inside_at size room (p ∷ ps) (suc k) q all found = inside_at size room ps k q (All-tail (IsInside size room) p ps all) found

@@ -35,3 +35,9 @@ pub mod StepsOfLines
 pub mod LineLemmas
 pub mod LinePieces
 pub mod LinePairs
+pub mod ColumnRuns
+pub mod ColumnViews
+pub mod ColumnSteps
+pub mod ColumnCasts
+pub mod ColumnWalks
+pub mod ColumnRanges

@@ -35,7 +35,7 @@ places-blocks (dim ∷ outer) block p =
     ∙ sym (flat_map-blocks_apart' (places block) (places outer) dim.0 p dim.1)
     ∙ ap (flat_map (places block)) (sym (places-cons dim outer p))
 
-each_the_same : (f g : ℤ → List ℤ) → ((q : ℤ) → f q ≡ g q) → (ps : List ℤ) → flat_map f ps ≡ flat_map g ps
+pub each_the_same : (f g : ℤ → List ℤ) → ((q : ℤ) → f q ≡ g q) → (ps : List ℤ) → flat_map f ps ≡ flat_map g ps
 each_the_same f g e [] = refl
 each_the_same f g e (p ∷ ps) = ap₂ (λ (xs ys : List ℤ). xs ++ ys) (e p) (each_the_same f g e ps)
 

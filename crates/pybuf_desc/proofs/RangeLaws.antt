@@ -36,13 +36,13 @@ run_of_bytes bytes start (suc n) =
     let next : start + 1 ≡ suc start = omega arith in
     ap (cons_option (slice_get bytes start)) (run_of_bytes bytes (start + 1) n ∙ ap (λ (k : ℕ). take n (drop k bytes)) next) ∙ first_taken bytes start n
 
-bytes_of_ranges : (bytes : List ℕ) (ranges : List (Range ℕ)) → flat_map (λ range. bytes_in bytes range) ranges ≡ bytes_at_places bytes (flat_map bytes_of ranges)
+pub bytes_of_ranges : (bytes : List ℕ) (ranges : List (Range ℕ)) → flat_map (λ range. bytes_in bytes range) ranges ≡ bytes_at_places bytes (flat_map bytes_of ranges)
 bytes_of_ranges bytes [] = refl
 bytes_of_ranges bytes (range ∷ ranges) =
     ap₂ (λ (xs ys : List ℕ). xs ++ ys) (sym (run_of_bytes bytes range.start (range.end - range.start))) (bytes_of_ranges bytes ranges)
     ∙ sym (filter_map-append (slice_get bytes) (bytes_of range) (flat_map bytes_of ranges))
 
-bytes_of_places : (bytes : List ℕ) (size : ℕ) (ps : List ℤ) → bytes_at_places bytes (flat_map (λ place. range_with_len (nat_abs place) size) ps) ≡ bytes_of_items bytes size (map nat_abs ps)
+pub bytes_of_places : (bytes : List ℕ) (size : ℕ) (ps : List ℤ) → bytes_at_places bytes (flat_map (λ place. range_with_len (nat_abs place) size) ps) ≡ bytes_of_items bytes size (map nat_abs ps)
 bytes_of_places bytes size [] = refl
 bytes_of_places bytes size (p ∷ ps) =
     filter_map-append (slice_get bytes) (range_with_len (nat_abs p) size) (flat_map (λ place. range_with_len (nat_abs place) size) ps)

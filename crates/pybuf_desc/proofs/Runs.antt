@@ -58,7 +58,7 @@ places_from_strides size (dim ∷ dims) fit p =
 
 -- ---- and back: from the places to the strides
 
-append_parts : (xs us ys vs : List ℤ) → length xs ≡ length us → xs ++ ys ≡ us ++ vs → (xs ≡ us) × (ys ≡ vs)
+pub append_parts : (xs us ys vs : List ℤ) → length xs ≡ length us → xs ++ ys ≡ us ++ vs → (xs ≡ us) × (ys ≡ vs)
 append_parts [] [] ys vs h e = (refl, e)
 append_parts [] (u ∷ us) ys vs h e = absurd (let wrong : 0 ≡ suc (length us) = h in omega arith)
 append_parts (x ∷ xs) [] ys vs h e = absurd (let wrong : suc (length xs) ≡ 0 = h in omega arith)

@@ -24,7 +24,7 @@ use Rattle.pybuf_desc.proofs.Tails.{joined_packed}
 abbrev pub top : ℕ
 top = 9223372036854775807
 
-inside_more : (size room : ℕ) (xs : List ℤ) → room < 2 ^ 63 → AllByRecursion (IsInside size room) xs → AllByRecursion (IsInside size top) xs
+pub inside_more : (size room : ℕ) (xs : List ℤ) → room < 2 ^ 63 → AllByRecursion (IsInside size room) xs → AllByRecursion (IsInside size top) xs
 inside_more size room [] h all = tt
 inside_more size room (x ∷ xs) h all = ((let i = all.0 in let high = i.high in record { low = i.low; high = omega (arith, ints, high, h) }), inside_more size room xs h all.1)
 
@@ -56,7 +56,7 @@ rows_whole size (suc n) (p ∷ ps) h all = (
 split_all : {X : Type 0} (P : X → Type 0) (xs ys : List X) → AllByRecursion P (xs ++ ys) → AllByRecursion P xs × AllByRecursion P ys
 split_all P xs ys all = (ByRec-left P xs ys all, ByRec-right P xs ys all)
 
-both : (dims : List (ℕ × ℤ × ℤ)) → AreNonzero dims → AllByRecursion (λ (dim : ℕ × ℤ × ℤ). dim.0 < 2 ^ 63) dims → AllByRecursion (λ dim. (0 < dim.0) × (dim.0 < 2 ^ 63)) dims
+pub both : (dims : List (ℕ × ℤ × ℤ)) → AreNonzero dims → AllByRecursion (λ (dim : ℕ × ℤ × ℤ). dim.0 < 2 ^ 63) dims → AllByRecursion (λ dim. (0 < dim.0) × (dim.0 < 2 ^ 63)) dims
 both [] h g = tt
 both (dim ∷ dims) h g = ((h.0, g.0), both dims h.1 g.1)
 

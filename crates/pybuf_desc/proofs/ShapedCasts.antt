@@ -63,7 +63,7 @@ pub no_suboffsets : (size : ℕ) (shape : List ℕ) → All (λ (dim : ℕ × �
 no_suboffsets size [] = All-nil (λ (dim : ℕ × ℤ × ℤ). dim.2 ≡ pos 0)
 no_suboffsets size (n ∷ shape) = All-cons (λ (dim : ℕ × ℤ × ℤ). dim.2 ≡ pos 0) (n, pos (size * product shape), pos 0) (row_major_dims size shape) refl (no_suboffsets size shape)
 
-later_dims : (dims : List (ℕ × ℤ × ℤ)) → All (λ (dim : ℕ × ℤ × ℤ). 0 < dim.0) dims → All (λ (dim : ℕ × ℤ × ℤ). 0 < dim.0) (drop 1 dims)
+pub later_dims : (dims : List (ℕ × ℤ × ℤ)) → All (λ (dim : ℕ × ℤ × ℤ). 0 < dim.0) dims → All (λ (dim : ℕ × ℤ × ℤ). 0 < dim.0) (drop 1 dims)
 later_dims [] some = some
 later_dims (dim ∷ dims) some = All-tail (λ (d : ℕ × ℤ × ℤ). 0 < d.0) dim dims some
 

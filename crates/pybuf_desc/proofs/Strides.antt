@@ -23,7 +23,7 @@ pub size_below : (size k : ℕ) (dims : List (ℕ × ℤ × ℤ)) → All (λ di
 size_below size k dims some h =
     lt_of_le_of_lt (mul-le-mul_left size (product-drop-le k dims (AreNonzero-from_All dims some))) h
 
-drop_before : (dims : List (ℕ × ℤ × ℤ)) (k : ℕ) → 0 < k → k ≤ length dims → drop (k - 1) dims ≡ dim_at dims (k - 1) ∷ drop k dims
+pub drop_before : (dims : List (ℕ × ℤ × ℤ)) (k : ℕ) → 0 < k → k ≤ length dims → drop (k - 1) dims ≡ dim_at dims (k - 1) ∷ drop k dims
 drop_before dims zero h g = absurd (omega arith)
 drop_before dims (suc k) h g =
     subst (λ j. drop j dims ≡ dim_at dims j ∷ drop (suc k) dims) (let e : k ≡ suc k - 1 = omega arith in e) (drop-cons dims k (0, pos 0, pos 0) g)
@@ -47,7 +47,7 @@ strides_fail size k dims h g more unfit fit =
 
 -- ---- what `is_contiguous` says
 
-no_place : (size : ℕ) (start : ℤ) (xs : List ℤ) → length xs ≡ 0 → IsContiguous size start xs
+pub no_place : (size : ℕ) (start : ℤ) (xs : List ℤ) → length xs ≡ 0 → IsContiguous size start xs
 no_place size start [] e = refl
 no_place size start (x ∷ xs) e = absurd (let wrong : suc (length xs) ≡ 0 = e in omega arith)
 
@@ -89,7 +89,7 @@ bytes_fit d can some = subst (λ n. d.itemsize * n < 2 ^ 63) (sym (product-exten
 pub no_item : (d : Descriptor) → IsPlaceable d → d.len ≡ 0 → product (shape_of d.dims) ≡ 0
 no_item d can e = no_product d.itemsize (product (shape_of d.dims)) d.len can.placed.valid.len can.placed.valid.some_size e
 
-one_of : (n : ℕ) → 0 < n → (1 < n → ⊥) → 1 ≡ n
+pub one_of : (n : ℕ) → 0 < n → (1 < n → ⊥) → 1 ≡ n
 one_of zero more few = absurd (omega (arith, more))
 one_of (suc zero) more few = refl
 one_of (suc (suc n)) more few = absurd (few (omega arith))

@@ -5,11 +5,14 @@ use Rattle.std.specs.declared.ops.Range.{Range}
 use Rattle.pybuf_index.specs.Parts.{SliceParts}
 use Rattle.pybuf_desc.specs.Layouts.{Layout, HasItemsOfItsShape, LiesInside, product, bytes_layout, bytes_layout_from}
 use Rattle.pybuf_desc.specs.Apart.{HasItemsApart}
-use Rattle.pybuf_desc.specs.Items.{content_of_layout}
-use Rattle.pybuf_desc.specs.Contiguous.{is_contiguous_layout}
+use Rattle.pybuf_desc.specs.Items.{bytes_of_items, content_of_layout}
+use Rattle.pybuf_desc.specs.Contiguous.{starts_from, is_contiguous_layout}
 use Rattle.pybuf_desc.specs.Strides.{AreRowMajor, HasRowMajorStrides}
+use Rattle.pybuf_desc.specs.ColumnOrder.{column_starts, is_f_contiguous_layout}
+use Rattle.pybuf_desc.specs.ColumnMajor.{HasColumnMajorStrides}
 use Rattle.pybuf_desc.specs.Casts.{cast_count, cast_of}
 use Rattle.pybuf_desc.specs.ShapedCasts.{cast_to}
+use Rattle.pybuf_desc.specs.ColumnCasts.{column_cast_to}
 use Rattle.pybuf_desc.specs.Packed.{row_major_of}
 use Rattle.pybuf_desc.specs.Slices.{slice_of}
 use Rattle.pybuf_desc.specs.Descriptor.{Descriptor}
@@ -18,6 +21,7 @@ use Rattle.pybuf_desc.specs.Valid.{IsValid, IsPlaced}
 use Rattle.pybuf_desc.specs.Positions.{AreIndices, offset_of, number_of_item}
 use Rattle.pybuf_desc.specs.Tails.{tail_of, tail_of_strides}
 use Rattle.pybuf_desc.specs.Segments.{ranges_of, bytes_of, bytes_in}
+use Rattle.pybuf_desc.specs.ColumnSegments.{column_ranges_of}
 use Rattle.pybuf_desc.specs.SegmentLines.{ranges_of_line, IsLine}
 use Rattle.pybuf_desc.specs.declared.line.SegmentLine.{SegmentLine}
 use Rattle.pybuf_apart.specs.Apart.{place_of, AreInside, pieces_at}
@@ -68,6 +72,21 @@ abbrev pub ShapedCastsHaveTheirShape : Type 0
 ShapedCastsHaveTheirShape =
     (view : Layout) (format : List ℕ) (size : ℕ) (shape : List ℕ) → 0 < size → length view.starts * view.itemsize ≡ product shape * size
     → HasItemsOfItsShape (cast_to view format size shape)
+
+-- The items of a cast in column order, taken in that order, lie one new item size apart from the first
+-- place of the view on.
+abbrev pub ColumnCastsFollowColumnOrder : Type 0
+ColumnCastsFollowColumnOrder =
+    (view : Layout) (format : List ℕ) (size : ℕ) (shape : List ℕ) → 0 < length view.starts
+    → column_starts (column_cast_to view format size shape) ≡ starts_from view.starts size (product shape)
+
+abbrev pub ColumnCastsAreFContiguous : Type 0
+ColumnCastsAreFContiguous =
+    (view : Layout) (format : List ℕ) (size : ℕ) (shape : List ℕ) → is_f_contiguous_layout (column_cast_to view format size shape) ≡ true
+
+abbrev pub ColumnCastsHaveTheirShape : Type 0
+ColumnCastsHaveTheirShape =
+    (view : Layout) (format : List ℕ) (size : ℕ) (shape : List ℕ) → 0 < length view.starts → HasItemsOfItsShape (column_cast_to view format size shape)
 
 -- ---- copies
 
@@ -148,6 +167,13 @@ ContiguityIsOfStrides =
     (d : Descriptor) (start : ℕ) (view : Layout) → IsPlaced d start → Stands d start view → 0 < length view.starts
     → (is_contiguous_layout view ≡ true) ↔ (HasRowMajorStrides view)
 
+-- where there are items, they lie one after the other in column order exactly if the strides are
+-- column-major
+abbrev pub FContiguityIsOfStrides : Type 0
+FContiguityIsOfStrides =
+    (d : Descriptor) (start : ℕ) (view : Layout) → IsPlaced d start → Stands d start view → 0 < length view.starts
+    → (is_f_contiguous_layout view ≡ true) ↔ (HasColumnMajorStrides view)
+
 -- the items of a descriptor lie without a gap wherever they start, or nowhere
 abbrev pub ContiguityIsTheSameAnywhere : Type 0
 ContiguityIsTheSameAnywhere =
@@ -190,6 +216,16 @@ abbrev pub RangesStayInside : Type 0
 RangesStayInside =
     (d : Descriptor) (start joined : ℕ) (view : Layout) (room : ℕ) → IsPlaced d start → joined ≤ tail_of d → Stands d start view → LiesInside room view
     → All (λ (range : Range ℕ). range.end ≤ room) (ranges_of d (pos start) joined)
+
+-- of a walk in column order: the bytes at the ranges, end to end, are those of the items in column order
+abbrev pub ColumnRangesHaveTheContent : Type 0
+ColumnRangesHaveTheContent =
+    (d : Descriptor) (start : ℕ) (view : Layout) (bytes : List ℕ) → Stands d start view
+    → flat_map (λ range. bytes_in bytes range) (column_ranges_of d (pos start)) ≡ bytes_of_items bytes view.itemsize (column_starts view)
+
+abbrev pub ColumnRangesStayInside : Type 0
+ColumnRangesStayInside =
+    (d : Descriptor) (start room : ℕ) → IsValid d start room → All (λ (range : Range ℕ). range.end ≤ room) (column_ranges_of d (pos start))
 
 -- The items of a line lie among bytes where each byte of its ranges does.
 abbrev pub LinesLieInside : Type 0

@@ -20,3 +20,7 @@ pub mod Pairs
 pub mod KeptDims
 pub mod KeptFormats
 pub mod SegmentLines
+pub mod ColumnOrder
+pub mod ColumnMajor
+pub mod ColumnCasts
+pub mod ColumnSegments

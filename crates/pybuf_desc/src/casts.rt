@@ -8,6 +8,8 @@ ghost use Rattle.pybuf_desc.specs.Valid.{IsValid, IsPlaceable};
 ghost use Rattle.pybuf_desc.specs.RowMajor.{row_major_dims, shaped_cast};
 ghost use Rattle.pybuf_desc.specs.Casts.{cast_of};
 ghost use Rattle.pybuf_desc.specs.ShapedCasts.{cast_to};
+ghost use Rattle.pybuf_desc.specs.ColumnMajor.{column_major_dims, column_cast};
+ghost use Rattle.pybuf_desc.specs.ColumnCasts.{column_cast_to};
 
 use crate::descriptor::BufferDescriptor;
 use crate::dims::Dims;
@@ -54,6 +56,21 @@ fn row_major_dims(alloc: Global, len: usize, itemsize: usize, shape: &[usize]) -
             Ok(Dims::from_list(list))
         }
     }
+}
+
+/// The dimensions of a shape whose items lie one after the other in column order, as a list.
+fn column_major_list(alloc: Global, itemsize: usize, shape: &[usize]) -> Made<DimList>
+    requires entries { All (λ n. 0 < n) shape.now }
+    requires fits { itemsize * product shape.now < 2 ^ 63 }
+    ensures { IfOk result (λ dims. dims ≡ column_major_dims itemsize shape.now) }
+{
+    let mut dims = DimList::new(alloc);
+    let mut size = itemsize;
+    for n in shape {
+        dims.push((*n, size as isize, 0))?;
+        size *= *n;
+    }
+    Ok(dims)
 }
 
 impl BufferDescriptor {
@@ -136,6 +153,37 @@ impl BufferDescriptor {
         ensures stands { IfOk result (λ d. (start : ℕ) (view : Layout) → Stands self.now start view → Stands d start (cast_to view format itemsize shape.now)) }
     {
         let dims = row_major_dims(alloc, self.len(), itemsize, shape)?;
+        Ok(BufferDescriptor::from_dims(self.len(), self.readonly(), itemsize, format, dims))
+    }
+
+    /// Items of another format and size over the same bytes, from the same start, in dimensions of
+    /// these entries, in column order: item k in that order lies k item sizes after the first.
+    /// Without dimensions there is one item.
+    ///
+    /// The items of this one must lie one after the other without a gap, as `is_contiguous` tells,
+    /// and the new ones must make up their bytes. There are at most 64 dimensions, each with an
+    /// entry.
+    pub fn cast_shape_f(
+        &self,
+        alloc: Global,
+        format: Text,
+        itemsize: usize,
+        shape: &[usize],
+    ) -> Made<BufferDescriptor>
+        requires valid { IsPlaceable self.now }
+        requires contiguous { (start : ℕ) (view : Layout) → Stands self.now start view → is_contiguous_layout view ≡ true }
+        requires some_size { 0 < itemsize }
+        requires size_fits { itemsize < 2 ^ 63 }
+        requires few_dimensions { length shape.now ≤ 64 }
+        requires entries { All (λ n. 0 < n) shape.now }
+        requires whole_items { itemsize * product shape.now ≡ self.now.len }
+        ensures made { IfOk result (λ d. d ≡ column_cast self.now format itemsize shape.now) }
+        ensures valid { IfOk result (λ d. (start room : ℕ) → IsValid self.now start room → IsValid d start room) }
+        ensures stands { IfOk result (λ d. (start : ℕ) (view : Layout) → Stands self.now start view → Stands d start (column_cast_to view format itemsize shape.now)) }
+    {
+        let dims = column_major_list(alloc, itemsize, shape)?;
+        let format = KeptFormat::from_text(format);
+        let dims = Dims::from_list(dims);
         Ok(BufferDescriptor::from_dims(self.len(), self.readonly(), itemsize, format, dims))
     }
 }

@@ -7,6 +7,8 @@ ghost use Rattle.pybuf_desc.specs.Places.{places, Stands};
 ghost use Rattle.pybuf_desc.specs.Valid.{IsPlaceable};
 ghost use Rattle.pybuf_desc.specs.RowMajor.{IsContiguous, AreRowMajorStrides};
 ghost use Rattle.pybuf_desc.specs.Tails.{tail_of};
+ghost use Rattle.pybuf_desc.specs.ColumnOrder.{is_f_contiguous_layout};
+ghost use Rattle.pybuf_desc.specs.ColumnMajor.{column_places, AreColumnMajorStrides};
 
 use crate::checks::has_zero;
 use crate::descriptor::BufferDescriptor;
@@ -57,6 +59,26 @@ fn dims_before_tail(dims: &[(usize, isize, isize)], itemsize: usize) -> usize
     0
 }
 
+/// Whether each dimension of more than one entry has as stride the item size times the product of
+/// the earlier entries.
+fn has_column_major_strides(dims: &[(usize, isize, isize)], itemsize: usize) -> bool
+    requires entries { All (λ dim. 0 < dim.0) dims.now }
+    requires fits { itemsize * product (shape_of dims.now) < 2 ^ 63 }
+    ensures { IsTrue result ↔ AreColumnMajorStrides itemsize dims.now }
+{
+    let mut size = itemsize;
+    for dim in dims {
+        let shape = dim.0;
+        if shape > 1 {
+            if dim.1 != size as isize {
+                return false;
+            }
+            size *= shape;
+        }
+    }
+    true
+}
+
 impl BufferDescriptor {
     /// The tail: the greatest number of last dimensions of which each that has more than one entry has
     /// as stride the item size times the product of the entries after it, where there are items. Takes
@@ -86,6 +108,21 @@ impl BufferDescriptor {
             return true;
         }
         has_row_major_strides(self.dim_desc(), self.itemsize())
+    }
+
+    /// Whether the items lie one after the other, in column order, without a gap: F-contiguous, as
+    /// Python's C API has it under "Buffer Protocol", "Contiguity requests". Without items this is
+    /// so. Takes no memory.
+    pub fn is_f_contiguous(&self) -> bool
+        requires { IsPlaceable self.now }
+        ensures view { (start : ℕ) (view : Layout) → Stands self.now start view → result ≡ is_f_contiguous_layout view }
+        ensures places { (start : ℤ) → (IsTrue result ↔ IsContiguous self.now.itemsize start (column_places self.now.dims start)) }
+        ensures strides { 0 < self.now.len → (IsTrue result ↔ AreColumnMajorStrides self.now.itemsize self.now.dims) }
+    {
+        if self.len() == 0 {
+            return true;
+        }
+        has_column_major_strides(self.dim_desc(), self.itemsize())
     }
 
     /// Whether the items of a row, which differ in the last index alone, lie one after the other.

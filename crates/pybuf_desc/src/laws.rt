@@ -1,5 +1,5 @@
 //! Laws of the definitions that the contracts cite. Each stands on a function with an empty body.
-ghost use Rattle.pybuf_desc.specs.Laws.{CastsShareTheirBytes, CastsStayInside, CastsHaveTheirShape, CastsAreContiguous, FlatCastsHaveOneDimension, ShapedCastsShareTheirBytes, ShapedCastsStayInside, ShapedCastsHaveTheirShape, CopiesHaveTheirBytes, SlicesStayInside, SlicesHaveTheirShape, SlicingBackTwiceIsNothing, WholeLayoutsLieApart, SlicesLieApart, CastsLieApart, RowMajorLayoutsLieApart, PlacedDescriptorsStand, DescriptorsStandForOneView, DescribedViewsHaveTheirShape, ValidWhereItemsLieInside, ContiguityIsOfStrides, ContiguityIsTheSameAnywhere, PositionsArePlaces, TailsAreGreatest, RangesHaveTheContent, RangesStayInside, LinesLieInside, LinesHaveTheirPieces};
+ghost use Rattle.pybuf_desc.specs.Laws.{CastsShareTheirBytes, CastsStayInside, CastsHaveTheirShape, CastsAreContiguous, FlatCastsHaveOneDimension, ShapedCastsShareTheirBytes, ShapedCastsStayInside, ShapedCastsHaveTheirShape, ColumnCastsFollowColumnOrder, ColumnCastsAreFContiguous, ColumnCastsHaveTheirShape, CopiesHaveTheirBytes, SlicesStayInside, SlicesHaveTheirShape, SlicingBackTwiceIsNothing, WholeLayoutsLieApart, SlicesLieApart, CastsLieApart, RowMajorLayoutsLieApart, PlacedDescriptorsStand, DescriptorsStandForOneView, DescribedViewsHaveTheirShape, ValidWhereItemsLieInside, ContiguityIsOfStrides, FContiguityIsOfStrides, ContiguityIsTheSameAnywhere, PositionsArePlaces, TailsAreGreatest, RangesHaveTheContent, RangesStayInside, ColumnRangesHaveTheContent, ColumnRangesStayInside, LinesLieInside, LinesHaveTheirPieces};
 
 /// The items of a cast of a contiguous view have the view's bytes in their order: its items lie one
 /// new item size apart from the view's first place on, and make up all its bytes.
@@ -40,6 +40,22 @@ pub fn shaped_casts_stay_inside()
 /// A cast to a shape has as many items as the shape says.
 pub fn shaped_casts_have_their_shape()
     ensures { ShapedCastsHaveTheirShape }
+{}
+
+/// The items of a cast in column order, taken in that order, lie one new item size apart from the
+/// view's first place on.
+pub fn column_casts_follow_column_order()
+    ensures { ColumnCastsFollowColumnOrder }
+{}
+
+/// The items of a cast in column order lie one after the other in that order.
+pub fn column_casts_are_f_contiguous()
+    ensures { ColumnCastsAreFContiguous }
+{}
+
+/// A cast in column order has as many items as its shape says.
+pub fn column_casts_have_their_shape()
+    ensures { ColumnCastsHaveTheirShape }
 {}
 
 /// The bytes of a view, copied, hold its items one after the other, in its shape: with the same
@@ -114,6 +130,12 @@ pub fn contiguity_is_of_strides()
     ensures { ContiguityIsOfStrides }
 {}
 
+/// Items lie one after the other in column order exactly if each dimension of more than one entry has as
+/// stride the item size times the product of the earlier entries.
+pub fn f_contiguity_is_of_strides()
+    ensures { FContiguityIsOfStrides }
+{}
+
 /// Whether the items of a descriptor lie one after the other doesn't depend on where they start.
 pub fn contiguity_is_the_same_anywhere()
     ensures { ContiguityIsTheSameAnywhere }
@@ -141,6 +163,17 @@ pub fn ranges_have_the_content()
 /// of the tail are joined.
 pub fn ranges_stay_inside()
     ensures { RangesStayInside }
+{}
+
+/// The bytes at the ranges of a walk in column order, one range after the other, are those of the items
+/// in column order.
+pub fn column_ranges_have_the_content()
+    ensures { ColumnRangesHaveTheContent }
+{}
+
+/// Where a descriptor is valid, the ranges of a walk in column order lie inside.
+pub fn column_ranges_stay_inside()
+    ensures { ColumnRangesStayInside }
 {}
 
 /// The items of a line lie among bytes where each byte of its ranges does.

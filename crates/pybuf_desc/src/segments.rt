@@ -34,7 +34,7 @@ fn place_before(place: usize, count: usize, stride: isize) -> usize
 ///
 /// The last index goes up by one. Where it reaches its dimension's entries it goes back to 0, and
 /// the one before it goes up in its place.
-fn next_row(
+pub(crate) fn next_row(
     rows: &[(usize, isize, isize)],
     indices: &mut [usize; 64],
     place: usize,

@@ -11,7 +11,7 @@ use crate::methods::method_text;
 use crate::names::push_subject;
 use crate::spellings::push_value;
 use crate::words::{operator_text, property_text, verb_text};
-use pybuf_command::{ByteInnerNewOptions, Loan, LocalCommand, MethodCall, Verb};
+use pybuf_command::{ByteInnerNewOptions, LoanList, LocalCommand, MethodCall, Verb};
 use pybuf_value::{Made, Value};
 
 /// Adds a word after a blank.
@@ -24,7 +24,7 @@ fn push_word(out: &mut Vec<u8>, word: &str) -> Made<()>
 }
 
 /// Adds a value after a blank.
-fn push_one(out: &mut Vec<u8>, loans: &[(u64, Loan)], value: &Value) -> Made<()>
+fn push_one(out: &mut Vec<u8>, loans: &LoanList, value: &Value) -> Made<()>
     ensures { OnOk result (out.new.items ≡ out.old.items ++ after_blanks (map (written_value (name_of loans.now)) (value.now ∷ []))) }
 {
     out.push(b' ')?;
@@ -32,7 +32,7 @@ fn push_one(out: &mut Vec<u8>, loans: &[(u64, Loan)], value: &Value) -> Made<()>
 }
 
 /// Adds two values, each after a blank.
-fn push_two(out: &mut Vec<u8>, loans: &[(u64, Loan)], first: &Value, second: &Value) -> Made<()>
+fn push_two(out: &mut Vec<u8>, loans: &LoanList, first: &Value, second: &Value) -> Made<()>
     ensures { OnOk result (out.new.items ≡ out.old.items ++ after_blanks (map (written_value (name_of loans.now)) (first.now ∷ second.now ∷ []))) }
 {
     push_one(out, loans, first)?;
@@ -40,7 +40,7 @@ fn push_two(out: &mut Vec<u8>, loans: &[(u64, Loan)], first: &Value, second: &Va
 }
 
 /// Adds values, each after a blank.
-fn push_values(out: &mut Vec<u8>, loans: &[(u64, Loan)], values: &[Value]) -> Made<()>
+fn push_values(out: &mut Vec<u8>, loans: &LoanList, values: &[Value]) -> Made<()>
     ensures { OnOk result (out.new.items ≡ out.old.items ++ after_blanks (map (written_value (name_of loans.now)) values.now)) }
 {
     for value in values {
@@ -50,7 +50,7 @@ fn push_values(out: &mut Vec<u8>, loans: &[(u64, Loan)], values: &[Value]) -> Ma
 }
 
 /// Adds the values that bytes are made of, each of which comes only after the one before.
-fn push_options(out: &mut Vec<u8>, loans: &[(u64, Loan)], options: &ByteInnerNewOptions) -> Made<()>
+fn push_options(out: &mut Vec<u8>, loans: &LoanList, options: &ByteInnerNewOptions) -> Made<()>
     ensures { OnOk result (out.new.items ≡ out.old.items ++ after_blanks (written_options (name_of loans.now) options.now)) }
 {
     match (&options.source, &options.encoding, &options.errors) {
@@ -65,7 +65,7 @@ fn push_options(out: &mut Vec<u8>, loans: &[(u64, Loan)], options: &ByteInnerNew
 }
 
 /// Adds a call: the name of its method, and its arguments.
-fn push_call(out: &mut Vec<u8>, loans: &[(u64, Loan)], method: &MethodCall) -> Made<()>
+fn push_call(out: &mut Vec<u8>, loans: &LoanList, method: &MethodCall) -> Made<()>
     ensures { OnOk result (out.new.items ≡ out.old.items ++ after_blanks (written_call (name_of loans.now) method.now)) }
 {
     push_word(out, method_text(method.name))?;
@@ -73,7 +73,7 @@ fn push_call(out: &mut Vec<u8>, loans: &[(u64, Loan)], method: &MethodCall) -> M
 }
 
 /// Adds the values of a verb that has no other arguments, each after a blank.
-fn push_verb_values(out: &mut Vec<u8>, loans: &[(u64, Loan)], verb: &Verb) -> Made<()>
+fn push_verb_values(out: &mut Vec<u8>, loans: &LoanList, verb: &Verb) -> Made<()>
     ensures { OnOk result (out.new.items ≡ out.old.items ++ after_blanks (map (written_value (name_of loans.now)) (values_of verb.now))) }
 {
     match verb {
@@ -111,7 +111,7 @@ fn push_verb_values(out: &mut Vec<u8>, loans: &[(u64, Loan)], verb: &Verb) -> Ma
 }
 
 /// Adds the words after the subject, each after a blank.
-fn push_arguments(out: &mut Vec<u8>, loans: &[(u64, Loan)], verb: &Verb) -> Made<()>
+fn push_arguments(out: &mut Vec<u8>, loans: &LoanList, verb: &Verb) -> Made<()>
     ensures { OnOk result (out.new.items ≡ out.old.items ++ after_blanks (written_arguments (name_of loans.now) verb.now)) }
 {
     match verb {
@@ -133,5 +133,5 @@ pub fn push_command(out: &mut Vec<u8>, command: &LocalCommand) -> Made<()>
     out.extend_from_slice(verb_text(&command.verb).as_bytes())?;
     out.push(b' ')?;
     push_subject(out, command.subject)?;
-    push_arguments(out, command.loans.as_slice(), &command.verb)
+    push_arguments(out, &command.loans, &command.verb)
 }

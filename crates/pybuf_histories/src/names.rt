@@ -3,7 +3,7 @@ ghost use Rattle.std.specs.Prelude.{◌≡◌, ◌++◌, ◌<◌, ◌+◌, ◌*�
 ghost use Rattle.hex.specs.Hex.{encode_lower};
 ghost use Rattle.pybuf_histories.specs.Names as spec;
 
-use pybuf_command::{Loan, Subject, loan_of};
+use pybuf_command::{Loan, LoanList, Subject};
 use pybuf_line::push_decimal;
 use pybuf_value::{Made, NoMemory};
 
@@ -97,10 +97,10 @@ fn push_loan(out: &mut Vec<u8>, loan: &Loan) -> Made<()>
 }
 
 /// Adds what a handle names, by what is lent for it.
-pub fn push_name(out: &mut Vec<u8>, loans: &[(u64, Loan)], handle: u64) -> Made<()>
+pub fn push_name(out: &mut Vec<u8>, loans: &LoanList, handle: u64) -> Made<()>
     ensures { OnOk result (out.new.items ≡ out.old.items ++ spec.name_of loans.now handle) }
 {
-    match loan_of(loans, handle) {
+    match loans.loan(handle) {
         Some(loan) => push_loan(out, loan),
         None => {
             out.extend_from_slice(b"none")?;

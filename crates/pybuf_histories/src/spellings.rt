@@ -7,7 +7,7 @@ ghost use Rattle.pybuf_histories.specs.Names.{name_of};
 ghost use Rattle.pybuf_histories.specs.Words.{after_commas};
 
 use crate::names::{push_bytes_value, push_name};
-use pybuf_command::Loan;
+use pybuf_command::LoanList;
 use pybuf_value::{Made, PySlice, Scalar, Value, push_number, push_truth};
 
 /// Adds a text between quotes, in which nothing is escaped.
@@ -26,14 +26,14 @@ trait Part {
     ghost spelling: { (ℕ → List ℕ) → Self → List ℕ };
 
     /// Adds the part.
-    fn push_part(&self, out: &mut Vec<u8>, loans: &[(u64, Loan)]) -> Made<()>
+    fn push_part(&self, out: &mut Vec<u8>, loans: &LoanList) -> Made<()>
         ensures { OnOk result (out.new.items ≡ out.old.items ++ spelling (name_of loans.now) self.now) };
 }
 
 impl Part for Scalar {
     ghost spelling = { written_scalar };
 
-    fn push_part(&self, out: &mut Vec<u8>, loans: &[(u64, Loan)]) -> Made<()> {
+    fn push_part(&self, out: &mut Vec<u8>, loans: &LoanList) -> Made<()> {
         match self {
             Scalar::None => out.extend_from_slice(b"None")?,
             Scalar::Bool(truth) => push_truth(out, *truth)?,
@@ -50,7 +50,7 @@ impl Part for Scalar {
 impl Part for PySlice {
     ghost spelling = { written_slice };
 
-    fn push_part(&self, out: &mut Vec<u8>, loans: &[(u64, Loan)]) -> Made<()> {
+    fn push_part(&self, out: &mut Vec<u8>, loans: &LoanList) -> Made<()> {
         self.start.push_part(out, loans)?;
         out.push(b':')?;
         self.stop.push_part(out, loans)?;
@@ -60,7 +60,7 @@ impl Part for PySlice {
 }
 
 /// Adds parts, each after a comma.
-fn push_next_parts<T: Part>(out: &mut Vec<u8>, loans: &[(u64, Loan)], parts: &[T]) -> Made<()>
+fn push_next_parts<T: Part>(out: &mut Vec<u8>, loans: &LoanList, parts: &[T]) -> Made<()>
     ensures { OnOk result (out.new.items ≡ out.old.items ++ after_commas (T.spelling (name_of loans.now)) parts.now) }
 {
     for part in parts {
@@ -73,7 +73,7 @@ fn push_next_parts<T: Part>(out: &mut Vec<u8>, loans: &[(u64, Loan)], parts: &[T
 /// Adds a first part, and others, each after a comma.
 fn push_first_parts<T: Part>(
     out: &mut Vec<u8>,
-    loans: &[(u64, Loan)],
+    loans: &LoanList,
     first: &T,
     more: &[T],
 ) -> Made<()>
@@ -84,7 +84,7 @@ fn push_first_parts<T: Part>(
 }
 
 /// Adds parts with a comma between each two.
-fn push_parts<T: Part>(out: &mut Vec<u8>, loans: &[(u64, Loan)], parts: &[T]) -> Made<()>
+fn push_parts<T: Part>(out: &mut Vec<u8>, loans: &LoanList, parts: &[T]) -> Made<()>
     ensures { OnOk result (out.new.items ≡ out.old.items ++ written_parts (T.spelling (name_of loans.now)) parts.now) }
 {
     match parts {
@@ -96,7 +96,7 @@ fn push_parts<T: Part>(out: &mut Vec<u8>, loans: &[(u64, Loan)], parts: &[T]) ->
 /// Adds parts between an opening byte and a closing one.
 fn push_enclosed<T: Part>(
     out: &mut Vec<u8>,
-    loans: &[(u64, Loan)],
+    loans: &LoanList,
     opening: u8,
     parts: &[T],
     closing: u8,
@@ -110,7 +110,7 @@ fn push_enclosed<T: Part>(
 }
 
 /// Adds a value.
-pub fn push_value(out: &mut Vec<u8>, loans: &[(u64, Loan)], value: &Value) -> Made<()>
+pub fn push_value(out: &mut Vec<u8>, loans: &LoanList, value: &Value) -> Made<()>
     ensures { OnOk result (out.new.items ≡ out.old.items ++ written_value (name_of loans.now) value.now) }
 {
     match value {

@@ -10,7 +10,7 @@ ghost use Rattle.pybuf_state.specs.Loans.{given_loan, names_of, is_named, are_na
 ghost use Rattle.pybuf_state.specs.Names as spec;
 
 use crate::parts::Parts;
-use pybuf_command::{Loan, LoanList, Subject, loan_of};
+use pybuf_command::{Loan, LoanList, Subject};
 use pybuf_value::{PySlice, Scalar, Snap, Value};
 
 /// Something of another exporter.
@@ -68,7 +68,7 @@ impl Names for LoanList {
 
     #[tactic(auto, using(crate::proofs::Meanings::loan_fits))]
     fn meaning(&self, handle: u64) -> Meaning<'_> {
-        meaning_of(loan_of(self.as_slice(), handle))
+        meaning_of(self.loan(handle))
     }
 }
 

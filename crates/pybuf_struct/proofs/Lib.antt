@@ -18,3 +18,4 @@ pub mod RoundTrips
 pub mod Aligned
 pub mod Singles
 pub mod Natives
+pub mod Spelled

@@ -12,10 +12,10 @@ use Rattle.pybuf_struct.specs.declared.table.Endianness.{Endianness}
 use Rattle.pybuf_struct.specs.declared.table.FormatType.{FormatType}
 use Rattle.pybuf_struct.specs.declared.table.FormatType.TheVariants as code
 use Rattle.pybuf_struct.specs.declared.table.Endianness.TheVariants as order
-use Rattle.pybuf_struct.specs.Table.{letter, size_of, alignment_of}
+use Rattle.pybuf_struct.specs.Table.{letter, is_allowed, size_of, alignment_of}
 use Rattle.pybuf_struct.specs.Singles.{size_by}
 use Rattle.pybuf_struct.specs.Natives.{is_item_code, native_single_code}
-use Rattle.pybuf_struct.specs.Formats.{Code, Format, Field, format_of, fields}
+use Rattle.pybuf_struct.specs.Formats.{Code, Format, Field, prefix_of, format_of, fields}
 use Rattle.pybuf_struct.specs.FormatTexts.{WrittenCode, IsPrefixOf, AreWritten, text_of_codes, items_of_codes, item_of_code, end_after}
 use Rattle.pybuf_struct.specs.Values.{values, unpacked_values}
 use Rattle.pybuf_struct.specs.Packing.{truth_byte, fitted_to, packed_bytes}
@@ -74,6 +74,16 @@ IsAligned o f = f.offset % alignment_of o f.code ≡ 0
 -- The fields of a format that a text spells follow one another within its size, at multiples of their alignment.
 abbrev pub FieldsLieInOrder : Type 0
 FieldsLieInOrder = (text : List ℕ) (f : Format) → format_of text ≡ Ok f → Spread 0 (fields f) f.size × AllByRecursion (IsAligned f.order) (fields f)
+
+-- A format that a text spells has the order of its prefix, and codes that formats of this prefix have.
+abbrev pub CodesAreAllowed : Type 0
+CodesAreAllowed =
+    (text : List ℕ) (f : Format) → format_of text ≡ Ok f
+    → (f.order ≡ (prefix_of text).0) × AllByRecursion (λ c. is_allowed f.order c.code ≡ true) f.codes
+
+-- The size of a format that a text spells is the offset at which its codes end.
+abbrev pub SizesEndTheCodes : Type 0
+SizesEndTheCodes = (text : List ℕ) (f : Format) → format_of text ≡ Ok f → f.size ≡ end_after f.order 0 (map item_of_code f.codes)
 
 -- Reading by a format gives of values that were written by it what each field gives back.
 abbrev pub ReadsWhatWasWritten : Type 0

@@ -1,6 +1,6 @@
 //! Laws over all formats, values and bytes. Their statements cite the definitions that the
 //! contracts of `FormatSpec::parse`, `pack`, `pack_into` and `unpack` cite.
-ghost use Rattle.pybuf_struct.specs.Laws.{FieldsLieInOrder, ReadsWhatWasWritten, WritesWhatWasRead, FormatsReadBack, PackingFillsTheFormat, BytesOfTheSizeAreRead, NativeCodesAreSpelled, NativeCodesHaveTheirSize};
+ghost use Rattle.pybuf_struct.specs.Laws.{CodesAreAllowed, SizesEndTheCodes, FieldsLieInOrder, ReadsWhatWasWritten, WritesWhatWasRead, FormatsReadBack, PackingFillsTheFormat, BytesOfTheSizeAreRead, NativeCodesAreSpelled, NativeCodesHaveTheirSize};
 
 /// Codes and counts that are written out by the grammar are read as the same codes and counts: for
 /// every prefix, every code that formats of this prefix have, and every count, whether it is
@@ -14,6 +14,17 @@ pub fn formats_read_back()
 /// begins at a multiple of its code's alignment.
 pub fn fields_lie_in_order()
     ensures { FieldsLieInOrder }
+{}
+
+/// Each code of a format that a text spells is one that formats of its prefix have.
+pub fn codes_are_allowed()
+    ensures { CodesAreAllowed }
+{}
+
+/// The size of a format that a text spells is the offset at which its codes end, one after another from offset 0, each
+/// after its padding.
+pub fn sizes_end_the_codes()
+    ensures { SizesEndTheCodes }
 {}
 
 /// `unpack` of what `pack` gives is the normal form of the values: numbers as whole numbers, truth

@@ -10,6 +10,10 @@ use crate::table::{Endianness, FormatType};
 use pybuf_value::{Fault, Outcome, Tried};
 use std::alloc::Global;
 
+/// The most codes that a list of codes has room for at first. So the codes of nearly every format take one block, and
+/// a long text takes no more at first than a short one.
+const ROOM: usize = 8;
+
 /// The order that a format's first byte says, and the text after it.
 fn split_prefix(format: &[u8]) -> (Endianness, &[u8])
     ensures order { result.0 ≡ (prefix_of format.now).0 }
@@ -80,7 +84,7 @@ fn place(
 fn spell(alloc: Global, order: Endianness, text: &[u8]) -> Tried<FormatSpec>
     ensures { IfOk result (λ o. o ≡ outcome_of (ok_or (format_after_prefix order text.now) Fault.Struct)) }
 {
-    let mut codes = Vec::new(alloc);
+    let mut codes = Vec::with_capacity(alloc, text.len().min(ROOM))?;
     let mut offset = 0usize;
     let mut arg_count = 0usize;
     let mut count = None;

@@ -4,7 +4,7 @@ use Rattle.pybuf_struct.proofs.parse.spell.Goals as goal
 use Rattle.pybuf_struct.proofs.parse.spell.Goals.{then-is_ascii_digit+in-Some, else-is_ascii_digit+in-Some-allowed_code+in-Some-place+in_ok-push}
 
 pub loop-b-init : goal.loop-b-init
-loop-b-init c = rw c.new-codes.ensures.items (spells_nothing _ _)
+loop-b-init c = rw c.in_ok-codes.ensures.items (spells_nothing _ _)
 
 pub returns-in-None : goal.returns-in-None
 returns-in-None c = rw (no_count _ _ _ _ _ _ _ c.loop-b.invariant c.loop-b-test.true (sym c.is_ascii_digit.ensures.value ∙ c.if-is_ascii_digit.true) c.in-None.ensures.past) refl
