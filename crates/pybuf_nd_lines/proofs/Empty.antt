@@ -8,8 +8,8 @@ use Rattle.pybuf_value.specs.Refusing.{unless}
 use Rattle.pybuf_index.specs.Parts.{SliceParts}
 use Rattle.pybuf_desc.specs.Layouts.{Layout}
 use Rattle.pybuf_desc.specs.Items.{bytes_of_items, content_of_layout}
-use Rattle.pybuf_nd.specs.IndexMaps.{index_lists, start_at}
-use Rattle.pybuf_nd.specs.ColumnOrder.{column_index_lists}
+use Rattle.pybuf_desc.specs.ColumnOrder.{start_at, column_index_lists}
+use Rattle.pybuf_nd.specs.IndexMaps.{index_lists}
 use Rattle.pybuf_nd.specs.Selections.{has_zero, counts_of, picks_of_each, picked_indices, selection_of, selection_check}
 use Rattle.pybuf_nd.specs.Axes.{transposition_of, order_check}
 use Rattle.pybuf_nd.specs.Laws.{TranspositionsAreColumnOrder}
