@@ -79,7 +79,7 @@ fn answer<K: Sink>(alloc: Global, sink: &mut K, selection: &Selection, input: &[
 }
 
 /// Reads the whole input, and answers it.
-pub(crate) fn nd<S: Source, K: Sink>(
+pub(crate) fn select<S: Source, K: Sink>(
     alloc: Global,
     source: &mut S,
     sink: &mut K,

@@ -26,7 +26,7 @@ use crate::devices::{PutFault, Sink, Source};
 use crate::forms::{Form, form_named, is_shared};
 use crate::loops::{ReadStop, read_all, write_all};
 use crate::memory::{QuietSink, QuietSource};
-use crate::nd::nd;
+use crate::nd::select;
 use crate::putting::write_bad_line;
 use crate::sharing::share;
 use crate::status::Status;
@@ -169,7 +169,7 @@ pub fn serve_alone<S: Source, K: Sink>(
         Some(Form::Make(number)) => make(alloc, sink, number),
         Some(Form::Array(code)) => run_array(alloc, code, source, sink),
         Some(Form::Table(listing)) => table(alloc, source, sink, &listing),
-        Some(Form::Nd(selection)) => nd(alloc, source, sink, &selection),
+        Some(Form::Nd(selection)) => select(alloc, source, sink, &selection),
     }
 }
 

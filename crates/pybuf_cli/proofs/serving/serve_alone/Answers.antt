@@ -117,23 +117,23 @@ pub returns-in-Some-Nd : goal.returns-in-Some-Nd
 returns-in-Some-Nd g c =
     let s = c.in-Some-Nd.selection in
     let is : form_of c.args.words.now ≡ Some (form.Nd s) = sym c.in-Ok.ensures.form ∙ (c.in-Some-Nd.is ∙ ap Some c.in-Some-Nd.field-0-is) in
-    serves_form _ _ (form.Nd s) c.nd.result _ _ _ _ _ _ _ _ (ap alone is) c.nd.ensures.usage (record {
+    serves_form _ _ (form.Nd s) c.select.result _ _ _ _ _ _ _ _ (ap alone is) c.select.ensures.usage (record {
       own = record {
         reads = record {
-          too_long = c.nd.ensures.too_long;
-          takes_front = c.nd.ensures.takes_front;
-          unread_writes_nothing = c.nd.ensures.unread_writes_nothing;
+          too_long = c.select.ensures.too_long;
+          takes_front = c.select.ensures.takes_front;
+          unread_writes_nothing = c.select.ensures.unread_writes_nothing;
         };
-        done = c.nd.ensures.done;
-        bad_data = c.nd.ensures.bad_data;
-        bad_line = c.nd.ensures.bad_line;
+        done = c.select.ensures.done;
+        bad_data = c.select.ensures.bad_data;
+        bad_line = c.select.ensures.bad_line;
       };
-      prefix = λ input told. record { text = _; due = refl; front = c.nd.ensures.prefix input told };
-      complete = c.nd.ensures.complete;
-      read_fault = c.nd.ensures.read_fault;
-      write_fault = c.nd.ensures.write_fault;
-      read_fault_writes_nothing = c.nd.ensures.read_fault_writes_nothing;
-      too_long_writes_nothing = c.nd.ensures.too_long_writes_nothing;
-      disagree = λ other. absurd (c.nd.ensures.disagree other);
+      prefix = λ input told. record { text = _; due = refl; front = c.select.ensures.prefix input told };
+      complete = c.select.ensures.complete;
+      read_fault = c.select.ensures.read_fault;
+      write_fault = c.select.ensures.write_fault;
+      read_fault_writes_nothing = c.select.ensures.read_fault_writes_nothing;
+      too_long_writes_nothing = c.select.ensures.too_long_writes_nothing;
+      disagree = λ other. absurd (c.select.ensures.disagree other);
       bad_data = λ _. tt;
     })

@@ -6,7 +6,7 @@ use Rattle.pybuf_cli.specs.declared.status.Status.TheVariants as status
 use Rattle.pybuf_cli.proofs.Served.{took_too_many, took_few, took_one_more, stopped_short, no_memory_is_short, failed_is_short, no_memory_ends_short, fault_ends_short, none_unread}
 use Rattle.pybuf_cli.proofs.Data.{data_answers_so, data_front, data_complete, data_too_long, nothing_put}
 use Rattle.pybuf_cli.proofs.Selecting.{selected_all, misfit_told}
-use Rattle.pybuf_cli.proofs.nd.nd.Goals as goal
+use Rattle.pybuf_cli.proofs.nd.select.Goals as goal
 
 pub returns-in-Ok-clause-done : goal.returns-in-Ok-clause-done
 returns-in-Ok-clause-done g c =
