@@ -24,6 +24,19 @@ pub fn put_number(code: ArrayCode, bytes: &mut [u8], place: usize, number: i128)
     bytes[at..at + size].copy_from_slice(&word[..size]);
 }
 
+/// Turns a piece of a size that is known when this is compiled round. It is read whole before any of it is written: then
+/// the loop over pieces turns several at a time.
+#[inline]
+fn turn_piece<const SIZE: usize>(bytes: &mut [u8], at: usize)
+    requires { at + SIZE ≤ length bytes.old }
+    ensures { bytes.new ≡ take at bytes.old ++ (reverse (take SIZE (drop at bytes.old)) ++ drop SIZE (drop at bytes.old)) }
+{
+    let mut piece = [0; SIZE];
+    piece.copy_from_slice(&bytes[at..at + SIZE]);
+    piece.reverse();
+    bytes[at..at + SIZE].copy_from_slice(&piece);
+}
+
 /// Turns each piece of a size round.
 fn turn_pieces<const SIZE: usize>(bytes: &mut [u8], count: usize)
     requires { SIZE * count ≤ length bytes.old }
@@ -31,7 +44,7 @@ fn turn_pieces<const SIZE: usize>(bytes: &mut [u8], count: usize)
 {
     for k in 0..count {
         let at = SIZE * k;
-        bytes[at..at + SIZE].reverse();
+        turn_piece::<SIZE>(bytes, at);
     }
 }
 

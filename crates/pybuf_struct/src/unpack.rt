@@ -12,6 +12,7 @@ use pybuf_value::{ByteList, Fault, Made, Outcome, Scalar, ScalarList, Tried};
 use std::alloc::Global;
 
 /// The value of a field's bytes.
+#[inline(always)]
 fn value_of(alloc: Global, order: Endianness, code: FormatType, bytes: &[u8]) -> Made<Scalar>
     requires { IsTrue (is_length order code (length bytes.now)) }
     ensures { IfOk result (λ v. v ≡ value_of order code bytes.now) }
@@ -41,7 +42,7 @@ fn pascal_content(field: &[u8]) -> &[u8]
     }
 }
 
-/// Adds the values of so many fields of one size from an offset on.
+/// Adds the values of so many fields of one size from an offset on, and gives the offset after them.
 fn push_row(
     alloc: Global,
     out: &mut Vec<Scalar>,
@@ -50,10 +51,11 @@ fn push_row(
     bytes: &[u8],
     offset: usize,
     count: usize,
-) -> Made<()>
+) -> Made<usize>
     requires one { IsTrue (is_length order code (size_of order code)) }
     requires within { offset + count * size_of order code ≤ length bytes.now }
-    ensures { OnOk result (out.new.items ≡ out.old.items ++ map (value_in order bytes.now) (fields_in_row code (size_of order code) offset count)) }
+    ensures values { OnOk result (out.new.items ≡ out.old.items ++ map (value_in order bytes.now) (fields_in_row code (size_of order code) offset count)) }
+    ensures end { IfOk result (λ end. end ≡ offset + count * size_of order code) }
 {
     let size = code.size(order);
     let mut at = offset;
@@ -62,10 +64,10 @@ fn push_row(
         out.push(value_of(alloc, order, code, &bytes[at..end])?)?;
         at = end;
     }
-    Ok(())
+    Ok(at)
 }
 
-/// Adds the values of a code's fields, of which the first is at an offset.
+/// Adds the values of a code's fields, of which the first is at an offset, and gives the offset after them.
 fn push_code(
     alloc: Global,
     out: &mut Vec<Scalar>,
@@ -73,18 +75,19 @@ fn push_code(
     code: &FormatCode,
     bytes: &[u8],
     offset: usize,
-) -> Made<()>
+) -> Made<usize>
     requires { offset + span order code.now ≤ length bytes.now }
-    ensures { OnOk result (out.new.items ≡ out.old.items ++ map (value_in order bytes.now) (fields_of_code code.now.code (size_of order code.now.code) offset code.now.repeat)) }
+    ensures values { OnOk result (out.new.items ≡ out.old.items ++ map (value_in order bytes.now) (fields_of_code code.now.code (size_of order code.now.code) offset code.now.repeat)) }
+    ensures end { IfOk result (λ end. end ≡ offset + span order code.now) }
 {
     let kind = code.code();
     let repeat = code.repeat();
     match kind {
-        FormatType::Pad => Ok(()),
+        FormatType::Pad => Ok(offset + repeat),
         FormatType::Str | FormatType::Pascal => {
             let end = offset + repeat;
             out.push(value_of(alloc, order, kind, &bytes[offset..end])?)?;
-            Ok(())
+            Ok(end)
         }
         _ => push_row(alloc, out, order, kind, bytes, offset, repeat),
     }
@@ -103,9 +106,7 @@ fn push_all(
 {
     let mut at = 0;
     for code in codes {
-        let start = at + code.pre_padding();
-        push_code(alloc, out, order, code, bytes, start)?;
-        at = start + code.span(order);
+        at = push_code(alloc, out, order, code, bytes, at + code.pre_padding())?;
     }
     Ok(())
 }
