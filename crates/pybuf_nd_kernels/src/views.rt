@@ -66,7 +66,11 @@ fn rows(alloc: Global, len: usize) -> Made<Option<KeptLayout>> {
 
 /// An array of planes.
 fn planes(alloc: Global, len: usize) -> Made<Option<KeptLayout>> {
-    let dims = [(len / PLANE, PLANE as isize, 0), (SIDE, SIDE as isize, 0), (SIDE, 1, 0)];
+    let dims = [
+        (len / PLANE, PLANE as isize, 0),
+        (SIDE, SIDE as isize, 0),
+        (SIDE, 1, 0),
+    ];
     array(alloc, len, &dims)
 }
 
@@ -111,7 +115,10 @@ fn inner(alloc: Global, view: &KeptLayout) -> Tried<(BufferDescriptor, usize)> {
 }
 
 /// A descriptor beside where the items of a view start.
-fn beside_start(made: Outcome<BufferDescriptor>, start: usize) -> Outcome<(BufferDescriptor, usize)> {
+fn beside_start(
+    made: Outcome<BufferDescriptor>,
+    start: usize,
+) -> Outcome<(BufferDescriptor, usize)> {
     match made {
         Outcome::Done(desc) => Outcome::Done((desc, start)),
         Outcome::Refused(fault) => Outcome::Refused(fault),
