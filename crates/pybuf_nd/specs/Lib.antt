@@ -4,5 +4,6 @@ pub mod ColumnOrder
 pub mod Dims
 pub mod IndexMaps
 pub mod Laws
+pub mod Merged
 pub mod Planes
 pub mod Selections
