@@ -37,6 +37,27 @@ too_many shape i items most some below e h =
     more_than (product shape) (items * get_or shape i 0) (product (drop (i + 1) shape)) most (product_more shape i items (product shape) below e)
     (left_some shape (i + 1) (recursion_from_All (λ n. 0 < n) shape some)) h
 
+fits_so : (total more rest most : ℕ) → total ≡ more * rest → 0 < rest → total ≤ most → more ≤ most
+fits_so total more rest most e some h = let long : more ≤ more * rest = le-mul_of_pos_right more some in omega (arith, e, long, h)
+
+small_so : (shape : List ℕ) → is_shape shape ≡ true → product shape ≤ most_items
+small_so shape h = small_by (nat_le 1 (length shape)) (nat_le (length shape) 64) (nat_le (product shape) most_items) refl h
+  where
+    small_by : (some few fits : Bool) → nat_le (product shape) most_items ≡ fits → (some && (few && fits)) ≡ true → product shape ≤ most_items
+    small_by true true true e h = grind (arith, tests)
+    small_by true true false e h = cc
+    small_by true false fits e h = cc
+    small_by false few fits e h = cc
+
+pub due_fits : (kept shape xs : List ℕ) (i items : ℕ) → IsShape kept → xs ≡ kept → shape ≡ kept → i < length xs → product shape ≡ items * product (drop i shape)
+    → items * get_or xs i 0 ≤ most_items
+due_fits kept shape xs i items is same alike below e =
+    let here : i < length kept = subst (λ ns. i < length ns) same below in
+    let whole : product kept ≡ items * product (drop i kept) = subst (λ ns. product ns ≡ items * product (drop i ns)) alike e in
+    subst (λ ns. items * get_or ns i 0 ≤ most_items) (sym same)
+    (fits_so (product kept) (items * get_or kept i 0) (product (drop (i + 1) kept)) most_items (product_more kept i items (product kept) here whole)
+    (left_some kept (i + 1) (recursion_from_All (λ n. 0 < n) kept is.entries)) (small_so kept is.small))
+
 -- ---- entries
 
 counted_low : (r : Result ℤ Fault) (n : ℕ) → counted r ≡ Some n → 0 < n
