@@ -1,14 +1,18 @@
 -- How many items a shape has.
 use Rattle.std.proofs.Common.{◌≡◌, ℕ, zero, suc, ◌+◌, ◌*◌, ◌<◌, ◌≤◌, Bool, true, false, List, [], ◌∷◌, length, get_or, drop, drop-cons, refl, sym, ◌∙◌, ap, subst, arith, tests, add-one, mul_assoc, le-mul_of_pos_right, All}
-use Rattle.std.specs.Prelude.{ℤ, pos, negsuc, nat_le, ◌&&◌, Option, Some, None, Result, Ok, Err}
+use Rattle.std.specs.Prelude.{ℤ, pos, negsuc, nat_le, ◌&&◌, Option, Some, None, Result, Ok, Err, if◌then◌else◌}
 use Rattle.std.specs.List.{AllByRecursion}
 use Rattle.std.proofs.lemmas.List.Elements.{All-from_recursion, recursion_from_All}
 use Rattle.pybuf_value.specs.Choosing.{◌>>=◌}
 use Rattle.pybuf_value.specs.Numbers.{number_in}
 use Rattle.pybuf_value.specs.declared.faults.Fault.{Fault}
 use Rattle.pybuf_value.specs.declared.values.Scalar.{Scalar}
+use Rattle.pybuf_value.specs.declared.values.Value.{Value}
+use Rattle.pybuf_value.specs.declared.values.Value.TheVariants as value
 use Rattle.pybuf_desc.specs.Layouts.{product}
-use Rattle.pybuf_nd_lines.specs.Shapes.{most_items, each_gives, counted, entry_in, is_shape, if_shape, IsShape}
+use Rattle.pybuf_line.specs.Scalars.{handle_in}
+use Rattle.pybuf_line.specs.Spellings.{value_in}
+use Rattle.pybuf_nd_lines.specs.Shapes.{most_items, each_gives, counted, entry_in, is_shape, if_shape, shape_of_value, shape_in, IsShape}
 
 product_some : (shape : List ℕ) → AllByRecursion (λ n. 0 < n) shape → 0 < product shape
 product_some [] h = omega arith
@@ -81,3 +85,24 @@ low_each (part ∷ more) entries e = low_first (entry_in part) (each_gives entry
 
 pub entries_low : (parts : List Scalar) (entries : List ℕ) → Some entries ≡ each_gives entry_in parts → All (λ n. 0 < n) entries
 entries_low parts entries e = All-from_recursion (λ n. 0 < n) entries (low_each parts entries (sym e))
+
+-- ---- shapes
+
+shape_by_test : (entries shape : List ℕ) (b : Bool) → is_shape entries ≡ b → (if b then Some entries else None) ≡ Some shape → All (λ n. 0 < n) entries → IsShape shape
+shape_by_test entries shape true small e low = let same : entries ≡ shape = cc in subst IsShape same (record { entries = low; small = small })
+shape_by_test entries shape false small e low = cc
+
+shape_by_entries : (parts : List Scalar) (entries : Option (List ℕ)) (shape : List ℕ) → each_gives entry_in parts ≡ entries → (entries >>= if_shape) ≡ Some shape → IsShape shape
+shape_by_entries parts None shape given e = cc
+shape_by_entries parts (Some entries) shape given e = shape_by_test entries shape (is_shape entries) refl e (entries_low parts entries (sym given))
+
+shape_by_value : (v : Option Value) (shape : List ℕ) → (v >>= shape_of_value) ≡ Some shape → IsShape shape
+shape_by_value None shape e = cc
+shape_by_value (Some (value.One one)) shape e = cc
+shape_by_value (Some (value.Slice slice)) shape e = cc
+shape_by_value (Some (value.Tuple parts)) shape e = cc
+shape_by_value (Some (value.List parts)) shape e = shape_by_entries parts (each_gives entry_in parts) shape refl e
+shape_by_value (Some (value.Slices slices)) shape e = cc
+
+pub shape_sound : (word shape : List ℕ) → shape_in word ≡ Some shape → IsShape shape
+shape_sound word shape e = shape_by_value (value_in handle_in word) shape e

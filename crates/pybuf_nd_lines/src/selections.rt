@@ -79,12 +79,7 @@ pub fn selection_of_words(alloc: Global, words: &[Text]) -> Made<Option<Selectio
 }
 
 /// The bytes of a view, or of its transposition.
-fn bytes_turned(
-    alloc: Global,
-    input: &[u8],
-    view: &KeptLayout,
-    transposed: bool,
-) -> Made<Vec<u8>>
+fn bytes_turned(alloc: Global, input: &[u8], view: &KeptLayout, transposed: bool) -> Made<Vec<u8>>
     requires { LiesInside (length input.now) view.now }
     ensures { IfOk result (λ bytes. bytes.items ≡ content_of_layout input.now (transposed_if transposed view.now)) }
 {

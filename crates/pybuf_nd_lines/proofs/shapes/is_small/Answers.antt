@@ -17,6 +17,6 @@ returns-in-None c =
 pub loop-entries-preserved : goal.loop-entries-preserved
 loop-entries-preserved c = (
   product_more c.args.shape.now c.loop-entries.entries-index c.loop-entries.items (product c.args.shape.now) c.loop-entries-test.true c.loop-entries.invariant.0
-  ∙ ap (λ n. n * product (drop (c.loop-entries.entries-index + 1) c.args.shape.now)) (sym c.in-Some.ensures.1),
+      ∙ ap (λ n. n * product (drop (c.loop-entries.entries-index + 1) c.args.shape.now)) (sym c.in-Some.ensures.1),
   omega (arith, c.if-more-gt-MOST_ITEMS.false),
 )
