@@ -1,7 +1,6 @@
 -- What is assigned to a view, by its descriptor.
 use Rattle.std.proofs.Common.{◌≡◌, ℕ, zero, suc, ◌*◌, ◌<◌, pos, ℤ, Bool, true, false, not, List, [], ◌∷◌, length, map, refl, ap, ap₂, sym, ◌∙◌, subst, arith, true≢false, zero-mul}
 use Rattle.std.specs.Prelude.{◌==◌, nat_abs, Ok}
-use Rattle.std.specs.List.{AllByRecursion}
 use Rattle.std.proofs.lemmas.Bool.{eq-eqb}
 use Rattle.std.proofs.lemmas.List.Elements.{recursion_from_All}
 use Rattle.pybuf_value.specs.declared.faults.Fault.TheVariants as fault
@@ -54,7 +53,7 @@ pub assigned_all : (e new : Exporter) (d : Descriptor) (start size : ℕ) (view 
     → bytes_assigned e view content ≡ Ok new
 assigned_all e new d start size view content dims stands valid writable long same wide is =
     let starts : map nat_abs (places dims (pos start)) ≡ view.starts =
-        ap (λ (ds : List (ℕ × ℤ × ℤ)). map nat_abs (places ds (pos start))) same ∙ ap (map nat_abs) stands.starts ∙ each_abs view.starts in
+    ap (λ (ds : List (ℕ × ℤ × ℤ)). map nat_abs (places ds (pos start))) same ∙ ap (map nat_abs) stands.starts ∙ each_abs view.starts in
     let many : length content ≡ nbytes_of view = long ∙ sym valid.len ∙ ap₂ (λ (n : ℕ) (shape : List ℕ). n * product shape) stands.itemsize stands.shape in
     passed view.readonly (length content == nbytes_of view) (record e { bytes = laid e.bytes view.itemsize view.starts content }) (sym stands.readonly ∙ writable) (eq-eqb (length content) (nbytes_of view) many)
     ∙ ap (λ (x : Exporter). Ok x) (sym (is ∙ ap₂ (λ (n : ℕ) (xs : List ℕ). record e { bytes = laid e.bytes n xs content }) (wide ∙ stands.itemsize) starts))

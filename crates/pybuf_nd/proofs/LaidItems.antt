@@ -6,9 +6,9 @@ use Rattle.std.specs.Int.Signed.{lt_z}
 use Rattle.std.proofs.lemmas.Int.{ints}
 use Rattle.std.proofs.Math.Nat.{mul-le-mul_right}
 use Rattle.std.proofs.lemmas.Bool.{le-ltb}
-use Rattle.std.proofs.lemmas.Grind.{common_steps, flat_map-append}
+use Rattle.std.proofs.lemmas.Grind.{common_steps}
 use Rattle.std.proofs.lemmas.List.{map-append, drop-drop, length-map}
-use Rattle.pybuf_apart.specs.Apart.{place_of, AreInside, with_piece, moved_at}
+use Rattle.pybuf_apart.specs.Apart.{place_of, AreInside, moved_at}
 use Rattle.pybuf_desc.specs.Places.{places}
 use Rattle.pybuf_desc.specs.Segments.{line}
 use Rattle.pybuf_desc.specs.Valid.{IsInside}
@@ -48,7 +48,7 @@ pub moved_is_laid : (bytes source : List ℕ) (to : ℕ → ℕ) (from size n : 
 moved_is_laid bytes source to from size zero = refl
 moved_is_laid bytes source to from size (suc n) =
     let there : drop (length (starts_of to n) * size) (drop from source) ≡ drop (from + n * size) source =
-        ap (λ (k : ℕ). drop (k * size) (drop from source)) (long_map to 0 n) ∙ drop-drop (n * size) from source in
+    ap (λ (k : ℕ). drop (k * size) (drop from source)) (long_map to 0 n) ∙ drop-drop (n * size) from source in
     ap₂ (λ (bs cs : List ℕ). bytes_with bs (to n) (take size cs)) (moved_is_laid bytes source to from size n) (sym there)
     ∙ sym (ap (λ (xs : List ℕ). laid bytes size xs (drop from source)) (starts_more to n) ∙ laid_both bytes size (starts_of to n) (to n ∷ []) (drop from source))
 
@@ -312,8 +312,8 @@ that_place : (rest : List (ℕ × ℤ × ℤ)) (place : ℕ) (stride : ℤ) (lef
     → IsInside size room (pos place +ℤ stride)
 that_place rest place stride left size room some more entered all =
     let behind : Inside size room (flat_map (places rest) (line (pos place +ℤ stride) stride (left - 1))) =
-        right_of (IsInside size room) (places rest (pos place)) (flat_map (places rest) (line (pos place +ℤ stride) stride (left - 1)))
-        (subst (Inside size room) (rows_first (places rest) (pos place) stride left some) all) in
+    right_of (IsInside size room) (places rest (pos place)) (flat_map (places rest) (line (pos place +ℤ stride) stride (left - 1)))
+    (subst (Inside size room) (rows_first (places rest) (pos place) stride left some) all) in
     first_place size room rest (pos place +ℤ stride) entered
     (left_of (IsInside size room) (places rest (pos place +ℤ stride)) (flat_map (places rest) (line ((pos place +ℤ stride) +ℤ stride) stride (left - 1 - 1)))
     (subst (Inside size room) (rows_first (places rest) (pos place +ℤ stride) stride (left - 1) more) behind))
@@ -357,7 +357,7 @@ enough_here bytes before dims place stride left start size content next from man
     let total : from + length (left_places (other_dims dims) start stride (first_dim dims).0) * size ≤ length content = subst (λ (n : ℕ). from + n * size ≤ length content) whole enough in
     let parts = ap length (rows_first (places (other_dims dims)) (pos place) stride left some) ∙ length-append (places (other_dims dims) (pos place)) (flat_map (places (other_dims dims)) (line (pos place +ℤ stride) stride (left - 1))) in
     let sum = ap (λ (n : ℕ). next + n * size) parts
-        ∙ counted_sum next (length (places (other_dims dims) (pos place))) (length (flat_map (places (other_dims dims)) (line (pos place +ℤ stride) stride (left - 1)))) size in
+    ∙ counted_sum next (length (places (other_dims dims) (pos place))) (length (flat_map (places (other_dims dims)) (line (pos place +ℤ stride) stride (left - 1)))) size in
     let counted = now.counted in
     omega (arith, total, sum, counted)
 
@@ -370,9 +370,9 @@ stepped bytes more before rest place other stride left count start size content 
     let first : List ℕ = map nat_abs (places rest (pos place)) in
     let after : List ℕ = map nat_abs (left_places rest other stride (left - 1)) in
     let behind : drop then content ≡ drop (length first * size) (drop next content) =
-        ap (λ (n : ℕ). drop n content) (step ∙ ap (λ (n : ℕ). next + n * size) (sym (length-map (places rest (pos place)) nat_abs))) ∙ sym (drop-drop (length first * size) next content) in
+    ap (λ (n : ℕ). drop n content) (step ∙ ap (λ (n : ℕ). next + n * size) (sym (length-map (places rest (pos place)) nat_abs))) ∙ sym (drop-drop (length first * size) next content) in
     let sum = ap (λ (n : ℕ). next + n * size) (ap length split ∙ length-append (places rest (pos place)) (left_places rest other stride (left - 1)))
-        ∙ counted_sum next (length (places rest (pos place))) (length (left_places rest other stride (left - 1))) size in
+    ∙ counted_sum next (length (places rest (pos place))) (length (left_places rest other stride (left - 1))) size in
     let counted = now.counted in
     record {
       laid_so =

@@ -1,4 +1,4 @@
-use Rattle.std.proofs.Common.{rules, arith, ◌≡◌, ◌<◌, ◌∙◌, false, length, take, ℕ, subst}
+use Rattle.std.proofs.Common.{rules, ◌≡◌, ◌<◌, ◌∙◌, false, length, take, ℕ, subst}
 use Rattle.pybuf_desc.specs.Places.{Stands}
 use Rattle.pybuf_state.specs.Live.{layout_of}
 use Rattle.pybuf_nd.proofs.Assigned.{entered_of, inside_of, assigned_all}
@@ -21,7 +21,7 @@ returns-clause-answer c =
     let long : length c.args.bytes.now ≡ c.live_descriptor-start.result.0.now.len = search rules in
     let writable : c.live_descriptor-start.result.0.now.readonly ≡ false = search rules in
     let stands : Stands c.live_descriptor-start.result.0.now c.live_descriptor-start.result.1 (layout_of c.args.state.now.exporter c.args.target.now) =
-        subst (λ (k : ℕ). Stands c.live_descriptor-start.result.0.now c.live_descriptor-start.result.1 (layout_of c.args.state.now.exporter k)) c.number.ensures c.live_descriptor-start.ensures.stands in
+    subst (λ (k : ℕ). Stands c.live_descriptor-start.result.0.now c.live_descriptor-start.result.1 (layout_of c.args.state.now.exporter k)) c.number.ensures c.live_descriptor-start.ensures.stands in
     assigned_all c.args.state.now.exporter c.lay_over.new.state.exporter c.live_descriptor-start.result.0.now c.live_descriptor-start.result.1 c.itemsize-size.result
     (layout_of c.args.state.now.exporter c.args.target.now) c.args.bytes.now (take c.keep_dims-count.result c.keep_dims-count.new.kept)
     stands c.live_descriptor-start.ensures.valid writable long (c.keep_dims-count.ensures.kept ∙ c.dim_desc.ensures) c.itemsize-size.ensures c.lay_over.ensures.exporter

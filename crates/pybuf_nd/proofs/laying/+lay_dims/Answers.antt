@@ -1,9 +1,7 @@
-use Rattle.std.proofs.Common.{rules, arith, ◌≡◌, ◌+◌, ◌*◌, ◌<◌, ◌≤◌, ◌^◌, ◌-◌, pos, ℕ, ℤ, List, SFits, w64, to_z, of_z, length, map, drop, ap, sym, ◌∙◌, subst}
+use Rattle.std.proofs.Common.{rules, arith, ◌≡◌, ◌+◌, ◌*◌, ◌<◌, ◌≤◌, ◌^◌, pos, ℕ, ℤ, List, SFits, w64, to_z, of_z, length, map, drop, ap, sym, ◌∙◌, subst}
 use Rattle.std.specs.Prelude.{nat_abs}
-use Rattle.std.specs.List.{AllByRecursion}
 use Rattle.std.proofs.lemmas.Int.{to_z-of_z}
 use Rattle.pybuf_desc.specs.Places.{places}
-use Rattle.pybuf_desc.specs.Valid.{IsInside}
 use Rattle.pybuf_rows_writes.specs.Laid.{laid}
 use Rattle.pybuf_nd.proofs.LaidItems.{Inside, first_dim, other_dims, others_entered, fewer_dims, one_row, one_row_count, begun, this_inside, this_fits, that_low, that_high, enough_here, stepped, all_laid, all_counted}
 use Rattle.pybuf_nd.proofs.laying.+lay_dims.Goals as goal
@@ -34,8 +32,8 @@ lay_dims-next-requires t c =
     let many : 1 ≤ length c.args.dims.now = omega (arith, c.in-len1-up.len_at_least) in
     let fewer = fewer_dims c.args.dims.now many in
     let here : Inside c.args.size (length c.loop-left.bytes) (places (other_dims c.args.dims.now) (pos c.loop-left.place)) =
-        subst (λ (n : ℕ). Inside c.args.size n (places (other_dims c.args.dims.now) (pos c.loop-left.place))) (sym c.loop-left.invariant.long)
-        (this_inside (other_dims c.args.dims.now) c.loop-left.place (to_z w64 (of_z w64 (first_dim c.args.dims.now).1)) c.loop-left.left c.args.size (length c.args.bytes.now) c.loop-left-test.true c.loop-left.invariant.inside) in
+    subst (λ (n : ℕ). Inside c.args.size n (places (other_dims c.args.dims.now) (pos c.loop-left.place))) (sym c.loop-left.invariant.long)
+    (this_inside (other_dims c.args.dims.now) c.loop-left.place (to_z w64 (of_z w64 (first_dim c.args.dims.now).1)) c.loop-left.left c.args.size (length c.args.bytes.now) c.loop-left-test.true c.loop-left.invariant.inside) in
     let room : length c.loop-left.bytes < 2 ^ 63 = subst (λ (n : ℕ). n < 2 ^ 63) (sym c.loop-left.invariant.long) c.requires.room in
     let enough = enough_here c.loop-left.bytes c.args.bytes.now c.args.dims.now c.loop-left.place (to_z w64 (of_z w64 (first_dim c.args.dims.now).1)) c.loop-left.left c.args.start c.args.size c.args.content.now c.loop-left.next c.args.from many same c.loop-left-test.true c.loop-left.invariant c.requires.enough in
     (omega (arith, fewer, c.decreases), ((others_entered c.args.dims.now many c.requires.entries), (here, (room, enough))))

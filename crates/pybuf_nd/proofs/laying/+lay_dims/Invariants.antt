@@ -1,10 +1,4 @@
-use Rattle.std.proofs.Common.{◌≡◌, ◌+◌, ◌*◌, ◌≤◌, length, drop, map, pos}
-use Rattle.std.specs.Prelude.{nat_abs}
-use Rattle.std.specs.List.{AllByRecursion, flat_map}
-use Rattle.pybuf_desc.specs.Places.{places}
-use Rattle.pybuf_desc.specs.Segments.{line}
-use Rattle.pybuf_desc.specs.Valid.{IsInside}
-use Rattle.pybuf_rows_writes.specs.Laid.{laid}
+use Rattle.std.proofs.Common.{length}
 use Rattle.pybuf_nd.proofs.LaidItems.{IsLeft}
 use Rattle.pybuf_nd.proofs.laying.+lay_dims.Given as goal
 
