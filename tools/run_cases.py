@@ -49,9 +49,9 @@ DONE, BAD_LINE, NO_MEMORY, USAGE, TOO_LONG, BAD_DATA = 0, 2, 3, 6, 7, 9
 # What is said on standard error of a status that the output doesn't tell.
 COMPLAINTS = {
     NO_MEMORY: b"pybuf: no memory\n",
-    USAGE: b"pybuf: usage: pybuf [run | share | make N | array CODE | table FORMAT [K OP N]] < input\n",
+    USAGE: b"pybuf: usage: pybuf [run | share | make N | array CODE | table FORMAT [K OP N] | nd SHAPE KEY [T]] < input\n",
     TOO_LONG: b"pybuf: more than 1,048,576 bytes\n",
-    BAD_DATA: b"pybuf: the input is no whole number of records\n",
+    BAD_DATA: b"pybuf: the length of the input doesn't fit\n",
 }
 
 # Commands of which the third finds no memory, and such of which the reply to the third finds none, and no others.

@@ -39,11 +39,11 @@ fn complaint(status: Status) -> Option<&'static str> {
         Status::ReadFault => Some("the input could not be read"),
         Status::WriteFault => Some("the output could not be written"),
         Status::Usage => Some(
-            "usage: pybuf [run | share | make N | array CODE | table FORMAT [K OP N]] < input",
+            "usage: pybuf [run | share | make N | array CODE | table FORMAT [K OP N] | nd SHAPE KEY [T]] < input",
         ),
         Status::TooLong => Some("more than 1,048,576 bytes"),
         Status::Disagree => Some("the sessions disagree with their history"),
-        Status::BadData => Some("the input is no whole number of records"),
+        Status::BadData => Some("the length of the input doesn't fit"),
     }
 }
 

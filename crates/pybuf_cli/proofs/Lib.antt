@@ -5,7 +5,9 @@ pub mod Sending
 pub mod Entries
 pub mod Shared
 pub mod Running
+pub mod Data
 pub mod Tabling
+pub mod Selecting
 pub mod OneForm
 pub mod ReplyLaws
 pub mod ScriptLaws

@@ -8,10 +8,11 @@ use Rattle.pybuf_cli.specs.declared.status.Status.TheVariants as status
 use Rattle.pybuf_cli.specs.declared.forms.Form.TheVariants as form
 use Rattle.pybuf_numbers.specs.declared.codes.ArrayCode.{ArrayCode}
 use Rattle.pybuf_table_lines.specs.Listings.{Listing, listing_in}
+use Rattle.pybuf_nd_lines.specs.Selections.{Selection, selection_in}
 use Rattle.pybuf_cli.specs.Devices.{Rose}
-use Rattle.pybuf_cli.specs.Program.{script_number_in, made, array_code_in, array_of, tabled, form_of, take_memory, AskForTable, alone}
+use Rattle.pybuf_cli.specs.Program.{script_number_in, made, array_code_in, array_of, tabled, selecting, form_of, take_memory, AskForData, alone}
 use Rattle.pybuf_cli.specs.Serving.{ServesForm, Serves}
-use Rattle.pybuf_cli.proofs.Tabling.{no_memory_so, no_memory_serves}
+use Rattle.pybuf_cli.proofs.Data.{no_memory_so, no_memory_serves}
 
 other_form : (asked : Option Form) (f : Form) → asked ≡ Some f → asked ≡ None → ⊥
 other_form asked f is none = let both : Some f ≡ None = sym is ∙ none in cc
@@ -31,37 +32,27 @@ serves_none words asked bytes_left source_faults bytes_held sink_faults source s
   served = λ f is. absurd (other_form asked f is none);
 }
 
--- a table is served, and nothing else that isn't refused, where there is no memory to read words
-without_memory : {S K : Type 0} (f : Form) (bytes_left : S → Option (List ℕ)) (source_faults : S → ℕ) (bytes_held : K → Option (List ℕ))
-    (sink_faults : K → ℕ) (source : S) (sink : K) → AskForTable (Some f) →
-    ServesForm f status.NoMemory bytes_left source_faults bytes_held sink_faults source source sink sink
-without_memory form.Run bytes_left source_faults bytes_held sink_faults source sink asks = absurd asks
-without_memory form.Share bytes_left source_faults bytes_held sink_faults source sink asks = absurd asks
-without_memory (form.Make n) bytes_left source_faults bytes_held sink_faults source sink asks = absurd asks
-without_memory (form.Array c) bytes_left source_faults bytes_held sink_faults source sink asks = absurd asks
-without_memory (form.Table l) bytes_left source_faults bytes_held sink_faults source sink asks =
-    no_memory_serves l bytes_left source_faults bytes_held sink_faults source sink
-
 -- so words are served for which there is no memory
 pub serves_unread : {S K : Type 0} (words : List (List ℕ)) (asked : Option Form) (bytes_left : S → Option (List ℕ)) (source_faults : S → ℕ)
-    (bytes_held : K → Option (List ℕ)) (sink_faults : K → ℕ) (source : S) (sink : K) → take_memory words ≡ true → AskForTable asked →
+    (bytes_held : K → Option (List ℕ)) (sink_faults : K → ℕ) (source : S) (sink : K) → take_memory words ≡ true → AskForData asked →
     Serves words asked status.NoMemory bytes_left source_faults bytes_held sink_faults source source sink sink
 serves_unread words asked bytes_left source_faults bytes_held sink_faults source sink memory asks = record {
   usage = λ e. absurd (no_memory_so status.Usage e);
   refused = λ _. inr (memory, refl);
   refused_reads_nothing = λ _. refl;
   refused_writes_nothing = λ _. refl;
-  served = λ f is. without_memory f bytes_left source_faults bytes_held sink_faults source sink (subst AskForTable is asks);
+  served = λ f is. no_memory_serves f bytes_left source_faults bytes_held sink_faults source sink (subst AskForData is asks);
 }
 
--- what asks for a table does so where there is one thread
-pub asks_alone : (asked : Option Form) → AskForTable asked → AskForTable (alone asked)
+-- what asks for data does so where there is one thread
+pub asks_alone : (asked : Option Form) → AskForData asked → AskForData (alone asked)
 asks_alone None asks = asks
 asks_alone (Some form.Run) asks = asks
 asks_alone (Some form.Share) asks = absurd asks
 asks_alone (Some (form.Make n)) asks = asks
 asks_alone (Some (form.Array c)) asks = asks
 asks_alone (Some (form.Table l)) asks = asks
+asks_alone (Some (form.Nd s)) asks = asks
 
 -- Words that ask for a form get what is owed for it. So an arm for a form has only that to show, and that it doesn't refuse
 -- its words.
@@ -148,6 +139,7 @@ no_sessions_alone (Some form.Share) is = cc
 no_sessions_alone (Some (form.Make n)) is = cc
 no_sessions_alone (Some (form.Array c)) is = cc
 no_sessions_alone (Some (form.Table l)) is = cc
+no_sessions_alone (Some (form.Nd s)) is = cc
 
 -- ---- which words ask for sessions
 
@@ -158,6 +150,7 @@ alone_same (Some form.Share) other = absurd (other refl)
 alone_same (Some (form.Make n)) other = refl
 alone_same (Some (form.Array c)) other = refl
 alone_same (Some (form.Table l)) other = refl
+alone_same (Some (form.Nd s)) other = refl
 
 one_word : (run share : Bool) → share ≡ false → cond run (Some form.Run) (cond share (Some form.Share) None) ≡ Some form.Share → ⊥
 one_word true share other is = cc
@@ -168,6 +161,13 @@ more_words : (table : Bool) (l : Option Listing) → cond table (tabled l) None 
 more_words true (Some l) is = cc
 more_words true None is = cc
 more_words false l is = cc
+
+three_words : (table nd : Bool) (l : Option Listing) (s : Option Selection) → cond table (tabled l) (cond nd (selecting s) None) ≡ Some form.Share → ⊥
+three_words true nd (Some l) s is = cc
+three_words true nd None s is = cc
+three_words false true l (Some s) is = cc
+three_words false true l None is = cc
+three_words false false l s is = cc
 
 two_words : (make array table : Bool) (n : Option ℕ) (c : Option ArrayCode) (l : Option Listing) →
     cond make (made n) (cond array (array_of c) (cond table (tabled l) None)) ≡ Some form.Share → ⊥
@@ -190,7 +190,8 @@ alone_others (word ∷ argument ∷ []) other =
     (two_words (bytes_eq word (codes "make")) (bytes_eq word (codes "array")) (bytes_eq word (codes "table")) (script_number_in argument)
     (array_code_in argument) (listing_in (argument ∷ [])))
 alone_others (word ∷ argument ∷ further ∷ more) other =
-    alone_same (form_of (word ∷ argument ∷ further ∷ more)) (more_words (bytes_eq word (codes "table")) (listing_in (argument ∷ further ∷ more)))
+    alone_same (form_of (word ∷ argument ∷ further ∷ more)) 
+    (three_words (bytes_eq word (codes "table")) (bytes_eq word (codes "nd")) (listing_in (argument ∷ further ∷ more)) (selection_in (argument ∷ further ∷ more)))
 
 -- with one thread alone nobody disagrees
 pub agrees_alone : {S K : Type 0} (words : List (List ℕ)) (asked other : Option Form) (result : Status)

@@ -5,6 +5,7 @@ pub mod Program
 pub mod Sharing
 pub mod Arrays
 pub mod Tables
+pub mod Nd
 pub mod Serving
 pub mod Running
 pub mod ArrayRunning

@@ -1,5 +1,5 @@
 -- What the program does with its words and its input.
-use Rattle.std.specs.Prelude.{◌≡◌, ◌↔◌, ◌⊎◌, ℕ, ◌<◌, ◌≤◌, suc, Bool, false, List, [], ◌∷◌, length, drop, codes, nat_lt, nat_le, ◌&&◌, decimal, Option, Some, None, Result, Ok, Err, if◌then◌else◌}
+use Rattle.std.specs.Prelude.{◌≡◌, ◌↔◌, ◌⊎◌, ℕ, ◌<◌, ◌≤◌, suc, Bool, false, List, [], ◌∷◌, length, drop, codes, nat_lt, nat_le, ◌&&◌, ◌||◌, decimal, Option, Some, None, Result, Ok, Err, if◌then◌else◌}
 use Rattle.std.specs.Str.{bytes_eq}
 use Rattle.std.specs.Str.Parse.{digits_value}
 use Rattle.pybuf_command.specs.declared.worlds.Command.{Command}
@@ -9,6 +9,7 @@ use Rattle.pybuf_make.specs.Summary.{summary}
 use Rattle.pybuf_numbers.specs.declared.codes.ArrayCode.{ArrayCode}
 use Rattle.pybuf_numbers.specs.Codes.{code_of}
 use Rattle.pybuf_table_lines.specs.Listings.{Listing, listing_in}
+use Rattle.pybuf_nd_lines.specs.Selections.{Selection, selection_in}
 use Rattle.pybuf_cli.specs.declared.forms.Form.{Form}
 use Rattle.pybuf_cli.specs.declared.forms.Form.TheVariants as form
 use Rattle.pybuf_cli.specs.declared.status.Status.{Status}
@@ -48,9 +49,14 @@ abbrev pub tabled : Option Listing → Option Form
 tabled (Some l) = Some (form.Table l)
 tabled None = None
 
+abbrev pub selecting : Option Selection → Option Form
+selecting (Some s) = Some (form.Nd s)
+selecting None = None
+
 -- What the words ask for: a run with none, or with the one word `run`; sessions with the one word `share`; with the word
 -- `make` and a number, what is told of the script of that number; with the word `array` and a code, a run of operations on an
--- array of that code; with the word `table`, the records of a format, or those that a query chooses. Other words are no form.
+-- array of that code; with the word `table`, the records of a format, or those that a query chooses; with the word `nd`, bytes in a
+-- shape, of which slices pick some. Other words are no form.
 abbrev pub form_of : List (List ℕ) → Option Form
 form_of [] = Some form.Run
 form_of (word ∷ []) = if bytes_eq word (codes "run") then Some form.Run else (if bytes_eq word (codes "share") then Some form.Share else None)
@@ -59,18 +65,27 @@ form_of (word ∷ argument ∷ []) =
     else if bytes_eq word (codes "array") then array_of (array_code_in argument)
     else if bytes_eq word (codes "table") then tabled (listing_in (argument ∷ []))
     else None
-form_of (word ∷ argument ∷ further ∷ more) = if bytes_eq word (codes "table") then tabled (listing_in (argument ∷ further ∷ more)) else None
+form_of (word ∷ argument ∷ further ∷ more) =
+    if bytes_eq word (codes "table") then tabled (listing_in (argument ∷ further ∷ more))
+    else if bytes_eq word (codes "nd") then selecting (selection_in (argument ∷ further ∷ more))
+    else None
 
--- Words that take memory to be read: those behind `table`, since a format is kept with its fields.
+-- Words that take memory to be read: those behind `table`, since a format is kept with its fields, and those behind `nd`, since a
+-- shape and slices are.
 abbrev pub take_memory : List (List ℕ) → Bool
-take_memory (word ∷ argument ∷ more) = bytes_eq word (codes "table")
+take_memory (word ∷ argument ∷ more) = bytes_eq word (codes "table") || bytes_eq word (codes "nd")
 take_memory _ = false
 
--- the words ask for a table or for nothing
-abbrev pub AskForTable : Option Form → Type 0
-AskForTable None = Unit {0}
-AskForTable (Some (form.Table l)) = Unit {0}
-AskForTable (Some _) = ⊥
+-- the form is one whose input is data, which may be of a length that doesn't fit
+abbrev pub TakesData : Form → Type 0
+TakesData (form.Table l) = Unit {0}
+TakesData (form.Nd s) = Unit {0}
+TakesData _ = ⊥
+
+-- the words ask for such a form or for nothing
+abbrev pub AskForData : Option Form → Type 0
+AskForData None = Unit {0}
+AskForData (Some f) = TakesData f
 
 -- what they ask for where there is one thread alone, which sessions need more of
 abbrev pub alone : Option Form → Option Form

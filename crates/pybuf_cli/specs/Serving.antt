@@ -1,16 +1,16 @@
 -- What the top call owes: whatever form the words ask for, and what each form owes by itself.
 use Rattle.std.specs.Prelude.{◌≡◌, ◌⊎◌, ℕ, true, List, Option, Some, None}
 use Rattle.pybuf_make.specs.Summary.{summary}
-use Rattle.pybuf_table_lines.specs.Listings.{Listing}
 use Rattle.pybuf_cli.specs.declared.forms.Form.{Form}
 use Rattle.pybuf_cli.specs.declared.forms.Form.TheVariants as form
 use Rattle.pybuf_cli.specs.declared.status.Status.{Status}
 use Rattle.pybuf_cli.specs.declared.status.Status.TheVariants as status
 use Rattle.pybuf_cli.specs.Devices.{PutsFrontOf, Rose}
-use Rattle.pybuf_cli.specs.Program.{take_memory, run_text, run_ending, Runs, Makes}
+use Rattle.pybuf_cli.specs.Program.{TakesData, take_memory, run_text, run_ending, Runs, Makes}
 use Rattle.pybuf_cli.specs.Sharing.{IsDueShared, EndsShared, Shares}
 use Rattle.pybuf_cli.specs.Arrays.{array_run_text, array_run_ending, RunsArray}
 use Rattle.pybuf_cli.specs.Tables.{table_text, table_ending, ListsTable}
+use Rattle.pybuf_cli.specs.Nd.{nd_text, nd_ending, Selects}
 
 -- The text is due for a form and an input. A script's summary is due whatever the input is, which isn't read.
 abbrev pub IsDue : Form → List ℕ → List ℕ → Type 0
@@ -19,6 +19,7 @@ IsDue form.Share input text = IsDueShared input text
 IsDue (form.Make n) input text = text ≡ summary n
 IsDue (form.Array c) input text = text ≡ array_run_text c input
 IsDue (form.Table l) input text = text ≡ table_text l input
+IsDue (form.Nd s) input text = text ≡ nd_text s input
 
 -- A form ends so over an input, where memory suffices and neither source nor sink fails.
 abbrev pub Ends : Form → List ℕ → Status → Type 0
@@ -27,6 +28,7 @@ Ends form.Share input result = EndsShared input result
 Ends (form.Make n) input result = result ≡ status.Done
 Ends (form.Array c) input result = result ≡ array_run_ending input
 Ends (form.Table l) input result = result ≡ table_ending l input
+Ends (form.Nd s) input result = result ≡ nd_ending s input
 
 -- what one form owes, and no other does
 abbrev pub Owes : {S K : Type 0} → Form → Status → (S → Option (List ℕ)) → (K → Option (List ℕ)) → S → S → K → K → Type 0
@@ -40,6 +42,8 @@ Owes (form.Array c) result bytes_left bytes_held source_before source sink_befor
     RunsArray c result bytes_left bytes_held source_before source sink_before sink
 Owes (form.Table l) result bytes_left bytes_held source_before source sink_before sink =
     ListsTable l result bytes_left bytes_held source_before source sink_before sink
+Owes (form.Nd s) result bytes_left bytes_held source_before source sink_before sink =
+    Selects s result bytes_left bytes_held source_before source sink_before sink
 
 -- What is owed for a form that the words ask for.
 pub record ServesForm {S K : Type 0} (f : Form) (result : Status)
@@ -59,8 +63,8 @@ pub record ServesForm {S K : Type 0} (f : Form) (result : Status)
   pub too_long_writes_nothing : result ≡ status.TooLong → sink ≡ sink_before
   -- Sessions alone can disagree with their history.
   pub disagree : result ≡ status.Disagree → f ≡ form.Share
-  -- A table alone can have bytes left over.
-  pub bad_data : result ≡ status.BadData → (l : Listing) × (f ≡ form.Table l)
+  -- Data alone can be of a length that doesn't fit.
+  pub bad_data : result ≡ status.BadData → TakesData f
 
 -- What the top call owes for its words and for the form that they ask for, if they ask for one: its status, and the source
 -- and the sink before and after it, by what they tell of their bytes and by the counts of their faults. A clause that speaks
@@ -69,7 +73,7 @@ pub record Serves {S K : Type 0} (words : List (List ℕ)) (asked : Option Form)
     (bytes_left : S → Option (List ℕ)) (source_faults : S → ℕ) (bytes_held : K → Option (List ℕ)) (sink_faults : K → ℕ)
     (source_before source : S) (sink_before sink : K) : Type 0 where
   -- Words that are no form are refused before anything is read or written, unless there is no memory to read them. None is
-  -- taken but for the words of a table.
+  -- taken but for the words of a table, or of bytes in a shape.
   pub usage : result ≡ status.Usage → asked ≡ None
   pub refused : asked ≡ None → (result ≡ status.Usage) ⊎ ((take_memory words ≡ true) × (result ≡ status.NoMemory))
   pub refused_reads_nothing : asked ≡ None → source ≡ source_before

@@ -1,12 +1,14 @@
 //! What the words after the program's name ask for.
 ghost use Rattle.std.specs.Prelude.{◌≡◌, true, false, Some, IfOk, OnErr};
 ghost use Rattle.pybuf_table_lines.specs.Listings.{listing_in};
+ghost use Rattle.pybuf_nd_lines.specs.Selections.{selection_in};
 ghost use Rattle.pybuf_cli.specs.declared.forms.Form.{Form};
-ghost use Rattle.pybuf_cli.specs.Program.{script_number_in, array_code_in, tabled, form_of, take_memory, AskForTable, alone};
+ghost use Rattle.pybuf_cli.specs.Program.{script_number_in, array_code_in, tabled, selecting, form_of, take_memory, AskForData, alone};
 
 use itoa::Buffer;
 use pybuf_array::ArrayCode;
 use pybuf_line::is_word;
+use pybuf_nd_lines::{Selection, selection_of_words};
 use pybuf_table_lines::{Listing, listing_of_words};
 use pybuf_value::{Made, Text};
 use std::alloc::Global;
@@ -24,6 +26,8 @@ pub enum Form {
     Array(ArrayCode),
     /// To write records of its input, a line each.
     Table(Listing),
+    /// To write bytes of its input, which has a shape.
+    Nd(Selection),
 }
 
 /// The greatest number of a script.
@@ -71,12 +75,22 @@ fn table_named(alloc: Global, words: &[Text]) -> Made<Option<Form>>
     }
 }
 
+/// The bytes that the words behind `nd` ask for.
+fn nd_named(alloc: Global, words: &[Text]) -> Made<Option<Form>>
+    ensures { IfOk result (λ form. form ≡ selecting (selection_in words.now)) }
+{
+    match selection_of_words(alloc, words)? {
+        Some(selection) => Ok(Some(Form::Nd(selection))),
+        None => Ok(None),
+    }
+}
+
 /// What the words ask for: `None` exactly where they are none that the program knows. Memory is taken for the words behind
-/// `table` alone.
+/// `table` and `nd` alone.
 pub fn form_named(alloc: Global, words: &[Text]) -> Made<Option<Form>>
     ensures form { IfOk result (λ form. form ≡ form_of words.now) }
     ensures memory { OnErr result (take_memory words.now ≡ true) }
-    ensures table { OnErr result (AskForTable (form_of words.now)) }
+    ensures data { OnErr result (AskForData (form_of words.now)) }
 {
     match words {
         [] => Ok(Some(Form::Run)),
@@ -110,6 +124,9 @@ pub fn form_named(alloc: Global, words: &[Text]) -> Made<Option<Form>>
         [word, arguments @ ..] => {
             if is_word(word.as_slice(), "table") {
                 return table_named(alloc, arguments);
+            }
+            if is_word(word.as_slice(), "nd") {
+                return nd_named(alloc, arguments);
             }
             Ok(None)
         }

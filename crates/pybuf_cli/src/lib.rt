@@ -9,6 +9,7 @@ mod forms;
 mod laws;
 mod loops;
 mod memory;
+mod nd;
 mod putting;
 mod serving;
 mod sharing;

@@ -13,6 +13,8 @@ ghost use Rattle.pybuf_array.specs.declared.operations.ArrayOp.{ArrayOp};
 ghost use Rattle.pybuf_array_lines.specs.Inputs.{operations_in};
 ghost use Rattle.pybuf_table_lines.specs.Listings.{Listing};
 ghost use Rattle.pybuf_table_lines.specs.Texts.{listing_text, left_over, left_over_text};
+ghost use Rattle.pybuf_nd_lines.specs.Selections.{Selection, bytes_due, selection_text};
+ghost use Rattle.pybuf_nd_lines.specs.Texts.{misfit_text};
 ghost use Rattle.pybuf_cli.specs.declared.forms.Form.{Form};
 ghost use Rattle.pybuf_cli.specs.Running.{AreSpelled};
 ghost use Rattle.pybuf_cli.specs.Program.{form_of, take_memory, alone, program, due_for, ending_for, run_text, run_ending, IsDone, IsBadLine, IsTooLong, TakesFront};
@@ -24,6 +26,7 @@ use crate::devices::{PutFault, Sink, Source};
 use crate::forms::{Form, form_named, is_shared};
 use crate::loops::{ReadStop, read_all, write_all};
 use crate::memory::{QuietSink, QuietSource};
+use crate::nd::select;
 use crate::putting::write_bad_line;
 use crate::sharing::share;
 use crate::status::Status;
@@ -141,7 +144,11 @@ fn make<K: Sink>(alloc: Global, sink: &mut K, number: u16) -> Status
 /// record whose field compares so. Where the input is no whole number of records, it puts how many bytes are left over, and
 /// ends with `BadData`.
 ///
-/// Other words are refused with `Usage`. Memory to read the words is taken for those behind `table` alone.
+/// With the word `nd`, a shape and as many slices it reads the whole input, at most 1,048,576 bytes, as items of one byte in
+/// that shape, row-major, and puts those that the slices pick, and with the word `T` behind these their transposition. Where the
+/// input doesn't have as many bytes as the shape, it puts how many there are, and ends with `BadData`.
+///
+/// Other words are refused with `Usage`. Memory to read the words is taken for those behind `table` and `nd` alone.
 ///
 /// It ends where each call of the source and of the sink does.
 pub fn serve_alone<S: Source, K: Sink>(
@@ -162,6 +169,7 @@ pub fn serve_alone<S: Source, K: Sink>(
         Some(Form::Make(number)) => make(alloc, sink, number),
         Some(Form::Array(code)) => run_array(alloc, code, source, sink),
         Some(Form::Table(listing)) => table(alloc, source, sink, &listing),
+        Some(Form::Nd(selection)) => select(alloc, source, sink, &selection),
     }
 }
 
@@ -184,6 +192,10 @@ pub fn serve_bytes(alloc: Global, words: &[Text], input: ByteList) -> (ByteList,
         (left_over l input ≡ 0) × (result.0 ≡ listing_text l input) }
     ensures bad_data { (l : Listing) → form_of words.now ≡ Some (Form.Table l) → result.1 ≡ Status.BadData →
         (0 < left_over l input) × (result.0 ≡ left_over_text (left_over l input)) }
+    ensures selected { (s : Selection) → form_of words.now ≡ Some (Form.Nd s) → result.1 ≡ Status.Done →
+        (length input ≡ bytes_due s) × (result.0 ≡ selection_text s input) }
+    ensures misfit { (s : Selection) → form_of words.now ≡ Some (Form.Nd s) → result.1 ≡ Status.BadData →
+        (length input ≢ bytes_due s) × (result.0 ≡ misfit_text (length input) (bytes_due s)) }
     ensures prefix { (f : Form) → alone (form_of words.now) ≡ Some f →
         (text : List ℕ) × IsDue f input text × (count : ℕ) × (count ≤ length text) × (result.0 ≡ take count text) }
     ensures complete { (f : Form) → alone (form_of words.now) ≡ Some f →

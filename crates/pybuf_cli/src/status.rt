@@ -21,7 +21,8 @@ pub enum Status {
     TooLong,
     /// Sessions that share an exporter disagree with its history.
     Disagree,
-    /// The input is no whole number of records. How many bytes are left over is all that was written.
+    /// The input is no whole number of records, or doesn't have as many bytes as a shape. How many bytes are left over, or there
+    /// are, is all that was written.
     BadData,
 }
 

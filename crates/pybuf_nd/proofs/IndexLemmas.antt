@@ -10,7 +10,8 @@ use Rattle.pybuf_desc.specs.Layouts.{product}
 use Rattle.pybuf_desc.specs.Descriptor.{shape_of}
 use Rattle.pybuf_desc.specs.Places.{places}
 use Rattle.pybuf_desc.specs.Positions.{offset_of}
-use Rattle.pybuf_nd.specs.IndexMaps.{IsIndexList, index_lists, number_at}
+use Rattle.pybuf_desc.specs.ColumnOrder.{number_at}
+use Rattle.pybuf_nd.specs.IndexMaps.{IsIndexList, index_lists}
 
 -- ---- flat maps
 

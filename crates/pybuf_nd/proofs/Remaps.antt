@@ -7,7 +7,8 @@ use Rattle.pybuf_desc.specs.Descriptor.{Descriptor, shape_of, strides_of}
 use Rattle.pybuf_desc.specs.Places.{places, Stands}
 use Rattle.pybuf_desc.specs.Positions.{offset_of}
 use Rattle.pybuf_desc.specs.Valid.{IsInside, IsValid, nonzero_entries}
-use Rattle.pybuf_nd.specs.IndexMaps.{IsIndexList, index_lists, number_at, start_at, view_by}
+use Rattle.pybuf_desc.specs.ColumnOrder.{number_at, start_at}
+use Rattle.pybuf_nd.specs.IndexMaps.{IsIndexList, index_lists, view_by}
 use Rattle.pybuf_nd.specs.Dims.{in_dims}
 use Rattle.pybuf_nd.proofs.IndexLemmas.{number_below, length_lists, item_at, map_over, all_over, at_of_all, places_by_indices}
 

@@ -9,9 +9,9 @@ use Rattle.std.proofs.lemmas.Grind.{flat_map-append}
 use Rattle.std.proofs.lemmas.Simd.{map-map}
 use Rattle.pybuf_desc.specs.Layouts.{Layout, HasItemsOfItsShape, product}
 use Rattle.pybuf_desc.specs.Items.{bytes_of_items, content_of_layout}
-use Rattle.pybuf_nd.specs.IndexMaps.{IsIndexList, index_lists, number_at, start_at}
+use Rattle.pybuf_desc.specs.ColumnOrder.{number_at, start_at, column_index_lists, column_starts}
+use Rattle.pybuf_nd.specs.IndexMaps.{IsIndexList, index_lists}
 use Rattle.pybuf_nd.specs.Axes.{reversed_axes, put_at_axes, indices_by_axis, transposition_of}
-use Rattle.pybuf_nd.specs.ColumnOrder.{column_index_lists, column_starts}
 use Rattle.pybuf_nd.proofs.IndexLemmas.{flat_map_same, map_of_flat_map, map_same, item_at, map_over}
 use Rattle.pybuf_nd.proofs.Ordering.{map_reverse, reverse_cons}
 

@@ -3,9 +3,9 @@ use Rattle.std.specs.Prelude.{◌≡◌, ℕ, ℤ, List}
 use Rattle.pybuf_desc.specs.Layouts.{Layout, HasItemsOfItsShape}
 use Rattle.pybuf_desc.specs.Items.{bytes_of_items, content_of_layout}
 use Rattle.pybuf_desc.specs.Descriptor.{Descriptor}
-use Rattle.pybuf_nd.specs.IndexMaps.{IsIndexList, start_at, view_by}
+use Rattle.pybuf_desc.specs.ColumnOrder.{start_at, column_starts}
+use Rattle.pybuf_nd.specs.IndexMaps.{IsIndexList, view_by}
 use Rattle.pybuf_nd.specs.Axes.{transposition_of}
-use Rattle.pybuf_nd.specs.ColumnOrder.{column_starts}
 use Rattle.pybuf_nd.specs.Chains.{Step, view_after_all, Makes, IsChain, last_made}
 
 -- Its item at any indices is the given view's at the indices that are made of them, and it has one for

@@ -1,6 +1,5 @@
 pub mod Axes
 pub mod Chains
-pub mod ColumnOrder
 pub mod Dims
 pub mod IndexMaps
 pub mod Laws

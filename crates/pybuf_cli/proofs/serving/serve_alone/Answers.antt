@@ -7,7 +7,7 @@ use Rattle.pybuf_cli.proofs.OneForm.{serves_none, serves_unread, asks_alone, ser
 use Rattle.pybuf_cli.proofs.serving.serve_alone.Goals as goal
 
 pub returns-in_default : goal.returns-in_default
-returns-in_default g c = serves_unread _ _ _ _ _ _ _ _ c.in_default.ensures.memory (asks_alone _ c.in_default.ensures.table)
+returns-in_default g c = serves_unread _ _ _ _ _ _ _ _ c.in_default.ensures.memory (asks_alone _ c.in_default.ensures.data)
 
 pub returns-in-None : goal.returns-in-None
 returns-in-None g c =
@@ -110,5 +110,30 @@ returns-in-Some-Table g c =
       read_fault_writes_nothing = c.table.ensures.read_fault_writes_nothing;
       too_long_writes_nothing = c.table.ensures.too_long_writes_nothing;
       disagree = λ other. absurd (c.table.ensures.disagree other);
-      bad_data = λ _. (l, refl);
+      bad_data = λ _. tt;
+    })
+
+pub returns-in-Some-Nd : goal.returns-in-Some-Nd
+returns-in-Some-Nd g c =
+    let s = c.in-Some-Nd.selection in
+    let is : form_of c.args.words.now ≡ Some (form.Nd s) = sym c.in-Ok.ensures.form ∙ (c.in-Some-Nd.is ∙ ap Some c.in-Some-Nd.field-0-is) in
+    serves_form _ _ (form.Nd s) c.select.result _ _ _ _ _ _ _ _ (ap alone is) c.select.ensures.usage (record {
+      own = record {
+        reads = record {
+          too_long = c.select.ensures.too_long;
+          takes_front = c.select.ensures.takes_front;
+          unread_writes_nothing = c.select.ensures.unread_writes_nothing;
+        };
+        done = c.select.ensures.done;
+        bad_data = c.select.ensures.bad_data;
+        bad_line = c.select.ensures.bad_line;
+      };
+      prefix = λ input told. record { text = _; due = refl; front = c.select.ensures.prefix input told };
+      complete = c.select.ensures.complete;
+      read_fault = c.select.ensures.read_fault;
+      write_fault = c.select.ensures.write_fault;
+      read_fault_writes_nothing = c.select.ensures.read_fault_writes_nothing;
+      too_long_writes_nothing = c.select.ensures.too_long_writes_nothing;
+      disagree = λ other. absurd (c.select.ensures.disagree other);
+      bad_data = λ _. tt;
     })

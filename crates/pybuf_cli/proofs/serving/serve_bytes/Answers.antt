@@ -3,6 +3,7 @@ use Rattle.pybuf_cli.specs.Program.{alone, form_of}
 use Rattle.pybuf_cli.proofs.Served.{quiet_ran, quiet_refused, quiet_made, quiet_front, quiet_ends}
 use Rattle.pybuf_cli.proofs.ArrayServed as array
 use Rattle.pybuf_cli.proofs.Tabling.{quiet_listed, quiet_bad_data}
+use Rattle.pybuf_cli.proofs.Selecting.{quiet_selected, quiet_misfit}
 use Rattle.pybuf_cli.proofs.OneForm.{never_rose, reads_well, writes_well, agrees_alone}
 use Rattle.pybuf_cli.proofs.serving.serve_bytes.Goals as goal
 
@@ -45,6 +46,18 @@ returns-clause-listed c =
 pub returns-clause-bad_data : goal.returns-clause-bad_data
 returns-clause-bad_data c =
     λ l asked bad. quiet_bad_data l c.args.input c.new-source.result c.new-sink.result c.serve_alone-status.new.sink c.into_bytes.result _
+    c.new-source.ensures c.new-sink.ensures c.into_bytes.ensures
+    ((c.serve_alone-status.ensures.served _ (ap alone asked)).own.bad_data bad c.new-source.result refl)
+
+pub returns-clause-selected : goal.returns-clause-selected
+returns-clause-selected c =
+    λ s asked done. quiet_selected s c.args.input c.new-source.result c.new-sink.result c.serve_alone-status.new.sink c.into_bytes.result _
+    c.new-source.ensures c.new-sink.ensures c.into_bytes.ensures
+    ((c.serve_alone-status.ensures.served _ (ap alone asked)).own.done done c.new-source.result refl)
+
+pub returns-clause-misfit : goal.returns-clause-misfit
+returns-clause-misfit c =
+    λ s asked bad. quiet_misfit s c.args.input c.new-source.result c.new-sink.result c.serve_alone-status.new.sink c.into_bytes.result _
     c.new-source.ensures c.new-sink.ensures c.into_bytes.ensures
     ((c.serve_alone-status.ensures.served _ (ap alone asked)).own.bad_data bad c.new-source.result refl)
 

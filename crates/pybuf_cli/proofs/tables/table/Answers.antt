@@ -1,7 +1,10 @@
-use Rattle.std.proofs.Common.{refl, inl}
+use Rattle.std.proofs.Common.{◌==◌, refl, inl}
+use Rattle.pybuf_table_lines.specs.Texts.{left_over}
+use Rattle.pybuf_cli.specs.Tables.{text_of_table, ending_of_table}
 use Rattle.pybuf_cli.specs.declared.status.Status.TheVariants as status
 use Rattle.pybuf_cli.proofs.Served.{took_too_many, took_few, took_one_more, stopped_short, no_memory_is_short, failed_is_short, no_memory_ends_short, fault_ends_short, none_unread}
-use Rattle.pybuf_cli.proofs.Tabling.{listed_all, bad_data_told, table_answers_so, table_front, table_complete, table_too_long, nothing_tabled}
+use Rattle.pybuf_cli.proofs.Data.{data_answers_so, data_front, data_complete, data_too_long, nothing_put}
+use Rattle.pybuf_cli.proofs.Tabling.{listed_all, bad_data_told}
 use Rattle.pybuf_cli.proofs.tables.table.Goals as goal
 
 pub returns-in-Ok-clause-done : goal.returns-in-Ok-clause-done
@@ -15,12 +18,12 @@ returns-in-Ok-clause-bad_data g c =
     c.in-Ok.ensures.limit c.as_slice.ensures.value (c.answer.ensures.bad_data bad) told
 
 pub returns-in-Ok-clause-too_long : goal.returns-in-Ok-clause-too_long
-returns-in-Ok-clause-too_long g c = λ long. absurd (table_answers_so c.args.listing.now _ c.answer.result status.TooLong c.answer.ensures.ending long)
+returns-in-Ok-clause-too_long g c = λ long. absurd (data_answers_so (left_over c.args.listing.now c.as_slice.result.now == 0) c.answer.result status.TooLong c.answer.ensures.ending long)
 
 pub returns-in-Ok-clause-takes_front : goal.returns-in-Ok-clause-takes_front
 returns-in-Ok-clause-takes_front g c =
     λ input told. took_few _ _ input c.in-Ok.input.items c.answer.result c.in-Ok.ensures.took c.in-Ok.ensures.limit
-    (table_answers_so c.args.listing.now _ c.answer.result status.TooLong c.answer.ensures.ending) told
+    (data_answers_so (left_over c.args.listing.now c.as_slice.result.now == 0) c.answer.result status.TooLong c.answer.ensures.ending) told
 
 pub returns-in-Ok-clause-unread_writes_nothing : goal.returns-in-Ok-clause-unread_writes_nothing
 returns-in-Ok-clause-unread_writes_nothing g c =
@@ -28,33 +31,33 @@ returns-in-Ok-clause-unread_writes_nothing g c =
 
 pub returns-in-Ok-clause-prefix : goal.returns-in-Ok-clause-prefix
 returns-in-Ok-clause-prefix g c =
-    λ input told. table_front c.args.listing.now _ _ _ _ input c.in-Ok.input.items c.as_slice.result.now c.in-Ok.ensures.took c.in-Ok.ensures.end
+    λ input told. data_front (text_of_table c.args.listing.now) _ _ _ _ input c.in-Ok.input.items c.as_slice.result.now c.in-Ok.ensures.took c.in-Ok.ensures.end
     c.in-Ok.ensures.limit c.as_slice.ensures.value c.answer.ensures.prefix told
 
 pub returns-in-Ok-clause-complete : goal.returns-in-Ok-clause-complete
 returns-in-Ok-clause-complete g c =
-    λ input told _ fine. table_complete c.args.listing.now _ _ input c.in-Ok.input.items c.as_slice.result.now c.answer.result _ c.in-Ok.ensures.took
+    λ input told _ fine. data_complete (ending_of_table c.args.listing.now) _ _ input c.in-Ok.input.items c.as_slice.result.now c.answer.result _ c.in-Ok.ensures.took
     c.in-Ok.ensures.end c.in-Ok.ensures.limit c.as_slice.ensures.value c.answer.ensures.ending c.answer.ensures.rose told fine
 
 pub returns-in-Ok-clause-read_fault : goal.returns-in-Ok-clause-read_fault
-returns-in-Ok-clause-read_fault g c = λ fault. absurd (table_answers_so c.args.listing.now _ c.answer.result status.ReadFault c.answer.ensures.ending fault)
+returns-in-Ok-clause-read_fault g c = λ fault. absurd (data_answers_so (left_over c.args.listing.now c.as_slice.result.now == 0) c.answer.result status.ReadFault c.answer.ensures.ending fault)
 
 pub returns-in-Ok-clause-read_fault_writes_nothing : goal.returns-in-Ok-clause-read_fault_writes_nothing
 returns-in-Ok-clause-read_fault_writes_nothing g c =
-    λ fault. absurd (table_answers_so c.args.listing.now _ c.answer.result status.ReadFault c.answer.ensures.ending fault)
+    λ fault. absurd (data_answers_so (left_over c.args.listing.now c.as_slice.result.now == 0) c.answer.result status.ReadFault c.answer.ensures.ending fault)
 
 pub returns-in-Ok-clause-too_long_writes_nothing : goal.returns-in-Ok-clause-too_long_writes_nothing
 returns-in-Ok-clause-too_long_writes_nothing g c =
-    λ long. absurd (table_answers_so c.args.listing.now _ c.answer.result status.TooLong c.answer.ensures.ending long)
+    λ long. absurd (data_answers_so (left_over c.args.listing.now c.as_slice.result.now == 0) c.answer.result status.TooLong c.answer.ensures.ending long)
 
 pub returns-in-Ok-clause-usage : goal.returns-in-Ok-clause-usage
-returns-in-Ok-clause-usage g c = table_answers_so c.args.listing.now _ c.answer.result status.Usage c.answer.ensures.ending
+returns-in-Ok-clause-usage g c = data_answers_so (left_over c.args.listing.now c.as_slice.result.now == 0) c.answer.result status.Usage c.answer.ensures.ending
 
 pub returns-in-Ok-clause-bad_line : goal.returns-in-Ok-clause-bad_line
-returns-in-Ok-clause-bad_line g c = table_answers_so c.args.listing.now _ c.answer.result status.BadLine c.answer.ensures.ending
+returns-in-Ok-clause-bad_line g c = data_answers_so (left_over c.args.listing.now c.as_slice.result.now == 0) c.answer.result status.BadLine c.answer.ensures.ending
 
 pub returns-in-Ok-clause-disagree : goal.returns-in-Ok-clause-disagree
-returns-in-Ok-clause-disagree g c = table_answers_so c.args.listing.now _ c.answer.result status.Disagree c.answer.ensures.ending
+returns-in-Ok-clause-disagree g c = data_answers_so (left_over c.args.listing.now c.as_slice.result.now == 0) c.answer.result status.Disagree c.answer.ensures.ending
 
 pub returns-in-Err-TooLong-clause-too_long : goal.returns-in-Err-TooLong-clause-too_long
 returns-in-Err-TooLong-clause-too_long g c =
@@ -65,11 +68,11 @@ returns-in-Err-TooLong-clause-takes_front g c =
     λ input told. took_one_more _ _ input _ (c.in-Err-TooLong.ensures.too_long c.in-Err-TooLong.field-0-is) refl told
 
 pub returns-in-Err-TooLong-clause-prefix : goal.returns-in-Err-TooLong-clause-prefix
-returns-in-Err-TooLong-clause-prefix g c = λ input _. nothing_tabled _ _
+returns-in-Err-TooLong-clause-prefix g c = λ input _. nothing_put _ _
 
 pub returns-in-Err-TooLong-clause-complete : goal.returns-in-Err-TooLong-clause-complete
 returns-in-Err-TooLong-clause-complete g c =
-    λ input told _ _. inl (table_too_long c.args.listing.now input (took_too_many _ _ input (c.in-Err-TooLong.ensures.too_long c.in-Err-TooLong.field-0-is) told).long)
+    λ input told _ _. inl (data_too_long (ending_of_table c.args.listing.now) input (took_too_many _ _ input (c.in-Err-TooLong.ensures.too_long c.in-Err-TooLong.field-0-is) told).long)
 
 pub returns-in-Err-NoMemory-clause-takes_front : goal.returns-in-Err-NoMemory-clause-takes_front
 returns-in-Err-NoMemory-clause-takes_front g c =
@@ -77,11 +80,11 @@ returns-in-Err-NoMemory-clause-takes_front g c =
     told
 
 pub returns-in-Err-NoMemory-clause-prefix : goal.returns-in-Err-NoMemory-clause-prefix
-returns-in-Err-NoMemory-clause-prefix g c = λ input _. nothing_tabled _ _
+returns-in-Err-NoMemory-clause-prefix g c = λ input _. nothing_put _ _
 
 pub returns-in-Err-Failed-clause-takes_front : goal.returns-in-Err-Failed-clause-takes_front
 returns-in-Err-Failed-clause-takes_front g c =
     λ input told. stopped_short _ _ input _ _ _ c.in-Err-Failed.ensures.stopped c.in-Err-Failed.field-0-is failed_is_short fault_ends_short told
 
 pub returns-in-Err-Failed-clause-prefix : goal.returns-in-Err-Failed-clause-prefix
-returns-in-Err-Failed-clause-prefix g c = λ input _. nothing_tabled _ _
+returns-in-Err-Failed-clause-prefix g c = λ input _. nothing_put _ _

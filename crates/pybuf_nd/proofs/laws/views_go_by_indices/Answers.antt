@@ -1,4 +1,4 @@
-use Rattle.pybuf_nd.specs.IndexMaps.{start_at}
+use Rattle.pybuf_desc.specs.ColumnOrder.{start_at}
 use Rattle.pybuf_nd.proofs.IndexLemmas.{length_lists, item_at}
 use Rattle.pybuf_nd.proofs.laws.views_go_by_indices.Goals as goal
 

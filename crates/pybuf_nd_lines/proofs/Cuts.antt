@@ -1,0 +1,60 @@
+-- Views of bytes in a shape, as they are kept.
+use Rattle.std.proofs.Common.{◌≡◌, ℕ, zero, suc, ◌+◌, ◌*◌, ◌<◌, ◌≤◌, ◌^◌, Bool, true, List, [], ◌∷◌, length, map, refl, sym, ◌∙◌, ap, ap₂, subst, arith, get_or, All}
+use Rattle.std.specs.Prelude.{codes, nat_le, ◌&&◌}
+use Rattle.std.specs.List.{range_with_len}
+use Rattle.std.proofs.lemmas.Slice.Eq.{bytes_eq-Decides}
+use Rattle.std.proofs.lemmas.List.FromFn.{length-range_with_len, get_or-range_with_len}
+use Rattle.pybuf_desc.specs.Contiguous.{starts_from, is_contiguous_layout}
+use Rattle.pybuf_desc.specs.Layouts.{Layout, LiesInside, bytes_layout, product}
+use Rattle.pybuf_desc.specs.ShapedCasts.{cast_to}
+use Rattle.pybuf_desc.specs.Descriptor.{Descriptor}
+use Rattle.pybuf_desc.specs.Places.{Stands, layout_at}
+use Rattle.pybuf_desc.specs.Valid.{IsValid, IsPlaced, IsPlaceable}
+use Rattle.pybuf_desc.specs.Laws.{DescriptorsStandForOneView, ValidWhereItemsLieInside, ShapedCastsStayInside}
+use Rattle.pybuf_nd_lines.specs.Selections.{bytes_in_shape}
+
+-- ---- all bytes as one view
+
+by_ones : (xs : List ℕ) → map (λ k. 0 + k * 1) xs ≡ xs
+by_ones [] = refl
+by_ones (x ∷ xs) = ap₂ (λ (y : ℕ) (ys : List ℕ). y ∷ ys) (let same : 0 + x * 1 ≡ x = omega arith in same) (by_ones xs)
+
+whole_starts : (n : ℕ) → range_with_len 0 n ≡ starts_from (range_with_len 0 n) 1 (length (range_with_len 0 n))
+whole_starts zero = refl
+whole_starts (suc n) = sym (ap (λ (m : ℕ). map (λ k. 0 + k * 1) (range_with_len 0 m)) (length-range_with_len 0 (suc n)) ∙ by_ones (range_with_len 0 (suc n)))
+
+whole_is_contiguous : (n : ℕ) (readonly : Bool) → is_contiguous_layout (bytes_layout n readonly) ≡ true
+whole_is_contiguous n readonly = (bytes_eq-Decides (range_with_len 0 n) (starts_from (range_with_len 0 n) 1 (length (range_with_len 0 n)))).1 (whole_starts n)
+
+whole_is_inside : (n : ℕ) (readonly : Bool) → LiesInside n (bytes_layout n readonly)
+whole_is_inside n readonly = λ k d below.
+    let within : k < n = omega (arith, below, length-range_with_len 0 n) in
+    omega (arith, within, get_or-range_with_len 0 n k d within)
+
+pub contiguous_whole : (n : ℕ) (view : Layout) → view ≡ bytes_layout n true → is_contiguous_layout view ≡ true
+contiguous_whole n view is = ap is_contiguous_layout is ∙ whole_is_contiguous n true
+
+shape_bytes : (n p : ℕ) → n ≡ p → length (range_with_len 0 n) * 1 ≡ p * 1
+shape_bytes n p whole = let long = length-range_with_len 0 n in omega (arith, long, whole)
+
+pub view_in_shape : (n : ℕ) (shape : List ℕ) (whole : Layout) → n ≡ product shape → whole ≡ bytes_layout n true → cast_to whole (codes "B") 1 shape ≡ bytes_in_shape shape
+view_in_shape n shape whole fits is = ap (λ (view : Layout). cast_to view (codes "B") 1 shape) (is ∙ ap (λ m. bytes_layout m true) fits)
+
+pub shape_is_inside : ShapedCastsStayInside → (n : ℕ) (shape : List ℕ) (whole : Layout) → n ≡ product shape → whole ≡ bytes_layout n true → LiesInside n (cast_to whole (codes "B") 1 shape)
+shape_is_inside stay n shape whole fits is =
+    subst (λ (view : Layout). LiesInside n (cast_to view (codes "B") 1 shape)) (sym is)
+    (stay (bytes_layout n true) (codes "B") 1 shape n (whole_is_contiguous n true) (omega arith) (shape_bytes n (product shape) fits) (whole_is_inside n true))
+
+-- ---- views that were made of a view
+
+pub placed_so : (d made : Descriptor) (start next : ℕ) → IsPlaced d start → ((room : ℕ) → IsValid d start room → IsValid made next room) → IsPlaced made next
+placed_so d made start next placed valid = record { room = placed.room; room_fits = placed.room_fits; valid = valid placed.room placed.valid }
+
+pub made_is : DescriptorsStandForOneView → (made : Descriptor) (next : ℕ) (view kept : Layout) → Stands made next view → kept ≡ layout_at made next → kept ≡ view
+made_is one made next view kept stands is = is ∙ sym (one made next view stands)
+
+pub made_inside : ValidWhereItemsLieInside → (d made : Descriptor) (start next : ℕ) (view other kept : Layout) → IsPlaced d start → Stands d start view → Stands made next other
+    → ((room : ℕ) → IsValid d start room → IsValid made next room) → kept ≡ other → (room : ℕ) → LiesInside room view → LiesInside room kept
+made_inside law d made start next view other kept placed stands stands_other valid is room inside =
+    subst (LiesInside room) (sym is)
+    ((law made next room other (placed_so d made start next placed valid) stands_other).1 (valid room ((law d start room view placed stands).0 inside)))

@@ -1,0 +1,4 @@
+pub mod Given
+pub mod Small
+pub mod Empty
+pub mod Cuts

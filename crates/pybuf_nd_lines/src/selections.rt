@@ -1,0 +1,126 @@
+//! Which bytes of an input are asked for, and these bytes.
+ghost use Rattle.std.specs.Prelude.{◌≡◌, ◌<◌, ◌^◌, length, IfOk};
+ghost use Rattle.pybuf_desc.specs.Layouts.{product, LiesInside};
+ghost use Rattle.pybuf_desc.specs.Items.{content_of_layout};
+ghost use Rattle.pybuf_nd.specs.Axes.{transposition_of};
+ghost use Rattle.pybuf_nd_lines.specs.Shapes.{IsShape};
+ghost use Rattle.pybuf_nd_lines.specs.Selections.{bytes_due, transposed_if, selection_spelled, selection_in, selection_text};
+
+use crate::cutting::{cut, in_shape, turn};
+use crate::keys::slices_of_word;
+use crate::shapes::shape_of_word;
+use pybuf_index::SaturatedSlice;
+use pybuf_line::is_word;
+use pybuf_memoryview::{KeptLayout, content_of};
+use pybuf_value::{CountList, Items, Made, Outcome, Text};
+use std::alloc::Global;
+use std::marker::Model;
+
+/// Of bytes in a shape those that slices pick, one slice for each dimension, or the transposition of these.
+#[derive(Debug, Drop)]
+pub struct Selection {
+    shape: CountList,
+    slices: Items<SaturatedSlice>,
+    transposed: bool,
+}
+
+impl Model for Selection {
+    ghost use Rattle.pybuf_nd_lines.specs.Selections.{IsSelection, Selection};
+
+    ghost Value = { Selection };
+
+    ghost view = { λ s. record { shape = s.shape; slices = s.slices; transposed = s.transposed } };
+
+    ghost invariant = { λ s. IsSelection (record { shape = s.shape; slices = s.slices; transposed = s.transposed }) };
+}
+
+/// The selection that a shape and slices ask for.
+fn selection_of_key(
+    alloc: Global,
+    shape: &Text,
+    key: &Text,
+    transposed: bool,
+) -> Made<Option<Selection>>
+    ensures { IfOk result (λ selection. selection ≡ selection_spelled shape.now key.now transposed) }
+{
+    let Some(shape) = shape_of_word(alloc, shape.as_slice())? else {
+        return Ok(None);
+    };
+    let Some(slices) = slices_of_word(alloc, key.as_slice())? else {
+        return Ok(None);
+    };
+    if slices.len() == shape.len() {
+        Ok(Some(Selection {
+            shape,
+            slices,
+            transposed,
+        }))
+    } else {
+        Ok(None)
+    }
+}
+
+/// What words ask for: a shape, which is a list of one to 64 numbers from 1 on with a product of at most 1,048,576, and a
+/// tuple of as many slices; the word `T` behind them asks for the transposition. None exactly where a word is misspelled,
+/// there are more slices or fewer, one of them is refused, or there are more words or fewer.
+pub fn selection_of_words(alloc: Global, words: &[Text]) -> Made<Option<Selection>>
+    ensures { IfOk result (λ selection. selection ≡ selection_in words.now) }
+{
+    match words {
+        [shape, key] => selection_of_key(alloc, shape, key, false),
+        [shape, key, turn] => {
+            if is_word(turn.as_slice(), "T") {
+                return selection_of_key(alloc, shape, key, true);
+            }
+            Ok(None)
+        }
+        _ => Ok(None),
+    }
+}
+
+/// The bytes of a view, or of its transposition.
+fn bytes_turned(
+    alloc: Global,
+    input: &[u8],
+    view: &KeptLayout,
+    transposed: bool,
+) -> Made<Vec<u8>>
+    requires { LiesInside (length input.now) view.now }
+    ensures { IfOk result (λ bytes. bytes.items ≡ content_of_layout input.now (transposed_if transposed view.now)) }
+{
+    if !transposed {
+        return content_of(alloc, input, view);
+    }
+    match turn(alloc, view)? {
+        Outcome::Done(turned) => content_of(alloc, input, &turned),
+        // a dimension has no entry
+        Outcome::Refused(_) => Ok(Vec::new(alloc)),
+    }
+}
+
+impl Selection {
+    /// How many bytes the shape has.
+    pub fn bytes_due(&self) -> usize
+        ensures value { result ≡ bytes_due self.now }
+        ensures small { result < 2 ^ 63 }
+    {
+        let mut items = 1;
+        for entries in self.shape.as_slice() {
+            items *= *entries;
+        }
+        items
+    }
+
+    /// The bytes of an input that are asked for, row-major, where it has as many bytes as the shape.
+    pub fn bytes_of(&self, alloc: Global, input: &[u8]) -> Made<Vec<u8>>
+        requires { length input.now ≡ bytes_due self.now }
+        ensures { IfOk result (λ bytes. bytes.items ≡ selection_text self.now input.now) }
+    {
+        let whole = in_shape(alloc, input.len(), self.shape.as_slice())?;
+        match cut(alloc, &whole, self.slices.as_slice())? {
+            Outcome::Done(view) => bytes_turned(alloc, input, &view, self.transposed),
+            // nothing is picked in a dimension
+            Outcome::Refused(_) => Ok(Vec::new(alloc)),
+        }
+    }
+}

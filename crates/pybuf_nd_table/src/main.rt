@@ -1,0 +1,144 @@
+//! Prints the views that steps make of arrays, a line for each line that is read: the shape, the strides and the items of
+//! the last view, or that a step was refused. What is read and what must come out is written by `tools/numpy_views.py`, by
+//! NumPy's own views.
+//!
+//! A line has the shape of an array, whose items are bytes that lie one after the other, and steps: `slice` and a tuple of
+//! slices, `order` and the axes, `turn`, `pick` and an axis and a place. An item is shown by its place.
+#![tactic(auto)]
+
+mod orders;
+mod shown;
+mod steps;
+
+use pybuf_line::{Unread, fill_words, next_line, value};
+use pybuf_value::{Made, NoMemory, Value};
+use shown::push_view;
+use std::alloc::Global;
+use std::io::{Read, Write};
+use std::process::ExitCode;
+use steps::{View, after_step, whole};
+
+/// As many pieces of the input are read at most.
+const PIECES: usize = 64;
+
+/// The bytes of a piece at most.
+const PIECE: usize = 65_536;
+
+/// Adds the next piece to the input, and says whether there was one.
+fn read_piece<R: Read>(reader: &mut R, input: &mut Vec<u8>) -> Made<bool> {
+    let mut room = [0u8; PIECE];
+    match reader.read(&mut room) {
+        Ok(count) => {
+            if count > PIECE {
+                return Ok(false);
+            }
+            input.extend_from_slice(&room[..count])?;
+            Ok(count > 0)
+        }
+        Err(_) => Ok(false),
+    }
+}
+
+/// The bytes of the input.
+fn read_input<R: Read>(alloc: Global, reader: &mut R) -> Made<Vec<u8>> {
+    let mut input = Vec::new(alloc);
+    for _piece in 0..PIECES {
+        if !read_piece(reader, &mut input)? {
+            return Ok(input);
+        }
+    }
+    Ok(input)
+}
+
+/// The value that a word spells.
+fn value_of(alloc: Global, word: &[u8]) -> Made<Option<Value>> {
+    match value(alloc, word) {
+        Ok(told) => Ok(Some(told)),
+        Err(Unread::NoCommand) => Ok(None),
+        Err(Unread::NoMemory) => Err(NoMemory),
+    }
+}
+
+/// The view after the step that begins at a word, and how many words the step has.
+fn step(
+    alloc: Global,
+    view: &View,
+    words: &[&[u8]],
+    at: usize,
+) -> Made<(Option<View>, usize)> {
+    let Some(word) = words.get(at) else {
+        return Ok((None, 1));
+    };
+    let argument = match words.get(at.wrapping_add(1)) {
+        Some(next) => value_of(alloc, next)?,
+        None => None,
+    };
+    let count = if argument.is_none() { 1 } else { 2 };
+    let made = after_step(alloc, view, word, argument.as_ref())?;
+    Ok((made, count))
+}
+
+/// The last view of the words of a line.
+fn last_view(alloc: Global, words: &[&[u8]]) -> Made<Option<View>> {
+    let Some(shape) = words.first() else {
+        return Ok(None);
+    };
+    let told = value_of(alloc, shape)?;
+    let Some(first) = whole(alloc, told.as_ref())? else {
+        return Ok(None);
+    };
+    let mut view = first;
+    let mut at: usize = 1;
+    for _step in 0..words.len() {
+        if at >= words.len() {
+            return Ok(Some(view));
+        }
+        let (made, count) = step(alloc, &view, words, at)?;
+        let Some(next) = made else {
+            return Ok(None);
+        };
+        view = next;
+        at = at.wrapping_add(count);
+    }
+    Ok(Some(view))
+}
+
+/// Adds the line of a line.
+fn push_line(alloc: Global, out: &mut String, words: &[&[u8]]) -> Made<()> {
+    match last_view(alloc, words)? {
+        Some(view) => push_view(alloc, out, &view)?,
+        None => out.push_str("refused")?,
+    }
+    out.push_str("\n")?;
+    Ok(())
+}
+
+/// All lines.
+fn answer<R: Read>(alloc: Global, reader: &mut R) -> Made<String> {
+    let input = read_input(alloc, reader)?;
+    let mut out = String::new(alloc);
+    let mut words = Vec::new(alloc);
+    let mut rest = input.as_slice();
+    for _line in 0..input.len() {
+        match next_line(rest) {
+            Some((line, after)) => {
+                fill_words(&mut words, line)?;
+                push_line(alloc, &mut out, words.as_slice())?;
+                rest = after;
+            }
+            None => return Ok(out),
+        }
+    }
+    Ok(out)
+}
+
+fn main(rt: HostRuntime) -> ExitCode {
+    let mut reader = rt.stdin();
+    match answer(rt.alloc(), &mut reader) {
+        Ok(text) => match rt.stdout().write_all(text.as_bytes()) {
+            Ok(()) => ExitCode::SUCCESS,
+            Err(_) => ExitCode::from(5),
+        },
+        Err(_) => ExitCode::from(3),
+    }
+}
