@@ -498,7 +498,7 @@ KERNELS = {
 }
 
 
-# what numpy does of the same, where it is installed: `tobytes` of its arrays, and their assignments
+# what numpy does of the same, where it is installed: `tobytes` of its arrays, their assignments and their copies
 
 
 def numpy_kernels():
@@ -545,6 +545,16 @@ def numpy_kernels():
 
         return Kernel(call, no_answer)
 
+    def copied(view):
+        # `copy` takes a tenth of the time of `tobytes` here
+        return Kernel(lambda: view.copy(order="C"), lambda answer: mark_of_bytes(answer.tobytes()))
+
+    def in_rows(plan):
+        return array(plan, plan.size).reshape(-1, 1_024)
+
+    def permuted(plan):
+        return array(plan, plan.size).reshape(-1, 64, 64).transpose(2, 0, 1)
+
     def equal(plan):
         one = array(plan, plan.size)
         other = one.copy()
@@ -584,6 +594,10 @@ def numpy_kernels():
         "compare-beside": equal,
         "compare-reversed": equal_reversed,
         "compare-codes": equal_codes,
+        "nd-flipped": lambda plan: copied(in_rows(plan)[::2, ::-1]),
+        "nd-transposed": lambda plan: copied(in_rows(plan).T),
+        "nd-inner": lambda plan: copied(in_rows(plan)[1:-1, 1:-1]),
+        "nd-permuted": lambda plan: copied(permuted(plan)),
     }
 
 

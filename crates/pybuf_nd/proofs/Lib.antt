@@ -3,6 +3,7 @@ pub mod ChainLemmas
 pub mod CutBits
 pub mod Cutting
 pub mod IndexLemmas
+pub mod Joining
 pub mod MadeLemmas
 pub mod Ordering
 pub mod Planing

@@ -4,6 +4,7 @@
 mod axes;
 mod laws;
 mod made;
+mod merging;
 mod plane;
 mod selection;
 
@@ -12,5 +13,6 @@ pub use laws::{
     chains_stand, transposing_twice_is_nothing, transpositions_are_column_order,
     views_go_by_indices,
 };
+pub use merging::merged;
 pub use plane::pick;
 pub use selection::slice_all;
