@@ -190,7 +190,7 @@ alone_others (word ∷ argument ∷ []) other =
     (two_words (bytes_eq word (codes "make")) (bytes_eq word (codes "array")) (bytes_eq word (codes "table")) (script_number_in argument)
     (array_code_in argument) (listing_in (argument ∷ [])))
 alone_others (word ∷ argument ∷ further ∷ more) other =
-    alone_same (form_of (word ∷ argument ∷ further ∷ more)) 
+    alone_same (form_of (word ∷ argument ∷ further ∷ more))
     (three_words (bytes_eq word (codes "table")) (bytes_eq word (codes "nd")) (listing_in (argument ∷ further ∷ more)) (selection_in (argument ∷ further ∷ more)))
 
 -- with one thread alone nobody disagrees

@@ -71,12 +71,7 @@ fn push_next_parts<T: Part>(out: &mut Vec<u8>, loans: &LoanList, parts: &[T]) ->
 }
 
 /// Adds a first part, and others, each after a comma.
-fn push_first_parts<T: Part>(
-    out: &mut Vec<u8>,
-    loans: &LoanList,
-    first: &T,
-    more: &[T],
-) -> Made<()>
+fn push_first_parts<T: Part>(out: &mut Vec<u8>, loans: &LoanList, first: &T, more: &[T]) -> Made<()>
     ensures { OnOk result (out.new.items ≡ out.old.items ++ written_parts (T.spelling (name_of loans.now)) (first.now ∷ more.now)) }
 {
     first.push_part(out, loans)?;

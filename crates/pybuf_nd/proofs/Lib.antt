@@ -1,9 +1,11 @@
 pub mod Answered
+pub mod Assigned
 pub mod ChainLemmas
 pub mod CutBits
 pub mod Cutting
 pub mod IndexLemmas
 pub mod Joining
+pub mod LaidItems
 pub mod MadeLemmas
 pub mod Ordering
 pub mod Planing

@@ -1,11 +1,13 @@
 //! Views of an array of bytes, copied out.
+ghost use Rattle.std.specs.Prelude.{IfSome};
+ghost use Rattle.pybuf_desc.specs.Layouts.{LiesInside};
 
 use pybuf_desc::BufferDescriptor;
 use pybuf_index::SaturatedSlice;
 use pybuf_measure::{Answer, Kernel, PLANE, Plan, drawn};
 use pybuf_memoryview::{KeptLayout, content_of};
-use pybuf_nd::{permute, slice_all, transpose};
-use pybuf_value::{DimList, Made, Outcome, PySlice, Scalar, Text};
+use pybuf_nd::{merged, permute, slice_all, transpose};
+use pybuf_value::{DimList, Fault, Made, Outcome, PySlice, Scalar, Text, Tried};
 use std::alloc::Global;
 
 /// The number of bytes of a row of an array of rows.
@@ -34,22 +36,27 @@ pub struct CopiedView {
     view: Option<KeptLayout>,
 }
 
-/// The view of so many bytes in these dimensions.
-fn array(
-    alloc: Global,
-    len: usize,
-    dims: &[(usize, isize, isize)],
-) -> Made<Option<KeptLayout>> {
+/// The view of a descriptor's items, where they lie among so many bytes.
+fn placed(desc: BufferDescriptor, start: usize, room: usize) -> Option<KeptLayout>
+    ensures { IfSome result (λ view. LiesInside room view) }
+{
+    pybuf_desc::placed_descriptors_stand();
+    pybuf_desc::valid_where_items_lie_inside();
+    if room > isize::MAX as usize {
+        return None;
+    }
+    if desc.validate(start, room).is_err() {
+        return None;
+    }
+    Some(KeptLayout::of_descriptor(desc, start))
+}
+
+/// So many bytes in these dimensions.
+fn array(alloc: Global, len: usize, dims: &[(usize, isize, isize)]) -> Made<Option<KeptLayout>> {
     let format = Text::from_string(String::from_str(alloc, "B")?);
     let list = DimList::from_slice(alloc, dims)?;
     let desc = BufferDescriptor::raw(len, true, 1, format, list);
-    if len > isize::MAX as usize {
-        return Ok(None);
-    }
-    if desc.validate(0, len).is_err() {
-        return Ok(None);
-    }
-    Ok(Some(KeptLayout::of_descriptor(desc, 0)))
+    Ok(placed(desc, 0, len))
 }
 
 /// An array of rows.
@@ -59,88 +66,122 @@ fn rows(alloc: Global, len: usize) -> Made<Option<KeptLayout>> {
 
 /// An array of planes.
 fn planes(alloc: Global, len: usize) -> Made<Option<KeptLayout>> {
-    let dims = [(len / PLANE, PLANE as isize, 0), (SIDE, SIDE as isize, 0), (SIDE, 1, 0)];
+    let dims = [
+        (len / PLANE, PLANE as isize, 0),
+        (SIDE, SIDE as isize, 0),
+        (SIDE, 1, 0),
+    ];
     array(alloc, len, &dims)
 }
 
-/// The slice of numbers and of what isn't told.
+/// The slice of these parts.
 fn slice(start: Scalar, stop: Scalar, step: Scalar) -> PySlice {
     PySlice { start, stop, step }
 }
 
 /// The items that a slice of rows and a slice of columns pick.
-fn cut(alloc: Global, view: &KeptLayout, rows: PySlice, columns: PySlice) -> Made<Option<KeptLayout>> {
-    let Ok(rows) = SaturatedSlice::with_slice(&rows) else {
-        return Ok(None);
+fn cut(
+    alloc: Global,
+    view: &KeptLayout,
+    rows: &PySlice,
+    columns: &PySlice,
+) -> Tried<(BufferDescriptor, usize)> {
+    let rows = match SaturatedSlice::with_slice(rows) {
+        Ok(rows) => rows,
+        Err(fault) => return Ok(Outcome::Refused(fault)),
     };
-    let Ok(columns) = SaturatedSlice::with_slice(&columns) else {
-        return Ok(None);
+    let columns = match SaturatedSlice::with_slice(columns) {
+        Ok(columns) => columns,
+        Err(fault) => return Ok(Outcome::Refused(fault)),
     };
     let (desc, start) = view.placed();
     if desc.ndim() != 2 {
-        return Ok(None);
+        return Ok(Outcome::Refused(Fault::Value));
     }
-    match slice_all(alloc, desc, start, &[rows, columns])? {
-        Outcome::Done((made, next)) => Ok(Some(KeptLayout::of_descriptor(made, next))),
-        Outcome::Refused(_) => Ok(None),
+    slice_all(alloc, desc, start, &[rows, columns])
+}
+
+/// `a[::2, ::-1]`.
+fn flipped(alloc: Global, view: &KeptLayout) -> Tried<(BufferDescriptor, usize)> {
+    let others = slice(Scalar::None, Scalar::None, Scalar::Int(2));
+    let backwards = slice(Scalar::None, Scalar::None, Scalar::Int(-1));
+    cut(alloc, view, &others, &backwards)
+}
+
+/// `a[1:-1, 1:-1]`.
+fn inner(alloc: Global, view: &KeptLayout) -> Tried<(BufferDescriptor, usize)> {
+    let between = slice(Scalar::Int(1), Scalar::Int(-1), Scalar::None);
+    cut(alloc, view, &between, &between)
+}
+
+/// A descriptor beside where the items of a view start.
+fn beside_start(
+    made: Outcome<BufferDescriptor>,
+    start: usize,
+) -> Outcome<(BufferDescriptor, usize)> {
+    match made {
+        Outcome::Done(desc) => Outcome::Done((desc, start)),
+        Outcome::Refused(fault) => Outcome::Refused(fault),
     }
 }
 
-/// The transposition.
-fn transposed(alloc: Global, view: &KeptLayout) -> Made<Option<KeptLayout>> {
+/// `a.T`.
+fn transposed(alloc: Global, view: &KeptLayout) -> Tried<(BufferDescriptor, usize)> {
     let (desc, start) = view.placed();
-    match transpose(alloc, desc)? {
-        Outcome::Done(made) => Ok(Some(KeptLayout::of_descriptor(made, start))),
-        Outcome::Refused(_) => Ok(None),
-    }
+    let made = transpose(alloc, desc)?;
+    Ok(beside_start(made, start))
 }
 
-/// The last of three axes before the two others.
-fn last_axis_first(alloc: Global, view: &KeptLayout) -> Made<Option<KeptLayout>> {
+/// `a.transpose(2, 0, 1)`.
+fn permuted(alloc: Global, view: &KeptLayout) -> Tried<(BufferDescriptor, usize)> {
     let (desc, start) = view.placed();
     if desc.ndim() != 3 {
-        return Ok(None);
+        return Ok(Outcome::Refused(Fault::Value));
     }
-    match permute(alloc, desc, &[2, 0, 1])? {
-        Outcome::Done(made) => Ok(Some(KeptLayout::of_descriptor(made, start))),
-        Outcome::Refused(_) => Ok(None),
+    let made = permute(alloc, desc, &[2, 0, 1])?;
+    Ok(beside_start(made, start))
+}
+
+/// The descriptor of what is copied out, and where its items start.
+fn described(alloc: Global, array: &KeptLayout, form: Form) -> Tried<(BufferDescriptor, usize)> {
+    match form {
+        Form::Flipped => flipped(alloc, array),
+        Form::Transposed => transposed(alloc, array),
+        Form::Inner => inner(alloc, array),
+        Form::Permuted => permuted(alloc, array),
+    }
+}
+
+/// The array of so many bytes.
+fn array_of(alloc: Global, len: usize, form: Form) -> Made<Option<KeptLayout>> {
+    match form {
+        Form::Permuted => planes(alloc, len),
+        _ => rows(alloc, len),
     }
 }
 
 /// The view of so many bytes.
 fn view_of(alloc: Global, len: usize, form: Form) -> Made<Option<KeptLayout>> {
-    let array = match form {
-        Form::Permuted => planes(alloc, len)?,
-        _ => rows(alloc, len)?,
-    };
-    let Some(whole) = array else {
+    let Some(array) = array_of(alloc, len, form)? else {
         return Ok(None);
     };
-    match form {
-        Form::Flipped => {
-            let others = slice(Scalar::None, Scalar::None, Scalar::Int(2));
-            let backwards = slice(Scalar::None, Scalar::None, Scalar::Int(-1));
-            cut(alloc, &whole, others, backwards)
-        }
-        Form::Transposed => transposed(alloc, &whole),
-        Form::Inner => {
-            let rows = slice(Scalar::Int(1), Scalar::Int(-1), Scalar::None);
-            let columns = slice(Scalar::Int(1), Scalar::Int(-1), Scalar::None);
-            cut(alloc, &whole, rows, columns)
-        }
-        Form::Permuted => last_axis_first(alloc, &whole),
+    match described(alloc, &array, form)? {
+        Outcome::Done((desc, start)) => Ok(placed(desc, start, len)),
+        Outcome::Refused(_) => Ok(None),
     }
 }
 
-/// The bytes of a view's items, copied out. Refused where an item lies outside of the bytes.
+/// The bytes of a view's items, copied out by the fewest dimensions. Refused where an item lies outside of the bytes.
 fn copied(alloc: Global, bytes: &[u8], view: &KeptLayout) -> Made<Answer> {
-    pybuf_desc::valid_where_items_lie_inside();
     let (desc, start) = view.placed();
-    if desc.validate(start, bytes.len()).is_err() {
-        return Ok(Answer::Refused);
+    let made = merged(alloc, desc)?;
+    match placed(made, start, bytes.len()) {
+        Some(joined) => {
+            let content = content_of(alloc, bytes, &joined)?;
+            Ok(Answer::Bytes(content))
+        }
+        None => Ok(Answer::Refused),
     }
-    let content = content_of(alloc, bytes, view)?;
-    Ok(Answer::Bytes(content))
 }
 
 impl CopiedView {

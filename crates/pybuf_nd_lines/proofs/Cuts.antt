@@ -1,9 +1,13 @@
 -- Views of bytes in a shape, as they are kept.
 use Rattle.std.proofs.Common.{◌≡◌, ℕ, zero, suc, ◌+◌, ◌*◌, ◌<◌, ◌≤◌, ◌^◌, Bool, true, List, [], ◌∷◌, length, map, refl, sym, ◌∙◌, ap, ap₂, subst, arith, get_or, All}
-use Rattle.std.specs.Prelude.{codes, nat_le, ◌&&◌}
+use Rattle.std.specs.Prelude.{codes, Result, Ok, Err, IfOk}
 use Rattle.std.specs.List.{range_with_len}
 use Rattle.std.proofs.lemmas.Slice.Eq.{bytes_eq-Decides}
 use Rattle.std.proofs.lemmas.List.FromFn.{length-range_with_len, get_or-range_with_len}
+use Rattle.pybuf_value.specs.declared.faults.Outcome.{Outcome}
+use Rattle.pybuf_value.specs.declared.faults.Outcome.TheVariants as outcome
+use Rattle.pybuf_value.specs.Halting.{given_by}
+use Rattle.pybuf_value.specs.Refusing.{IfDone}
 use Rattle.pybuf_desc.specs.Contiguous.{starts_from, is_contiguous_layout}
 use Rattle.pybuf_desc.specs.Layouts.{Layout, LiesInside, bytes_layout, product}
 use Rattle.pybuf_desc.specs.ShapedCasts.{cast_to}
@@ -40,12 +44,25 @@ shape_bytes n p whole = let long = length-range_with_len 0 n in omega (arith, lo
 pub view_in_shape : (n : ℕ) (shape : List ℕ) (whole : Layout) → n ≡ product shape → whole ≡ bytes_layout n true → cast_to whole (codes "B") 1 shape ≡ bytes_in_shape shape
 view_in_shape n shape whole fits is = ap (λ (view : Layout). cast_to view (codes "B") 1 shape) (is ∙ ap (λ m. bytes_layout m true) fits)
 
-pub shape_is_inside : ShapedCastsStayInside → (n : ℕ) (shape : List ℕ) (whole : Layout) → n ≡ product shape → whole ≡ bytes_layout n true → LiesInside n (cast_to whole (codes "B") 1 shape)
-shape_is_inside stay n shape whole fits is =
-    subst (λ (view : Layout). LiesInside n (cast_to view (codes "B") 1 shape)) (sym is)
-    (stay (bytes_layout n true) (codes "B") 1 shape n (whole_is_contiguous n true) (omega arith) (shape_bytes n (product shape) fits) (whole_is_inside n true))
+shape_is_inside : ShapedCastsStayInside → (n : ℕ) (shape text : List ℕ) (whole : Layout) → n ≡ product shape → whole ≡ bytes_layout n true → LiesInside n (cast_to whole text 1 shape)
+shape_is_inside stay n shape text whole fits is =
+    subst (λ (view : Layout). LiesInside n (cast_to view text 1 shape)) (sym is)
+    (stay (bytes_layout n true) text 1 shape n (whole_is_contiguous n true) (omega arith) (shape_bytes n (product shape) fits) (whole_is_inside n true))
+
+if_ok_so : {T E : Type 0} (r : Result T E) (P Q : T → Type 0) → ((x : T) → P x → Q x) → IfOk r P → IfOk r Q
+if_ok_so (Ok x) P Q f h = f x h
+if_ok_so (Err e) P Q f h = tt
+
+pub inside_if : {E : Type 0} → ShapedCastsStayInside → (r : Result Layout E) (n : ℕ) (shape text : List ℕ) (whole : Layout) → n ≡ product shape → whole ≡ bytes_layout n true
+    → IfOk r (λ view. view ≡ cast_to whole text 1 shape) → IfOk r (λ view. LiesInside n view)
+inside_if stay r n shape text whole fits is made =
+    if_ok_so r (λ view. view ≡ cast_to whole text 1 shape) (λ view. LiesInside n view)
+    (λ view e. subst (LiesInside n) (sym e) (shape_is_inside stay n shape text whole fits is)) made
 
 -- ---- views that were made of a view
+
+pub done_so : {B : Type 0} (P : B → Type 0) (o : Outcome B) (b : B) → o ≡ outcome.Done b → IfDone P (given_by o) → P b
+done_so {B = B} P o b e h = subst (λ (x : Outcome B). IfDone P (given_by x)) e h
 
 pub placed_so : (d made : Descriptor) (start next : ℕ) → IsPlaced d start → ((room : ℕ) → IsValid d start room → IsValid made next room) → IsPlaced made next
 placed_so d made start next placed valid = record { room = placed.room; room_fits = placed.room_fits; valid = valid placed.room placed.valid }

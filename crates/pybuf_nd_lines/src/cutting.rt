@@ -39,7 +39,8 @@ pub(crate) fn cut(alloc: Global, view: &KeptLayout, slices: &[SaturatedSlice]) -
     pybuf_desc::valid_where_items_lie_inside();
     let (desc, start) = view.placed();
     match slice_all(alloc, desc, start, slices)? {
-        Outcome::Done((made, next)) => {
+        Outcome::Done(cut) => {
+            let (made, next) = cut;
             Ok(Outcome::Done(KeptLayout::of_descriptor(made, next)))
         }
         Outcome::Refused(fault) => Ok(Outcome::Refused(fault)),

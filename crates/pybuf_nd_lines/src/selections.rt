@@ -79,15 +79,11 @@ pub fn selection_of_words(alloc: Global, words: &[Text]) -> Made<Option<Selectio
 }
 
 /// The bytes of a view, or of its transposition.
-fn bytes_turned(
-    alloc: Global,
-    input: &[u8],
-    view: &KeptLayout,
-    transposed: bool,
-) -> Made<Vec<u8>>
+fn bytes_turned(alloc: Global, input: &[u8], view: &KeptLayout, transposed: bool) -> Made<Vec<u8>>
     requires { LiesInside (length input.now) view.now }
     ensures { IfOk result (λ bytes. bytes.items ≡ content_of_layout input.now (transposed_if transposed view.now)) }
 {
+    pybuf_nd::transpositions_are_column_order();
     if !transposed {
         return content_of(alloc, input, view);
     }
@@ -116,6 +112,7 @@ impl Selection {
         requires { length input.now ≡ bytes_due self.now }
         ensures { IfOk result (λ bytes. bytes.items ≡ selection_text self.now input.now) }
     {
+        pybuf_nd::transpositions_are_column_order();
         let whole = in_shape(alloc, input.len(), self.shape.as_slice())?;
         match cut(alloc, &whole, self.slices.as_slice())? {
             Outcome::Done(view) => bytes_turned(alloc, input, &view, self.transposed),

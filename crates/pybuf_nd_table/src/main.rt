@@ -60,12 +60,7 @@ fn value_of(alloc: Global, word: &[u8]) -> Made<Option<Value>> {
 }
 
 /// The view after the step that begins at a word, and how many words the step has.
-fn step(
-    alloc: Global,
-    view: &View,
-    words: &[&[u8]],
-    at: usize,
-) -> Made<(Option<View>, usize)> {
+fn step(alloc: Global, view: &View, words: &[&[u8]], at: usize) -> Made<(Option<View>, usize)> {
     let Some(word) = words.get(at) else {
         return Ok((None, 1));
     };

@@ -1,4 +1,5 @@
 pub mod RowLemmas
+pub mod RowFormatLemmas
 pub mod FieldLemmas
 pub mod ChosenLemmas
 pub mod Words

@@ -1,4 +1,5 @@
 pub mod Records
+pub mod RowFormats
 pub mod Offsets
 pub mod Chosen
 pub mod Lending

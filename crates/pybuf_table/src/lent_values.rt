@@ -18,7 +18,7 @@ pub(crate) enum LentValue<'a> {
 }
 
 /// The bytes of a Pascal string: as many as its first byte says, at most the rest of the field.
-fn pascal_content(field: &[u8]) -> &[u8]
+pub(crate) fn pascal_content(field: &[u8]) -> &[u8]
     ensures { result.now ≡ pascal_content field.now }
 {
     match field {

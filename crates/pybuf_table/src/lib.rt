@@ -11,6 +11,7 @@ mod lent_values;
 mod numbers;
 mod offsets;
 mod records;
+mod row_format;
 mod select;
 
 pub use laws::{

@@ -82,10 +82,9 @@ pub(crate) fn number(big: bool, signed: bool, bytes: &[u8]) -> i128
     ensures { result ≡ number big signed bytes.now }
 {
     let n = i128::from(unsigned_number(big, bytes));
-    let modulus = modulus_of(bytes.len());
-    if signed && 2 * n >= modulus {
-        n - modulus
-    } else {
-        n
+    if !signed {
+        return n;
     }
+    let modulus = modulus_of(bytes.len());
+    if 2 * n >= modulus { n - modulus } else { n }
 }

@@ -2,9 +2,9 @@
 ghost use Rattle.std.specs.Prelude.{◌≡◌, ◌<◌, ◌^◌, ◌∷◌, [], length, Ok, Err, IfOk, OnOk, OnErr, IfSome, IfNone, MatchResult};
 ghost use Rattle.pybuf_value.specs.Halting.{outcome_of};
 ghost use Rattle.pybuf_struct.specs.Formats.{format_of, fields};
-ghost use Rattle.pybuf_struct.specs.Values.{values};
 ghost use Rattle.pybuf_table.specs.Records.{record_format, rows, whole_rows};
 
+use crate::row_format::RowFormat;
 use pybuf_struct::FormatSpec;
 use pybuf_value::{Fault, Made, Outcome, ScalarList, Text, Tried};
 use std::alloc::Global;
@@ -15,7 +15,7 @@ use std::marker::Model;
 #[derive(Debug, Drop)]
 pub struct Records {
     text: Text,
-    format: FormatSpec,
+    format: RowFormat,
 }
 
 impl Model for Records {
@@ -31,7 +31,7 @@ impl Model for Records {
 /// The records of bytes, one after another. A clause sees the values of those that are left.
 #[derive(Debug, Drop)]
 pub struct RecordIter<'a> {
-    format: &'a FormatSpec,
+    format: &'a RowFormat,
     rest: &'a [u8],
 }
 
@@ -45,17 +45,6 @@ impl<'a> Model for RecordIter<'a> {
     ghost view = { λ i. rows i.format.now i.rest.now };
 
     ghost invariant = { λ i. IsLeft i.format.now i.rest.now };
-}
-
-/// The values of the bytes of one record.
-pub(crate) fn unpack_record(alloc: Global, format: &FormatSpec, bytes: &[u8]) -> Made<ScalarList>
-    requires { length bytes.now ≡ format.now.size }
-    ensures { IfOk result (λ row. row ≡ values format.now bytes.now) }
-{
-    match format.unpack(alloc, bytes)? {
-        Outcome::Done(row) => Ok(row),
-        Outcome::Refused(_) => unreachable!(),
-    }
 }
 
 impl Records {
@@ -72,9 +61,10 @@ impl Records {
                 if spec.size() == 0 {
                     return Ok(Outcome::Refused(Fault::Value));
                 }
+                let row_format = RowFormat::new(alloc, spec)?;
                 Ok(Outcome::Done(Records {
                     text: format,
-                    format: spec,
+                    format: row_format,
                 }))
             }
         }
@@ -93,7 +83,7 @@ impl Records {
     pub fn fields(&self) -> usize
         ensures { result ≡ length (fields self.now.format) }
     {
-        self.format.arg_count()
+        self.format.spec().arg_count()
     }
 
     /// The text of the format.
@@ -108,7 +98,7 @@ impl Records {
     pub fn format(&self) -> &FormatSpec
         ensures { result.now ≡ self.now.format }
     {
-        &self.format
+        self.format.spec()
     }
 
     /// The records of the bytes, one after another, each of which is unpacked when it is asked for. Takes no memory.
@@ -139,7 +129,7 @@ impl<'a> RecordIter<'a> {
             return Ok(None);
         }
         let (first, rest) = self.rest.split_at(self.format.size());
-        let row = unpack_record(alloc, self.format, first)?;
+        let row = self.format.unpack(alloc, first)?;
         self.rest = rest;
         Ok(Some(row))
     }

@@ -8,7 +8,8 @@ ghost use Rattle.pybuf_table.specs.Chosen.{compares_so, is_chosen, chosen, has_v
 
 use crate::field_place::{FieldPlace, find_field};
 use crate::lent_values::LentValue;
-use crate::records::{Records, unpack_record};
+use crate::records::Records;
+use crate::row_format::unpack_record;
 use pybuf_struct::{FormatSpec, FormatType};
 use pybuf_value::{CompareOp, Fault, Items, Made, Outcome, Scalar, ScalarList, Tried, is_order};
 use std::alloc::Global;

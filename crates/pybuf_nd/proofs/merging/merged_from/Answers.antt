@@ -20,12 +20,12 @@ loop-dim-preserved c =
       | then-lie_together w ↦
           let made = w.last-is ∙ w.joined-last.ensures in (
             ap (λ xs. xs ++ merged_from next (drop (k + 1) rest)) w.list-is
-            ∙ taken_in c.loop-dim.list _ last dim next rest k below refl (sym c.lie_together.ensures ∙ w.if-lie_together.true) made c.loop-dim.invariant.0,
+                ∙ taken_in c.loop-dim.list _ last dim next rest k below refl (sym c.lie_together.ensures ∙ w.if-lie_together.true) made c.loop-dim.invariant.0,
             fits_taken_in last dim next rest k below refl made c.loop-dim.invariant.1,
           )
       | else-lie_together+in_ok-push w ↦ (
-          left_alone c.loop-dim.list c.if-lie_together.list _ last next rest k below w.last-is (ap (lie_together last) w.last-is ∙ sym c.lie_together.ensures ∙ w.if-lie_together.false)
-          (w.list-is ∙ w.in_ok-push.ensures.ok) c.loop-dim.invariant.0,
-          fits_left_alone last next rest k below w.last-is c.loop-dim.invariant.1,
-        )
+        left_alone c.loop-dim.list c.if-lie_together.list _ last next rest k below w.last-is (ap (lie_together last) w.last-is ∙ sym c.lie_together.ensures ∙ w.if-lie_together.false)
+            (w.list-is ∙ w.in_ok-push.ensures.ok) c.loop-dim.invariant.0,
+        fits_left_alone last next rest k below w.last-is c.loop-dim.invariant.1,
+      )
     ]
