@@ -1,0 +1,3 @@
+mod AxisLemmas
+mod PartLemmas
+mod PictureLemmas
