@@ -1,4 +1,4 @@
-//! Six users of the library, each with a contract in words of its own.
+//! Seven users of the library, each with a contract in words of its own; the picture is a crate below.
 #![tactic(auto)]
 
 mod elf_file;
@@ -13,4 +13,5 @@ pub use handover::Handover;
 pub use interpreter::{Interpreter, Statement};
 pub use line_buffer::LineBuffer;
 pub use number_array::NumberArray;
+pub use pybuf_picture::Picture;
 pub use weather_log::{Header, Reading, WeatherLog, read_header, read_reading};
