@@ -2,7 +2,6 @@ use Rattle.std.proofs.Common.{◌∙◌, ap, ◌++◌}
 use Rattle.pybuf_line.specs.Words.{written_word}
 use Rattle.pybuf_line.specs.Commands.{word_of, written_arguments}
 use Rattle.pybuf_histories.specs.Names.{subject_text, name_of}
-use Rattle.pybuf_histories.specs.Words.{after_blanks}
 use Rattle.pybuf_histories.specs.Commands.{command_text}
 use Rattle.pybuf_histories.proofs.Joined.{on_ok, command_parts}
 use Rattle.pybuf_histories.proofs.commands.push_command.Goals as goal
@@ -16,5 +15,5 @@ returns c =
     (written_word (word_of command.verb)) (subject_text command.subject) (written_arguments (name_of command.loans) command.verb)
     (c.in_ok-extend_from_slice.ensures.items ∙ ap (λ word. c.args.out.now.items ++ word) (c.as_bytes.ensures.value ∙ c.verb_text.ensures))
     c.in_ok-push.ensures.items c.in_ok-push_subject.ensures
-    (h ∙ ap (λ loans. c.push_subject.new.out.items ++ after_blanks (written_arguments (name_of loans) command.verb)) c.as_slice.ensures))
+    h)
     c.push_arguments.ensures
