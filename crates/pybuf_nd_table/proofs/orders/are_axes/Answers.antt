@@ -9,4 +9,4 @@ returns c = λ yes.
     let long : length c.into_vec-sorted.result.items ≡ c.args.count = omega (arith, c.len.ensures, c.if-len-count.false) in
     let longs : length c.sort_unstable.new.self.items ≡ length c.into_vec-sorted.result.items = omega (arith, c.sort_unstable.ensures.len, c.sort_unstable.new.self.ok, c.into_vec-sorted.result.ok) in
     axes_so c.args.numbers.now c.into_vec-sorted.result.items c.sort_unstable.new.self.items c.args.count same long c.sort_unstable.ensures.permutation longs
-    (subst (λ (xs : List ℕ). xs ≡ range_with_len 0 (length xs)) c.as_slice.ensures (c.are_their_places.ensures yes))
+    (subst (λ (xs : List ℕ). xs ≡ range_with_len 0 (length xs)) c.as_slice.ensures.value (c.are_their_places.ensures yes))
