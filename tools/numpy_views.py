@@ -81,8 +81,7 @@ def shape_text(shape):
 def case(name, words, given, written, status=0):
     yield CASES / name, given
     yield CASES / f"{name}.args", "".join(f"{word}\n" for word in ["nd", *words])
-    if written:
-        yield CASES / f"{name}.stdout", written
+    yield CASES / f"{name}.stdout", written
     if status:
         yield CASES / f"{name}.status", f"{status}\n"
 
