@@ -13,8 +13,8 @@ transposed; `misfits-N` have more bytes than the shape, or fewer. The rest are w
 
 A line of the table has a shape of up to four dimensions with entries from 1 to 3, and up to four steps, each of which makes
 a view of the view before: `slice` and a tuple of slices, `order` and the axes in their order, `turn`, `pick` and an axis and
-a place. The program writes the shape, the strides and the items of the last view, which are the numbers of their places, or
-that a step was refused. NumPy makes views that the program refuses: those without items of which another dimension than the
+a place. The program writes the shape, the strides and the items of the last view, which are the numbers of their places, and
+the bytes of the array once others were assigned to these items, or that a step was refused. NumPy makes views that the program refuses: those without items of which another dimension than the
 first has no entry, and an order or a place of one of which a dimension has none.
 """
 import itertools
@@ -196,6 +196,10 @@ def can_be(view):
     return 0 not in view.shape[1:]
 
 
+# The first of the bytes that are assigned: greater than each byte of an array.
+FIRST = 100
+
+
 def step_of(draw, view):
     """A drawn step, and the view that it makes, or None where it is refused."""
     axes = list(range(view.ndim))
@@ -213,7 +217,7 @@ def step_of(draw, view):
         made = None if has_no_entry or not -entries <= place < entries else view.take([place], axis)
         # (`take` copies: the view is by an index)
         if made is not None:
-            made = view[(slice(None),) * axis + (place,)]
+            made = view[(slice(None),) * axis + (place, ...)]
         return f"pick ({axis},{place})", made
     refused = has_no_entry and view.ndim > 1
     if kind == "turn":
@@ -224,7 +228,8 @@ def step_of(draw, view):
 
 def line_of(draw, shape, depth):
     """A line of the table, and what is written of it."""
-    view = numpy.arange(math.prod(shape), dtype=numpy.uint8).reshape(shape)
+    array = numpy.arange(math.prod(shape), dtype=numpy.uint8)
+    view = array.reshape(shape)
     steps = []
     for _ in range(depth):
         text, view = step_of(draw, view)
@@ -234,12 +239,13 @@ def line_of(draw, shape, depth):
     line = " ".join([shape_text(shape), *steps])
     if view is None:
         return line, "refused"
-    entries = shape_text(view.shape)
-    if 0 in view.shape:
-        return line, entries
-    # (of a dimension of one entry no place depends on the stride)
-    strides = [stride if n > 1 else "-" for n, stride in zip(view.shape, view.strides)]
-    return line, " ".join([entries, tuple_text(map(str, strides)), *map(str, numpy.asarray(view).flatten().tolist())])
+    shown = [shape_text(view.shape)]
+    if 0 not in view.shape:
+        # (of a dimension of one entry no place depends on the stride)
+        strides = [stride if n > 1 else "-" for n, stride in zip(view.shape, view.strides)]
+        shown += [tuple_text(map(str, strides)), *map(str, view.flatten().tolist())]
+    view[...] = numpy.arange(FIRST, FIRST + view.size, dtype=numpy.uint8).reshape(view.shape)
+    return line, " ".join([*shown, "=", *map(str, array.tolist())])
 
 
 def table():

@@ -1,15 +1,18 @@
 //! Prints the views that steps make of arrays, a line for each line that is read: the shape, the strides and the items of
-//! the last view, or that a step was refused. What is read and what must come out is written by `tools/numpy_views.py`, by
+//! the last view, and behind `=` the bytes of the array once others were assigned to these items, from 100 on; or that a step
+//! was refused. What is read and what must come out is written by `tools/numpy_views.py`, by
 //! NumPy's own views.
 //!
 //! A line has the shape of an array, whose items are bytes that lie one after the other, and steps: `slice` and a tuple of
 //! slices, `order` and the axes, `turn`, `pick` and an axis and a place. An item is shown by its place.
 #![tactic(auto)]
 
+mod assigned;
 mod orders;
 mod shown;
 mod steps;
 
+use assigned::push_assigned;
 use pybuf_line::{Unread, fill_words, next_line, value};
 use pybuf_value::{Made, NoMemory, Value};
 use shown::push_view;
@@ -101,7 +104,11 @@ fn last_view(alloc: Global, words: &[&[u8]]) -> Made<Option<View>> {
 /// Adds the line of a line.
 fn push_line(alloc: Global, out: &mut String, words: &[&[u8]]) -> Made<()> {
     match last_view(alloc, words)? {
-        Some(view) => push_view(alloc, out, &view)?,
+        Some(view) => {
+            if push_view(alloc, out, &view)? {
+                push_assigned(alloc, out, view)?;
+            }
+        }
         None => out.push_str("refused")?,
     }
     out.push_str("\n")?;

@@ -42,16 +42,16 @@ fn push_strides(alloc: Global, out: &mut String, dims: &[(usize, isize, isize)])
     Ok(())
 }
 
-/// Adds a view: its shape, and where it has items its strides and the places of these.
-pub fn push_view(alloc: Global, out: &mut String, view: &View) -> Made<()> {
+/// Adds a view: its shape, and where it has items its strides and the places of these. Says whether it is valid.
+pub fn push_view(alloc: Global, out: &mut String, view: &View) -> Made<bool> {
     let desc = &view.desc;
     if desc.validate(view.start, ROOM).is_err() {
         out.push_str("refused")?;
-        return Ok(());
+        return Ok(false);
     }
     push_shape(alloc, out, desc.dim_desc())?;
     if desc.is_zero_in_shape() {
-        return Ok(());
+        return Ok(true);
     }
     push_strides(alloc, out, desc.dim_desc())?;
     for range in desc.segments(view.start, false) {
@@ -59,5 +59,5 @@ pub fn push_view(alloc: Global, out: &mut String, view: &View) -> Made<()> {
         let shown = format!(in alloc; " {place}")?;
         out.push_str(shown.as_str())?;
     }
-    Ok(())
+    Ok(true)
 }

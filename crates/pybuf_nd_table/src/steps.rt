@@ -12,11 +12,12 @@ use std::alloc::Global;
 /// As many bytes as the greatest array has.
 pub const ROOM: usize = 81;
 
-/// A view: a descriptor, and where its items start.
+/// A view: a descriptor, where its items start, and how many bytes the array has.
 #[derive(Debug, Drop)]
 pub struct View {
     pub desc: BufferDescriptor,
     pub start: usize,
+    pub bytes: usize,
 }
 
 /// How many items a shape has.
@@ -34,11 +35,12 @@ fn row_major(alloc: Global, shape: &[usize]) -> Made<BufferDescriptor> {
     for k in 0..shape.len() {
         let stride = items_of(&shape[k + 1..]);
         if stride > ROOM {
-            return Ok(BufferDescriptor::raw(0, true, 0, Text::new(alloc), dims));
+            return Ok(BufferDescriptor::raw(0, false, 0, Text::new(alloc), dims));
         }
         dims.push((shape[k], stride as isize, 0))?;
     }
-    Ok(BufferDescriptor::raw(items_of(shape), true, 1, Text::new(alloc), dims))
+    let format = Text::from_string(String::from_str(alloc, "B")?);
+    Ok(BufferDescriptor::raw(items_of(shape), false, 1, format, dims))
 }
 
 /// Numbers from 0 on, as counts.
@@ -65,7 +67,12 @@ pub fn whole(alloc: Global, told: Option<&Value>) -> Made<Option<View>> {
         return Ok(None);
     };
     let desc = row_major(alloc, shape.as_slice())?;
-    Ok(Some(View { desc, start: 0 }))
+    let bytes = desc.len();
+    Ok(Some(View {
+        desc,
+        start: 0,
+        bytes,
+    }))
 }
 
 /// Slices, where none is refused.
@@ -95,7 +102,11 @@ fn sliced(alloc: Global, view: &View, slices: &[PySlice]) -> Made<Option<View>> 
         return Ok(None);
     }
     match slice_all(alloc, &view.desc, view.start, list.as_slice())? {
-        Outcome::Done((desc, start)) => Ok(Some(View { desc, start })),
+        Outcome::Done((desc, start)) => Ok(Some(View {
+            desc,
+            start,
+            bytes: view.bytes,
+        })),
         Outcome::Refused(_) => Ok(None),
     }
 }
@@ -112,6 +123,7 @@ fn ordered(alloc: Global, view: &View, axes: &[usize]) -> Made<Option<View>> {
         Outcome::Done(desc) => Ok(Some(View {
             desc,
             start: view.start,
+            bytes: view.bytes,
         })),
         Outcome::Refused(_) => Ok(None),
     }
@@ -126,6 +138,7 @@ fn turned(alloc: Global, view: &View) -> Made<Option<View>> {
         Outcome::Done(desc) => Ok(Some(View {
             desc,
             start: view.start,
+            bytes: view.bytes,
         })),
         Outcome::Refused(_) => Ok(None),
     }
@@ -152,7 +165,11 @@ fn picked(alloc: Global, view: &View, axis: &Scalar, place: &Scalar) -> Made<Opt
         return Ok(None);
     }
     match pick(alloc, &view.desc, view.start, axis, place)? {
-        Outcome::Done((desc, start)) => Ok(Some(View { desc, start })),
+        Outcome::Done((desc, start)) => Ok(Some(View {
+            desc,
+            start,
+            bytes: view.bytes,
+        })),
         Outcome::Refused(_) => Ok(None),
     }
 }
