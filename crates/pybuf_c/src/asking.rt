@@ -11,6 +11,7 @@ use pybuf_value::NoMemory;
 use std::alloc::Global;
 
 /// Asks a command, whose reply the world keeps.
+#[inline(always)]
 pub fn ask(handle: &mut WorldHandle, alloc: Global, command: Command) -> u32
     ensures memory { result ≡ 1 → held handle.new ≡ held handle.old }
     ensures none { result ≡ 2 → NoneHold (held handle.old) (held handle.new) }

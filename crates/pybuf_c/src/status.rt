@@ -23,6 +23,7 @@ pub const BAD_ARGUMENT: u32 = 6;
 pub const NO_FORMAT: u32 = 9;
 
 /// The number of a refusal.
+#[inline(always)]
 pub fn fault_number(fault: Fault) -> u32
     ensures { result ≡ spec.fault_number fault }
 {
@@ -39,6 +40,7 @@ pub fn fault_number(fault: Fault) -> u32
 }
 
 /// The number of a reply to a command.
+#[inline(always)]
 pub fn answer_number(refusal: Option<Fault>) -> u32
     ensures { result ≡ spec.answer_number refusal }
 {

@@ -25,6 +25,7 @@ impl Model for ConsoleAddress {
 
 impl ConsoleAddress {
     /// No address.
+    #[inline(always)]
     pub fn empty(alloc: Global) -> ConsoleAddress
         ensures { result.full ≡ false }
     {
@@ -35,6 +36,7 @@ impl ConsoleAddress {
     }
 
     /// The address of a block.
+    #[inline(always)]
     pub fn of(block: Block<Console, Global>) -> ConsoleAddress
         ensures full { result.full ≡ true }
         ensures console { result.console ≡ block.value }
@@ -47,6 +49,7 @@ impl ConsoleAddress {
     }
 
     /// The block of an address.
+    #[inline(always)]
     pub fn into_block(self) -> Block<Console, Global>
         requires { self.full ≡ true }
         ensures { result.value ≡ self.console }

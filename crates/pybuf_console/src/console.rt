@@ -88,6 +88,7 @@ impl Console {
     }
 
     /// Carries out one command, whose reply is the last one then.
+    #[inline(always)]
     pub fn ask(&mut self, command: &Command) -> Made<()>
         ensures ok { OnOk result (HasAsked command.now self.old self.new) }
         ensures err { OnErr result (self.new ≡ self.old) }
@@ -97,6 +98,7 @@ impl Console {
     }
 
     /// Why the last command was refused, where it was.
+    #[inline(always)]
     pub fn refusal(&self) -> Option<Fault>
         ensures { result ≡ refusal_of self.now.last }
     {
@@ -107,6 +109,7 @@ impl Console {
     }
 
     /// The reply of the last command.
+    #[inline(always)]
     pub fn last(&self) -> &Reply
         ensures { result.now ≡ self.now.last }
     {

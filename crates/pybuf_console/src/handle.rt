@@ -25,6 +25,7 @@ impl WorldHandle {
     ghost use Rattle.pybuf_console.specs.Held.{held};
 
     /// A handle that holds no console.
+    #[inline(always)]
     pub fn empty(alloc: Global) -> WorldHandle
         ensures { held result ≡ None }
     {
@@ -35,6 +36,7 @@ impl WorldHandle {
     }
 
     /// The handle of a console.
+    #[inline(always)]
     pub fn of(console: Box<Console, Global>) -> WorldHandle
         ensures { held result ≡ Some console.value }
     {
@@ -45,6 +47,7 @@ impl WorldHandle {
     }
 
     /// The console of the handle.
+    #[inline(always)]
     fn into_console(self) -> Option<Box<Console, Global>>
         ensures { MatchOption result (held self ≡ None) (λ console. held self ≡ Some console.value) }
     {
@@ -57,6 +60,7 @@ impl WorldHandle {
     }
 
     /// Takes the console out of the handle, which holds none then.
+    #[inline(always)]
     pub fn take(&mut self, alloc: Global) -> Option<Box<Console, Global>>
         ensures empty { held self.new ≡ None }
         ensures taken { MatchOption result (held self.old ≡ None) (λ console. held self.old ≡ Some console.value) }
@@ -65,6 +69,7 @@ impl WorldHandle {
     }
 
     /// Puts a console into the handle. One that it held is freed.
+    #[inline(always)]
     pub fn put(&mut self, console: Box<Console, Global>)
         ensures { held self.new ≡ Some console.value }
     {

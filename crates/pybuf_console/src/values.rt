@@ -20,6 +20,7 @@ pub struct SliceWords {
 }
 
 /// A number as a value.
+#[inline(always)]
 pub fn number_value(number: i128) -> Value
     ensures { result ≡ spec.number_value number }
 {
@@ -27,6 +28,7 @@ pub fn number_value(number: i128) -> Value
 }
 
 /// What an object names, as a value.
+#[inline(always)]
 pub fn object_value(handle: u64) -> Value
     ensures { result ≡ spec.object_value handle }
 {

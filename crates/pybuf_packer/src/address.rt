@@ -25,6 +25,7 @@ impl Model for PackerAddress {
 
 impl PackerAddress {
     /// No address.
+    #[inline(always)]
     pub fn empty(alloc: Global) -> PackerAddress
         ensures { result.full ≡ false }
     {
@@ -35,6 +36,7 @@ impl PackerAddress {
     }
 
     /// The address of a block.
+    #[inline(always)]
     pub fn of(block: Block<Packer, Global>) -> PackerAddress
         ensures full { result.full ≡ true }
         ensures packer { result.packer ≡ block.value }
@@ -47,6 +49,7 @@ impl PackerAddress {
     }
 
     /// The block of an address.
+    #[inline(always)]
     pub fn into_block(self) -> Block<Packer, Global>
         requires { self.full ≡ true }
         ensures { result.value ≡ self.packer }

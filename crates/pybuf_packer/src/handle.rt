@@ -25,6 +25,7 @@ impl FormatHandle {
     ghost use Rattle.pybuf_packer.specs.Held.{held};
 
     /// A handle that holds no packer.
+    #[inline(always)]
     pub fn empty(alloc: Global) -> FormatHandle
         ensures { held result ≡ None }
     {
@@ -35,6 +36,7 @@ impl FormatHandle {
     }
 
     /// The handle of a packer.
+    #[inline(always)]
     pub fn of(packer: Box<Packer, Global>) -> FormatHandle
         ensures { held result ≡ Some packer.value }
     {
@@ -45,6 +47,7 @@ impl FormatHandle {
     }
 
     /// The packer of the handle.
+    #[inline(always)]
     fn into_packer(self) -> Option<Box<Packer, Global>>
         ensures { MatchOption result (held self ≡ None) (λ packer. held self ≡ Some packer.value) }
     {
@@ -57,6 +60,7 @@ impl FormatHandle {
     }
 
     /// Takes the packer out of the handle, which holds none then.
+    #[inline(always)]
     pub fn take(&mut self, alloc: Global) -> Option<Box<Packer, Global>>
         ensures empty { held self.new ≡ None }
         ensures taken { MatchOption result (held self.old ≡ None) (λ packer. held self.old ≡ Some packer.value) }
@@ -65,6 +69,7 @@ impl FormatHandle {
     }
 
     /// Puts a packer into the handle. One that it held is freed.
+    #[inline(always)]
     pub fn put(&mut self, packer: Box<Packer, Global>)
         ensures { held self.new ≡ Some packer.value }
     {

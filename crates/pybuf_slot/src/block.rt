@@ -18,6 +18,7 @@ impl<T, A: Allocator> Model for Block<T, A> {
 
 impl<T, A: Allocator> Block<T, A> {
     /// The box, taken apart.
+    #[inline(always)]
     pub fn of(owned: Box<T, A>) -> Block<T, A>
     where
         T: Drop,
@@ -28,6 +29,7 @@ impl<T, A: Allocator> Block<T, A> {
     }
 
     /// The box again.
+    #[inline(always)]
     pub fn into_box(self) -> Box<T, A>
         ensures { result.value ≡ self.value }
     {
