@@ -41,6 +41,7 @@ uint32_t pybuf_proved_to_contiguous(proved_handle *handle, uint64_t subject);
 uint32_t pybuf_proved_cast(proved_handle *handle, uint64_t subject, const uint8_t *format, size_t format_length);
 uint32_t pybuf_proved_cast_to_shape(proved_handle *handle, uint64_t subject, const uint8_t *format, size_t format_length, const int64_t *shape, size_t shape_length);
 uint32_t pybuf_proved_get(proved_handle *handle, uint64_t subject, int64_t index);
+uint32_t pybuf_proved_get_number(proved_handle *handle, uint64_t subject, int64_t index, uint64_t *magnitude, bool *negative);
 uint32_t pybuf_proved_get_at(proved_handle *handle, uint64_t subject, const int64_t *indices, size_t indices_length);
 uint32_t pybuf_proved_get_slice(proved_handle *handle, uint64_t subject, const pybuf_slice *words);
 uint32_t pybuf_proved_set(proved_handle *handle, uint64_t subject, int64_t index, uint64_t magnitude, bool negative);

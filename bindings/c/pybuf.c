@@ -280,8 +280,10 @@ pybuf_status pybuf_get(pybuf_world *world, pybuf_object object, int64_t index, p
 {
     NEEDS_WORLD(world);
     NEEDS(item != NULL, PYBUF_NULL_POINTER);
-    ASKS(pybuf_proved_get(&world->handle, object, index));
-    return one_number(world, item);
+    pybuf_number found = {0, false};
+    ASKS(pybuf_proved_get_number(&world->handle, object, index, &found.magnitude, &found.negative));
+    *item = found;
+    return PYBUF_OK;
 }
 
 pybuf_status pybuf_get_at(pybuf_world *world, pybuf_object view, const int64_t *indices, size_t count, pybuf_number *item)

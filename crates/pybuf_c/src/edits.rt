@@ -9,7 +9,7 @@ ghost use Rattle.pybuf_crossing.specs.Words.{signed};
 ghost use Rattle.pybuf_c.specs.Holding.{BothHold, NoneHold};
 ghost use Rattle.pybuf_c.specs.Worlds.{Answers};
 
-use crate::asking::ask;
+use crate::asking::{ask, ask_unowned};
 use crate::status::NO_MEMORY;
 use pybuf_command::{Command, Verb};
 use pybuf_console::{SliceWords, WorldHandle, bytes_value, number_value, object_value, slice_of};
@@ -30,7 +30,7 @@ pub extern "C" fn pybuf_proved_append(
     ensures none { result ≡ 2 → NoneHold (held handle.old) (held handle.new) }
     ensures answered { result ≢ 1 → result ≢ 2 → BothHold (Answers (command.Do subject (verb.Append (number_value (signed negative magnitude)))) result) (held handle.old) (held handle.new) }
 {
-    ask(
+    ask_unowned(
         handle,
         alloc,
         Command::Do {
@@ -79,7 +79,7 @@ pub extern "C" fn pybuf_proved_extend_by(
     ensures none { result ≡ 2 → NoneHold (held handle.old) (held handle.new) }
     ensures answered { result ≢ 1 → result ≢ 2 → BothHold (Answers (command.Do subject (verb.Extend (object_value other))) result) (held handle.old) (held handle.new) }
 {
-    ask(
+    ask_unowned(
         handle,
         alloc,
         Command::Do {
@@ -105,7 +105,7 @@ pub extern "C" fn pybuf_proved_insert(
     ensures none { result ≡ 2 → NoneHold (held handle.old) (held handle.new) }
     ensures answered { result ≢ 1 → result ≢ 2 → BothHold (Answers (command.Do subject (verb.Insert (number_value index) (number_value (signed negative magnitude)))) result) (held handle.old) (held handle.new) }
 {
-    ask(
+    ask_unowned(
         handle,
         alloc,
         Command::Do {
@@ -130,7 +130,7 @@ pub extern "C" fn pybuf_proved_pop(
     ensures none { result ≡ 2 → NoneHold (held handle.old) (held handle.new) }
     ensures answered { result ≢ 1 → result ≢ 2 → BothHold (Answers (command.Do subject (verb.Pop (Some (number_value index)))) result) (held handle.old) (held handle.new) }
 {
-    ask(
+    ask_unowned(
         handle,
         alloc,
         Command::Do {
@@ -153,7 +153,7 @@ pub extern "C" fn pybuf_proved_pop_last(
     ensures none { result ≡ 2 → NoneHold (held handle.old) (held handle.new) }
     ensures answered { result ≢ 1 → result ≢ 2 → BothHold (Answers (command.Do subject (verb.Pop None)) result) (held handle.old) (held handle.new) }
 {
-    ask(
+    ask_unowned(
         handle,
         alloc,
         Command::Do {
@@ -176,7 +176,7 @@ pub extern "C" fn pybuf_proved_remove(
     ensures none { result ≡ 2 → NoneHold (held handle.old) (held handle.new) }
     ensures answered { result ≢ 1 → result ≢ 2 → BothHold (Answers (command.Do subject (verb.Remove (number_value (signed negative magnitude)))) result) (held handle.old) (held handle.new) }
 {
-    ask(
+    ask_unowned(
         handle,
         alloc,
         Command::Do {
@@ -195,7 +195,7 @@ pub extern "C" fn pybuf_proved_clear(handle: &mut WorldHandle, alloc: Global, su
     ensures none { result ≡ 2 → NoneHold (held handle.old) (held handle.new) }
     ensures answered { result ≢ 1 → result ≢ 2 → BothHold (Answers (command.Do subject verb.Clear) result) (held handle.old) (held handle.new) }
 {
-    ask(
+    ask_unowned(
         handle,
         alloc,
         Command::Do {
@@ -212,7 +212,7 @@ pub extern "C" fn pybuf_proved_reverse(handle: &mut WorldHandle, alloc: Global, 
     ensures none { result ≡ 2 → NoneHold (held handle.old) (held handle.new) }
     ensures answered { result ≢ 1 → result ≢ 2 → BothHold (Answers (command.Do subject verb.Reverse) result) (held handle.old) (held handle.new) }
 {
-    ask(
+    ask_unowned(
         handle,
         alloc,
         Command::Do {
@@ -234,7 +234,7 @@ pub extern "C" fn pybuf_proved_delete(
     ensures none { result ≡ 2 → NoneHold (held handle.old) (held handle.new) }
     ensures answered { result ≢ 1 → result ≢ 2 → BothHold (Answers (command.Do subject (verb.Del (number_value index))) result) (held handle.old) (held handle.new) }
 {
-    ask(
+    ask_unowned(
         handle,
         alloc,
         Command::Do {
@@ -258,7 +258,7 @@ pub extern "C" fn pybuf_proved_delete_slice(
     ensures none { result ≡ 2 → NoneHold (held handle.old) (held handle.new) }
     ensures answered { result ≢ 1 → result ≢ 2 → BothHold (Answers (command.Do subject (verb.Del (value.Slice (slice_of words.now)))) result) (held handle.old) (held handle.new) }
 {
-    ask(
+    ask_unowned(
         handle,
         alloc,
         Command::Do {
@@ -282,7 +282,7 @@ pub extern "C" fn pybuf_proved_repeat(
     ensures none { result ≡ 2 → NoneHold (held handle.old) (held handle.new) }
     ensures answered { result ≢ 1 → result ≢ 2 → BothHold (Answers (command.Do subject (verb.IMul (number_value count))) result) (held handle.old) (held handle.new) }
 {
-    ask(
+    ask_unowned(
         handle,
         alloc,
         Command::Do {
@@ -301,7 +301,7 @@ pub extern "C" fn pybuf_proved_copy(handle: &mut WorldHandle, alloc: Global, sub
     ensures none { result ≡ 2 → NoneHold (held handle.old) (held handle.new) }
     ensures answered { result ≢ 1 → result ≢ 2 → BothHold (Answers (command.Do subject verb.Copy) result) (held handle.old) (held handle.new) }
 {
-    ask(
+    ask_unowned(
         handle,
         alloc,
         Command::Do {
@@ -318,7 +318,7 @@ pub extern "C" fn pybuf_proved_take(handle: &mut WorldHandle, alloc: Global, sub
     ensures none { result ≡ 2 → NoneHold (held handle.old) (held handle.new) }
     ensures answered { result ≢ 1 → result ≢ 2 → BothHold (Answers (command.Do subject verb.Take) result) (held handle.old) (held handle.new) }
 {
-    ask(
+    ask_unowned(
         handle,
         alloc,
         Command::Do {

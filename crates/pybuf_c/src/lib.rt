@@ -25,11 +25,11 @@ pub use formats::{
 pub use objects::{
     pybuf_proved_bytes, pybuf_proved_cast, pybuf_proved_cast_to_shape, pybuf_proved_compare,
     pybuf_proved_compare_with, pybuf_proved_contains, pybuf_proved_contains_byte, pybuf_proved_get,
-    pybuf_proved_get_at, pybuf_proved_get_slice, pybuf_proved_items, pybuf_proved_iterate,
-    pybuf_proved_length, pybuf_proved_new, pybuf_proved_next, pybuf_proved_property,
-    pybuf_proved_release, pybuf_proved_set, pybuf_proved_set_at, pybuf_proved_set_slice,
-    pybuf_proved_set_slice_of, pybuf_proved_shown, pybuf_proved_to_contiguous,
-    pybuf_proved_to_readonly, pybuf_proved_view,
+    pybuf_proved_get_at, pybuf_proved_get_number, pybuf_proved_get_slice, pybuf_proved_items,
+    pybuf_proved_iterate, pybuf_proved_length, pybuf_proved_new, pybuf_proved_next,
+    pybuf_proved_property, pybuf_proved_release, pybuf_proved_set, pybuf_proved_set_at,
+    pybuf_proved_set_slice, pybuf_proved_set_slice_of, pybuf_proved_shown,
+    pybuf_proved_to_contiguous, pybuf_proved_to_readonly, pybuf_proved_view,
 };
 pub use replies::{
     pybuf_proved_last_bytes, pybuf_proved_last_kind, pybuf_proved_last_number,

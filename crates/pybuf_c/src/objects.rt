@@ -1,5 +1,5 @@
 //! Commands for the objects of a world, by numbers and bytes.
-ghost use Rattle.std.specs.Prelude.{◌≡◌, ◌≢◌, ◌<◌, Some, None};
+ghost use Rattle.std.specs.Prelude.{◌≡◌, ◌≢◌, ◌<◌, Some, None, IsSomeAnd};
 ghost use Rattle.pybuf_command.specs.declared.commands.Verb.TheVariants as verb;
 ghost use Rattle.pybuf_command.specs.declared.worlds.Command.TheVariants as command;
 ghost use Rattle.pybuf_value.specs.declared.values.Value.TheVariants as value;
@@ -7,24 +7,27 @@ ghost use Rattle.pybuf_console.specs.Held.{held};
 ghost use Rattle.pybuf_console.specs.Values.{bytes_value, number_value, object_value, slice_of, source_of, text_value, tuple_of};
 ghost use Rattle.pybuf_crossing.specs.Words.{signed};
 ghost use Rattle.pybuf_c.specs.Holding.{BothHold, NoneHold};
-ghost use Rattle.pybuf_c.specs.Worlds.{Answers};
+ghost use Rattle.pybuf_console.specs.Console.{HasAsked};
+ghost use Rattle.pybuf_console.specs.Replies as replies;
+ghost use Rattle.pybuf_c.specs.Worlds.{Answers, HasNoNumber, IsRefusedBy};
 ghost use Rattle.std.specs.Str.{IsUtf8};
 ghost use Rattle.pybuf_command.specs.declared.kinds.ExporterKind.{ExporterKind};
 ghost use Rattle.pybuf_command.specs.declared.commands.PropertyName.{PropertyName};
 ghost use Rattle.pybuf_value.specs.declared.values.CompareOp.{CompareOp};
 ghost use Rattle.pybuf_c.specs.Numbers.{kind_number, operator_number, property_number};
 
-use crate::asking::ask;
+use crate::asking::{ask, ask_unowned};
 use crate::numbers::{kind_numbered, operator_numbered, property_numbered};
-use crate::status::{BAD_ARGUMENT, NO_MEMORY};
+use crate::status::{BAD_ARGUMENT, NO_MEMORY, NO_WORLD, NOTHING, OK, fault_number};
 use pybuf_command::{Command, Verb};
 use pybuf_console::{
-    SliceWords, WorldHandle, bytes_value, number_value, object_value, slice_of, source_of,
-    text_value, tuple_of,
+    SliceWords, WorldHandle, bytes_value, number_of, number_value, object_value, slice_of,
+    source_of, text_value, tuple_of,
 };
-use pybuf_crossing::signed;
+use pybuf_crossing::{signed, word_of};
 use pybuf_value::{NoMemory, Value};
 use std::alloc::Global;
+use std::mem;
 
 /// Makes an exporter of a kind, of these bytes.
 #[unsafe(no_mangle)]
@@ -56,7 +59,7 @@ pub extern "C" fn pybuf_proved_view(handle: &mut WorldHandle, alloc: Global, sub
     ensures none { result ≡ 2 → NoneHold (held handle.old) (held handle.new) }
     ensures answered { result ≢ 1 → result ≢ 2 → BothHold (Answers (command.Do subject verb.View) result) (held handle.old) (held handle.new) }
 {
-    ask(
+    ask_unowned(
         handle,
         alloc,
         Command::Do {
@@ -77,7 +80,7 @@ pub extern "C" fn pybuf_proved_to_readonly(
     ensures none { result ≡ 2 → NoneHold (held handle.old) (held handle.new) }
     ensures answered { result ≢ 1 → result ≢ 2 → BothHold (Answers (command.Do subject verb.ToReadonly) result) (held handle.old) (held handle.new) }
 {
-    ask(
+    ask_unowned(
         handle,
         alloc,
         Command::Do {
@@ -98,7 +101,7 @@ pub extern "C" fn pybuf_proved_to_contiguous(
     ensures none { result ≡ 2 → NoneHold (held handle.old) (held handle.new) }
     ensures answered { result ≢ 1 → result ≢ 2 → BothHold (Answers (command.Do subject verb.ToContiguous) result) (held handle.old) (held handle.new) }
 {
-    ask(
+    ask_unowned(
         handle,
         alloc,
         Command::Do {
@@ -186,7 +189,7 @@ pub extern "C" fn pybuf_proved_get(
     ensures none { result ≡ 2 → NoneHold (held handle.old) (held handle.new) }
     ensures answered { result ≢ 1 → result ≢ 2 → BothHold (Answers (command.Do subject (verb.Get (number_value index))) result) (held handle.old) (held handle.new) }
 {
-    ask(
+    ask_unowned(
         handle,
         alloc,
         Command::Do {
@@ -196,6 +199,49 @@ pub extern "C" fn pybuf_proved_get(
             },
         },
     )
+}
+
+/// Reads the item at an index, and tells it as a size and a sign where it is a number.
+#[unsafe(no_mangle)]
+pub extern "C" fn pybuf_proved_get_number(
+    handle: &mut WorldHandle,
+    alloc: Global,
+    subject: u64,
+    index: i64,
+    magnitude: &mut u64,
+    negative: &mut bool,
+) -> u32
+    ensures memory { result ≡ 1 → held handle.new ≡ held handle.old }
+    ensures none { result ≡ 2 → NoneHold (held handle.old) (held handle.new) }
+    ensures asked { result ≢ 1 → result ≢ 2 → BothHold (HasAsked (command.Do subject (verb.Get (number_value index)))) (held handle.old) (held handle.new) }
+    ensures ok { result ≡ 0 → IsSomeAnd (held handle.new) (λ console. replies.number_of console.last ≡ Some (signed negative.new magnitude.new)) }
+    ensures nothing { result ≡ 5 → IsSomeAnd (held handle.new) (λ console. HasNoNumber console.last) }
+    ensures refused { result ≢ 0 → result ≢ 1 → result ≢ 2 → result ≢ 5 → IsSomeAnd (held handle.new) (λ console. IsRefusedBy result console.last) }
+{
+    let Some(mut console) = handle.take(alloc) else {
+        return NO_WORLD;
+    };
+    let command = Command::Do {
+        subject,
+        verb: Verb::Get {
+            key: number_value(index as i128),
+        },
+    };
+    let asked = console.ask(&command);
+    mem::forget(command);
+    let refusal = console.refusal();
+    let word = word_of(number_of(console.last()));
+    handle.put(console);
+    match (asked, refusal, word) {
+        (Err(NoMemory), _, _) => NO_MEMORY,
+        (Ok(()), Some(fault), _) => fault_number(fault),
+        (Ok(()), None, Some((size, below))) => {
+            *magnitude = size;
+            *negative = below;
+            OK
+        }
+        (Ok(()), None, None) => NOTHING,
+    }
 }
 
 /// Reads the item at an index for each dimension.
@@ -235,7 +281,7 @@ pub extern "C" fn pybuf_proved_get_slice(
     ensures none { result ≡ 2 → NoneHold (held handle.old) (held handle.new) }
     ensures answered { result ≢ 1 → result ≢ 2 → BothHold (Answers (command.Do subject (verb.Get (value.Slice (slice_of words.now)))) result) (held handle.old) (held handle.new) }
 {
-    ask(
+    ask_unowned(
         handle,
         alloc,
         Command::Do {
@@ -261,7 +307,7 @@ pub extern "C" fn pybuf_proved_set(
     ensures none { result ≡ 2 → NoneHold (held handle.old) (held handle.new) }
     ensures answered { result ≢ 1 → result ≢ 2 → BothHold (Answers (command.Do subject (verb.Set (number_value index) (number_value (signed negative magnitude)))) result) (held handle.old) (held handle.new) }
 {
-    ask(
+    ask_unowned(
         handle,
         alloc,
         Command::Do {
@@ -346,7 +392,7 @@ pub extern "C" fn pybuf_proved_set_slice_of(
     ensures none { result ≡ 2 → NoneHold (held handle.old) (held handle.new) }
     ensures answered { result ≢ 1 → result ≢ 2 → BothHold (Answers (command.Do subject (verb.Set (value.Slice (slice_of words.now)) (object_value other))) result) (held handle.old) (held handle.new) }
 {
-    ask(
+    ask_unowned(
         handle,
         alloc,
         Command::Do {
@@ -366,7 +412,7 @@ pub extern "C" fn pybuf_proved_release(handle: &mut WorldHandle, alloc: Global, 
     ensures none { result ≡ 2 → NoneHold (held handle.old) (held handle.new) }
     ensures answered { result ≢ 1 → result ≢ 2 → BothHold (Answers (command.Do subject verb.Release) result) (held handle.old) (held handle.new) }
 {
-    ask(
+    ask_unowned(
         handle,
         alloc,
         Command::Do {
@@ -383,7 +429,7 @@ pub extern "C" fn pybuf_proved_length(handle: &mut WorldHandle, alloc: Global, s
     ensures none { result ≡ 2 → NoneHold (held handle.old) (held handle.new) }
     ensures answered { result ≢ 1 → result ≢ 2 → BothHold (Answers (command.Do subject verb.Len) result) (held handle.old) (held handle.new) }
 {
-    ask(
+    ask_unowned(
         handle,
         alloc,
         Command::Do {
@@ -400,7 +446,7 @@ pub extern "C" fn pybuf_proved_bytes(handle: &mut WorldHandle, alloc: Global, su
     ensures none { result ≡ 2 → NoneHold (held handle.old) (held handle.new) }
     ensures answered { result ≢ 1 → result ≢ 2 → BothHold (Answers (command.Do subject verb.ToBytes) result) (held handle.old) (held handle.new) }
 {
-    ask(
+    ask_unowned(
         handle,
         alloc,
         Command::Do {
@@ -417,7 +463,7 @@ pub extern "C" fn pybuf_proved_items(handle: &mut WorldHandle, alloc: Global, su
     ensures none { result ≡ 2 → NoneHold (held handle.old) (held handle.new) }
     ensures answered { result ≢ 1 → result ≢ 2 → BothHold (Answers (command.Do subject verb.ToList) result) (held handle.old) (held handle.new) }
 {
-    ask(
+    ask_unowned(
         handle,
         alloc,
         Command::Do {
@@ -442,7 +488,7 @@ pub extern "C" fn pybuf_proved_property(
     ensures answered { result ≢ 1 → result ≢ 2 → result ≢ 6 → (asked : PropertyName) → property_number asked ≡ name → BothHold (Answers (command.Do subject (verb.Property asked)) result) (held handle.old) (held handle.new) }
 {
     match property_numbered(name) {
-        Some(name) => ask(
+        Some(name) => ask_unowned(
             handle,
             alloc,
             Command::Do {
@@ -501,7 +547,7 @@ pub extern "C" fn pybuf_proved_compare_with(
     ensures answered { result ≢ 1 → result ≢ 2 → result ≢ 6 → (op : CompareOp) → operator_number op ≡ operator → BothHold (Answers (command.Do subject (verb.Compare op (object_value other))) result) (held handle.old) (held handle.new) }
 {
     match operator_numbered(operator) {
-        Some(op) => ask(
+        Some(op) => ask_unowned(
             handle,
             alloc,
             Command::Do {
@@ -554,7 +600,7 @@ pub extern "C" fn pybuf_proved_contains_byte(
     ensures none { result ≡ 2 → NoneHold (held handle.old) (held handle.new) }
     ensures answered { result ≢ 1 → result ≢ 2 → BothHold (Answers (command.Do subject (verb.Contains (number_value (signed negative magnitude)))) result) (held handle.old) (held handle.new) }
 {
-    ask(
+    ask_unowned(
         handle,
         alloc,
         Command::Do {
@@ -573,7 +619,7 @@ pub extern "C" fn pybuf_proved_iterate(handle: &mut WorldHandle, alloc: Global, 
     ensures none { result ≡ 2 → NoneHold (held handle.old) (held handle.new) }
     ensures answered { result ≢ 1 → result ≢ 2 → BothHold (Answers (command.Do subject verb.Iter) result) (held handle.old) (held handle.new) }
 {
-    ask(
+    ask_unowned(
         handle,
         alloc,
         Command::Do {
@@ -590,7 +636,7 @@ pub extern "C" fn pybuf_proved_next(handle: &mut WorldHandle, alloc: Global, sub
     ensures none { result ≡ 2 → NoneHold (held handle.old) (held handle.new) }
     ensures answered { result ≢ 1 → result ≢ 2 → BothHold (Answers (command.Do subject verb.Next) result) (held handle.old) (held handle.new) }
 {
-    ask(
+    ask_unowned(
         handle,
         alloc,
         Command::Do {
@@ -607,7 +653,7 @@ pub extern "C" fn pybuf_proved_shown(handle: &mut WorldHandle, alloc: Global, su
     ensures none { result ≡ 2 → NoneHold (held handle.old) (held handle.new) }
     ensures answered { result ≢ 1 → result ≢ 2 → BothHold (Answers (command.Do subject verb.Repr) result) (held handle.old) (held handle.new) }
 {
-    ask(
+    ask_unowned(
         handle,
         alloc,
         Command::Do {

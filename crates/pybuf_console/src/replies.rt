@@ -18,6 +18,7 @@ pub fn objects_of(reply: &Reply) -> Option<(u64, u64)>
 }
 
 /// A truth value as 0 or 1.
+#[inline(always)]
 fn truth_number(truth: bool) -> i128
     ensures { result ≡ spec.truth_number truth }
 {
@@ -25,6 +26,7 @@ fn truth_number(truth: bool) -> i128
 }
 
 /// A number, or a truth value as 0 or 1.
+#[inline(always)]
 fn number_of_scalar(scalar: &Scalar) -> Option<i128>
     ensures { result ≡ spec.number_of_scalar scalar.now }
 {
@@ -35,6 +37,7 @@ fn number_of_scalar(scalar: &Scalar) -> Option<i128>
     }
 }
 
+#[inline(always)]
 fn number_of_item(item: &Item) -> Option<i128>
     ensures { result ≡ spec.number_of_item item.now }
 {
@@ -45,6 +48,7 @@ fn number_of_item(item: &Item) -> Option<i128>
 }
 
 /// The number that a reply is.
+#[inline(always)]
 pub fn number_of(reply: &Reply) -> Option<i128>
     ensures { result ≡ spec.number_of reply.now }
 {

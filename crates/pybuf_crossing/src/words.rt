@@ -3,6 +3,7 @@ ghost use Rattle.std.specs.Prelude.{◌≡◌, Some, MatchOption};
 ghost use Rattle.pybuf_crossing.specs.Words as spec;
 
 /// The number of a size and a sign.
+#[inline(always)]
 pub fn signed(negative: bool, magnitude: u64) -> i128
     ensures { result ≡ spec.signed negative magnitude }
 {
@@ -14,6 +15,7 @@ pub fn signed(negative: bool, magnitude: u64) -> i128
 }
 
 /// The size and the sign of a number, where there is one that a `u64` holds.
+#[inline(always)]
 pub fn word_of(number: Option<i128>) -> Option<(u64, bool)>
     ensures { MatchOption result (spec.IsNoWord number) (λ word. number ≡ Some (spec.signed word.1 word.0)) }
 {
