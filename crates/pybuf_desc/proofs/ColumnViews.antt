@@ -78,7 +78,7 @@ column_places_by_indices (dim ∷ dims) p =
 
 -- ---- the items of a view
 
-number_is : (indices : List ℕ) (dims : List (ℕ × ℤ × ℤ)) → number_of_item indices dims ≡ number_at (shape_of dims) indices
+pub number_is : (indices : List ℕ) (dims : List (ℕ × ℤ × ℤ)) → number_of_item indices dims ≡ number_at (shape_of dims) indices
 number_is [] [] = refl
 number_is [] (dim ∷ dims) = refl
 number_is (index ∷ indices) [] = refl

@@ -27,7 +27,7 @@ use Rattle.pybuf_desc.proofs.ColumnViews.{all-append, column_indices, column_pla
 
 -- ---- the dimensions, the last first
 
-reverse_cons : {X : Type 0} (x : X) (xs : List X) → reverse (x ∷ xs) ≡ reverse xs ++ x ∷ []
+pub reverse_cons : {X : Type 0} (x : X) (xs : List X) → reverse (x ∷ xs) ≡ reverse xs ++ x ∷ []
 reverse_cons x xs = reverse-append (x ∷ []) xs
 
 take_set : {X : Type 0} (xs : List X) (k : ℕ) (x : X) → k < length xs → take (suc k) (set xs k x) ≡ take k xs ++ x ∷ []
@@ -53,11 +53,11 @@ places_turned (dim ∷ dims) p =
 
 -- ---- inside
 
-all_mapped : {X A : Type 0} (P : X → Type 0) (Q : A → Type 0) (f : X → A) (xs : List X) → AllByRecursion P xs → ((x : X) → P x → Q (f x)) → AllByRecursion Q (map f xs)
+pub all_mapped : {X A : Type 0} (P : X → Type 0) (Q : A → Type 0) (f : X → A) (xs : List X) → AllByRecursion P xs → ((x : X) → P x → Q (f x)) → AllByRecursion Q (map f xs)
 all_mapped P Q f [] all each = tt
 all_mapped P Q f (x ∷ xs) all each = (each x all.0, all_mapped P Q f xs all.1 each)
 
-all_turned : {X : Type 0} (P : X → Type 0) (xs : List X) → AllByRecursion P xs → AllByRecursion P (reverse xs)
+pub all_turned : {X : Type 0} (P : X → Type 0) (xs : List X) → AllByRecursion P xs → AllByRecursion P (reverse xs)
 all_turned P [] all = tt
 all_turned P (x ∷ xs) all = subst (AllByRecursion P) (sym (reverse_cons x xs)) (all-append P (reverse xs) (x ∷ []) (all_turned P xs all.1) (all.0, tt))
 

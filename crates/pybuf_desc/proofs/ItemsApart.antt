@@ -17,7 +17,7 @@ use Rattle.pybuf_desc.specs.Casts.{cast_count}
 
 -- ---- items one after the other
 
-next_after : (i j size : ℕ) → i < j → i * size + size ≤ j * size
+pub next_after : (i j size : ℕ) → i < j → i * size + size ≤ j * size
 next_after i j size less = grind arith
 
 -- item k starts at a place plus k sizes
@@ -61,10 +61,10 @@ row_major_apart view = from_zero_apart view.itemsize (product view.shape)
 -- ---- the same by recursion
 
 -- two items of a size share no byte
-abbrev Clear : ℕ → ℕ → ℕ → Type 0
+abbrev pub Clear : ℕ → ℕ → ℕ → Type 0
 Clear size x y = (x + size ≤ y) ⊎ (y + size ≤ x)
 
-abbrev Spread : ℕ → List ℕ → Type 0
+abbrev pub Spread : ℕ → List ℕ → Type 0
 Spread size [] = Unit {0}
 Spread size (x ∷ xs) = All (Clear size x) xs × Spread size xs
 
@@ -75,7 +75,7 @@ spread_of size (x ∷ xs) apart = (
   spread_of size xs (λ i j less inside. apart (suc i) (suc j) (omega (arith, less)) (let there : suc j < length (x ∷ xs) = omega (arith, inside) in there)),
 )
 
-apart_of : (size : ℕ) (xs : List ℕ) → Spread size xs → AreApart size xs
+pub apart_of : (size : ℕ) (xs : List ℕ) → Spread size xs → AreApart size xs
 apart_of size [] spread i j less inside = absurd (omega (arith, inside))
 apart_of size (x ∷ xs) spread i zero less inside = absurd (omega (arith, less))
 apart_of size (x ∷ xs) spread zero (suc j) less inside = All-get_or (Clear size x) xs j 0 (let there : j < length xs = omega (arith, inside) in there) spread.0
@@ -91,7 +91,7 @@ spread-drop size zero xs spread = spread
 spread-drop size (suc n) [] spread = tt
 spread-drop size (suc n) (x ∷ xs) spread = spread-drop size n xs spread.1
 
-spread-append : (size : ℕ) (xs ys : List ℕ) → Spread size xs → Spread size ys → All (λ x. All (Clear size x) ys) xs → Spread size (xs ++ ys)
+pub spread-append : (size : ℕ) (xs ys : List ℕ) → Spread size xs → Spread size ys → All (λ x. All (Clear size x) ys) xs → Spread size (xs ++ ys)
 spread-append size [] ys left right between = right
 spread-append size (x ∷ xs) ys left right between = (
   All-append (Clear size x) xs ys left.0 (All-head (λ z. All (Clear size z) ys) x xs between),

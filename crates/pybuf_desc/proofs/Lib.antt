@@ -4,6 +4,9 @@ pub mod Products
 pub mod Validity
 pub mod Runs
 pub mod Track
+mod TurnedDims
+pub mod ColumnItems
+pub mod ColumnApart
 pub mod Indices
 pub mod Moves
 pub mod FromTheEnd

@@ -1,8 +1,9 @@
 -- The items of a view in column order.
-use Rattle.std.specs.Prelude.{ℕ, ◌+◌, ◌*◌, Bool, ◌||◌, ◌==◌, List, [], ◌∷◌, length, map, slice_index, bytes_eq}
+use Rattle.std.specs.Prelude.{ℕ, ◌+◌, ◌*◌, Bool, ◌||◌, ◌==◌, List, [], ◌∷◌, length, map, reverse, slice_index, bytes_eq}
 use Rattle.std.specs.List.{flat_map, range_with_len}
 use Rattle.pybuf_desc.specs.Layouts.{Layout, product}
 use Rattle.pybuf_desc.specs.Contiguous.{starts_from}
+use Rattle.pybuf_desc.specs.Items.{bytes_of_items}
 
 -- the number of the item at the indices, row-major
 abbrev pub number_at : List ℕ → List ℕ → ℕ
@@ -27,3 +28,11 @@ column_starts view = map (λ indices. start_at view indices) (column_index_lists
 abbrev pub is_f_contiguous_layout : Layout → Bool
 is_f_contiguous_layout view =
     length view.starts == 0 || bytes_eq (column_starts view) (starts_from view.starts view.itemsize (length view.starts))
+
+-- The view of the same items whose row-major order is the column order of this one: its dimensions stand the last first.
+abbrev pub columns_of : Layout → Layout
+columns_of view = record view { shape = reverse view.shape; starts = column_starts view; strides = reverse view.strides }
+
+-- the bytes of a view's items, in column order
+abbrev pub column_content : List ℕ → Layout → List ℕ
+column_content bytes view = bytes_of_items bytes view.itemsize (column_starts view)

@@ -8,7 +8,7 @@ use Rattle.pybuf_desc.specs.Apart.{HasItemsApart}
 use Rattle.pybuf_desc.specs.Items.{bytes_of_items, content_of_layout}
 use Rattle.pybuf_desc.specs.Contiguous.{starts_from, is_contiguous_layout}
 use Rattle.pybuf_desc.specs.Strides.{AreRowMajor, HasRowMajorStrides}
-use Rattle.pybuf_desc.specs.ColumnOrder.{column_starts, is_f_contiguous_layout}
+use Rattle.pybuf_desc.specs.ColumnOrder.{column_content, column_starts, columns_of, is_f_contiguous_layout}
 use Rattle.pybuf_desc.specs.ColumnMajor.{HasColumnMajorStrides}
 use Rattle.pybuf_desc.specs.Casts.{cast_count, cast_of}
 use Rattle.pybuf_desc.specs.ShapedCasts.{cast_to}
@@ -84,6 +84,17 @@ abbrev pub ColumnCastsAreFContiguous : Type 0
 ColumnCastsAreFContiguous =
     (view : Layout) (format : List ℕ) (size : ℕ) (shape : List ℕ) → is_f_contiguous_layout (column_cast_to view format size shape) ≡ true
 
+-- the bytes of a cast in column order, in that order, are those of the view
+abbrev pub ColumnCastsGiveTheBytesBack : Type 0
+ColumnCastsGiveTheBytesBack =
+    (bytes : List ℕ) (view : Layout) (format : List ℕ) (size : ℕ) (shape : List ℕ) → is_contiguous_layout view ≡ true → 0 < size → length view.starts * view.itemsize ≡ product shape * size
+    → 0 < length view.starts → column_content bytes (column_cast_to view format size shape) ≡ content_of_layout bytes view
+
+abbrev pub ColumnCastsStayInside : Type 0
+ColumnCastsStayInside =
+    (view : Layout) (format : List ℕ) (size : ℕ) (shape : List ℕ) (room : ℕ) → is_contiguous_layout view ≡ true → 0 < size → length view.starts * view.itemsize ≡ product shape * size
+    → LiesInside room view → LiesInside room (column_cast_to view format size shape)
+
 abbrev pub ColumnCastsHaveTheirShape : Type 0
 ColumnCastsHaveTheirShape =
     (view : Layout) (format : List ℕ) (size : ℕ) (shape : List ℕ) → 0 < length view.starts → HasItemsOfItsShape (column_cast_to view format size shape)
@@ -140,6 +151,9 @@ abbrev pub CastsLieApart : Type 0
 CastsLieApart =
     ((view : Layout) (format : List ℕ) (size : ℕ) → HasItemsApart (cast_of view format size))
     × ((view : Layout) (format : List ℕ) (size : ℕ) (shape : List ℕ) → HasItemsApart (cast_to view format size shape))
+
+abbrev pub ColumnCastsLieApart : Type 0
+ColumnCastsLieApart = (view : Layout) (format : List ℕ) (size : ℕ) (shape : List ℕ) → HasItemsApart (column_cast_to view format size shape)
 
 abbrev pub RowMajorLayoutsLieApart : Type 0
 RowMajorLayoutsLieApart = (view : Layout) → HasItemsApart (row_major_of view)
@@ -226,6 +240,14 @@ ColumnRangesHaveTheContent =
 abbrev pub ColumnRangesStayInside : Type 0
 ColumnRangesStayInside =
     (d : Descriptor) (start room : ℕ) → IsValid d start room → All (λ (range : Range ℕ). range.end ≤ room) (column_ranges_of d (pos start))
+
+-- where the items of a view lie inside, so do they in column order
+abbrev pub ColumnsStayInside : Type 0
+ColumnsStayInside = (room : ℕ) (view : Layout) → HasItemsOfItsShape view → LiesInside room view → LiesInside room (columns_of view)
+
+-- a view without items has none in column order
+abbrev pub NoItemsAreNoColumns : Type 0
+NoItemsAreNoColumns = (view : Layout) → product view.shape ≡ 0 → column_starts view ≡ []
 
 -- The items of a line lie among bytes where each byte of its ranges does.
 abbrev pub LinesLieInside : Type 0

@@ -1,5 +1,5 @@
 //! Laws of the definitions that the contracts cite. Each stands on a function with an empty body.
-ghost use Rattle.pybuf_desc.specs.Laws.{CastsShareTheirBytes, CastsStayInside, CastsHaveTheirShape, CastsAreContiguous, FlatCastsHaveOneDimension, ShapedCastsShareTheirBytes, ShapedCastsStayInside, ShapedCastsHaveTheirShape, ColumnCastsFollowColumnOrder, ColumnCastsAreFContiguous, ColumnCastsHaveTheirShape, CopiesHaveTheirBytes, SlicesStayInside, SlicesHaveTheirShape, SlicingBackTwiceIsNothing, WholeLayoutsLieApart, SlicesLieApart, CastsLieApart, RowMajorLayoutsLieApart, PlacedDescriptorsStand, DescriptorsStandForOneView, DescribedViewsHaveTheirShape, ValidWhereItemsLieInside, ContiguityIsOfStrides, FContiguityIsOfStrides, ContiguityIsTheSameAnywhere, PositionsArePlaces, TailsAreGreatest, RangesHaveTheContent, RangesStayInside, ColumnRangesHaveTheContent, ColumnRangesStayInside, LinesLieInside, LinesHaveTheirPieces};
+ghost use Rattle.pybuf_desc.specs.Laws.{CastsShareTheirBytes, CastsStayInside, CastsHaveTheirShape, CastsAreContiguous, FlatCastsHaveOneDimension, ShapedCastsShareTheirBytes, ShapedCastsStayInside, ShapedCastsHaveTheirShape, ColumnCastsFollowColumnOrder, ColumnCastsAreFContiguous, ColumnCastsHaveTheirShape, ColumnCastsGiveTheBytesBack, ColumnCastsStayInside, ColumnCastsLieApart, CopiesHaveTheirBytes, SlicesStayInside, SlicesHaveTheirShape, SlicingBackTwiceIsNothing, WholeLayoutsLieApart, SlicesLieApart, CastsLieApart, RowMajorLayoutsLieApart, PlacedDescriptorsStand, DescriptorsStandForOneView, DescribedViewsHaveTheirShape, ValidWhereItemsLieInside, ContiguityIsOfStrides, FContiguityIsOfStrides, ContiguityIsTheSameAnywhere, PositionsArePlaces, TailsAreGreatest, RangesHaveTheContent, RangesStayInside, ColumnRangesHaveTheContent, ColumnRangesStayInside, ColumnsStayInside, NoItemsAreNoColumns, LinesLieInside, LinesHaveTheirPieces};
 
 /// The items of a cast of a contiguous view have the view's bytes in their order: its items lie one
 /// new item size apart from the view's first place on, and make up all its bytes.
@@ -51,6 +51,21 @@ pub fn column_casts_follow_column_order()
 /// The items of a cast in column order lie one after the other in that order.
 pub fn column_casts_are_f_contiguous()
     ensures { ColumnCastsAreFContiguous }
+{}
+
+/// The bytes of a cast in column order, in that order, are those of the view.
+pub fn column_casts_give_the_bytes_back()
+    ensures { ColumnCastsGiveTheBytesBack }
+{}
+
+/// Where the items of a contiguous view lie inside, so do those of its casts in column order.
+pub fn column_casts_stay_inside()
+    ensures { ColumnCastsStayInside }
+{}
+
+/// No two items of a cast in column order share a byte.
+pub fn column_casts_lie_apart()
+    ensures { ColumnCastsLieApart }
 {}
 
 /// A cast in column order has as many items as its shape says.
@@ -174,6 +189,16 @@ pub fn column_ranges_have_the_content()
 /// Where a descriptor is valid, the ranges of a walk in column order lie inside.
 pub fn column_ranges_stay_inside()
     ensures { ColumnRangesStayInside }
+{}
+
+/// Where the items of a view lie inside, so do they in column order.
+pub fn columns_stay_inside()
+    ensures { ColumnsStayInside }
+{}
+
+/// A view without items has none in column order.
+pub fn no_items_are_no_columns()
+    ensures { NoItemsAreNoColumns }
 {}
 
 /// The items of a line lie among bytes where each byte of its ranges does.

@@ -1,7 +1,8 @@
 -- Dimensions of kept layouts.
-use Rattle.std.proofs.Common.{◌≡◌, ℕ, ◌+◌, ◌*◌, ◌<◌, List, [], ◌∷◌, length, get_or, zero, suc, ◌^◌, ◌≤◌, Bool, ap, sym, ◌∙◌, refl, subst, arith, lit<, le_refl, zero-mul, mul-le-mul_left, lt_of_le_of_lt}
+use Rattle.std.proofs.Common.{◌≡◌, ℕ, ◌+◌, ◌*◌, ◌<◌, List, [], ◌∷◌, length, get_or, zero, suc, ◌^◌, ◌≤◌, Bool, true, ap, sym, ◌∙◌, refl, subst, arith, lit<, le_refl, zero-mul, mul-le-mul_left, lt_of_le_of_lt}
 use Rattle.std.specs.Prelude.{ℤ, pos, map, Some, slice_get, ◌==◌, ◌||◌}
 use Rattle.std.specs.List.{list_any}
+use Rattle.std.proofs.lemmas.Bool.{ne_eqb}
 use Rattle.std.proofs.Math.Nat.{le-mul_of_pos_right}
 use Rattle.pybuf_desc.specs.Descriptor.{Descriptor, shape_of}
 use Rattle.pybuf_desc.specs.Layouts.{Layout, product}
@@ -80,3 +81,15 @@ len_fits d start placed =
 pub any_entry : (dims : List (ℕ × ℤ × ℤ)) → list_any (λ (dim : ℕ × ℤ × ℤ). dim.0 == 0) dims ≡ list_any (λ n. n == 0) (shape_of dims)
 any_entry [] = refl
 any_entry (dim ∷ dims) = ap (λ (b : Bool). (dim.0 == 0) || b) (any_entry dims)
+
+-- a shape with a zero among its entries has no item
+pub zero_product : (shape : List ℕ) → list_any (λ n. n == 0) shape ≡ true → product shape ≡ 0
+zero_product [] zeros = absurd (cc)
+zero_product (zero ∷ shape) zeros = zero-mul (product shape)
+zero_product (suc n ∷ shape) zeros = ap (λ (k : ℕ). suc n * k) (zero_product shape (sym (skips n (list_any (λ n. n == 0) shape)) ∙ zeros)) ∙ none n
+  where
+    skips : (n : ℕ) (b : Bool) → ((suc n == 0) || b) ≡ b
+    skips n b = ap (λ (z : Bool). z || b) (ne_eqb (suc n) 0 (λ e. omega (arith, e)))
+
+    none : (n : ℕ) → suc n * 0 ≡ 0
+    none n = omega arith

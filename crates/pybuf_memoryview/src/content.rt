@@ -5,6 +5,7 @@ ghost use Rattle.pybuf_slice.specs.Reads.{elements_at};
 ghost use Rattle.pybuf_desc.specs.Contiguous.{is_contiguous_layout};
 ghost use Rattle.pybuf_desc.specs.Layouts.{LiesInside, HasItemsOfItsShape};
 ghost use Rattle.pybuf_desc.specs.Items.{content_of_layout};
+ghost use Rattle.pybuf_desc.specs.ColumnOrder.{column_content};
 ghost use Rattle.pybuf_desc.specs.Segments.{bytes_of};
 ghost use Rattle.pybuf_desc.specs.SegmentLines.{ranges_of_line, IsLine};
 ghost use Rattle.pybuf_memoryview.specs.Orders.{nbytes_of};
@@ -52,6 +53,23 @@ pub fn content_of(alloc: Global, bytes: &[u8], layout: &KeptLayout) -> Made<Vec<
         descriptor.len(),
         descriptor.segments(start, true),
     )
+}
+
+/// The bytes of a view's items, in column order. The rows of the view with its dimensions the last first are copied
+/// as those of any other.
+pub fn column_content_of(alloc: Global, bytes: &[u8], layout: &KeptLayout) -> Made<Vec<u8>>
+    requires { LiesInside (length bytes.now) layout.now }
+    ensures { IfOk result (λ list. list.items ≡ column_content bytes.now layout.now) }
+{
+    pybuf_desc::columns_stay_inside();
+    pybuf_desc::no_items_are_no_columns();
+    if layout.has_zero() {
+        return Ok(Vec::new(alloc));
+    }
+    // That there is an item for each entry is told where the layout is taken apart.
+    let _ = layout.placed();
+    let columns = layout.columns(alloc)?;
+    content_of(alloc, bytes, &columns)
 }
 
 /// The place of the first byte of a view whose items lie one after the other, 0 where it has none.

@@ -4,7 +4,7 @@ ghost use Rattle.std.specs.List.{list_any};
 
 use pybuf_desc::{BufferDescriptor, KeptFormat};
 use pybuf_index::SaturatedSlice;
-use pybuf_value::{CountList, Fault, Made, NumberList, Twin};
+use pybuf_value::{CountList, Fault, Made, NumberList, Text, Twin};
 use std::alloc::Global;
 use std::marker::Model;
 
@@ -98,7 +98,10 @@ impl KeptLayout {
     ghost use Rattle.pybuf_desc.specs.Packed.{row_major_of};
     ghost use Rattle.pybuf_desc.specs.Places.{Stands, layout_at};
     ghost use Rattle.pybuf_desc.specs.Valid.{IsPlaced};
-    ghost use Rattle.pybuf_memoryview.specs.Orders.{nbytes_of, has_zero_entry, is_f_contiguous_layout};
+    ghost use Rattle.pybuf_desc.specs.ColumnCasts.{column_cast_to};
+    ghost use Rattle.pybuf_desc.specs.ColumnOrder.{columns_of, is_f_contiguous_layout};
+    ghost use Rattle.pybuf_memoryview.specs.Orders.{nbytes_of, has_zero_entry};
+    ghost use Rattle.std.specs.Prelude.{false};
     ghost use Rattle.pybuf_memoryview.specs.Keys.{item_at_indices};
     ghost use Rattle.pybuf_memoryview.specs.KeyPlaces.{IsStartOf};
 
@@ -189,6 +192,49 @@ impl KeptLayout {
         let descriptor = self
             .descriptor
             .cast_shape_as(alloc, format, itemsize, shape)?;
+        Ok(KeptLayout {
+            descriptor,
+            start: self.start,
+        })
+    }
+
+    /// The same in column order.
+    pub fn cast_shape_f(
+        &self,
+        alloc: Global,
+        format: Text,
+        itemsize: usize,
+        shape: &[usize],
+    ) -> Made<KeptLayout>
+        requires contiguous { is_contiguous_layout self.now ≡ true }
+        requires some_size { 0 < itemsize }
+        requires size_fits { itemsize < 2 ^ 63 }
+        requires few_dimensions { length shape.now ≤ 64 }
+        requires entries { All (λ n. 0 < n) shape.now }
+        requires whole_items { itemsize * product shape.now ≡ nbytes_of self.now }
+        ensures { IfOk result (λ v. v ≡ column_cast_to self.now format itemsize shape.now) }
+    {
+        pybuf_desc::placed_descriptors_stand();
+        pybuf_desc::descriptors_stand_for_one_view();
+        pybuf_desc::contiguity_is_the_same_anywhere();
+        let descriptor = self
+            .descriptor
+            .cast_shape_f(alloc, format, itemsize, shape)?;
+        Ok(KeptLayout {
+            descriptor,
+            start: self.start,
+        })
+    }
+
+    /// The layout of the same items with the dimensions the last first: its row-major order is the column order of
+    /// this one.
+    pub fn columns(&self, alloc: Global) -> Made<KeptLayout>
+        requires { has_zero_entry self.now.shape ≡ false }
+        ensures { IfOk result (λ v. v ≡ columns_of self.now) }
+    {
+        pybuf_desc::placed_descriptors_stand();
+        pybuf_desc::descriptors_stand_for_one_view();
+        let descriptor = self.descriptor.turned(alloc)?;
         Ok(KeptLayout {
             descriptor,
             start: self.start,
@@ -353,11 +399,12 @@ impl KeptLayout {
         &self.descriptor.format
     }
 
-    /// Whether the items lie one after the other in the order of Fortran, too.
+    /// Whether the items lie one after the other in column order.
     pub fn is_f_contiguous(&self) -> bool
         ensures { result ≡ is_f_contiguous_layout self.now }
     {
-        self.is_contiguous() && self.ndim() < 2
+        pybuf_desc::placed_descriptors_stand();
+        self.descriptor.is_f_contiguous()
     }
 }
 

@@ -12,7 +12,7 @@ mod readers;
 mod view_snaps;
 
 pub use bytes::{is_byte_format, is_row_of};
-pub use content::{content_of, first_place};
+pub use content::{column_content_of, content_of, first_place};
 pub use items::{
     args_of, byte_for_item, byte_item, format_of, index_in, is_none, is_slice, item_by,
 };
