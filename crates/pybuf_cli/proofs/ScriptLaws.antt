@@ -1,6 +1,6 @@
 -- Scripts, line by line: each line is one, and its command is the one of the script.
 use Rattle.std.proofs.Common.{◌≡◌, ◌==◌, ◌||◌, ℕ, zero, suc, ◌+◌, ◌*◌, ◌/◌, ◌%◌, ◌^◌, ◌<◌, ◌≤◌, Bool, true, false, cond, List, [], ◌∷◌, ◌++◌, refl, sym, ◌∙◌, ap, arith, codes}
-use Rattle.std.specs.Prelude.{Some, Ok, decimal}
+use Rattle.std.specs.Prelude.{Some, None, Ok, decimal}
 use Rattle.std.specs.List.{flat_map, range_with_len, list_any, onto_first}
 use Rattle.std.proofs.lemmas.List.{append_assoc}
 use Rattle.std.proofs.lemmas.Fmt.{decimal_digit}
@@ -112,8 +112,8 @@ module _ (reads : CommandsReadBack) (single : RepliesAreSingle handle_text) wher
   view_first_spelled : command_in handle_in (codes "view h0") ≡ Some (of_first verb.View)
   view_first_spelled = ap (λ digit. command_in handle_in (codes "view h" ++ digit)) (sym zero_text) ∙ reads (of_first verb.View) (omega arith, tt)
 
-  bytes_first_spelled : command_in handle_in (codes "bytes h0") ≡ Some (of_first verb.ToBytes)
-  bytes_first_spelled = ap (λ digit. command_in handle_in (codes "bytes h" ++ digit)) (sym zero_text) ∙ reads (of_first verb.ToBytes) (omega arith, tt)
+  bytes_first_spelled : command_in handle_in (codes "bytes h0") ≡ Some (of_first (verb.ToBytes None))
+  bytes_first_spelled = ap (λ digit. command_in handle_in (codes "bytes h" ++ digit)) (sym zero_text) ∙ reads (of_first (verb.ToBytes None)) (omega arith, tt)
 
   new_spelled : command_in handle_in (codes "new bytearray x") ≡ Some new_bytearray
   new_spelled = ap (λ digits. command_in handle_in (codes "new bytearray x" ++ digits)) (sym no_digits) ∙ reads new_bytearray (λ _. omega arith)
@@ -123,8 +123,8 @@ module _ (reads : CommandsReadBack) (single : RepliesAreSingle handle_text) wher
       ap (λ digit. command_in handle_in (codes "get h" ++ (decimal n ++ (codes " None:None:-" ++ digit)))) (sym one_text)
       ∙ reads (command.Do n (verb.Get turned_round)) (small, ((tt, tt, omega arith), tt))
 
-  bytes_spelled : (n : ℕ) → n < 2 ^ 64 → command_in handle_in (codes "bytes h" ++ decimal n) ≡ Some (command.Do n verb.ToBytes)
-  bytes_spelled n small = reads (command.Do n verb.ToBytes) (small, tt)
+  bytes_spelled : (n : ℕ) → n < 2 ^ 64 → command_in handle_in (codes "bytes h" ++ decimal n) ≡ Some (command.Do n (verb.ToBytes None))
+  bytes_spelled n small = reads (command.Do n (verb.ToBytes None)) (small, tt)
 
   release_spelled : (n : ℕ) → n < 2 ^ 64 → command_in handle_in (codes "release h" ++ decimal n) ≡ Some (command.Do n verb.Release)
   release_spelled n small = reads (command.Do n verb.Release) (small, tt)

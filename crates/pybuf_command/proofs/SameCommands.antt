@@ -258,7 +258,8 @@ verb_itself e (verb.Range a b) = both_true _ _ ((e a a).1 refl) ((e b b).1 refl)
 verb_itself e (verb.Get a) = (e a a).1 refl
 verb_itself e (verb.Set a b) = both_true _ _ ((e a a).1 refl) ((e b b).1 refl)
 verb_itself e (verb.Cast a b) = both_true _ _ ((e a a).1 refl) ((maybes_same e b b).1 refl)
-verb_itself e verb.ToBytes = refl
+verb_itself e (verb.CastF a b) = both_true _ _ ((e a a).1 refl) ((e b b).1 refl)
+verb_itself e (verb.ToBytes a) = (maybes_same e a a).1 refl
 verb_itself e verb.Release = refl
 verb_itself e verb.Enter = refl
 verb_itself e verb.Exit = refl
@@ -300,7 +301,9 @@ from_verb e (verb.Set a b) (verb.Set c d) h =
     ap (λ v. verb.Set v b) ((e a c).0 (both_parts _ _ h).0) ∙ ap (verb.Set c) ((e b d).0 (both_parts _ _ h).1)
 from_verb e (verb.Cast a b) (verb.Cast c d) h =
     ap (λ v. verb.Cast v b) ((e a c).0 (both_parts _ _ h).0) ∙ ap (verb.Cast c) ((maybes_same e b d).0 (both_parts _ _ h).1)
-from_verb e verb.ToBytes verb.ToBytes h = refl
+from_verb e (verb.CastF a b) (verb.CastF c d) h =
+    ap (λ v. verb.CastF v b) ((e a c).0 (both_parts _ _ h).0) ∙ ap (verb.CastF c) ((e b d).0 (both_parts _ _ h).1)
+from_verb e (verb.ToBytes a) (verb.ToBytes c) h = ap verb.ToBytes ((maybes_same e a c).0 h)
 from_verb e verb.Release verb.Release h = refl
 from_verb e verb.Enter verb.Enter h = refl
 from_verb e verb.Exit verb.Exit h = refl

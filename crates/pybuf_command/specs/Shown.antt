@@ -1,10 +1,12 @@
--- The text of a reply, by how a handle is written.
+-- The text of a reply, by how a handle is written, and of the reply of one exporter.
 use Rattle.std.specs.Prelude.{ℕ, zero, suc, ◌/◌, length, take, drop, List, [], ◌∷◌, ◌++◌, codes, Option, Some, None}
-use Rattle.std.specs.Fmt.{signed_decimal}
+use Rattle.std.specs.Fmt.{decimal, signed_decimal}
 use Rattle.std.specs.Str.{byte}
 use Rattle.pybuf_value.specs.Names.{python_name_of}
 use Rattle.pybuf_value.specs.Quotes.{quoted_text}
 use Rattle.pybuf_value.specs.Spelling.{bytes_text, truth_text, handle_text, item_text, tuple_text, list_text}
+use Rattle.pybuf_command.specs.declared.commands.LocalReply.{LocalReply}
+use Rattle.pybuf_command.specs.declared.commands.LocalReply.TheVariants as local
 use Rattle.pybuf_command.specs.declared.worlds.Reply.{Reply}
 use Rattle.pybuf_command.specs.declared.worlds.Reply.TheVariants as reply
 
@@ -44,3 +46,28 @@ reply_text name (reply.Refused fault) = codes "! " ++ python_name_of fault
 abbrev pub shown_reply : Reply → Option (List ℕ)
 shown_reply (reply.Items shape items) = None
 shown_reply r = Some (reply_text handle_text r)
+
+-- The text of the reply of one exporter: that of its line, where a line shows no handle.
+abbrev pub display_text : LocalReply → List ℕ
+display_text local.Ok = codes "ok"
+display_text (local.View view) = codes "view " ++ decimal view
+display_text (local.Iter iterator) = codes "iterator " ++ decimal iterator
+display_text local.Itself = codes "itself"
+display_text local.Own = codes "the exporter"
+display_text (local.Items shape items) = nested_text (item_text handle_text) shape items
+display_text (local.Item shown) = item_text handle_text shown
+display_text (local.Bytes bytes) = bytes_text bytes
+display_text (local.ByteLists lists) = list_text bytes_text lists
+display_text (local.Text text) = quoted_text text
+display_text (local.Shown text) = text
+display_text (local.Truth truth) = truth_text truth
+display_text local.NotImplementedReply = codes "NotImplemented"
+display_text local.Stop = codes "stop"
+display_text (local.Numbers numbers) = tuple_text signed_decimal numbers
+display_text (local.Fresh snap) = codes "a copy of " ++ bytes_text snap.content
+display_text (local.Refused fault) = codes "! " ++ python_name_of fault
+
+-- What is said of how it is shown: it has this text. Of items in several dimensions nothing is said.
+abbrev pub shown_local_reply : LocalReply → Option (List ℕ)
+shown_local_reply (local.Items shape items) = None
+shown_local_reply r = Some (display_text r)

@@ -32,11 +32,11 @@ pub enum PropertyName {
     Suboffsets,
     /// The format of an item.
     Format,
-    /// Whether the items lie one after the other.
+    /// Whether the items lie one after the other, in the order of C or in that of Fortran.
     Contiguous,
-    /// Whether they do in the order of C, which is the same.
+    /// Whether they do in the order of C, where the last index changes fastest.
     CContiguous,
-    /// Whether they do in the order of Fortran: so in a contiguous view of at most one dimension.
+    /// Whether they do in the order of Fortran, where the first index changes fastest.
     FContiguous,
 }
 
@@ -65,8 +65,16 @@ pub enum Verb {
         format: Value,
         shape: Option<Value>,
     },
-    /// The subject's bytes, as `bytes(subject)`.
-    ToBytes,
+    /// A new view of the same bytes with items of another format, in dimensions whose items lie one after the other in
+    /// the order of Fortran.
+    CastF {
+        format: Value,
+        shape: Value,
+    },
+    /// The subject's bytes, as `bytes(subject)`; of a view in an order, as `view.tobytes(order)`.
+    ToBytes {
+        order: Option<Value>,
+    },
     /// Releases a view, as `view.release()`.
     Release,
     /// The view itself, as `view.__enter__()`.
@@ -238,7 +246,15 @@ impl Twin for Verb {
                 let shape = shape.copy(alloc)?;
                 Ok(Verb::Cast { format, shape })
             }
-            Verb::ToBytes => Ok(Verb::ToBytes),
+            Verb::CastF { format, shape } => {
+                let format = format.copy(alloc)?;
+                let shape = shape.copy(alloc)?;
+                Ok(Verb::CastF { format, shape })
+            }
+            Verb::ToBytes { order } => {
+                let order = order.copy(alloc)?;
+                Ok(Verb::ToBytes { order })
+            }
             Verb::Release => Ok(Verb::Release),
             Verb::Enter => Ok(Verb::Enter),
             Verb::Exit => Ok(Verb::Exit),

@@ -82,6 +82,31 @@ fn push_option(handles: &mut Vec<u64>, value: &Option<Value>) -> Made<()>
     }
 }
 
+fn push_both(handles: &mut Vec<u64>, first: &Value, second: &Value) -> Made<()>
+    ensures { OnOk result (handles.new.items ≡ handles.old.items ++ spec.handles_in first.now ++ spec.handles_in second.now) }
+{
+    push_value(handles, first)?;
+    push_value(handles, second)
+}
+
+fn push_with_option(handles: &mut Vec<u64>, first: &Value, second: &Option<Value>) -> Made<()>
+    ensures { OnOk result (handles.new.items ≡ handles.old.items ++ spec.handles_in first.now ++ spec.handles_in_option second.now) }
+{
+    push_value(handles, first)?;
+    push_option(handles, second)
+}
+
+fn push_both_options(
+    handles: &mut Vec<u64>,
+    first: &Option<Value>,
+    second: &Option<Value>,
+) -> Made<()>
+    ensures { OnOk result (handles.new.items ≡ handles.old.items ++ spec.handles_in_option first.now ++ spec.handles_in_option second.now) }
+{
+    push_option(handles, first)?;
+    push_option(handles, second)
+}
+
 /// Adds the handles of each argument of a call.
 fn push_values(handles: &mut Vec<u64>, values: &[Value]) -> Made<()>
     ensures { OnOk result (handles.new.items ≡ handles.old.items ++ flat_map spec.handles_in values.now) }
@@ -150,47 +175,42 @@ pub fn handles_read(alloc: Global, subject: Subject, verb: &Verb) -> Made<Vec<u6
     Ok(handles)
 }
 
+/// Adds the handles of all values of a command. It ends in each arm, since one list for all arms would be too much for the
+/// prover.
+fn push_handles(handles: &mut Vec<u64>, verb: &Verb) -> Made<()>
+    ensures { OnOk result (handles.new.items ≡ handles.old.items ++ spec.handles_of verb.now) }
+{
+    match verb {
+        Verb::Range { from, to } => push_both(handles, from, to),
+        Verb::Get { key } => push_value(handles, key),
+        Verb::Set { key, value } => push_both(handles, key, value),
+        Verb::Cast { format, shape } => push_with_option(handles, format, shape),
+        Verb::CastF { format, shape } => push_both(handles, format, shape),
+        Verb::ToBytes { order } => push_option(handles, order),
+        Verb::Del { key } => push_value(handles, key),
+        Verb::Append { value } => push_value(handles, value),
+        Verb::Extend { value } => push_value(handles, value),
+        Verb::Insert { index, value } => push_both(handles, index, value),
+        Verb::Pop { index } => push_option(handles, index),
+        Verb::Remove { value } => push_value(handles, value),
+        Verb::IAdd { value } => push_value(handles, value),
+        Verb::IMul { count } => push_value(handles, count),
+        Verb::Init { options } => push_options(handles, options),
+        Verb::Compare { op: _, other } => push_value(handles, other),
+        Verb::SetState { state } => push_value(handles, state),
+        Verb::Contains { value } => push_value(handles, value),
+        Verb::Hex { sep, group } => push_both_options(handles, sep, group),
+        Verb::Call { method } => push_values(handles, method.args.as_slice()),
+        _ => Ok(()),
+    }
+}
+
 /// The handles of all values of a command, in order.
 pub fn handles_of(alloc: Global, verb: &Verb) -> Made<Vec<u64>>
     ensures { IfOk result (λ handles. handles.items ≡ spec.handles_of verb.now) }
 {
     let mut handles = Vec::new(alloc);
-    match verb {
-        Verb::Range { from, to } => {
-            push_value(&mut handles, from)?;
-            push_value(&mut handles, to)?;
-        }
-        Verb::Get { key } => push_value(&mut handles, key)?,
-        Verb::Set { key, value } => {
-            push_value(&mut handles, key)?;
-            push_value(&mut handles, value)?;
-        }
-        Verb::Cast { format, shape } => {
-            push_value(&mut handles, format)?;
-            push_option(&mut handles, shape)?;
-        }
-        Verb::Del { key } => push_value(&mut handles, key)?,
-        Verb::Append { value } => push_value(&mut handles, value)?,
-        Verb::Extend { value } => push_value(&mut handles, value)?,
-        Verb::Insert { index, value } => {
-            push_value(&mut handles, index)?;
-            push_value(&mut handles, value)?;
-        }
-        Verb::Pop { index } => push_option(&mut handles, index)?,
-        Verb::Remove { value } => push_value(&mut handles, value)?,
-        Verb::IAdd { value } => push_value(&mut handles, value)?,
-        Verb::IMul { count } => push_value(&mut handles, count)?,
-        Verb::Init { options } => push_options(&mut handles, options)?,
-        Verb::Compare { op: _, other } => push_value(&mut handles, other)?,
-        Verb::SetState { state } => push_value(&mut handles, state)?,
-        Verb::Contains { value } => push_value(&mut handles, value)?,
-        Verb::Hex { sep, group } => {
-            push_option(&mut handles, sep)?;
-            push_option(&mut handles, group)?;
-        }
-        Verb::Call { method } => push_values(&mut handles, method.args.as_slice())?,
-        _ => {}
-    }
+    push_handles(&mut handles, verb)?;
     Ok(handles)
 }
 

@@ -1,5 +1,5 @@
 //! Replies as they are shown (`Display`).
-ghost use Rattle.pybuf_command.specs.Shown.{shown_reply};
+ghost use Rattle.pybuf_command.specs.Shown.{shown_local_reply, shown_reply};
 
 use crate::commands::LocalReply;
 use crate::worlds::Reply;
@@ -62,6 +62,8 @@ impl fmt::Display for Reply {
 /// The text of the line of such a reply, and `view 0`, `iterator 0`, `itself`, `the exporter` and `a copy of b'..'` for
 /// what a line shows by a handle.
 impl fmt::Display for LocalReply {
+    ghost output = { shown_local_reply };
+
     fn fmt<W: fmt::Write>(&self, f: &mut fmt::Formatter<W>) -> fmt::Result {
         match self {
             LocalReply::Ok => f.write_str("ok"),
@@ -85,7 +87,10 @@ impl fmt::Display for LocalReply {
                 f.write_str("a copy of ")?;
                 write_bytes(f, snap.content.as_slice())
             }
-            LocalReply::Refused(fault) => write!(f, "! {fault}"),
+            LocalReply::Refused(fault) => {
+                f.write_str("! ")?;
+                f.write_str(fault.python_name())
+            }
         }
     }
 }

@@ -50,7 +50,7 @@ impl Command {
             Command::Do {
                 subject: _,
                 verb: Verb::View
-                | Verb::ToBytes
+                | Verb::ToBytes { order: None }
                 | Verb::Release
                 | Verb::Len
                 | Verb::Iter

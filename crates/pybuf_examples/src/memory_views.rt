@@ -17,7 +17,7 @@ fn a_slice_of_a_view_shares_the_bytes(rt: HostRuntime) -> Result<(), Fail> {
         Told::View(1)
     );
     let backwards = PyMemoryView::of(1);
-    assert!(rt; has(backwards.tobytes(state, none())?, b"fdb"));
+    assert!(rt; has(backwards.tobytes(state, None, none())?, b"fdb"));
     backwards.setitem(state, int(0), int(70), none())?;
     assert_eq!(rt;
         tell(view.getitem(state, int(5), none())?),
@@ -80,7 +80,7 @@ fn a_cast_has_a_shape(rt: HostRuntime) -> Result<(), Fail> {
     let rows = PyMemoryView::of(1);
     assert_eq!(rt; tell(rows.len(state, none())?), Told::Number(2));
     rows.getitem(state, every(-1), none())?;
-    assert!(rt; has(PyMemoryView::of(2).tobytes(state, none())?, b"defabc"));
+    assert!(rt; has(PyMemoryView::of(2).tobytes(state, None, none())?, b"defabc"));
     Ok(())
 }
 

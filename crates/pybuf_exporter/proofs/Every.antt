@@ -34,7 +34,7 @@ use Rattle.pybuf_value.specs.declared.snaps.Snap.{Snap}
 use Rattle.pybuf_state.specs.Fresh.{IsCopyOf}
 use Rattle.pybuf_state.specs.Keeps.{Keeps, IsSameOrReleased, LengthsStay, ReadOnlyBytesStay, IsSameOrMoved, IteratorsStay, is_one_line, is_answer, IsSafe, RepliesCopy, IsCopied, IsIterated}
 use Rattle.pybuf_state.specs.Laws.{ReadingKeeps, LiveLayoutsAreSound}
-use Rattle.pybuf_rows_views.specs.Laws.{ViewIsSafe, SliceIsSafe, CastIsSafe, ReleaseIsSafe, ToReadonlyIsSafe, RangeIsSafe, EnterIsSafe, ContiguousIsCopied}
+use Rattle.pybuf_rows_views.specs.Laws.{ViewIsSafe, SliceIsSafe, CastIsSafe, ColumnCastIsSafe, ReleaseIsSafe, ToReadonlyIsSafe, RangeIsSafe, EnterIsSafe, ContiguousIsCopied}
 use Rattle.pybuf_rows_reads.specs.Laws.{GetIsSafe, BytesIsSafe, LenIsSafe, PropertyIsSafe, ToListIsSafe}
 use Rattle.pybuf_rows_writes.specs.Laws.{SetIsSafe, AssignIsSafe}
 use Rattle.pybuf_rows_edits.specs.Laws.{EditsAreSafe, DeleteOfViewIsSafe}
@@ -51,6 +51,7 @@ pub record RowLaws : Type 0 where
   pub range : RangeIsSafe
   pub slice : SliceIsSafe
   pub cast : CastIsSafe
+  pub column_cast : ColumnCastIsSafe
   pub release : ReleaseIsSafe
   pub enter : EnterIsSafe
   pub contiguous : ContiguousIsCopied
@@ -100,7 +101,8 @@ rows_safe laws e subject.Own verb.View lents = laws.view.0 e
 rows_safe laws e subject.Own (verb.Get key) lents = laws.get.0 e key
 rows_safe laws e subject.Own (verb.Set key value) lents = set_in_own_safe laws e key value lents
 rows_safe laws e subject.Own (verb.Cast format shape) lents = tt
-rows_safe laws e subject.Own verb.ToBytes lents = laws.bytes.0 e
+rows_safe laws e subject.Own (verb.CastF format shape) lents = tt
+rows_safe laws e subject.Own (verb.ToBytes order) lents = laws.bytes.0 e order
 rows_safe laws e subject.Own verb.Release lents = tt
 rows_safe laws e subject.Own verb.Len lents = laws.len.0 e
 rows_safe laws e subject.Own (verb.Property name) lents = laws.property.0 e name
@@ -137,7 +139,8 @@ rows_safe laws e (subject.View k) verb.View lents = laws.view.1 e k
 rows_safe laws e (subject.View k) (verb.Get key) lents = get_of_view_safe laws e k key
 rows_safe laws e (subject.View k) (verb.Set key value) lents = set_through_view_safe laws e k key value lents
 rows_safe laws e (subject.View k) (verb.Cast format shape) lents = laws.cast e k format shape
-rows_safe laws e (subject.View k) verb.ToBytes lents = laws.bytes.1 e k
+rows_safe laws e (subject.View k) (verb.CastF format shape) lents = laws.column_cast e k format shape
+rows_safe laws e (subject.View k) (verb.ToBytes order) lents = laws.bytes.1 e k order
 rows_safe laws e (subject.View k) verb.Release lents = laws.release e k
 rows_safe laws e (subject.View k) verb.Len lents = laws.len.1 e k
 rows_safe laws e (subject.View k) (verb.Property name) lents = laws.property.1 e k name
@@ -293,7 +296,8 @@ row_step reading e subject.Own verb.View r safe = safe_step e subject.Own verb.V
 row_step reading e subject.Own (verb.Get key) r safe = safe_step e subject.Own (verb.Get key) r refl safe
 row_step reading e subject.Own (verb.Set key value) r safe = safe_step e subject.Own (verb.Set key value) r refl safe
 row_step reading e subject.Own (verb.Cast format shape) r safe = safe_step e subject.Own (verb.Cast format shape) r refl safe
-row_step reading e subject.Own verb.ToBytes r safe = safe_step e subject.Own verb.ToBytes r refl safe
+row_step reading e subject.Own (verb.CastF format shape) r safe = safe_step e subject.Own (verb.CastF format shape) r refl safe
+row_step reading e subject.Own (verb.ToBytes order) r safe = safe_step e subject.Own (verb.ToBytes order) r refl safe
 row_step reading e subject.Own verb.Release r safe = safe_step e subject.Own verb.Release r refl safe
 row_step reading e subject.Own verb.Len r safe = safe_step e subject.Own verb.Len r refl safe
 row_step reading e subject.Own (verb.Property name) r safe = safe_step e subject.Own (verb.Property name) r refl safe
@@ -333,7 +337,8 @@ row_step reading e (subject.View k) (verb.Range from to) r safe = safe_step e (s
 row_step reading e (subject.View k) (verb.Get key) r safe = safe_step e (subject.View k) (verb.Get key) r refl safe
 row_step reading e (subject.View k) (verb.Set key value) r safe = safe_step e (subject.View k) (verb.Set key value) r refl safe
 row_step reading e (subject.View k) (verb.Cast format shape) r safe = safe_step e (subject.View k) (verb.Cast format shape) r refl safe
-row_step reading e (subject.View k) verb.ToBytes r safe = safe_step e (subject.View k) verb.ToBytes r refl safe
+row_step reading e (subject.View k) (verb.CastF format shape) r safe = safe_step e (subject.View k) (verb.CastF format shape) r refl safe
+row_step reading e (subject.View k) (verb.ToBytes order) r safe = safe_step e (subject.View k) (verb.ToBytes order) r refl safe
 row_step reading e (subject.View k) verb.Release r safe = safe_step e (subject.View k) verb.Release r refl safe
 row_step reading e (subject.View k) verb.Enter r safe = safe_step e (subject.View k) verb.Enter r refl safe
 row_step reading e (subject.View k) verb.Exit r safe = safe_step e (subject.View k) verb.Exit r refl safe

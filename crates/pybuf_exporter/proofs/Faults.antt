@@ -64,7 +64,7 @@ use Rattle.pybuf_rows_views.specs.Enter.{enter_of_view}
 use Rattle.pybuf_rows_views.specs.Contiguous.{contiguous_of_view}
 use Rattle.pybuf_rows_views.specs.ToReadonly.{toreadonly_of_view}
 use Rattle.pybuf_rows_reads.specs.Get as gets
-use Rattle.pybuf_rows_reads.specs.ToBytes.{bytes_of_own, bytes_of_view}
+use Rattle.pybuf_rows_reads.specs.ToBytes as orders
 use Rattle.pybuf_rows_reads.specs.Len.{len_of_own, len_of_view}
 use Rattle.pybuf_rows_reads.specs.Property as properties
 use Rattle.pybuf_rows_reads.specs.ToList.{list_of_view}
@@ -203,8 +203,8 @@ entries_of size (part ∷ ps) = bind (casts.entry_of size part) _ (entry_of size
 flat : (layout : Layout) (text : List ℕ) → Known (casts.flat_layout_of layout text)
 flat layout text = bind (unless (not (length layout.shape == 1) && has_zero_entry layout.shape) fault.Kind) _ (checked _ fault.Kind refl) (λ _. bind (casts.size_for layout text) _ (size_for layout text) (λ size. tt))
 
-shaped : (layout : Layout) (text : List ℕ) (ps : List Scalar) → Known (casts.shaped_layout_of layout text ps)
-shaped layout text ps =
+shaped : (columns : Bool) (layout : Layout) (text : List ℕ) (ps : List Scalar) → Known (casts.shaped_layout_of columns layout text ps)
+shaped columns layout text ps =
     bind (unless (has_zero_entry layout.shape) fault.Kind) _ (checked _ fault.Kind refl) (λ _.
     bind (unless (not (length layout.shape == 1) && not (length ps == 1)) fault.Kind) _ (checked _ fault.Kind refl) (λ _.
     bind (unless (nat_lt 64 (length ps)) fault.Value) _ (checked _ fault.Value refl) (λ _.
@@ -214,8 +214,8 @@ shaped layout text ps =
 
 in_shape : (layout : Layout) (text : List ℕ) (shape : Option Value) → Known (casts.layout_in_shape layout text shape)
 in_shape layout text None = flat layout text
-in_shape layout text (Some (value.Tuple ps)) = shaped layout text ps
-in_shape layout text (Some (value.List ps)) = shaped layout text ps
+in_shape layout text (Some (value.Tuple ps)) = shaped false layout text ps
+in_shape layout text (Some (value.List ps)) = shaped false layout text ps
 in_shape layout text (Some _) = refl
 
 cast : (e : Exporter) (k : ℕ) (format : Value) (shape : Option Value) → Known (casts.cast_of_view e k format shape)
@@ -224,6 +224,18 @@ cast e k format shape =
     bind (unless (not (is_contiguous_layout layout)) fault.Kind) _ (checked _ fault.Kind refl) (λ _.
     bind (texts.text_in format) _ (given.text_in format) (λ text.
     bind (casts.layout_in_shape layout text shape) _ (in_shape layout text shape) (λ made. tt))))
+
+in_columns : (layout : Layout) (text : List ℕ) (shape : Value) → Known (casts.column_layout_in layout text shape)
+in_columns layout text (value.Tuple ps) = shaped true layout text ps
+in_columns layout text (value.List ps) = shaped true layout text ps
+in_columns layout text _ = refl
+
+column_cast : (e : Exporter) (k : ℕ) (format shape : Value) → Known (casts.column_cast_of_view e k format shape)
+column_cast e k format shape =
+    bind (state.live_layout e k) _ (live e k) (λ layout.
+    bind (unless (not (is_contiguous_layout layout)) fault.Kind) _ (checked _ fault.Kind refl) (λ _.
+    bind (texts.text_in format) _ (given.text_in format) (λ text.
+    bind (casts.column_layout_in layout text shape) _ (in_columns layout text shape) (λ made. tt))))
 
 release : (e : Exporter) (k : ℕ) → Known (release_of_view e k)
 release e k = bind (state.released_in e k) _ (bind (state.view_at e k) _ (view_at e k) (λ v. tt)) (λ after. tt)
@@ -266,6 +278,26 @@ property e k p = bind (unless (properties.is_exports p) fault.UnknownName) _ (ch
 
 one_live : {A : Type 0} (e : Exporter) (k : ℕ) (f : Layout → A) → Known (state.live_layout e k >>= λ layout. Ok (f layout))
 one_live e k f = bind (state.live_layout e k) _ (live e k) (λ layout. tt)
+
+-- an order is one of three letters
+by_letter : (layout : Layout) (letter : ℕ) → Known (orders.by_letter layout letter)
+by_letter layout letter = either (letter == 67) (Ok false) _ tt (either (letter == 70) (Ok true) _ tt (either (letter == 65) (Ok _) (Err fault.Value) tt refl))
+
+by_text : (layout : Layout) (text : List ℕ) → Known (orders.by_text layout text)
+by_text layout (letter ∷ []) = by_letter layout letter
+by_text layout _ = refl
+
+column_order : (layout : Layout) (order : Option Value) → Known (orders.is_column_order layout order)
+column_order layout None = tt
+column_order layout (Some (value.One scalar.None)) = tt
+column_order layout (Some v) = bind (texts.text_in v) _ (given.text_in v) (λ text. by_text layout text)
+
+bytes_own : (e : Exporter) (order : Option Value) → Known (orders.bytes_of_own e order)
+bytes_own e None = tt
+bytes_own e (Some v) = refl
+
+bytes_view : (e : Exporter) (k : ℕ) (order : Option Value) → Known (orders.bytes_of_view e k order)
+bytes_view e k order = bind (state.live_layout e k) _ (live e k) (λ layout. bind (orders.is_column_order layout order) _ (column_order layout order) (λ columns. tt))
 
 -- ---- rows that compare
 
@@ -469,7 +501,7 @@ of_own e verb.View lents = tt
 of_own e (verb.Range from to) lents = range e from to
 of_own e (verb.Get key) lents = in_kind e.kind (gets.part_of_own e key) (part_of_own e key)
 of_own e (verb.Set key v) lents = set_own_by_key e key v lents
-of_own e verb.ToBytes lents = tt
+of_own e (verb.ToBytes order) lents = bytes_own e order
 of_own e verb.Len lents = tt
 of_own e (verb.Property p) lents = property_of_own e p
 of_own e (verb.Compare op other) lents = compare_own e op other lents
@@ -485,7 +517,8 @@ of_view e k verb.View lents = view e k
 of_view e k (verb.Get key) lents = get e k key
 of_view e k (verb.Set key v) lents = set_through e k key v lents
 of_view e k (verb.Cast format shape) lents = cast e k format shape
-of_view e k verb.ToBytes lents = one_live e k _
+of_view e k (verb.CastF format shape) lents = column_cast e k format shape
+of_view e k (verb.ToBytes order) lents = bytes_view e k order
 of_view e k verb.Release lents = release e k
 of_view e k verb.Enter lents = one_live e k _
 of_view e k verb.Exit lents = release e k

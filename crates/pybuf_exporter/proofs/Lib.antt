@@ -7,6 +7,8 @@ pub mod Iterating
 pub mod Unchanged
 pub mod Viewing
 pub mod Assigning
+pub mod ColumnBytes
+pub mod ColumnItems
 pub mod Owning
 pub mod Sounding
 pub mod Arguments

@@ -42,7 +42,8 @@ use Rattle.pybuf_state.specs.Keeps.{is_vector}
 use Rattle.pybuf_state.specs.Resizing.{resizable}
 use Rattle.pybuf_state.specs.Snaps.{snap_of_exporter}
 use Rattle.pybuf_state.specs.Loans.{Lent, are_named, lents_by, names_of, snaps_of}
-use Rattle.pybuf_rows_views.specs.Cast.{layout_in_shape}
+use Rattle.pybuf_rows_views.specs.Cast.{layout_in_shape, column_layout_in}
+use Rattle.pybuf_rows_reads.specs.ToBytes.{is_column_order}
 use Rattle.pybuf_rows_views.specs.Range.{part_between}
 use Rattle.pybuf_rows_reads.specs.Get.{get_in_kind, byte_of_own, part_of_own, item_of_layout, item_of_view}
 use Rattle.pybuf_rows_reads.specs.Property.{property_of_own, property_of_layout, is_exports}
@@ -152,7 +153,8 @@ own_row e verb.View lents other = λ is. no is
 own_row e (verb.Range from to) lents other = bind e (number_of from) _ (λ first. bind e (number_of to) _ (λ end. bind e (part_between (length e.bytes) first end) _ (λ part is. no is)))
 own_row e (verb.Get key) lents other = in_kind e e.kind (part_of_own e key) (own_part e key)
 own_row e (verb.Set key v) lents other = own_set e key v lents
-own_row e verb.ToBytes lents other = λ is. refl
+own_row e (verb.ToBytes None) lents other = λ is. refl
+own_row e (verb.ToBytes (Some order)) lents other = tt
 own_row e verb.Len lents other = λ is. refl
 own_row e (verb.Property p) lents other = own_property e p
 own_row e (verb.Compare op v) lents other =
@@ -188,6 +190,7 @@ own_row e (verb.Init options) lents other =
 own_row e verb.Take lents other = absurd (true≢false other)
 own_row e verb.Copy lents other = in_byte_array e e.kind (Ok (e, reply.Fresh (snap_of_exporter e))) (λ is. refl)
 own_row e (verb.Cast format shape) lents other = tt
+own_row e (verb.CastF format shape) lents other = tt
 own_row e verb.Release lents other = tt
 own_row e verb.Enter lents other = tt
 own_row e verb.Exit lents other = tt
@@ -234,7 +237,9 @@ view_row e k (verb.Get key) lents = view_get e k key
 view_row e k (verb.Set key v) lents = view_set e k key v lents
 view_row e k (verb.Cast format shape) lents =
     bind e (live_layout e k) _ (λ layout. bind e (unless (not (is_contiguous_layout layout)) fault.Kind) _ (λ _. bind e (text_in format) _ (λ text. bind e (layout_in_shape layout text shape) _ (λ cast is. no is))))
-view_row e k verb.ToBytes lents = bind e (live_layout e k) _ (λ layout is. refl)
+view_row e k (verb.CastF format shape) lents =
+    bind e (live_layout e k) _ (λ layout. bind e (unless (not (is_contiguous_layout layout)) fault.Kind) _ (λ _. bind e (text_in format) _ (λ text. bind e (column_layout_in layout text shape) _ (λ cast is. no is))))
+view_row e k (verb.ToBytes order) lents = bind e (live_layout e k) _ (λ layout. bind e (is_column_order layout order) _ (λ columns is. refl))
 view_row e k verb.Release lents = bind e (released_in e k) _ (λ after is. no is)
 view_row e k verb.Enter lents = bind e (live_layout e k) _ (λ layout is. refl)
 view_row e k verb.Exit lents = bind e (released_in e k) _ (λ after is. no is)
@@ -286,7 +291,8 @@ iterator_row e k (verb.Range from to) other = tt
 iterator_row e k (verb.Get key) other = tt
 iterator_row e k (verb.Set key v) other = tt
 iterator_row e k (verb.Cast format shape) other = tt
-iterator_row e k verb.ToBytes other = tt
+iterator_row e k (verb.CastF format shape) other = tt
+iterator_row e k (verb.ToBytes order) other = tt
 iterator_row e k verb.Release other = tt
 iterator_row e k verb.Enter other = tt
 iterator_row e k verb.Exit other = tt

@@ -5,6 +5,7 @@ pub mod Lending
 pub mod Laws
 pub mod Iterating
 pub mod Assigning
+pub mod Columns
 pub mod Owning
 pub mod Telling
 pub mod Counting

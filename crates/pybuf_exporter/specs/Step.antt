@@ -17,7 +17,7 @@ use Rattle.pybuf_state.specs.Loans.{Lent, are_named, lents_by, names_of, snaps_o
 use Rattle.pybuf_rows_views.specs.View.{view_of_own, view_of_view}
 use Rattle.pybuf_rows_views.specs.Range.{range_of_own}
 use Rattle.pybuf_rows_views.specs.Slice.{slice_of_view}
-use Rattle.pybuf_rows_views.specs.Cast.{cast_of_view}
+use Rattle.pybuf_rows_views.specs.Cast.{cast_of_view, column_cast_of_view}
 use Rattle.pybuf_rows_views.specs.Release.{release_of_view}
 use Rattle.pybuf_rows_views.specs.Enter.{enter_of_view}
 use Rattle.pybuf_rows_views.specs.Contiguous.{contiguous_of_view}
@@ -66,7 +66,7 @@ row_of_own e verb.View lents = view_of_own e
 row_of_own e (verb.Range from to) lents = range_of_own e from to
 row_of_own e (verb.Get key) lents = get_of_own e key
 row_of_own e (verb.Set key value) lents = set_in_own e key value lents
-row_of_own e verb.ToBytes lents = bytes_of_own e
+row_of_own e (verb.ToBytes order) lents = bytes_of_own e order
 row_of_own e verb.Len lents = len_of_own e
 row_of_own e (verb.Property name) lents = property_of_own e name
 row_of_own e (verb.Compare op other) lents = compare_of_own e op other lents
@@ -83,7 +83,8 @@ row_of_view e k verb.View lents = view_of_view e k
 row_of_view e k (verb.Get key) lents = get_of_view e k key
 row_of_view e k (verb.Set key value) lents = set_through_view e k key value lents
 row_of_view e k (verb.Cast format shape) lents = cast_of_view e k format shape
-row_of_view e k verb.ToBytes lents = bytes_of_view e k
+row_of_view e k (verb.CastF format shape) lents = column_cast_of_view e k format shape
+row_of_view e k (verb.ToBytes order) lents = bytes_of_view e k order
 row_of_view e k verb.Release lents = release_of_view e k
 row_of_view e k verb.Enter lents = enter_of_view e k
 row_of_view e k verb.Exit lents = release_of_view e k

@@ -2,6 +2,7 @@
 ghost use Rattle.pybuf_exporter.specs.Laws.{CommandsKeepSound, LengthsStayUnderCommands, ReadOnlyBytesStayUnderCommands, IteratorsStayUnderCommands, OthersLeaveIterators, IterationChangesNothingElse, IteratorsGiveTheBytes, ReadingInPlaceChangesNothing, RefusedCommandsChangeNothing, FreshRepliesAreCopies, NamesAlikeDoTheSame, ItemsAreRead, ResizingIsRefusedWhileExported, AddingItselfIsRefused, OnlyByteArraysAreAddedTo, ShownTextsAreOneLine, StructErrorIsNeverReplied};
 ghost use Rattle.pybuf_exporter.specs.Iterating.{IteratorsGiveTheItems, ReleasedViewsAreNotIterated, OtherShapesAreNotIterated, IteratorsStopPastTheEntries, ExhaustedIteratorsStop};
 ghost use Rattle.pybuf_exporter.specs.Assigning.{StepsAssignByValue, SnapsHoldTheItems};
+ghost use Rattle.pybuf_exporter.specs.Columns.{ColumnCastsGiveTheBytesBack, OrdersHoldTheSameItems};
 ghost use Rattle.pybuf_exporter.specs.Laws.{CommandsKeepItemsApart, RepliedNamesAreThere, SubjectsStay};
 ghost use Rattle.pybuf_exporter.specs.Owning.{OwningRepliesChangeNothing, TakenBytesAreAll, NextIsUndone, NoIteratorHasNoNext};
 ghost use Rattle.pybuf_exporter.specs.Rows.{RowsAreSafe, StepsKeepSound};
@@ -15,6 +16,7 @@ fn rows_are_safe()
     pybuf_rows_views::range_is_safe();
     pybuf_rows_views::slice_is_safe();
     pybuf_rows_views::cast_is_safe();
+    pybuf_rows_views::column_cast_is_safe();
     pybuf_rows_views::release_is_safe();
     pybuf_rows_views::enter_is_safe();
     pybuf_rows_views::contiguous_is_copied();
@@ -213,6 +215,28 @@ pub fn steps_assign_by_value()
     pybuf_state::subjects_fit();
     pybuf_rows_writes::assign_is_safe();
     pybuf_rows_writes::assignments_are_by_value();
+}
+
+/// `castf` of a view, where it isn't refused, makes one whose bytes in column order, as `bytes 'F'` and `bytes 'A'` reply
+/// them, are those that `bytes` of the view replied.
+pub fn column_casts_give_the_bytes_back()
+    ensures { ColumnCastsGiveTheBytesBack }
+{
+    pybuf_desc::no_items_are_no_columns();
+    pybuf_state::live_layouts_are_sound();
+    commands_keep_sound();
+    pybuf_rows_views::column_casts_hold_the_bytes();
+}
+
+/// The bytes of an unreleased view of a sound exporter in column order are those row by row in another order: there are
+/// as many, and the item at any indices stands in each at its number there.
+pub fn orders_hold_the_same_items()
+    ensures { OrdersHoldTheSameItems }
+{
+    pybuf_desc::columns_stay_inside();
+    pybuf_memoryview::contents_are_whole();
+    pybuf_state::live_layouts_are_sound();
+    pybuf_rows_writes::contents_hold_the_items();
 }
 
 /// Where no two items of any view of an exporter share a byte, that is so after every command.

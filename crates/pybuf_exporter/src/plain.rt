@@ -92,7 +92,7 @@ impl ExporterState {
 
     /// The bytes of a view's items, in order.
     pub fn content(&self, view: usize) -> Result<Vec<u8>, Halt>
-        ensures { Reads (bytes_of_view self.now.exporter view) self.now.exporter (result_map_both (λ bytes. replies.Bytes bytes.items) (λ halt. halt) result) }
+        ensures { Reads (bytes_of_view self.now.exporter view None) self.now.exporter (result_map_both (λ bytes. replies.Bytes bytes.items) (λ halt. halt) result) }
     {
         to_bytes::content(&self.parts, view)
     }

@@ -87,6 +87,8 @@ fn push_verb_values(out: &mut Vec<u8>, loans: &LoanList, verb: &Verb) -> Made<()
             format,
             shape: Some(shape),
         } => push_two(out, loans, format, shape),
+        Verb::CastF { format, shape } => push_two(out, loans, format, shape),
+        Verb::ToBytes { order: Some(order) } => push_one(out, loans, order),
         Verb::Range { from, to } => push_two(out, loans, from, to),
         Verb::SetState { state } => push_one(out, loans, state),
         Verb::Contains { value } => push_one(out, loans, value),

@@ -199,6 +199,7 @@ verb_read (verb.Compare operator other) h = rw (operators_read.read operator tt,
 verb_read (verb.Init options) h = rw (options_read options.source options.encoding options.errors h) refl
 verb_read (verb.Call method) h = call_read method h
 verb_read (verb.Cast format None) h = by_values_read word.Cast (format ∷ []) h
+verb_read (verb.ToBytes None) h = by_values_read word.ToBytes [] h
 verb_read (verb.Pop None) h = by_values_read word.Pop [] h
 verb_read (verb.Hex None None) h = by_values_read word.Hex [] h
 verb_read (verb.Hex None (Some group)) h = absurd h

@@ -42,7 +42,7 @@ options_in name_in _ = None
 -- the verbs of no argument
 abbrev pub verb_alone : Word → Option Verb
 verb_alone word.View = Some verb.View
-verb_alone word.ToBytes = Some verb.ToBytes
+verb_alone word.ToBytes = Some (verb.ToBytes None)
 verb_alone word.Release = Some verb.Release
 verb_alone word.Len = Some verb.Len
 verb_alone word.ToReadonly = Some verb.ToReadonly
@@ -67,6 +67,7 @@ verb_alone _ = None
 abbrev pub verb_of_one : Word → Value → Option Verb
 verb_of_one word.Get key = Some (verb.Get key)
 verb_of_one word.Cast format = Some (verb.Cast format None)
+verb_of_one word.ToBytes order = Some (verb.ToBytes (Some order))
 verb_of_one word.SetState state = Some (verb.SetState state)
 verb_of_one word.Contains item = Some (verb.Contains item)
 verb_of_one word.Hex sep = Some (verb.Hex (Some sep) None)
@@ -83,6 +84,7 @@ verb_of_one _ _ = None
 abbrev pub verb_of_two : Word → Value → Value → Option Verb
 verb_of_two word.Set key item = Some (verb.Set key item)
 verb_of_two word.Cast format shape = Some (verb.Cast format (Some shape))
+verb_of_two word.CastF format shape = Some (verb.CastF format shape)
 verb_of_two word.Range from to = Some (verb.Range from to)
 verb_of_two word.Hex sep group = Some (verb.Hex (Some sep) (Some group))
 verb_of_two word.Insert index item = Some (verb.Insert index item)
@@ -153,7 +155,8 @@ word_of verb.View = word.View
 word_of (verb.Get key) = word.Get
 word_of (verb.Set key item) = word.Set
 word_of (verb.Cast format shape) = word.Cast
-word_of verb.ToBytes = word.ToBytes
+word_of (verb.CastF format shape) = word.CastF
+word_of (verb.ToBytes order) = word.ToBytes
 word_of verb.Release = word.Release
 word_of verb.Len = word.Len
 word_of (verb.Property name) = word.Property
@@ -207,6 +210,8 @@ values_of (verb.Get key) = key ∷ []
 values_of (verb.Set key item) = key ∷ item ∷ []
 values_of (verb.Cast format None) = format ∷ []
 values_of (verb.Cast format (Some shape)) = format ∷ shape ∷ []
+values_of (verb.CastF format shape) = format ∷ shape ∷ []
+values_of (verb.ToBytes (Some order)) = order ∷ []
 values_of (verb.Range from to) = from ∷ to ∷ []
 values_of (verb.SetState state) = state ∷ []
 values_of (verb.Contains item) = item ∷ []

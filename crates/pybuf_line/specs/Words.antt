@@ -31,6 +31,7 @@ written_word word.ToBytes = codes "bytes"
 written_word word.Release = codes "release"
 written_word word.Len = codes "len"
 written_word word.Cast = codes "cast"
+written_word word.CastF = codes "castf"
 written_word word.Property = codes "prop"
 written_word word.ToReadonly = codes "toreadonly"
 written_word word.Range = codes "range"
@@ -64,7 +65,7 @@ written_word word.Copy = codes "copy"
 
 abbrev pub every_word : List Word
 every_word =
-    word.New ∷ word.View ∷ word.Get ∷ word.Set ∷ word.ToBytes ∷ word.Release ∷ word.Len ∷ word.Cast ∷ word.Property
+    word.New ∷ word.View ∷ word.Get ∷ word.Set ∷ word.ToBytes ∷ word.Release ∷ word.Len ∷ word.Cast ∷ word.CastF ∷ word.Property
     ∷ word.ToReadonly ∷ word.Range ∷ word.Enter ∷ word.Exit ∷ word.ToContiguous ∷ word.ToList
     ∷ word.Compare ∷ word.Hash ∷ word.Repr ∷ word.Iter ∷ word.Next ∷ word.LengthHint ∷ word.SetState
     ∷ word.Contains ∷ word.Hex ∷ word.Call ∷ word.Del ∷ word.Append ∷ word.Extend ∷ word.Insert ∷ word.Pop

@@ -31,7 +31,7 @@ fn alone(subject: u64, word: Word) -> Result<Command, Unread>
 {
     let verb = match word {
         Word::View => Verb::View,
-        Word::ToBytes => Verb::ToBytes,
+        Word::ToBytes => Verb::ToBytes { order: None },
         Word::Release => Verb::Release,
         Word::Len => Verb::Len,
         Word::ToReadonly => Verb::ToReadonly,
@@ -70,6 +70,7 @@ fn of_one(alloc: Global, subject: u64, word: Word, first: &[u8]) -> Result<Comma
             format: first,
             shape: None,
         },
+        Word::ToBytes => Verb::ToBytes { order: Some(first) },
         Word::SetState => Verb::SetState { state: first },
         Word::Contains => Verb::Contains { value: first },
         Word::Hex => Verb::Hex {
@@ -109,6 +110,10 @@ fn of_two(
         Word::Cast => Verb::Cast {
             format: first,
             shape: Some(second),
+        },
+        Word::CastF => Verb::CastF {
+            format: first,
+            shape: second,
         },
         Word::Range => Verb::Range {
             from: first,

@@ -18,6 +18,7 @@ pub enum Word {
     Release,
     Len,
     Cast,
+    CastF,
     Property,
     ToReadonly,
     Range,
@@ -143,6 +144,9 @@ fn word_of_five(text: &[u8]) -> Option<Word>
 {
     if text == "bytes".as_bytes() {
         return Some(Word::ToBytes);
+    }
+    if text == "castf".as_bytes() {
+        return Some(Word::CastF);
     }
     if text == "range".as_bytes() {
         return Some(Word::Range);

@@ -1,5 +1,6 @@
 -- Runs of commands one after the other.
 use Rattle.std.proofs.Common.{◌≡◌, ℕ, zero, suc, ◌+◌, Bool, cond, List, [], ◌∷◌, ◌++◌, length, count_by, refl, sym, ◌∙◌, ap, subst, arith}
+use Rattle.std.specs.Prelude.{None}
 use Rattle.std.specs.List.{flat_map, range_with_len}
 use Rattle.std.proofs.lemmas.List.Sums.{sum_by-append}
 use Rattle.std.proofs.lemmas.Grind.{flat_map-append}
@@ -75,7 +76,7 @@ counts_of run commands begun ran empty none zero_refused =
     ∙ (ap (λ n. told (length commands) n run.world) refused
     ∙ ap (λ (w : World). told (length commands) (count_by is_refusal (replies_of empty_world commands)) w) world)
 
-pub whole_run : (n : ℕ) (begun first then run : Counted) (made last : Command) → made ≡ new_bytearray → last ≡ of_first verb.ToBytes →
+pub whole_run : (n : ℕ) (begun first then run : Counted) (made last : Command) → made ≡ new_bytearray → last ≡ of_first (verb.ToBytes None) →
     HasRun begun (made ∷ []) first → HasRun first (flat_map round (range_with_len 0 n)) then → HasRun then (last ∷ []) run →
     begun.world ≡ empty_world → begun.lines ≡ 0 → begun.refused ≡ 0 → told run.lines run.refused run.world ≡ summary n
 unfolding summary

@@ -44,7 +44,7 @@ abbrev pub viewed_by : ℕ → ℕ → List Command
 viewed_by first second =
     of_first verb.View
     ∷ command.Do first (verb.Get turned_round)
-    ∷ command.Do second verb.ToBytes
+    ∷ command.Do second (verb.ToBytes None)
     ∷ append 0
     ∷ command.Do first verb.Release
     ∷ command.Do second verb.Release
@@ -61,4 +61,4 @@ round k = append ((7 * k + 3) % 256) ∷ popped k ++ viewed k
 
 -- A bytearray is made, then come the rounds, and at the end its bytes are read.
 abbrev pub script : ℕ → List Command
-script n = new_bytearray ∷ flat_map round (range_with_len 0 n) ++ of_first verb.ToBytes ∷ []
+script n = new_bytearray ∷ flat_map round (range_with_len 0 n) ++ of_first (verb.ToBytes None) ∷ []

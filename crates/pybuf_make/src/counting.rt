@@ -73,7 +73,7 @@ fn view_by(run: &mut Counted, first: u64, second: u64) -> Made<()>
 {
     carry_out(run, ask(0, Verb::View))?;
     carry_out(run, turn_round(first))?;
-    carry_out(run, ask(second, Verb::ToBytes))?;
+    carry_out(run, ask(second, Verb::ToBytes { order: None }))?;
     carry_out(run, append(0))?;
     carry_out(run, ask(first, Verb::Release))?;
     carry_out(run, ask(second, Verb::Release))
@@ -134,6 +134,6 @@ pub fn make_summary(alloc: Global, n: u16) -> Made<Vec<u8>>
     };
     carry_out(&mut run, new_bytearray(alloc))?;
     rounds(&mut run, n)?;
-    carry_out(&mut run, ask(0, Verb::ToBytes))?;
+    carry_out(&mut run, ask(0, Verb::ToBytes { order: None }))?;
     told(alloc, run.lines, run.refused, &run.world)
 }

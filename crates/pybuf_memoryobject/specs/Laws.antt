@@ -61,7 +61,7 @@ IndicesGet = (e : Exporter) (k : ℕ) (index : ℤ) → IsCommand e (subject.Vie
 
 -- `bytes`
 abbrev pub VectorsAreBytes : Type 0
-VectorsAreBytes = (e : Exporter) (k : ℕ) → IsCommand e (subject.View k) verb.ToBytes (bytes_of_view e k)
+VectorsAreBytes = (e : Exporter) (k : ℕ) → IsCommand e (subject.View k) (verb.ToBytes None) (bytes_of_view e k None)
 
 -- `prop` of the shape
 abbrev pub ShapesAreShown : Type 0

@@ -77,7 +77,7 @@ impl PyMemoryView {
     ///
     /// Refused with `ValueError` for a released view.
     pub fn to_vec(&self, state: &ExporterState) -> Result<Vec<u8>, Halt>
-        ensures { Reads (bytes_of_view state.now.exporter self.now) state.now.exporter (result_map_both (λ bytes. replies.Bytes bytes.items) (λ halt. halt) result) }
+        ensures { Reads (bytes_of_view state.now.exporter self.now None) state.now.exporter (result_map_both (λ bytes. replies.Bytes bytes.items) (λ halt. halt) result) }
     {
         state.content(self.number())
     }

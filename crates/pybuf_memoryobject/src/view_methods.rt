@@ -200,6 +200,31 @@ impl PyMemoryView {
         state.cast_of_view(self.number(), &format, &shape, &loans)
     }
 
+    /// One more view of the same bytes, with items of another format in the dimensions of a shape, in column order: of
+    /// the items taken with the first index changing fastest, item k lies k item sizes from the first. The reply is its
+    /// number. Python's views have no such method; arrays in other languages lie so.
+    ///
+    /// Refused as `cast` with a shape is.
+    pub fn cast_f(
+        &self,
+        state: &mut ExporterState,
+        format: Value,
+        shape: Value,
+        loans: LoanList,
+    ) -> Made<LocalReply>
+        requires { LoansFit loans }
+        ensures ok { IfOk result (λ r. estep state.old.exporter (subjects.View self.now) (verbs.CastF format shape) loans ≡ (state.new.exporter, r)) }
+        ensures err { OnErr result (state.new ≡ state.old) }
+        ensures room { state.new.room ≡ state.old.room }
+    {
+        step_of(
+            state,
+            Subject::View(self.number()),
+            Verb::CastF { format, shape },
+            loans,
+        )
+    }
+
     /// One more view of the same items, which may only be read, as Python's `view.toreadonly()`
     /// (Library reference, "Memory Views"): the reply is its number.
     pub fn toreadonly(&self, state: &mut ExporterState, loans: LoanList) -> Made<LocalReply>
@@ -211,15 +236,29 @@ impl PyMemoryView {
         step_of(state, Subject::View(self.number()), Verb::ToReadonly, loans)
     }
 
-    /// The bytes of the items, with the last dimension running fastest, as Python's `view.tobytes()`
-    /// (Library reference, "Memory Views").
-    pub fn tobytes(&self, state: &mut ExporterState, loans: LoanList) -> Made<LocalReply>
+    /// The bytes of the items, as Python's `view.tobytes(order)` (Library reference, "Memory Views"): where no order is
+    /// given, or None or `C`, with the last index changing fastest, by `F` with the first, and by `A` so only where the
+    /// view is F-contiguous and not contiguous.
+    ///
+    /// Refused with `ValueError` for a released view and for another text, and with `TypeError` for an order that is no
+    /// text.
+    pub fn tobytes(
+        &self,
+        state: &mut ExporterState,
+        order: Option<Value>,
+        loans: LoanList,
+    ) -> Made<LocalReply>
         requires { LoansFit loans }
-        ensures ok { IfOk result (λ r. estep state.old.exporter (subjects.View self.now) verbs.ToBytes loans ≡ (state.new.exporter, r)) }
+        ensures ok { IfOk result (λ r. estep state.old.exporter (subjects.View self.now) (verbs.ToBytes order) loans ≡ (state.new.exporter, r)) }
         ensures err { OnErr result (state.new ≡ state.old) }
         ensures room { state.new.room ≡ state.old.room }
     {
-        step_of(state, Subject::View(self.number()), Verb::ToBytes, loans)
+        step_of(
+            state,
+            Subject::View(self.number()),
+            Verb::ToBytes { order },
+            loans,
+        )
     }
 
     /// The view itself, as Python's `with view` begins (Library reference, "Memory Views", `release`).

@@ -196,10 +196,15 @@ impl PyByteArray {
     /// A copy of the bytes, as Python's `bytes(object)` (Library reference, "Bytes Objects").
     pub fn tobytes(&mut self, loans: LoanList) -> Made<LocalReply>
         requires { LoansFit loans }
-        ensures ok { IfOk result (λ r. estep self.old subjects.Own verbs.ToBytes loans ≡ (self.new, r)) }
+        ensures ok { IfOk result (λ r. estep self.old subjects.Own (verbs.ToBytes None) loans ≡ (self.new, r)) }
         ensures err { OnErr result (self.new ≡ self.old) }
     {
-        step_of(&mut self.exporter, Subject::Own, Verb::ToBytes, loans)
+        step_of(
+            &mut self.exporter,
+            Subject::Own,
+            Verb::ToBytes { order: None },
+            loans,
+        )
     }
 
     /// The number of bytes, as Python's `len(bytearray)` (Library reference, "Common Sequence

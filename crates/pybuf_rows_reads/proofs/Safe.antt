@@ -1,6 +1,6 @@
 -- Rows that read keep a sound exporter.
 use Rattle.std.proofs.Common.{◌≡◌, ℕ, length, Bool, true, false, refl, subst}
-use Rattle.std.specs.Prelude.{Result, Ok, Err, if◌then◌else◌}
+use Rattle.std.specs.Prelude.{Option, Some, None, Result, Ok, Err, if◌then◌else◌}
 use Rattle.pybuf_value.specs.declared.faults.Fault.{Fault}
 use Rattle.pybuf_value.specs.declared.faults.Fault.TheVariants as fault
 use Rattle.pybuf_value.specs.declared.values.Value.{Value}
@@ -22,6 +22,7 @@ use Rattle.pybuf_memoryview.specs.Keys.{item_of_key, names_itself}
 use Rattle.pybuf_state.specs.Laws.{ReadingKeeps}
 use Rattle.pybuf_rows_reads.specs.Get.{byte_of_own, part_of_own, get_in_kind, item_of_layout, item_of_view}
 use Rattle.pybuf_rows_reads.specs.Property.{is_exports, property_of_own, property_of_layout, property_of_view}
+use Rattle.pybuf_rows_reads.specs.ToBytes.{bytes_of_own, is_column_order}
 use Rattle.pybuf_rows_reads.specs.Laws.{GetIsSafe, BytesIsSafe, LenIsSafe, PropertyIsSafe, ToListIsSafe}
 
 bind : {A : Type 0} (e : Exporter) (r : Result A Fault) (f : A → Result (Exporter × LocalReply) Fault) → ((a : A) → r ≡ Ok a → IsSafe e (f a)) → IsSafe e (r >>= f)
@@ -63,7 +64,11 @@ get_safe reading = ((λ e key. in_kind e e.kind (part_of_own e key) (part_safe r
 -- ---- bytes, len
 
 pub bytes_safe : ReadingKeeps → BytesIsSafe
-bytes_safe reading = ((λ e. read reading e _ refl), (λ e k. bind e (live_layout e k) _ (λ layout _. read reading e _ refl)))
+bytes_safe reading = (own, λ e k order. bind e (live_layout e k) _ (λ layout _. bind e (is_column_order layout order) _ (λ columns _. read reading e _ refl)))
+  where
+    own : (e : Exporter) (order : Option Value) → IsSafe e (bytes_of_own e order)
+    own e None = read reading e _ refl
+    own e (Some order) = tt
 
 pub len_safe : ReadingKeeps → LenIsSafe
 len_safe reading = (

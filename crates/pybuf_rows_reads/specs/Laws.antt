@@ -1,5 +1,5 @@
 -- The rows keep a sound exporter, and only a refusal is replied as one; and what `tolist` lists.
-use Rattle.std.specs.Prelude.{◌≡◌, ℕ, List, length, Ok, Some, slice_get}
+use Rattle.std.specs.Prelude.{◌≡◌, ℕ, List, length, Ok, Option, Some, slice_get}
 use Rattle.pybuf_value.specs.declared.values.Item.{Item}
 use Rattle.pybuf_value.specs.declared.values.Value.{Value}
 use Rattle.pybuf_desc.specs.Layouts.{Layout, product}
@@ -22,8 +22,8 @@ GetIsSafe =
 
 abbrev pub BytesIsSafe : Type 0
 BytesIsSafe =
-    ((e : Exporter) → IsSafe e (bytes_of_own e))
-    × ((e : Exporter) (k : ℕ) → IsSafe e (bytes_of_view e k))
+    ((e : Exporter) (order : Option Value) → IsSafe e (bytes_of_own e order))
+    × ((e : Exporter) (k : ℕ) (order : Option Value) → IsSafe e (bytes_of_view e k order))
 
 abbrev pub LenIsSafe : Type 0
 LenIsSafe =

@@ -1,15 +1,16 @@
 -- `prop`: a property of an exporter or of a view.
-use Rattle.std.specs.Prelude.{ℕ, Bool, true, false, pos, length, map, replicate, Result, Ok, Err}
+use Rattle.std.specs.Prelude.{ℕ, Bool, true, false, ◌||◌, pos, length, map, replicate, Result, Ok, Err}
 use Rattle.pybuf_value.specs.declared.faults.Fault.{Fault}
 use Rattle.pybuf_value.specs.declared.faults.Fault.TheVariants as fault
 use Rattle.pybuf_value.specs.Refusing.{◌>>=◌, unless}
 use Rattle.pybuf_desc.specs.Layouts.{Layout}
 use Rattle.pybuf_desc.specs.Contiguous.{is_contiguous_layout}
+use Rattle.pybuf_desc.specs.ColumnOrder.{is_f_contiguous_layout}
 use Rattle.pybuf_command.specs.declared.commands.PropertyName.{PropertyName}
 use Rattle.pybuf_command.specs.declared.commands.PropertyName.TheVariants as name
 use Rattle.pybuf_command.specs.declared.commands.LocalReply.{LocalReply}
 use Rattle.pybuf_command.specs.declared.commands.LocalReply.TheVariants as reply
-use Rattle.pybuf_memoryview.specs.Orders.{nbytes_of, is_f_contiguous_layout}
+use Rattle.pybuf_memoryview.specs.Orders.{nbytes_of}
 use Rattle.pybuf_state.specs.Exporter.{Exporter, exports_of, live_layout}
 use Rattle.pybuf_rows_reads.specs.Len.{count_item}
 
@@ -30,7 +31,7 @@ property_of_layout layout name.Shape = Ok (reply.Numbers (map (λ n. pos n) layo
 property_of_layout layout name.Strides = Ok (reply.Numbers layout.strides)
 property_of_layout layout name.Suboffsets = Ok (reply.Numbers (replicate (length layout.shape) (pos 0)))
 property_of_layout layout name.Format = Ok (reply.Text layout.format)
-property_of_layout layout name.Contiguous = Ok (reply.Truth (is_contiguous_layout layout))
+property_of_layout layout name.Contiguous = Ok (reply.Truth (is_contiguous_layout layout || is_f_contiguous_layout layout))
 property_of_layout layout name.CContiguous = Ok (reply.Truth (is_contiguous_layout layout))
 property_of_layout layout name.FContiguous = Ok (reply.Truth (is_f_contiguous_layout layout))
 

@@ -1,18 +1,54 @@
--- `bytes`: the subject's bytes.
-use Rattle.std.specs.Prelude.{ℕ, Result, Ok}
+-- `bytes`: the subject's bytes, of a view in an order.
+use Rattle.std.specs.Prelude.{ℕ, ◌==◌, Bool, true, false, ◌&&◌, not, List, [], ◌∷◌, Option, Some, None, Result, Ok, Err, if◌then◌else◌}
 use Rattle.pybuf_value.specs.declared.faults.Fault.{Fault}
+use Rattle.pybuf_value.specs.declared.faults.Fault.TheVariants as fault
+use Rattle.pybuf_value.specs.declared.values.Scalar.TheVariants as scalar
+use Rattle.pybuf_value.specs.declared.values.Value.{Value}
+use Rattle.pybuf_value.specs.declared.values.Value.TheVariants as value
 use Rattle.pybuf_value.specs.Refusing.{◌>>=◌}
+use Rattle.pybuf_value.specs.Texts.{text_in}
 use Rattle.pybuf_command.specs.declared.commands.LocalReply.{LocalReply}
 use Rattle.pybuf_command.specs.declared.commands.LocalReply.TheVariants as reply
+use Rattle.pybuf_desc.specs.Layouts.{Layout}
+use Rattle.pybuf_desc.specs.Contiguous.{is_contiguous_layout}
 use Rattle.pybuf_desc.specs.Items.{content_of_layout}
+use Rattle.pybuf_desc.specs.ColumnOrder.{column_content, is_f_contiguous_layout}
 use Rattle.pybuf_state.specs.Exporter.{Exporter, live_layout}
 
--- of an exporter
-abbrev pub bytes_of_own : Exporter → Result (Exporter × LocalReply) Fault
-bytes_of_own e = Ok (e, reply.Bytes e.bytes)
+-- of an exporter, which knows no order
+abbrev pub bytes_of_own : Exporter → Option Value → Result (Exporter × LocalReply) Fault
+bytes_of_own e None = Ok (e, reply.Bytes e.bytes)
+bytes_of_own e (Some order) = Err fault.Kind
 
--- of a view: those of its items, in order
-abbrev pub bytes_of_view : Exporter → ℕ → Result (Exporter × LocalReply) Fault
-bytes_of_view e k = do
+-- Whether a letter asks for column order: C doesn't, F does, and A does where the items lie one after the other in that order
+-- and not in row-major order.
+abbrev pub by_letter : Layout → ℕ → Result Bool Fault
+by_letter layout letter =
+    if letter == 67 then Ok false
+    else if letter == 70 then Ok true
+    else if letter == 65 then Ok (is_f_contiguous_layout layout && not (is_contiguous_layout layout))
+    else Err fault.Value
+
+abbrev pub by_text : Layout → List ℕ → Result Bool Fault
+by_text layout (letter ∷ []) = by_letter layout letter
+by_text layout _ = Err fault.Value
+
+-- the same of an order that may be absent or None: it is C then
+abbrev pub is_column_order : Layout → Option Value → Result Bool Fault
+is_column_order layout None = Ok false
+is_column_order layout (Some (value.One scalar.None)) = Ok false
+is_column_order layout (Some order) = do
+  text ← text_in order
+  by_text layout text
+
+-- the bytes of a view's items in column order, or in row-major order
+abbrev pub content_in : Bool → List ℕ → Layout → List ℕ
+content_in true bytes layout = column_content bytes layout
+content_in false bytes layout = content_of_layout bytes layout
+
+-- of a view: those of its items, in the order that is asked for
+abbrev pub bytes_of_view : Exporter → ℕ → Option Value → Result (Exporter × LocalReply) Fault
+bytes_of_view e k order = do
   layout ← live_layout e k
-  Ok (e, reply.Bytes (content_of_layout e.bytes layout))
+  columns ← is_column_order layout order
+  Ok (e, reply.Bytes (content_in columns e.bytes layout))

@@ -40,7 +40,9 @@ fn of_layout(alloc: Global, layout: &KeptLayout, name: PropertyName) -> Result<L
         PropertyName::Strides => Ok(LocalReply::Numbers(layout.strides(alloc)?)),
         PropertyName::Suboffsets => Ok(LocalReply::Numbers(layout.suboffsets(alloc)?)),
         PropertyName::Format => Ok(LocalReply::Text(layout.format_text().to_text(alloc)?)),
-        PropertyName::Contiguous => Ok(LocalReply::Truth(layout.is_contiguous())),
+        PropertyName::Contiguous => Ok(LocalReply::Truth(
+            layout.is_contiguous() || layout.is_f_contiguous(),
+        )),
         PropertyName::CContiguous => Ok(LocalReply::Truth(layout.is_contiguous())),
         PropertyName::FContiguous => Ok(LocalReply::Truth(layout.is_f_contiguous())),
     }

@@ -32,18 +32,20 @@ use Rattle.pybuf_struct.specs.Singles.{size_by}
 use Rattle.pybuf_struct.specs.Natives.{native_single_code, is_byte_code, is_byte_format}
 use Rattle.pybuf_struct.specs.Laws.{NativeCodesHaveTheirSize}
 use Rattle.pybuf_desc.specs.Contiguous.{is_contiguous_layout}
+use Rattle.pybuf_desc.specs.Items.{content_of_layout}
+use Rattle.pybuf_desc.specs.ColumnOrder.{column_content, is_f_contiguous_layout}
 use Rattle.pybuf_desc.specs.Slices.{slice_of}
 use Rattle.pybuf_desc.specs.Casts.{cast_of}
 use Rattle.pybuf_desc.specs.Apart.{HasItemsApart}
-use Rattle.pybuf_desc.specs.Laws.{SlicesStayInside, SlicesHaveTheirShape, SlicesLieApart, CastsStayInside, CastsHaveTheirShape, CastsLieApart, ShapedCastsStayInside, ShapedCastsHaveTheirShape, WholeLayoutsLieApart}
+use Rattle.pybuf_desc.specs.Laws.{SlicesStayInside, SlicesHaveTheirShape, SlicesLieApart, CastsStayInside, CastsHaveTheirShape, CastsLieApart, ShapedCastsStayInside, ShapedCastsHaveTheirShape, ColumnCastsStayInside, ColumnCastsHaveTheirShape, ColumnCastsLieApart, ColumnCastsAreFContiguous, ColumnCastsGiveTheBytesBack, WholeLayoutsLieApart}
 use Rattle.pybuf_memoryview.specs.Sized.{is_size_of}
 use Rattle.pybuf_memoryview.specs.Items.{has_dimensions}
 use Rattle.pybuf_memoryview.specs.Orders.{nbytes_of, has_zero_entry}
 use Rattle.pybuf_state.specs.Laws.{IsSoundLayout, WholeLayoutsAreSound, PartLayoutsAreSound, LiveLayoutsAreSound, LiveLayoutsLieApart, ReadingKeeps, NewViewsKeep, ReleasingKeeps}
 use Rattle.pybuf_rows_views.specs.Range.{part_between}
 use Rattle.pybuf_value.specs.Texts.{text_in}
-use Rattle.pybuf_rows_views.specs.Cast.{code_for, size_for, entries_of, flat_layout_of, shaped_layout_of, layout_in_shape, cast_of_view}
-use Rattle.pybuf_rows_views.specs.Laws.{ViewIsSafe, RangeIsSafe, SliceIsSafe, CastIsSafe, CastsAreOfBytes, ReleaseIsSafe, EnterIsSafe, ContiguousIsCopied, ToReadonlyIsSafe}
+use Rattle.pybuf_rows_views.specs.Cast.{code_for, size_for, entries_of, flat_layout_of, cast_in, shaped_layout_of, layout_in_shape, cast_of_view, column_layout_in, column_cast_of_view}
+use Rattle.pybuf_rows_views.specs.Laws.{ViewIsSafe, RangeIsSafe, SliceIsSafe, CastIsSafe, ColumnCastIsSafe, HoldsTheBytes, ColumnCastsHoldTheBytes, CastsAreOfBytes, ReleaseIsSafe, EnterIsSafe, ContiguousIsCopied, ToReadonlyIsSafe}
 
 bind : {A : Type 0} (e : Exporter) (r : Result A Fault) (f : A → Result (Exporter × LocalReply) Fault) → ((a : A) → r ≡ Ok a → IsSafe e (f a)) → IsSafe e (r >>= f)
 bind e r f after = done_bind (IsCarriedOut e) r f after
@@ -174,6 +176,9 @@ pub record CastLaws : Type 0 where
   pub shaped_inside : ShapedCastsStayInside
   pub shaped_shapes : ShapedCastsHaveTheirShape
   pub apart : CastsLieApart
+  pub column_inside : ColumnCastsStayInside
+  pub column_shapes : ColumnCastsHaveTheirShape
+  pub column_apart : ColumnCastsLieApart
   pub sizes : NativeCodesHaveTheirSize
 
 size_some : (c : FormatType) → 0 < size_of order.Native c
@@ -218,11 +223,34 @@ flat_sound laws e layout text flat =
 bytes_told : (n m : ℕ) (b : Bool) → unless (not (n == m)) fault.Kind ≡ Ok b → n ≡ m
 bytes_told n m b is = eqb-true n m (not_false (n == m) (passed (not (n == m)) fault.Kind b is))
 
-shaped_sound : CastLaws → (e : Exporter) (layout : Layout) (text : List ℕ) (parts : List Scalar) → is_contiguous_layout layout ≡ true
-    → IfDone (λ (l : Layout). IsSoundLayout e layout → IsSoundLayout e l) (shaped_layout_of layout text parts)
-shaped_sound laws e layout text parts flat =
+second_false : (a b : Bool) → a || b ≡ false → b ≡ false
+second_false true b is = absurd (true≢false is)
+second_false false b is = is
+
+-- no dimension without an entry
+some_items : (shape : List ℕ) → has_zero_entry shape ≡ false → 0 < product shape
+some_items [] is = omega arith
+some_items (zero ∷ shape) is = absurd (true≢false is)
+some_items (suc n ∷ shape) is = let rest = some_items shape (second_false (suc n == 0) (has_zero_entry shape) is) in grind (arith, rest)
+
+in_sound : CastLaws → (e : Exporter) (columns : Bool) (layout : Layout) (text : List ℕ) (size : ℕ) (entries : List ℕ) → is_contiguous_layout layout ≡ true → (size_by text ≡ Ok size) × (0 < size)
+    → 0 < length layout.starts → length layout.starts * layout.itemsize ≡ product entries * size → IsSoundLayout e layout → IsSoundLayout e (cast_in columns layout text size entries)
+in_sound laws e true layout text size entries flat sized some bytes sound = record {
+  formed = record { sized = size_told (format_of text) size sized.0 sized.1; counted = laws.column_shapes layout text size entries some };
+  inside = laws.column_inside layout text size entries (length e.bytes) flat sized.1 bytes sound.inside;
+  readonly = sound.readonly;
+}
+in_sound laws e false layout text size entries flat sized some bytes sound = record {
+  formed = record { sized = size_told (format_of text) size sized.0 sized.1; counted = laws.shaped_shapes layout text size entries sized.1 bytes };
+  inside = laws.shaped_inside layout text size entries (length e.bytes) flat sized.1 bytes sound.inside;
+  readonly = sound.readonly;
+}
+
+shaped_sound : CastLaws → (e : Exporter) (columns : Bool) (layout : Layout) (text : List ℕ) (parts : List Scalar) → is_contiguous_layout layout ≡ true
+    → IfDone (λ (l : Layout). IsSoundLayout e layout → IsSoundLayout e l) (shaped_layout_of columns layout text parts)
+shaped_sound laws e columns layout text parts flat =
     let P : Layout → Type 0 = λ l. IsSoundLayout e layout → IsSoundLayout e l in
-    done_bind P (unless (has_zero_entry layout.shape) fault.Kind) _ (λ _ _.
+    done_bind P (unless (has_zero_entry layout.shape) fault.Kind) _ (λ none no_zero.
     done_bind P (unless (not (length layout.shape == 1) && not (length parts == 1)) fault.Kind) _ (λ _ _.
     done_bind P (unless (nat_lt 64 (length parts)) fault.Value) _ (λ _ _.
     done_bind P (size_for layout text) _ (λ size told.
@@ -233,17 +261,14 @@ shaped_sound laws e layout text parts flat =
     (λ sound.
     let bytes : length layout.starts * layout.itemsize ≡ product entries * size =
     ap (λ (n : ℕ). n * layout.itemsize) sound.formed.counted ∙ mul_comm (product layout.shape) layout.itemsize ∙ sym counted ∙ mul_comm size (product entries) in
-    record {
-      formed = record { sized = size_told (format_of text) size sized.0 sized.1; counted = laws.shaped_shapes layout text size entries sized.1 bytes };
-      inside = laws.shaped_inside layout text size entries (length e.bytes) flat sized.1 bytes sound.inside;
-      readonly = sound.readonly;
-    })))))))
+    let some : 0 < length layout.starts = subst (λ (n : ℕ). 0 < n) (sym sound.formed.counted) (some_items layout.shape (passed (has_zero_entry layout.shape) fault.Kind none no_zero)) in
+    in_sound laws e columns layout text size entries flat sized some bytes sound)))))))
 
 in_shape_sound : CastLaws → (e : Exporter) (layout : Layout) (text : List ℕ) (shape : Option Value) → is_contiguous_layout layout ≡ true
     → IfDone (λ (l : Layout). IsSoundLayout e layout → IsSoundLayout e l) (layout_in_shape layout text shape)
 in_shape_sound laws e layout text None flat = flat_sound laws e layout text flat
-in_shape_sound laws e layout text (Some (value.Tuple parts)) flat = shaped_sound laws e layout text parts flat
-in_shape_sound laws e layout text (Some (value.List parts)) flat = shaped_sound laws e layout text parts flat
+in_shape_sound laws e layout text (Some (value.Tuple parts)) flat = shaped_sound laws e false layout text parts flat
+in_shape_sound laws e layout text (Some (value.List parts)) flat = shaped_sound laws e false layout text parts flat
 in_shape_sound laws e layout text (Some (value.One s)) flat = tt
 in_shape_sound laws e layout text (Some (value.Slice s)) flat = tt
 in_shape_sound laws e layout text (Some (value.Slices s)) flat = tt
@@ -254,22 +279,26 @@ flat_apart apart layout text =
     done_bind HasItemsApart (unless (not (length layout.shape == 1) && has_zero_entry layout.shape) fault.Kind) _ (λ _ _.
     done_bind HasItemsApart (size_for layout text) _ (λ size _. apart.0 layout text size))
 
-shaped_apart : CastsLieApart → (layout : Layout) (text : List ℕ) (parts : List Scalar) → IfDone HasItemsApart (shaped_layout_of layout text parts)
-shaped_apart apart layout text parts =
+in_apart : CastsLieApart → ColumnCastsLieApart → (columns : Bool) (layout : Layout) (text : List ℕ) (size : ℕ) (entries : List ℕ) → HasItemsApart (cast_in columns layout text size entries)
+in_apart apart column_apart true layout text size entries = column_apart layout text size entries
+in_apart apart column_apart false layout text size entries = apart.1 layout text size entries
+
+shaped_apart : CastsLieApart → ColumnCastsLieApart → (columns : Bool) (layout : Layout) (text : List ℕ) (parts : List Scalar) → IfDone HasItemsApart (shaped_layout_of columns layout text parts)
+shaped_apart apart column_apart columns layout text parts =
     done_bind HasItemsApart (unless (has_zero_entry layout.shape) fault.Kind) _ (λ _ _.
     done_bind HasItemsApart (unless (not (length layout.shape == 1) && not (length parts == 1)) fault.Kind) _ (λ _ _.
     done_bind HasItemsApart (unless (nat_lt 64 (length parts)) fault.Value) _ (λ _ _.
     done_bind HasItemsApart (size_for layout text) _ (λ size _.
     done_bind HasItemsApart (entries_of size parts) _ (λ entries _.
-    done_bind HasItemsApart (unless (not (size * product entries == nbytes_of layout)) fault.Kind) _ (λ _ _. apart.1 layout text size entries))))))
+    done_bind HasItemsApart (unless (not (size * product entries == nbytes_of layout)) fault.Kind) _ (λ _ _. in_apart apart column_apart columns layout text size entries))))))
 
-in_shape_apart : CastsLieApart → (layout : Layout) (text : List ℕ) (shape : Option Value) → IfDone HasItemsApart (layout_in_shape layout text shape)
-in_shape_apart apart layout text None = flat_apart apart layout text
-in_shape_apart apart layout text (Some (value.Tuple parts)) = shaped_apart apart layout text parts
-in_shape_apart apart layout text (Some (value.List parts)) = shaped_apart apart layout text parts
-in_shape_apart apart layout text (Some (value.One s)) = tt
-in_shape_apart apart layout text (Some (value.Slice s)) = tt
-in_shape_apart apart layout text (Some (value.Slices s)) = tt
+in_shape_apart : CastsLieApart → ColumnCastsLieApart → (layout : Layout) (text : List ℕ) (shape : Option Value) → IfDone HasItemsApart (layout_in_shape layout text shape)
+in_shape_apart apart column_apart layout text None = flat_apart apart layout text
+in_shape_apart apart column_apart layout text (Some (value.Tuple parts)) = shaped_apart apart column_apart false layout text parts
+in_shape_apart apart column_apart layout text (Some (value.List parts)) = shaped_apart apart column_apart false layout text parts
+in_shape_apart apart column_apart layout text (Some (value.One s)) = tt
+in_shape_apart apart column_apart layout text (Some (value.Slice s)) = tt
+in_shape_apart apart column_apart layout text (Some (value.Slices s)) = tt
 
 pub cast_safe : CastLaws → CastIsSafe
 cast_safe laws e k format shape =
@@ -281,7 +310,88 @@ cast_safe laws e k format shape =
     let flat = not_false (is_contiguous_layout layout) (passed (not (is_contiguous_layout layout)) fault.Kind b is_flat) in
     let P : Layout → Type 0 = λ l. IsSoundLayout e layout → IsSoundLayout e l in
     done P (layout_in_shape layout text shape) made (in_shape_sound laws e layout text shape flat) given (laws.live e k layout sound found))
-    (λ spaced. done HasItemsApart (layout_in_shape layout text shape) made (in_shape_apart laws.apart layout text shape) given)))))
+    (λ spaced. done HasItemsApart (layout_in_shape layout text shape) made (in_shape_apart laws.apart laws.column_apart layout text shape) given)))))
+
+columns_sound : CastLaws → (e : Exporter) (layout : Layout) (text : List ℕ) (shape : Value) → is_contiguous_layout layout ≡ true
+    → IfDone (λ (l : Layout). IsSoundLayout e layout → IsSoundLayout e l) (column_layout_in layout text shape)
+columns_sound laws e layout text (value.Tuple parts) flat = shaped_sound laws e true layout text parts flat
+columns_sound laws e layout text (value.List parts) flat = shaped_sound laws e true layout text parts flat
+columns_sound laws e layout text (value.One s) flat = tt
+columns_sound laws e layout text (value.Slice s) flat = tt
+columns_sound laws e layout text (value.Slices s) flat = tt
+
+columns_apart : CastsLieApart → ColumnCastsLieApart → (layout : Layout) (text : List ℕ) (shape : Value) → IfDone HasItemsApart (column_layout_in layout text shape)
+columns_apart apart column_apart layout text (value.Tuple parts) = shaped_apart apart column_apart true layout text parts
+columns_apart apart column_apart layout text (value.List parts) = shaped_apart apart column_apart true layout text parts
+columns_apart apart column_apart layout text (value.One s) = tt
+columns_apart apart column_apart layout text (value.Slice s) = tt
+columns_apart apart column_apart layout text (value.Slices s) = tt
+
+pub column_cast_safe : CastLaws → ColumnCastIsSafe
+column_cast_safe laws e k format shape =
+    bind e (live_layout e k) _ (λ layout found.
+    bind e (unless (not (is_contiguous_layout layout)) fault.Kind) _ (λ b is_flat.
+    bind e (text_in format) _ (λ text _.
+    bind e (column_layout_in layout text shape) _ (λ made given.
+    new_view laws.adding e made (λ sound.
+    let flat = not_false (is_contiguous_layout layout) (passed (not (is_contiguous_layout layout)) fault.Kind b is_flat) in
+    let P : Layout → Type 0 = λ l. IsSoundLayout e layout → IsSoundLayout e l in
+    done P (column_layout_in layout text shape) made (columns_sound laws e layout text shape flat) given (laws.live e k layout sound found))
+    (λ spaced. done HasItemsApart (column_layout_in layout text shape) made (columns_apart laws.apart laws.column_apart layout text shape) given)))))
+
+-- ---- the bytes of a cast in column order
+
+-- the laws that these rest on
+pub record ColumnLaws : Type 0 where
+  pub live : LiveLayoutsAreSound
+  pub contiguous : ColumnCastsAreFContiguous
+  pub bytes : ColumnCastsGiveTheBytesBack
+  pub sizes : NativeCodesHaveTheirSize
+
+abbrev HasTheBytes : Exporter → Layout → Layout → Type 0
+HasTheBytes e layout cast = (is_f_contiguous_layout cast ≡ true) × (column_content e.bytes cast ≡ content_of_layout e.bytes layout)
+
+columns_of_shape : ColumnLaws → (e : Exporter) (layout : Layout) (text : List ℕ) (parts : List Scalar) → is_contiguous_layout layout ≡ true
+    → IfDone (λ (l : Layout). IsSoundLayout e layout → HasTheBytes e layout l) (shaped_layout_of true layout text parts)
+columns_of_shape laws e layout text parts flat =
+    let P : Layout → Type 0 = λ l. IsSoundLayout e layout → HasTheBytes e layout l in
+    done_bind P (unless (has_zero_entry layout.shape) fault.Kind) _ (λ none no_zero.
+    done_bind P (unless (not (length layout.shape == 1) && not (length parts == 1)) fault.Kind) _ (λ _ _.
+    done_bind P (unless (nat_lt 64 (length parts)) fault.Value) _ (λ _ _.
+    done_bind P (size_for layout text) _ (λ size told.
+    done_bind P (entries_of size parts) _ (λ entries _.
+    done_bind P (unless (not (size * product entries == nbytes_of layout)) fault.Kind) _ (λ b whole.
+    let sized = size_bound laws.sizes layout text size told in
+    let counted : size * product entries ≡ nbytes_of layout = bytes_told (size * product entries) (nbytes_of layout) b whole in
+    (λ sound.
+    let bytes : length layout.starts * layout.itemsize ≡ product entries * size =
+    ap (λ (n : ℕ). n * layout.itemsize) sound.formed.counted ∙ mul_comm (product layout.shape) layout.itemsize ∙ sym counted ∙ mul_comm size (product entries) in
+    let some : 0 < length layout.starts = subst (λ (n : ℕ). 0 < n) (sym sound.formed.counted) (some_items layout.shape (passed (has_zero_entry layout.shape) fault.Kind none no_zero)) in
+    (laws.contiguous layout text size entries, laws.bytes e.bytes layout text size entries flat sized.1 bytes some))))))))
+
+columns_in : ColumnLaws → (e : Exporter) (layout : Layout) (text : List ℕ) (shape : Value) → is_contiguous_layout layout ≡ true
+    → IfDone (λ (l : Layout). IsSoundLayout e layout → HasTheBytes e layout l) (column_layout_in layout text shape)
+columns_in laws e layout text (value.Tuple parts) flat = columns_of_shape laws e layout text parts flat
+columns_in laws e layout text (value.List parts) flat = columns_of_shape laws e layout text parts flat
+columns_in laws e layout text (value.One s) flat = tt
+columns_in laws e layout text (value.Slice s) flat = tt
+columns_in laws e layout text (value.Slices s) flat = tt
+
+columns_made : ColumnLaws → (e : Exporter) (k : ℕ) (format shape : Value) → IsSoundExporter e → IfDone (HoldsTheBytes e k) (column_cast_of_view e k format shape)
+columns_made laws e k format shape sound =
+    let P : Exporter × LocalReply → Type 0 = λ made. HoldsTheBytes e k made in
+    done_bind P (live_layout e k) _ (λ layout found.
+    done_bind P (unless (not (is_contiguous_layout layout)) fault.Kind) _ (λ b is_flat.
+    done_bind P (text_in format) _ (λ text _.
+    done_bind P (column_layout_in layout text shape) _ (λ cast given.
+    let flat = not_false (is_contiguous_layout layout) (passed (not (is_contiguous_layout layout)) fault.Kind b is_flat) in
+    let Q : Layout → Type 0 = λ l. IsSoundLayout e layout → HasTheBytes e layout l in
+    let held = done Q (column_layout_in layout text shape) cast (columns_in laws e layout text shape flat) given (laws.live e k layout sound found) in
+    record { layout = layout; live = found; cast = cast; answer = refl; in_column_order = held.0; bytes = held.1 }))))
+
+pub column_casts_hold : ColumnLaws → ColumnCastsHoldTheBytes
+column_casts_hold laws e k format shape made sound is =
+    done (λ (m : Exporter × LocalReply). HoldsTheBytes e k m) (column_cast_of_view e k format shape) made (columns_made laws e k format shape sound) is
 
 -- the code of a cast that is carried out
 abbrev OfBytes : Layout → List ℕ → Type 0
@@ -311,7 +421,7 @@ flat_of_bytes layout text =
     done_bind P (unless (not (length layout.shape == 1) && has_zero_entry layout.shape) fault.Kind) _ (λ _ _.
     done_bind P (size_for layout text) _ (λ size told. of_bytes layout text size told))
 
-shaped_of_bytes : (layout : Layout) (text : List ℕ) (parts : List Scalar) → IfDone (λ (l : Layout). OfBytes layout text) (shaped_layout_of layout text parts)
+shaped_of_bytes : (layout : Layout) (text : List ℕ) (parts : List Scalar) → IfDone (λ (l : Layout). OfBytes layout text) (shaped_layout_of false layout text parts)
 shaped_of_bytes layout text parts =
     let P : Layout → Type 0 = λ l. OfBytes layout text in
     done_bind P (unless (has_zero_entry layout.shape) fault.Kind) _ (λ _ _.

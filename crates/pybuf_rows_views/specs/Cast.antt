@@ -1,6 +1,6 @@
--- `cast`: a new view of the same bytes, with items of another format, in one dimension or in those of
--- a shape. The format is one native code, and items of single bytes stand on one side at least.
-use Rattle.std.specs.Prelude.{ℕ, ◌*◌, ◌/◌, ◌%◌, ◌==◌, ◌&&◌, ◌||◌, not, List, [], ◌∷◌, length, nat_lt, ℤ, pos, negsuc, Option, Some, None, Result, Ok, Err, ok_or, if◌then◌else◌}
+-- `cast` and `castf`: a new view of the same bytes, with items of another format, in one dimension or in those of
+-- a shape, row by row or in column order. The format is one native code, and items of single bytes stand on one side at least.
+use Rattle.std.specs.Prelude.{ℕ, ◌*◌, ◌/◌, ◌%◌, ◌==◌, ◌&&◌, ◌||◌, not, List, [], ◌∷◌, length, nat_lt, ℤ, pos, negsuc, Bool, true, false, Option, Some, None, Result, Ok, Err, ok_or, if◌then◌else◌}
 use Rattle.pybuf_value.specs.declared.faults.Fault.{Fault}
 use Rattle.pybuf_value.specs.declared.faults.Fault.TheVariants as fault
 use Rattle.pybuf_value.specs.declared.values.Scalar.{Scalar}
@@ -17,6 +17,7 @@ use Rattle.pybuf_desc.specs.Layouts.{Layout, product}
 use Rattle.pybuf_desc.specs.Contiguous.{is_contiguous_layout}
 use Rattle.pybuf_desc.specs.Casts.{cast_of}
 use Rattle.pybuf_desc.specs.ShapedCasts.{cast_to}
+use Rattle.pybuf_desc.specs.ColumnCasts.{column_cast_to}
 use Rattle.pybuf_command.specs.declared.commands.LocalReply.{LocalReply}
 use Rattle.pybuf_memoryview.specs.Orders.{nbytes_of, has_zero_entry}
 use Rattle.pybuf_state.specs.Exporter.{Exporter, live_layout, with_view}
@@ -61,23 +62,28 @@ flat_layout_of layout text = do
   size ← size_for layout text
   Ok (cast_of layout text size)
 
+-- the items in the dimensions of these entries, in column order or row by row
+abbrev pub cast_in : Bool → Layout → List ℕ → ℕ → List ℕ → Layout
+cast_in true layout text size entries = column_cast_to layout text size entries
+cast_in false layout text size entries = cast_to layout text size entries
+
 -- The items in the dimensions of a shape: the view or the shape has one dimension, each dimension of
 -- the view an entry, and the items of the shape make up the bytes. An empty shape has one item.
-abbrev pub shaped_layout_of : Layout → List ℕ → List Scalar → Result Layout Fault
-shaped_layout_of layout text parts = do
+abbrev pub shaped_layout_of : Bool → Layout → List ℕ → List Scalar → Result Layout Fault
+shaped_layout_of columns layout text parts = do
   _ ← unless (has_zero_entry layout.shape) fault.Kind
   _ ← unless (not (length layout.shape == 1) && not (length parts == 1)) fault.Kind
   _ ← unless (nat_lt 64 (length parts)) fault.Value
   size ← size_for layout text
   entries ← entries_of size parts
   _ ← unless (not (size * product entries == nbytes_of layout)) fault.Kind
-  Ok (cast_to layout text size entries)
+  Ok (cast_in columns layout text size entries)
 
 -- by a shape that may not be given, and else is a tuple or a list
 abbrev pub layout_in_shape : Layout → List ℕ → Option Value → Result Layout Fault
 layout_in_shape layout text None = flat_layout_of layout text
-layout_in_shape layout text (Some (value.Tuple parts)) = shaped_layout_of layout text parts
-layout_in_shape layout text (Some (value.List parts)) = shaped_layout_of layout text parts
+layout_in_shape layout text (Some (value.Tuple parts)) = shaped_layout_of false layout text parts
+layout_in_shape layout text (Some (value.List parts)) = shaped_layout_of false layout text parts
 layout_in_shape layout text (Some _) = Err fault.Kind
 
 -- the view must be contiguous
@@ -87,4 +93,18 @@ cast_of_view e k format shape = do
   _ ← unless (not (is_contiguous_layout layout)) fault.Kind
   text ← text_in format
   cast ← layout_in_shape layout text shape
+  Ok (with_view e cast)
+
+-- in column order, by a shape that is a tuple or a list
+abbrev pub column_layout_in : Layout → List ℕ → Value → Result Layout Fault
+column_layout_in layout text (value.Tuple parts) = shaped_layout_of true layout text parts
+column_layout_in layout text (value.List parts) = shaped_layout_of true layout text parts
+column_layout_in layout text _ = Err fault.Kind
+
+abbrev pub column_cast_of_view : Exporter → ℕ → Value → Value → Result (Exporter × LocalReply) Fault
+column_cast_of_view e k format shape = do
+  layout ← live_layout e k
+  _ ← unless (not (is_contiguous_layout layout)) fault.Kind
+  text ← text_in format
+  cast ← column_layout_in layout text shape
   Ok (with_view e cast)

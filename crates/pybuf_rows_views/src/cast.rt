@@ -1,7 +1,7 @@
-//! `cast`: a new view of the same bytes, with items of another format, in one dimension or in those of
-//! a shape. The format is one native code, and items of single bytes stand on one side at least.
+//! `cast` and `castf`: a new view of the same bytes, with items of another format, in one dimension or in those of
+//! a shape, row by row or in column order. The format is one native code, and items of single bytes stand on one side at least.
 ghost use Rattle.std.specs.Prelude.{◌≡◌, ◌<◌, ◌≤◌, ◌*◌, ◌^◌, All, length, map, pos, true, None, Some, Ok, Err, IfOk, MatchResult};
-ghost use Rattle.std.specs.Prelude.{◌%◌, ◌==◌, ◌&&◌, not};
+ghost use Rattle.std.specs.Prelude.{◌%◌, ◌==◌, ◌&&◌, not, false};
 ghost use Rattle.std.specs.Result.{result_map_both};
 ghost use Rattle.pybuf_value.specs.Halting.{Gives};
 ghost use Rattle.pybuf_value.specs.declared.values.Scalar.TheVariants as scalars;
@@ -20,7 +20,9 @@ use pybuf_desc::KeptFormat;
 use pybuf_memoryview::KeptLayout;
 use pybuf_state::Parts;
 use pybuf_struct::{FormatType, is_byte_format, native_single_code};
-use pybuf_value::{CountList, Fault, Halt, Scalar, Value, fit_count, number_in, text_in};
+use pybuf_value::{
+    CountList, Fault, Halt, Made, Scalar, Text, Value, fit_count, number_in, text_in,
+};
 use std::alloc::Global;
 
 /// Whether so many bytes are whole items of a size.
@@ -164,15 +166,42 @@ fn is_neither_flat(dimensions: usize, entries: usize) -> bool
     entries != 1
 }
 
-/// The items in the dimensions of a shape.
+/// The items in the dimensions of these entries, in column order or row by row.
+fn cast_in(
+    alloc: Global,
+    columns: bool,
+    layout: &KeptLayout,
+    text: &str,
+    size: usize,
+    entries: &[usize],
+) -> Made<KeptLayout>
+    requires contiguous { is_contiguous_layout layout.now ≡ true }
+    requires some_size { 0 < size }
+    requires size_fits { size < 2 ^ 63 }
+    requires few_dimensions { length entries.now ≤ 64 }
+    requires some_entries { All (λ n. 0 < n) entries.now }
+    requires whole_items { size * product entries.now ≡ nbytes_of layout.now }
+    ensures { IfOk result (λ cast. cast ≡ spec.cast_in columns layout.now text.now size entries.now) }
+{
+    if columns {
+        let format = Text::from_string(String::from_str(alloc, text)?);
+        layout.cast_shape_f(alloc, format, size, entries)
+    } else {
+        let format = KeptFormat::of(alloc, text)?;
+        layout.cast_shape(alloc, format, size, entries)
+    }
+}
+
+/// The items in the dimensions of a shape, in column order or row by row.
 fn shaped_layout_of(
     alloc: Global,
+    columns: bool,
     layout: &KeptLayout,
     text: &str,
     parts: &[Scalar],
 ) -> Result<KeptLayout, Halt>
     requires { is_contiguous_layout layout.now ≡ true }
-    ensures { Gives (spec.shaped_layout_of layout.now text.now parts.now) result }
+    ensures { Gives (spec.shaped_layout_of columns layout.now text.now parts.now) result }
 {
     if layout.has_zero() {
         return Err(Halt::Refused(Fault::Kind));
@@ -188,8 +217,7 @@ fn shaped_layout_of(
     if product != layout.nbytes() {
         return Err(Halt::Refused(Fault::Kind));
     }
-    let format = KeptFormat::of(alloc, text)?;
-    let cast = layout.cast_shape(alloc, format, size, entries.as_slice())?;
+    let cast = cast_in(alloc, columns, layout, text, size, entries.as_slice())?;
     Ok(cast)
 }
 
@@ -201,7 +229,7 @@ fn shaped_layout_by(
     shape: &[usize],
 ) -> Result<KeptLayout, Halt>
     requires { is_contiguous_layout layout.now ≡ true }
-    ensures { Gives (spec.shaped_layout_of layout.now text.now (map (λ n. scalars.Int (pos n)) shape.now)) result }
+    ensures { Gives (spec.shaped_layout_of false layout.now text.now (map (λ n. scalars.Int (pos n)) shape.now)) result }
 {
     if layout.has_zero() {
         return Err(Halt::Refused(Fault::Kind));
@@ -234,9 +262,26 @@ fn layout_in_shape(
 {
     match shape {
         None => flat_layout_of(alloc, layout, text),
-        Some(Value::Tuple(parts)) => shaped_layout_of(alloc, layout, text, parts.as_slice()),
-        Some(Value::List(parts)) => shaped_layout_of(alloc, layout, text, parts.as_slice()),
+        Some(Value::Tuple(parts)) => shaped_layout_of(alloc, false, layout, text, parts.as_slice()),
+        Some(Value::List(parts)) => shaped_layout_of(alloc, false, layout, text, parts.as_slice()),
         Some(_) => Err(Halt::Refused(Fault::Kind)),
+    }
+}
+
+/// The items in column order, by a shape that is a tuple or a list.
+fn column_layout_in(
+    alloc: Global,
+    layout: &KeptLayout,
+    text: &str,
+    shape: &Value,
+) -> Result<KeptLayout, Halt>
+    requires { is_contiguous_layout layout.now ≡ true }
+    ensures { Gives (spec.column_layout_in layout.now text.now shape.now) result }
+{
+    match shape {
+        Value::Tuple(parts) => shaped_layout_of(alloc, true, layout, text, parts.as_slice()),
+        Value::List(parts) => shaped_layout_of(alloc, true, layout, text, parts.as_slice()),
+        _ => Err(Halt::Refused(Fault::Kind)),
     }
 }
 
@@ -295,5 +340,26 @@ pub fn of_view(
     }
     let text = text_in(format)?;
     let layout = layout_in_shape(parts.alloc, layout, text.as_str(), shape)?;
+    parts.add_view(layout)
+}
+
+/// A view of the bytes of a view, with items of another format in the dimensions of a shape and in column order.
+pub fn column_of_view(
+    parts: &mut Parts,
+    view: usize,
+    format: &Value,
+    shape: &Value,
+) -> Result<LocalReply, Halt>
+    requires { IsWhole parts.old }
+    ensures answer { Answers (spec.column_cast_of_view (exporter_of parts.old) view format.now shape.now) (exporter_of parts.old) result (exporter_of parts.new) }
+    ensures counted { parts.new.exports ≡ exports_of (exporter_of parts.new) }
+    ensures room { parts.new.bytes.room ≡ parts.old.bytes.room }
+{
+    let layout = parts.live_layout(view)?;
+    if !layout.is_contiguous() {
+        return Err(Halt::Refused(Fault::Kind));
+    }
+    let text = text_in(format)?;
+    let layout = column_layout_in(parts.alloc, layout, text.as_str(), shape)?;
     parts.add_view(layout)
 }

@@ -1,6 +1,6 @@
 //! Laws of the definitions that the contracts cite. Each stands on a function with an empty body, or
 //! one that cites laws of the crates below.
-ghost use Rattle.pybuf_rows_views.specs.Laws.{ViewIsSafe, RangeIsSafe, SliceIsSafe, CastIsSafe, CastsAreOfBytes, ReleaseIsSafe, EnterIsSafe, ContiguousIsCopied, ToReadonlyIsSafe, ReleasingTwiceIsOnce};
+ghost use Rattle.pybuf_rows_views.specs.Laws.{ViewIsSafe, RangeIsSafe, SliceIsSafe, CastIsSafe, ColumnCastIsSafe, ColumnCastsHoldTheBytes, CastsAreOfBytes, ReleaseIsSafe, EnterIsSafe, ContiguousIsCopied, ToReadonlyIsSafe, ReleasingTwiceIsOnce};
 
 /// `view` keeps a sound exporter.
 pub fn view_is_safe()
@@ -45,6 +45,26 @@ pub fn cast_is_safe()
     pybuf_desc::shaped_casts_stay_inside();
     pybuf_desc::shaped_casts_have_their_shape();
     pybuf_desc::casts_lie_apart();
+    pybuf_desc::column_casts_stay_inside();
+    pybuf_desc::column_casts_have_their_shape();
+    pybuf_desc::column_casts_lie_apart();
+    pybuf_struct::native_codes_have_their_size();
+}
+
+/// `castf` keeps a sound exporter.
+pub fn column_cast_is_safe()
+    ensures { ColumnCastIsSafe }
+{
+    pybuf_state::new_views_keep();
+    pybuf_state::live_layouts_are_sound();
+    pybuf_desc::casts_stay_inside();
+    pybuf_desc::casts_have_their_shape();
+    pybuf_desc::shaped_casts_stay_inside();
+    pybuf_desc::shaped_casts_have_their_shape();
+    pybuf_desc::casts_lie_apart();
+    pybuf_desc::column_casts_stay_inside();
+    pybuf_desc::column_casts_have_their_shape();
+    pybuf_desc::column_casts_lie_apart();
     pybuf_struct::native_codes_have_their_size();
 }
 
@@ -53,6 +73,16 @@ pub fn cast_is_safe()
 pub fn casts_are_of_bytes()
     ensures { CastsAreOfBytes }
 {}
+
+/// What `castf` makes of a view has, in column order, the bytes of that view.
+pub fn column_casts_hold_the_bytes()
+    ensures { ColumnCastsHoldTheBytes }
+{
+    pybuf_state::live_layouts_are_sound();
+    pybuf_desc::column_casts_are_f_contiguous();
+    pybuf_desc::column_casts_give_the_bytes_back();
+    pybuf_struct::native_codes_have_their_size();
+}
 
 /// `release` keeps a sound exporter.
 pub fn release_is_safe()

@@ -309,6 +309,10 @@ arguments_come named each (verb.Call method) h k =
 arguments_come named each (verb.Cast format None) h k = values_by named each (format ∷ []) (handles_in format ++ []) refl h k
 arguments_come named each (verb.Cast format (Some shape)) h k =
     values_by named each (format ∷ shape ∷ []) (handles_in format ++ handles_in shape) (two format shape) h k
+arguments_come named each (verb.CastF format shape) h k =
+    values_by named each (format ∷ shape ∷ []) (handles_in format ++ handles_in shape) (two format shape) h k
+arguments_come named each (verb.ToBytes None) h k = nothing_comes named 0
+arguments_come named each (verb.ToBytes (Some order)) h k = values_by named each (order ∷ []) (handles_in order) (alone order) h k
 arguments_come named each (verb.Hex None None) h k = nothing_comes named 0
 arguments_come named each (verb.Hex None (Some group)) h k = absurd h
 arguments_come named each (verb.Hex (Some sep) None) h k = values_by named each (sep ∷ []) (handles_in sep ++ []) refl h k

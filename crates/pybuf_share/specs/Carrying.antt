@@ -17,7 +17,7 @@ use Rattle.pybuf_share.specs.Sessions.{Asker, IsAnswered, last_reply}
 
 -- the command that asks for the bytes of a subject
 abbrev pub bytes_asked : Subject → LocalCommand
-bytes_asked s = record { subject = s; verb = verb.ToBytes; loans = [] }
+bytes_asked s = record { subject = s; verb = verb.ToBytes None; loans = [] }
 
 -- the bytes that a reply is, none where it isn't bytes or there is none
 abbrev pub bytes_in_reply : Option LocalReply → Option (List ℕ)

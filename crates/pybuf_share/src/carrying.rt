@@ -21,7 +21,7 @@ fn bytes_asked(alloc: Global, subject: Subject) -> LocalCommand
 {
     LocalCommand {
         subject,
-        verb: Verb::ToBytes,
+        verb: Verb::ToBytes { order: None },
         loans: LoanList::new(alloc),
     }
 }

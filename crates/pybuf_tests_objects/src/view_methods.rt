@@ -4,16 +4,18 @@ use crate::answers::{Asks, bytes, carry_out, count_reply, exporter_of, number, t
 use pybuf_command::{LoanList, LocalReply, Subject};
 use pybuf_exporter::ExporterState;
 use pybuf_memoryobject::{PyMemoryView, PyMemoryViewIterator};
-use pybuf_value::{CompareOp, Made, Outcome};
+use pybuf_value::{CompareOp, Made, Outcome, Scalar, ScalarList, Value};
 use std::alloc::Global;
 use std::test::Fail;
 
-/// A call, named as the method. The first two make view 0 of all bytes and view 1 of the same by a format. `Exports` and
+/// A call, named as the method. The first two make view 0 of all bytes and view 1 of the same by a format; `CastF` makes
+/// view 1 in three rows of two, in column order. `Exports` and
 /// `IterCount` are asked of the exporter, and `Number` of an iterator of that number.
 #[derive(Clone, Copy)]
 enum Call {
     FromObject,
     Cast(&'static str),
+    CastF(&'static str),
     AsBuffer,
     Compare(CompareOp, &'static [u8]),
     DelItem(i128),
@@ -31,6 +33,7 @@ enum Call {
     Repr,
     SetItem(i128, i128),
     ToBytes,
+    ToBytesIn(&'static str),
     ToList,
     ToReadOnly,
 }
@@ -50,6 +53,14 @@ enum Attribute {
     Contiguous,
     CContiguous,
     FContiguous,
+}
+
+/// A tuple of two numbers.
+fn pair(alloc: Global, first: i128, second: i128) -> Made<Value> {
+    let mut parts = ScalarList::new(alloc);
+    parts.push(Scalar::Int(first))?;
+    parts.push(Scalar::Int(second))?;
+    Ok(Value::Tuple(parts))
 }
 
 /// View 0, of all bytes.
@@ -72,6 +83,10 @@ impl Asks for Call {
                 let format = text(alloc, format)?;
                 PyMemoryView::of(0).cast(state, format, None, LoanList::new(alloc))
             }
+            Call::CastF(format) => {
+                let format = text(alloc, format)?;
+                PyMemoryView::of(0).cast_f(state, format, pair(alloc, 3, 2)?, LoanList::new(alloc))
+            }
             Call::AsBuffer => view.as_buffer(state, LoanList::new(alloc)),
             Call::Compare(op, other) => {
                 view.cmp(state, op, bytes(alloc, other)?, LoanList::new(alloc))
@@ -92,7 +107,11 @@ impl Asks for Call {
             Call::SetItem(index, value) => {
                 view.setitem(state, number(index), number(value), LoanList::new(alloc))
             }
-            Call::ToBytes => view.tobytes(state, LoanList::new(alloc)),
+            Call::ToBytes => view.tobytes(state, None, LoanList::new(alloc)),
+            Call::ToBytesIn(order) => {
+                let order = Some(text(alloc, order)?);
+                view.tobytes(state, order, LoanList::new(alloc))
+            }
             Call::ToList => view.tolist(state, LoanList::new(alloc)),
             Call::ToReadOnly => view.toreadonly(state, LoanList::new(alloc)),
         }
@@ -152,6 +171,28 @@ fn a_memoryview_is_read_and_written(rt: HostRuntime) -> Result<(), Fail> {
     let mut state = exporter_of(alloc, NUMBERS)?;
     let (mut told, mut wanted) = (Vec::new(alloc), Vec::new(alloc));
     carry_out(&mut state, alloc, &ANSWERED, &mut told, &mut wanted)?;
+    assert_eq!(rt; told.as_slice(), wanted.as_slice());
+    Ok(())
+}
+
+/// As the memoryview of an array of these bytes in Python 3, in three rows, whose items lie in column order: `ndarray` of
+/// `_testbuffer` with `ND_FORTRAN` makes it.
+const COLUMNS: [(Call, &str); 7] = [
+    (Call::FromObject, "v0"),
+    (Call::CastF("B"), "v1"),
+    (Call::ToBytes, "b'\\x01\\x01\\x00\\x03\\x02\\x00'"),
+    (Call::ToBytesIn("F"), "b'\\x01\\x00\\x02\\x01\\x03\\x00'"),
+    (Call::ToBytesIn("A"), "b'\\x01\\x00\\x02\\x01\\x03\\x00'"),
+    (Call::ToBytesIn("X"), "ValueError"),
+    (Call::Exports, "2"),
+];
+
+#[test]
+fn a_memoryview_has_items_in_column_order(rt: HostRuntime) -> Result<(), Fail> {
+    let alloc = rt.alloc();
+    let mut state = exporter_of(alloc, NUMBERS)?;
+    let (mut told, mut wanted) = (Vec::new(alloc), Vec::new(alloc));
+    carry_out(&mut state, alloc, &COLUMNS, &mut told, &mut wanted)?;
     assert_eq!(rt; told.as_slice(), wanted.as_slice());
     Ok(())
 }

@@ -83,7 +83,13 @@ fn iterate<L: Ledger>(
 ) -> Made<()> {
     ask(logged, second, alloc, Subject::Own, Verb::Iter)?;
     tell_last(told, second, &LocalReply::Iter(0))?;
-    ask(logged, first, alloc, Subject::Own, Verb::ToBytes)?;
+    ask(
+        logged,
+        first,
+        alloc,
+        Subject::Own,
+        Verb::ToBytes { order: None },
+    )?;
     let whole = LocalReply::Bytes(ByteList::from_slice(alloc, b"abc")?);
     let answer = tell_last(told, first, &whole);
     drop(whole);

@@ -142,7 +142,9 @@ pub(crate) fn iterating(alloc: Global, draw: &mut Draw) -> Made<Verb> {
 /// What changes nothing, and makes nothing that is numbered but a view by a slice.
 pub(crate) fn reading(alloc: Global, draw: &mut Draw) -> Made<Verb> {
     match draw.below(13) {
-        0 => Ok(Verb::ToBytes),
+        0 => Ok(Verb::ToBytes {
+            order: shape(alloc, draw)?,
+        }),
         1 => Ok(Verb::ToContiguous),
         2 => Ok(Verb::ToList),
         3 => Ok(Verb::Len),

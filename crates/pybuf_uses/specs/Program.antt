@@ -22,7 +22,7 @@ command_of (statement.Cast object format) = command.Do object (verb.Cast (value.
 command_of (statement.GetItem object index) = command.Do object (verb.Get (number_value index))
 command_of (statement.SetItem object index value) = command.Do object (verb.Set (number_value index) (number_value value))
 command_of (statement.Append object value) = command.Do object (verb.Append (number_value value))
-command_of (statement.Bytes object) = command.Do object verb.ToBytes
+command_of (statement.Bytes object) = command.Do object (verb.ToBytes None)
 command_of (statement.Release object) = command.Do object verb.Release
 
 -- What holds of an interpreter's world: commands made it, of a world with nothing in it.

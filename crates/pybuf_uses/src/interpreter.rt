@@ -57,7 +57,7 @@ fn command(statement: Statement) -> Command
             (object, Verb::Set { key, value })
         }
         Statement::Append(object, byte) => (object, Verb::Append { value: byte.into() }),
-        Statement::Bytes(object) => (object, Verb::ToBytes),
+        Statement::Bytes(object) => (object, Verb::ToBytes { order: None }),
         Statement::Release(object) => (object, Verb::Release),
     };
     Command::Do { subject, verb }

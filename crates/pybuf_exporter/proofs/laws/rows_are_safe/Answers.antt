@@ -8,6 +8,7 @@ returns c =
       range = c.range_is_safe.ensures;
       slice = c.slice_is_safe.ensures;
       cast = c.cast_is_safe.ensures;
+      column_cast = c.column_cast_is_safe.ensures;
       release = c.release_is_safe.ensures;
       enter = c.enter_is_safe.ensures;
       contiguous = c.contiguous_is_copied.ensures;

@@ -11,5 +11,8 @@ returns c =
       shaped_inside = c.shaped_casts_stay_inside.ensures;
       shaped_shapes = c.shaped_casts_have_their_shape.ensures;
       apart = c.casts_lie_apart.ensures;
+      column_inside = c.column_casts_stay_inside.ensures;
+      column_shapes = c.column_casts_have_their_shape.ensures;
+      column_apart = c.column_casts_lie_apart.ensures;
       sizes = c.native_codes_have_their_size.ensures;
     })
