@@ -5,7 +5,7 @@ ghost use Rattle.pybuf_command.specs.declared.worlds.Command.TheVariants as comm
 ghost use Rattle.pybuf_value.specs.declared.values.Value.TheVariants as value;
 ghost use Rattle.pybuf_console.specs.Held.{held};
 ghost use Rattle.pybuf_console.specs.Values.{bytes_value, number_value, object_value, slice_of, source_of, text_value, tuple_of};
-ghost use Rattle.pybuf_crossing.specs.Words.{signed};
+ghost use Rattle.pybuf_crossing.specs.Words.{signed, IsNoWord};
 ghost use Rattle.pybuf_c.specs.Holding.{BothHold, NoneHold};
 ghost use Rattle.pybuf_console.specs.Console.{HasAsked};
 ghost use Rattle.pybuf_console.specs.Replies as replies;
@@ -19,13 +19,13 @@ ghost use Rattle.pybuf_c.specs.Numbers.{kind_number, operator_number, property_n
 use crate::asking::{ask, ask_unowned};
 use crate::numbers::{kind_numbered, operator_numbered, property_numbered};
 use crate::status::{BAD_ARGUMENT, NO_MEMORY, NO_WORLD, NOTHING, OK, fault_number};
-use pybuf_command::{Command, Verb};
+use pybuf_command::{Command, Reply, Verb};
 use pybuf_console::{
     SliceWords, WorldHandle, bytes_value, number_of, number_value, object_value, slice_of,
     source_of, text_value, tuple_of,
 };
 use pybuf_crossing::{signed, word_of};
-use pybuf_value::{NoMemory, Value};
+use pybuf_value::{Item, NoMemory, Scalar, Value};
 use std::alloc::Global;
 use std::mem;
 
@@ -201,6 +201,42 @@ pub extern "C" fn pybuf_proved_get(
     )
 }
 
+/// Tells a number as a size and a sign, where a `u64` holds the size.
+#[inline(always)]
+fn tell_number(number: i128, magnitude: &mut u64, negative: &mut bool) -> u32
+    ensures ok { result ≡ 0 → number ≡ signed negative.new magnitude.new }
+    ensures past { result ≢ 0 → result ≡ 5 }
+    ensures nothing { result ≡ 5 → IsNoWord (Some number) }
+{
+    match word_of(Some(number)) {
+        Some((size, below)) => {
+            *magnitude = size;
+            *negative = below;
+            OK
+        }
+        None => NOTHING,
+    }
+}
+
+/// Tells the number that a reply is. The number of an item comes first, since it is asked for most.
+#[inline(always)]
+fn tell_reply(reply: &Reply, magnitude: &mut u64, negative: &mut bool) -> u32
+    ensures ok { result ≡ 0 → replies.number_of reply.now ≡ Some (signed negative.new magnitude.new) }
+    ensures nothing { result ≡ 5 → HasNoNumber reply.now }
+    ensures refused { result ≢ 0 → result ≢ 5 → IsRefusedBy result reply.now }
+    ensures memory { result ≢ 1 }
+    ensures world { result ≢ 2 }
+{
+    match reply {
+        Reply::Item(Item::One(Scalar::Int(number))) => tell_number(*number, magnitude, negative),
+        Reply::Refused(fault) => fault_number(*fault),
+        _ => match number_of(reply) {
+            Some(number) => tell_number(number, magnitude, negative),
+            None => NOTHING,
+        },
+    }
+}
+
 /// Reads the item at an index, and tells it as a size and a sign where it is a number.
 #[unsafe(no_mangle)]
 pub extern "C" fn pybuf_proved_get_number(
@@ -229,18 +265,11 @@ pub extern "C" fn pybuf_proved_get_number(
     };
     let asked = console.ask(&command);
     mem::forget(command);
-    let refusal = console.refusal();
-    let word = word_of(number_of(console.last()));
+    let told = tell_reply(console.last(), magnitude, negative);
     handle.put(console);
-    match (asked, refusal, word) {
-        (Err(NoMemory), _, _) => NO_MEMORY,
-        (Ok(()), Some(fault), _) => fault_number(fault),
-        (Ok(()), None, Some((size, below))) => {
-            *magnitude = size;
-            *negative = below;
-            OK
-        }
-        (Ok(()), None, None) => NOTHING,
+    match asked {
+        Ok(()) => told,
+        Err(NoMemory) => NO_MEMORY,
     }
 }
 
@@ -444,14 +473,14 @@ pub extern "C" fn pybuf_proved_length(handle: &mut WorldHandle, alloc: Global, s
 pub extern "C" fn pybuf_proved_bytes(handle: &mut WorldHandle, alloc: Global, subject: u64) -> u32
     ensures memory { result ≡ 1 → held handle.new ≡ held handle.old }
     ensures none { result ≡ 2 → NoneHold (held handle.old) (held handle.new) }
-    ensures answered { result ≢ 1 → result ≢ 2 → BothHold (Answers (command.Do subject verb.ToBytes) result) (held handle.old) (held handle.new) }
+    ensures answered { result ≢ 1 → result ≢ 2 → BothHold (Answers (command.Do subject (verb.ToBytes None)) result) (held handle.old) (held handle.new) }
 {
     ask_unowned(
         handle,
         alloc,
         Command::Do {
             subject,
-            verb: Verb::ToBytes,
+            verb: Verb::ToBytes { order: None },
         },
     )
 }
