@@ -52,6 +52,19 @@ def of_contiguous(plan):
     return to_bytes(memoryview(bytearray(drawn(plan, plan.size))))
 
 
+def in_rows(plan, code, size):
+    """As many numbers of a code as the plan has bytes, in rows of 1,024."""
+    return memoryview(bytearray(drawn(plan, plan.size * size))).cast(code, (plan.size // 1_024, 1_024))
+
+
+def of_columns(code, size):
+    def kernel(plan):
+        view = in_rows(plan, code, size)
+        return Kernel(lambda: view.tobytes("F"), mark_of_bytes)
+
+    return kernel
+
+
 def of_stepped(code):
     return lambda plan: to_bytes(memoryview(bytearray(drawn(plan, 2 * plan.size))).cast(code)[::2])
 
@@ -445,6 +458,9 @@ KERNELS = {
     **kernels_of_rows("set"),
     "set-overlapping": set_overlapping,
     "set-itself": set_itself,
+    "tobytes-columns": of_columns("B", 1),
+    "tobytes-columns-i": of_columns("i", 4),
+    "tobytes-columns-q": of_columns("q", 8),
     "views": views,
     "slices": slices,
     "slices-planes": slices_planes,
@@ -527,6 +543,13 @@ def numpy_kernels():
     def told_reversed(code):
         return lambda plan: told(array(plan, plan.size, code)[::-1])
 
+    def told_columns(code):
+        def kernel(plan):
+            view = array(plan, plan.size * CODES[code], code).reshape(-1, 1_024)
+            return Kernel(lambda: view.tobytes("F"), mark_of_bytes)
+
+        return kernel
+
     def put_stepped(code):
         return lambda plan: put_in(array(plan, 2 * plan.size, code)[::2], array(plan, 2 * plan.size, code)[::2])
 
@@ -591,6 +614,9 @@ def numpy_kernels():
         "set-planes": lambda plan: put_in(array(plan, plan.size).reshape(-1, 256, 16), in_numpy_planes(array(plan, 2 * plan.size))[::2]),
         "set-overlapping": overlapping,
         "set-itself": itself,
+        "tobytes-columns": told_columns("B"),
+        "tobytes-columns-i": told_columns("i"),
+        "tobytes-columns-q": told_columns("q"),
         "compare-beside": equal,
         "compare-reversed": equal_reversed,
         "compare-codes": equal_codes,

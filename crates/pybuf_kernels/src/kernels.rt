@@ -182,7 +182,19 @@ pub const COPY_KERNELS: [(&str, Work); 38] = [
 ];
 
 /// Kernels of views that are made, of items, of records and of bytearrays that grow and shrink.
-pub const ITEM_KERNELS: [(&str, Work); 25] = [
+pub const ITEM_KERNELS: [(&str, Work); 28] = [
+    (
+        "tobytes-columns",
+        Work::Views(Doing::ToBytesInColumnOrder(Code::Byte)),
+    ),
+    (
+        "tobytes-columns-i",
+        Work::Views(Doing::ToBytesInColumnOrder(Code::Int)),
+    ),
+    (
+        "tobytes-columns-q",
+        Work::Views(Doing::ToBytesInColumnOrder(Code::Long)),
+    ),
     ("views", Work::Make(Making::View)),
     ("slices", Work::Make(Making::Slice)),
     ("slices-planes", Work::Make(Making::SliceOfPlanes)),

@@ -71,6 +71,18 @@ pub fn planes_of(alloc: Global, size: usize) -> Made<Value> {
     Ok(Value::Tuple(shape))
 }
 
+/// The number of items of a row.
+const ROW: usize = 1024;
+
+/// The shape of so many items in rows.
+fn rows_of(alloc: Global, count: usize) -> Made<Value> {
+    let mut shape = ScalarList::new(alloc);
+    for length in [(count / ROW) as i128, ROW as i128] {
+        shape.push(Scalar::Int(length))?;
+    }
+    Ok(Value::Tuple(shape))
+}
+
 /// The loans of a command in which handle 0 names a view of its own object.
 pub fn lend_view(alloc: Global, view: &PyMemoryView) -> Made<LoanList>
     ensures { IfOk result LoansFit }
@@ -133,8 +145,25 @@ impl Viewed {
     /// `view.tobytes()`.
     pub fn copy(&mut self, alloc: Global) -> Made<Answer> {
         let state = self.object.state_mut();
-        let reply = self.view.tobytes(state, LoanList::new(alloc))?;
+        let reply = self.view.tobytes(state, None, LoanList::new(alloc))?;
         Ok(answer_of(reply))
+    }
+
+    /// `view.tobytes('F')`.
+    pub fn copy_in_column_order(&mut self, alloc: Global) -> Made<Answer> {
+        let order = Some(text(alloc, "F")?);
+        let state = self.object.state_mut();
+        let reply = self.view.tobytes(state, order, LoanList::new(alloc))?;
+        Ok(answer_of(reply))
+    }
+
+    /// As many drawn numbers of a code as the plan has bytes, in rows.
+    pub fn rows(alloc: Global, plan: Plan, code: Code) -> Made<Viewed> {
+        let size = plan.size.saturating_mul(code.size());
+        let mut viewed = Viewed::whole(alloc, drawn(alloc, plan.seed, size)?)?;
+        let shape = rows_of(alloc, plan.size)?;
+        viewed.cast(alloc, code.format(), Some(shape))?;
+        Ok(viewed)
     }
 
     /// Goes on with the view in planes of so many bytes.

@@ -1,5 +1,6 @@
 //! A view of a bytearray, or two.
 
+use crate::codes::Code;
 use crate::items::{Form, get_all, get_all_plainly, set_all, set_all_plainly};
 use crate::keys::{handle, slice};
 use crate::replies::answer_of;
@@ -14,6 +15,8 @@ use std::alloc::Global;
 pub enum Doing {
     /// `view.tobytes()`.
     ToBytes(Part),
+    /// `view.tobytes('F')`, of rows of numbers of a code.
+    ToBytesInColumnOrder(Code),
     /// `view[k]` for each item.
     Get(Form),
     /// `view[k] = k % limit` for each item.
@@ -51,6 +54,7 @@ fn twins(alloc: Global, plan: Plan) -> Made<Vec<u8>> {
 fn viewed_for(alloc: Global, plan: Plan, doing: Doing) -> Made<Viewed> {
     match doing {
         Doing::ToBytes(part) => Viewed::part(alloc, plan, part),
+        Doing::ToBytesInColumnOrder(code) => Viewed::rows(alloc, plan, code),
         Doing::Get(form) | Doing::Set(form, _) => form.viewed(alloc, plan),
         Doing::GetPlainly(form) | Doing::SetPlainly(form, _) => form.viewed(alloc, plan),
         Doing::Shift | Doing::Reverse => Viewed::whole(alloc, drawn(alloc, plan.seed, plan.size)?),
@@ -108,6 +112,7 @@ impl Kernel for Views {
         let viewed = &mut self.viewed;
         match self.doing {
             Doing::ToBytes(_) => viewed.copy(alloc),
+            Doing::ToBytesInColumnOrder(_) => viewed.copy_in_column_order(alloc),
             Doing::Get(_) => get_all(alloc, viewed, self.count),
             Doing::Set(_, limit) => set_all(alloc, viewed, self.count, limit),
             Doing::GetPlainly(_) => Answer::of_plain(get_all_plainly(viewed, self.count)),
@@ -122,7 +127,10 @@ impl Kernel for Views {
 
     fn written(&self, _alloc: Global) -> Made<i128> {
         match self.doing {
-            Doing::ToBytes(_) | Doing::Get(_) | Doing::GetPlainly(_) => Ok(0),
+            Doing::ToBytes(_)
+            | Doing::ToBytesInColumnOrder(_)
+            | Doing::Get(_)
+            | Doing::GetPlainly(_) => Ok(0),
             _ => Ok(mark_of_bytes(self.viewed.object.borrow_buf())),
         }
     }
