@@ -443,6 +443,20 @@ class MemoryView(_Object):
         if reply != 'ok':
             raise_for(_REFUSALS[reply[2:]])
 
+    def tobytes(self, order=None):
+        """A copy of the bytes, in an order as Python's: 'C', 'F' or 'A'. Of another than 'C' by the world's line `bytes`."""
+        if order is None or order == 'C':
+            return super().tobytes()
+        if not isinstance(order, str):
+            raise TypeError(f"tobytes() argument 'order' must be str or None, not {type(order).__name__}")
+        self._alive()
+        if order not in ('F', 'A'):
+            raise ValueError("order must be 'C', 'F' or 'A'")
+        reply, = self._world.run(f"bytes h{self._object} '{order}'")
+        if reply.startswith('! '):
+            raise_for(_REFUSALS[reply[2:]])
+        return ast.literal_eval(reply)
+
     def tolist(self):
         """The items, in lists by the shape."""
         shape = self.shape

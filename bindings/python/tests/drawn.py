@@ -151,6 +151,7 @@ def view_operation(draw):
     content = some_bytes(draw)
     shape = draw.choice([[2, 2], [4], [1, 8], [2, 4], [8, 1], [3, 2]])
     code = draw.choice('BbHhIiLlQqc?')
+    order = draw.choice([None, 'C', 'F', 'F', 'A', 'X', 5])
     return draw.choice([
         ('len', len),
         ('tolist', lambda m: m.tolist()),
@@ -161,7 +162,7 @@ def view_operation(draw):
         ('strides', lambda m: m.strides),
         ('format', lambda m: m.format),
         ('readonly', lambda m: m.readonly),
-        ('contiguous', lambda m: m.contiguous),
+        ('contiguous', lambda m: (m.contiguous, m.c_contiguous, m.f_contiguous)),
         (f'get {index}', lambda m: m[index]),
         (f'set {index} {n}', assigned(index, n)),
         (f'get {k}', lambda m: m[k]),
@@ -179,6 +180,7 @@ def view_operation(draw):
         ('hash', hash),
         ('suboffsets', lambda m: m.suboffsets),
         ('tobytes', lambda m: m.tobytes()),
+        (f'tobytes {order}', lambda m: m.tobytes(order)),
         ('reversed', lambda m: list(reversed(m))),
         (f'get {index % 3}, {n % 3}', lambda m: m[index % 3, n % 3]),
         (f'set {index % 3}, {n % 3}', assigned((index % 3, n % 3), n)),
