@@ -204,6 +204,7 @@ class Drawn:
         (3, b"get own KEY"),
         (2, b"cast VIEW FORMAT"),
         (2, b"cast VIEW 'B' [2,2]"),
+        (2, b"castf VIEW 'B' [2,2]"),
         (1, b"toreadonly VIEW"),
         (1, b"contig VIEW"),
         (1, b"enter VIEW"),
@@ -226,6 +227,7 @@ class Drawn:
         (1, b"take own"),
         (2, b"len NAME"),
         (2, b"bytes NAME"),
+        (1, b"bytes VIEW ORDER"),
         (2, b"tolist VIEW"),
         (3, b"prop VIEW PROPERTY"),
         (1, b"prop own exports"),
@@ -284,8 +286,9 @@ class Drawn:
             b"SMALL": lambda: draw.choice([b"-1", b"0", b"1", b"1", b"2"]),
             b"BYTES": self.digits,
             b"FORMAT": lambda: draw.choice([b"'B'", b"'b'", b"'H'", b"'c'", b"'I'", b"'@q'", b"'?'", b"'xyz'"]),
+            b"ORDER": lambda: draw.choice([b"None", b"'C'", b"'F'", b"'A'", b"'X'", self.value()]),
             b"OPERATOR": lambda: draw.choice([b"==", b"!=", b"<", b"<=", b">", b">="]),
-            b"PROPERTY": lambda: draw.choice(b"obj nbytes itemsize readonly format ndim shape strides suboffsets contiguous".split()),
+            b"PROPERTY": lambda: draw.choice(b"obj nbytes itemsize readonly format ndim shape strides suboffsets contiguous c_contiguous f_contiguous".split()),
             b"METHOD": lambda: (lambda values: self.put(draw.choice(self.METHODS[values]) + values))(draw.choice(list(self.METHODS))),
         }
         return made[name]() if name in made else name

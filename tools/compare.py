@@ -242,9 +242,10 @@ class Ours(AsWritten):
         self.strides[int(reply[1:])] = tuple(strides)
         return reply
 
-    def is_contiguous(self, handle):
+    def is_contiguous(self, handle, order=None):
         view = self.objects[handle]
-        return not view.nbytes or all(entries < 2 or stride == kept for entries, stride, kept in zip(view.shape, self.strides[handle], row_major(view)))
+        kept = (order or row_major)(view)
+        return not view.nbytes or all(entries < 2 or stride == wanted for entries, stride, wanted in zip(view.shape, self.strides[handle], kept))
 
     def do_view(self, handle, subject):
         return self.view_made(memoryview(subject), handle, self.strides.get(handle, (1,)))
@@ -256,6 +257,12 @@ class Ours(AsWritten):
 
     def do_toreadonly(self, handle, subject):
         return self.view_made(subject.toreadonly(), handle, self.strides[handle])
+
+    def do_bytes(self, handle, subject, *order):
+        """A released view is refused before its order is looked at."""
+        if isinstance(subject, memoryview):
+            subject.nbytes
+        return super().do_bytes(handle, subject, *order)
 
     def do_len(self, handle, subject):
         if handle in self.exporters and not subject.shape:
@@ -546,7 +553,7 @@ class Ours(AsWritten):
         if name == "strides":
             return self.strides[handle]
         if name.endswith("contiguous"):
-            return self.is_contiguous(handle) and (name[0] != "f" or len(subject.shape) < 2)
+            return not name.startswith("f_") and self.is_contiguous(handle) or not name.startswith("c_") and self.is_contiguous(handle, column_major)
         return super().property(handle, subject, name)
 
 
@@ -555,6 +562,15 @@ def row_major(view):
     strides, size = [], view.itemsize
     for entries in reversed(view.shape):
         strides.insert(0, size)
+        size *= entries
+    return tuple(strides)
+
+
+def column_major(view):
+    """The strides of items one after the other in column order."""
+    strides, size = [], view.itemsize
+    for entries in view.shape:
+        strides.append(size)
         size *= entries
     return tuple(strides)
 
@@ -815,6 +831,9 @@ class Drawn:
         if verb == "contig" and subject is not None and len(getattr(subject, "shape", "1")) != 1 and not subject.nbytes:
             # no call of Python gives a shape to no bytes
             verb = "tolist"
+        if verb == "bytes" and self.draw.random() < 0.4:
+            order = self.one(["'C'", "'F'", "'F'", "'A'", "None", "'X'", self.value()])
+            return f"bytes {handle} {order}"
         return f"prop {handle} {self.one(PROPERTIES)}" if verb == "prop" else f"{verb} {handle}"
 
     def input(self, count):

@@ -200,8 +200,8 @@ class World:
     def do_len(self, handle, subject):
         return len(subject)
 
-    def do_bytes(self, handle, subject):
-        return subject.tobytes() if isinstance(subject, memoryview) else bytes(subject)
+    def do_bytes(self, handle, subject, *order):
+        return subject.tobytes(*order) if isinstance(subject, memoryview) else bytes(subject, *order)
 
     def do_release(self, handle, subject):
         subject.release()

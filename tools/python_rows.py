@@ -496,6 +496,42 @@ prop h3 contiguous
 """,
     ),
     Case(
+        "the bytes of a view in each order, and which orders its items have",
+        """
+new bytes x000102030405
+view h0
+cast h1 'B' [2,3]
+bytes h2
+bytes h2 None
+bytes h2 'C'
+bytes h2 'F'
+bytes h2 'A'
+prop h2 c_contiguous
+prop h2 f_contiguous
+prop h2 contiguous
+bytes h2 'X'
+bytes h2 'CF'
+bytes h2 'f'
+bytes h2 70
+bytes h2 x46
+bytes h2 ('F')
+bytes h0 'C'
+bytes h0 None
+cast h1 'B' [1,6]
+prop h3 c_contiguous
+prop h3 f_contiguous
+bytes h3 'A'
+cast h1 'B' [6,1]
+prop h4 f_contiguous
+get h4 None:None:-1
+bytes h5 'F'
+bytes h5 'A'
+prop h5 contiguous
+get h2 0:0:1
+bytes h6 'F'
+""",
+    ),
+    Case(
         "properties of sliced views",
         """
 new bytes x616263646566
@@ -4963,22 +4999,38 @@ cast h2 'B' [1,2]                   ! TypeError
 """,
     ),
     Case(
-        "f_contiguous is for at most one dimension",
+        "a released view is refused before its order is looked at",
         """
 new bytes x000102                   h0
 view h0                             h1
-cast h1 'B' [1,3]                   h2
-prop h2 c_contiguous                True
-prop h2 f_contiguous                False           !
-cast h1 'B' [3,1]                   h3
-prop h3 f_contiguous                False           !
-get h3 0:0:1                        h4
-prop h4 f_contiguous                False           !
-prop h1 f_contiguous                True
-cast h1 'B' [1,3]                   h5
-prop h5 contiguous                  True
-get h3 None:None:2                  h6
-prop h6 contiguous                  False
+bytes h1 5                          ! TypeError
+release h1                          ok
+bytes h1 'X'                        ! ValueError
+bytes h1 5                          ! ValueError    !
+bytes h1 'C'                        ! ValueError
+""",
+    ),
+    Case(
+        "a view is cast to items in column order",
+        """
+new bytes x000102030405             h0
+view h0                             h1
+castf h1 'B' [2,3]                  h2              !
+castf h0 'B' [2,3]                  ! UnknownName   !
+castf h9 'B' [2,3]                  ! UnknownName   !
+castf h1 'B' 6                      ! TypeError     !
+castf h1 'B' None                   ! TypeError     !
+castf h1 'B' [4]                    ! TypeError     !
+castf h1 'BH' [2]                   ! ValueError    !
+castf h1 'B' [0]                    ! ValueError    !
+castf h1 5 [6]                      ! TypeError     !
+cast h1 'B' [3,2]                   h3              !
+castf h3 'B' [6]                    h4              !
+castf h3 'B' [2,3]                  ! TypeError     !
+get h1 None:None:2                  h5              !
+castf h5 'B' [3]                    ! TypeError     !
+release h1                          ok
+castf h1 'B' [2,3]                  ! ValueError    !
 """,
     ),
     Case(
