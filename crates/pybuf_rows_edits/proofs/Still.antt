@@ -23,7 +23,7 @@ steps_long (suc most) s (suc count) within =
     ∙ ap (λ (end : ℕ). length (s ∷ steps_to most (pos s +ℤ pos 1) (pos end) (pos 1))) far
     ∙ ap suc (steps_long most (s + 1) count (omega (arith, within)))
 
-span_long : (start end : ℕ) → start ≤ end → length (picks_in_span start end (pos 1)) ≡ end - start
+pub span_long : (start end : ℕ) → start ≤ end → length (picks_in_span start end (pos 1)) ≡ end - start
 unfolding picks_in_span
 span_long start end order =
     let far : end ≡ start + (end - start) = omega (arith, order) in

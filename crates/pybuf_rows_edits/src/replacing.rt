@@ -1,5 +1,5 @@
 //! Edits that put bytes in place of others.
-ghost use Rattle.std.specs.Prelude.{◌≡◌, ◌≤◌, ◌+◌, [], length, None, Some, Ok, Err, IfOk, OnOk, OnErr, MatchResult};
+ghost use Rattle.std.specs.Prelude.{◌≡◌, ◌<◌, ◌≤◌, ◌+◌, ◌^◌, [], length, None, Some, Ok, Err, IfOk, OnOk, OnErr, MatchResult};
 ghost use Rattle.pybuf_value.specs.Halting.{Gives};
 ghost use Rattle.pybuf_value.specs.Lent.{lent_bytes};
 ghost use Rattle.pybuf_value.specs.Snaps.{content_of_named};
@@ -21,7 +21,6 @@ use pybuf_bytes::NewOptions;
 use pybuf_command::{ByteInnerNewOptions, ExporterKind, LocalReply, Subject, handle_alone};
 use pybuf_index::SaturatedSlice;
 use pybuf_memoryview::content_of;
-use pybuf_slice::slices;
 use pybuf_state::{Meaning, Names, Other, Parts, content_of_other, snap_of_subject};
 use pybuf_value::{
     Answer, Fault, Halt, Lent, Made, PySlice, Scalar, SnapList, Steps, Value, bytes_from_object,
@@ -31,18 +30,29 @@ use std::sync::ledger::Ledger;
 
 // ---- `set` by a slice
 
+/// Writes as many bytes over those that a slice picks: over a range where its step is 1. Takes no memory.
+fn write_over(places: &mut [u8], slice: SaturatedSlice, bytes: &[u8])
+    requires in_memory { length places.old < 2 ^ 63 }
+    requires as_many { length (picks_of (length places.old) slice) ≡ length bytes.now }
+    ensures { places.new ≡ assigned_list places.old slice bytes.now }
+{
+    let (range, step, _) = slice.adjust_indices(places.len());
+    if step == 1 {
+        places[range].copy_from_slice(bytes);
+    } else {
+        pybuf_byte_slices::write_slice(places, slice, bytes);
+    }
+}
+
 /// Writes as many bytes over those that a slice picks, in place.
-fn write_slice(parts: &mut Parts, slice: SaturatedSlice, bytes: &[u8]) -> Made<()>
+fn write_slice(parts: &mut Parts, slice: SaturatedSlice, bytes: &[u8])
     requires { length (picks_of (length parts.old.bytes.items) slice) ≡ length bytes.now }
-    ensures ok { OnOk result (exporter_of parts.new ≡ (common.with_bytes (exporter_of parts.old) (assigned_list parts.old.bytes.items slice bytes.now)).0) }
-    ensures err { OnErr result (exporter_of parts.new ≡ exporter_of parts.old) }
+    ensures written { exporter_of parts.new ≡ (common.with_bytes (exporter_of parts.old) (assigned_list parts.old.bytes.items slice bytes.now)).0 }
     ensures exports { parts.new.exports ≡ parts.old.exports }
     ensures room { parts.new.bytes.room ≡ parts.old.bytes.room }
 {
     pybuf_slice::as_many_keep_the_length::<u8>();
-    // It is never refused, since there are as many.
-    slices::setitem_by_slice_no_resize(parts.alloc, parts.bytes.as_mut_slice(), slice, bytes)?;
-    Ok(())
+    write_over(parts.bytes.as_mut_slice(), slice, bytes);
 }
 
 /// Puts bytes in place of those that a slice picks: where they are as many, they are written in place.
@@ -63,7 +73,7 @@ fn put<L: Ledger>(
 {
     let (range, step, count) = slice.adjust_indices(parts.bytes.len());
     if count == bytes.len() {
-        write_slice(parts, slice, bytes)?;
+        write_slice(parts, slice, bytes);
         return Ok(LocalReply::Ok);
     }
     parts.resizable()?;

@@ -7,10 +7,10 @@ ghost use Rattle.pybuf_rows_edits.specs.Counting as counting;
 ghost use Rattle.pybuf_rows_edits.specs.Counting.{AreFirst, TakesFirst};
 ghost use Rattle.pybuf_rows_edits.specs.Shrinking as spec;
 
+use pybuf_byte_slices::close_up;
 use pybuf_command::{ExporterKind, LocalReply};
 use pybuf_index::{SaturatedSlice, entry_in, indices_of_a_slice, indices_of_a_span};
 use pybuf_memoryview::{byte_item, index_in};
-use pybuf_slice::close_up;
 use pybuf_state::Parts;
 use pybuf_value::{
     ByteList, Fault, Halt, PySlice, Steps, Value, count_or, place_of_byte, value_from_object,
@@ -177,8 +177,8 @@ fn are_first(slice: &SaturatedSlice, len: usize) -> bool
     }
 }
 
-/// Where the first bytes go, none moves. Else the bytes that stay move to the front of the slice's span, and then
-/// what is left of it goes.
+/// Where the first bytes go, none moves. Else the bytes between the indices move to the place of the least of them, and
+/// then what is left behind them goes.
 fn delete_slice<L: Ledger>(
     parts: &mut Parts,
     slice: &PySlice,
