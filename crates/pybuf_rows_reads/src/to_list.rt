@@ -4,16 +4,18 @@ ghost use Rattle.pybuf_rows_reads.specs.ToList.{list_of_view};
 
 use crate::lists::{items_of, list_shape};
 use pybuf_command::LocalReply;
-use pybuf_state::Parts;
+use pybuf_state::{Parts, content_lent};
 use pybuf_value::Halt;
 
-/// The items of a view, in order, with the shape that they are nested by.
+/// The items of a view, in order, with the shape that they are nested by. Items that lie apart are gathered before,
+/// by the loops of `bytes`.
 pub fn of_view(parts: &Parts, view: usize) -> Result<LocalReply, Halt>
     requires { IsWhole parts.now }
     ensures { Reads (list_of_view (exporter_of parts.now) view) (exporter_of parts.now) result }
 {
     let layout = parts.live_layout(view)?;
     let shape = list_shape(parts.alloc, layout)?;
-    let items = items_of(parts.alloc, parts.bytes.as_slice(), layout)?;
+    let content = content_lent(parts.alloc, parts.bytes.as_slice(), layout)?;
+    let items = items_of(parts.alloc, layout, content.as_slice())?;
     Ok(LocalReply::Items { shape, items })
 }

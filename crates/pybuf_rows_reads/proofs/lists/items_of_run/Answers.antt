@@ -1,5 +1,5 @@
 use Rattle.pybuf_rows_reads.proofs.ItemRuns.{run_step_at}
-use Rattle.pybuf_rows_reads.proofs.lists.push_run.Goals as goal
+use Rattle.pybuf_rows_reads.proofs.lists.items_of_run.Goals as goal
 
 pub loop-left-preserved : goal.loop-left-preserved
 loop-left-preserved c =
