@@ -13,6 +13,7 @@ mod methods;
 mod options;
 mod replies;
 mod shown;
+mod verb_copies;
 mod worlds;
 
 pub use arity::takes;
