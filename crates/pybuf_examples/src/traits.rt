@@ -1,6 +1,6 @@
 //! The traits of Rust that bytes and bytearrays have.
 use pybuf_view::{LoanList, PyByteArray, PyBytes};
-use std::io::{Read, Write};
+use std::io::{ErrorKind, Read, Write};
 use std::test::Fail;
 
 #[test]
@@ -12,7 +12,10 @@ fn a_bytearray_is_a_queue(rt: HostRuntime) -> Result<(), Fail> {
     queue.read_exact(&mut first)?;
     assert_eq!(rt; first.as_slice(), b"ab".as_slice());
     queue.as_buffer(LoanList::new(alloc))?;
-    assert!(rt; queue.write(b"e").is_err());
+    let lent = Err(ErrorKind::ResourceBusy);
+    assert_eq!(rt; queue.write(b"e").map_err(|error| error.kind()), lent);
+    assert_eq!(rt; queue.read(&mut first).map_err(|error| error.kind()), lent);
+    assert_eq!(rt; first.as_slice(), b"ab".as_slice());
     assert_eq!(rt; queue.as_slice(), b"cd".as_slice());
     Ok(())
 }

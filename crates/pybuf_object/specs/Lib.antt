@@ -1,3 +1,4 @@
 pub mod Lending
 pub mod Plain
+pub mod Queue
 pub mod Laws

@@ -7,6 +7,7 @@ ghost use Rattle.pybuf_state.specs.Exporter.{new_exporter};
 ghost use Rattle.pybuf_index.specs.Places.{item_place, entry_in, saturated_place};
 ghost use Rattle.pybuf_slice.specs.Edits.{replaced_range};
 ghost use Rattle.pybuf_object.specs.Plain as spec;
+ghost use Rattle.pybuf_object.specs.Queue as queue;
 
 use crate::byte_array::PyByteArray;
 use crate::slices;
@@ -225,6 +226,33 @@ impl PyByteArray {
     {
         take_front(self.resizable()?, count);
         Ok(())
+    }
+
+    /// Takes bytes from the front out into a room, as many as there is room for. The result is how many. Takes no
+    /// memory.
+    ///
+    /// Refused with `UnknownName` where another kind of exporter was put in, and with `BufferError` where a view is
+    /// unreleased; the room is as before then.
+    pub(crate) fn read_front(&mut self, room: &mut [u8]) -> Result<usize, Halt>
+        ensures settles { spec.SettlesAtOnce (queue.read_front self.old (length room.old)) self.old result self.new }
+        ensures room { MatchResult result (λ count. room.new ≡ queue.filled_from self.old room.old count) (λ _. room.new ≡ room.old) }
+    {
+        let bytes = self.resizable()?;
+        let count = room.len().min(bytes.len());
+        room[..count].copy_from_slice(&bytes[..count]);
+        take_front(bytes, count);
+        Ok(count)
+    }
+
+    /// Adds bytes at the end, all of them. The result is how many.
+    ///
+    /// Refused with `UnknownName` where another kind of exporter was put in, and with `BufferError` where a view is
+    /// unreleased.
+    pub(crate) fn write_behind(&mut self, bytes: &[u8]) -> Result<usize, Halt>
+        ensures { spec.Settles (queue.written_behind self.old bytes.now) self.old result self.new }
+    {
+        self.resizable()?.extend_from_slice(bytes)?;
+        Ok(bytes.len())
     }
 
     /// Takes all bytes out. Takes no memory.

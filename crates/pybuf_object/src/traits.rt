@@ -1,11 +1,13 @@
 //! The traits of Rust's library that bytes and bytearrays have.
-ghost use Rattle.std.specs.Prelude.{◌≡◌, ℕ, Some};
+ghost use Rattle.std.specs.Prelude.{◌≡◌, ℕ, length, IsOk, MatchResult, Some};
 ghost use Rattle.std.specs.Io.{ReadsAtMost, WritesAtMost};
-ghost use Rattle.std.specs.Io.KnownBytes.{Keeps, ReadConsumes, WriteAppends};
+ghost use Rattle.std.specs.Io.KnownBytes.{ReadConsumes, WriteAppends};
+ghost use Rattle.std.specs.IoError.{error_kind};
 ghost use Rattle.std.specs.Iterator.Runs.{EveryRun, ItemsMapTo};
 ghost use Rattle.std.specs.Slice.Iter.{iter_rest, iter_steps};
 ghost use Rattle.pybuf_command.specs.declared.kinds.ExporterKind.TheVariants as kinds;
 ghost use Rattle.pybuf_state.specs.Exporter.{new_exporter};
+ghost use Rattle.pybuf_object.specs.Queue as queue;
 
 use crate::byte_array::PyByteArray;
 use crate::bytes::PyBytes;
@@ -99,49 +101,58 @@ impl<'a> IntoIterator for &'a PyByteArray {
     }
 }
 
-/// The error of a device that a refusal is, or want of memory.
-fn error_of(halt: Halt) -> Error {
+/// The error that tells a refusal, or want of memory.
+fn error_of(halt: Halt) -> Error
+    ensures { error_kind result ≡ queue.kind_of halt }
+{
     match halt {
         Halt::NoMemory => Error::from(ErrorKind::OutOfMemory),
         Halt::Refused(_) => Error::from(ErrorKind::ResourceBusy),
     }
 }
 
-/// A queue: what is read is taken from the front. Refused with `ResourceBusy` while a view is unreleased, or where
-/// another kind of exporter was put in; nothing is taken then.
+/// A queue: what is read is taken from the front, as much as there is room for. Takes no memory.
+///
+/// Refused with `ResourceBusy` exactly while a view is unreleased, or where another kind of exporter was put in;
+/// nothing is taken then, and the room is as before.
 impl Read for PyByteArray {
     ghost remaining = { λ b. Some b.bytes };
 
     fn read(&mut self, buf: &mut [u8]) -> io::Result<usize>
         ensures bound { ReadsAtMost result buf.new }
         ensures bytes { ReadConsumes (Some self.old.bytes) (Some self.new.bytes) result buf.new }
+        ensures exact { queue.SettlesAsRead (queue.read_front self.old (length buf.old)) self.old result self.new }
+        ensures room { MatchResult result (λ count. buf.new ≡ queue.filled_from self.old buf.old count) (λ _. buf.new ≡ buf.old) }
     {
-        let count = buf.len().min(self.byte_count());
-        buf[..count].copy_from_slice(&self.as_slice()[..count]);
-        match self.drain_front(count) {
-            Ok(()) => Ok(count),
+        match self.read_front(buf) {
+            Ok(count) => Ok(count),
             Err(halt) => Err(error_of(halt)),
         }
     }
 }
 
-/// A queue: what is written is added at the end. Refused with `ResourceBusy` while a view is unreleased, or where
-/// another kind of exporter was put in, and with `OutOfMemory` for want of memory; nothing is added then.
+/// A queue: what is written is added at the end, all of it.
+///
+/// Refused with `ResourceBusy` exactly while a view is unreleased, or where another kind of exporter was put in. It
+/// fails with `OutOfMemory` for want of memory alone. Nothing is added then.
 impl Write for PyByteArray {
     ghost contents = { λ b. Some b.bytes };
 
     fn write(&mut self, buf: &[u8]) -> io::Result<usize>
         ensures bound { WritesAtMost result buf.now }
         ensures bytes { WriteAppends (Some self.old.bytes) (Some self.new.bytes) result buf.now }
+        ensures exact { queue.SettlesAsWrite (queue.written_behind self.old buf.now) self.old result self.new }
     {
-        match self.extend_from_slice(buf) {
-            Ok(()) => Ok(buf.len()),
+        match self.write_behind(buf) {
+            Ok(count) => Ok(count),
             Err(halt) => Err(error_of(halt)),
         }
     }
 
+    /// Never fails, and changes nothing.
     fn flush(&mut self) -> io::Result<()>
-        ensures bytes { Keeps (Some self.old.bytes) (Some self.new.bytes) }
+        ensures ok { IsOk result }
+        ensures kept { self.new ≡ self.old }
     {
         Ok(())
     }

@@ -1,0 +1,43 @@
+-- A bytearray as a queue: what is written is added at the end, and what is read is taken from the front.
+use Rattle.std.specs.Prelude.{◌≡◌, IsErr, MatchResult, ℕ, min, List, ◌++◌, length, take, drop, Result, Ok, Err}
+use Rattle.std.specs.IoError.{error_kind}
+use Rattle.std.specs.declared.io.Error.{Error}
+use Rattle.std.specs.declared.io.ErrorKind.{ErrorKind}
+use Rattle.std.specs.declared.io.ErrorKind.TheVariants.{OutOfMemory, ResourceBusy}
+use Rattle.pybuf_value.specs.declared.faults.Fault.{Fault}
+use Rattle.pybuf_value.specs.declared.halt.Halt.{Halt}
+use Rattle.pybuf_value.specs.declared.halt.Halt.TheVariants as halt
+use Rattle.pybuf_state.specs.Exporter.{Exporter}
+use Rattle.pybuf_object.specs.Plain.{resized_to}
+
+-- ---- what is asked
+
+-- without the bytes of the front, as many as there is room for; their number is the answer
+abbrev pub read_front : Exporter → ℕ → Result (Exporter × ℕ) Fault
+read_front e room = resized_to e (drop (min room (length e.bytes)) e.bytes) (min room (length e.bytes))
+
+-- with more bytes at the end, all of them; their number is the answer
+abbrev pub written_behind : Exporter → List ℕ → Result (Exporter × ℕ) Fault
+written_behind e bytes = resized_to e (e.bytes ++ bytes) (length bytes)
+
+-- a room after so many bytes of the front were read into its first places
+abbrev pub filled_from : Exporter → List ℕ → ℕ → List ℕ
+filled_from e room count = take count e.bytes ++ drop count room
+
+-- ---- how it is answered
+
+-- a refusal is a resource that is busy, and want of memory is itself
+abbrev pub kind_of : Halt → ErrorKind
+kind_of (halt.Refused _) = ResourceBusy
+kind_of halt.NoMemory = OutOfMemory
+
+-- The answer is what a definition says, with the exporter after it. Of an error, its kind tells a refusal from want
+-- of memory, which comes only where nothing is refused; the exporter is as before.
+abbrev pub SettlesAsWrite : Result (Exporter × ℕ) Fault → Exporter → Result ℕ Error → Exporter → Type 0
+SettlesAsWrite wanted old (Ok count) new = wanted ≡ Ok (new, count)
+SettlesAsWrite wanted old (Err error) new = MatchResult wanted (λ _. error_kind error ≡ OutOfMemory) (λ _. error_kind error ≡ ResourceBusy) × (new ≡ old)
+
+-- the same of a call that takes no memory
+abbrev pub SettlesAsRead : Result (Exporter × ℕ) Fault → Exporter → Result ℕ Error → Exporter → Type 0
+SettlesAsRead wanted old (Ok count) new = wanted ≡ Ok (new, count)
+SettlesAsRead wanted old (Err error) new = IsErr wanted × (error_kind error ≡ ResourceBusy) × (new ≡ old)
