@@ -1,5 +1,6 @@
 //! The lines that come in over a socket, which are answered where they lie.
-ghost use Rattle.std.specs.Prelude.{◌≡◌, length, min, take, is_some, IfOk, MatchOption};
+ghost use Rattle.std.specs.Prelude.{◌≡◌, length, min, take, is_some, MatchOption, MatchResult};
+ghost use Rattle.pybuf_value.specs.declared.halt.Halt.{Halt};
 
 use pybuf_view::{Halt, PyByteArray, PyMemoryView, place_of_byte};
 use std::alloc::Global;
@@ -32,9 +33,9 @@ impl Model for LineBuffer {
 impl LineBuffer {
     ghost use Rattle.pybuf_uses.specs.Lines.{empty_lines, received, next_line, answered, sent};
 
-    /// A buffer with room for so many bytes.
+    /// A buffer with room for so many bytes. It fails for want of memory alone.
     pub fn new(alloc: Global, size: usize) -> Result<LineBuffer, Halt>
-        ensures { IfOk result (λ buffer. buffer ≡ empty_lines size) }
+        ensures { MatchResult result (λ buffer. buffer ≡ empty_lines size) (λ halt. halt ≡ Halt.NoMemory) }
     {
         let mut room = PyByteArray::from(vec![in alloc; 0u8; size]?);
         let view = PyMemoryView::of_all(room.state_mut())?;

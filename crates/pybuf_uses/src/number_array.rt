@@ -1,5 +1,5 @@
 //! Numbers in a bytearray, which refuses to grow while it is lent.
-ghost use Rattle.std.specs.Prelude.{◌≡◌, ◌↔◌, ◌<◌, ◌*◌, ◌++◌, [], ◌∷◌, true, false, length, set, slice_get, IfOk, OnOk, OnErr, MatchResult, Ok, Err};
+ghost use Rattle.std.specs.Prelude.{◌≡◌, ◌↔◌, ◌<◌, ◌≤◌, ◌++◌, [], ◌∷◌, true, false, length, set, slice_get, IfOk, IfErr, OnOk, OnErr, MatchResult, Err};
 ghost use Rattle.pybuf_value.specs.declared.halt.Halt.{Halt};
 ghost use Rattle.pybuf_value.specs.declared.faults.Fault.{Fault};
 
@@ -68,7 +68,7 @@ impl NumberArray {
     /// Refused with `IndexError` exactly where there is none at the index.
     pub fn set(&mut self, index: usize, number: u16) -> Result<(), Fault>
         ensures ok { OnOk result (self.new ≡ record self.old { numbers = set self.old.numbers index number }) }
-        ensures exact { MatchResult result (λ _. index < length self.old.numbers) (λ fault. fault ≡ Fault.Index) }
+        ensures exact { MatchResult result (λ _. index < length self.old.numbers) (λ fault. (fault ≡ Fault.Index) × (length self.old.numbers ≤ index)) }
         ensures err { OnErr result (self.new ≡ self.old) }
     {
         if index >= self.len() {
@@ -90,12 +90,13 @@ impl NumberArray {
         self.0.extend_from_slice(&number.to_le_bytes())
     }
 
-    /// A memoryview of all the numbers' bytes. It is out until it is given back. Where memory runs out, nothing
-    /// is changed.
+    /// A memoryview of all the numbers' bytes. It is out until it is given back. Never refused: where memory runs
+    /// out, nothing is changed.
     pub fn lend(&mut self) -> Result<PyMemoryView, Halt>
         ensures view { IfOk result (λ view. view ≡ length self.old.out) }
         ensures ok { OnOk result (self.new ≡ record self.old { out = self.old.out ++ true ∷ [] }) }
         ensures err { OnErr result (self.new ≡ self.old) }
+        ensures memory { IfErr result (λ halt. halt ≡ Halt.NoMemory) }
     {
         PyMemoryView::of_all(self.0.state_mut())
     }
