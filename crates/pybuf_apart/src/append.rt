@@ -1,5 +1,5 @@
 //! Items that lie apart, appended to a vector.
-ghost use Rattle.std.specs.Prelude.{◌≡◌, ◌+◌, ◌*◌, ◌^◌, ◌<◌, ◌≤◌, ◌++◌, length, SomeIff, vec_len, vec_capacity, OnOk, OnErr, IsOk};
+ghost use Rattle.std.specs.Prelude.{◌≡◌, ◌+◌, ◌*◌, ◌^◌, ◌<◌, ◌≤◌, ◌++◌, length, take, drop, SomeIff, vec_len, vec_capacity, OnOk, OnErr, IsOk};
 ghost use Rattle.pybuf_apart.specs.Apart.{place_of, AreInside, pieces_at};
 
 use crate::moves::{Track, copy_items};
@@ -17,6 +17,18 @@ fn fill(room: &mut [u8], source: &[u8], from: Track, size: usize, count: usize)
         falls: false,
     };
     copy_items(room, to, source, from, size, count);
+}
+
+/// Appends one item from where it lies in a source.
+fn append_one(out: &mut Vec<u8>, source: &[u8], start: usize, size: usize) -> Result<(), AllocError>
+    requires { start + size ≤ length source.now }
+    ensures items { OnOk result (out.new.items ≡ out.old.items ++ take size (drop start source.now)) }
+    ensures len { OnOk result (vec_len out.new ≡ vec_len out.old + size) }
+    ensures capacity { vec_capacity out.old ≤ vec_capacity out.new }
+    ensures succeeds { vec_len out.old + size ≤ vec_capacity out.old → IsOk result }
+    ensures err { OnErr result (out.new.items ≡ out.old.items) }
+{
+    out.extend_from_slice(&source[start..start + size])
 }
 
 /// The length of bytes with so many items more, where bytes can be as many.
@@ -45,6 +57,11 @@ pub fn append_items(
     ensures succeeds { vec_len out.old + size * count ≤ vec_capacity out.old → IsOk result }
     ensures err { OnErr result (out.new.items ≡ out.old.items) }
 {
+    // Room for several items is filled with zeros before they are copied there, so one would be written twice. One
+    // without bytes may start past the end.
+    if count == 1 && size > 0 {
+        return append_one(out, source, from.start, size);
+    }
     let len = out.len();
     match length_with(len, size, count) {
         None => Err(AllocError),

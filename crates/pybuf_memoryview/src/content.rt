@@ -16,15 +16,6 @@ use pybuf_desc::{SegmentLine, Segments};
 use pybuf_value::Made;
 use std::alloc::Global;
 
-/// Adds the bytes of one range.
-fn push_range(gathered: &mut Vec<u8>, bytes: &[u8], start: usize, size: usize) -> Made<()>
-    requires { start + size ≤ length bytes.now }
-    ensures { OnOk result (gathered.new.items ≡ gathered.old.items ++ take size (drop start bytes.now)) }
-{
-    gathered.extend_from_slice(&bytes[start..start + size])?;
-    Ok(())
-}
-
 /// Adds the bytes of ranges in equal steps.
 fn push_line(gathered: &mut Vec<u8>, bytes: &[u8], line: SegmentLine) -> Made<()>
     requires line { IsLine line }
@@ -33,11 +24,6 @@ fn push_line(gathered: &mut Vec<u8>, bytes: &[u8], line: SegmentLine) -> Made<()
 {
     pybuf_desc::lines_lie_inside();
     pybuf_desc::lines_have_their_pieces();
-    // `append_items` fills its room with zeros before it copies, and so would write each byte of one range twice.
-    // A range without bytes is left to it, since it may start past the end.
-    if line.count == 1 && line.size > 0 {
-        return push_range(gathered, bytes, line.track.start, line.size);
-    }
     append_items(gathered, bytes, line.track, line.size, line.count)?;
     Ok(())
 }
