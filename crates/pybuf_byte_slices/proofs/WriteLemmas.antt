@@ -116,7 +116,7 @@ length_run true low s n = length-reverse (rising low s n) ∙ length_rising n lo
 -- ---- the indices of a span are places in it
 
 -- the indices are so many places one stride apart, each below a bound
-pub record AreWalked (high : ℕ) (falls : Bool) (start stride count : ℕ) (indices : List ℕ) : Type 0 where
+pub record IsWalk (high : ℕ) (falls : Bool) (start stride count : ℕ) (indices : List ℕ) : Type 0 where
   pub are : indices ≡ places (place_of falls start stride) count
   pub low : (k : ℕ) → k < count → falls ≡ true → k * stride ≤ start
   pub below : (k : ℕ) → k < count → place_of falls start stride k < high
@@ -131,21 +131,21 @@ each_below low high to n indices are within k less =
     let here : get_or indices k 0 ≡ to k = ap (λ (xs : List ℕ). get_or xs k 0) are ∙ place_at to n k 0 less in
     omega (arith, (within k 0 many).1, here)
 
-walked : (falls : Bool) (low high s n : ℕ) (indices : List ℕ) → indices ≡ run_of falls (run_low falls low high s n) s n → All (λ i. (low ≤ i) × (i < high)) indices
-    → AreWalked high falls (first_of falls low high) s n indices
-walked false low high s n indices run within =
+run_is_walk : (falls : Bool) (low high s n : ℕ) (indices : List ℕ) → indices ≡ run_of falls (run_low falls low high s n) s n → All (λ i. (low ≤ i) × (i < high)) indices
+    → IsWalk high falls (first_of falls low high) s n indices
+run_is_walk false low high s n indices run within =
     let are : indices ≡ places (place_of false low s) n = run ∙ rising_are n low s in
     record {
       are = are;
       low = λ k less is. absurd (true≢false (sym is));
       below = each_below low high (place_of false low s) n indices are within;
     }
-walked true low high s zero indices run within = record {
+run_is_walk true low high s zero indices run within = record {
   are = run;
   low = λ k less is. absurd (omega (arith, less));
   below = λ k less. absurd (omega (arith, less));
 }
-walked true low high s (suc n) indices run within =
+run_is_walk true low high s (suc n) indices run within =
     let one : suc n - 1 ≡ n = omega arith in
     let least : ℕ = high - 1 - n * s in
     let from : indices ≡ reverse (rising least s (suc n)) = run ∙ ap (λ (m : ℕ). reverse (rising (high - 1 - m * s) s (suc n))) one in
@@ -160,52 +160,52 @@ walked true low high s (suc n) indices run within =
       below = each_below low high (place_of true (high - 1) s) (suc n) indices are within;
     }
 
-span_walked : (spans : EachSpan SpanPicksAre) (low high : ℕ) (step : ℤ) (n : ℕ) → step ≢ pos 0 → n ≡ length (picks_in_span low high step)
-    → AreWalked high (is_negative step) (first_of (is_negative step) low high) (nat_abs step) n (picks_in_span low high step)
-span_walked spans low high step n moves many =
+span_is_walk : (spans : EachSpan SpanPicksAre) (low high : ℕ) (step : ℤ) (n : ℕ) → step ≢ pos 0 → n ≡ length (picks_in_span low high step)
+    → IsWalk high (is_negative step) (first_of (is_negative step) low high) (nat_abs step) n (picks_in_span low high step)
+span_is_walk spans low high step n moves many =
     let span = spans low high step moves in
     let falls : Bool = is_negative step in
     let s : ℕ = nat_abs step in
     let m : ℕ = how_many low high s in
     let count : m ≡ n = sym (many ∙ ap length span.run ∙ length_run falls (run_low falls low high s m) s m) in
-    walked falls low high s n (picks_in_span low high step) (span.run ∙ ap (λ (k : ℕ). run_of falls (run_low falls low high s k) s k) count) span.within
+    run_is_walk falls low high s n (picks_in_span low high step) (span.run ∙ ap (λ (k : ℕ). run_of falls (run_low falls low high s k) s k) count) span.within
 
 negative_is : (z : ℤ) → int_lt z (pos 0) ≡ is_negative z
 negative_is (pos n) = grind (arith, nat_tests)
 negative_is (negsuc n) = refl
 
 -- the same from the start, by the stride and in the direction that are given
-walked_alike : (high : ℕ) (f falls : Bool) (first start s stride n : ℕ) (indices : List ℕ) → falls ≡ f → start ≡ first → stride ≡ s → AreWalked high f first s n indices
-    → AreWalked high falls start stride n indices
-walked_alike high f falls first start s stride n indices way at by walk =
-    subst (λ (b : Bool). AreWalked high b start stride n indices) (sym way)
-    (subst (λ (i : ℕ). AreWalked high f i stride n indices) (sym at)
-    (subst (λ (t : ℕ). AreWalked high f first t n indices) (sym by) walk))
+same_walk : (high : ℕ) (f falls : Bool) (first start s stride n : ℕ) (indices : List ℕ) → falls ≡ f → start ≡ first → stride ≡ s → IsWalk high f first s n indices
+    → IsWalk high falls start stride n indices
+same_walk high f falls first start s stride n indices way at by walk =
+    subst (λ (b : Bool). IsWalk high b start stride n indices) (sym way)
+    (subst (λ (i : ℕ). IsWalk high f i stride n indices) (sym at)
+    (subst (λ (t : ℕ). IsWalk high f first t n indices) (sym by) walk))
 
 -- ---- what the code asks for and answers
 
--- the indices of a slice are walked from the start, by the stride and in the direction that were computed
-pub slice_walked : (spans : EachSpan SpanPicksAre) (parts : SliceParts) (room low high : ℕ) (step : ℤ) (n start stride : ℕ)
+-- the indices of a slice go from the start, by the stride and in the direction that were computed
+pub slice_is_walk : (spans : EachSpan SpanPicksAre) (parts : SliceParts) (room low high : ℕ) (step : ℤ) (n start stride : ℕ)
     → IsSaturated parts → step ≡ parts.step → n ≡ length (picks_of room parts) → picks_in_span low high step ≡ picks_of room parts
     → start ≡ first_of (int_lt (to_z w64 (of_z w64 step)) (pos 0)) low high → stride ≡ nat_abs (to_z w64 (of_z w64 step))
-    → AreWalked high (int_lt (to_z w64 (of_z w64 step)) (pos 0)) start stride n (picks_of room parts)
-slice_walked spans parts room low high step n start stride fits is many same at by =
+    → IsWalk high (int_lt (to_z w64 (of_z w64 step)) (pos 0)) start stride n (picks_of room parts)
+slice_is_walk spans parts room low high step n start stride fits is many same at by =
     let coded : to_z w64 (of_z w64 step) ≡ step =
     ap (λ (z : ℤ). to_z w64 (of_z w64 z)) is ∙ to_z-of_z w64 parts.step fits.step ∙ sym is in
     let way : int_lt (to_z w64 (of_z w64 step)) (pos 0) ≡ is_negative step = ap (λ (z : ℤ). int_lt z (pos 0)) coded ∙ negative_is step in
-    let walk = span_walked spans low high step n (λ none. fits.moves (sym is ∙ none)) (many ∙ ap (λ (xs : List ℕ). length xs) (sym same)) in
-    subst (λ (xs : List ℕ). AreWalked high (int_lt (to_z w64 (of_z w64 step)) (pos 0)) start stride n xs) same
-    (walked_alike high (is_negative step) (int_lt (to_z w64 (of_z w64 step)) (pos 0)) (first_of (is_negative step) low high) start (nat_abs step) stride n (picks_in_span low high step)
+    let walk = span_is_walk spans low high step n (λ none. fits.moves (sym is ∙ none)) (many ∙ ap (λ (xs : List ℕ). length xs) (sym same)) in
+    subst (λ (xs : List ℕ). IsWalk high (int_lt (to_z w64 (of_z w64 step)) (pos 0)) start stride n xs) same
+    (same_walk high (is_negative step) (int_lt (to_z w64 (of_z w64 step)) (pos 0)) (first_of (is_negative step) low high) start (nat_abs step) stride n (picks_in_span low high step)
     way (at ∙ ap (λ (b : Bool). first_of b low high) way) (by ∙ ap nat_abs coded) walk)
 
-pub are_inside : (high room : ℕ) (falls : Bool) (start stride n : ℕ) (indices : List ℕ) → AreWalked high falls start stride n indices → high ≤ room → AreInside falls start stride n 1 room
+pub are_inside : (high room : ℕ) (falls : Bool) (start stride n : ℕ) (indices : List ℕ) → IsWalk high falls start stride n indices → high ≤ room → AreInside falls start stride n 1 room
 are_inside high room falls start stride n indices walk inside = record {
   low = walk.low;
   high = λ some k less. omega (arith, walk.below k less, inside);
 }
 
 -- bytes moved along the walk are set at the indices
-pub moved_is_set : (bytes source : List ℕ) (high : ℕ) (falls : Bool) (start stride n : ℕ) (indices : List ℕ) → AreWalked high falls start stride n indices → high ≤ length bytes → n ≡ length source
+pub moved_is_set : (bytes source : List ℕ) (high : ℕ) (falls : Bool) (start stride n : ℕ) (indices : List ℕ) → IsWalk high falls start stride n indices → high ≤ length bytes → n ≡ length source
     → moved_at bytes (place_of falls start stride) source (place_of false 0 1) 1 n ≡ set_at bytes indices source
 moved_is_set bytes source high falls start stride n indices walk inside many =
     moved_are_set bytes source (place_of falls start stride) n (omega (arith, many)) (λ k less. omega (arith, walk.below k less, inside))
