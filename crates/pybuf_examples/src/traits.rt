@@ -6,7 +6,7 @@ use std::test::Fail;
 #[test]
 fn a_bytearray_is_a_queue(rt: HostRuntime) -> Result<(), Fail> {
     let alloc = rt.alloc();
-    let mut queue = PyByteArray::from(Vec::new(alloc));
+    let mut queue = PyByteArray::new(alloc);
     queue.write_all(b"abcd")?;
     let mut first = [0u8; 2];
     queue.read_exact(&mut first)?;

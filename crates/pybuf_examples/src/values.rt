@@ -1,5 +1,5 @@
 //! The values that the examples give to commands.
-use pybuf_view::{ByteList, Made, PySlice, Scalar, Text, Value};
+use pybuf_view::{Made, PySlice, Scalar, Value};
 use std::alloc::Global;
 
 /// A whole number as a value.
@@ -9,14 +9,12 @@ pub(crate) fn int(number: i128) -> Value {
 
 /// Bytes as a value.
 pub(crate) fn bytes(alloc: Global, bytes: &[u8]) -> Made<Value> {
-    let list = ByteList::from_vec(Vec::from_slice(alloc, bytes)?);
-    Ok(Value::One(Scalar::Bytes(list)))
+    Value::bytes(alloc, bytes)
 }
 
 /// A text as a value.
 pub(crate) fn text(alloc: Global, text: &str) -> Made<Value> {
-    let text = Text::from_string(String::from_str(alloc, text)?);
-    Ok(Value::One(Scalar::Text(text)))
+    Value::text(alloc, text)
 }
 
 /// The slice `start:stop` as a value.

@@ -1,19 +1,18 @@
 //! `World`: objects that are named by handles, and commands as values.
 use crate::values::{int, text};
 use pybuf_view::{
-    ByteInnerNewOptions, ByteList, Command, ExporterKind, Fault, Item, Made, Reply, ReplyList,
-    Scalar, Value, Verb, World,
+    ByteInnerNewOptions, Command, ExporterKind, Fault, Item, Made, Reply, ReplyList, Scalar, Value,
+    Verb, World,
 };
 use std::alloc::Global;
 use std::test::Fail;
 
 /// The command that makes a bytearray.
 fn new_bytearray(alloc: Global, bytes: &[u8]) -> Made<Command> {
-    let bytes = ByteList::from_vec(Vec::from_slice(alloc, bytes)?);
     Ok(Command::New {
         kind: ExporterKind::ByteArray,
         options: ByteInnerNewOptions {
-            source: Some(Value::One(Scalar::Bytes(bytes))),
+            source: Some(Value::bytes(alloc, bytes)?),
             encoding: None,
             errors: None,
         },

@@ -1,28 +1,21 @@
 //! `Records`: the records of a file.
 use pybuf_table::Records;
 use pybuf_view::{
-    Answer, BufferDescriptor, ByteList, CompareOp, DimList, Halt, NoHandles, PyBuffer, PyByteArray,
-    PyMemoryView, Scalar, ScalarList, Text,
+    Answer, BufferDescriptor, CompareOp, DimList, NoHandles, PyBuffer, PyByteArray, PyMemoryView,
+    Scalar, ScalarList, Text,
 };
-use std::alloc::Global;
 use std::test::Fail;
-
-/// The records of a format.
-fn records_of(alloc: Global, format: &str) -> Result<Records, Halt> {
-    let text = Text::from_string(String::from_str(alloc, format)?);
-    Records::new(alloc, text).done()
-}
 
 #[test]
 fn a_record_is_found_by_its_name(rt: HostRuntime) -> Result<(), Fail> {
     let alloc = rt.alloc();
-    let records = records_of(alloc, "<4sH")?;
+    let records = Records::from_str(alloc, "<4sH")?;
     let bytes = b"ada\0\x05\0bob\0\x07\0";
     let mut rows = records.iter_unpack(bytes)?;
     let first = rows.next_row(alloc)?;
     let points = first.as_ref().and_then(|row| row.get(1));
     assert_eq!(rt; points, Some(&Scalar::Int(5)));
-    let name = Scalar::Bytes(ByteList::from_slice(alloc, b"bob\0")?);
+    let name = Scalar::bytes(alloc, b"bob\0")?;
     let chosen = records
         .select(alloc, bytes, 0, CompareOp::Eq, &name)
         .done()?;
@@ -33,7 +26,7 @@ fn a_record_is_found_by_its_name(rt: HostRuntime) -> Result<(), Fail> {
 #[test]
 fn a_record_is_changed_in_place(rt: HostRuntime) -> Result<(), Fail> {
     let alloc = rt.alloc();
-    let records = records_of(alloc, "<4sH")?;
+    let records = Records::from_str(alloc, "<4sH")?;
     let mut array = PyByteArray::from_slice(alloc, b"ada\0\x05\0bob\0\x07\0")?;
     let row = records.unpack_from(alloc, array.as_slice(), -6).done()?;
     let mut values = row.into_vec();
@@ -51,7 +44,7 @@ fn a_field_behind_a_header_is_written(rt: HostRuntime) -> Result<(), Fail> {
     let alloc = rt.alloc();
     let mut array = PyByteArray::from_slice(alloc, b"HD\x01\x05\0\x02\x06\0")?;
     let state = array.state_mut();
-    let format = Text::from_string(String::from_str(alloc, "<H")?);
+    let format = Text::from_str(alloc, "<H")?;
     let mut dims = DimList::new(alloc);
     dims.push((2, 3, 0))?;
     let descriptor = BufferDescriptor::raw(4, false, 2, format, dims);

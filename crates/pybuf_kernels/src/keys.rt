@@ -32,6 +32,6 @@ pub fn slice(start: Option<i128>, stop: Option<i128>, step: Option<i128>) -> Val
 
 /// A text.
 pub fn text(alloc: Global, text: &str) -> Made<Value> {
-    let text = Text::from_string(String::from_str(alloc, text)?);
+    let text = Text::from_str(alloc, text)?;
     Ok(Value::One(Scalar::Text(text)))
 }

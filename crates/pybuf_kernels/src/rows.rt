@@ -79,7 +79,7 @@ impl Rows {
         let mut dims = DimList::new(alloc);
         dims.push((self.count(size), self.stride() as isize, 0))?;
         dims.push((ROW, self.step(), 0))?;
-        let format = Text::from_string(String::from_str(alloc, self.code.format())?);
+        let format = Text::from_str(alloc, self.code.format())?;
         Ok(BufferDescriptor::raw(size, false, self.code.size(), format, dims))
     }
 }

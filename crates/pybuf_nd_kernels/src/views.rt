@@ -53,7 +53,7 @@ fn placed(desc: BufferDescriptor, start: usize, room: usize) -> Option<KeptLayou
 
 /// So many bytes in these dimensions.
 fn array(alloc: Global, len: usize, dims: &[(usize, isize, isize)]) -> Made<Option<KeptLayout>> {
-    let format = Text::from_string(String::from_str(alloc, "B")?);
+    let format = Text::from_str(alloc, "B")?;
     let list = DimList::from_slice(alloc, dims)?;
     let desc = BufferDescriptor::raw(len, true, 1, format, list);
     Ok(placed(desc, 0, len))

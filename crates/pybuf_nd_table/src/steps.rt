@@ -39,7 +39,7 @@ fn row_major(alloc: Global, shape: &[usize]) -> Made<BufferDescriptor> {
         }
         dims.push((shape[k], stride as isize, 0))?;
     }
-    let format = Text::from_string(String::from_str(alloc, "B")?);
+    let format = Text::from_str(alloc, "B")?;
     Ok(BufferDescriptor::raw(items_of(shape), false, 1, format, dims))
 }
 

@@ -80,6 +80,13 @@ fn put(bytes: &mut [u8], index: isize, byte: u8) -> Result<(), Fault>
 impl PyByteArray {
     ghost use Rattle.pybuf_object.specs.Lending.{LendsAllIfOk};
 
+    /// The `bytearray` without bytes, and no view of it. Takes no memory.
+    pub fn new(alloc: Global) -> PyByteArray
+        ensures { result ≡ new_exporter kinds.ByteArray [] }
+    {
+        PyByteArray::from_vec(alloc, Vec::new(alloc))
+    }
+
     /// The `bytearray` of a vector, and no view of it. Takes no memory.
     pub fn from_vec(alloc: Global, bytes: Vec<u8>) -> PyByteArray
         ensures { result ≡ new_exporter kinds.ByteArray bytes.items }

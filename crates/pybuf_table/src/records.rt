@@ -1,12 +1,12 @@
 //! Formats of records, and bytes that are read as one record after another.
 ghost use Rattle.std.specs.Prelude.{◌≡◌, ◌<◌, ◌^◌, ◌∷◌, [], length, Ok, Err, IfOk, OnOk, OnErr, IfSome, IfNone, MatchResult};
-ghost use Rattle.pybuf_value.specs.Halting.{outcome_of};
+ghost use Rattle.pybuf_value.specs.Halting.{Gives, outcome_of};
 ghost use Rattle.pybuf_struct.specs.Formats.{format_of, fields};
 ghost use Rattle.pybuf_table.specs.Records.{record_format, rows, whole_rows};
 
 use crate::row_format::RowFormat;
 use pybuf_struct::FormatSpec;
-use pybuf_value::{Fault, Made, Outcome, ScalarList, Text, Tried};
+use pybuf_value::{Answer, Fault, Halt, Made, Outcome, ScalarList, Text, Tried};
 use std::alloc::Global;
 use std::marker::Model;
 
@@ -68,6 +68,13 @@ impl Records {
                 }))
             }
         }
+    }
+
+    /// The records of the format that a text spells, as `new` has them.
+    pub fn from_str(alloc: Global, format: &str) -> Result<Records, Halt>
+        ensures { Gives (record_format format.now) result }
+    {
+        Records::new(alloc, Text::from_str(alloc, format)?).done()
     }
 
     /// The number of bytes of a record.

@@ -97,7 +97,7 @@ fn unpack_all(alloc: Global, mut rows: RecordIter, count: usize) -> Made<Answer>
 impl Table {
     /// A table of so many drawn records.
     pub fn of(alloc: Global, plan: Plan, asked: Asked) -> Made<Table> {
-        let format = Text::from_string(String::from_str(alloc, FORMAT)?);
+        let format = Text::from_str(alloc, FORMAT)?;
         let records = match Records::new(alloc, format)? {
             Outcome::Done(records) => Some(records),
             Outcome::Refused(_) => None,

@@ -92,7 +92,7 @@ fn shared<R: Threads + Wait + Sync, S: Source, K: Sink, G: Gate + Sync>(
     gate: &G,
 ) -> Made<Status> {
     let mut words = Vec::new(alloc);
-    words.push(Text::from_string(String::from_str(alloc, "share")?))?;
+    words.push(Text::from_str(alloc, "share")?)?;
     Ok(serve_gated(rt, alloc, words.as_slice(), source, sink, gate))
 }
 

@@ -124,7 +124,7 @@ fn statements_are_answered(rt: HostRuntime) -> Result<(), Fail> {
     let bytes = ByteList::from_slice(alloc, b"\x01\x00\x02\x00")?;
     assert_eq!(rt; told(python.step(Statement::ByteArray(bytes))?), 0);
     assert_eq!(rt; told(python.step(Statement::MemoryView(0))?), 1);
-    let format = Text::from_string(String::from_str(alloc, "H")?);
+    let format = Text::from_str(alloc, "H")?;
     assert_eq!(rt; told(python.step(Statement::Cast(1, format))?), 2);
     assert_eq!(rt; told(python.step(Statement::GetItem(2, -1))?), 2);
     assert_eq!(rt; told(python.step(Statement::Append(0, 5))?), -2);

@@ -41,7 +41,7 @@ fn strings_are_written_as_by_python(rt: HostRuntime) -> Result<(), Fail> {
     let inner = PyBytesInner::from(Vec::from_slice(rt.alloc(), b"it's\n")?);
     let text = inner.repr_bytes(rt.alloc())?;
     assert!(rt; shown(&text) == Ok(br#"b"it's\n""#));
-    let name = Text::from_string(String::from_str(rt.alloc(), "bytearray")?);
+    let name = Text::from_str(rt.alloc(), "bytearray")?;
     let text = inner.repr_with_name(rt.alloc(), &name)?;
     assert!(rt; shown(&text) == Ok(br#"bytearray(b"it's\n")"#));
     Ok(())

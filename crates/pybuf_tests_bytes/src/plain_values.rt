@@ -57,7 +57,7 @@ fn slices_are_values(rt: HostRuntime) -> Result<(), Fail> {
 }
 
 fn text(alloc: Global, text: &str) -> Made<Text> {
-    Ok(Text::from_string(String::from_str(alloc, text)?))
+    Text::from_str(alloc, text)
 }
 
 #[test]

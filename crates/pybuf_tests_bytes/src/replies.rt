@@ -72,9 +72,9 @@ fn bytes_are_read_of_replies(rt: HostRuntime) -> Result<(), Fail> {
 #[test]
 fn texts_are_read_of_replies(rt: HostRuntime) -> Result<(), Fail> {
     let alloc = rt.alloc();
-    let text = LocalReply::Text(Text::from_string(String::from_str(alloc, "H")?));
+    let text = LocalReply::Text(Text::from_str(alloc, "H")?);
     assert!(rt; is_text(text, Some("H")));
-    let text = LocalReply::Text(Text::from_string(String::from_str(alloc, "H")?));
+    let text = LocalReply::Text(Text::from_str(alloc, "H")?);
     assert!(rt; text.into_bytes().is_none());
     Ok(())
 }

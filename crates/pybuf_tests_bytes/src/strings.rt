@@ -3,7 +3,7 @@ use crate::bytes::made;
 use pybuf_anystr::{AnyStr, AnyStrContainer, Bytes};
 use pybuf_bytes::{ByteInnerPaddingOptions, PyBytesInner, SplitArgs, SplitLinesArgs};
 use pybuf_search::begins_with;
-use pybuf_value::{ByteList, ByteLists, Fault, Outcome, Scalar, SnapList, Tried, Value};
+use pybuf_value::{ByteLists, Fault, Outcome, Scalar, SnapList, Tried, Value};
 use std::alloc::Global;
 use std::test::Fail;
 
@@ -188,7 +188,7 @@ fn strings_are_put_together(rt: HostRuntime) -> Result<(), Fail> {
     assert!(rt; made(&whole) == Ok(b"abc"));
     let whole = string.py_join(rt.alloc(), &ByteLists::new(rt.alloc()))?;
     assert!(rt; made(&whole) == Ok(b""));
-    let affix = Scalar::Bytes(ByteList::from_vec(Vec::from_slice(rt.alloc(), b"a")?));
+    let affix = Scalar::bytes(rt.alloc(), b"a")?;
     let told = begins(rt.alloc(), &string, &Value::One(affix))?;
     assert!(rt; matches!(told, Outcome::Done(true)));
     let told = begins(rt.alloc(), &string, &Value::One(Scalar::Int(97)))?;

@@ -1,8 +1,8 @@
 //! What no clause says: that the calls succeed with ample memory, and the text that is derived for
-//! a fault.
+//! a fault and for a halt.
 use pybuf_value::{
-    ByteList, ByteLists, CountList, DimList, Fault, Item, Lender, NumberList, PySlice, Scalar,
-    ScalarList, SliceList, Snap, SnapKind, SnapList, Text, Twin, Value, push_scalar,
+    ByteList, ByteLists, CountList, DimList, Fault, Halt, Item, Lender, NumberList, PySlice,
+    Scalar, ScalarList, SliceList, Snap, SnapKind, SnapList, Text, Twin, Value, push_scalar,
 };
 use std::alloc::Global;
 use std::test::Fail;
@@ -108,6 +108,15 @@ fn the_text_of_a_fault_is_its_name(rt: HostRuntime) -> Result<(), Fail> {
     Ok(())
 }
 
+#[test]
+fn the_text_of_a_halt_is_an_exception(rt: HostRuntime) -> Result<(), Fail> {
+    let refused = format!(in rt.alloc(); "{}", Halt::Refused(Fault::Buffer))?;
+    assert_eq!(rt; refused.as_str(), "BufferError");
+    let full = format!(in rt.alloc(); "{}", Halt::NoMemory)?;
+    assert_eq!(rt; full.as_str(), "MemoryError");
+    Ok(())
+}
+
 fn snap(alloc: Global) -> Result<Snap, Fail> {
     Ok(Snap {
         kind: SnapKind::View,
@@ -133,11 +142,11 @@ fn snaps_are_copied_and_lent(rt: HostRuntime) -> Result<(), Fail> {
 }
 
 fn a_text(alloc: Global) -> Result<Scalar, Fail> {
-    Ok(Scalar::Text(Text::from_string(String::from_str(alloc, "a")?)))
+    Ok(Scalar::text(alloc, "a")?)
 }
 
 fn some_bytes(alloc: Global) -> Result<Scalar, Fail> {
-    Ok(Scalar::Bytes(ByteList::from_vec(Vec::from_slice(alloc, b"a")?)))
+    Ok(Scalar::bytes(alloc, b"a")?)
 }
 
 fn push(out: &mut Vec<u8>, value: Scalar) -> Result<(), Fail> {

@@ -1,6 +1,6 @@
 //! Formats by texts of Rust, and values at an offset. What is expected is what CPython 3.11 answers.
 use pybuf_struct::FormatSpec;
-use pybuf_value::{ByteList, Fault, Halt, Made, NoMemory, Scalar, ScalarList};
+use pybuf_value::{Fault, Halt, Made, NoMemory, Scalar, ScalarList};
 use std::alloc::Global;
 use std::test::Fail;
 
@@ -57,7 +57,7 @@ fn records_are_written(rt: HostRuntime) -> Result<(), Fail> {
 }
 
 fn name(alloc: Global) -> Made<Scalar> {
-    Ok(Scalar::Bytes(ByteList::from_slice(alloc, b"abcd")?))
+    Scalar::bytes(alloc, b"abcd")
 }
 
 /// Whether values are those bytes, 258 and true.

@@ -21,7 +21,7 @@ pub(crate) fn bytes(alloc: Global, bytes: &[u8]) -> Made<Value> {
 }
 
 pub(crate) fn text(alloc: Global, characters: &str) -> Made<Value> {
-    let text = Text::from_string(String::from_str(alloc, characters)?);
+    let text = Text::from_str(alloc, characters)?;
     Ok(Value::One(Scalar::Text(text)))
 }
 

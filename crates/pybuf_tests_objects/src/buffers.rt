@@ -20,7 +20,7 @@ use std::test::Fail;
 fn bytes_apart(alloc: Global, len: usize, stride: isize) -> Made<BufferDescriptor> {
     let mut dims = DimList::new(alloc);
     dims.push((len, stride, 0))?;
-    let format = Text::from_string(String::from_str(alloc, "B")?);
+    let format = Text::from_str(alloc, "B")?;
     Ok(BufferDescriptor::raw(len, false, 1, format, dims))
 }
 

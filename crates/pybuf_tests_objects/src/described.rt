@@ -40,7 +40,7 @@ fn described(alloc: Global, format: &str, count: usize, size: usize) -> Made<Buf
     let mut dims = DimList::new(alloc);
     let stride = size.min(isize::MAX as usize) as isize;
     dims.push((count, stride, 0))?;
-    let format = Text::from_string(String::from_str(alloc, format)?);
+    let format = Text::from_str(alloc, format)?;
     let len = count.saturating_mul(size);
     Ok(BufferDescriptor::raw(len, false, size, format, dims))
 }

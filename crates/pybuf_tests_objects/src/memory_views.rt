@@ -62,7 +62,7 @@ fn three_rows(alloc: Global) -> Made<BufferDescriptor> {
     let mut dims = DimList::new(alloc);
     dims.push((3, 2, 0))?;
     dims.push((2, 1, 0))?;
-    let format = Text::from_string(String::from_str(alloc, "B")?);
+    let format = Text::from_str(alloc, "B")?;
     Ok(BufferDescriptor::raw(6, false, 1, format, dims))
 }
 

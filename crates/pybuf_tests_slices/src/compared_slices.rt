@@ -1,7 +1,7 @@
 //! Slices compared, as texts and hashed, with ample memory. The expected values are Python's.
 use crate::slices::{NONE, part};
 use pybuf_index::{SliceIndices, hash_of_lanes};
-use pybuf_value::{ByteList, CompareOp, Fault, PySlice, Scalar, Text};
+use pybuf_value::{CompareOp, Fault, PySlice, Scalar, Text};
 use std::alloc::Global;
 use std::test::Fail;
 
@@ -68,11 +68,11 @@ fn with_start(start: Scalar) -> PySlice {
 }
 
 fn bytes(alloc: Global, bytes: &[u8]) -> Result<Scalar, Fail> {
-    Ok(Scalar::Bytes(ByteList::from_vec(Vec::from_slice(alloc, bytes)?)))
+    Ok(Scalar::bytes(alloc, bytes)?)
 }
 
 fn text(alloc: Global, chars: &str) -> Result<Scalar, Fail> {
-    Ok(Scalar::Text(Text::from_string(String::from_str(alloc, chars)?)))
+    Ok(Scalar::text(alloc, chars)?)
 }
 
 #[test]

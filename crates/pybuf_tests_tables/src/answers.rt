@@ -7,7 +7,7 @@ use std::alloc::Global;
 
 /// The records of a format.
 pub(crate) fn records_of(alloc: Global, format: &str) -> Tried<Records> {
-    let text = Text::from_string(String::from_str(alloc, format)?);
+    let text = Text::from_str(alloc, format)?;
     Records::new(alloc, text)
 }
 

@@ -1,7 +1,7 @@
 //! Formats of records, and records one after another or chosen.
 use crate::answers::{records_of, tell_count, tell_fault, tell_row};
 use pybuf_table::{Records, RowList};
-use pybuf_value::{ByteList, CompareOp, Made, Outcome, Scalar, Tried};
+use pybuf_value::{CompareOp, Made, Outcome, Scalar, Tried};
 use std::alloc::Global;
 use std::test::Fail;
 
@@ -114,7 +114,7 @@ fn choose(
 fn choose_all(alloc: Global, told: &mut Vec<u8>) -> Made<()> {
     let table = [1, 2, 0, 5, 6, 1];
     let hundred = Scalar::Int(100);
-    let text = Scalar::Bytes(ByteList::from_vec(Vec::from_slice(alloc, b"b")?));
+    let text = Scalar::bytes(alloc, b"b")?;
     choose(alloc, "<BH", &table, 1, CompareOp::Gt, &hundred, told)?;
     choose(alloc, "<BH", &table, 2, CompareOp::Eq, &hundred, told)?;
     choose(alloc, "<BH", &table[..4], 1, CompareOp::Eq, &hundred, told)?;

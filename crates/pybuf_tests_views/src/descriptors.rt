@@ -228,7 +228,7 @@ fn words_of_bytes(alloc: Global) -> Made<BufferDescriptor> {
     if bytes.len() % 2 != 0 {
         return Ok(bytes);
     }
-    let format = Text::from_string(String::from_str(alloc, "H")?);
+    let format = Text::from_str(alloc, "H")?;
     bytes.cast_flat(alloc, format, 2)
 }
 
@@ -272,7 +272,7 @@ fn words_in_shape(alloc: Global) -> Made<BufferDescriptor> {
     if !bytes.is_contiguous() {
         return Ok(bytes);
     }
-    let format = Text::from_string(String::from_str(alloc, "H")?);
+    let format = Text::from_str(alloc, "H")?;
     bytes.cast_shape(alloc, format, 2, SHAPE.as_slice())
 }
 

@@ -5,7 +5,7 @@ ghost use Rattle.pybuf_table.specs.Records.{record_format};
 ghost use Rattle.pybuf_uses.specs.Elf.{header_values_of, section_format, section_table_of, sections_of};
 
 use pybuf_table::{RecordIter, Records};
-use pybuf_view::{Answer, Fault, Halt, ScalarList, Text};
+use pybuf_view::{Answer, Fault, Halt, ScalarList};
 use std::alloc::Global;
 
 /// Where the sections of a file are described.
@@ -29,20 +29,12 @@ const SECTION: &str = "<IIQQQQIIQQ";
 /// The bytes of a description.
 const SECTION_SIZE: usize = 64;
 
-/// The records of a format.
-fn records_of(alloc: Global, format: &str) -> Result<Records, Halt>
-    ensures { Gives (record_format format.now) result }
-{
-    let text = Text::from_string(String::from_str(alloc, format)?);
-    Records::new(alloc, text).done()
-}
-
 /// The values of a header.
 #[tactic(auto, using(crate::proofs::ElfLemmas::header_has_format, crate::proofs::ElfLemmas::header_read_by))]
 fn header_values(alloc: Global, file: &[u8]) -> Result<ScalarList, Halt>
     ensures { Gives (header_values_of file.now) result }
 {
-    let records = records_of(alloc, HEADER)?;
+    let records = Records::from_str(alloc, HEADER)?;
     records.unpack_from(alloc, file, 0).done()
 }
 
@@ -73,7 +65,7 @@ pub fn section_records(alloc: Global) -> Result<Records, Halt>
     ensures value { Gives (record_format section_format) result }
     ensures size { IfOk result (λ records. records.format.size ≡ 64) }
 {
-    records_of(alloc, SECTION)
+    Records::from_str(alloc, SECTION)
 }
 
 /// The sections of a file, one after another, each unpacked when it is asked for. The records are those of `section_records`.

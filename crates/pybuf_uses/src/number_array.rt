@@ -31,7 +31,7 @@ impl NumberArray {
     pub fn new(alloc: Global) -> NumberArray
         ensures { result ≡ no_numbers }
     {
-        NumberArray(PyByteArray::from(Vec::new(alloc)))
+        NumberArray(PyByteArray::new(alloc))
     }
 
     /// The exporter, from which the views that are lent are read.

@@ -79,21 +79,35 @@ impl From<PySlice> for Value {
     }
 }
 
+impl Scalar {
+    /// A copy of the bytes, as a scalar.
+    pub fn bytes(alloc: Global, bytes: &[u8]) -> Made<Scalar>
+        ensures { IfOk result (λ s. s ≡ scalar.Bytes bytes.now) }
+    {
+        Ok(Scalar::Bytes(ByteList::from_slice(alloc, bytes)?))
+    }
+
+    /// A copy of the text, as a scalar.
+    pub fn text(alloc: Global, text: &str) -> Made<Scalar>
+        ensures { IfOk result (λ s. s ≡ scalar.Text text.now) }
+    {
+        Ok(Scalar::Text(Text::from_str(alloc, text)?))
+    }
+}
+
 impl Value {
     /// A copy of the bytes, as a value.
     pub fn bytes(alloc: Global, bytes: &[u8]) -> Made<Value>
         ensures { IfOk result (λ v. v ≡ value.One (scalar.Bytes bytes.now)) }
     {
-        let bytes = Vec::from_slice(alloc, bytes)?;
-        Ok(Value::One(Scalar::Bytes(ByteList::from_vec(bytes))))
+        Ok(Value::One(Scalar::bytes(alloc, bytes)?))
     }
 
     /// A copy of the text, as a value.
     pub fn text(alloc: Global, text: &str) -> Made<Value>
         ensures { IfOk result (λ v. v ≡ value.One (scalar.Text text.now)) }
     {
-        let text = String::from_str(alloc, text)?;
-        Ok(Value::One(Scalar::Text(Text::from_string(text))))
+        Ok(Value::One(Scalar::text(alloc, text)?))
     }
 
     /// A slice, also one that is written as a range of Rust, as a value.

@@ -8,11 +8,14 @@ use crate::faults::{Fault, Outcome, Tried};
 use crate::list::ByteList;
 use pybuf_copy::NoMemory;
 use std::alloc::{AllocError, AllocFailed};
+use thiserror::Error;
 
-/// Why a row stops, so that its body can use `?` alone.
-#[derive(Clone, Copy, Debug, PartialEq, Eq)]
+/// Why a row stops, so that its body can use `?` alone. Its `Display` is Python's name of the exception.
+#[derive(Clone, Copy, Debug, PartialEq, Eq, Error)]
 pub enum Halt {
+    #[error("{0}")]
     Refused(Fault),
+    #[error("MemoryError")]
     NoMemory,
 }
 

@@ -1,5 +1,5 @@
 //! Text, which contracts see as the list of its UTF-8 bytes.
-ghost use Rattle.std.specs.Prelude.{◌≡◌, ◌==◌, ◌<◌, ◌^◌, ◌++◌, List, [], ℕ, length, OnOk, OnErr, encode_utf8};
+ghost use Rattle.std.specs.Prelude.{◌≡◌, ◌==◌, ◌<◌, ◌^◌, ◌++◌, List, [], ℕ, length, IfOk, OnOk, OnErr, encode_utf8};
 ghost use Rattle.std.specs.String.{string_bytes};
 ghost use Rattle.std.specs.Str.{IsUtf8, bytes_eq};
 ghost use Rattle.std.specs.Cmp.{partial_equiv_from_equiv};
@@ -29,6 +29,15 @@ impl Text {
         Text {
             text: String::new(alloc),
         }
+    }
+
+    /// A copy of the text.
+    pub fn from_str(alloc: Global, text: &str) -> Made<Text>
+        ensures { IfOk result (λ t. t ≡ text.now) }
+    {
+        Ok(Text {
+            text: String::from_str(alloc, text)?,
+        })
     }
 
     /// The number of bytes, at most `isize::MAX`.
