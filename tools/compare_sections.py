@@ -4,9 +4,10 @@ they differ.
 
     python3 tools/compare_sections.py            of the programs that the gate built
     python3 tools/compare_sections.py FILE..     of these files
+    python3 tools/compare_sections.py --stored   of its stored input, by what is stored of its output: this needs no program
     python3 tools/compare_sections.py --write    writes what `pybuf_elf` has to print of its stored input
 
-Where `readelf` isn't there it says so, and ends with status 0.
+The last line counts the files. Where `readelf` isn't there, or with --stored, those that are not compared are skipped.
 """
 import pathlib
 import re
@@ -86,16 +87,29 @@ def printed(path):
     return run.stdout.decode().split("\n")[:-1]
 
 
+def skipped(count, what, reason):
+    print(f"skipped: the sections of {what}: {reason}")
+    return count
+
+
 def main(words):
     if shutil.which("readelf") is None:
-        print("readelf is not there: the sections of programs are not compared")
+        skipped(3, "two programs and of a stored input", "there is no readelf (Debian's package binutils has it)")
+        print("0 passed, 0 failed, 3 skipped")
         return 0
     if words == ["--write"]:
         (READER / "stdout").write_text("".join(f"{line}\n" for line in told(READER / "stdin")))
         return 0
+    stored = words == ["--stored"]
+    files = [READER / "stdin"] if stored else [*map(pathlib.Path, words)] or [*PROGRAMS, READER / "stdin"]
+    left = skipped(len(PROGRAMS), "two programs", "only proved ones are kept as files; `.ci/run` compares them") if stored else 0
     differing = 0
-    for path in map(pathlib.Path, words or [*PROGRAMS, READER / "stdin"]):
-        wanted, came = list(told(path)), printed(path)
+    if not stored and not PROGRAM.is_file():
+        print(f"{PROGRAM} is not there: `rt ci` builds it\n0 passed, {len(files)} failed")
+        return 1
+    for path in files:
+        wanted = list(told(path))
+        came = (READER / "stdout").read_text().split("\n")[:-1] if stored else printed(path)
         if wanted != came:
             differing += 1
             print(f"{path}: pybuf_elf prints otherwise than readelf")
@@ -103,6 +117,7 @@ def main(words):
                 print(f"    {'readelf' if line in wanted else 'pybuf_elf'}: {line}")
         else:
             print(f"{path}: {len(wanted)} lines are those of readelf")
+    print(f"{len(files) - differing} passed, {differing} failed" + (f", {left} skipped" if left else ""))
     return 1 if differing else 0
 
 

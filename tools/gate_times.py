@@ -1,23 +1,37 @@
 #!/usr/bin/env python3
-"""Runs the gate, and tells which crates, tests and edits took longest.
+"""Runs the gate, and tells how long it took, and what each crate took of that.
 
     python3 tools/gate_times.py [COMMAND..]     COMMAND is `.ci/run` if none is given
 
-What the command prints is passed on. Each second the processes of the prover are looked at, and behind the
-command's output stand, by the processor time of each: what was proved (a crate, its tests, one of its edits, the
-crate again behind its edits) or built, when it began, how long it took, and its processor time; then the sums of
-each kind. It ends with the status of the command. The first edit of a crate proves the whole crate once more. A gate
-proves all from nothing; where COMMAND is an `rt check`, what was kept takes no process, and isn't told.
+What the command prints is passed on. Behind it stand the minutes, the processor minutes of all processes that it started, and whether
+that is of a run from nothing: a gate that kept something of an earlier run says so, and its figures are none of a whole one. Then
+a row for each crate: the processor minutes of its proof, of its tests, of its edits (with the proof of the crate that they begin with, and
+of the one behind them) and of what was built of it; and the longest single works. It ends with the status of the command.
+
+Twice a second the processes of the prover are looked at, so what they do at their very end isn't in the rows. The sum of all
+processes is the system's own, and what is in no row is `rt`, the tests, the programs and the cases.
 """
+import ctypes
 import os
 import pathlib
+import re
+import resource
 import subprocess
 import sys
+import threading
 import time
 
 ROOT = pathlib.Path(__file__).resolve().parent.parent
 TICKS = os.sysconf("SC_CLK_TCK")
-LONGEST = 40
+LONGEST = 12
+PAUSE = 0.5
+# What the words of `prctl` are by which a process becomes the parent of those that lose theirs.
+SET_CHILD_SUBREAPER = 36
+COLUMNS = ("proof", "tests", "edits", "programs")
+# The column of each kind of work.
+COLUMN = {"proof": "proof", "tests": "tests", "edit": "edits", "edit from nothing": "edits", "crate behind its edits": "edits", "build of what was proved": "programs"}
+WHOLE = "every proof and must-fail edit was done in this run"
+PART = re.compile(r"done in this run: (.*?); the others are kept")
 
 
 def read(path):
@@ -29,12 +43,16 @@ def read(path):
 
 
 def processes():
-    """Of each process of the prover its number, that of its parent, its words, its folder and its time."""
-    found = {}
+    """Of each process of the prover that was started from here its parent's number, its words, its folder and its time."""
+    stats = {}
     for number in filter(str.isdigit, os.listdir("/proc")):
-        words = read(f"/proc/{number}/cmdline").split("\0")
         stat = read(f"/proc/{number}/stat").rpartition(")")[2].split()
-        if words[0].endswith("/rattle") and len(stat) > 14:
+        if len(stat) > 14:
+            stats[number] = stat
+    found = {}
+    for number, stat in stats.items():
+        words = read(f"/proc/{number}/cmdline").split("\0")
+        if words[0].endswith("/rattle") and is_from(stats, number, str(os.getpid())):
             try:
                 folder = os.readlink(f"/proc/{number}/cwd")
             except OSError:
@@ -43,6 +61,13 @@ def processes():
             own, ended = (sum(map(int, stat[at : at + 2])) / TICKS for at in (11, 13))
             found[number] = (stat[1], words, folder, own, ended)
     return found
+
+
+def is_from(stats, number, top):
+    """Whether a process stands below another."""
+    while number in stats and number != top:
+        number = stats[number][1]
+    return number == top
 
 
 def edited(crate, edit):
@@ -95,7 +120,7 @@ def look(seen, now):
     """Adds what the processes of this moment show."""
     found = processes()
     for number, (_, words, folder, own, ended) in found.items():
-        top, time_of_all = number, own
+        top = number
         while found[top][0] in found:
             top = found[top][0]
         if top == number:
@@ -128,23 +153,81 @@ def minutes(seconds):
     return f"{seconds / 60:.1f}"
 
 
+def table(works):
+    """A row for each crate, the dearest first, and their sums."""
+    crates = {}
+    for it in works:
+        row = crates.setdefault(it.name.partition("/")[0], dict.fromkeys(COLUMNS, 0.0))
+        row[COLUMN[it.kind]] += it.time
+    rows = sorted(crates.items(), key=lambda row: -sum(row[1].values()))
+    rows.append(("sum", {column: sum(row[column] for _, row in rows) for column in COLUMNS}))
+    width = max(len(name) for name, _ in rows)
+    yield f"{'processor minutes':<{width}}" + "".join(f"{column:>10}" for column in (*COLUMNS, "all"))
+    for name, row in rows:
+        yield f"{name:<{width}}" + "".join(f"{minutes(seconds):>10}" for seconds in (*row.values(), sum(row.values())))
+
+
+def longest(works):
+    yield "begun   took  processors  the longest works, in minutes"
+    for it in sorted(works, key=lambda it: -it.time)[:LONGEST]:
+        yield f"{minutes(it.begun):>5}{minutes(it.ended - it.begun):>7}{minutes(it.time):>12}  {it.kind}: {it.name}"
+
+
+def origin(said):
+    """Whether the figures are of a run from nothing."""
+    kept = next((PART.search(line) for line in said if PART.search(line)), None)
+    if kept:
+        return f"NOT from nothing: done in this run were {kept[1]}, and the others were kept, so these figures are none of a whole gate"
+    if any(WHOLE in line for line in said):
+        return "from nothing: every proof and every edit was done in this run"
+    return "whether from nothing is not known: the command said nothing of what was kept (a kit that keeps nothing doesn't)"
+
+
+def reaped(pid):
+    """Waits for children that have ended, and gives the status of the one with this number, or None while it runs."""
+    found = None
+    while True:
+        try:
+            number, status, _ = os.wait4(-1, os.WNOHANG)
+        except ChildProcessError:
+            return found
+        if number == 0:
+            return found
+        if number == pid:
+            found = os.WEXITSTATUS(status) if os.WIFEXITED(status) else 128 + os.WTERMSIG(status)
+
+
 def main():
     command = sys.argv[1:] or [str(ROOT / ".ci" / "run")]
-    seen, start = {}, time.monotonic()
-    running = subprocess.Popen(command)
-    while running.poll() is None:
+    # (so that the time of a process whose parent ended before it counts too)
+    ctypes.CDLL(None).prctl(SET_CHILD_SUBREAPER, 1, 0, 0, 0)
+    seen, said, start = {}, [], time.monotonic()
+    running = subprocess.Popen(command, stdout=subprocess.PIPE)
+
+    def pass_on():
+        for line in running.stdout:
+            sys.stdout.buffer.write(line)
+            sys.stdout.buffer.flush()
+            if line.startswith(b"rt: ok"):
+                said.append(line.decode(errors="replace"))
+
+    reader = threading.Thread(target=pass_on, daemon=True)
+    reader.start()
+    status = None
+    while status is None:
         look(seen, time.monotonic() - start)
-        time.sleep(1)
-    whole, works = time.monotonic() - start, together(seen.values())
-    print(f"\n{minutes(whole)} minutes; the longest, in minutes:\n\n  begun   took  processors  what")
-    for it in sorted(works, key=lambda it: -it.time)[:LONGEST]:
-        print(f"{minutes(it.begun):>7}{minutes(it.ended - it.begun):>7}{minutes(it.time):>12}  {it.kind}: {it.name}")
-    print("\nof each kind: how many, and processor minutes\n")
-    for kind in sorted({it.kind for it in works}):
-        of_kind = [it for it in works if it.kind == kind]
-        print(f"{len(of_kind):>7}{minutes(sum(it.time for it in of_kind)):>12}  {kind}")
-    print(f"{len(works):>7}{minutes(sum(it.time for it in works)):>12}  all")
-    return running.returncode
+        time.sleep(PAUSE)
+        status = reaped(running.pid)
+    whole = time.monotonic() - start
+    reader.join(10)
+    reaped(running.pid)
+    used = resource.getrusage(resource.RUSAGE_CHILDREN)
+    works = together(seen.values())
+    print(f"\n{minutes(whole)} minutes, {minutes(used.ru_utime + used.ru_stime)} processor minutes of all processes, on {os.cpu_count()} processors, status {status}")
+    print(origin(said))
+    if works:
+        print("", *table(works), "", *longest(works), sep="\n")
+    return status
 
 
 if __name__ == "__main__":

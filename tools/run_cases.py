@@ -2,10 +2,13 @@
 """Runs the cases on a program that was built, and ends with status 1 where one differs.
 
     python3 tools/run_cases.py [PROGRAM [FOLDER..]]
+    python3 tools/run_cases.py --unproved          all but the examples, on what `rt try` builds without proof
+    python3 tools/run_cases.py --unproved examples the examples and the input that is stored beside the program, so too
 
 PROGRAM is what the gate built, `crates/pybuf/out/pybuf`, where none is named. The FOLDERs are `examples` and every
 folder of `cases/`; where none is named, the lines of `cases/no-commands.txt` and `cases/no-operations.txt` and the inputs
-that are made here are run too.
+that are made here are run too. Without proof the examples run on the program itself, and all others on its one call,
+`serve`: `tools/unproved.py` says why. Those that want little memory to be there are skipped then.
 
 A case is a file NAME, which is the input, with what has to be written for it beside it, NAME.stdout. NAME.args has the
 words behind the program's name, a word a line, none where it isn't there, and NAME.status the status that has to come,
@@ -16,7 +19,7 @@ Of `share` the order of the sessions among each other is open. So where an input
 has to be what one thread gets in the order that stands there (`tools/check_sessions.py`), and what is kept has to be so too.
 Some such inputs are drawn.
 
-As many cases run side by side as there are processors. A folder that isn't there or has no case, and a file that neither
+As many cases run side by side as there are processors. The last line counts them. A folder that isn't there or has no case, and a file that neither
 is a case nor belongs to one nor is a README.md, fail too.
 """
 
@@ -34,6 +37,8 @@ from concurrent.futures import ThreadPoolExecutor
 sys.dont_write_bytecode = True
 
 import check_sessions
+import unproved
+from unproved import Ran
 
 ROOT = pathlib.Path(__file__).resolve().parent.parent
 PROGRAM = ROOT / "crates/pybuf/out/pybuf"
@@ -90,7 +95,7 @@ def has_open_order(case):
 def difference(program, case, written):
     """What differs of what was written, as a text, or None."""
     if not has_open_order(case):
-        return first_difference(case.written, written)
+        return None if written is None else first_difference(case.written, written)
     given = case.given.removesuffix(b"\n").split(b"\n")
     for what, text in (("what is written", written), ("what is kept", case.written)):
         # (what lacks its last line feed has a last line that doesn't end)
@@ -100,8 +105,8 @@ def difference(program, case, written):
     return None
 
 
-def differences(program, case):
-    """What differs when the case is run, as texts."""
+def run(program, case):
+    """Runs a case on a program that was built."""
     pipes = dict.fromkeys(("stdin", "stdout", "stderr"), subprocess.PIPE)
     try:
         with subprocess.Popen([program, *case.words], env={}, **pipes) as process:
@@ -112,17 +117,24 @@ def differences(program, case):
                 written, complaint = process.communicate(case.given, timeout=SECONDS)
             except subprocess.TimeoutExpired:
                 process.kill()
-                return [f"it had not ended after {SECONDS} seconds"]
+                return Ran(None, None, b"", f"it had not ended after {SECONDS} seconds")
     except (OSError, ValueError) as error:
-        return [f"it was not run: {error}"]
-    found = [difference(program, case, written)]
-    if process.returncode < 0:
-        found.append(f"signal {-process.returncode} ended it")
-    elif process.returncode != case.status:
-        found.append(f"the status has to be {case.status}, and is {process.returncode}")
+        return Ran(None, None, b"", f"it was not run: {error}")
+    return Ran(process.returncode, written, complaint)
+
+
+def differences(program, case, ran):
+    """What differs of what came of a case, as texts."""
+    if ran.fault:
+        return [ran.fault]
+    found = [difference(program, case, ran.written)]
+    if ran.status < 0:
+        found.append(f"signal {-ran.status} ended it")
+    elif ran.status != case.status:
+        found.append(f"the status has to be {case.status}, and is {ran.status}")
     expected = COMPLAINTS.get(case.status, b"")
-    if complaint != expected:
-        found.append(f"on standard error has to come {shown(expected)}, and came {shown(complaint)}")
+    if ran.complaint != expected:
+        found.append(f"on standard error has to come {shown(expected)}, and came {shown(ran.complaint)}")
     return [it for it in found if it is not None]
 
 
@@ -270,7 +282,84 @@ def folders(named):
     return [*map(folder_of, [ROOT / "examples", *kept]), *wrong, drawn_sessions(), large_inputs()]
 
 
+def own_input():
+    """The input that is stored beside the program, with its words, output and status, as a case."""
+    stored = {name: path.read_bytes() for name in ("stdin", "stdout", "args", "status") for path in [ROOT / "crates/pybuf" / name] if path.is_file()}
+    words = stored.get("args", b"").split(b"\n")
+    case = Case("the stored input", stored.get("stdin", b""), stored.get("stdout", b""), int(stored.get("status", b"0")), words if words[-1] else words[:-1])
+    return Folder("crates/pybuf", [case], [])
+
+
+class Replays:
+    """What stands for the program in `check_sessions`, where no program is kept: it first takes the lines that one thread is asked,
+    and once these were run, it has the replies."""
+
+    def __init__(self):
+        self.cases, self.came = {}, {}
+
+    def run(self, program, word, lines):
+        given = b"".join(line + b"\n" for line in lines)
+        self.cases[given] = Case("a replay", given, None, DONE)
+        ran = self.came.get(given)
+        if ran is None or ran.fault or ran.status != DONE:
+            return None, ran.fault or f"{word} ended with status {ran.status}" if ran else "it was not run"
+        return ran.written.split(b"\n")[:-1], None
+
+
+def run_unproved(chosen, is_program):
+    """Runs the cases of folders without proof: what came of each, by folders."""
+    is_told = lambda case: case.written is None or has_open_order(case)
+    if is_program:
+        ran = unproved.tried([case for folder in chosen for case in folder.cases], is_told)
+        came = [[ran.pop(0) for _ in folder.cases] for folder in chosen]
+    else:
+        came = unproved.served([folder.cases for folder in chosen], is_told)
+    replays = Replays()
+    check_sessions.run = replays.run
+    for folder, answers in zip(chosen, came):
+        for case, ran in zip(folder.cases, answers):
+            if has_open_order(case) and not ran.fault:
+                differences(None, case, ran)
+                # (what is kept is replayed though what is written differs)
+                difference(None, case, None)
+    if replays.cases:
+        lists = [[*replays.cases.values()]]
+        replays.came = dict(zip(replays.cases, unproved.served(lists, is_told)[0]))
+    return came
+
+
+def told(folder, results):
+    """Prints what differs in a folder, and tells how many cases passed and failed."""
+    differing = [(case, found) for case, found in zip(folder.cases, results) if found]
+    faults = folder.faults if folder.cases or folder.faults else ["it has no case"]
+    print(f"{folder.name}: {len(folder.cases)} ran, {len(differing)} differ", flush=True)
+    for fault in faults:
+        print(f"    {fault}")
+    for case, found in differing:
+        print(f"    {case.name}: {'; '.join(found)}")
+    return len(folder.cases) - len(differing), len(differing) + len(faults)
+
+
+def main_unproved(named):
+    if named not in ([], ["examples"]):
+        print("without proof run the examples, or all others: run_cases.py --unproved [examples]", file=sys.stderr)
+        return 2
+    chosen = [*folders(["examples"]), own_input()] if named else folders([])[1:]
+    left = [case for folder in chosen for case in folder.cases if case.address_space is not None]
+    chosen = [folder._replace(cases=[case for case in folder.cases if case.address_space is None]) for folder in chosen]
+    passed = failed = 0
+    for folder, came in zip(chosen, run_unproved(chosen, bool(named))):
+        more = told(folder, [differences(None, case, ran) for case, ran in zip(folder.cases, came)])
+        passed, failed = passed + more[0], failed + more[1]
+    for case in left:
+        print(f"skipped: the case '{case.name}': it limits the memory, which rt try doesn't; `.ci/run` runs it")
+    print(f"{passed} passed, {failed} failed" + (f", {len(left)} skipped" if left else ""))
+    return 1 if failed else 0
+
+
 def main(words):
+    if words[:1] == ["--unproved"]:
+        return main_unproved(words[1:])
     program = pathlib.Path(words[0] if words else PROGRAM).resolve()
     if not program.is_file():
         print(f"{program} is not there: build it by `rt ci`, or by `rt run` in crates/pybuf", file=sys.stderr)
@@ -279,16 +368,8 @@ def main(words):
     passed = failed = 0
     with ThreadPoolExecutor(os.cpu_count() or 1) as pool:
         for folder in folders(words[1:]):
-            results = pool.map(lambda case: differences(program, case), folder.cases)
-            differing = [(case, found) for case, found in zip(folder.cases, results) if found]
-            faults = folder.faults if folder.cases or folder.faults else ["it has no case"]
-            print(f"{folder.name}: {len(folder.cases)} ran, {len(differing)} differ", flush=True)
-            for fault in faults:
-                print(f"    {fault}")
-            for case, found in differing:
-                print(f"    {case.name}: {'; '.join(found)}")
-            passed += len(folder.cases) - len(differing)
-            failed += len(differing) + len(faults)
+            more = told(folder, pool.map(lambda case: differences(program, case, run(program, case)), folder.cases))
+            passed, failed = passed + more[0], failed + more[1]
     print(f"{passed} passed, {failed} failed")
     return 1 if failed else 0
 
