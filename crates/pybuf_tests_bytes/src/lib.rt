@@ -5,21 +5,19 @@
 #[cfg(test)]
 mod alike;
 #[cfg(test)]
-mod bytes;
+mod answered;
+#[cfg(test)]
+mod byte_strings;
 #[cfg(test)]
 mod contents;
 #[cfg(test)]
 mod copies;
 #[cfg(test)]
+mod parts;
+#[cfg(test)]
 mod plain_strings;
 #[cfg(test)]
-mod plain_values;
-#[cfg(test)]
 mod replies;
-#[cfg(test)]
-mod shown;
-#[cfg(test)]
-mod sources;
 #[cfg(test)]
 mod strings;
 #[cfg(test)]

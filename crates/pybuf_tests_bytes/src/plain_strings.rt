@@ -1,7 +1,8 @@
 //! The methods of strings of bytes with plain arguments. What is expected is what CPython 3.11 answers.
-use pybuf_bytes::{ByteStr, PyBytesInner};
-use pybuf_value::{ByteLists, Fault, Halt};
-use std::convert::AsSlice;
+use crate::answered::is_parted;
+use pybuf_bytes::ByteStr;
+use pybuf_value::{Fault, Halt};
+use std::alloc::Global;
 use std::test::Fail;
 
 /// What is searched for in `TEXT`, the bounds, and what `find`, `rfind`, `count`, `startswith` and
@@ -31,82 +32,97 @@ const SEARCHES: [Search; 9] = [
     (b"a", Some(0), Some(-100), None, None, 0, false, false),
 ];
 
+fn is_searched(search: &Search) -> bool {
+    let bytes = ByteStr::new(TEXT);
+    let (sub, start, end, first, last, count, begins, ends) = *search;
+    bytes.find(sub, start, end) == first
+        && bytes.rfind(sub, start, end) == last
+        && bytes.index(sub, start, end) == first.ok_or(Fault::Value)
+        && bytes.count(sub, start, end) == count
+        && bytes.startswith(sub, start, end) == begins
+        && bytes.endswith(sub, start, end) == ends
+}
+
 #[test]
 fn bytes_are_searched(rt: HostRuntime) -> Result<(), Fail> {
-    let bytes = ByteStr::new(TEXT);
-    for (sub, start, end, first, last, count, begins, ends) in &SEARCHES {
-        let (start, end) = (*start, *end);
-        assert_eq!(rt; bytes.find(sub, start, end), *first);
-        assert_eq!(rt; bytes.rfind(sub, start, end), *last);
-        assert_eq!(rt; bytes.index(sub, start, end), first.ok_or(Fault::Value));
-        assert_eq!(rt; bytes.count(sub, start, end), *count);
-        assert_eq!(rt; bytes.startswith(sub, start, end), *begins);
-        assert_eq!(rt; bytes.endswith(sub, start, end), *ends);
+    for search in &SEARCHES {
+        assert!(rt; is_searched(search));
     }
     Ok(())
 }
 
-fn are(parts: &ByteLists, wanted: &[&[u8]]) -> bool {
-    if parts.len() != wanted.len() {
-        return false;
-    }
-    parts
-        .as_slice()
-        .iter()
-        .zip(wanted)
-        .all(|(part, bytes)| part.as_slice() == *bytes)
-}
+/// A text, a separator, the greatest number of cuts, and the parts, or the refusal.
+type Split = (
+    &'static [u8],
+    Option<&'static [u8]>,
+    Option<isize>,
+    Result<&'static [&'static [u8]], Fault>,
+);
+
+const SPLITS: [Split; 6] = [
+    (TEXT, Some(b","), None, Ok(&[b"key=a", b"b", b"", b"c=key"])),
+    (TEXT, Some(b","), Some(1), Ok(&[b"key=a", b"b,,c=key"])),
+    (b"  a b  c ", None, Some(1), Ok(&[b"a", b"b  c "])),
+    (b"", None, None, Ok(&[])),
+    (b"", Some(b","), None, Ok(&[b""])),
+    (TEXT, Some(b""), None, Err(Fault::Value)),
+];
 
 #[test]
 fn bytes_are_split(rt: HostRuntime) -> Result<(), Fail> {
-    let alloc = rt.alloc();
-    let bytes = ByteStr::new(TEXT);
-    let comma = Some(b",".as_slice());
-    let all = bytes.split(alloc, comma, None)?;
-    assert!(rt; are(&all, &[b"key=a", b"b", b"", b"c=key"]));
-    let one = bytes.split(alloc, comma, Some(1))?;
-    assert!(rt; are(&one, &[b"key=a", b"b,,c=key"]));
-    let words = ByteStr::new(b"  a b  c ").split(alloc, None, Some(1))?;
-    assert!(rt; are(&words, &[b"a", b"b  c "]));
-    assert!(rt; are(&ByteStr::new(b"").split(alloc, None, None)?, &[]));
-    assert!(rt; are(&ByteStr::new(b"").split(alloc, comma, None)?, &[b""]));
-    let refused = bytes.split(alloc, Some(b""), None).err();
-    assert_eq!(rt; refused, Some(Halt::Refused(Fault::Value)));
+    for (text, separator, most, wanted) in &SPLITS {
+        let parts = ByteStr::new(text).split(rt.alloc(), *separator, *most);
+        assert!(rt; is_parted(parts, *wanted));
+    }
     Ok(())
+}
+
+/// What is replaced in `TEXT`, by what, how often at most, and what comes of it.
+const REPLACED: [(&[u8], &[u8], Option<isize>, &[u8]); 3] = [
+    (b",", b"--", None, b"key=a--b----c=key"),
+    (b",", b"", Some(1), b"key=ab,,c=key"),
+    (b"", b".", Some(2), b".k.ey=a,b,,c=key"),
+];
+
+fn is_replaced(alloc: Global, old: &[u8], new: &[u8], most: Option<isize>, wanted: &[u8]) -> bool {
+    match ByteStr::new(TEXT).replace(alloc, old, new, most) {
+        Ok(bytes) => bytes.as_slice() == wanted,
+        Err(_) => false,
+    }
+}
+
+/// Bytes, codec, handler of errors, and the text that they are.
+const DECODED: [(&[u8], Option<&str>, Option<&str>, Result<&str, Fault>); 3] = [
+    (b"\xc3\xa9", None, None, Ok("é")),
+    (
+        b"\xc3\xa9",
+        Some("ascii"),
+        Some("strict"),
+        Err(Fault::Value),
+    ),
+    (b"\xff", Some("utf-8"), None, Err(Fault::Value)),
+];
+
+fn is_decoded(
+    alloc: Global,
+    bytes: &[u8],
+    codec: Option<&str>,
+    errors: Option<&str>,
+    wanted: Result<&str, Fault>,
+) -> bool {
+    match ByteStr::new(bytes).decode(alloc, codec, errors) {
+        Ok(text) => wanted == Ok(text.as_str()),
+        Err(halt) => matches!(wanted, Err(fault) if halt == Halt::Refused(fault)),
+    }
 }
 
 #[test]
 fn bytes_are_replaced_and_decoded(rt: HostRuntime) -> Result<(), Fail> {
-    let alloc = rt.alloc();
-    let bytes = ByteStr::new(TEXT);
-    let all = bytes.replace(alloc, b",", b"--", None)?;
-    assert_eq!(rt; all.as_slice(), b"key=a--b----c=key".as_slice());
-    let first = bytes.replace(alloc, b",", b"", Some(1))?;
-    assert_eq!(rt; first.as_slice(), b"key=ab,,c=key".as_slice());
-    let between = bytes.replace(alloc, b"", b".", Some(2))?;
-    assert_eq!(rt; between.as_slice(), b".k.ey=a,b,,c=key".as_slice());
-    let text = ByteStr::new(b"\xc3\xa9").decode(alloc, None, None)?;
-    assert_eq!(rt; text.as_str(), "é");
-    let ascii = ByteStr::new(b"\xc3\xa9")
-        .decode(alloc, Some("ascii"), Some("strict"))
-        .err();
-    assert_eq!(rt; ascii, Some(Halt::Refused(Fault::Value)));
-    let none = ByteStr::new(b"\xff")
-        .decode(alloc, Some("utf-8"), None)
-        .err();
-    assert_eq!(rt; none, Some(Halt::Refused(Fault::Value)));
-    Ok(())
-}
-
-fn length_of<S: AsSlice<u8>>(bytes: &S) -> usize {
-    bytes.as_slice().len()
-}
-
-#[test]
-fn strings_are_slices(rt: HostRuntime) -> Result<(), Fail> {
-    let vec = Vec::from_slice(rt.alloc(), b"ab")?;
-    let string: PyBytesInner = vec.into();
-    assert_eq!(rt; string.first(), Some(&97));
-    assert_eq!(rt; length_of(&string), 2);
+    for (old, new, most, wanted) in &REPLACED {
+        assert!(rt; is_replaced(rt.alloc(), old, new, *most, wanted));
+    }
+    for (bytes, codec, errors, wanted) in &DECODED {
+        assert!(rt; is_decoded(rt.alloc(), bytes, *codec, *errors, *wanted));
+    }
     Ok(())
 }

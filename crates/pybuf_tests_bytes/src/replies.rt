@@ -1,33 +1,17 @@
-//! What is read of replies, and their equality.
-use crate::alike::alike;
-use pybuf_command::LocalReply;
-use pybuf_value::{Answer, ByteList, Fault, Halt, Item, Made, Scalar, Text};
+//! What is read of replies, their equality, and their texts, which are those of the program's lines.
+use crate::alike::{alike, is_shown};
+use pybuf_command::{LocalReply, Reply};
+use pybuf_value::{Answer, ByteList, CountList, Fault, Halt, Item, ItemList, Made, Scalar, Text};
+use std::alloc::Global;
 use std::test::Fail;
 
-// A reply is let go by a call: one that ends with its scope spells out all its variants.
+/// The number, the truth value, the view and the refusal of a reply.
+type Told = (Option<i128>, Option<bool>, Option<usize>, Option<Fault>);
 
-fn number_of(reply: LocalReply) -> Option<i128> {
-    let number = reply.number();
+fn told(reply: LocalReply) -> Told {
+    let told = (reply.number(), reply.truth(), reply.view(), reply.refusal());
     drop(reply);
-    number
-}
-
-fn truth_of(reply: LocalReply) -> Option<bool> {
-    let truth = reply.truth();
-    drop(reply);
-    truth
-}
-
-fn view_of(reply: LocalReply) -> Option<usize> {
-    let view = reply.view();
-    drop(reply);
-    view
-}
-
-fn refusal_of(reply: LocalReply) -> Option<Fault> {
-    let refusal = reply.refusal();
-    drop(reply);
-    refusal
+    told
 }
 
 fn item(part: Scalar) -> LocalReply {
@@ -36,46 +20,37 @@ fn item(part: Scalar) -> LocalReply {
 
 #[test]
 fn replies_are_read(rt: HostRuntime) -> Result<(), Fail> {
-    assert_eq!(rt; number_of(item(Scalar::Int(99))), Some(99));
-    assert_eq!(rt; truth_of(item(Scalar::Int(99))), None);
-    assert_eq!(rt; truth_of(item(Scalar::Bool(true))), Some(true));
-    assert_eq!(rt; number_of(item(Scalar::Bool(true))), None);
-    assert_eq!(rt; truth_of(LocalReply::Truth(false)), Some(false));
-    assert_eq!(rt; view_of(LocalReply::View(2)), Some(2));
-    assert_eq!(rt; view_of(LocalReply::Ok), None);
-    assert_eq!(rt;
-        refusal_of(LocalReply::Refused(Fault::Buffer)),
-        Some(Fault::Buffer)
-    );
+    assert!(rt; told(item(Scalar::Int(99))) == (Some(99), None, None, None));
+    assert!(rt; told(item(Scalar::Bool(true))) == (None, Some(true), None, None));
+    assert!(rt; told(LocalReply::Truth(false)) == (None, Some(false), None, None));
+    assert!(rt; told(LocalReply::View(2)) == (None, None, Some(2), None));
+    assert!(rt; told(LocalReply::Ok) == (None, None, None, None));
+    let refused = LocalReply::Refused(Fault::Buffer);
+    assert!(rt; told(refused) == (None, None, None, Some(Fault::Buffer)));
     Ok(())
 }
 
-fn is_text(reply: LocalReply, wanted: Option<&str>) -> bool {
-    let equal = reply.text() == wanted;
-    drop(reply);
-    equal
+fn bytes_reply(alloc: Global) -> Made<LocalReply> {
+    Ok(LocalReply::Bytes(ByteList::from_slice(alloc, b"ab")?))
 }
 
-#[test]
-fn bytes_are_read_of_replies(rt: HostRuntime) -> Result<(), Fail> {
-    let alloc = rt.alloc();
-    let bytes = LocalReply::Bytes(ByteList::from_slice(alloc, b"ab")?);
-    assert!(rt; is_text(bytes, None));
-    let bytes = LocalReply::Bytes(ByteList::from_slice(alloc, b"ab")?);
-    match bytes.into_bytes() {
-        Some(bytes) => assert_eq!(rt; bytes.as_slice(), b"ab".as_slice()),
-        None => assert!(rt; false),
+fn text_reply(alloc: Global) -> Made<LocalReply> {
+    Ok(LocalReply::Text(Text::from_str(alloc, "H")?))
+}
+
+/// Whether a reply has this text, and these bytes.
+fn has(reply: LocalReply, text: Option<&str>, bytes: Option<&[u8]>) -> bool {
+    let same = reply.text() == text;
+    match reply.into_bytes() {
+        Some(found) => same && bytes == Some(found.as_slice()),
+        None => same && bytes.is_none(),
     }
-    Ok(())
 }
 
 #[test]
-fn texts_are_read_of_replies(rt: HostRuntime) -> Result<(), Fail> {
-    let alloc = rt.alloc();
-    let text = LocalReply::Text(Text::from_str(alloc, "H")?);
-    assert!(rt; is_text(text, Some("H")));
-    let text = LocalReply::Text(Text::from_str(alloc, "H")?);
-    assert!(rt; text.into_bytes().is_none());
+fn bytes_and_texts_are_read_of_replies(rt: HostRuntime) -> Result<(), Fail> {
+    assert!(rt; has(bytes_reply(rt.alloc())?, None, Some(b"ab")));
+    assert!(rt; has(text_reply(rt.alloc())?, Some("H"), None));
     Ok(())
 }
 
@@ -86,5 +61,23 @@ fn refusals_stop(rt: HostRuntime) -> Result<(), Fail> {
     let done: Made<LocalReply> = Ok(LocalReply::View(1));
     assert!(rt; alike(done.done(), Ok(LocalReply::View(1))));
     assert!(rt; !alike(LocalReply::View(1), LocalReply::Iter(1)));
+    Ok(())
+}
+
+/// Rows of one number each.
+fn rows(alloc: Global) -> Made<Reply> {
+    let shape = CountList::from_slice(alloc, &[2, 1])?;
+    let mut items = ItemList::new(alloc);
+    items.push(Item::One(Scalar::Int(1)))?;
+    items.push(Item::One(Scalar::Int(2)))?;
+    Ok(Reply::Items { shape, items })
+}
+
+#[test]
+fn replies_are_shown(rt: HostRuntime) -> Result<(), Fail> {
+    let alloc = rt.alloc();
+    assert!(rt; is_shown(alloc, Ok(Reply::Refused(Fault::Buffer)), "! BufferError"));
+    assert!(rt; is_shown(alloc, bytes_reply(alloc), "b'ab'"));
+    assert!(rt; is_shown(alloc, rows(alloc), "[[1], [2]]"));
     Ok(())
 }

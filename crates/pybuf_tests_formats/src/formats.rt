@@ -1,15 +1,32 @@
 //! Vectors from outside, by the `struct` module of CPython 3.11 on a 64-bit little-endian machine:
 //! `struct.calcsize(format)` (`SIZES`), `struct.pack(format, *values)` at the ends of each code's
-//! range and with alignment (`NUMBERS`, `STRINGS`), the numbers that it refuses (`PAST`), and
-//! `struct.unpack(format, bytes)` (`NUMBERS`, `READS`, `CONTENTS`, `TRUTHS`). By hand: the texts
-//! that are refused, `u`, handles, and Pascal strings past 255 bytes.
-use pybuf_struct::{
-    Endianness, FormatSpec, FormatType, is_numeric_letter, pack_single, single_value,
-};
+//! range and with alignment (`NUMBERS`, `WRITTEN`), the numbers that it refuses (`PAST`), and
+//! `struct.unpack(format, bytes)` (`NUMBERS`, `READS`, `READ`). By hand: the texts that are refused,
+//! `u`, handles, and Pascal strings past 255 bytes.
+use pybuf_struct::{Endianness, FormatCode, FormatSpec, FormatType};
 use pybuf_value::{
-    ByteList, CountList, Fault, Outcome, Scalar, ScalarList, Snap, SnapKind, SnapList, Text, Twin,
+    ByteList, CountList, Fault, Halt, Made, Outcome, Scalar, ScalarList, Snap, SnapKind, SnapList,
+    Text, Twin,
 };
+use std::alloc::Global;
 use std::test::Fail;
+
+/// A value that a field is given, or reads.
+#[derive(Clone, Copy)]
+enum Part<'a> {
+    Nothing,
+    Int(i128),
+    Truth(bool),
+    Bytes(&'a [u8]),
+    Handle(u64),
+}
+
+/// Values that a format is given, or reads.
+#[derive(Clone, Copy)]
+enum Given<'a> {
+    Numbers(&'a [i128]),
+    Parts(&'a [Part<'a>]),
+}
 
 /// A size, and the formats that have it.
 const SIZES: [(usize, &[&str]); 27] = [
@@ -112,7 +129,7 @@ const NATIVE_GREATEST: [i128; 10] = [
 ];
 
 /// Numbers, and the bytes that they are written as and read from.
-const NUMBERS: [(&str, &[i128], &[u8]); 30] = [
+const NUMBERS: [(&str, &[i128], &[u8]); 31] = [
     (
         "<bhilqBHILQ",
         &LEAST,
@@ -211,6 +228,11 @@ const NUMBERS: [(&str, &[i128], &[u8]); 30] = [
         &[1, 2, 3, 4, 5, 6, 7],
         b"\x01\x02\x03\x04\x05\x06\x07",
     ),
+    (
+        "3u",
+        &[-2147483648, -1, 259],
+        b"\x00\x00\x00\x80\xff\xff\xff\xff\x03\x01\x00\x00",
+    ),
 ];
 
 /// Bytes with others than zeros at `x` and in alignment, and the numbers that are read from them.
@@ -250,55 +272,58 @@ const PAST: [(&str, i128, i128); 18] = [
     ("@Q", -1, 18446744073709551616),
 ];
 
-/// A bytes value, and the bytes that it is written as.
-const STRINGS: [(&str, &[u8], &[u8]); 17] = [
-    ("c", b"\x00", b"\x00"),
-    (">c", b"\xff", b"\xff"),
-    ("3s", b"abc", b"abc"),
-    ("3s", b"ab", b"ab\x00"),
-    ("3s", b"abcd", b"abc"),
-    ("0s", b"abc", b""),
-    ("s", b"", b"\x00"),
-    ("5s", b"\x80\xff", b"\x80\xff\x00\x00\x00"),
-    ("3p", b"abc", b"\x02ab"),
-    ("3p", b"a", b"\x01a\x00"),
-    ("3p", b"", b"\x00\x00\x00"),
-    ("p", b"abc", b"\x00"),
-    ("2p", b"abc", b"\x01a"),
-    ("=4p", b"xyz", b"\x03xyz"),
-    ("<10p", b"0123456789", b"\x09012345678"),
-    ("x3s2x", b"abc", b"\x00abc\x00\x00"),
-    ("4xs", b"q", b"\x00\x00\x00\x00q"),
+/// A value, and the bytes that it is written as.
+const WRITTEN: [(&str, Part<'static>, &[u8]); 24] = [
+    ("c", Part::Bytes(b"\x00"), b"\x00"),
+    (">c", Part::Bytes(b"\xff"), b"\xff"),
+    ("3s", Part::Bytes(b"abc"), b"abc"),
+    ("3s", Part::Bytes(b"ab"), b"ab\x00"),
+    ("3s", Part::Bytes(b"abcd"), b"abc"),
+    ("0s", Part::Bytes(b"abc"), b""),
+    ("s", Part::Bytes(b""), b"\x00"),
+    ("5s", Part::Bytes(b"\x80\xff"), b"\x80\xff\x00\x00\x00"),
+    ("3p", Part::Bytes(b"abc"), b"\x02ab"),
+    ("3p", Part::Bytes(b"a"), b"\x01a\x00"),
+    ("3p", Part::Bytes(b""), b"\x00\x00\x00"),
+    ("p", Part::Bytes(b"abc"), b"\x00"),
+    ("2p", Part::Bytes(b"abc"), b"\x01a"),
+    ("=4p", Part::Bytes(b"xyz"), b"\x03xyz"),
+    ("<10p", Part::Bytes(b"0123456789"), b"\x09012345678"),
+    ("x3s2x", Part::Bytes(b"abc"), b"\x00abc\x00\x00"),
+    ("4xs", Part::Bytes(b"q"), b"\x00\x00\x00\x00q"),
+    ("?", Part::Int(0), b"\x00"),
+    ("?", Part::Int(1), b"\x01"),
+    ("?", Part::Int(2), b"\x01"),
+    ("?", Part::Int(128), b"\x01"),
+    ("?", Part::Int(255), b"\x01"),
+    (">?", Part::Int(0), b"\x00"),
+    (">?", Part::Int(64), b"\x01"),
 ];
 
-/// The bytes value that is read from bytes.
-const CONTENTS: [(&str, &[u8], &[u8]); 15] = [
-    ("c", b"\x00", b"\x00"),
-    (">c", b"\xff", b"\xff"),
-    ("3s", b"abc", b"abc"),
-    ("<3s", b"\x00\x80\xff", b"\x00\x80\xff"),
-    ("0s", b"", b""),
-    ("s", b"z", b"z"),
-    ("3p", b"ab", b"\x02ab"),
-    ("3p", b"a", b"\x01ab"),
-    ("3p", b"", b"\x00ab"),
-    ("3p", b"ab", b"\xffab"),
-    ("=3p", b"ab", b"\x03ab"),
-    ("p", b"", b"\x05"),
-    ("4xs", b"q", b"\x00\x00\x00\x00q"),
-    ("x3p", b"yz", b"\x07\x02yz"),
-    ("10p", b"1234567", b"\x07123456789"),
-];
-
-/// The truth value that is read from a byte.
-const TRUTHS: [(&str, bool, u8); 7] = [
-    ("?", false, 0),
-    ("?", true, 1),
-    ("?", true, 2),
-    ("?", true, 128),
-    ("?", true, 255),
-    (">?", false, 0),
-    (">?", true, 64),
+/// The value that is read from bytes.
+const READ: [(&str, Part<'static>, &[u8]); 22] = [
+    ("c", Part::Bytes(b"\x00"), b"\x00"),
+    (">c", Part::Bytes(b"\xff"), b"\xff"),
+    ("3s", Part::Bytes(b"abc"), b"abc"),
+    ("<3s", Part::Bytes(b"\x00\x80\xff"), b"\x00\x80\xff"),
+    ("0s", Part::Bytes(b""), b""),
+    ("s", Part::Bytes(b"z"), b"z"),
+    ("3p", Part::Bytes(b"ab"), b"\x02ab"),
+    ("3p", Part::Bytes(b"a"), b"\x01ab"),
+    ("3p", Part::Bytes(b""), b"\x00ab"),
+    ("3p", Part::Bytes(b"ab"), b"\xffab"),
+    ("=3p", Part::Bytes(b"ab"), b"\x03ab"),
+    ("p", Part::Bytes(b""), b"\x05"),
+    ("4xs", Part::Bytes(b"q"), b"\x00\x00\x00\x00q"),
+    ("x3p", Part::Bytes(b"yz"), b"\x07\x02yz"),
+    ("10p", Part::Bytes(b"1234567"), b"\x07123456789"),
+    ("?", Part::Truth(false), b"\x00"),
+    ("?", Part::Truth(true), b"\x01"),
+    ("?", Part::Truth(true), b"\x02"),
+    ("?", Part::Truth(true), b"\x80"),
+    ("?", Part::Truth(true), b"\xff"),
+    (">?", Part::Truth(false), b"\x00"),
+    (">?", Part::Truth(true), b"\x40"),
 ];
 
 /// Why texts are no formats, and such texts.
@@ -332,91 +357,220 @@ const REFUSED: [(&str, &[&str]); 5] = [
     ),
 ];
 
-fn parsed(rt: &impl AllocGlobal, format: &str) -> Result<FormatSpec, Fail> {
-    match FormatSpec::parse(rt.alloc(), format.as_bytes())? {
-        Outcome::Done(spec) => Ok(spec),
-        Outcome::Refused(_) => Err("a format is refused".into()),
+fn push_part(alloc: Global, values: &mut ScalarList, part: Part) -> Made<()> {
+    match part {
+        Part::Nothing => values.push(Scalar::None),
+        Part::Int(number) => values.push(Scalar::Int(number)),
+        Part::Truth(truth) => values.push(Scalar::Bool(truth)),
+        Part::Bytes(bytes) => values.push(Scalar::bytes(alloc, bytes)?),
+        Part::Handle(handle) => values.push(Scalar::Handle(handle)),
     }
 }
 
-fn values(rt: &impl AllocGlobal, format: &str, bytes: &[u8]) -> Result<ScalarList, Fail> {
-    match parsed(rt, format)?.unpack(rt.alloc(), bytes)? {
-        Outcome::Done(values) => Ok(values),
-        Outcome::Refused(_) => Err("bytes are refused".into()),
-    }
-}
-
-fn are_numbers(values: &ScalarList, numbers: &[i128]) -> bool {
-    if values.len() != numbers.len() {
-        return false;
-    }
-    for (value, number) in values.as_slice().iter().zip(numbers) {
-        if !matches!(value, Scalar::Int(n) if n == number) {
-            return false;
+fn push_given(alloc: Global, values: &mut ScalarList, given: Given) -> Made<()> {
+    match given {
+        Given::Numbers(numbers) => {
+            for number in numbers {
+                values.push(Scalar::Int(*number))?;
+            }
+        }
+        Given::Parts(parts) => {
+            for part in parts {
+                push_part(alloc, values, *part)?;
+            }
         }
     }
-    true
+    Ok(())
 }
 
-fn numbers_list(rt: &impl AllocGlobal, numbers: &[i128]) -> Result<ScalarList, Fail> {
-    let mut list = ScalarList::new(rt.alloc());
-    for number in numbers {
-        list.push(Scalar::Int(*number))?;
+fn values_of(alloc: Global, given: Given) -> Made<ScalarList> {
+    let mut values = ScalarList::new(alloc);
+    push_given(alloc, &mut values, given)?;
+    Ok(values)
+}
+
+/// Whether a call that writes into a room of other bytes wrote these, or was refused so and left the room as it was.
+fn is_written(answer: Result<(), Fault>, room: &[u8], wanted: Result<&[u8], Fault>) -> bool {
+    match wanted {
+        Ok(bytes) => answer.is_ok() && room == bytes,
+        Err(fault) => answer == Err(fault) && room.iter().all(|byte| *byte == 0xaa),
     }
-    Ok(list)
 }
 
-fn one(rt: &impl AllocGlobal, value: Scalar) -> Result<ScalarList, Fail> {
-    let mut list = ScalarList::new(rt.alloc());
-    list.push(value)?;
-    Ok(list)
-}
-
-fn bytes_list(rt: &impl AllocGlobal, bytes: &[u8]) -> Result<ByteList, Fail> {
-    Ok(ByteList::from_vec(Vec::from_slice(rt.alloc(), bytes)?))
-}
-
-/// What `pack` gives, where `pack_into` does the same to a room that held other bytes: the bytes,
-/// or the refusal with the room as it was.
-fn both_ways(
-    rt: &impl AllocGlobal,
-    format: &str,
-    args: &ScalarList,
+fn packs(
+    alloc: Global,
+    format: &FormatSpec,
+    values: &ScalarList,
     lender: &SnapList,
-) -> Result<Outcome<Vec<u8>>, Fail> {
-    let spec = parsed(rt, format)?;
-    let mut room = vec![in rt.alloc(); 0xaau8; spec.size()]?;
-    let answer = spec.pack_into(room.as_mut_slice(), args, lender);
-    let bytes = spec.pack(rt.alloc(), args, lender)?;
-    let same = match &bytes {
-        Outcome::Done(b) => answer.is_ok() && room.as_slice() == b.as_slice(),
-        Outcome::Refused(f) => answer == Err(*f) && room.as_slice().iter().all(|b| *b == 0xaa),
-    };
-    if !same {
-        return Err("`pack_into` differs from `pack`".into());
-    }
-    Ok(bytes)
-}
-
-fn gives(answer: &Outcome<Vec<u8>>, bytes: &[u8]) -> bool {
-    match answer {
-        Outcome::Done(b) => b.as_slice() == bytes,
-        Outcome::Refused(_) => false,
+    wanted: Result<&[u8], Fault>,
+) -> Made<bool> {
+    match format.pack(alloc, values, lender)? {
+        Outcome::Done(bytes) => Ok(wanted == Ok(bytes.as_slice())),
+        Outcome::Refused(fault) => Ok(wanted == Err(fault)),
     }
 }
 
-fn refuses(answer: &Outcome<Vec<u8>>, fault: Fault) -> bool {
-    match answer {
-        Outcome::Done(_) => false,
-        Outcome::Refused(f) => *f == fault,
+fn packs_into(
+    alloc: Global,
+    format: &FormatSpec,
+    values: &ScalarList,
+    lender: &SnapList,
+    wanted: Result<&[u8], Fault>,
+) -> Made<bool> {
+    let mut room = vec![in alloc; 0xaau8; format.size()]?;
+    let answer = format.pack_into(room.as_mut_slice(), values, lender);
+    Ok(is_written(answer, room.as_slice(), wanted))
+}
+
+fn packs_values(
+    alloc: Global,
+    format: &FormatSpec,
+    values: &[Scalar],
+    wanted: Result<&[u8], Fault>,
+) -> bool {
+    match format.pack_values(alloc, values) {
+        Ok(bytes) => wanted == Ok(bytes.as_slice()),
+        Err(Halt::Refused(fault)) => wanted == Err(fault),
+        Err(Halt::NoMemory) => false,
     }
+}
+
+/// The same behind a byte, and before another.
+fn packs_at(
+    alloc: Global,
+    format: &FormatSpec,
+    values: &[Scalar],
+    wanted: Result<&[u8], Fault>,
+) -> Made<bool> {
+    let mut room = vec![in alloc; 0xaau8; format.size() + 2]?;
+    let answer = format.pack_at(room.as_mut_slice(), 1, values);
+    match room.as_slice() {
+        [0xaa, inner @ .., 0xaa] => Ok(is_written(answer, inner, wanted)),
+        _ => Ok(false),
+    }
+}
+
+/// Whether all calls that write give these bytes, or refuse the values so; those that know no handle, where none is lent.
+fn write_all(
+    alloc: Global,
+    format: &FormatSpec,
+    values: &ScalarList,
+    lender: &SnapList,
+    wanted: Result<&[u8], Fault>,
+) -> Made<bool> {
+    if !packs(alloc, format, values, lender, wanted)? {
+        return Ok(false);
+    }
+    if !packs_into(alloc, format, values, lender, wanted)? {
+        return Ok(false);
+    }
+    if !lender.is_empty() {
+        return Ok(true);
+    }
+    if !packs_values(alloc, format, values.as_slice(), wanted) {
+        return Ok(false);
+    }
+    packs_at(alloc, format, values.as_slice(), wanted)
+}
+
+fn is_like(values: ScalarList, wanted: &ScalarList) -> bool {
+    let same = values == *wanted;
+    drop(values);
+    same
+}
+
+fn unpacks(alloc: Global, format: &FormatSpec, bytes: &[u8], wanted: &ScalarList) -> Made<bool> {
+    match format.unpack(alloc, bytes)? {
+        Outcome::Done(values) => Ok(is_like(values, wanted)),
+        Outcome::Refused(_) => Ok(false),
+    }
+}
+
+/// The same behind a byte, and before another.
+fn unpacks_from(
+    alloc: Global,
+    format: &FormatSpec,
+    bytes: &[u8],
+    wanted: &ScalarList,
+) -> Made<bool> {
+    let mut among = vec![in alloc; 0x55u8]?;
+    among.extend_from_slice(bytes)?;
+    among.push(0x55)?;
+    match format.unpack_from(alloc, among.as_slice(), 1) {
+        Ok(values) => Ok(is_like(values, wanted)),
+        Err(_) => Ok(false),
+    }
+}
+
+/// Whether all calls that read give these values.
+fn read_all(alloc: Global, format: &FormatSpec, bytes: &[u8], wanted: &ScalarList) -> Made<bool> {
+    if !unpacks(alloc, format, bytes, wanted)? {
+        return Ok(false);
+    }
+    unpacks_from(alloc, format, bytes, wanted)
+}
+
+/// Which way a row is to be taken.
+#[derive(Clone, Copy)]
+enum Way<'a> {
+    /// Values are written as these bytes, or refused so.
+    Written(Result<&'a [u8], Fault>),
+    /// They are read from these bytes.
+    Read(&'a [u8]),
+}
+
+fn goes(
+    alloc: Global,
+    format: &FormatSpec,
+    values: &ScalarList,
+    lender: &SnapList,
+    way: Way,
+) -> Made<bool> {
+    match way {
+        Way::Written(wanted) => write_all(alloc, format, values, lender, wanted),
+        Way::Read(bytes) => read_all(alloc, format, bytes, values),
+    }
+}
+
+fn goes_with(
+    alloc: Global,
+    format: &FormatSpec,
+    given: Given,
+    lender: &SnapList,
+    way: Way,
+) -> Made<bool> {
+    let values = values_of(alloc, given)?;
+    let answer = goes(alloc, format, &values, lender, way);
+    drop(values);
+    answer
+}
+
+/// Whether the values go by the format in this way.
+fn does(
+    alloc: Global,
+    text: &str,
+    given: Given,
+    lender: &SnapList,
+    way: Way,
+) -> Result<bool, Halt> {
+    let format = FormatSpec::from_str(alloc, text)?;
+    let answer = goes_with(alloc, &format, given, lender, way);
+    drop(format);
+    Ok(answer?)
+}
+
+fn size_of(alloc: Global, text: &str) -> Result<usize, Halt> {
+    let format = FormatSpec::from_str(alloc, text)?;
+    let size = format.size();
+    drop(format);
+    Ok(size)
 }
 
 #[test]
 fn sizes_are_those_of_python(rt: HostRuntime) -> Result<(), Fail> {
     for (size, formats) in &SIZES {
         for format in *formats {
-            assert_eq!(rt; parsed(&rt, format)?.size(), *size, "{format}");
+            assert_eq!(rt; size_of(rt.alloc(), format), Ok(*size), "{format}");
         }
     }
     Ok(())
@@ -426,8 +580,8 @@ fn sizes_are_those_of_python(rt: HostRuntime) -> Result<(), Fail> {
 fn texts_outside_the_grammar_are_refused(rt: HostRuntime) -> Result<(), Fail> {
     for (_why, formats) in &REFUSED {
         for format in *formats {
-            let spec = FormatSpec::parse(rt.alloc(), format.as_bytes())?;
-            assert!(rt; matches!(spec, Outcome::Refused(Fault::Struct)), "{format}");
+            let size = size_of(rt.alloc(), format);
+            assert_eq!(rt; size, Err(Halt::Refused(Fault::Struct)), "{format}");
         }
     }
     Ok(())
@@ -437,27 +591,37 @@ fn texts_outside_the_grammar_are_refused(rt: HostRuntime) -> Result<(), Fail> {
 fn numbers_are_those_of_python(rt: HostRuntime) -> Result<(), Fail> {
     let none = SnapList::new(rt.alloc());
     for (format, numbers, bytes) in &NUMBERS {
-        let args = numbers_list(&rt, numbers)?;
+        let given = Given::Numbers(numbers);
         assert!(rt;
-            gives(&both_ways(&rt, format, &args, &none)?, bytes),
+            does(rt.alloc(), format, given, &none, Way::Written(Ok(bytes)))?,
             "{format}"
         );
         assert!(rt;
-            are_numbers(&values(&rt, format, bytes)?, numbers),
+            does(rt.alloc(), format, given, &none, Way::Read(bytes))?,
             "{format}"
         );
     }
     for (format, numbers, bytes) in &READS {
+        let given = Given::Numbers(numbers);
         assert!(rt;
-            are_numbers(&values(&rt, format, bytes)?, numbers),
+            does(rt.alloc(), format, given, &none, Way::Read(bytes))?,
             "{format}"
         );
     }
+    Ok(())
+}
+
+#[test]
+fn numbers_past_the_ends_are_refused(rt: HostRuntime) -> Result<(), Fail> {
+    let none = SnapList::new(rt.alloc());
+    let refused = Way::Written(Err(Fault::Struct));
     for (format, below, above) in &PAST {
         for number in &[*below, *above] {
-            let args = numbers_list(&rt, &[*number])?;
-            let answer = both_ways(&rt, format, &args, &none)?;
-            assert!(rt; refuses(&answer, Fault::Struct), "{format}");
+            let given = Given::Numbers(&[*number]);
+            assert!(rt;
+                does(rt.alloc(), format, given, &none, refused)?,
+                "{format}"
+            );
         }
     }
     Ok(())
@@ -466,29 +630,19 @@ fn numbers_are_those_of_python(rt: HostRuntime) -> Result<(), Fail> {
 #[test]
 fn strings_and_truth_values_are_those_of_python(rt: HostRuntime) -> Result<(), Fail> {
     let none = SnapList::new(rt.alloc());
-    for (format, content, bytes) in &STRINGS {
-        let args = one(&rt, Scalar::Bytes(bytes_list(&rt, content)?))?;
+    for (format, part, bytes) in &WRITTEN {
+        let given = Given::Parts(&[*part]);
         assert!(rt;
-            gives(&both_ways(&rt, format, &args, &none)?, bytes),
+            does(rt.alloc(), format, given, &none, Way::Written(Ok(bytes)))?,
             "{format}"
         );
     }
-    for (format, content, bytes) in &CONTENTS {
-        let values = values(&rt, format, bytes)?;
+    for (format, part, bytes) in &READ {
+        let given = Given::Parts(&[*part]);
         assert!(rt;
-            matches!(values.as_slice(), [Scalar::Bytes(b)] if b.as_slice() == *content),
+            does(rt.alloc(), format, given, &none, Way::Read(bytes))?,
             "{format}"
         );
-    }
-    for (format, truth, byte) in &TRUTHS {
-        let values = values(&rt, format, &[*byte])?;
-        assert!(rt;
-            matches!(values.as_slice(), [Scalar::Bool(b)] if b == truth),
-            "{format}"
-        );
-        let args = one(&rt, Scalar::Int(i128::from(*byte)))?;
-        let answer = both_ways(&rt, format, &args, &none)?;
-        assert!(rt; gives(&answer, &[u8::from(*truth)]), "{format}");
     }
     Ok(())
 }
@@ -498,35 +652,78 @@ fn long_pascal_strings(rt: HostRuntime) -> Result<(), Fail> {
     let none = SnapList::new(rt.alloc());
     let mut field = [b'a'; 300];
     field[0] = 255;
-    let args = one(&rt, Scalar::Bytes(bytes_list(&rt, &field[1..])?))?;
-    assert!(rt; gives(&both_ways(&rt, "300p", &args, &none)?, &field));
-    let values = values(&rt, "300p", &field)?;
-    assert!(rt; matches!(values.as_slice(), [Scalar::Bytes(b)] if b.len() == 255));
+    let whole = Given::Parts(&[Part::Bytes(&field[1..])]);
+    assert!(rt; does(rt.alloc(), "300p", whole, &none, Way::Written(Ok(&field)))?);
+    let short = Given::Parts(&[Part::Bytes(&field[1..256])]);
+    assert!(rt; does(rt.alloc(), "300p", short, &none, Way::Read(&field))?);
     Ok(())
+}
+
+/// Whether a code of `b3ux` has the count, the padding and the number of fields of its letter there.
+fn is_code(code: &FormatCode) -> bool {
+    let parts = (code.repeat(), code.pre_padding(), code.arg_count());
+    match code.code() {
+        FormatType::SByte => parts == (1, 0, 1),
+        FormatType::WideChar => parts == (3, 3, 3),
+        _ => parts == (1, 0, 0),
+    }
 }
 
 #[test]
 fn wide_characters_and_accessors(rt: HostRuntime) -> Result<(), Fail> {
-    let spec = parsed(&rt, "b3ux")?.copy(rt.alloc())?;
-    assert_eq!(rt; (spec.size(), spec.arg_count()), (17, 4));
-    assert!(rt; spec.endianness() == Endianness::Native);
-    assert_eq!(rt; spec.codes().len(), 3);
-    for code in spec.codes() {
-        let code = code.copy(rt.alloc())?;
-        let parts = (code.repeat(), code.pre_padding(), code.arg_count());
-        match code.code() {
-            FormatType::SByte => assert_eq!(rt; parts, (1, 0, 1)),
-            FormatType::WideChar => assert_eq!(rt; parts, (3, 3, 3)),
-            _ => assert_eq!(rt; parts, (1, 0, 0)),
-        }
+    let format = FormatSpec::from_str(rt.alloc(), "b3ux")?.copy(rt.alloc())?;
+    assert_eq!(rt;
+        (format.size(), format.arg_count(), format.codes().len()),
+        (17, 4, 3)
+    );
+    assert!(rt; format.endianness() == Endianness::Native);
+    assert!(rt; format.codes().iter().all(is_code));
+    Ok(())
+}
+
+/// Formats, how many bytes there are, and an offset: where they are read as no field or one, or refused.
+const OFFSETS: [(&str, usize, usize, bool); 6] = [
+    ("", 3, 10, false),
+    ("", 3, 3, true),
+    ("B", 3, 2, true),
+    ("B", 3, 3, false),
+    ("<H", 3, 1, true),
+    ("<H", 3, 2, false),
+];
+
+/// Packs 5 where the format asks for a value.
+fn five_packed_at(format: &FormatSpec, room: &mut [u8], offset: usize) -> Result<(), Fault> {
+    if format.arg_count() == 0 {
+        return format.pack_at(room, offset, &[]);
     }
-    let args = numbers_list(&rt, &[-2147483648, -1, 259])?;
-    let bytes = [0, 0, 0, 128, 255, 255, 255, 255, 3, 1, 0, 0];
-    let none = SnapList::new(rt.alloc());
-    assert!(rt; gives(&both_ways(&rt, "3u", &args, &none)?, &bytes));
-    assert!(rt; are_numbers(&values(&rt, "3u", &bytes)?, &[-2147483648, -1, 259]));
-    let answer = spec.unpack(rt.alloc(), &bytes)?;
-    assert!(rt; matches!(answer, Outcome::Refused(Fault::Struct)));
+    format.pack_at(room, offset, &[Scalar::Int(5)])
+}
+
+/// Whether as many bytes from the offset on are read and written, or refused.
+fn are_enough(alloc: Global, text: &str, length: usize, offset: usize) -> Result<bool, Halt> {
+    let format = FormatSpec::from_str(alloc, text)?;
+    let mut room = vec![in alloc; 0u8; length]?;
+    let read = match format.unpack_from(alloc, room.as_slice(), offset) {
+        Ok(values) => {
+            drop(values);
+            true
+        }
+        Err(halt) => halt != Halt::Refused(Fault::Struct)
+    };
+    let written = five_packed_at(&format, room.as_mut_slice(), offset) != Err(Fault::Struct);
+    if read == written {
+        Ok(read)
+    } else {
+        Err(Halt::Refused(Fault::Value))
+    }
+}
+
+#[test]
+fn too_few_bytes_are_refused(rt: HostRuntime) -> Result<(), Fail> {
+    for (text, length, offset, fits) in &OFFSETS {
+        let answer = are_enough(rt.alloc(), text, *length, *offset)?;
+        assert_eq!(rt; answer, *fits, "{text}");
+    }
     Ok(())
 }
 
@@ -537,170 +734,73 @@ const SNAPS: [(u64, SnapKind, &[u8]); 3] = [
     (7, SnapKind::Bytes, b"kk"),
 ];
 
-/// What a field of the format gets of a handle.
-const TAKEN: [(&str, u64, &[u8]); 4] = [
-    ("c", 1, b"k"),
-    ("2s", 2, b"xy"),
-    ("3p", 2, b"\x02xy"),
-    ("0p", 99, b""),
+/// Values, and the bytes that they are written as, or why they are refused. The lender hasn't the handle 99.
+const HANDED: [(&str, &[Part<'static>], Result<&[u8], Fault>); 22] = [
+    ("c", &[Part::Handle(1)], Ok(b"k")),
+    ("2s", &[Part::Handle(2)], Ok(b"xy")),
+    ("3p", &[Part::Handle(2)], Ok(b"\x02xy")),
+    ("0p", &[Part::Handle(99)], Ok(b"")),
+    ("b", &[Part::Handle(1)], Err(Fault::Struct)),
+    ("Q", &[Part::Handle(99)], Err(Fault::Struct)),
+    ("?", &[Part::Handle(1)], Err(Fault::Kind)),
+    ("?", &[Part::Handle(99)], Err(Fault::Kind)),
+    ("c", &[Part::Handle(2)], Err(Fault::Kind)),
+    ("c", &[Part::Handle(7)], Err(Fault::Struct)),
+    ("c", &[Part::Handle(99)], Err(Fault::UnknownName)),
+    ("1p", &[Part::Handle(99)], Err(Fault::UnknownName)),
+    (
+        "sb",
+        &[Part::Handle(99), Part::Int(300)],
+        Err(Fault::UnknownName),
+    ),
+    (
+        "bs",
+        &[Part::Handle(99), Part::Int(300)],
+        Err(Fault::Struct),
+    ),
+    ("s", &[Part::Handle(99), Part::Int(300)], Err(Fault::Struct)),
+    ("?b", &[Part::Handle(99), Part::Int(300)], Err(Fault::Kind)),
+    ("4s", &[Part::Int(5)], Err(Fault::Kind)),
+    ("4s", &[Part::Nothing], Err(Fault::Kind)),
+    ("4p", &[Part::Int(5)], Err(Fault::Kind)),
+    ("4p", &[Part::Nothing], Err(Fault::Kind)),
+    ("c", &[Part::Int(5)], Err(Fault::Kind)),
+    ("c", &[Part::Nothing], Err(Fault::Kind)),
 ];
 
-/// Why a field of the format refuses a handle.
-const REFUSED_HANDLES: [(&str, u64, Fault); 8] = [
-    ("b", 1, Fault::Struct),
-    ("Q", 99, Fault::Struct),
-    ("?", 1, Fault::Kind),
-    ("?", 99, Fault::Kind),
-    ("c", 2, Fault::Kind),
-    ("c", 7, Fault::Struct),
-    ("c", 99, Fault::UnknownName),
-    ("1p", 99, Fault::UnknownName),
-];
-
-/// Why handle 99, which the lender hasn't, and the number 300 are refused.
-const REFUSED_PAIRS: [(&str, Fault); 4] = [
-    ("sb", Fault::UnknownName),
-    ("bs", Fault::Struct),
-    ("s", Fault::Struct),
-    ("?b", Fault::Kind),
-];
-
-fn lender(rt: &impl AllocGlobal) -> Result<SnapList, Fail> {
-    let mut lender = SnapList::new(rt.alloc());
-    for (handle, kind, content) in &SNAPS {
-        let snap = Snap {
-            kind: *kind,
-            format: Text::new(rt.alloc()),
-            itemsize: 1,
-            shape: CountList::new(rt.alloc()),
-            content: bytes_list(rt, content)?,
-            contiguous: true,
-            released: false,
-        };
-        lender.push((*handle, snap))?;
-    }
-    Ok(lender)
+fn push_snap(
+    alloc: Global,
+    lender: &mut SnapList,
+    handle: u64,
+    kind: SnapKind,
+    content: &[u8],
+) -> Made<()> {
+    let content = ByteList::from_slice(alloc, content)?;
+    let snap = Snap {
+        kind,
+        format: Text::new(alloc),
+        itemsize: 1,
+        shape: CountList::new(alloc),
+        content,
+        contiguous: true,
+        released: false,
+    };
+    lender.push((handle, snap))
 }
 
+// A handle counts as its bytes, and the first refusal decides.
 #[test]
 fn handles_count_as_their_bytes(rt: HostRuntime) -> Result<(), Fail> {
-    let lender = lender(&rt)?;
-    for (format, handle, bytes) in &TAKEN {
-        let args = one(&rt, Scalar::Handle(*handle))?;
-        assert!(rt;
-            gives(&both_ways(&rt, format, &args, &lender)?, bytes),
-            "{handle}"
-        );
+    let mut lender = SnapList::new(rt.alloc());
+    for (handle, kind, content) in &SNAPS {
+        push_snap(rt.alloc(), &mut lender, *handle, *kind, content)?;
     }
-    Ok(())
-}
-
-#[test]
-fn the_first_refusal_decides(rt: HostRuntime) -> Result<(), Fail> {
-    let lender = lender(&rt)?;
-    for (format, handle, fault) in &REFUSED_HANDLES {
-        let args = one(&rt, Scalar::Handle(*handle))?;
+    for (format, parts, wanted) in &HANDED {
+        let given = Given::Parts(parts);
         assert!(rt;
-            refuses(&both_ways(&rt, format, &args, &lender)?, *fault),
-            "{handle}"
-        );
-    }
-    for (format, fault) in &REFUSED_PAIRS {
-        let mut args = one(&rt, Scalar::Handle(99))?;
-        args.push(Scalar::Int(300))?;
-        assert!(rt;
-            refuses(&both_ways(&rt, format, &args, &lender)?, *fault),
+            does(rt.alloc(), format, given, &lender, Way::Written(*wanted))?,
             "{format}"
         );
-    }
-    Ok(())
-}
-
-/// The letter of each code, and bytes of its size.
-const SINGLES: [(&str, &[u8]); 18] = [
-    ("x", b"\x80"),
-    ("b", b"\x80"),
-    ("B", b"\x80"),
-    ("c", b"\x80"),
-    ("?", b"\x80"),
-    ("h", b"\x01\x80"),
-    ("H", b"\x01\x80"),
-    ("i", b"\x01\x02\x03\x80"),
-    ("I", b"\x01\x02\x03\x80"),
-    ("l", b"\x01\x02\x03\x04\x05\x06\x07\x80"),
-    ("L", b"\x01\x02\x03\x04\x05\x06\x07\x80"),
-    ("q", b"\x01\x02\x03\x04\x05\x06\x07\x80"),
-    ("Q", b"\x01\x02\x03\x04\x05\x06\x07\x80"),
-    ("n", b"\x01\x02\x03\x04\x05\x06\x07\x80"),
-    ("N", b"\x01\x02\x03\x04\x05\x06\x07\x80"),
-    ("u", b"\x01\x02\x03\x80"),
-    ("s", b"\x80"),
-    ("p", b"\x80"),
-];
-
-/// Numbers that some codes have room for and others haven't.
-const SOME_NUMBERS: [i128; 12] = [
-    -9223372036854775808,
-    -2147483649,
-    -32768,
-    -129,
-    -1,
-    0,
-    1,
-    200,
-    40000,
-    3000000000,
-    9223372036854775808,
-    18446744073709551616,
-];
-
-fn is_the_value(value: &Option<Scalar>, values: &[Scalar]) -> bool {
-    match (value, values) {
-        (Some(Scalar::Int(n)), [Scalar::Int(m)]) => n == m,
-        (Some(Scalar::Bool(n)), [Scalar::Bool(m)]) => n == m,
-        (None, []) | (None, [Scalar::Bytes(_)]) => true,
-        _ => false,
-    }
-}
-
-#[test]
-fn single_letters_are_read_as_their_formats_read(rt: HostRuntime) -> Result<(), Fail> {
-    for (letter, bytes) in &SINGLES {
-        let text = letter.as_bytes();
-        let numeric = single_value(text, bytes).is_some();
-        assert!(rt; is_numeric_letter(text, bytes.len()) == numeric, "{letter}");
-        let values = values(&rt, letter, bytes)?;
-        assert!(rt;
-            is_the_value(&single_value(text, bytes), values.as_slice()),
-            "{letter}"
-        );
-    }
-    for text in &["", "2i", "@i", "<i", "ii", "z"] {
-        assert!(rt;
-            single_value(text.as_bytes(), b"\x01\x02\x03\x80").is_none(),
-            "{text}"
-        );
-    }
-    assert!(rt; single_value(b"i", b"\x01\x02\x03").is_none());
-    assert!(rt; !is_numeric_letter(b"i", 3));
-    Ok(())
-}
-
-#[test]
-fn single_letters_are_written_as_their_formats_write(rt: HostRuntime) -> Result<(), Fail> {
-    let none = SnapList::new(rt.alloc());
-    for (letter, bytes) in &SINGLES {
-        for number in &SOME_NUMBERS {
-            let mut room = vec![in rt.alloc(); 0xaau8; bytes.len()]?;
-            let value = Scalar::Int(*number);
-            let written = pack_single(letter.as_bytes(), room.as_mut_slice(), &value);
-            let args = numbers_list(&rt, &[*number])?;
-            let same = match both_ways(&rt, letter, &args, &none)? {
-                Outcome::Done(b) => written && room.as_slice() == b.as_slice(),
-                Outcome::Refused(_) => !written && room.as_slice().iter().all(|b| *b == 0xaa),
-            };
-            assert!(rt; same, "{letter}");
-        }
     }
     Ok(())
 }

@@ -3,5 +3,3 @@
 
 #[cfg(test)]
 mod formats;
-#[cfg(test)]
-mod plain_formats;

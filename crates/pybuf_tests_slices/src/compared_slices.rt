@@ -1,7 +1,7 @@
 //! Slices compared, as texts and hashed, with ample memory. The expected values are Python's.
 use crate::slices::{NONE, part};
 use pybuf_index::{SliceIndices, hash_of_lanes};
-use pybuf_value::{CompareOp, Fault, PySlice, Scalar, Text};
+use pybuf_value::{CompareOp, Fault, Made, PySlice, Scalar};
 use std::alloc::Global;
 use std::test::Fail;
 
@@ -51,12 +51,19 @@ fn answer(byte: u8) -> Result<bool, Fault> {
 
 #[test]
 fn slices_compare_as_in_python(rt: HostRuntime) -> Result<(), Fail> {
-    for (left, right, answers) in COMPARED {
-        for (op, wanted) in OPERATORS.iter().zip(answers) {
-            assert!(rt; compared(slice(left), *op, slice(right)) == answer(*wanted));
+    for (left, right, answers) in &COMPARED {
+        for (op, wanted) in OPERATORS.iter().zip(*answers) {
+            assert!(rt; compared(slice(*left), *op, slice(*right)) == answer(*wanted));
         }
     }
     Ok(())
+}
+
+/// A start of a slice.
+#[derive(Clone, Copy)]
+enum Start {
+    Bytes(&'static [u8]),
+    Text(&'static str),
 }
 
 fn with_start(start: Scalar) -> PySlice {
@@ -67,40 +74,63 @@ fn with_start(start: Scalar) -> PySlice {
     }
 }
 
-fn bytes(alloc: Global, bytes: &[u8]) -> Result<Scalar, Fail> {
-    Ok(Scalar::bytes(alloc, bytes)?)
+fn slice_from(alloc: Global, start: Start) -> Made<PySlice> {
+    match start {
+        Start::Bytes(bytes) => Ok(with_start(Scalar::bytes(alloc, bytes)?)),
+        Start::Text(text) => Ok(with_start(Scalar::text(alloc, text)?)),
+    }
 }
 
-fn text(alloc: Global, chars: &str) -> Result<Scalar, Fail> {
-    Ok(Scalar::text(alloc, chars)?)
+/// Two starts of slices, what `<` of Python answers of the slices, and the `repr` of the first.
+const STARTS: [(Start, Start, u8, &[u8]); 3] = [
+    (
+        Start::Bytes(b"it's"),
+        Start::Bytes(b"its"),
+        b'1',
+        br#"slice(b"it's", True, Ellipsis)"#,
+    ),
+    (
+        Start::Text("b"),
+        Start::Text("a"),
+        b'0',
+        b"slice('b', True, Ellipsis)",
+    ),
+    (
+        Start::Text("a"),
+        Start::Bytes(b"a"),
+        b'T',
+        b"slice('a', True, Ellipsis)",
+    ),
+];
+
+/// Whether a slice is written so.
+fn is_written(alloc: Global, slice: PySlice, wanted: &[u8]) -> bool {
+    let text = slice.repr(alloc);
+    drop(slice);
+    matches!(text, Ok(text) if text.as_slice() == wanted)
+}
+
+/// Whether the first of two slices is less, where both were made.
+fn is_less(left: Made<PySlice>, right: Made<PySlice>) -> Option<Result<bool, Fault>> {
+    let answer = match (&left, &right) {
+        (Ok(left), Ok(right)) => Some(left.compare(CompareOp::Lt, right)),
+        _ => None,
+    };
+    drop(left);
+    drop(right);
+    answer
 }
 
 #[test]
 fn bytes_and_texts_have_an_order(rt: HostRuntime) -> Result<(), Fail> {
-    let left = with_start(bytes(rt.alloc(), b"a")?);
-    let right = with_start(bytes(rt.alloc(), b"b")?);
-    assert!(rt; compared(left, CompareOp::Lt, right) == Ok(true));
-    let left = with_start(text(rt.alloc(), "b")?);
-    let right = with_start(text(rt.alloc(), "a")?);
-    assert!(rt; compared(left, CompareOp::Lt, right) == Ok(false));
-    let left = with_start(text(rt.alloc(), "a")?);
-    let right = with_start(bytes(rt.alloc(), b"a")?);
-    assert!(rt; compared(left, CompareOp::Lt, right) == Err(Fault::Kind));
-    Ok(())
-}
-
-fn written(alloc: Global, slice: PySlice) -> Result<Text, Fail> {
-    let text = slice.repr(alloc);
-    drop(slice);
-    Ok(text?)
-}
-
-#[test]
-fn slices_are_written_as_by_python(rt: HostRuntime) -> Result<(), Fail> {
-    let shown = written(rt.alloc(), slice([2, -1, NONE]))?;
-    assert!(rt; shown.as_slice() == b"slice(2, -1, None)".as_slice());
-    let shown = written(rt.alloc(), with_start(bytes(rt.alloc(), b"it's")?))?;
-    assert!(rt; shown.as_slice() == br#"slice(b"it's", True, Ellipsis)"#.as_slice());
+    for (left, right, less, shown) in &STARTS {
+        let told = is_less(
+            slice_from(rt.alloc(), *left),
+            slice_from(rt.alloc(), *right),
+        );
+        assert!(rt; told == Some(answer(*less)));
+        assert!(rt; is_written(rt.alloc(), slice_from(rt.alloc(), *left)?, shown));
+    }
     Ok(())
 }
 
@@ -123,8 +153,8 @@ const HASHES: [(u64, u64, u64, i64); 7] = [
 
 #[test]
 fn lanes_are_hashed_as_by_python(rt: HostRuntime) -> Result<(), Fail> {
-    for (start, stop, step, wanted) in HASHES {
-        assert!(rt; hash_of_lanes(start, stop, step) == wanted);
+    for (start, stop, step, wanted) in &HASHES {
+        assert!(rt; hash_of_lanes(*start, *stop, *step) == *wanted);
     }
     Ok(())
 }

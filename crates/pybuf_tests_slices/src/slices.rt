@@ -3,7 +3,7 @@ use pybuf_slice::{
     SaturatedSlice, SequenceExt, SequenceIndexOp, SequenceMutExt, SliceIndices,
     SliceableSequenceMutOp, SliceableSequenceOp, indices_of_a_slice,
 };
-use pybuf_value::{Fault, Outcome, PySlice, Scalar};
+use pybuf_value::{Answer, Fault, Halt, Made, Outcome, PySlice, Scalar};
 use std::alloc::Global;
 use std::test::Fail;
 
@@ -166,6 +166,27 @@ fn slice_of(start: i128, stop: i128, step: i128) -> PySlice {
     }
 }
 
+/// The slice with its parts at the nearest `isize`.
+fn slice_by(start: i128, stop: i128, step: i128) -> Result<SaturatedSlice, Fault> {
+    let slice = slice_of(start, stop, step);
+    let saturated = slice.to_saturated();
+    drop(slice);
+    saturated
+}
+
+/// What `slice.indices` gives of a sequence of this length.
+fn indices_of(
+    length: usize,
+    start: i128,
+    stop: i128,
+    step: i128,
+) -> Result<(i128, i128, i128), Fault> {
+    let slice = slice_of(start, stop, step);
+    let indices = slice.indices(length as i128);
+    drop(slice);
+    indices
+}
+
 fn more(sum: i128, number: i128) -> i128 {
     sum.wrapping_mul(31)
         .wrapping_add(number)
@@ -173,44 +194,36 @@ fn more(sum: i128, number: i128) -> i128 {
         .rem_euclid(1000003)
 }
 
-/// The checksum of one slice added to that of those before it; nothing of a refused slice.
-fn sum_of_slice(sum: i128, slice: &PySlice, length: usize) -> i128 {
+/// The number of indices and they themselves, added to a checksum.
+fn sum_of_indices(sum: i128, slice: SaturatedSlice, length: usize) -> i128 {
     if length > 5 {
         return sum;
     }
-    let mut sum = sum;
-    if let Ok((start, stop, step)) = slice.indices(length as i128) {
-        sum = more(more(more(sum, start), stop), step);
-    }
-    if let Ok(slice) = slice.to_saturated() {
-        let (_, _, count) = slice.adjust_indices(length);
-        sum = more(sum, count as i128);
-        for index in slice.iter(length) {
-            sum = more(sum, index as i128);
-        }
+    let (_, _, count) = slice.adjust_indices(length);
+    let mut sum = more(sum, count as i128);
+    for index in slice.iter(length) {
+        sum = more(sum, index as i128);
     }
     sum
 }
 
-fn sum_of_step(length: usize, step: i128) -> i128 {
+fn sum_of_step(length: usize, step: i128) -> Result<i128, Fault> {
     let mut sum = 0;
-    for start in PARTS.iter() {
-        for stop in PARTS.iter() {
-            sum = sum_of_slice(sum, &slice_of(*start, *stop, step), length);
+    for start in &PARTS {
+        for stop in &PARTS {
+            let (first, last, by) = indices_of(length, *start, *stop, step)?;
+            sum = more(more(more(sum, first), last), by);
+            sum = sum_of_indices(sum, slice_by(*start, *stop, step)?, length);
         }
     }
-    sum
+    Ok(sum)
 }
 
 #[test]
 fn indices_are_those_of_python(rt: HostRuntime) {
     for (length, sums) in SUMS.iter().enumerate() {
-        for (step, sum) in STEPS.iter().zip(sums.iter()) {
-            assert_eq!(rt;
-                sum_of_step(length, *step),
-                *sum,
-                "length {length} step {step}"
-            );
+        for (step, sum) in STEPS.iter().zip(sums) {
+            assert_eq!(rt; sum_of_step(length, *step), Ok(*sum), "{length} {step}");
         }
     }
 }
@@ -223,68 +236,21 @@ fn number_or_none(place: Option<usize>) -> i128 {
 }
 
 /// The number of indices, the first and the last.
-fn ends_of(length: usize, slice: &PySlice) -> (usize, i128, i128) {
+fn ends_of(length: usize, slice: SaturatedSlice) -> (usize, i128, i128) {
     if length > isize::MAX as usize {
         return (0, 0, 0);
     }
-    match slice.to_saturated() {
-        Err(_) => (0, 0, 0),
-        Ok(slice) => {
-            let count = slice.iter(length).len();
-            let first = slice.iter(length).next();
-            let last = slice.iter(length).next_back();
-            (count, number_or_none(first), number_or_none(last))
-        }
-    }
+    let count = slice.iter(length).len();
+    let first = slice.iter(length).next();
+    let last = slice.iter(length).next_back();
+    (count, number_or_none(first), number_or_none(last))
 }
 
 #[test]
-fn ends_are_those_of_python(rt: HostRuntime) {
-    for (length, start, stop, step, count, first, last) in ENDS.iter() {
-        let ends = ends_of(*length, &slice_of(*start, *stop, *step));
-        assert_eq!(rt;
-            ends,
-            (*count, *first, *last),
-            "length {length} step {step}"
-        );
-    }
-}
-
-#[test]
-fn reads_succeed_with_ample_memory(rt: HostRuntime) -> Result<(), Fail> {
-    let list = vec![in rt.alloc(); 10u8, 20, 30, 40, 50]?;
-    assert_eq!(rt; list.do_get(rt.alloc(), 3)?, 40);
-    assert_eq!(rt;
-        list.do_slice(rt.alloc(), 1..4)?.as_slice(),
-        [20u8, 30, 40].as_slice()
-    );
-    assert_eq!(rt;
-        list.do_slice_reverse(rt.alloc(), 1..4)?.as_slice(),
-        [40u8, 30, 20].as_slice()
-    );
-    assert_eq!(rt;
-        list.do_stepped_slice(rt.alloc(), 0..5, 2)?.as_slice(),
-        [10u8, 30, 50].as_slice()
-    );
-    assert_eq!(rt;
-        list.do_stepped_slice_reverse(rt.alloc(), 0..4, 3)?
-            .as_slice(),
-        [40u8, 10].as_slice()
-    );
-    if let Ok(slice) = slice_of(NONE, NONE, -2).to_saturated() {
-        assert_eq!(rt;
-            list.getitem_by_slice(rt.alloc(), slice)?.as_slice(),
-            [50u8, 30, 10].as_slice()
-        );
-    }
-    if let Ok(slice) = slice_of(-4, -1, 1).to_saturated() {
-        assert_eq!(rt;
-            list.getitem_by_slice(rt.alloc(), slice)?.as_slice(),
-            [20u8, 30, 40].as_slice()
-        );
-    }
-    if let Outcome::Done(item) = list.getitem_by_index(rt.alloc(), -1)? {
-        assert_eq!(rt; item, 50);
+fn ends_are_those_of_python(rt: HostRuntime) -> Result<(), Fail> {
+    for (length, start, stop, step, count, first, last) in &ENDS {
+        let ends = ends_of(*length, slice_by(*start, *stop, *step)?);
+        assert_eq!(rt; ends, (*count, *first, *last), "{length} {step}");
     }
     Ok(())
 }
@@ -330,6 +296,7 @@ const DELETED: [[i128; 9]; 6] = [
         277169, 617010, 92108, 149273, 766041, 277169, 254625, 902758, 359043,
     ],
 ];
+
 /// The same after `xs[a:b:step] = []`, with 1 before it where the list was set, and 2 where Python raised
 /// ValueError.
 const SET_0: [[i128; 9]; 6] = [
@@ -352,6 +319,7 @@ const SET_0: [[i128; 9]; 6] = [
         499353, 244897, 244897, 244897, 244897, 499353, 499716, 499716, 499716,
     ],
 ];
+
 /// The same with the list of 70 alone.
 const SET_1: [[i128; 9]; 6] = [
     [
@@ -373,6 +341,7 @@ const SET_1: [[i128; 9]; 6] = [
         659787, 20557, 311782, 457998, 720452, 659787, 116491, 24779, 370009,
     ],
 ];
+
 /// The same with the numbers 70 and 71.
 const SET_2: [[i128; 9]; 6] = [
     [
@@ -394,6 +363,7 @@ const SET_2: [[i128; 9]; 6] = [
         833195, 753493, 930360, 217743, 790449, 833195, 466995, 975355, 966482,
     ],
 ];
+
 /// The same with the numbers 70 to 72.
 const SET_3: [[i128; 9]; 6] = [
     [
@@ -415,6 +385,7 @@ const SET_3: [[i128; 9]; 6] = [
         285003, 916090, 916090, 983336, 655054, 285003, 595766, 916090, 916090,
     ],
 ];
+
 /// The same after `xs[a:b:step]` was set to as many numbers from 70 on, with nothing before it.
 const SET_AS_MANY: [[i128; 9]; 6] = [
     [
@@ -437,51 +408,61 @@ const SET_AS_MANY: [[i128; 9]; 6] = [
     ],
 ];
 
+#[derive(Clone, Copy)]
 enum Edit {
     Delete,
+    /// Sets so many new items.
     Set(usize),
     SetAsMany,
 }
 
-const NEW: [u8; 5] = [70, 71, 72, 73, 74];
+const NEW: &[u8] = &[70, 71, 72, 73, 74];
 
-/// The list after an edit of a slice, and 1 or 2 before it where the edit says whether it was refused.
+/// What an edit answers, as a number: nothing, or 1 where the list was set, and 2 where that is refused.
+fn edited(
+    alloc: Global,
+    list: &mut Vec<u8>,
+    slice: SaturatedSlice,
+    edit: Edit,
+) -> Result<Option<i128>, Halt> {
+    match edit {
+        Edit::Delete => {
+            list.delitem_by_slice(slice);
+            Ok(None)
+        }
+        Edit::Set(count) => {
+            let new = NEW.get(..count).unwrap_or(NEW);
+            match list.setitem_by_slice(alloc, slice, new)? {
+                Outcome::Done(()) => Ok(Some(1)),
+                Outcome::Refused(Fault::Value) => Ok(Some(2)),
+                Outcome::Refused(fault) => Err(Halt::Refused(fault)),
+            }
+        }
+        Edit::SetAsMany => {
+            let count = slice.iter(list.as_slice().len()).len();
+            let new = NEW.get(..count).unwrap_or(NEW);
+            match list.setitem_by_slice_no_resize(alloc, slice, new)? {
+                Outcome::Done(()) => Ok(None),
+                Outcome::Refused(fault) => Err(Halt::Refused(fault)),
+            }
+        }
+    }
+}
+
+/// The list after an edit, added to a checksum, and before it what the edit answers.
 fn sum_of_edit(
     alloc: Global,
     sum: i128,
     slice: SaturatedSlice,
     length: usize,
-    edit: &Edit,
-) -> Result<i128, Fail> {
-    let all = [20u8, 21, 22, 23, 24];
-    if length > 5 {
-        return Err(Fail::from("a short list"));
-    }
-    let mut list = Vec::from_slice(alloc, &all[..length])?;
-    let mut sum = sum;
-    match edit {
-        Edit::Delete => list.delitem_by_slice(slice),
-        Edit::Set(count) => {
-            if *count > 5 {
-                return Err(Fail::from("few items"));
-            }
-            match list.setitem_by_slice(alloc, slice, &NEW[..*count])? {
-                Outcome::Done(()) => sum = more(sum, 1),
-                Outcome::Refused(Fault::Value) => sum = more(sum, 2),
-                Outcome::Refused(_) => return Err(Fail::from("another refusal")),
-            }
-        }
-        Edit::SetAsMany => {
-            let count = slice.iter(length).len();
-            if count > 5 {
-                return Err(Fail::from("few items"));
-            }
-            let outcome = list.setitem_by_slice_no_resize(alloc, slice, &NEW[..count])?;
-            if let Outcome::Refused(_) = outcome {
-                return Err(Fail::from("as many items"));
-            }
-        }
-    }
+    edit: Edit,
+) -> Result<i128, Halt> {
+    let all = b"\x14\x15\x16\x17\x18".as_slice();
+    let mut list = Vec::from_slice(alloc, all.get(..length).unwrap_or(all))?;
+    let mut sum = match edited(alloc, &mut list, slice, edit)? {
+        None => sum,
+        Some(answer) => more(sum, answer),
+    };
     sum = more(sum, list.as_slice().len() as i128);
     for item in list.as_slice() {
         sum = more(sum, *item as i128);
@@ -489,13 +470,11 @@ fn sum_of_edit(
     Ok(sum)
 }
 
-fn sum_of_edits(alloc: Global, length: usize, step: i128, edit: &Edit) -> Result<i128, Fail> {
+fn sum_of_edits(alloc: Global, length: usize, step: i128, edit: Edit) -> Result<i128, Halt> {
     let mut sum = 0;
-    for start in PARTS.iter() {
-        for stop in PARTS.iter() {
-            let Ok(slice) = slice_of(*start, *stop, step).to_saturated() else {
-                return Err(Fail::from("a slice"));
-            };
+    for start in &PARTS {
+        for stop in &PARTS {
+            let slice = slice_by(*start, *stop, step)?;
             sum = sum_of_edit(alloc, sum, slice, length, edit)?;
         }
     }
@@ -503,9 +482,9 @@ fn sum_of_edits(alloc: Global, length: usize, step: i128, edit: &Edit) -> Result
 }
 
 /// Whether the edits of all slices are those of Python.
-fn edits_are_those(alloc: Global, edit: &Edit, table: &[[i128; 9]; 6]) -> Result<bool, Fail> {
+fn are_those(alloc: Global, edit: Edit, table: &[[i128; 9]; 6]) -> Result<bool, Halt> {
     for (length, sums) in table.iter().enumerate() {
-        for (step, sum) in STEPS.iter().zip(sums.iter()) {
+        for (step, sum) in STEPS.iter().zip(sums) {
             if sum_of_edits(alloc, length, *step, edit)? != *sum {
                 return Ok(false);
             }
@@ -515,113 +494,264 @@ fn edits_are_those(alloc: Global, edit: &Edit, table: &[[i128; 9]; 6]) -> Result
 }
 
 #[test]
-fn deletions_are_those_of_python(rt: HostRuntime) -> Result<(), Fail> {
-    assert!(rt; edits_are_those(rt.alloc(), &Edit::Delete, &DELETED)?);
+fn edits_are_those_of_python(rt: HostRuntime) -> Result<(), Fail> {
+    assert!(rt; are_those(rt.alloc(), Edit::Delete, &DELETED)?);
+    assert!(rt; are_those(rt.alloc(), Edit::Set(0), &SET_0)?);
+    assert!(rt; are_those(rt.alloc(), Edit::Set(1), &SET_1)?);
+    assert!(rt; are_those(rt.alloc(), Edit::Set(2), &SET_2)?);
+    assert!(rt; are_those(rt.alloc(), Edit::Set(3), &SET_3)?);
+    assert!(rt; are_those(rt.alloc(), Edit::SetAsMany, &SET_AS_MANY)?);
     Ok(())
 }
 
+/// Adds bytes behind those that were told, with a blank before them.
+fn tell(told: &mut Vec<u8>, bytes: &[u8]) -> Made<()> {
+    told.push(b' ')?;
+    told.extend_from_slice(bytes)?;
+    Ok(())
+}
+
+/// Tells what the places and ranges of bytes read.
+fn read_places(alloc: Global, told: &mut Vec<u8>, list: &Vec<u8>) -> Made<()> {
+    if list.as_slice().len() != 5 {
+        return Ok(());
+    }
+    told.push(list.do_get(alloc, 3)?)?;
+    tell(told, list.do_slice(alloc, 1..4)?.as_slice())?;
+    tell(told, list.do_slice_reverse(alloc, 1..4)?.as_slice())?;
+    tell(told, list.do_stepped_slice(alloc, 0..5, 2)?.as_slice())?;
+    tell(
+        told,
+        list.do_stepped_slice_reverse(alloc, 0..4, 3)?.as_slice(),
+    )
+}
+
+/// Tells the item of a number, after a blank, or `!` where there is none.
+fn read_item(alloc: Global, told: &mut Vec<u8>, list: &Vec<u8>, index: isize) -> Made<()> {
+    match list.getitem_by_index(alloc, index)? {
+        Outcome::Done(item) => tell(told, &[item]),
+        Outcome::Refused(_) => tell(told, b"!"),
+    }
+}
+
+fn read_bytes(alloc: Global, told: &mut Vec<u8>) -> Made<()> {
+    let list = Vec::from_slice(alloc, b"abcde")?;
+    read_places(alloc, told, &list)?;
+    read_item(alloc, told, &list, -1)?;
+    read_item(alloc, told, &list, 5)
+}
+
+// The texts are those of Python's slices of `bytes` and of its lists of texts.
 #[test]
-fn assignments_are_those_of_python(rt: HostRuntime) -> Result<(), Fail> {
-    assert!(rt; edits_are_those(rt.alloc(), &Edit::Set(0), &SET_0)?);
-    assert!(rt; edits_are_those(rt.alloc(), &Edit::Set(1), &SET_1)?);
-    assert!(rt; edits_are_those(rt.alloc(), &Edit::Set(2), &SET_2)?);
-    assert!(rt; edits_are_those(rt.alloc(), &Edit::Set(3), &SET_3)?);
-    assert!(rt; edits_are_those(rt.alloc(), &Edit::SetAsMany, &SET_AS_MANY)?);
+fn reads_succeed_with_ample_memory(rt: HostRuntime) -> Result<(), Fail> {
+    let mut told = Vec::new(rt.alloc());
+    read_bytes(rt.alloc(), &mut told)?;
+    assert_eq!(rt; told.as_slice(), b"d bcd dcb ace da e !".as_slice());
     Ok(())
 }
 
-/// A text for each character.
-fn texts(alloc: Global, characters: &str) -> Result<Vec<String>, Fail> {
-    let mut list = Vec::new(alloc);
+/// Adds a text for each character.
+fn push_texts(alloc: Global, list: &mut Vec<String>, characters: &str) -> Made<()> {
     for character in characters.chars() {
         let mut text = String::new(alloc);
         text.push(character)?;
         list.push(text)?;
     }
+    Ok(())
+}
+
+/// A text for each character.
+fn texts(alloc: Global, characters: &str) -> Made<Vec<String>> {
+    let mut list = Vec::new(alloc);
+    push_texts(alloc, &mut list, characters)?;
     Ok(list)
 }
 
-fn slice_by(start: i128, stop: i128, step: i128) -> Result<SaturatedSlice, Fail> {
-    match slice_of(start, stop, step).to_saturated() {
-        Ok(slice) => Ok(slice),
-        Err(_) => Err(Fail::from("a slice")),
+/// What is made of a list of texts.
+#[derive(Clone, Copy)]
+enum Read {
+    /// Those of a slice.
+    Slice(i128, i128, i128),
+    /// The second and the third, from the last.
+    Turned,
+    Times(isize),
+}
+
+fn texts_read(alloc: Global, list: &Vec<String>, how: Read) -> Result<Vec<String>, Halt> {
+    match how {
+        Read::Slice(start, stop, step) => {
+            let slice = slice_by(start, stop, step)?;
+            Ok(list.getitem_by_slice(alloc, slice)?)
+        }
+        Read::Turned => {
+            if list.as_slice().len() < 3 {
+                return Err(Halt::Refused(Fault::Index));
+            }
+            Ok(list.do_slice_reverse(alloc, 1..3)?)
+        }
+        Read::Times(times) => list.mul(alloc, times).done(),
     }
 }
 
-#[test]
-fn texts_are_read(rt: HostRuntime) -> Result<(), Fail> {
-    let list = texts(rt.alloc(), "abcde")?;
-    let read = list.getitem_by_slice(rt.alloc(), slice_by(NONE, NONE, -2)?)?;
-    assert!(rt; read == texts(rt.alloc(), "eca")?);
-    if list.as_slice().len() < 3 {
-        return Err(Fail::from("texts"));
+fn is_read(alloc: Global, list: &Vec<String>, how: Read, wanted: &str) -> Result<bool, Halt> {
+    let answer = texts_read(alloc, list, how)?;
+    Ok(alike(answer, texts(alloc, wanted)))
+}
+
+/// Whether the second list was made, and is as the first.
+fn alike(left: Vec<String>, right: Made<Vec<String>>) -> bool {
+    let equal = matches!(&right, Ok(right) if *right == left);
+    drop(left);
+    drop(right);
+    equal
+}
+
+/// What is done with a list of texts.
+#[derive(Clone, Copy)]
+enum Change {
+    /// Puts others in place of those of a slice.
+    Set(i128, i128, i128, &'static str),
+    /// The same, where the length has to stay.
+    SetAsMany(i128, i128, i128, &'static str),
+    Delete(i128, i128, i128),
+    /// Puts `x` in place of the one that a number names.
+    Put(isize),
+    Take(isize),
+    Repeat(isize),
+    /// Adds `x` to the vector.
+    Push,
+}
+
+/// The same answer as one result.
+fn halted(answer: Result<(), Fault>) -> Result<(), Halt> {
+    match answer {
+        Ok(()) => Ok(()),
+        Err(fault) => Err(Halt::Refused(fault)),
     }
-    let turned = list.do_slice_reverse(rt.alloc(), 1..3)?;
-    assert!(rt; turned == texts(rt.alloc(), "cb")?);
+}
+
+fn set(
+    alloc: Global,
+    list: &mut Vec<String>,
+    slice: SaturatedSlice,
+    characters: &str,
+    resizes: bool,
+) -> Result<(), Halt> {
+    let new = texts(alloc, characters)?;
+    if resizes {
+        list.setitem_by_slice(alloc, slice, new.as_slice()).done()
+    } else {
+        list.setitem_by_slice_no_resize(alloc, slice, new.as_slice())
+            .done()
+    }
+}
+
+fn make_change(alloc: Global, list: &mut Vec<String>, how: Change) -> Result<(), Halt> {
+    match how {
+        Change::Set(start, stop, step, new) => {
+            set(alloc, list, slice_by(start, stop, step)?, new, true)
+        }
+        Change::SetAsMany(start, stop, step, new) => {
+            set(alloc, list, slice_by(start, stop, step)?, new, false)
+        }
+        Change::Delete(start, stop, step) => {
+            list.delitem_by_slice(slice_by(start, stop, step)?);
+            Ok(())
+        }
+        Change::Put(index) => {
+            let text = String::from_str(alloc, "x")?;
+            halted(list.setitem_by_index(index, text))
+        }
+        Change::Take(index) => halted(list.delitem_by_index(index)),
+        Change::Repeat(times) => list.imul(alloc, times).done(),
+        Change::Push => {
+            list.as_vec_mut().push(String::from_str(alloc, "x")?)?;
+            Ok(())
+        }
+    }
+}
+
+/// A list of a text for each of these characters, what is read of it, and a text for each of those that Python gives.
+const READS: [(&str, Read, &str); 7] = [
+    ("abcde", Read::Slice(NONE, NONE, -2), "eca"),
+    ("abcde", Read::Slice(-4, -1, 1), "bcd"),
+    ("abcde", Read::Turned, "cb"),
+    ("ab", Read::Times(3), "ababab"),
+    ("ab", Read::Times(-1), ""),
+    // of no texts there are none at once, however often they are asked for
+    ("", Read::Times(isize::MAX), ""),
+    ("", Read::Times(isize::MIN), ""),
+];
+
+#[test]
+fn texts_are_read_as_by_python(rt: HostRuntime) -> Result<(), Fail> {
+    for (characters, how, wanted) in &READS {
+        let list = texts(rt.alloc(), characters)?;
+        assert!(rt; is_read(rt.alloc(), &list, *how, wanted)?, "{wanted}");
+    }
     Ok(())
 }
 
-#[test]
-fn texts_are_set_by_slices(rt: HostRuntime) -> Result<(), Fail> {
-    let mut list = texts(rt.alloc(), "abcde")?;
-    let one = texts(rt.alloc(), "x")?;
-    let two = texts(rt.alloc(), "pq")?;
-    let _ = list.setitem_by_slice(rt.alloc(), slice_by(1, 3, 1)?, one.as_slice())?;
-    assert!(rt; list == texts(rt.alloc(), "axde")?);
-    let _ = list.setitem_by_slice(rt.alloc(), slice_by(NONE, NONE, 2)?, two.as_slice())?;
-    assert!(rt; list == texts(rt.alloc(), "pxqe")?);
-    let _ = list.setitem_by_slice_no_resize(rt.alloc(), slice_by(2, 4, 1)?, two.as_slice())?;
-    assert!(rt; list == texts(rt.alloc(), "pxpq")?);
-    list.delitem_by_slice(slice_by(NONE, NONE, -2)?);
-    assert!(rt; list == texts(rt.alloc(), "pp")?);
-    Ok(())
+/// A list as before, what is done with it, whether Python refuses it and how, and what the list is then.
+const CHANGES: [(&str, Change, Result<(), Halt>, &str); 15] = [
+    ("abcde", Change::Set(1, 3, 1, "x"), Ok(()), "axde"),
+    ("axde", Change::Set(NONE, NONE, 2, "pq"), Ok(()), "pxqe"),
+    (
+        "axde",
+        Change::Set(NONE, NONE, 2, "pqr"),
+        Err(Halt::Refused(Fault::Value)),
+        "axde",
+    ),
+    ("pxqe", Change::SetAsMany(2, 4, 1, "pq"), Ok(()), "pxpq"),
+    ("pxpq", Change::Delete(NONE, NONE, -2), Ok(()), "pp"),
+    ("abcde", Change::Put(-5), Ok(()), "xbcde"),
+    (
+        "abcde",
+        Change::Put(5),
+        Err(Halt::Refused(Fault::Index)),
+        "abcde",
+    ),
+    ("abcde", Change::Take(-1), Ok(()), "abcd"),
+    (
+        "abcd",
+        Change::Take(-5),
+        Err(Halt::Refused(Fault::Index)),
+        "abcd",
+    ),
+    ("ab", Change::Repeat(2), Ok(()), "abab"),
+    (
+        "ab",
+        Change::Repeat(isize::MAX),
+        Err(Halt::Refused(Fault::Overflow)),
+        "ab",
+    ),
+    ("ab", Change::Repeat(-1), Ok(()), ""),
+    ("", Change::Repeat(isize::MAX), Ok(()), ""),
+    ("", Change::Push, Ok(()), "x"),
+    ("ab", Change::Push, Ok(()), "abx"),
+];
+
+/// Whether the list becomes the wanted one.
+fn is_changed(
+    alloc: Global,
+    characters: &str,
+    how: Change,
+    answer: Result<(), Halt>,
+    wanted: &str,
+) -> Made<bool> {
+    let mut list = texts(alloc, characters)?;
+    let same = make_change(alloc, &mut list, how) == answer;
+    Ok(alike(list, texts(alloc, wanted)) && same)
 }
 
 #[test]
-fn texts_are_set_by_numbers(rt: HostRuntime) -> Result<(), Fail> {
-    let mut list = texts(rt.alloc(), "abcde")?;
-    assert!(rt;
-        list.setitem_by_index(-5, String::from_str(rt.alloc(), "x")?)
-            .is_ok()
-    );
-    assert!(rt;
-        list.setitem_by_index(5, String::from_str(rt.alloc(), "y")?)
-            .is_err()
-    );
-    assert!(rt; list.delitem_by_index(-1).is_ok());
-    assert!(rt; list.delitem_by_index(-5).is_err());
-    assert!(rt; list == texts(rt.alloc(), "xbcd")?);
-    Ok(())
-}
-
-// Of no texts there are none at once, however often they are asked for.
-#[test]
-fn no_texts_are_repeated_at_once(rt: HostRuntime) -> Result<(), Fail> {
-    let mut list = texts(rt.alloc(), "")?;
-    let Outcome::Done(none) = list.mul(rt.alloc(), isize::MAX)? else {
-        return Err(Fail::from("a list"));
-    };
-    assert!(rt; none.is_empty());
-    let _ = list.imul(rt.alloc(), isize::MAX)?;
-    assert!(rt; list.is_empty());
-    Ok(())
-}
-
-#[test]
-fn texts_are_repeated(rt: HostRuntime) -> Result<(), Fail> {
-    let mut list = texts(rt.alloc(), "ab")?;
-    let Outcome::Done(thrice) = list.mul(rt.alloc(), 3)? else {
-        return Err(Fail::from("a list"));
-    };
-    assert!(rt; thrice == texts(rt.alloc(), "ababab")?);
-    let _ = list.imul(rt.alloc(), 2)?;
-    assert!(rt; list == texts(rt.alloc(), "abab")?);
-    let refused = list.imul(rt.alloc(), isize::MAX)?;
-    assert!(rt; matches!(refused, Outcome::Refused(Fault::Overflow)));
-    let _ = list.imul(rt.alloc(), -1)?;
-    assert!(rt; list.is_empty());
-    list.as_vec_mut().push(String::new(rt.alloc()))?;
-    assert_eq!(rt; list.as_slice().len(), 1);
+fn texts_are_changed_as_by_python(rt: HostRuntime) -> Result<(), Fail> {
+    for (characters, how, answer, wanted) in &CHANGES {
+        assert!(rt;
+            is_changed(rt.alloc(), characters, *how, *answer, wanted)?,
+            "{characters}"
+        );
+    }
     Ok(())
 }
 
@@ -631,16 +761,16 @@ fn set_picked(
     list: &mut Vec<u8>,
     slice: SaturatedSlice,
     values: &[u8],
-) -> Result<(), Fail> {
+) -> Made<bool> {
     indices_of_a_slice();
     let length = list.as_slice().len();
     let (_, _, count) = slice.adjust_indices(length);
     if count != values.len() {
-        return Err(Fail::from("as many values as indices"));
+        return Ok(false);
     }
     let indexes = slice.iter(length);
     list.do_set_indexes(alloc, indexes, values)?;
-    Ok(())
+    Ok(true)
 }
 
 /// Start, stop, step, values, and what `for i, v in zip(range(5)[start:stop:step], values): a[i] = v` of Python 3 makes
@@ -653,17 +783,19 @@ const SET_AT: [(i128, i128, i128, &[u8], [u8; 5]); 5] = [
     (4, 1, 1, &[], [10, 20, 30, 40, 50]),
 ];
 
+fn is_set(alloc: Global, slice: SaturatedSlice, values: &[u8], wanted: &[u8]) -> Made<bool> {
+    let mut list = Vec::from_slice(alloc, &[10, 20, 30, 40, 50])?;
+    Ok(set_picked(alloc, &mut list, slice, values)? && list.as_slice() == wanted)
+}
+
 #[test]
 fn numbers_are_set_at_indices(rt: HostRuntime) -> Result<(), Fail> {
-    for (start, stop, step, values, wanted) in SET_AT.iter() {
-        let mut list = vec![in rt.alloc(); 10u8, 20, 30, 40, 50]?;
-        set_picked(
-            rt.alloc(),
-            &mut list,
-            slice_by(*start, *stop, *step)?,
-            *values,
-        )?;
-        assert_eq!(rt; list.as_slice(), wanted.as_slice(), "step {step}");
+    for (start, stop, step, values, wanted) in &SET_AT {
+        let slice = slice_by(*start, *stop, *step)?;
+        assert!(rt;
+            is_set(rt.alloc(), slice, values, wanted.as_slice())?,
+            "{step}"
+        );
     }
     Ok(())
 }
