@@ -1,8 +1,9 @@
 //! `PyBuffer`, `VecBuffer`, and bytes that are borrowed for a call.
-use crate::values::{bytes, int};
+use crate::telling::{Told, same, tells};
+use crate::values::{bytes, int, none};
 use pybuf_view::{
-    ArgBytesLike, ArgMemoryBuffer, ExporterKind, Fault, LoanList, PyBuffer, PyByteArray, SnapList,
-    Subject, VecBuffer, try_rw_bytes_like,
+    ArgBytesLike, ArgMemoryBuffer, ExporterKind, Fault, PyBuffer, PyByteArray, SnapList, Subject,
+    VecBuffer, try_rw_bytes_like,
 };
 use std::alloc::Global;
 use std::test::Fail;
@@ -10,15 +11,16 @@ use std::test::Fail;
 #[test]
 fn a_buffer_lends_the_bytes_of_a_view(rt: HostRuntime) -> Result<(), Fail> {
     let alloc = rt.alloc();
-    let mut array = PyByteArray::new_ref(alloc, Vec::from_slice(alloc, b"abc")?);
-    array.as_buffer(LoanList::new(alloc))?;
+    let mut copied = Vec::new(alloc);
+    let mut array = PyByteArray::from_slice(alloc, b"abc")?;
+    tells(&rt, array.as_buffer(none(alloc)), Told::View(0));
     let buffer = PyBuffer::of(0);
     let state = array.state_mut();
     assert!(rt; buffer.is_live(state));
-    assert_eq!(rt; buffer.as_contiguous(state), Some(b"abc".as_slice()));
-    let mut copied = Vec::new(alloc);
+    let lent = buffer.as_contiguous(state).unwrap_or(b"".as_slice());
+    same(&rt, lent, b"abc");
     buffer.append_uncounted(state, &mut copied)?;
-    assert_eq!(rt; copied.as_slice(), b"abc".as_slice());
+    same(&rt, copied.as_slice(), b"abc");
     Ok(())
 }
 
@@ -38,8 +40,8 @@ fn lend_and_take(alloc: Global, bytes: &[u8]) -> Result<(Option<Fault>, Vec<u8>)
 #[test]
 fn a_vector_is_taken_back(rt: HostRuntime) -> Result<(), Fail> {
     let (refused, taken) = lend_and_take(rt.alloc(), b"abc")?;
-    assert_eq!(rt; refused, Some(Fault::Buffer));
-    assert_eq!(rt; taken.as_slice(), b"abc".as_slice());
+    assert!(rt; refused == Some(Fault::Buffer));
+    same(&rt, taken.as_slice(), b"abc");
     Ok(())
 }
 
@@ -49,7 +51,7 @@ fn the_bytes_of_a_value_are_borrowed(rt: HostRuntime) -> Result<(), Fail> {
     let lender = SnapList::new(alloc);
     let value = bytes(alloc, b"abc")?;
     match ArgBytesLike::try_from_value(&value, &lender) {
-        Ok(argument) => assert_eq!(rt; argument.borrow_buf(), b"abc".as_slice()),
+        Ok(argument) => same(&rt, argument.borrow_buf(), b"abc"),
         Err(_) => assert!(rt; false),
     }
     Ok(())
@@ -58,13 +60,13 @@ fn the_bytes_of_a_value_are_borrowed(rt: HostRuntime) -> Result<(), Fail> {
 #[test]
 fn the_bytes_of_a_view_are_borrowed_to_be_written(rt: HostRuntime) -> Result<(), Fail> {
     let alloc = rt.alloc();
-    let mut array = PyByteArray::new_ref(alloc, Vec::from_slice(alloc, b"abcdef")?);
-    array.range(int(1), int(4), LoanList::new(alloc))?;
+    let mut array = PyByteArray::from_slice(alloc, b"abcdef")?;
+    tells(&rt, array.range(int(1), int(4), none(alloc)), Told::View(0));
     let state = array.state_mut();
     let turned = try_rw_bytes_like(state, Subject::View(0), |bytes| bytes.reverse());
     assert!(rt; turned.is_ok());
-    assert_eq!(rt; state.bytes(), b"adcbef".as_slice());
+    same(&rt, state.bytes(), b"adcbef");
     let refused = ArgMemoryBuffer::try_from_subject(state, Subject::View(1)).err();
-    assert_eq!(rt; refused, Some(Fault::UnknownName));
+    assert!(rt; refused == Some(Fault::UnknownName));
     Ok(())
 }

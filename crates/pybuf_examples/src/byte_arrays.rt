@@ -1,40 +1,26 @@
 //! `PyByteArray`, as Python's `bytearray`.
-use crate::telling::{Told, tell};
-use crate::values::{bytes, int, part};
-use pybuf_view::{ExporterKind, Fault, Halt, LoanList, PyByteArray};
+use crate::telling::{Told, refuses, same, tells};
+use crate::values::{bytes, int, none, part};
+use pybuf_view::{ExporterKind, Fault, PyByteArray};
 use std::test::Fail;
 
 #[test]
 fn a_bytearray_is_edited(rt: HostRuntime) -> Result<(), Fail> {
     let alloc = rt.alloc();
-    let none = || LoanList::new(alloc);
+    let three = bytes(alloc, b"XYZ")?;
     let mut array = PyByteArray::new_ref(alloc, Vec::from_slice(alloc, b"abc")?);
-    array.append(int(100), none())?;
-    array.setitem(part(0, 2), bytes(alloc, b"XYZ")?, none())?;
-    array.delitem(int(-1), none())?;
-    array.insert(int(0), int(33), none())?;
-    assert_eq!(rt; tell(array.pop(None, none())?), Told::Number(99));
-    assert_eq!(rt; array.borrow_buf(), b"!XYZ".as_slice());
-    assert_eq!(rt;
-        tell(array.append(int(256), none())?),
-        Told::Refused(Fault::Value)
+    tells(&rt, array.append(int(100), none(alloc)), Told::Done);
+    tells(
+        &rt,
+        array.setitem(part(0, 2), three, none(alloc)),
+        Told::Done,
     );
-    Ok(())
-}
-
-#[test]
-fn a_view_keeps_the_length(rt: HostRuntime) -> Result<(), Fail> {
-    let alloc = rt.alloc();
-    let none = || LoanList::new(alloc);
-    let mut array = PyByteArray::new_ref(alloc, Vec::from_slice(alloc, b"abc")?);
-    assert_eq!(rt; tell(array.as_buffer(none())?), Told::View(0));
-    assert_eq!(rt;
-        tell(array.append(int(100), none())?),
-        Told::Refused(Fault::Buffer)
-    );
-    assert!(rt; array.state_mut().release_view(0).is_ok());
-    assert_eq!(rt; tell(array.append(int(100), none())?), Told::Done);
-    assert_eq!(rt; array.borrow_buf(), b"abcd".as_slice());
+    tells(&rt, array.delitem(int(-1), none(alloc)), Told::Done);
+    tells(&rt, array.insert(int(0), int(33), none(alloc)), Told::Done);
+    tells(&rt, array.pop(None, none(alloc)), Told::Number(99));
+    same(&rt, array.borrow_buf(), b"!XYZ");
+    let refused = Told::Refused(Fault::Value);
+    tells(&rt, array.append(int(256), none(alloc)), refused);
     Ok(())
 }
 
@@ -55,11 +41,11 @@ fn end_line(array: &mut PyByteArray) -> Result<bool, Fail> {
 #[test]
 fn the_bytes_are_lent_as_a_vector(rt: HostRuntime) -> Result<(), Fail> {
     let alloc = rt.alloc();
-    let mut array = PyByteArray::new_ref(alloc, Vec::from_slice(alloc, b"abc")?);
+    let mut array = PyByteArray::from_slice(alloc, b"abc")?;
     assert!(rt; end_line(&mut array)?);
-    array.as_buffer(LoanList::new(alloc))?;
+    tells(&rt, array.as_buffer(none(alloc)), Told::View(0));
     assert!(rt; !end_line(&mut array)?);
-    assert_eq!(rt; array.borrow_buf(), b"abc\n".as_slice());
+    same(&rt, array.borrow_buf(), b"abc\n");
     Ok(())
 }
 
@@ -67,12 +53,12 @@ fn the_bytes_are_lent_as_a_vector(rt: HostRuntime) -> Result<(), Fail> {
 fn plain_edits_wait_for_views(rt: HostRuntime) -> Result<(), Fail> {
     let alloc = rt.alloc();
     let mut array = PyByteArray::from_slice(alloc, b"abc")?;
-    array.as_buffer(LoanList::new(alloc))?;
-    assert_eq!(rt; array.push(100), Err(Halt::Refused(Fault::Buffer)));
+    tells(&rt, array.as_buffer(none(alloc)), Told::View(0));
+    refuses(&rt, array.push(100), Fault::Buffer);
     array.set(0, b'A')?;
     assert!(rt; array.state_mut().release_view(0).is_ok());
     array.push(100)?;
-    assert_eq!(rt; array.pop_last()?, Some(100));
-    assert_eq!(rt; array.as_slice(), b"Abc".as_slice());
+    assert!(rt; array.pop_last() == Ok(Some(100)));
+    same(&rt, array.as_slice(), b"Abc");
     Ok(())
 }

@@ -1,48 +1,35 @@
 //! Iterators of bytes, bytearrays and memoryviews.
-use crate::telling::{Told, tell};
-use crate::values::int;
-use pybuf_view::{
-    Fault, LoanList, PyByteArray, PyByteArrayIterator, PyMemoryView, PyMemoryViewIterator,
-};
+use crate::telling::{Told, tells};
+use crate::values::{int, none};
+use pybuf_view::{Fault, PyByteArray, PyByteArrayIterator, PyMemoryView, PyMemoryViewIterator};
 use std::test::Fail;
 
 #[test]
 fn bytes_are_iterated_while_they_are_added(rt: HostRuntime) -> Result<(), Fail> {
     let alloc = rt.alloc();
-    let none = || LoanList::new(alloc);
-    let mut array = PyByteArray::new_ref(alloc, Vec::from_slice(alloc, b"a")?);
-    assert_eq!(rt; tell(array.iter(none())?), Told::Iterator(0));
+    let mut array = PyByteArray::from_slice(alloc, b"a")?;
+    tells(&rt, array.iter(none(alloc)), Told::Iterator(0));
     let items = PyByteArrayIterator::of(0);
-    assert_eq!(rt;
-        tell(items.next(alloc, array.state_mut())?),
-        Told::Number(97)
-    );
-    array.append(int(98), none())?;
-    assert_eq!(rt;
-        tell(items.next(alloc, array.state_mut())?),
-        Told::Number(98)
-    );
-    assert_eq!(rt; tell(items.next(alloc, array.state_mut())?), Told::Stop);
-    array.append(int(99), none())?;
-    assert_eq!(rt; tell(items.next(alloc, array.state_mut())?), Told::Stop);
+    tells(&rt, items.next(alloc, array.state_mut()), Told::Number(97));
+    tells(&rt, array.append(int(98), none(alloc)), Told::Done);
+    tells(&rt, items.next(alloc, array.state_mut()), Told::Number(98));
+    tells(&rt, items.next(alloc, array.state_mut()), Told::Stop);
+    tells(&rt, array.append(int(99), none(alloc)), Told::Done);
+    tells(&rt, items.next(alloc, array.state_mut()), Told::Stop);
     Ok(())
 }
 
 #[test]
 fn items_of_a_view_are_iterated(rt: HostRuntime) -> Result<(), Fail> {
     let alloc = rt.alloc();
-    let none = || LoanList::new(alloc);
-    let mut array = PyByteArray::new_ref(alloc, Vec::from_slice(alloc, b"ab")?);
-    array.as_buffer(none())?;
+    let mut array = PyByteArray::from_slice(alloc, b"ab")?;
     let state = array.state_mut();
-    let view = PyMemoryView::of(0);
-    view.iter(state, none())?;
+    let view = PyMemoryView::of_all(state)?;
+    tells(&rt, view.iter(state, none(alloc)), Told::Iterator(0));
     let items = PyMemoryViewIterator::of(0);
-    assert_eq!(rt; tell(items.next(alloc, state)?), Told::Number(97));
-    view.exit(state, none())?;
-    assert_eq!(rt;
-        tell(items.next(alloc, state)?),
-        Told::Refused(Fault::Value)
-    );
+    tells(&rt, items.next(alloc, state), Told::Number(97));
+    tells(&rt, view.exit(state, none(alloc)), Told::Done);
+    let refused = Told::Refused(Fault::Value);
+    tells(&rt, items.next(alloc, state), refused);
     Ok(())
 }

@@ -5,6 +5,8 @@
 #[cfg(test)]
 mod answers;
 #[cfg(test)]
+mod arrays;
+#[cfg(test)]
 mod buffers;
 #[cfg(test)]
 mod byte_arrays;
@@ -18,6 +20,8 @@ mod iterators;
 mod memory_views;
 #[cfg(test)]
 mod plain_views;
+#[cfg(test)]
+mod records;
 #[cfg(test)]
 mod slices;
 #[cfg(test)]

@@ -1,101 +1,73 @@
 //! `PyMemoryView`, as Python's `memoryview`.
-use crate::telling::{Told, has, lists, tell};
-use crate::values::{bytes, every, int, part, text};
-use pybuf_view::{Fault, LoanList, PyByteArray, PyMemoryView, Scalar, ScalarList, Value};
+use crate::telling::{Told, gives, lists, same, tells};
+use crate::values::{every, int, none, text};
+use pybuf_view::{Fault, Made, PyByteArray, PyMemoryView, Scalar, ScalarList, Value};
+use std::alloc::Global;
 use std::test::Fail;
 
 #[test]
 fn a_slice_of_a_view_shares_the_bytes(rt: HostRuntime) -> Result<(), Fail> {
     let alloc = rt.alloc();
-    let none = || LoanList::new(alloc);
     let mut array = PyByteArray::new_ref(alloc, Vec::from_slice(alloc, b"abcdef")?);
-    array.as_buffer(none())?;
-    let state = array.state_mut();
-    let view = PyMemoryView::of(0);
-    assert_eq!(rt;
-        tell(view.getitem(state, every(-2), none())?),
-        Told::View(1)
+    tells(&rt, array.as_buffer(none(alloc)), Told::View(0));
+    let (state, view) = (array.state_mut(), PyMemoryView::of(0));
+    tells(
+        &rt,
+        view.getitem(state, every(-2), none(alloc)),
+        Told::View(1),
     );
     let backwards = PyMemoryView::of(1);
-    assert!(rt; has(backwards.tobytes(state, None, none())?, b"fdb"));
-    backwards.setitem(state, int(0), int(70), none())?;
-    assert_eq!(rt;
-        tell(view.getitem(state, int(5), none())?),
-        Told::Number(70)
-    );
-    assert_eq!(rt; state.bytes(), b"abcdeF".as_slice());
+    gives(&rt, backwards.tobytes(state, None, none(alloc)), b"fdb");
+    lists(&rt, backwards.tolist(state, none(alloc)), &[102, 100, 98]);
+    let set = backwards.setitem(state, int(0), int(70), none(alloc));
+    tells(&rt, set, Told::Done);
+    same(&rt, state.bytes(), b"abcdeF");
     Ok(())
 }
 
-#[test]
-fn a_slice_of_a_view_is_assigned(rt: HostRuntime) -> Result<(), Fail> {
-    let alloc = rt.alloc();
-    let none = || LoanList::new(alloc);
-    let mut array = PyByteArray::new_ref(alloc, Vec::from_slice(alloc, b"abcdef")?);
-    array.as_buffer(none())?;
-    let state = array.state_mut();
-    let view = PyMemoryView::of(0);
-    let two = bytes(alloc, b"XY")?;
-    assert_eq!(rt;
-        tell(view.setitem(state, part(1, 3), two, none())?),
-        Told::Done
-    );
-    let three = bytes(alloc, b"XYZ")?;
-    let refused = view.setitem(state, part(1, 3), three, none())?;
-    assert_eq!(rt; tell(refused), Told::Refused(Fault::Value));
-    assert_eq!(rt; state.bytes(), b"aXYdef".as_slice());
-    Ok(())
-}
-
-#[test]
-fn a_cast_regroups_the_bytes(rt: HostRuntime) -> Result<(), Fail> {
-    let alloc = rt.alloc();
-    let none = || LoanList::new(alloc);
-    let bytes = Vec::from_slice(alloc, b"\x01\x00\x02\x00\x03\x00")?;
-    let mut array = PyByteArray::new_ref(alloc, bytes);
-    array.as_buffer(none())?;
-    let state = array.state_mut();
-    let format = text(alloc, "H")?;
-    let cast = PyMemoryView::of(0).cast(state, format, None, none())?;
-    assert_eq!(rt; tell(cast), Told::View(1));
-    let numbers = PyMemoryView::of(1);
-    assert!(rt; lists(numbers.tolist(state, none())?, &[1, 2, 3]));
-    numbers.setitem(state, int(-1), int(258), none())?;
-    assert_eq!(rt; state.bytes(), b"\x01\x00\x02\x00\x02\x01".as_slice());
-    Ok(())
+/// The shape `(2, 3)` as a value.
+fn two_by_three(alloc: Global) -> Made<Value> {
+    let mut shape = ScalarList::new(alloc);
+    shape.push(Scalar::Int(2))?;
+    shape.push(Scalar::Int(3))?;
+    Ok(Value::Tuple(shape))
 }
 
 #[test]
 fn a_cast_has_a_shape(rt: HostRuntime) -> Result<(), Fail> {
     let alloc = rt.alloc();
-    let none = || LoanList::new(alloc);
-    let mut array = PyByteArray::new_ref(alloc, Vec::from_slice(alloc, b"abcdef")?);
-    array.as_buffer(none())?;
+    let (format, shape) = (text(alloc, "B")?, Some(two_by_three(alloc)?));
+    let mut array = PyByteArray::from_slice(alloc, b"abcdef")?;
     let state = array.state_mut();
-    let mut shape = ScalarList::new(alloc);
-    shape.push(Scalar::Int(2))?;
-    shape.push(Scalar::Int(3))?;
-    let (format, shape) = (text(alloc, "B")?, Some(Value::Tuple(shape)));
-    PyMemoryView::of(0).cast(state, format, shape, none())?;
+    let view = PyMemoryView::of_all(state)?;
+    tells(
+        &rt,
+        view.cast(state, format, shape, none(alloc)),
+        Told::View(1),
+    );
     let rows = PyMemoryView::of(1);
-    assert_eq!(rt; tell(rows.len(state, none())?), Told::Number(2));
-    rows.getitem(state, every(-1), none())?;
-    assert!(rt; has(PyMemoryView::of(2).tobytes(state, None, none())?, b"defabc"));
+    tells(&rt, rows.len(state, none(alloc)), Told::Number(2));
+    tells(
+        &rt,
+        rows.getitem(state, every(-1), none(alloc)),
+        Told::View(2),
+    );
+    let turned = PyMemoryView::of(2);
+    gives(&rt, turned.tobytes(state, None, none(alloc)), b"defabc");
     Ok(())
 }
 
 #[test]
 fn a_released_view_refuses(rt: HostRuntime) -> Result<(), Fail> {
     let alloc = rt.alloc();
-    let none = || LoanList::new(alloc);
-    let mut array = PyByteArray::new_ref(alloc, Vec::from_slice(alloc, b"abc")?);
-    array.as_buffer(none())?;
+    let mut array = PyByteArray::from_slice(alloc, b"abc")?;
     let state = array.state_mut();
-    let view = PyMemoryView::of(0);
-    assert_eq!(rt; tell(view.readonly(state, none())?), Told::Truth(false));
-    assert!(rt; has(view.format(state, none())?, b"B"));
-    assert_eq!(rt; tell(view.exit(state, none())?), Told::Done);
-    assert_eq!(rt; tell(view.len(state, none())?), Told::Refused(Fault::Value));
-    assert_eq!(rt; state.exports(), 0);
+    let view = PyMemoryView::of_all(state)?;
+    tells(&rt, view.readonly(state, none(alloc)), Told::Truth(false));
+    gives(&rt, view.format(state, none(alloc)), b"B");
+    tells(&rt, view.exit(state, none(alloc)), Told::Done);
+    let refused = Told::Refused(Fault::Value);
+    tells(&rt, view.len(state, none(alloc)), refused);
+    assert!(rt; state.exports() == 0);
     Ok(())
 }

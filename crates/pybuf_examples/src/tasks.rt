@@ -1,4 +1,5 @@
 //! Five things that are asked often, as the pages show them beside Python's.
+use crate::telling::same;
 use pybuf_view::{ByteStr, FormatSpec, PyByteArray, PyMemoryView};
 use std::test::Fail;
 
@@ -6,7 +7,7 @@ use std::test::Fail;
 fn a_byte_is_added(rt: HostRuntime) -> Result<(), Fail> {
     let mut array = PyByteArray::from_slice(rt.alloc(), b"abc")?;
     array.push(100)?;
-    assert_eq!(rt; array.as_slice(), b"abcd".as_slice());
+    same(&rt, array.as_slice(), b"abcd");
     Ok(())
 }
 
@@ -16,7 +17,7 @@ fn a_part_is_read_through_a_view(rt: HostRuntime) -> Result<(), Fail> {
     let view = PyMemoryView::of_all(array.state_mut())?;
     let part = view.slice(array.state_mut(), 1..4)?;
     let bytes = part.to_vec(array.state())?;
-    assert_eq!(rt; bytes.as_slice(), b"bcd".as_slice());
+    same(&rt, bytes.as_slice(), b"bcd");
     Ok(())
 }
 
@@ -25,14 +26,14 @@ fn a_record_is_unpacked(rt: HostRuntime) -> Result<(), Fail> {
     let (alloc, record) = (rt.alloc(), b"\xfe\xff\x02\x01\x00\x00");
     let format = FormatSpec::from_str(alloc, "<hI")?;
     let [delta, count] = format.unpack_values(alloc, record)?.numbers::<2>()?;
-    assert_eq!(rt; (delta, count), (-2, 258));
+    assert!(rt; delta == -2 && count == 258);
     Ok(())
 }
 
 #[test]
 fn a_place_is_found(rt: HostRuntime) {
     let place = ByteStr::new(b"key=value").find(b"=", None, None);
-    assert_eq!(rt; place, Some(3));
+    assert!(rt; place == Some(3));
 }
 
 #[test]
@@ -42,6 +43,6 @@ fn items_of_another_object_are_assigned(rt: HostRuntime) -> Result<(), Fail> {
     let target = PyMemoryView::of_all(array.state_mut())?;
     let source = PyMemoryView::of_all(other.state_mut())?;
     target.assign_from(array.state_mut(), 2..5, other.state(), &source)?;
-    assert_eq!(rt; array.as_slice(), b"abXYZf".as_slice());
+    same(&rt, array.as_slice(), b"abXYZf");
     Ok(())
 }

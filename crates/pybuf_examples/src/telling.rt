@@ -1,10 +1,15 @@
-//! What the examples read of a reply.
-use pybuf_view::{Fault, Item, LocalReply, Scalar};
+//! What the examples ask of answers.
+//!
+//! Each takes what it looks at, so that no example drops a reply at each place where it may stop; and slices are
+//! compared here, since each comparison in an example itself is proved anew.
+use pybuf_view::{Fault, Halt, Item, LocalReply, Made, Reply, Scalar};
+use std::process::Abort;
 
-/// What is told by a reply that is no list, as the examples compare it.
+/// What is told by a reply that has no parts, as the examples compare it.
 #[derive(Clone, Copy, Debug, PartialEq, Eq)]
 pub(crate) enum Told {
     Done,
+    Handle(u64),
     View(usize),
     Iterator(usize),
     Number(i128),
@@ -28,11 +33,48 @@ fn told_by(reply: &LocalReply) -> Told {
     }
 }
 
-/// What a reply tells.
-pub(crate) fn tell(reply: LocalReply) -> Told {
-    let told = told_by(&reply);
-    drop(reply);
-    told
+/// What an answer tells, and None for want of memory.
+fn told(answer: Made<LocalReply>) -> Option<Told> {
+    match answer {
+        Ok(reply) => {
+            let told = told_by(&reply);
+            drop(reply);
+            Some(told)
+        }
+        Err(_) => None,
+    }
+}
+
+/// The answer tells this.
+pub(crate) fn tells<R: Abort>(rt: &R, answer: Made<LocalReply>, wanted: Told) {
+    let told = told(answer);
+    assert_eq!(*rt; told, Some(wanted));
+}
+
+fn heard_by(reply: &Reply) -> Told {
+    match reply {
+        Reply::Handle(handle) => Told::Handle(*handle),
+        Reply::Item(Item::One(Scalar::Int(number))) => Told::Number(*number),
+        Reply::Refused(fault) => Told::Refused(*fault),
+        _ => Told::More,
+    }
+}
+
+fn heard(answer: Made<Reply>) -> Option<Told> {
+    match answer {
+        Ok(reply) => {
+            let heard = heard_by(&reply);
+            drop(reply);
+            Some(heard)
+        }
+        Err(_) => None,
+    }
+}
+
+/// The answer of a world tells this.
+pub(crate) fn hears<R: Abort>(rt: &R, answer: Made<Reply>, wanted: Told) {
+    let heard = heard(answer);
+    assert_eq!(*rt; heard, Some(wanted));
 }
 
 fn bytes_in(reply: &LocalReply) -> &[u8] {
@@ -43,21 +85,28 @@ fn bytes_in(reply: &LocalReply) -> &[u8] {
     }
 }
 
-/// Whether a reply has these bytes, or is this text.
-pub(crate) fn has(reply: LocalReply, wanted: &[u8]) -> bool {
-    let answer = bytes_in(&reply) == wanted;
-    drop(reply);
-    answer
+fn has(answer: Made<LocalReply>, wanted: &[u8]) -> bool {
+    match answer {
+        Ok(reply) => {
+            let has = bytes_in(&reply) == wanted;
+            drop(reply);
+            has
+        }
+        Err(_) => false,
+    }
 }
 
-/// Whether a reply is a list of these numbers.
-pub(crate) fn lists(reply: LocalReply, wanted: &[i128]) -> bool {
-    let answer = match &reply {
-        LocalReply::Items { shape: _, items } => are_numbers(items.as_slice(), wanted),
+/// The answer has these bytes, or is this text.
+pub(crate) fn gives<R: Abort>(rt: &R, answer: Made<LocalReply>, wanted: &[u8]) {
+    let has = has(answer, wanted);
+    assert!(*rt; has, "the answer isn't {wanted:?}");
+}
+
+fn is_number(item: &Item, wanted: i128) -> bool {
+    match item {
+        Item::One(Scalar::Int(number)) => *number == wanted,
         _ => false,
-    };
-    drop(reply);
-    answer
+    }
 }
 
 fn are_numbers(items: &[Item], wanted: &[i128]) -> bool {
@@ -70,9 +119,33 @@ fn are_numbers(items: &[Item], wanted: &[i128]) -> bool {
         .all(|(item, number)| is_number(item, *number))
 }
 
-fn is_number(item: &Item, wanted: i128) -> bool {
-    match item {
-        Item::One(Scalar::Int(number)) => *number == wanted,
-        _ => false,
+fn has_numbers(answer: Made<LocalReply>, wanted: &[i128]) -> bool {
+    match answer {
+        Ok(reply) => {
+            let has = match &reply {
+                LocalReply::Items { shape: _, items } => are_numbers(items.as_slice(), wanted),
+                _ => false,
+            };
+            drop(reply);
+            has
+        }
+        Err(_) => false,
     }
+}
+
+/// The answer is a list of these numbers.
+pub(crate) fn lists<R: Abort>(rt: &R, answer: Made<LocalReply>, wanted: &[i128]) {
+    let has = has_numbers(answer, wanted);
+    assert!(*rt; has, "the answer isn't {wanted:?}");
+}
+
+/// The call is refused so.
+pub(crate) fn refuses<T: Drop, R: Abort>(rt: &R, answer: Result<T, Halt>, wanted: Fault) {
+    let halt = answer.err();
+    assert_eq!(*rt; halt, Some(Halt::Refused(wanted)));
+}
+
+/// The bytes are these.
+pub(crate) fn same<R: Abort>(rt: &R, bytes: &[u8], wanted: &[u8]) {
+    assert_eq!(*rt; bytes, wanted);
 }

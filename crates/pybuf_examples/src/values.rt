@@ -1,6 +1,15 @@
-//! The values that the examples give to commands.
-use pybuf_view::{Made, PySlice, Scalar, Value};
+//! The values and the loans that the examples give to commands.
+ghost use Rattle.std.specs.Prelude.{◌≡◌, []};
+
+use pybuf_view::{LoanList, Made, PySlice, Scalar, Value};
 use std::alloc::Global;
+
+/// No loans, which every call takes.
+pub(crate) fn none(alloc: Global) -> LoanList
+    ensures { result ≡ [] }
+{
+    LoanList::new(alloc)
+}
 
 /// A whole number as a value.
 pub(crate) fn int(number: i128) -> Value {

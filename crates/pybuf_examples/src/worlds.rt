@@ -1,8 +1,8 @@
 //! `World`: objects that are named by handles, and commands as values.
+use crate::telling::{Told, hears};
 use crate::values::{int, text};
 use pybuf_view::{
-    ByteInnerNewOptions, Command, ExporterKind, Fault, Item, Made, Reply, ReplyList, Scalar, Value,
-    Verb, World,
+    ByteInnerNewOptions, Command, ExporterKind, Fault, Made, Reply, ReplyList, Value, Verb, World,
 };
 use std::alloc::Global;
 use std::test::Fail;
@@ -24,68 +24,48 @@ fn ask(subject: u64, verb: Verb) -> Command {
     Command::Do { subject, verb }
 }
 
-/// The handle that a reply is.
-fn handle(reply: Reply) -> Option<u64> {
-    let handle = match &reply {
-        Reply::Handle(handle) => Some(*handle),
-        _ => None,
-    };
-    drop(reply);
-    handle
-}
-
-/// The number that a reply is.
-fn number(reply: Reply) -> Option<i128> {
-    let number = match &reply {
-        Reply::Item(Item::One(Scalar::Int(number))) => Some(*number),
-        _ => None,
-    };
-    drop(reply);
-    number
-}
-
-/// Why a command was refused.
-fn refusal(reply: Reply) -> Option<Fault> {
-    let fault = match &reply {
-        Reply::Refused(fault) => Some(*fault),
-        _ => None,
-    };
-    drop(reply);
-    fault
+/// Carries out a command, and lets it go.
+fn step(world: &mut World, command: Command) -> Made<Reply> {
+    let reply = world.step(&command);
+    drop(command);
+    reply
 }
 
 #[test]
 fn commands_are_carried_out(rt: HostRuntime) -> Result<(), Fail> {
     let alloc = rt.alloc();
     let mut world = World::new(alloc);
-    let made = world.step(&new_bytearray(alloc, b"\x01\x00\x02\x00")?)?;
-    assert_eq!(rt; handle(made), Some(0));
-    assert_eq!(rt; handle(world.step(&ask(0, Verb::View))?), Some(1));
-    let cast = Verb::Cast {
-        format: text(alloc, "H")?,
-        shape: None,
-    };
-    assert_eq!(rt; handle(world.step(&ask(1, cast))?), Some(2));
-    let last = Verb::Get { key: int(-1) };
-    assert_eq!(rt; number(world.step(&ask(2, last))?), Some(2));
-    let append = Verb::Append { value: int(3) };
-    assert_eq!(rt; refusal(world.step(&ask(0, append))?), Some(Fault::Buffer));
+    let array = new_bytearray(alloc, b"\x01\x00\x02\x00")?;
+    hears(&rt, step(&mut world, array), Told::Handle(0));
+    hears(&rt, step(&mut world, ask(0, Verb::View)), Told::Handle(1));
+    let (format, shape) = (text(alloc, "H")?, None);
+    let cast = ask(1, Verb::Cast { format, shape });
+    hears(&rt, step(&mut world, cast), Told::Handle(2));
+    let last = ask(2, Verb::Get { key: int(-1) });
+    hears(&rt, step(&mut world, last), Told::Number(2));
+    let append = ask(0, Verb::Append { value: int(3) });
+    hears(&rt, step(&mut world, append), Told::Refused(Fault::Buffer));
     Ok(())
+}
+
+/// Four commands, by which two handles are given.
+fn commands(alloc: Global) -> Result<Vec<Command>, Fail> {
+    let mut commands = Vec::new(alloc);
+    commands.push(new_bytearray(alloc, b"abc")?)?;
+    commands.push(ask(0, Verb::View))?;
+    commands.push(ask(1, Verb::Release))?;
+    commands.push(ask(0, Verb::Clear))?;
+    Ok(commands)
 }
 
 #[test]
 fn a_run_has_a_reply_for_each_command(rt: HostRuntime) -> Result<(), Fail> {
     let alloc = rt.alloc();
-    let commands = vec![in alloc;
-        new_bytearray(alloc, b"abc")?,
-        ask(0, Verb::View),
-        ask(1, Verb::Release),
-        ask(0, Verb::Clear),
-    ]?;
+    let commands = commands(alloc)?;
     let mut world = World::new(alloc);
     let mut replies = ReplyList::new(alloc);
     world.run(commands.as_slice(), &mut replies)?;
-    assert_eq!(rt; replies.len(), 4);
-    assert_eq!(rt; world.handle_count(), 2);
+    assert!(rt; replies.len() == 4);
+    assert!(rt; world.handle_count() == 2);
     Ok(())
 }
