@@ -1,40 +1,29 @@
 //! The codes of the numbers that views read.
-ghost use Rattle.std.specs.Prelude.{◌<◌, ◌≤◌};
 
 /// A code for numbers of 1, 2, 4 or 8 bytes.
 #[derive(Clone, Copy)]
-pub enum Code {
-    /// `B`.
-    Byte,
-    /// `H`.
-    Short,
-    /// `i`.
-    Int,
-    /// `q`.
-    Long,
-}
-
-impl Code {
-    /// The format.
-    pub fn format(self) -> &'static str {
-        match self {
-            Code::Byte => "B",
-            Code::Short => "H",
-            Code::Int => "i",
-            Code::Long => "q",
-        }
-    }
-
+pub struct Code {
+    pub format: &'static str,
     /// The number of bytes of a number.
-    pub fn size(self) -> usize
-        ensures some { 0 < result }
-        ensures few { result ≤ 8 }
-    {
-        match self {
-            Code::Byte => 1,
-            Code::Short => 2,
-            Code::Int => 4,
-            Code::Long => 8,
-        }
-    }
+    pub size: usize,
 }
+
+pub const BYTE: Code = Code {
+    format: "B",
+    size: 1,
+};
+
+pub const SHORT: Code = Code {
+    format: "H",
+    size: 2,
+};
+
+pub const INT: Code = Code {
+    format: "i",
+    size: 4,
+};
+
+pub const LONG: Code = Code {
+    format: "q",
+    size: 8,
+};

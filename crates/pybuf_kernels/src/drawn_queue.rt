@@ -6,7 +6,7 @@ use pybuf_command::{ByteInnerNewOptions, LoanList, LocalReply};
 use pybuf_measure::{Answer, Kernel, drawn, mark_of_bytes};
 use pybuf_memoryobject::PyMemoryView;
 use pybuf_object::PyByteArray;
-use pybuf_value::{ByteList, Fault, Item, Made, Scalar, Value};
+use pybuf_value::{ByteList, Fault, Halt, Item, Made, Scalar, Value};
 use std::alloc::Global;
 
 /// How many commands are drawn.
@@ -29,27 +29,31 @@ struct Queue {
 #[derive(Clone, Copy)]
 struct Drawn {
     kind: u8,
-    byte: usize,
-    count: usize,
+    byte: u8,
+    count: u8,
     rare: u8,
+}
+
+fn byte_at(bytes: &[u8], place: usize) -> u8 {
+    bytes.get(place).copied().unwrap_or(0)
 }
 
 /// The command of a number.
 fn command_of(bytes: &[u8], place: usize) -> Drawn {
     let at = place.wrapping_mul(4);
     Drawn {
-        kind: bytes.get(at).copied().unwrap_or(0) % 16,
-        byte: bytes.get(at.wrapping_add(1)).copied().unwrap_or(0) as usize,
-        count: bytes.get(at.wrapping_add(2)).copied().unwrap_or(0) as usize,
-        rare: bytes.get(at.wrapping_add(3)).copied().unwrap_or(0) % 8,
+        kind: byte_at(bytes, at) % 16,
+        byte: byte_at(bytes, at.wrapping_add(1)),
+        count: byte_at(bytes, at.wrapping_add(2)),
+        rare: byte_at(bytes, at.wrapping_add(3)) % 8,
     }
 }
 
 /// The number that stands for a reply.
-fn told(reply: LocalReply) -> u64 {
+fn told_of(reply: &LocalReply) -> u64 {
     match reply {
         LocalReply::Ok => 1,
-        LocalReply::Item(Item::One(Scalar::Int(byte))) => u64::try_from(byte)
+        LocalReply::Item(Item::One(Scalar::Int(byte))) => u64::try_from(*byte)
             .unwrap_or(0)
             .wrapping_add(2),
         LocalReply::View(_) => 300,
@@ -60,29 +64,71 @@ fn told(reply: LocalReply) -> u64 {
     }
 }
 
+/// The same of what a method answers.
+fn told(reply: Made<LocalReply>) -> Made<u64> {
+    let reply = reply?;
+    Ok(told_of(&reply))
+}
+
 /// So many equal bytes, as a value.
-fn bytes_of(alloc: Global, byte: usize, count: usize) -> Made<Value> {
-    let bytes = vec![in alloc; (byte % 256) as u8; count]?;
+fn bytes_of(alloc: Global, byte: u8, count: usize) -> Made<Value> {
+    let bytes = vec![in alloc; byte; count]?;
     Ok(Value::One(Scalar::Bytes(ByteList::from_vec(bytes))))
 }
 
-/// The first byte is taken out by its value.
-fn remove_first(alloc: Global, object: &mut PyByteArray, other: usize) -> Made<u64> {
-    let byte = match object.borrow_buf().first() {
-        Some(byte) => *byte as usize,
-        None => other,
+fn append(alloc: Global, object: &mut PyByteArray, byte: u8) -> Made<u64> {
+    told(object.append(number(byte as usize), LoanList::new(alloc)))
+}
+
+fn extend(alloc: Global, object: &mut PyByteArray, drawn: Drawn) -> Made<u64> {
+    let bytes = bytes_of(alloc, drawn.byte, drawn.count as usize % 40 + 1)?;
+    told(object.extend(bytes, LoanList::new(alloc)))
+}
+
+fn insert(alloc: Global, object: &mut PyByteArray, byte: u8) -> Made<u64> {
+    told(object.insert(number(0), number(byte as usize), LoanList::new(alloc)))
+}
+
+fn pop_first(alloc: Global, object: &mut PyByteArray) -> Made<u64> {
+    told(object.pop(Some(number(0)), LoanList::new(alloc)))
+}
+
+/// Takes the first bytes away by a slice, from the first on or from the last.
+fn cut(alloc: Global, object: &mut PyByteArray, drawn: Drawn) -> Made<u64> {
+    let count = (drawn.count % 12) as isize;
+    let key = if drawn.kind == 11 {
+        slice(None, Some(count + 1), None)
+    } else {
+        slice(Some(count), None, Some(-1))
     };
-    Ok(told(object.remove(number(byte), LoanList::new(alloc))?))
+    told(object.delitem(key, LoanList::new(alloc)))
+}
+
+/// The first byte is taken out by its value.
+fn remove_first(alloc: Global, object: &mut PyByteArray, other: u8) -> Made<u64> {
+    let byte = object.borrow_buf().first().copied().unwrap_or(other);
+    told(object.remove(number(byte as usize), LoanList::new(alloc)))
 }
 
 /// The bytearray is made anew.
 fn init(alloc: Global, object: &mut PyByteArray, drawn: Drawn) -> Made<u64> {
+    let bytes = bytes_of(alloc, drawn.byte, drawn.count as usize)?;
     let options = ByteInnerNewOptions {
-        source: Some(bytes_of(alloc, drawn.byte, drawn.count)?),
+        source: Some(bytes),
         encoding: None,
         errors: None,
     };
-    Ok(told(object.init(options, LoanList::new(alloc))?))
+    told(object.init(options, LoanList::new(alloc)))
+}
+
+fn set_front(alloc: Global, object: &mut PyByteArray, drawn: Drawn) -> Made<u64> {
+    let bytes = bytes_of(alloc, drawn.byte, drawn.count as usize % 7)?;
+    let key = slice(Some(0), Some((drawn.count % 9) as isize), None);
+    told(object.setitem(key, bytes, LoanList::new(alloc)))
+}
+
+fn delete_first(alloc: Global, object: &mut PyByteArray) -> Made<u64> {
+    told(object.delitem(number(0), LoanList::new(alloc)))
 }
 
 /// A copy of the bytearray.
@@ -91,6 +137,11 @@ fn copy_of(alloc: Global, object: &mut PyByteArray) -> Made<Option<PyByteArray>>
         LocalReply::Fresh(snap) => Ok(Some(PyByteArray::new_ref(alloc, snap.content.into_vec()))),
         _ => Ok(None),
     }
+}
+
+/// A view is released.
+fn exit(alloc: Global, object: &mut PyByteArray, view: usize) -> Made<u64> {
+    told(PyMemoryView::of(view).exit(object.state_mut(), LoanList::new(alloc)))
 }
 
 impl Queue {
@@ -107,19 +158,15 @@ impl Queue {
     /// The view is released, or one is made of a bytearray that has bytes.
     fn view(&mut self, alloc: Global) -> Made<u64> {
         if let Some(view) = self.live {
-            let state = self.object.state_mut();
-            let reply = PyMemoryView::of(view).exit(state, LoanList::new(alloc))?;
             self.live = None;
-            return Ok(told(reply));
+            return exit(alloc, &mut self.object, view);
         }
         if self.object.borrow_buf().is_empty() {
             return Ok(1);
         }
         let reply = self.object.as_buffer(LoanList::new(alloc))?;
-        if let LocalReply::View(view) = &reply {
-            self.live = Some(*view);
-        }
-        Ok(told(reply))
+        self.live = reply.view();
+        Ok(told_of(&reply))
     }
 
     /// A command that is drawn less often.
@@ -128,41 +175,22 @@ impl Queue {
         match drawn.rare {
             0 => init(alloc, object, drawn),
             1 => self.copy(alloc),
-            2 => Ok(told(object.clear(LoanList::new(alloc))?)),
-            3 => {
-                let key = slice(Some(0), Some(drawn.count as i128 % 9), None);
-                let bytes = bytes_of(alloc, drawn.byte, drawn.count % 7)?;
-                Ok(told(object.setitem(key, bytes, LoanList::new(alloc))?))
-            }
-            4 => Ok(told(object.delitem(number(0), LoanList::new(alloc))?)),
-            _ => Ok(told(object.pop(None, LoanList::new(alloc))?)),
+            2 => told(object.clear(LoanList::new(alloc))),
+            3 => set_front(alloc, object, drawn),
+            4 => delete_first(alloc, object),
+            _ => told(object.pop(None, LoanList::new(alloc))),
         }
-    }
-
-    /// Takes the first bytes away by a slice, in the direction of the step.
-    fn cut(&mut self, alloc: Global, drawn: Drawn) -> Made<u64> {
-        let count = drawn.count as i128 % 12;
-        let key = if drawn.kind == 11 {
-            slice(None, Some(count + 1), None)
-        } else {
-            slice(Some(count), None, Some(-1))
-        };
-        Ok(told(self.object.delitem(key, LoanList::new(alloc))?))
     }
 
     /// A command.
     fn carry_out(&mut self, alloc: Global, drawn: Drawn) -> Made<u64> {
         let object = &mut self.object;
-        let byte = number(drawn.byte);
         match drawn.kind {
-            0..=4 => Ok(told(object.append(byte, LoanList::new(alloc))?)),
-            5 => {
-                let bytes = bytes_of(alloc, drawn.byte, drawn.count % 40 + 1)?;
-                Ok(told(object.extend(bytes, LoanList::new(alloc))?))
-            }
-            6 => Ok(told(object.insert(number(0), byte, LoanList::new(alloc))?)),
-            7..=10 => Ok(told(object.pop(Some(number(0)), LoanList::new(alloc))?)),
-            11 | 12 => self.cut(alloc, drawn),
+            0..=4 => append(alloc, object, drawn.byte),
+            5 => extend(alloc, object, drawn),
+            6 => insert(alloc, object, drawn.byte),
+            7..=10 => pop_first(alloc, object),
+            11 | 12 => cut(alloc, object, drawn),
             13 => remove_first(alloc, object, drawn.byte),
             14 => self.view(alloc),
             _ => self.rare(alloc, drawn),
@@ -170,8 +198,13 @@ impl Queue {
     }
 }
 
+/// A number that stands for two numbers.
+fn after(mark: u64, number: u64) -> u64 {
+    mark.wrapping_mul(31).wrapping_add(number)
+}
+
 impl Kernel for DrawnQueue {
-    fn call(&mut self, alloc: Global) -> Made<Answer> {
+    fn call(&mut self, alloc: Global) -> Result<Answer, Halt> {
         let bytes = drawn(alloc, self.seed, COMMANDS * 4)?;
         let mut queue = Queue {
             object: PyByteArray::new_ref(alloc, Vec::new(alloc)),
@@ -179,12 +212,12 @@ impl Kernel for DrawnQueue {
         };
         let mut mark = 0u64;
         for place in 0..COMMANDS {
-            let reply = queue.carry_out(alloc, command_of(bytes.as_slice(), place))?;
-            mark = mark.wrapping_mul(31).wrapping_add(reply);
+            mark = after(
+                mark,
+                queue.carry_out(alloc, command_of(bytes.as_slice(), place))?,
+            );
             let content = mark_of_bytes(queue.object.borrow_buf());
-            mark = mark
-                .wrapping_mul(31)
-                .wrapping_add(u64::try_from(content).unwrap_or(0));
+            mark = after(mark, u64::try_from(content).unwrap_or(0));
         }
         Ok(Answer::Number(mark as i128))
     }

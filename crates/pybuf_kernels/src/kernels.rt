@@ -1,16 +1,14 @@
 //! The kernels by their names.
 
-use crate::codes::Code;
+use crate::codes::{BYTE, INT, LONG, SHORT};
 use crate::drawn_queue::DrawnQueue;
-use crate::items::{AppendPop, Form};
-use crate::making::{MakePlainViews, MakeViews, Making};
-use crate::queues::Queue;
+use crate::making::{MakeViews, Making};
+use crate::queues::{AppendPop, Queue};
 use crate::records::{Packing, Records};
-use crate::rows::{Order, Rows, RowsDoing, RowsViewed};
 use crate::strings::{Call, Method};
-use crate::viewed::Part;
+use crate::viewed::{Given, Order};
 use crate::views::{Doing, Views};
-use crate::worlds::{Beside, Question};
+use crate::worlds::{Beside, Pair};
 use pybuf_measure::{Measured, Plan, Stop, measure};
 use std::time::CpuClock;
 
@@ -18,15 +16,11 @@ use std::time::CpuClock;
 #[derive(Clone, Copy)]
 pub enum Work {
     /// Something is done with views of one object.
-    Views(Doing),
-    /// Something is done with rows of numbers, along which these lie so.
-    Rows(Order, Code, RowsDoing),
-    /// Something is asked of an object, with another beside it.
-    Beside(Question),
-    /// Views are made and released.
-    Make(Making),
-    /// Views are made and released by plain arguments.
-    MakePlainly(Making),
+    Views(Given, Doing),
+    /// Lines are followed in a world of two objects, and the last is carried out again and again.
+    Beside(Pair, [&'static str; 3], &'static str),
+    /// Views are made and released, by plain arguments or not.
+    Make(Making, bool),
     /// Records are read or written.
     Records(Packing),
     /// A bytearray grows and shrinks.
@@ -44,186 +38,240 @@ pub enum Work {
 pub const COPY_KERNELS: [(&str, Work); 38] = [
     (
         "tobytes-contiguous",
-        Work::Views(Doing::ToBytes(Part::Whole)),
+        Work::Views(Given::Numbers(BYTE, 1), Doing::ToBytes),
     ),
     (
         "tobytes-stepped",
-        Work::Views(Doing::ToBytes(Part::EveryOther(Code::Byte))),
+        Work::Views(Given::Numbers(BYTE, 2), Doing::ToBytes),
     ),
     (
         "tobytes-stepped-H",
-        Work::Views(Doing::ToBytes(Part::EveryOther(Code::Short))),
+        Work::Views(Given::Numbers(SHORT, 2), Doing::ToBytes),
     ),
     (
         "tobytes-stepped-i",
-        Work::Views(Doing::ToBytes(Part::EveryOther(Code::Int))),
+        Work::Views(Given::Numbers(INT, 2), Doing::ToBytes),
     ),
     (
         "tobytes-stepped-q",
-        Work::Views(Doing::ToBytes(Part::EveryOther(Code::Long))),
+        Work::Views(Given::Numbers(LONG, 2), Doing::ToBytes),
     ),
     (
         "tobytes-reversed",
-        Work::Views(Doing::ToBytes(Part::Backwards(Code::Byte))),
+        Work::Views(Given::Numbers(BYTE, -1), Doing::ToBytes),
     ),
     (
         "tobytes-reversed-H",
-        Work::Views(Doing::ToBytes(Part::Backwards(Code::Short))),
+        Work::Views(Given::Numbers(SHORT, -1), Doing::ToBytes),
     ),
     (
         "tobytes-reversed-i",
-        Work::Views(Doing::ToBytes(Part::Backwards(Code::Int))),
+        Work::Views(Given::Numbers(INT, -1), Doing::ToBytes),
     ),
     (
         "tobytes-reversed-q",
-        Work::Views(Doing::ToBytes(Part::Backwards(Code::Long))),
+        Work::Views(Given::Numbers(LONG, -1), Doing::ToBytes),
     ),
-    ("tobytes-planes", Work::Views(Doing::ToBytes(Part::Planes))),
+    ("tobytes-planes", Work::Views(Given::Planes, Doing::ToBytes)),
     (
         "tobytes-stepped-rows-B",
-        Work::Rows(Order::EveryOther, Code::Byte, RowsDoing::ToBytes),
+        Work::Views(Given::Rows(Order::EveryOther, BYTE, false), Doing::ToBytes),
     ),
     (
         "tobytes-stepped-rows-H",
-        Work::Rows(Order::EveryOther, Code::Short, RowsDoing::ToBytes),
+        Work::Views(Given::Rows(Order::EveryOther, SHORT, false), Doing::ToBytes),
     ),
     (
         "tobytes-stepped-rows-i",
-        Work::Rows(Order::EveryOther, Code::Int, RowsDoing::ToBytes),
+        Work::Views(Given::Rows(Order::EveryOther, INT, false), Doing::ToBytes),
     ),
     (
         "tobytes-stepped-rows-q",
-        Work::Rows(Order::EveryOther, Code::Long, RowsDoing::ToBytes),
+        Work::Views(Given::Rows(Order::EveryOther, LONG, false), Doing::ToBytes),
     ),
     (
         "tobytes-reversed-rows-B",
-        Work::Rows(Order::Backwards, Code::Byte, RowsDoing::ToBytes),
+        Work::Views(Given::Rows(Order::Backwards, BYTE, false), Doing::ToBytes),
     ),
     (
         "tobytes-reversed-rows-H",
-        Work::Rows(Order::Backwards, Code::Short, RowsDoing::ToBytes),
+        Work::Views(Given::Rows(Order::Backwards, SHORT, false), Doing::ToBytes),
     ),
     (
         "tobytes-reversed-rows-i",
-        Work::Rows(Order::Backwards, Code::Int, RowsDoing::ToBytes),
+        Work::Views(Given::Rows(Order::Backwards, INT, false), Doing::ToBytes),
     ),
     (
         "tobytes-reversed-rows-q",
-        Work::Rows(Order::Backwards, Code::Long, RowsDoing::ToBytes),
+        Work::Views(Given::Rows(Order::Backwards, LONG, false), Doing::ToBytes),
     ),
-    ("set-contiguous", Work::Beside(Question::Set(Part::Whole))),
+    (
+        "set-contiguous",
+        Work::Beside(Pair::Zeros(1), ["", "", ""], "set h1 None:None:1 h3"),
+    ),
     (
         "set-stepped",
-        Work::Beside(Question::Set(Part::EveryOther(Code::Byte))),
+        Work::Beside(
+            Pair::Zeros(2),
+            ["cast h1 'B'", "cast h3 'B'", "get h5 None:None:2"],
+            "set h4 None:None:2 h6",
+        ),
     ),
     (
         "set-stepped-H",
-        Work::Beside(Question::Set(Part::EveryOther(Code::Short))),
+        Work::Beside(
+            Pair::Zeros(2),
+            ["cast h1 'H'", "cast h3 'H'", "get h5 None:None:2"],
+            "set h4 None:None:2 h6",
+        ),
     ),
     (
         "set-stepped-i",
-        Work::Beside(Question::Set(Part::EveryOther(Code::Int))),
+        Work::Beside(
+            Pair::Zeros(2),
+            ["cast h1 'i'", "cast h3 'i'", "get h5 None:None:2"],
+            "set h4 None:None:2 h6",
+        ),
     ),
     (
         "set-stepped-q",
-        Work::Beside(Question::Set(Part::EveryOther(Code::Long))),
+        Work::Beside(
+            Pair::Zeros(2),
+            ["cast h1 'q'", "cast h3 'q'", "get h5 None:None:2"],
+            "set h4 None:None:2 h6",
+        ),
     ),
     (
         "set-reversed",
-        Work::Beside(Question::Set(Part::Backwards(Code::Byte))),
+        Work::Beside(
+            Pair::Zeros(1),
+            ["cast h1 'B'", "cast h3 'B'", "get h5 None:None:-1"],
+            "set h4 None:None:1 h6",
+        ),
     ),
     (
         "set-reversed-H",
-        Work::Beside(Question::Set(Part::Backwards(Code::Short))),
+        Work::Beside(
+            Pair::Zeros(1),
+            ["cast h1 'H'", "cast h3 'H'", "get h5 None:None:-1"],
+            "set h4 None:None:1 h6",
+        ),
     ),
     (
         "set-reversed-i",
-        Work::Beside(Question::Set(Part::Backwards(Code::Int))),
+        Work::Beside(
+            Pair::Zeros(1),
+            ["cast h1 'i'", "cast h3 'i'", "get h5 None:None:-1"],
+            "set h4 None:None:1 h6",
+        ),
     ),
     (
         "set-reversed-q",
-        Work::Beside(Question::Set(Part::Backwards(Code::Long))),
+        Work::Beside(
+            Pair::Zeros(1),
+            ["cast h1 'q'", "cast h3 'q'", "get h5 None:None:-1"],
+            "set h4 None:None:1 h6",
+        ),
     ),
-    ("set-planes", Work::Beside(Question::Set(Part::Planes))),
+    (
+        "set-planes",
+        Work::Beside(
+            Pair::Planes,
+            ["get h4 None:None:2", "", ""],
+            "set h0 0:None:None h5",
+        ),
+    ),
     (
         "set-stepped-rows-B",
-        Work::Rows(Order::EveryOther, Code::Byte, RowsDoing::Set),
+        Work::Views(Given::Rows(Order::EveryOther, BYTE, true), Doing::SetFront),
     ),
     (
         "set-stepped-rows-H",
-        Work::Rows(Order::EveryOther, Code::Short, RowsDoing::Set),
+        Work::Views(Given::Rows(Order::EveryOther, SHORT, true), Doing::SetFront),
     ),
     (
         "set-stepped-rows-i",
-        Work::Rows(Order::EveryOther, Code::Int, RowsDoing::Set),
+        Work::Views(Given::Rows(Order::EveryOther, INT, true), Doing::SetFront),
     ),
     (
         "set-stepped-rows-q",
-        Work::Rows(Order::EveryOther, Code::Long, RowsDoing::Set),
+        Work::Views(Given::Rows(Order::EveryOther, LONG, true), Doing::SetFront),
     ),
     (
         "set-reversed-rows-B",
-        Work::Rows(Order::Backwards, Code::Byte, RowsDoing::Set),
+        Work::Views(Given::Rows(Order::Backwards, BYTE, true), Doing::SetFront),
     ),
     (
         "set-reversed-rows-H",
-        Work::Rows(Order::Backwards, Code::Short, RowsDoing::Set),
+        Work::Views(Given::Rows(Order::Backwards, SHORT, true), Doing::SetFront),
     ),
     (
         "set-reversed-rows-i",
-        Work::Rows(Order::Backwards, Code::Int, RowsDoing::Set),
+        Work::Views(Given::Rows(Order::Backwards, INT, true), Doing::SetFront),
     ),
     (
         "set-reversed-rows-q",
-        Work::Rows(Order::Backwards, Code::Long, RowsDoing::Set),
+        Work::Views(Given::Rows(Order::Backwards, LONG, true), Doing::SetFront),
     ),
-    ("set-overlapping", Work::Views(Doing::Shift)),
-    ("set-itself", Work::Views(Doing::Reverse)),
+    ("set-overlapping", Work::Views(Given::Shifted, Doing::Shift)),
+    (
+        "set-itself",
+        Work::Views(Given::Numbers(BYTE, 1), Doing::Reverse),
+    ),
 ];
 
 /// Kernels of views that are made, of items, of records and of bytearrays that grow and shrink.
 pub const ITEM_KERNELS: [(&str, Work); 28] = [
     (
         "tobytes-columns",
-        Work::Views(Doing::ToBytesInColumnOrder(Code::Byte)),
+        Work::Views(Given::Table(BYTE), Doing::ToBytesInColumnOrder),
     ),
     (
         "tobytes-columns-i",
-        Work::Views(Doing::ToBytesInColumnOrder(Code::Int)),
+        Work::Views(Given::Table(INT), Doing::ToBytesInColumnOrder),
     ),
     (
         "tobytes-columns-q",
-        Work::Views(Doing::ToBytesInColumnOrder(Code::Long)),
+        Work::Views(Given::Table(LONG), Doing::ToBytesInColumnOrder),
     ),
-    ("views", Work::Make(Making::View)),
-    ("slices", Work::Make(Making::Slice)),
-    ("slices-planes", Work::Make(Making::SliceOfPlanes)),
-    ("casts", Work::Make(Making::Cast)),
-    ("get-B", Work::Views(Doing::Get(Form::Byte))),
-    ("get-i", Work::Views(Doing::Get(Form::Number))),
-    ("get-record", Work::Views(Doing::Get(Form::Record))),
-    ("set-B", Work::Views(Doing::Set(Form::Byte, 251))),
-    ("set-i", Work::Views(Doing::Set(Form::Number, 1_000_003))),
-    ("plain-views", Work::MakePlainly(Making::View)),
-    ("plain-slices", Work::MakePlainly(Making::Slice)),
+    ("views", Work::Make(Making::View, false)),
+    ("slices", Work::Make(Making::Slice, false)),
+    ("slices-planes", Work::Make(Making::SliceOfPlanes, false)),
+    ("casts", Work::Make(Making::Cast, false)),
+    ("get-B", Work::Views(Given::Items(BYTE), Doing::Get)),
+    ("get-i", Work::Views(Given::Items(INT), Doing::Get)),
+    ("get-record", Work::Views(Given::Records, Doing::Get)),
+    ("set-B", Work::Views(Given::Items(BYTE), Doing::Set(251))),
+    (
+        "set-i",
+        Work::Views(Given::Items(INT), Doing::Set(1_000_003)),
+    ),
+    ("plain-views", Work::Make(Making::View, true)),
+    ("plain-slices", Work::Make(Making::Slice, true)),
     (
         "plain-slices-planes",
-        Work::MakePlainly(Making::SliceOfPlanes),
+        Work::Make(Making::SliceOfPlanes, true),
     ),
-    ("plain-casts", Work::MakePlainly(Making::Cast)),
-    ("plain-get-B", Work::Views(Doing::GetPlainly(Form::Byte))),
-    ("plain-get-i", Work::Views(Doing::GetPlainly(Form::Number))),
+    ("plain-casts", Work::Make(Making::Cast, true)),
+    (
+        "plain-get-B",
+        Work::Views(Given::Items(BYTE), Doing::GetPlainly),
+    ),
+    (
+        "plain-get-i",
+        Work::Views(Given::Items(INT), Doing::GetPlainly),
+    ),
     (
         "plain-get-record",
-        Work::Views(Doing::GetPlainly(Form::Record)),
+        Work::Views(Given::Records, Doing::GetPlainly),
     ),
     (
         "plain-set-B",
-        Work::Views(Doing::SetPlainly(Form::Byte, 251)),
+        Work::Views(Given::Items(BYTE), Doing::SetPlainly(251)),
     ),
     (
         "plain-set-i",
-        Work::Views(Doing::SetPlainly(Form::Number, 1_000_003)),
+        Work::Views(Given::Items(INT), Doing::SetPlainly(1_000_003)),
     ),
     ("set-record", Work::Records(Packing::Set)),
     ("unpack", Work::Records(Packing::Unpack)),
@@ -236,22 +284,48 @@ pub const ITEM_KERNELS: [(&str, Work); 28] = [
 
 /// Kernels of comparison and of methods of bytes. `z` and `cba` stand nowhere in a drawn text.
 pub const METHOD_KERNELS: [(&str, Work); 23] = [
-    ("compare", Work::Views(Doing::Compare)),
-    ("compare-beside", Work::Beside(Question::Compare)),
-    ("compare-reversed", Work::Beside(Question::CompareReversed)),
-    ("compare-codes", Work::Beside(Question::CompareCodes)),
+    ("compare", Work::Views(Given::Twins, Doing::Compare)),
+    (
+        "compare-beside",
+        Work::Beside(Pair::Texts, ["", "", ""], "compare h1 == h3"),
+    ),
+    (
+        "compare-reversed",
+        Work::Beside(
+            Pair::Texts,
+            ["get h1 None:None:-1", "get h3 None:None:-1", ""],
+            "compare h4 == h5",
+        ),
+    ),
+    (
+        "compare-codes",
+        Work::Beside(
+            Pair::Numbers,
+            ["cast h1 'H'", "cast h3 'i'", ""],
+            "compare h4 == h5",
+        ),
+    ),
     ("find-byte", Work::Call(Method::Find(b"z"))),
     ("find-three", Work::Call(Method::Find(b"cba"))),
     ("find-end", Work::Call(Method::FindEnd)),
-    ("find-view", Work::Beside(Question::Find)),
-    ("contains-byte", Work::Beside(Question::Contains)),
+    (
+        "find-view",
+        Work::Beside(Pair::Texts, ["", "", ""], "call h0 find h3"),
+    ),
+    (
+        "contains-byte",
+        Work::Beside(Pair::Texts, ["", "", ""], "contains h0 122"),
+    ),
     ("count-byte", Work::Call(Method::Count(b"a"))),
     ("count-three", Work::Call(Method::Count(b"abc"))),
     ("split-comma", Work::Call(Method::SplitAtCommas)),
     ("split-blanks", Work::Call(Method::SplitAtBlanks)),
     ("splitlines", Work::Call(Method::SplitLines)),
     ("join", Work::Call(Method::Join)),
-    ("add-view", Work::Beside(Question::Add)),
+    (
+        "add-view",
+        Work::Beside(Pair::Texts, ["", "", ""], "call h0 add h3"),
+    ),
     ("replace-same", Work::Call(Method::Replace(b"xy"))),
     ("replace-longer", Work::Call(Method::Replace(b"wxyz"))),
     ("translate", Work::Call(Method::Translate)),
@@ -269,14 +343,18 @@ pub fn measure_work<R: CpuClock + AllocGlobal>(
 ) -> Result<Measured, Stop> {
     let alloc = rt.alloc();
     match work {
-        Work::Views(doing) => measure(rt, plan, Views::of(alloc, plan, doing)?),
-        Work::Rows(order, code, doing) => {
-            let rows = Rows { order, code };
-            measure(rt, plan, RowsViewed::of(alloc, plan, rows, doing)?)
+        Work::Views(given, doing) => measure(rt, plan, Views::of(alloc, plan, given, doing)?),
+        Work::Beside(pair, lines, line) => {
+            measure(rt, plan, Beside::of(alloc, plan, pair, lines, line)?)
         }
-        Work::Beside(question) => measure(rt, plan, Beside::of(alloc, plan, question)?),
-        Work::Make(making) => measure(rt, plan, MakeViews { making, plan }),
-        Work::MakePlainly(making) => measure(rt, plan, MakePlainViews { making, plan }),
+        Work::Make(making, is_plain) => {
+            let kernel = MakeViews {
+                making,
+                is_plain,
+                plan,
+            };
+            measure(rt, plan, kernel)
+        }
         Work::Records(packing) => measure(rt, plan, Records::of(alloc, plan, packing)?),
         Work::Grow => measure(rt, plan, AppendPop { count: plan.count }),
         Work::Queue(size) => measure(rt, plan, Queue::of(alloc, plan, size)?),

@@ -1,6 +1,8 @@
-//! Values as the methods of objects take them.
+//! Values as the methods of objects take them, and what they reply.
 
-use pybuf_value::{Made, PySlice, Scalar, Text, Value};
+use pybuf_command::LocalReply;
+use pybuf_measure::{Answer, count_of, count_of_values};
+use pybuf_value::{Halt, Item, Made, PySlice, Scalar, Text, Value};
 use std::alloc::Global;
 
 /// A whole number.
@@ -8,30 +10,51 @@ pub fn number(number: usize) -> Value {
     Value::One(Scalar::Int(number as i128))
 }
 
-/// What a handle names.
-pub fn handle(handle: u64) -> Value {
-    Value::One(Scalar::Handle(handle))
-}
-
-/// A part of a slice, `None` where there is none.
-fn part(number: Option<i128>) -> Scalar {
-    match number {
-        Some(number) => Scalar::Int(number),
-        None => Scalar::None,
-    }
+/// What the handle 0 names.
+pub fn lent() -> Value {
+    Value::One(Scalar::Handle(0))
 }
 
 /// The slice `start:stop:step`.
-pub fn slice(start: Option<i128>, stop: Option<i128>, step: Option<i128>) -> Value {
-    Value::Slice(PySlice {
-        start: part(start),
-        stop: part(stop),
-        step: part(step),
-    })
+pub fn slice(start: Option<isize>, stop: Option<isize>, step: Option<isize>) -> Value {
+    Value::Slice(PySlice::new(start, stop, step))
 }
 
 /// A text.
 pub fn text(alloc: Global, text: &str) -> Made<Value> {
     let text = Text::from_str(alloc, text)?;
     Ok(Value::One(Scalar::Text(text)))
+}
+
+/// The answer that a reply is.
+pub fn answer_of(reply: Made<LocalReply>) -> Result<Answer, Halt> {
+    match reply? {
+        LocalReply::Ok => Ok(Answer::Nothing),
+        LocalReply::Bytes(bytes) => Ok(Answer::Bytes(bytes.into_vec())),
+        LocalReply::Truth(truth) => Ok(Answer::Number(truth as i128)),
+        _ => Ok(Answer::Refused),
+    }
+}
+
+/// Whether a reply says that it is done, and nothing else.
+pub fn is_done(reply: Made<LocalReply>) -> Made<bool> {
+    let reply = reply?;
+    Ok(matches!(reply, LocalReply::Ok))
+}
+
+/// What an item counts.
+pub fn count_of_item(item: &Item) -> i128 {
+    match item {
+        Item::One(value) => count_of(value),
+        Item::Many(values) => count_of_values(values.as_slice()),
+    }
+}
+
+/// What the item of a reply counts.
+pub fn count_of_reply(reply: Made<LocalReply>) -> Made<i128> {
+    let reply = reply?;
+    match &reply {
+        LocalReply::Item(item) => Ok(count_of_item(item)),
+        _ => Ok(-1),
+    }
 }

@@ -9,14 +9,11 @@
 mod codes;
 mod data;
 mod drawn_queue;
-mod items;
 mod kernels;
 mod keys;
 mod making;
 mod queues;
 mod records;
-mod replies;
-mod rows;
 mod strings;
 mod viewed;
 mod views;

@@ -1,9 +1,9 @@
 //! Views that are made and released again.
 
-use crate::keys::{slice, text};
-use crate::viewed::{Viewed, view_of};
+use crate::keys::{is_done, slice, text};
+use crate::viewed::Viewed;
 use pybuf_command::{LoanList, LocalReply};
-use pybuf_measure::{Answer, Kernel, PLANE, Plan, drawn};
+use pybuf_measure::{Answer, Kernel, PLANE, Plan};
 use pybuf_memoryobject::PyMemoryView;
 use pybuf_value::{Halt, Made};
 use std::alloc::Global;
@@ -25,62 +25,57 @@ pub enum Making {
 #[derive(Clone, Copy)]
 pub struct MakeViews {
     pub making: Making,
+    /// Whether by plain arguments.
+    pub is_plain: bool,
     pub plan: Plan,
+}
+
+/// The view of a reply. Where it was refused, one that was never given, of which every command is refused.
+fn view_of(reply: Made<LocalReply>) -> Made<PyMemoryView> {
+    let reply = reply?;
+    match &reply {
+        LocalReply::View(view) => Ok(PyMemoryView::of(*view)),
+        _ => Ok(PyMemoryView::of(usize::MAX)),
+    }
+}
+
+fn make_view(alloc: Global, viewed: &mut Viewed) -> Made<PyMemoryView> {
+    view_of(viewed.object.as_buffer(LoanList::new(alloc)))
+}
+
+fn make_slice(alloc: Global, viewed: &mut Viewed) -> Made<PyMemoryView> {
+    let key = slice(Some(1), None, None);
+    let state = viewed.object.state_mut();
+    view_of(viewed.view.getitem(state, key, LoanList::new(alloc)))
+}
+
+fn make_cast(alloc: Global, viewed: &mut Viewed) -> Made<PyMemoryView> {
+    let format = text(alloc, "H")?;
+    let state = viewed.object.state_mut();
+    view_of(viewed.view.cast(state, format, None, LoanList::new(alloc)))
 }
 
 impl Making {
     /// What the views are made of.
-    fn start(self, alloc: Global, seed: u64) -> Made<Viewed> {
-        let mut viewed = Viewed::whole(alloc, drawn(alloc, seed, PLANE)?)?;
+    fn start(self, alloc: Global, plan: Plan) -> Result<Viewed, Halt> {
+        let mut viewed = Viewed::drawn(alloc, plan, PLANE)?;
         if let Making::SliceOfPlanes = self {
-            viewed.cast_to_planes(alloc, PLANE)?;
+            viewed.to_planes(PLANE)?;
         }
         Ok(viewed)
     }
 
-    /// One more view.
-    fn make(self, alloc: Global, viewed: &mut Viewed) -> Made<LocalReply> {
-        let loans = LoanList::new(alloc);
-        match self {
-            Making::View => viewed.object.as_buffer(loans),
-            Making::Slice | Making::SliceOfPlanes => {
-                let key = slice(Some(1), None, None);
-                viewed.view.getitem(viewed.object.state_mut(), key, loans)
-            }
-            Making::Cast => {
-                let format = text(alloc, "H")?;
-                let state = viewed.object.state_mut();
-                viewed.view.cast(state, format, None, loans)
-            }
-        }
-    }
-
     /// One more view, which is released.
-    fn make_and_release(self, alloc: Global, viewed: &mut Viewed) -> Made<()> {
-        let made = view_of(&self.make(alloc, viewed)?);
-        made.exit(viewed.object.state_mut(), LoanList::new(alloc))?;
+    fn make(self, alloc: Global, viewed: &mut Viewed) -> Made<()> {
+        let made = match self {
+            Making::View => make_view(alloc, viewed)?,
+            Making::Slice | Making::SliceOfPlanes => make_slice(alloc, viewed)?,
+            Making::Cast => make_cast(alloc, viewed)?,
+        };
+        is_done(made.exit(viewed.object.state_mut(), LoanList::new(alloc)))?;
         Ok(())
     }
 
-    /// So many views, and how many there were.
-    fn make_all(self, alloc: Global, viewed: &mut Viewed, count: usize) -> Made<Answer> {
-        let before = viewed.object.state().view_count();
-        for _ in 0..count {
-            self.make_and_release(alloc, viewed)?;
-        }
-        let made = viewed.object.state().view_count().saturating_sub(before);
-        Ok(Answer::Number(made as i128))
-    }
-}
-
-/// The same by plain arguments.
-#[derive(Clone, Copy)]
-pub struct MakePlainViews {
-    pub making: Making,
-    pub plan: Plan,
-}
-
-impl Making {
     /// One more view by plain arguments, which is released.
     fn make_plainly(self, viewed: &mut Viewed) -> Result<(), Halt> {
         let state = viewed.object.state_mut();
@@ -91,28 +86,29 @@ impl Making {
         };
         made.try_release(state)
     }
-
-    /// So many views by plain arguments, and how many there were.
-    fn make_all_plainly(self, viewed: &mut Viewed, count: usize) -> Result<Answer, Halt> {
-        let before = viewed.object.state().view_count();
-        for _ in 0..count {
-            self.make_plainly(viewed)?;
-        }
-        let made = viewed.object.state().view_count().saturating_sub(before);
-        Ok(Answer::Number(made as i128))
-    }
 }
 
-impl Kernel for MakePlainViews {
-    fn call(&mut self, alloc: Global) -> Made<Answer> {
-        let mut viewed = self.making.start(alloc, self.plan.seed)?;
-        Answer::of_plain(self.making.make_all_plainly(&mut viewed, self.plan.count))
+impl MakeViews {
+    fn make_all(self, alloc: Global, viewed: &mut Viewed) -> Result<(), Halt> {
+        if self.is_plain {
+            for _ in 0..self.plan.count {
+                self.making.make_plainly(viewed)?;
+            }
+            return Ok(());
+        }
+        for _ in 0..self.plan.count {
+            self.making.make(alloc, viewed)?;
+        }
+        Ok(())
     }
 }
 
 impl Kernel for MakeViews {
-    fn call(&mut self, alloc: Global) -> Made<Answer> {
-        let mut viewed = self.making.start(alloc, self.plan.seed)?;
-        self.making.make_all(alloc, &mut viewed, self.plan.count)
+    fn call(&mut self, alloc: Global) -> Result<Answer, Halt> {
+        let mut viewed = self.making.start(alloc, self.plan)?;
+        let before = viewed.object.state().view_count();
+        self.make_all(alloc, &mut viewed)?;
+        let made = viewed.object.state().view_count().saturating_sub(before);
+        Ok(Answer::Number(made as i128))
     }
 }

@@ -1,16 +1,12 @@
 //! Records by a format of `struct`.
 
-use crate::items::{Form, count_of_values};
-use crate::viewed::Viewed;
+use crate::viewed::{Given, RECORD, Viewed};
 use pybuf_buffer::PyBuffer;
 use pybuf_exporter::ExporterState;
-use pybuf_measure::{Answer, Kernel, Plan, mark_of_bytes};
+use pybuf_measure::{Answer, Kernel, Plan, count_of_values, mark_of_bytes};
 use pybuf_struct::FormatSpec;
-use pybuf_value::{ByteList, Made, Outcome, Scalar, ScalarList, SnapList};
+use pybuf_value::{ByteList, Halt, Made, Outcome, Scalar, ScalarList, SnapList};
 use std::alloc::Global;
-
-/// The number of bytes of a record.
-const RECORD: usize = 16;
 
 /// What is done with each record.
 #[derive(Clone, Copy)]
@@ -26,7 +22,7 @@ pub enum Packing {
 /// So many records in a view, and their format.
 #[derive(Drop)]
 pub struct Records {
-    format: Option<FormatSpec>,
+    format: FormatSpec,
     viewed: Viewed,
     count: usize,
     packing: Packing,
@@ -64,7 +60,7 @@ fn bytes_of<'a>(state: &'a mut ExporterState, buffer: &PyBuffer) -> Option<&'a m
 }
 
 /// Reads each record, and sums up what they count.
-fn unpack_all(alloc: Global, format: &FormatSpec, bytes: &[u8]) -> Made<Answer> {
+fn unpack_all(alloc: Global, format: &FormatSpec, bytes: &[u8]) -> Result<Answer, Halt> {
     let mut sum = 0i128;
     for record in bytes.chunks_exact(RECORD) {
         let Outcome::Done(values) = format.unpack(alloc, record)? else {
@@ -76,7 +72,7 @@ fn unpack_all(alloc: Global, format: &FormatSpec, bytes: &[u8]) -> Made<Answer> 
 }
 
 /// Writes each record.
-fn pack_all(alloc: Global, format: &FormatSpec, bytes: &mut [u8]) -> Made<Answer> {
+fn pack_all(alloc: Global, format: &FormatSpec, bytes: &mut [u8]) -> Result<Answer, Halt> {
     let mut number = 0usize;
     for room in bytes.chunks_exact_mut(RECORD) {
         if !pack(alloc, format, room, number)? {
@@ -114,7 +110,7 @@ fn set_all(
     buffer: &PyBuffer,
     format: &FormatSpec,
     count: usize,
-) -> Made<Answer> {
+) -> Result<Answer, Halt> {
     for number in 0..count {
         if !set(alloc, state, buffer, format, number)? {
             return Ok(Answer::Refused);
@@ -125,25 +121,23 @@ fn set_all(
 
 impl Records {
     /// So many drawn records.
-    pub fn of(alloc: Global, plan: Plan, packing: Packing) -> Made<Records> {
-        let format = match FormatSpec::parse(alloc, b"<4sHHII")? {
-            Outcome::Done(format) => Some(format),
-            Outcome::Refused(_) => None,
-        };
-        Ok(Records {
-            format,
-            viewed: Form::Record.viewed(alloc, plan)?,
-            count: plan.count,
-            packing,
-        })
+    pub fn of(alloc: Global, plan: Plan, packing: Packing) -> Result<Records, Halt> {
+        let viewed = Viewed::of(alloc, plan, Given::Records)?;
+        match FormatSpec::parse(alloc, b"<4sHHII")? {
+            Outcome::Done(format) => Ok(Records {
+                format,
+                viewed,
+                count: plan.count,
+                packing,
+            }),
+            Outcome::Refused(fault) => Err(Halt::Refused(fault)),
+        }
     }
 }
 
 impl Kernel for Records {
-    fn call(&mut self, alloc: Global) -> Made<Answer> {
-        let Some(format) = &self.format else {
-            return Ok(Answer::Refused);
-        };
+    fn call(&mut self, alloc: Global) -> Result<Answer, Halt> {
+        let format = &self.format;
         let buffer = PyBuffer::of(self.viewed.view.number());
         let object = &mut self.viewed.object;
         match self.packing {
@@ -156,7 +150,7 @@ impl Kernel for Records {
         }
     }
 
-    fn written(&self, _alloc: Global) -> Made<i128> {
+    fn written(&self, _alloc: Global) -> Result<i128, Halt> {
         Ok(mark_of_bytes(self.viewed.object.borrow_buf()))
     }
 }

@@ -8,7 +8,7 @@ use pybuf_bytes::{
     SplitLinesArgs,
 };
 use pybuf_measure::{Answer, Kernel, Plan, drawn};
-use pybuf_value::{ByteList, ByteLists, Made, Outcome, Scalar, SnapList, Value};
+use pybuf_value::{ByteList, ByteLists, Halt, Made, Outcome, Scalar, SnapList, Value};
 use std::alloc::Global;
 
 /// A method, and what it is called with.
@@ -33,22 +33,16 @@ pub enum Method {
     FromHex,
 }
 
-/// A method with all that it is called with beside the bytes.
-#[derive(Drop)]
-enum Ready {
-    Bare(Method),
-    Find(PyBytesInner),
-    Count(PyBytesInner),
-    Join(PyBytesInner, ByteLists),
-    Replace(PyBytesInner, PyBytesInner),
-    Translate(ByteInnerTranslateOptions),
-}
-
-/// A method of a string of bytes.
+/// A method of a string of bytes, with a needle, what takes its place, and the parts between commas, where it is called
+/// with these.
 #[derive(Drop)]
 pub struct Call {
+    method: Method,
     text: PyBytesInner,
-    method: Ready,
+    needle: PyBytesInner,
+    to: PyBytesInner,
+    parts: ByteLists,
+    table: ByteInnerTranslateOptions,
 }
 
 /// A string of these bytes.
@@ -73,35 +67,41 @@ fn first_place(bytes: &[u8], needle: &[u8]) -> Option<usize>
 }
 
 /// The place of a needle; -1 where it stands nowhere.
-fn find(alloc: Global, text: &PyBytesInner, needle: &PyBytesInner) -> Made<Answer> {
+fn find(alloc: Global, text: &PyBytesInner, needle: &PyBytesInner) -> Result<Answer, Halt> {
     match text.find(alloc, everywhere(alloc, needle)?, first_place)? {
         Outcome::Done(Some(place)) => Ok(Answer::Number(place as i128)),
         Outcome::Done(None) => Ok(Answer::Number(-1)),
-        Outcome::Refused(_) => Ok(Answer::Refused),
+        Outcome::Refused(fault) => Err(Halt::Refused(fault)),
     }
 }
 
 /// The number of a needle's matches.
-fn count(alloc: Global, text: &PyBytesInner, needle: &PyBytesInner) -> Made<Answer> {
+fn count(alloc: Global, text: &PyBytesInner, needle: &PyBytesInner) -> Result<Answer, Halt> {
     match text.count(alloc, everywhere(alloc, needle)?)? {
         Outcome::Done(number) => Ok(Answer::Number(number as i128)),
-        Outcome::Refused(_) => Ok(Answer::Refused),
+        Outcome::Refused(fault) => Err(Halt::Refused(fault)),
     }
 }
 
-/// The parts between commas, or between blanks.
-fn split(alloc: Global, text: &PyBytesInner, sep: Option<PyBytesInner>) -> Made<Answer> {
+/// The parts between separators, or between blanks.
+fn split(alloc: Global, text: &PyBytesInner, sep: Option<PyBytesInner>) -> Result<ByteLists, Halt> {
     match text.split(alloc, SplitArgs { sep, maxsplit: -1 })? {
-        Outcome::Done(parts) => Ok(Answer::Parts(parts)),
-        Outcome::Refused(_) => Ok(Answer::Refused),
+        Outcome::Done(parts) => Ok(parts),
+        Outcome::Refused(fault) => Err(Halt::Refused(fault)),
     }
+}
+
+/// The parts between commas.
+fn split_at_commas(alloc: Global, text: &PyBytesInner) -> Result<ByteLists, Halt> {
+    let comma = inner(alloc, b",")?;
+    split(alloc, text, Some(comma))
 }
 
 /// The digits.
-fn hex(alloc: Global, text: &PyBytesInner) -> Made<Answer> {
+fn hex(alloc: Global, text: &PyBytesInner) -> Result<Vec<u8>, Halt> {
     match text.hex(alloc, None, None)? {
-        Outcome::Done(digits) => Ok(Answer::Bytes(digits.into_string().into_bytes())),
-        Outcome::Refused(_) => Ok(Answer::Refused),
+        Outcome::Done(digits) => Ok(digits.into_string().into_bytes()),
+        Outcome::Refused(fault) => Err(Halt::Refused(fault)),
     }
 }
 
@@ -117,98 +117,106 @@ fn table(alloc: Global) -> Made<ByteInnerTranslateOptions> {
     })
 }
 
-/// The last 1,000 bytes.
-fn end_of(alloc: Global, text: &PyBytesInner) -> Made<PyBytesInner> {
-    let start = text.len().saturating_sub(1_000);
-    inner(alloc, text.as_bytes().get(start..).unwrap_or(b""))
-}
-
-/// The parts between commas; none after a refusal.
-fn parts_of(alloc: Global, text: &PyBytesInner) -> Made<ByteLists> {
-    match split(alloc, text, Some(inner(alloc, b",")?))? {
-        Answer::Parts(parts) => Ok(parts),
-        _ => Ok(ByteLists::new(alloc)),
-    }
-}
-
-/// The digits of drawn bytes; none after a refusal.
-fn drawn_digits(alloc: Global, plan: Plan) -> Made<Vec<u8>> {
+/// The digits of drawn bytes.
+fn drawn_digits(alloc: Global, plan: Plan) -> Result<Vec<u8>, Halt> {
     let bytes = PyBytesInner::from(drawn(alloc, plan.seed, plan.size)?);
-    match hex(alloc, &bytes)? {
-        Answer::Bytes(digits) => Ok(digits),
-        _ => Ok(Vec::new(alloc)),
-    }
+    hex(alloc, &bytes)
 }
 
 /// The bytes that a method is called on: a drawn text, drawn bytes, their digits, or bytes between blanks.
-fn bytes_for(alloc: Global, plan: Plan, method: Method) -> Made<Vec<u8>> {
+fn bytes_for(alloc: Global, plan: Plan, method: Method) -> Result<Vec<u8>, Halt> {
     match method {
-        Method::Strip => padded(alloc, plan.size),
-        Method::Hex => drawn(alloc, plan.seed, plan.size),
+        Method::Strip => Ok(padded(alloc, plan.size)?),
+        Method::Hex => Ok(drawn(alloc, plan.seed, plan.size)?),
         Method::FromHex => drawn_digits(alloc, plan),
-        _ => drawn_text(alloc, plan.seed, plan.size),
+        _ => Ok(drawn_text(alloc, plan.seed, plan.size)?),
     }
 }
 
-impl Ready {
-    /// A method with what it is called with beside a text.
-    fn of(alloc: Global, method: Method, text: &PyBytesInner) -> Made<Ready> {
-        match method {
-            Method::Find(needle) => Ok(Ready::Find(inner(alloc, needle)?)),
-            Method::FindEnd => Ok(Ready::Find(end_of(alloc, text)?)),
-            Method::Count(needle) => Ok(Ready::Count(inner(alloc, needle)?)),
-            Method::Join => {
-                let between = inner(alloc, b", ")?;
-                Ok(Ready::Join(between, parts_of(alloc, text)?))
-            }
-            Method::Replace(to) => {
-                let from = inner(alloc, b"ab")?;
-                Ok(Ready::Replace(from, inner(alloc, to)?))
-            }
-            Method::Translate => Ok(Ready::Translate(table(alloc)?)),
-            bare => Ok(Ready::Bare(bare)),
-        }
+/// What a method searches for in a text.
+fn needle_for<'a>(method: Method, text: &'a [u8]) -> &'a [u8] {
+    match method {
+        Method::Find(needle) | Method::Count(needle) => needle,
+        Method::FindEnd => text.get(text.len().saturating_sub(1_000)..).unwrap_or(b""),
+        Method::Join => b", ",
+        _ => b"ab",
+    }
+}
+
+/// What stands in place of a match.
+fn replacement_for(method: Method) -> &'static [u8] {
+    match method {
+        Method::Replace(to) => to,
+        _ => b"",
+    }
+}
+
+/// The parts that a method joins.
+fn parts_for(alloc: Global, text: &PyBytesInner, method: Method) -> Result<ByteLists, Halt> {
+    match method {
+        Method::Join => split_at_commas(alloc, text),
+        _ => Ok(ByteLists::new(alloc)),
     }
 }
 
 impl Call {
     /// A method, on what it is called on.
-    pub fn of(alloc: Global, plan: Plan, method: Method) -> Made<Call> {
+    pub fn of(alloc: Global, plan: Plan, method: Method) -> Result<Call, Halt> {
         let text = PyBytesInner::from(bytes_for(alloc, plan, method)?);
-        let method = Ready::of(alloc, method, &text)?;
-        Ok(Call { text, method })
+        let needle = inner(alloc, needle_for(method, text.as_bytes()))?;
+        let to = inner(alloc, replacement_for(method))?;
+        let parts = parts_for(alloc, &text, method)?;
+        let table = table(alloc)?;
+        Ok(Call {
+            method,
+            text,
+            needle,
+            to,
+            parts,
+            table,
+        })
     }
 }
 
-/// Calls a method on the bytes alone. Those that are called with more are no such methods.
-fn call_bare(alloc: Global, method: Method, text: &PyBytesInner) -> Made<Answer> {
-    match method {
-        Method::SplitAtCommas => split(alloc, text, Some(inner(alloc, b",")?)),
-        Method::SplitAtBlanks => split(alloc, text, None),
-        Method::SplitLines => {
-            let lines = text.splitlines(alloc, SplitLinesArgs { keepends: false })?;
-            Ok(Answer::Parts(lines))
-        }
-        Method::Upper => Ok(Answer::Bytes(text.upper(alloc)?)),
-        Method::Strip => Ok(Answer::Bytes(text.strip(alloc, None)?)),
-        Method::Hex => hex(alloc, text),
-        Method::FromHex => Answer::of_bytes(PyBytesInner::fromhex(alloc, text.as_bytes())),
-        _ => Ok(Answer::Refused),
-    }
+fn split_answer(parts: Result<ByteLists, Halt>) -> Result<Answer, Halt> {
+    Ok(Answer::Parts(parts?))
+}
+
+fn split_lines(alloc: Global, text: &PyBytesInner) -> Result<Answer, Halt> {
+    let lines = text.splitlines(alloc, SplitLinesArgs { keepends: false })?;
+    Ok(Answer::Parts(lines))
+}
+
+fn hex_answer(alloc: Global, text: &PyBytesInner) -> Result<Answer, Halt> {
+    let digits = hex(alloc, text)?;
+    Ok(Answer::Bytes(digits))
+}
+
+fn made(bytes: Made<Vec<u8>>) -> Result<Answer, Halt> {
+    let bytes = bytes?;
+    Ok(Answer::Bytes(bytes))
 }
 
 impl Kernel for Call {
-    fn call(&mut self, alloc: Global) -> Made<Answer> {
+    fn call(&mut self, alloc: Global) -> Result<Answer, Halt> {
         let text = &self.text;
-        match &self.method {
-            Ready::Bare(bare) => call_bare(alloc, *bare, text),
-            Ready::Find(needle) => find(alloc, text, needle),
-            Ready::Count(needle) => count(alloc, text, needle),
-            Ready::Join(between, parts) => Answer::of_bytes(between.join(alloc, parts)),
-            Ready::Replace(from, to) => Answer::of_bytes(text.replace(alloc, from, to, None)),
-            Ready::Translate(options) => {
-                Answer::of_bytes(text.translate(alloc, options, &SnapList::new(alloc)))
+        match self.method {
+            Method::Find(_) | Method::FindEnd => find(alloc, text, &self.needle),
+            Method::Count(_) => count(alloc, text, &self.needle),
+            Method::Join => Answer::of_bytes(self.needle.join(alloc, &self.parts)),
+            Method::Replace(_) => {
+                Answer::of_bytes(text.replace(alloc, &self.needle, &self.to, None))
             }
+            Method::Translate => {
+                Answer::of_bytes(text.translate(alloc, &self.table, &SnapList::new(alloc)))
+            }
+            Method::SplitAtCommas => split_answer(split_at_commas(alloc, text)),
+            Method::SplitAtBlanks => split_answer(split(alloc, text, None)),
+            Method::SplitLines => split_lines(alloc, text),
+            Method::Upper => made(text.upper(alloc)),
+            Method::Strip => made(text.strip(alloc, None)),
+            Method::Hex => hex_answer(alloc, text),
+            Method::FromHex => Answer::of_bytes(PyBytesInner::fromhex(alloc, text.as_bytes())),
         }
     }
 }

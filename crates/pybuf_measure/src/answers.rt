@@ -1,6 +1,6 @@
 //! What a kernel answers, and its check sum.
 
-use pybuf_value::{ByteList, ByteLists, Halt, Made, NoMemory, NumberList, Outcome, Tried};
+use pybuf_value::{ByteList, ByteLists, Halt, NumberList, Outcome, Scalar, Tried};
 
 /// What a call of a kernel answers. `Refused` is no answer of a kernel that works as it should.
 #[derive(Drop)]
@@ -44,7 +44,7 @@ fn mark_of_parts(parts: &[ByteList]) -> i128 {
 }
 
 /// The mark of numbers: the first once, the second twice, and so on.
-pub fn mark_of_numbers(numbers: &[i128]) -> i128 {
+fn mark_of_numbers(numbers: &[i128]) -> i128 {
     let mut sum = 0i128;
     let mut weight = 0i128;
     for number in numbers {
@@ -54,21 +54,38 @@ pub fn mark_of_numbers(numbers: &[i128]) -> i128 {
     sum
 }
 
+/// What a value counts: a number itself, bytes their sum.
+pub fn count_of(value: &Scalar) -> i128 {
+    match value {
+        Scalar::Int(number) => *number,
+        Scalar::Bytes(bytes) => {
+            let mut sum = 0u64;
+            for byte in bytes.as_slice() {
+                sum = sum.wrapping_add(*byte as u64);
+            }
+            sum as i128
+        }
+        _ => -1,
+    }
+}
+
+/// What the values of a record count: the first once, the second twice, and so on.
+pub fn count_of_values(values: &[Scalar]) -> i128 {
+    let mut sum = 0i128;
+    let mut weight = 0i128;
+    for value in values {
+        weight = weight.wrapping_add(1);
+        sum = sum.wrapping_add(count_of(value).wrapping_mul(weight));
+    }
+    sum
+}
+
 impl Answer {
-    /// The bytes that a call gives, or its refusal.
-    pub fn of_bytes(answer: Tried<Vec<u8>>) -> Made<Answer> {
+    /// The bytes that a call gives.
+    pub fn of_bytes(answer: Tried<Vec<u8>>) -> Result<Answer, Halt> {
         match answer? {
             Outcome::Done(bytes) => Ok(Answer::Bytes(bytes)),
-            Outcome::Refused(_) => Ok(Answer::Refused),
-        }
-    }
-
-    /// The answer of calls by plain arguments, which may be refused.
-    pub fn of_plain(answer: Result<Answer, Halt>) -> Made<Answer> {
-        match answer {
-            Ok(answer) => Ok(answer),
-            Err(Halt::Refused(_)) => Ok(Answer::Refused),
-            Err(Halt::NoMemory) => Err(NoMemory),
+            Outcome::Refused(fault) => Err(Halt::Refused(fault)),
         }
     }
 

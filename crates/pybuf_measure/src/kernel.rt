@@ -2,7 +2,7 @@
 
 use crate::answers::Answer;
 use crate::plan::Plan;
-use pybuf_value::{Made, NoMemory};
+use pybuf_value::Halt;
 use std::alloc::Global;
 use std::io;
 use std::time::{CpuClock, Duration};
@@ -10,24 +10,24 @@ use std::time::{CpuClock, Duration};
 /// Something that is called again and again, with what it is called on.
 pub trait Kernel {
     /// One call.
-    fn call(&mut self, alloc: Global) -> Made<Answer>;
+    fn call(&mut self, alloc: Global) -> Result<Answer, Halt>;
 
     /// The check sum of what the calls wrote, made once the time was taken; 0 where they write nothing.
-    fn written(&self, _alloc: Global) -> Made<i128> {
+    fn written(&self, _alloc: Global) -> Result<i128, Halt> {
         Ok(0)
     }
 }
 
 /// Why a run stops.
-#[derive(Debug, Drop)]
+#[derive(Drop)]
 pub enum Stop {
-    NoMemory(NoMemory),
+    Halt(Halt),
     Device(io::Error),
 }
 
-impl From<NoMemory> for Stop {
-    fn from(fault: NoMemory) -> Stop {
-        Stop::NoMemory(fault)
+impl From<Halt> for Stop {
+    fn from(halt: Halt) -> Stop {
+        Stop::Halt(halt)
     }
 }
 
@@ -44,13 +44,17 @@ pub struct Measured {
     pub nanoseconds: u128,
 }
 
-/// Calls a kernel so often, and gives the last answer; `first` where there is no call.
-fn call_all<K: Kernel>(alloc: Global, kernel: &mut K, calls: u64, first: Answer) -> Made<Answer> {
-    let mut answer = first;
+/// Calls a kernel so often, and keeps the last answer.
+fn call_all<K: Kernel>(
+    alloc: Global,
+    kernel: &mut K,
+    calls: u64,
+    answer: &mut Answer,
+) -> Result<(), Halt> {
     for _ in 0..calls {
-        answer = kernel.call(alloc)?;
+        *answer = kernel.call(alloc)?;
     }
-    Ok(answer)
+    Ok(())
 }
 
 /// The processor time so far; none where it isn't asked for.
@@ -62,6 +66,19 @@ fn time_now<R: CpuClock>(rt: &R, plan: Plan) -> io::Result<Duration> {
     }
 }
 
+/// Calls a kernel as often as the plan says, and tells the nanoseconds that all calls took.
+fn time_calls<R: CpuClock + AllocGlobal, K: Kernel>(
+    rt: &R,
+    plan: Plan,
+    kernel: &mut K,
+    answer: &mut Answer,
+) -> Result<u128, Stop> {
+    let start = time_now(rt, plan)?;
+    call_all(rt.alloc(), kernel, plan.calls, answer)?;
+    let end = time_now(rt, plan)?;
+    Ok(end.saturating_sub(start).as_nanos())
+}
+
 /// Calls a kernel once before the clock is read, and then as often as the plan says.
 pub fn measure<R: CpuClock + AllocGlobal, K: Kernel + Drop>(
     rt: &R,
@@ -69,13 +86,13 @@ pub fn measure<R: CpuClock + AllocGlobal, K: Kernel + Drop>(
     mut kernel: K,
 ) -> Result<Measured, Stop> {
     let alloc = rt.alloc();
-    let first = kernel.call(alloc)?;
-    let start = time_now(rt, plan)?;
-    let last = call_all(alloc, &mut kernel, plan.calls, first)?;
-    let end = time_now(rt, plan)?;
+    let mut answer = kernel.call(alloc)?;
+    let nanoseconds = time_calls(rt, plan, &mut kernel, &mut answer)?;
+    let mark = answer.mark();
+    drop(answer);
     let written = kernel.written(alloc)?;
     Ok(Measured {
-        mark: last.mark().wrapping_add(written),
-        nanoseconds: end.saturating_sub(start).as_nanos(),
+        mark: mark.wrapping_add(written),
+        nanoseconds,
     })
 }

@@ -8,7 +8,7 @@ mod kernel;
 mod plan;
 mod telling;
 
-pub use answers::{Answer, mark_of_bytes, mark_of_numbers};
+pub use answers::{Answer, count_of, count_of_values, mark_of_bytes};
 pub use data::drawn;
 pub use kernel::{Kernel, Measured, Stop, measure};
 pub use plan::{PLANE, Plan, name_of, plan_of, words_of};

@@ -2,6 +2,7 @@
 
 use crate::kernel::{Measured, Stop};
 use crate::plan::Plan;
+use pybuf_value::Halt;
 use std::io;
 use std::process::ExitCode;
 
@@ -24,7 +25,8 @@ pub fn tell<R: Print>(rt: &R, plan: Plan, name: &str, measured: Measured) -> io:
 pub fn status_of(run: Result<(), Stop>) -> ExitCode {
     match run {
         Ok(()) => ExitCode::from(0),
-        Err(Stop::NoMemory(_)) => ExitCode::from(3),
+        Err(Stop::Halt(Halt::Refused(_))) => ExitCode::from(2),
+        Err(Stop::Halt(Halt::NoMemory)) => ExitCode::from(3),
         Err(Stop::Device(_)) => ExitCode::from(5),
     }
 }
