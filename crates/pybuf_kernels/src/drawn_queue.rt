@@ -1,9 +1,11 @@
 //! Commands that are drawn, on a bytearray that is used as a queue. What they reply, and the bytes in between, are
 //! what Python's own `bytearray` does (`bench/kernels.py`).
 
+use crate::answers::{Answer, mark_of_bytes};
+use crate::data::drawn;
 use crate::keys::{number, slice};
+use crate::measuring::Kernel;
 use pybuf_command::{ByteInnerNewOptions, LoanList, LocalReply};
-use pybuf_measure::{Answer, Kernel, drawn, mark_of_bytes};
 use pybuf_memoryobject::PyMemoryView;
 use pybuf_object::PyByteArray;
 use pybuf_value::{ByteList, Fault, Halt, Item, Made, Scalar, Value};

@@ -1,15 +1,21 @@
 //! The kernels by their names.
 
+use crate::arrays::{Whole, WholeArray};
+use crate::axes::{CopiedView, Form};
 use crate::codes::{BYTE, INT, LONG, SHORT};
 use crate::drawn_queue::DrawnQueue;
 use crate::making::{MakeViews, Making};
+use crate::measuring::{Measured, Stop, measure};
+use crate::numbers::{Each, EachNumber};
+use crate::plan::Plan;
 use crate::queues::{AppendPop, Queue};
 use crate::records::{Packing, Records};
 use crate::strings::{Call, Method};
+use crate::tables::{Asked, Table};
 use crate::viewed::{Given, Order};
 use crate::views::{Doing, Views};
 use crate::worlds::{Beside, Pair};
-use pybuf_measure::{Measured, Plan, Stop, measure};
+use pybuf_array::ArrayCode;
 use std::time::CpuClock;
 
 /// What a kernel does.
@@ -31,6 +37,14 @@ pub enum Work {
     DrawnQueue,
     /// A method of a string of bytes is called.
     Call(Method),
+    /// Numbers of an array of `i` are added, read or written, one by one.
+    Each(Each),
+    /// All numbers of an array of a code are read, written or turned round at once.
+    Whole(Whole, ArrayCode),
+    /// Records of a table are asked for.
+    Table(Asked),
+    /// A view in several dimensions is copied out.
+    CopiedView(Form),
 }
 
 /// Kernels of bytes that views give or are assigned. With those below in the order in which they are measured; each table is
@@ -335,6 +349,49 @@ pub const METHOD_KERNELS: [(&str, Work); 23] = [
     ("fromhex", Work::Call(Method::FromHex)),
 ];
 
+/// Kernels of typed arrays, of tables of records, and of views in several dimensions.
+pub const OTHER_KERNELS: [(&str, Work); 21] = [
+    ("array-append", Work::Each(Each::Append)),
+    ("array-get", Work::Each(Each::Get)),
+    ("array-set", Work::Each(Each::Set)),
+    ("array-plain-append", Work::Each(Each::PlainAppend)),
+    ("array-plain-get", Work::Each(Each::PlainGet)),
+    ("array-plain-set", Work::Each(Each::PlainSet)),
+    (
+        "array-frombytes",
+        Work::Whole(Whole::FromBytes, ArrayCode::Int),
+    ),
+    ("array-tobytes", Work::Whole(Whole::ToBytes, ArrayCode::Int)),
+    (
+        "array-tolist-H",
+        Work::Whole(Whole::ToList, ArrayCode::UShort),
+    ),
+    ("array-tolist-i", Work::Whole(Whole::ToList, ArrayCode::Int)),
+    (
+        "array-tolist-q",
+        Work::Whole(Whole::ToList, ArrayCode::LongLong),
+    ),
+    (
+        "array-byteswap-H",
+        Work::Whole(Whole::ByteSwap, ArrayCode::UShort),
+    ),
+    (
+        "array-byteswap-i",
+        Work::Whole(Whole::ByteSwap, ArrayCode::Int),
+    ),
+    (
+        "array-byteswap-q",
+        Work::Whole(Whole::ByteSwap, ArrayCode::LongLong),
+    ),
+    ("table-iter-unpack", Work::Table(Asked::All)),
+    ("table-select", Work::Table(Asked::InOrder)),
+    ("table-select-equal", Work::Table(Asked::Equal)),
+    ("nd-flipped", Work::CopiedView(Form::Flipped)),
+    ("nd-transposed", Work::CopiedView(Form::Transposed)),
+    ("nd-inner", Work::CopiedView(Form::Inner)),
+    ("nd-permuted", Work::CopiedView(Form::Permuted)),
+];
+
 /// Measures a kernel.
 pub fn measure_work<R: CpuClock + AllocGlobal>(
     rt: &R,
@@ -360,5 +417,9 @@ pub fn measure_work<R: CpuClock + AllocGlobal>(
         Work::Queue(size) => measure(rt, plan, Queue::of(alloc, plan, size)?),
         Work::DrawnQueue => measure(rt, plan, DrawnQueue { seed: plan.seed }),
         Work::Call(method) => measure(rt, plan, Call::of(alloc, plan, method)?),
+        Work::Each(each) => measure(rt, plan, EachNumber::of(alloc, plan, each)?),
+        Work::Whole(whole, code) => measure(rt, plan, WholeArray::of(alloc, plan, whole, code)?),
+        Work::Table(asked) => measure(rt, plan, Table::of(alloc, plan, asked)?),
+        Work::CopiedView(form) => measure(rt, plan, CopiedView::of(alloc, plan, form)?),
     }
 }

@@ -1,7 +1,7 @@
 //! Values as the methods of objects take them, and what they reply.
 
+use crate::answers::{Answer, count_of, count_of_values};
 use pybuf_command::LocalReply;
-use pybuf_measure::{Answer, count_of, count_of_values};
 use pybuf_value::{Halt, Item, Made, PySlice, Scalar, Text, Value};
 use std::alloc::Global;
 

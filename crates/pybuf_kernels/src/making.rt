@@ -1,9 +1,11 @@
 //! Views that are made and released again.
 
+use crate::answers::Answer;
 use crate::keys::{is_done, slice, text};
+use crate::measuring::Kernel;
+use crate::plan::{PLANE, Plan};
 use crate::viewed::Viewed;
 use pybuf_command::{LoanList, LocalReply};
-use pybuf_measure::{Answer, Kernel, PLANE, Plan};
 use pybuf_memoryobject::PyMemoryView;
 use pybuf_value::{Halt, Made};
 use std::alloc::Global;

@@ -1,8 +1,11 @@
 //! A bytearray that grows and shrinks.
 
+use crate::answers::{Answer, mark_of_bytes};
+use crate::data::drawn;
 use crate::keys::{count_of_reply, is_done, number};
+use crate::measuring::Kernel;
+use crate::plan::Plan;
 use pybuf_command::LoanList;
-use pybuf_measure::{Answer, Kernel, Plan, drawn, mark_of_bytes};
 use pybuf_object::PyByteArray;
 use pybuf_value::{Halt, Made};
 use std::alloc::Global;

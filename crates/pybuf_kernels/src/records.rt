@@ -1,9 +1,11 @@
 //! Records by a format of `struct`.
 
+use crate::answers::{Answer, count_of_values, mark_of_bytes};
+use crate::measuring::Kernel;
+use crate::plan::Plan;
 use crate::viewed::{Given, RECORD, Viewed};
 use pybuf_buffer::PyBuffer;
 use pybuf_exporter::ExporterState;
-use pybuf_measure::{Answer, Kernel, Plan, count_of_values, mark_of_bytes};
 use pybuf_struct::FormatSpec;
 use pybuf_value::{ByteList, Halt, Made, Outcome, Scalar, ScalarList, SnapList};
 use std::alloc::Global;

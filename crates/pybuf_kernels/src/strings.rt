@@ -1,13 +1,15 @@
 //! Methods of strings of bytes.
 ghost use Rattle.std.specs.Prelude.{◌≤◌, length, IfSome};
 
-use crate::data::{drawn_text, padded};
+use crate::answers::Answer;
+use crate::data::{drawn, drawn_text, padded};
+use crate::measuring::Kernel;
+use crate::plan::Plan;
 use bstr::ByteSlice;
 use pybuf_bytes::{
     ByteInnerFindOptions, ByteInnerTranslateOptions, Needle, PyBytesInner, SplitArgs,
     SplitLinesArgs,
 };
-use pybuf_measure::{Answer, Kernel, Plan, drawn};
 use pybuf_value::{ByteList, ByteLists, Halt, Made, Outcome, Scalar, SnapList, Value};
 use std::alloc::Global;
 

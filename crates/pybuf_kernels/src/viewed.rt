@@ -1,9 +1,10 @@
 //! Objects with views that kernels work on.
 
 use crate::codes::Code;
+use crate::data::drawn;
+use crate::plan::{PLANE, Plan};
 use pybuf_buffer::PyBuffer;
 use pybuf_desc::BufferDescriptor;
-use pybuf_measure::{PLANE, Plan, drawn};
 use pybuf_memoryobject::PyMemoryView;
 use pybuf_object::PyByteArray;
 use pybuf_value::{DimList, Halt, Made, Outcome, PySlice, Text};

@@ -2,10 +2,12 @@
 ghost use Rattle.std.specs.Prelude.{IfOk};
 ghost use Rattle.pybuf_state.specs.Fits.{LoansFit};
 
+use crate::answers::{Answer, mark_of_bytes};
 use crate::keys::{answer_of, count_of_item, count_of_reply, is_done, lent, number, slice, text};
+use crate::measuring::Kernel;
+use crate::plan::Plan;
 use crate::viewed::{Given, Viewed};
 use pybuf_command::{Loan, LoanList};
-use pybuf_measure::{Answer, Kernel, Plan, mark_of_bytes};
 use pybuf_memoryobject::PyMemoryView;
 use pybuf_value::{CompareOp, Halt, Made};
 use std::alloc::Global;

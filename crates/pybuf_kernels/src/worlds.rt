@@ -1,9 +1,11 @@
 //! Commands of a world, by which one object's bytes are read beside another's.
 
-use crate::data::{drawn_text, widened};
+use crate::answers::{Answer, mark_of_bytes};
+use crate::data::{drawn, drawn_text, widened};
+use crate::measuring::Kernel;
+use crate::plan::{PLANE, Plan};
 use pybuf_command::{ByteInnerNewOptions, Command, ExporterKind};
 use pybuf_line::Unread;
-use pybuf_measure::{Answer, Kernel, PLANE, Plan, drawn, mark_of_bytes};
 use pybuf_value::{ByteList, Fault, Halt, Item, Made, Scalar, Value};
 use pybuf_world::{Reply, World};
 use std::alloc::Global;

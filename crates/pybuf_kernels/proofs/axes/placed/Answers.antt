@@ -1,7 +1,7 @@
 use Rattle.std.proofs.Common.{rules}
 use Rattle.pybuf_desc.specs.Valid.{IsValid, IsPlaced}
-use Rattle.pybuf_nd_kernels.proofs.Placing.{lies_inside}
-use Rattle.pybuf_nd_kernels.proofs.views.placed.Goals as goal
+use Rattle.pybuf_kernels.proofs.Placing.{lies_inside}
+use Rattle.pybuf_kernels.proofs.axes.placed.Goals as goal
 
 pub returns : goal.returns
 returns c =

@@ -2,12 +2,15 @@
 ghost use Rattle.std.specs.Prelude.{IfSome};
 ghost use Rattle.pybuf_desc.specs.Layouts.{LiesInside};
 
+use crate::answers::Answer;
+use crate::data::drawn;
+use crate::measuring::Kernel;
+use crate::plan::{PLANE, Plan};
 use pybuf_desc::BufferDescriptor;
 use pybuf_index::SaturatedSlice;
-use pybuf_measure::{Answer, Kernel, PLANE, Plan, drawn};
 use pybuf_memoryview::{KeptLayout, content_of};
 use pybuf_nd::{merged, permute, slice_all, transpose};
-use pybuf_value::{DimList, Fault, Made, Outcome, PySlice, Scalar, Text, Tried};
+use pybuf_value::{DimList, Fault, Halt, Made, Outcome, PySlice, Scalar, Text, Tried};
 use std::alloc::Global;
 
 /// The number of bytes of a row of an array of rows.
@@ -172,7 +175,7 @@ fn view_of(alloc: Global, len: usize, form: Form) -> Made<Option<KeptLayout>> {
 }
 
 /// The bytes of a view's items, copied out by the fewest dimensions. Refused where an item lies outside of the bytes.
-fn copied(alloc: Global, bytes: &[u8], view: &KeptLayout) -> Made<Answer> {
+fn copied(alloc: Global, bytes: &[u8], view: &KeptLayout) -> Result<Answer, Halt> {
     let (desc, start) = view.placed();
     let made = merged(alloc, desc)?;
     match placed(made, start, bytes.len()) {
@@ -186,7 +189,7 @@ fn copied(alloc: Global, bytes: &[u8], view: &KeptLayout) -> Made<Answer> {
 
 impl CopiedView {
     /// A view of drawn bytes.
-    pub fn of(alloc: Global, plan: Plan, form: Form) -> Made<CopiedView> {
+    pub fn of(alloc: Global, plan: Plan, form: Form) -> Result<CopiedView, Halt> {
         let bytes = drawn(alloc, plan.seed, plan.size)?;
         let view = view_of(alloc, bytes.len(), form)?;
         Ok(CopiedView { bytes, view })
@@ -194,7 +197,7 @@ impl CopiedView {
 }
 
 impl Kernel for CopiedView {
-    fn call(&mut self, alloc: Global) -> Made<Answer> {
+    fn call(&mut self, alloc: Global) -> Result<Answer, Halt> {
         match &self.view {
             Some(view) => copied(alloc, self.bytes.as_slice(), view),
             None => Ok(Answer::Refused),

@@ -1,8 +1,11 @@
 //! All numbers of an array at once.
 
+use crate::answers::{Answer, mark_of_bytes};
+use crate::data::drawn;
+use crate::measuring::Kernel;
+use crate::plan::Plan;
 use pybuf_array::{ArrayCode, ArrayOp, ArrayReply, PyArray};
-use pybuf_measure::{Answer, Kernel, Plan, drawn, mark_of_bytes};
-use pybuf_value::{ByteList, Made};
+use pybuf_value::{ByteList, Halt, Made};
 use std::alloc::Global;
 
 /// What is done with all numbers.
@@ -36,7 +39,7 @@ pub fn array_of(alloc: Global, code: ArrayCode, bytes: Vec<u8>) -> Made<PyArray>
 }
 
 /// The mark of an array's bytes.
-pub fn mark_of_array(array: &PyArray) -> Made<i128> {
+pub fn mark_of_array(array: &PyArray) -> Result<i128, Halt> {
     let bytes = array.tobytes()?;
     Ok(mark_of_bytes(bytes.as_slice()))
 }
@@ -54,7 +57,12 @@ fn answer_of(reply: ArrayReply) -> Answer {
 
 impl WholeArray {
     /// An array of drawn bytes, or of none to which these are added.
-    pub fn of(alloc: Global, plan: Plan, whole: Whole, code: ArrayCode) -> Made<WholeArray> {
+    pub fn of(
+        alloc: Global,
+        plan: Plan,
+        whole: Whole,
+        code: ArrayCode,
+    ) -> Result<WholeArray, Halt> {
         let bytes = drawn(alloc, plan.seed, plan.size)?;
         if let Whole::FromBytes = whole {
             let bytes = ByteList::from_vec(bytes);
@@ -80,7 +88,7 @@ impl WholeArray {
 }
 
 impl Kernel for WholeArray {
-    fn call(&mut self, alloc: Global) -> Made<Answer> {
+    fn call(&mut self, alloc: Global) -> Result<Answer, Halt> {
         if self.is_new {
             self.array = PyArray::new(alloc, self.code);
         }
@@ -88,7 +96,7 @@ impl Kernel for WholeArray {
         Ok(answer_of(reply))
     }
 
-    fn written(&self, _alloc: Global) -> Made<i128> {
+    fn written(&self, _alloc: Global) -> Result<i128, Halt> {
         mark_of_array(&self.array)
     }
 }

@@ -1,10 +1,11 @@
-//! A kernel, and how it is measured.
+//! A kernel, how it is measured, what is printed of it, and how the program ends.
 
 use crate::answers::Answer;
 use crate::plan::Plan;
 use pybuf_value::Halt;
 use std::alloc::Global;
 use std::io;
+use std::process::ExitCode;
 use std::time::{CpuClock, Duration};
 
 /// Something that is called again and again, with what it is called on.
@@ -95,4 +96,29 @@ pub fn measure<R: CpuClock + AllocGlobal, K: Kernel + Drop>(
         mark: mark.wrapping_add(written),
         nanoseconds,
     })
+}
+
+/// Whether a word names a kernel: by its name, or as one of all.
+pub fn asks_for(word: &str, name: &str) -> bool {
+    word == "all" || word == name
+}
+
+/// Prints what a kernel says, and how long it took where that is asked for.
+pub fn tell<R: Print>(rt: &R, plan: Plan, name: &str, measured: Measured) -> io::Result<()> {
+    let Measured { mark, nanoseconds } = measured;
+    if plan.is_timed {
+        println!(rt; "{name} {mark} {nanoseconds}")
+    } else {
+        println!(rt; "{name} {mark}")
+    }
+}
+
+/// How a run ends.
+pub fn status_of(run: Result<(), Stop>) -> ExitCode {
+    match run {
+        Ok(()) => ExitCode::from(0),
+        Err(Stop::Halt(Halt::Refused(_))) => ExitCode::from(2),
+        Err(Stop::Halt(Halt::NoMemory)) => ExitCode::from(3),
+        Err(Stop::Device(_)) => ExitCode::from(5),
+    }
 }

@@ -1,8 +1,11 @@
 //! The numbers of an array one by one.
 
+use crate::answers::Answer;
 use crate::arrays::{array_of, mark_of_array};
+use crate::data::drawn;
+use crate::measuring::Kernel;
+use crate::plan::Plan;
 use pybuf_array::{ArrayCode, ArrayOp, ArrayReply, PyArray};
-use pybuf_measure::{Answer, Kernel, Plan, drawn};
 use pybuf_value::{Halt, Made};
 use std::alloc::Global;
 
@@ -45,7 +48,7 @@ fn number_at(array: &mut PyArray, place: usize) -> Made<i128> {
 }
 
 /// Adds so many numbers.
-fn append_all(array: &mut PyArray, count: usize) -> Made<Answer> {
+fn append_all(array: &mut PyArray, count: usize) -> Result<Answer, Halt> {
     for place in 0..count {
         let value = place as i128;
         if !is_done(array, ArrayOp::Append { value })? {
@@ -56,7 +59,7 @@ fn append_all(array: &mut PyArray, count: usize) -> Made<Answer> {
 }
 
 /// Reads so many numbers, and adds them up.
-fn get_all(array: &mut PyArray, count: usize) -> Made<Answer> {
+fn get_all(array: &mut PyArray, count: usize) -> Result<Answer, Halt> {
     let mut sum = 0i128;
     for place in 0..count {
         sum = sum.wrapping_add(number_at(array, place)?);
@@ -65,7 +68,7 @@ fn get_all(array: &mut PyArray, count: usize) -> Made<Answer> {
 }
 
 /// Writes so many numbers.
-fn set_all(array: &mut PyArray, count: usize) -> Made<Answer> {
+fn set_all(array: &mut PyArray, count: usize) -> Result<Answer, Halt> {
     for place in 0..count {
         let number = place as i128;
         let op = ArrayOp::Set {
@@ -106,7 +109,7 @@ fn set_all_plainly(array: &mut PyArray, count: usize) -> Result<Answer, Halt> {
 
 impl EachNumber {
     /// An array of so many drawn numbers, or of none where they are added.
-    pub fn of(alloc: Global, plan: Plan, each: Each) -> Made<EachNumber> {
+    pub fn of(alloc: Global, plan: Plan, each: Each) -> Result<EachNumber, Halt> {
         let size = match each {
             Each::Append | Each::PlainAppend => 0,
             _ => plan.count.saturating_mul(4),
@@ -121,7 +124,7 @@ impl EachNumber {
 }
 
 impl Kernel for EachNumber {
-    fn call(&mut self, alloc: Global) -> Made<Answer> {
+    fn call(&mut self, alloc: Global) -> Result<Answer, Halt> {
         if let Each::Append | Each::PlainAppend = self.each {
             self.array = PyArray::new(alloc, ArrayCode::Int);
         }
@@ -130,13 +133,13 @@ impl Kernel for EachNumber {
             Each::Append => append_all(array, self.count),
             Each::Get => get_all(array, self.count),
             Each::Set => set_all(array, self.count),
-            Each::PlainAppend => Answer::of_plain(append_all_plainly(array, self.count)),
-            Each::PlainGet => Answer::of_plain(get_all_plainly(array, self.count)),
-            Each::PlainSet => Answer::of_plain(set_all_plainly(array, self.count)),
+            Each::PlainAppend => append_all_plainly(array, self.count),
+            Each::PlainGet => get_all_plainly(array, self.count),
+            Each::PlainSet => set_all_plainly(array, self.count),
         }
     }
 
-    fn written(&self, _alloc: Global) -> Made<i128> {
+    fn written(&self, _alloc: Global) -> Result<i128, Halt> {
         mark_of_array(&self.array)
     }
 }
