@@ -309,11 +309,9 @@ class Replays:
 def run_unproved(chosen, is_program):
     """Runs the cases of folders without proof: what came of each, by folders."""
     is_told = lambda case: case.written is None or has_open_order(case)
-    if is_program:
-        ran = unproved.tried([case for folder in chosen for case in folder.cases], is_told)
-        came = [[ran.pop(0) for _ in folder.cases] for folder in chosen]
-    else:
-        came = unproved.served([folder.cases for folder in chosen], is_told)
+    cases = [case for folder in chosen for case in folder.cases]
+    ran = unproved.tried(cases, is_told) if is_program else unproved.served(cases, is_told)
+    came = [[ran.pop(0) for _ in folder.cases] for folder in chosen]
     replays = Replays()
     check_sessions.run = replays.run
     for folder, answers in zip(chosen, came):
@@ -323,8 +321,7 @@ def run_unproved(chosen, is_program):
                 # (what is kept is replayed though what is written differs)
                 difference(None, case, None)
     if replays.cases:
-        lists = [[*replays.cases.values()]]
-        replays.came = dict(zip(replays.cases, unproved.served(lists, is_told)[0]))
+        replays.came = dict(zip(replays.cases, unproved.served([*replays.cases.values()], is_told)))
     return came
 
 
@@ -335,8 +332,12 @@ def told(folder, results):
     print(f"{folder.name}: {len(folder.cases)} ran, {len(differing)} differ", flush=True)
     for fault in faults:
         print(f"    {fault}")
+    texts = {}
     for case, found in differing:
-        print(f"    {case.name}: {'; '.join(found)}")
+        texts.setdefault("; ".join(found), []).append(case.name)
+    for text, names in texts.items():
+        others = f" and {len(names) - 1} others" if len(names) > 1 else ""
+        print(f"    {names[0]}{others}: {text}")
     return len(folder.cases) - len(differing), len(differing) + len(faults)
 
 
@@ -348,7 +349,13 @@ def main_unproved(named):
     left = [case for folder in chosen for case in folder.cases if case.address_space is not None]
     chosen = [folder._replace(cases=[case for case in folder.cases if case.address_space is None]) for folder in chosen]
     passed = failed = 0
-    for folder, came in zip(chosen, run_unproved(chosen, bool(named))):
+    try:
+        ran = run_unproved(chosen, bool(named))
+    except unproved.NotRun as fault:
+        print(f"no case was run, as nothing was built: {fault}")
+        print(f"0 passed, {sum(len(folder.cases) for folder in chosen)} failed")
+        return 1
+    for folder, came in zip(chosen, ran):
         more = told(folder, [differences(None, case, ran) for case, ran in zip(folder.cases, came)])
         passed, failed = passed + more[0], failed + more[1]
     for case in left:

@@ -19,11 +19,16 @@ ROOT = pathlib.Path(__file__).resolve().parent.parent
 NAME = "cases_at_once"
 SECONDS = "300"
 TRY = ["rt", "try", "--steps", "0", "--seconds", SECONDS]
-# How many bytes of what was written are told, where it is not what has to be written.
-TOLD = 65_536
+# How many bytes of cases one run of the program serves, or one case: what ends one run ends no other.
+BATCH = 262_144
 
 # What came of a case. `written` is None where it is known to be what has to be written; `fault` says why nothing came.
 Ran = collections.namedtuple("Ran", "status written complaint fault", defaults=(None,))
+
+
+class NotRun(Exception):
+    """Nothing was built, so no case was run."""
+
 
 MAIN = """fn main(rt: HostRuntime) -> ExitCode {
     match words(&rt) {
@@ -196,7 +201,7 @@ def copy_sources(to):
 
 
 def try_cases(folder, files):
-    """What `rt try --cases` gives for a folder: by the names of cases what each wrote, its complaint and its line; and all that it said."""
+    """What `rt try --cases` gives for a folder: by the names of cases what each wrote, its complaint and its line."""
     ran = subprocess.run([*TRY, "--cases", files], cwd=folder, stdin=subprocess.DEVNULL, stdout=subprocess.PIPE, stderr=subprocess.PIPE)
     written = {}
     for part in re.split(rb"^== (?=\w+\n)", ran.stdout, flags=re.MULTILINE)[1:]:
@@ -210,7 +215,9 @@ def try_cases(folder, files):
             complaint = []
         else:
             complaint.append(line)
-    return told, ran.stderr.decode(errors="replace")
+    if not told:
+        raise NotRun(ran.stderr.decode(errors="replace").strip())
+    return told
 
 
 def tried(cases, is_told):
@@ -223,13 +230,13 @@ def tried(cases, is_told):
                 path.with_suffix(".args").write_bytes(b"".join(word + b"\n" for word in case.words))
             if not is_told(case):
                 path.with_suffix(".stdout").write_bytes(case.written)
-        told, said = try_cases(ROOT / "crates/pybuf", room)
+        told = try_cases(ROOT / "crates/pybuf", room)
     ran = []
     for number, case in enumerate(cases):
         written, complaint, line = told.get(f"case{number}", (None, "", ""))
         status = re.match(r"run=ended status=(\d+) ", line)
         if not status:
-            ran.append(Ran(None, None, b"", f"it did not end: {(complaint + line or said)[-600:]}"))
+            ran.append(Ran(None, None, b"", f"it did not end: {(complaint + line)[-600:]}"))
         elif " output=expected " in line:
             ran.append(Ran(int(status[1]), None, complaint.encode()))
         else:
@@ -247,26 +254,43 @@ def frame(case, is_told):
     return len(case.words).to_bytes(4, "big") + b"".join(map(piece, case.words)) + piece(case.given) + wanted
 
 
-def served(batches, is_told):
-    """What `serve` does of each case of each of these lists."""
-    ran = []
+def batches_of(cases, is_told):
+    """The cases in lists, with the bytes that the program reads of each list."""
+    lists, last = [], BATCH
+    for case in cases:
+        text = frame(case, is_told(case))
+        if last + len(text) > BATCH:
+            lists.append(([], []))
+            last = 0
+        lists[-1][0].append(case)
+        lists[-1][1].append(text)
+        last += len(text)
+    return [(cases, b"".join(texts)) for cases, texts in lists]
+
+
+def answer_of(line):
+    """What came of a case, by its line."""
+    status, complaint, written = line.split(b" ")
+    complaint = bytes.fromhex(complaint[1:].decode())
+    return Ran(int(status), None if written == b"same" else bytes.fromhex(written[1:].decode()), b"pybuf: " + complaint + b"\n" if complaint else b"")
+
+
+def served(cases, is_told):
+    """What `serve` does of each case."""
+    batches, ran = batches_of(cases, is_told), []
     with tempfile.TemporaryDirectory(prefix="cases-") as room:
         room = pathlib.Path(room)
         copy_sources(room)
         (room / "frames").mkdir()
-        for number, cases in enumerate(batches):
-            (room / f"frames/batch{number}").write_bytes(b"".join(frame(case, is_told(case)) for case in cases))
-        told, said = try_cases(room / "crates" / NAME, room / "frames")
-    for number, cases in enumerate(batches):
+        for number, (_, text) in enumerate(batches):
+            (room / f"frames/batch{number}").write_bytes(text)
+        told = try_cases(room / "crates" / NAME, room / "frames")
+    for number, (together, _) in enumerate(batches):
         written, complaint, line = told.get(f"batch{number}", (b"", "", ""))
         lines = (written or b"").split(b"\n")[:-1]
-        if not line.startswith("run=ended status=0 ") or len(lines) != len(cases):
-            fault = f"the cases of this folder did not end: {(complaint + line or said)[-600:]}"
-            ran.append([Ran(None, None, b"", fault)] * len(cases))
-            continue
-        ran.append([])
-        for answer in lines:
-            status, words, text = answer.split(b" ")
-            words = bytes.fromhex(words[1:].decode())
-            ran[-1].append(Ran(int(status), None if text == b"same" else bytes.fromhex(text[1:].decode()), b"pybuf: " + words + b"\n" if words else b""))
+        if line.startswith("run=ended status=0 ") and len(lines) == len(together):
+            ran += map(answer_of, lines)
+        else:
+            fault = f"it, or one of the {len(together)} cases that were run with it, did not end: {(complaint + line)[-600:]}"
+            ran += [Ran(None, None, b"", fault)] * len(together)
     return ran
