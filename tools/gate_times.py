@@ -21,6 +21,10 @@ import sys
 import threading
 import time
 
+sys.dont_write_bytecode = True
+
+from processes import read, started_from_here
+
 ROOT = pathlib.Path(__file__).resolve().parent.parent
 TICKS = os.sysconf("SC_CLK_TCK")
 LONGEST = 12
@@ -34,25 +38,11 @@ WHOLE = "every proof and must-fail edit was done in this run"
 PART = re.compile(r"done in this run: (.*?); the others are kept")
 
 
-def read(path):
-    """The text of a file of a process, none where the process has ended."""
-    try:
-        return pathlib.Path(path).read_bytes().decode(errors="replace")
-    except OSError:
-        return ""
-
-
 def processes():
     """Of each process of the prover that was started from here its parent's number, its words, its folder and its time."""
-    stats = {}
-    for number in filter(str.isdigit, os.listdir("/proc")):
-        stat = read(f"/proc/{number}/stat").rpartition(")")[2].split()
-        if len(stat) > 14:
-            stats[number] = stat
     found = {}
-    for number, stat in stats.items():
-        words = read(f"/proc/{number}/cmdline").split("\0")
-        if words[0].endswith("/rattle") and is_from(stats, number, str(os.getpid())):
+    for number, (words, stat) in started_from_here().items():
+        if words[0].endswith("/rattle"):
             try:
                 folder = os.readlink(f"/proc/{number}/cwd")
             except OSError:
@@ -61,13 +51,6 @@ def processes():
             own, ended = (sum(map(int, stat[at : at + 2])) / TICKS for at in (11, 13))
             found[number] = (stat[1], words, folder, own, ended)
     return found
-
-
-def is_from(stats, number, top):
-    """Whether a process stands below another."""
-    while number in stats and number != top:
-        number = stats[number][1]
-    return number == top
 
 
 def edited(crate, edit):
