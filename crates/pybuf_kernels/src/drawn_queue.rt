@@ -67,6 +67,7 @@ fn told_of(reply: &LocalReply) -> u64 {
 }
 
 /// The same of what a method answers.
+#[inline(always)]
 fn told(reply: Made<LocalReply>) -> Made<u64> {
     let reply = reply?;
     Ok(told_of(&reply))

@@ -27,6 +27,7 @@ pub fn text(alloc: Global, text: &str) -> Made<Value> {
 }
 
 /// The answer that a reply is.
+#[inline(always)]
 pub fn answer_of(reply: Made<LocalReply>) -> Result<Answer, Halt> {
     match reply? {
         LocalReply::Ok => Ok(Answer::Nothing),
@@ -37,6 +38,7 @@ pub fn answer_of(reply: Made<LocalReply>) -> Result<Answer, Halt> {
 }
 
 /// Whether a reply says that it is done, and nothing else.
+#[inline(always)]
 pub fn is_done(reply: Made<LocalReply>) -> Made<bool> {
     let reply = reply?;
     Ok(matches!(reply, LocalReply::Ok))
@@ -51,6 +53,7 @@ pub fn count_of_item(item: &Item) -> i128 {
 }
 
 /// What the item of a reply counts.
+#[inline(always)]
 pub fn count_of_reply(reply: Made<LocalReply>) -> Made<i128> {
     let reply = reply?;
     match &reply {

@@ -33,6 +33,7 @@ pub struct MakeViews {
 }
 
 /// The view of a reply. Where it was refused, one that was never given, of which every command is refused.
+#[inline(always)]
 fn view_of(reply: Made<LocalReply>) -> Made<PyMemoryView> {
     let reply = reply?;
     match &reply {
