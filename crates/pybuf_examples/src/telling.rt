@@ -6,7 +6,7 @@ use pybuf_view::{Fault, Halt, Item, LocalReply, Made, Reply, Scalar};
 use std::process::Abort;
 
 /// What is told by a reply that has no parts, as the examples compare it.
-#[derive(Clone, Copy, Debug, PartialEq, Eq)]
+#[derive(Clone, Copy, PartialEq)]
 pub(crate) enum Told {
     Done,
     Handle(u64),
@@ -34,7 +34,7 @@ fn told_by(reply: &LocalReply) -> Told {
 }
 
 /// What an answer tells, and None for want of memory.
-fn told(answer: Made<LocalReply>) -> Option<Told> {
+fn said(answer: Made<LocalReply>) -> Option<Told> {
     match answer {
         Ok(reply) => {
             let told = told_by(&reply);
@@ -47,8 +47,8 @@ fn told(answer: Made<LocalReply>) -> Option<Told> {
 
 /// The answer tells this.
 pub(crate) fn tells<R: Abort>(rt: &R, answer: Made<LocalReply>, wanted: Told) {
-    let told = told(answer);
-    assert_eq!(*rt; told, Some(wanted));
+    let told = said(answer);
+    assert!(*rt; told == Some(wanted));
 }
 
 fn heard_by(reply: &Reply) -> Told {
@@ -74,7 +74,7 @@ fn heard(answer: Made<Reply>) -> Option<Told> {
 /// The answer of a world tells this.
 pub(crate) fn hears<R: Abort>(rt: &R, answer: Made<Reply>, wanted: Told) {
     let heard = heard(answer);
-    assert_eq!(*rt; heard, Some(wanted));
+    assert!(*rt; heard == Some(wanted));
 }
 
 fn bytes_in(reply: &LocalReply) -> &[u8] {
@@ -99,7 +99,7 @@ fn has(answer: Made<LocalReply>, wanted: &[u8]) -> bool {
 /// The answer has these bytes, or is this text.
 pub(crate) fn gives<R: Abort>(rt: &R, answer: Made<LocalReply>, wanted: &[u8]) {
     let has = has(answer, wanted);
-    assert!(*rt; has, "the answer isn't {wanted:?}");
+    assert!(*rt; has);
 }
 
 fn is_number(item: &Item, wanted: i128) -> bool {
@@ -136,16 +136,16 @@ fn has_numbers(answer: Made<LocalReply>, wanted: &[i128]) -> bool {
 /// The answer is a list of these numbers.
 pub(crate) fn lists<R: Abort>(rt: &R, answer: Made<LocalReply>, wanted: &[i128]) {
     let has = has_numbers(answer, wanted);
-    assert!(*rt; has, "the answer isn't {wanted:?}");
+    assert!(*rt; has);
 }
 
 /// The call is refused so.
 pub(crate) fn refuses<T: Drop, R: Abort>(rt: &R, answer: Result<T, Halt>, wanted: Fault) {
     let halt = answer.err();
-    assert_eq!(*rt; halt, Some(Halt::Refused(wanted)));
+    assert!(*rt; halt == Some(Halt::Refused(wanted)));
 }
 
 /// The bytes are these.
 pub(crate) fn same<R: Abort>(rt: &R, bytes: &[u8], wanted: &[u8]) {
-    assert_eq!(*rt; bytes, wanted);
+    assert!(*rt; bytes == wanted);
 }
