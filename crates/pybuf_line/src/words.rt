@@ -1,6 +1,6 @@
 //! The first words of lines, and the names that stand on them. The tests for what many lines have, which are the
 //! first words, the methods and the names of values, are written out; the other names are compared by `is_word`.
-ghost use Rattle.std.specs.Prelude.{◌≡◌};
+ghost use Rattle.std.specs.Prelude.{◌≡◌, drop};
 ghost use Rattle.std.specs.Str.{bytes_eq};
 ghost use Rattle.pybuf_line.specs.Words.{named_in, written_word, words_of_length, word_in, kind_in, operator_in, property_in};
 
@@ -114,6 +114,13 @@ fn word_of_four(text: &[u8]) -> Option<Word>
     if text == "next".as_bytes() {
         return Some(Word::Next);
     }
+    further_word_of_four(text)
+}
+
+/// The same, of the later words of four letters.
+fn further_word_of_four(text: &[u8]) -> Option<Word>
+    ensures { result ≡ named_in written_word (drop 8 (words_of_length 4)) text.now }
+{
     if text == "hint".as_bytes() {
         return Some(Word::LengthHint);
     }
