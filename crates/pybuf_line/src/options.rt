@@ -29,23 +29,40 @@ pub fn options_of(alloc: Global, words: &[&[u8]]) -> Result<ByteInnerNewOptions,
             })
         }
         [source, encoding] => {
-            let source = Some(value(alloc, source)?);
-            let encoding = Some(value(alloc, encoding)?);
-            Ok(ByteInnerNewOptions {
-                source,
-                encoding,
-                errors: None,
-            })
+            // What is dropped is handed over: a value that ends with its scope would spell out all its variants.
+            let source = value(alloc, source)?;
+            match value(alloc, encoding) {
+                Ok(encoding) => Ok(ByteInnerNewOptions {
+                    source: Some(source),
+                    encoding: Some(encoding),
+                    errors: None,
+                }),
+                Err(unread) => {
+                    drop(source);
+                    Err(unread)
+                }
+            }
         }
         [source, encoding, errors] => {
-            let source = Some(value(alloc, source)?);
-            let encoding = Some(value(alloc, encoding)?);
-            let errors = Some(value(alloc, errors)?);
-            Ok(ByteInnerNewOptions {
-                source,
-                encoding,
-                errors,
-            })
+            let source = value(alloc, source)?;
+            match value(alloc, encoding) {
+                Ok(encoding) => match value(alloc, errors) {
+                    Ok(errors) => Ok(ByteInnerNewOptions {
+                        source: Some(source),
+                        encoding: Some(encoding),
+                        errors: Some(errors),
+                    }),
+                    Err(unread) => {
+                        drop(encoding);
+                        drop(source);
+                        Err(unread)
+                    }
+                },
+                Err(unread) => {
+                    drop(source);
+                    Err(unread)
+                }
+            }
         }
         _ => Err(Unread::NoCommand),
     }

@@ -84,7 +84,11 @@ fn of_one(alloc: Global, subject: u64, word: Word, first: &[u8]) -> Result<Comma
         Word::Remove => Verb::Remove { value: first },
         Word::IAdd => Verb::IAdd { value: first },
         Word::IMul => Verb::IMul { count: first },
-        _ => return Err(Unread::NoCommand),
+        _ => {
+            // handed over: a value that ends with its scope would spell out all its variants
+            drop(first);
+            return Err(Unread::NoCommand);
+        }
     };
     Ok(Command::Do { subject, verb })
 }
@@ -101,7 +105,14 @@ fn of_two(
     ensures { Reads result (asked subject (verb_by_values handle_in word (first.now ∷ second.now ∷ []))) }
 {
     let first = value(alloc, first)?;
-    let second = value(alloc, second)?;
+    // What is dropped is handed over, as in `of_one`.
+    let second = match value(alloc, second) {
+        Ok(second) => second,
+        Err(unread) => {
+            drop(first);
+            return Err(unread);
+        }
+    };
     let verb = match word {
         Word::Set => Verb::Set {
             key: first,
@@ -127,7 +138,11 @@ fn of_two(
             index: first,
             value: second,
         },
-        _ => return Err(Unread::NoCommand),
+        _ => {
+            drop(second);
+            drop(first);
+            return Err(Unread::NoCommand);
+        }
     };
     Ok(Command::Do { subject, verb })
 }
@@ -216,6 +231,23 @@ fn call_of(alloc: Global, subject: u64, arguments: &[&[u8]]) -> Result<Command, 
     }
 }
 
+/// A verb of values, by its word and the words of these.
+fn by_values(
+    alloc: Global,
+    subject: u64,
+    word: Word,
+    arguments: &[&[u8]],
+) -> Result<Command, Unread>
+    ensures { Reads result (asked subject (verb_by_values handle_in word (map (λ word. word.now) arguments.now))) }
+{
+    match arguments {
+        [] => alone(subject, word),
+        [first] => of_one(alloc, subject, word, first),
+        [first, second] => of_two(alloc, subject, word, first, second),
+        _ => no_command(),
+    }
+}
+
 /// What is asked of a handle, by a word and its arguments.
 pub fn verb_of(
     alloc: Global,
@@ -230,11 +262,6 @@ pub fn verb_of(
         Word::Compare => comparison_of(alloc, subject, arguments),
         Word::Init => init_of(alloc, subject, arguments),
         Word::Call => call_of(alloc, subject, arguments),
-        _ => match arguments {
-            [] => alone(subject, word),
-            [first] => of_one(alloc, subject, word, first),
-            [first, second] => of_two(alloc, subject, word, first, second),
-            _ => no_command(),
-        },
+        _ => by_values(alloc, subject, word, arguments),
     }
 }
