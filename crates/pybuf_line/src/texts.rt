@@ -1,7 +1,8 @@
 //! The texts of replies.
-ghost use Rattle.std.specs.Prelude.{◌≡◌, ◌++◌, List, ℕ, OnOk, decimal};
+ghost use Rattle.std.specs.Prelude.{◌≡◌, ◌++◌, List, ℕ, OnOk, codes, decimal};
 ghost use Rattle.std.specs.Fmt.{signed_decimal};
 ghost use Rattle.std.specs.List.{flat_map};
+ghost use Rattle.pybuf_value.specs.Names.{python_name_of};
 ghost use Rattle.pybuf_value.specs.Spelling.{bytes_text, handle_text, scalar_text, next_part_text, tuple_text, item_text, list_text};
 ghost use Rattle.pybuf_command.specs.Shown.{nested_text, reply_text};
 ghost use Rattle.pybuf_line.specs.Replies.{reply_line, bad_line_text};
@@ -9,8 +10,8 @@ ghost use Rattle.pybuf_line.specs.Replies.{reply_line, bad_line_text};
 use itoa::Buffer;
 use pybuf_command::Reply;
 use pybuf_value::{
-    ByteList, Item, Made, Scalar, push_bytes, push_handle, push_number, push_quoted, push_scalar,
-    push_truth,
+    ByteList, Fault, Item, Made, Scalar, push_bytes, push_handle, push_number, push_quoted,
+    push_scalar, push_truth,
 };
 
 /// Adds a decimal number.
@@ -19,6 +20,14 @@ pub fn push_decimal(out: &mut Vec<u8>, number: u64) -> Made<()>
 {
     let mut buffer = Buffer::new();
     out.extend_from_slice(buffer.format(number).as_bytes())?;
+    Ok(())
+}
+
+/// Adds a text as it is.
+fn push_text(out: &mut Vec<u8>, text: &[u8]) -> Made<()>
+    ensures { OnOk result (out.new.items ≡ out.old.items ++ text.now) }
+{
+    out.extend_from_slice(text)?;
     Ok(())
 }
 
@@ -139,34 +148,43 @@ pub fn push_nested(out: &mut Vec<u8>, shape: &[usize], items: &[Item]) -> Made<(
     Ok(())
 }
 
-/// Adds a reply.
+/// Adds the handles of an exporter and of its view.
+fn push_pair(out: &mut Vec<u8>, exporter: u64, view: u64) -> Made<()>
+    ensures { OnOk result (out.new.items ≡ out.old.items ++ handle_text exporter ++ codes " " ++ handle_text view) }
+{
+    push_handle(out, exporter)?;
+    out.push(b' ')?;
+    push_handle(out, view)
+}
+
+/// Adds a refusal.
+fn push_refusal(out: &mut Vec<u8>, fault: Fault) -> Made<()>
+    ensures { OnOk result (out.new.items ≡ out.old.items ++ codes "! " ++ python_name_of fault) }
+{
+    out.extend_from_slice(b"! ")?;
+    push_text(out, fault.python_name().as_bytes())
+}
+
+/// Adds a reply. It ends in each arm, since one way out for all arms would be too much for the prover.
 pub fn push_reply(out: &mut Vec<u8>, reply: &Reply) -> Made<()>
     ensures { OnOk result (out.new.items ≡ out.old.items ++ reply_text handle_text reply.now) }
 {
     match reply {
-        Reply::Ok => out.extend_from_slice(b"ok")?,
-        Reply::Handle(handle) => push_handle(out, *handle)?,
-        Reply::Pair { exporter, view } => {
-            push_handle(out, *exporter)?;
-            out.push(b' ')?;
-            push_handle(out, *view)?;
-        }
-        Reply::Item(item) => item.push_part(out)?,
-        Reply::Items { shape, items } => push_nested(out, shape.as_slice(), items.as_slice())?,
-        Reply::Bytes(bytes) => push_bytes(out, bytes.as_slice())?,
-        Reply::ByteLists(lists) => push_list(out, lists.as_slice())?,
-        Reply::Text(text) => push_quoted(out, text.as_slice())?,
-        Reply::Shown(text) => out.extend_from_slice(text.as_slice())?,
-        Reply::Truth(truth) => push_truth(out, *truth)?,
-        Reply::NotImplementedReply => out.extend_from_slice(b"NotImplemented")?,
-        Reply::Stop => out.extend_from_slice(b"stop")?,
-        Reply::Numbers(numbers) => push_tuple(out, numbers.as_slice())?,
-        Reply::Refused(fault) => {
-            out.extend_from_slice(b"! ")?;
-            out.extend_from_slice(fault.python_name().as_bytes())?;
-        }
+        Reply::Ok => push_text(out, b"ok"),
+        Reply::Handle(handle) => push_handle(out, *handle),
+        Reply::Pair { exporter, view } => push_pair(out, *exporter, *view),
+        Reply::Item(item) => item.push_part(out),
+        Reply::Items { shape, items } => push_nested(out, shape.as_slice(), items.as_slice()),
+        Reply::Bytes(bytes) => push_bytes(out, bytes.as_slice()),
+        Reply::ByteLists(lists) => push_list(out, lists.as_slice()),
+        Reply::Text(text) => push_quoted(out, text.as_slice()),
+        Reply::Shown(text) => push_text(out, text.as_slice()),
+        Reply::Truth(truth) => push_truth(out, *truth),
+        Reply::NotImplementedReply => push_text(out, b"NotImplemented"),
+        Reply::Stop => push_text(out, b"stop"),
+        Reply::Numbers(numbers) => push_tuple(out, numbers.as_slice()),
+        Reply::Refused(fault) => push_refusal(out, *fault),
     }
-    Ok(())
 }
 
 /// Adds a reply and its line feed.
