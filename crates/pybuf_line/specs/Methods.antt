@@ -65,9 +65,6 @@ every_method =
     ∷ name.Title ∷ name.Hex ∷ name.FromHex ∷ name.Center ∷ name.LJust ∷ name.RJust ∷ name.Join ∷ name.MakeTrans
     ∷ name.Translate ∷ name.ExpandTabs ∷ name.ZFill ∷ name.Replace ∷ name.Decode ∷ every_search_or_cut
 
--- the method of a search or a cut that a text names
-unfoldable pub search_or_cut_in : List ℕ → Option MethodName
-search_or_cut_in text = named_in written_method every_search_or_cut text
-
+-- the method that a text names
 unfoldable pub method_in : List ℕ → Option MethodName
 method_in text = named_in written_method every_method text
