@@ -4,8 +4,8 @@ use crate::loans::LoanList;
 use crate::methods::MethodCall;
 use crate::options::ByteInnerNewOptions;
 use pybuf_value::{
-    ByteList, ByteLists, CompareOp, CountList, Fault, Item, ItemList, Made, NumberList, Snap, Text,
-    Twin, Value,
+    ByteList, ByteLists, CompareOp, CountList, Fault, Item, ItemList, Made, NoMemory, NumberList,
+    Snap, Text, Twin, Value,
 };
 use std::alloc::Global;
 
@@ -228,12 +228,17 @@ impl Twin for LocalCommand {
         let subject = self.subject;
         // The verb comes last, so that no arm drops one, which would spell out all its variants.
         let loans = self.loans.copy(alloc)?;
-        let verb = self.verb.copy(alloc)?;
-        Ok(LocalCommand {
-            subject,
-            verb,
-            loans,
-        })
+        match self.verb.copy(alloc) {
+            Ok(verb) => Ok(LocalCommand {
+                subject,
+                verb,
+                loans,
+            }),
+            Err(NoMemory) => {
+                drop(loans);
+                Err(NoMemory)
+            }
+        }
     }
 }
 

@@ -1,5 +1,5 @@
 //! What bytes are made of, as a command says it.
-use pybuf_value::{Exact, Made, Twin, Value};
+use pybuf_value::{Exact, Made, NoMemory, Twin, Value};
 use std::alloc::Global;
 
 /// What bytes are made of, as the arguments of Python's `bytes(source, encoding, errors)` (Library
@@ -14,14 +14,26 @@ pub struct ByteInnerNewOptions {
 
 impl Twin for ByteInnerNewOptions {
     fn copy(&self, alloc: Global) -> Made<ByteInnerNewOptions> {
+        // What is dropped is handed over: a value that ends with its scope would spell out all its variants.
         let source = self.source.copy(alloc)?;
-        let encoding = self.encoding.copy(alloc)?;
-        let errors = self.errors.copy(alloc)?;
-        Ok(ByteInnerNewOptions {
-            source,
-            encoding,
-            errors,
-        })
+        match self.encoding.copy(alloc) {
+            Ok(encoding) => match self.errors.copy(alloc) {
+                Ok(errors) => Ok(ByteInnerNewOptions {
+                    source,
+                    encoding,
+                    errors,
+                }),
+                Err(NoMemory) => {
+                    drop(encoding);
+                    drop(source);
+                    Err(NoMemory)
+                }
+            },
+            Err(NoMemory) => {
+                drop(source);
+                Err(NoMemory)
+            }
+        }
     }
 }
 

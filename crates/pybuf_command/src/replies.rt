@@ -65,7 +65,11 @@ impl LocalReply {
     {
         match self {
             LocalReply::Bytes(bytes) => Some(bytes.into_vec()),
-            _ => None,
+            // handed over: what ends with its scope would spell out all its variants
+            other => {
+                drop(other);
+                None
+            }
         }
     }
 }

@@ -1,12 +1,13 @@
 //! Copies of verbs. The copy of each verb that has values is a function of its own, and stays one in the program: a
-//! function's locals are zeroed where it begins, and those of all arms together are sixteen kibibytes.
+//! function's locals are zeroed where it begins, and those of all arms together are sixteen kibibytes. Where there is no
+//! memory for a second value, the first is handed over: one that ends with its scope would spell out all its variants.
 ghost use Rattle.std.specs.Prelude.{◌≡◌, IfOk};
 ghost use Rattle.pybuf_command.specs.declared.commands.Verb.TheVariants as verb;
 
 use crate::commands::Verb;
 use crate::methods::MethodCall;
 use crate::options::ByteInnerNewOptions;
-use pybuf_value::{CompareOp, Made, Twin, Value};
+use pybuf_value::{CompareOp, Made, NoMemory, Twin, Value};
 use std::alloc::Global;
 
 #[inline(never)]
@@ -14,8 +15,13 @@ fn range_copy(alloc: Global, from: &Value, to: &Value) -> Made<Verb>
     ensures { IfOk result (λ v. v ≡ verb.Range from.now to.now) }
 {
     let from = from.copy(alloc)?;
-    let to = to.copy(alloc)?;
-    Ok(Verb::Range { from, to })
+    match to.copy(alloc) {
+        Ok(to) => Ok(Verb::Range { from, to }),
+        Err(NoMemory) => {
+            drop(from);
+            Err(NoMemory)
+        }
+    }
 }
 
 #[inline(never)]
@@ -31,8 +37,13 @@ fn set_copy(alloc: Global, key: &Value, value: &Value) -> Made<Verb>
     ensures { IfOk result (λ v. v ≡ verb.Set key.now value.now) }
 {
     let key = key.copy(alloc)?;
-    let value = value.copy(alloc)?;
-    Ok(Verb::Set { key, value })
+    match value.copy(alloc) {
+        Ok(value) => Ok(Verb::Set { key, value }),
+        Err(NoMemory) => {
+            drop(key);
+            Err(NoMemory)
+        }
+    }
 }
 
 #[inline(never)]
@@ -40,8 +51,13 @@ fn cast_copy(alloc: Global, format: &Value, shape: &Option<Value>) -> Made<Verb>
     ensures { IfOk result (λ v. v ≡ verb.Cast format.now shape.now) }
 {
     let format = format.copy(alloc)?;
-    let shape = shape.copy(alloc)?;
-    Ok(Verb::Cast { format, shape })
+    match shape.copy(alloc) {
+        Ok(shape) => Ok(Verb::Cast { format, shape }),
+        Err(NoMemory) => {
+            drop(format);
+            Err(NoMemory)
+        }
+    }
 }
 
 #[inline(never)]
@@ -49,8 +65,13 @@ fn cast_f_copy(alloc: Global, format: &Value, shape: &Value) -> Made<Verb>
     ensures { IfOk result (λ v. v ≡ verb.CastF format.now shape.now) }
 {
     let format = format.copy(alloc)?;
-    let shape = shape.copy(alloc)?;
-    Ok(Verb::CastF { format, shape })
+    match shape.copy(alloc) {
+        Ok(shape) => Ok(Verb::CastF { format, shape }),
+        Err(NoMemory) => {
+            drop(format);
+            Err(NoMemory)
+        }
+    }
 }
 
 #[inline(never)]
@@ -90,8 +111,13 @@ fn insert_copy(alloc: Global, index: &Value, value: &Value) -> Made<Verb>
     ensures { IfOk result (λ v. v ≡ verb.Insert index.now value.now) }
 {
     let index = index.copy(alloc)?;
-    let value = value.copy(alloc)?;
-    Ok(Verb::Insert { index, value })
+    match value.copy(alloc) {
+        Ok(value) => Ok(Verb::Insert { index, value }),
+        Err(NoMemory) => {
+            drop(index);
+            Err(NoMemory)
+        }
+    }
 }
 
 #[inline(never)]
@@ -163,8 +189,13 @@ fn hex_copy(alloc: Global, sep: &Option<Value>, group: &Option<Value>) -> Made<V
     ensures { IfOk result (λ v. v ≡ verb.Hex sep.now group.now) }
 {
     let sep = sep.copy(alloc)?;
-    let group = group.copy(alloc)?;
-    Ok(Verb::Hex { sep, group })
+    match group.copy(alloc) {
+        Ok(group) => Ok(Verb::Hex { sep, group }),
+        Err(NoMemory) => {
+            drop(sep);
+            Err(NoMemory)
+        }
+    }
 }
 
 #[inline(never)]
