@@ -146,6 +146,31 @@ fn push_whole_option(handles: &mut Vec<u64>, value: &Option<Value>) -> Made<()>
     }
 }
 
+/// Adds the handles whose bytes a command reads. It ends in each arm, as `push_handles`.
+fn push_read(handles: &mut Vec<u64>, subject: Subject, verb: &Verb) -> Made<()>
+    ensures { OnOk result (handles.new.items ≡ handles.old.items ++ spec.handles_read subject verb.now) }
+{
+    match (subject, verb) {
+        (Subject::View(_), Verb::Set { key: _, value }) => push_whole(handles, value),
+        (Subject::View(_), Verb::Compare { op: _, other }) => push_whole(handles, other),
+        (
+            Subject::Own,
+            Verb::Set {
+                key: Value::Slice(_),
+                value,
+            },
+        ) => push_whole(handles, value),
+        (Subject::Own, Verb::Extend { value }) => push_whole(handles, value),
+        (Subject::Own, Verb::IAdd { value }) => push_whole(handles, value),
+        (Subject::Own, Verb::Init { options }) => push_whole_option(handles, &options.source),
+        (Subject::Own, Verb::Compare { op: _, other }) => push_whole(handles, other),
+        (Subject::View(_), Verb::Hex { sep, group: _ }) => push_whole_option(handles, sep),
+        (Subject::Own, Verb::Contains { value }) => push_whole(handles, value),
+        (Subject::Own, Verb::Call { method }) => push_values(handles, method.args.as_slice()),
+        _ => Ok(()),
+    }
+}
+
 /// The handles whose bytes a command reads: a value that is written through a view or by a slice, one
 /// that bytes are added or made of, one that a subject is compared with or searched for, a separator of
 /// digits, and each argument of a method.
@@ -153,25 +178,7 @@ pub fn handles_read(alloc: Global, subject: Subject, verb: &Verb) -> Made<Vec<u6
     ensures { IfOk result (λ handles. handles.items ≡ spec.handles_read subject verb.now) }
 {
     let mut handles = Vec::new(alloc);
-    match (subject, verb) {
-        (Subject::View(_), Verb::Set { key: _, value }) => push_whole(&mut handles, value)?,
-        (Subject::View(_), Verb::Compare { op: _, other }) => push_whole(&mut handles, other)?,
-        (
-            Subject::Own,
-            Verb::Set {
-                key: Value::Slice(_),
-                value,
-            },
-        ) => push_whole(&mut handles, value)?,
-        (Subject::Own, Verb::Extend { value }) => push_whole(&mut handles, value)?,
-        (Subject::Own, Verb::IAdd { value }) => push_whole(&mut handles, value)?,
-        (Subject::Own, Verb::Init { options }) => push_whole_option(&mut handles, &options.source)?,
-        (Subject::Own, Verb::Compare { op: _, other }) => push_whole(&mut handles, other)?,
-        (Subject::View(_), Verb::Hex { sep, group: _ }) => push_whole_option(&mut handles, sep)?,
-        (Subject::Own, Verb::Contains { value }) => push_whole(&mut handles, value)?,
-        (Subject::Own, Verb::Call { method }) => push_values(&mut handles, method.args.as_slice())?,
-        _ => {}
-    }
+    push_read(&mut handles, subject, verb)?;
     Ok(handles)
 }
 
