@@ -31,24 +31,50 @@ fn has_characters(answer: Tried<Vec<char>>, wanted: &[char]) -> bool {
     }
 }
 
-fn is_kept(alloc: Global, string: &Bytes, length: usize) -> Made<bool> {
-    let kept = string.to_container(alloc)?;
-    Ok(
-        kept.elements() == string.as_bytes()
-            && string.bytes_len() == length
-            && string.is_empty() == (length == 0),
-    )
+/// Whether a copy, if one was made, has the bytes of the string, which are so many.
+fn is_kept(copy: Made<Bytes>, string: &Bytes, length: usize) -> bool {
+    match copy {
+        Ok(copy) => {
+            copy.elements() == string.as_bytes()
+                && string.bytes_len() == length
+                && string.is_empty() == (length == 0)
+        }
+        Err(_) => false,
+    }
+}
+
+fn grows(
+    alloc: Global,
+    string: Made<Bytes>,
+    length: usize,
+    text: Result<&str, Fault>,
+    characters: &[char],
+) -> bool {
+    match string {
+        Ok(string) => {
+            is_kept(string.to_container(alloc), &string, length)
+                && is_text(string.as_utf8_str(alloc), text)
+                && has_characters(string.chars(alloc), characters)
+        }
+        Err(_) => false,
+    }
+}
+
+fn all_grow(alloc: Global) -> bool {
+    for (first, second, text, characters) in &GROWN {
+        let length = first.len().wrapping_add(second.len());
+        let string = grown(alloc, first, second);
+        if !grows(alloc, string, length, *text, characters) {
+            return false;
+        }
+    }
+    true
 }
 
 #[test]
 fn strings_grow(rt: HostRuntime) -> Result<(), Fail> {
     assert!(rt; Bytes::new(rt.alloc()).is_empty());
-    for (first, second, text, characters) in &GROWN {
-        let string: Bytes = grown(rt.alloc(), first, second)?;
-        assert!(rt; is_kept(rt.alloc(), &string, first.len() + second.len())?);
-        assert!(rt; is_text(string.as_utf8_str(rt.alloc()), *text));
-        assert!(rt; has_characters(string.chars(rt.alloc()), characters));
-    }
+    assert!(rt; all_grow(rt.alloc()));
     Ok(())
 }
 
@@ -143,12 +169,19 @@ const CUTS: [(Cut, Result<&[&[u8]], Fault>); 5] = [
     (Cut::Lines, Ok(&[b" a b\n", b"c "])),
 ];
 
+fn are_cut(alloc: Global, string: &Bytes) -> bool {
+    for (cut, wanted) in &CUTS {
+        if !is_parted(parted(alloc, string, *cut), *wanted) {
+            return false;
+        }
+    }
+    true
+}
+
 #[test]
 fn strings_are_cut(rt: HostRuntime) -> Result<(), Fail> {
     let string = bytes(rt.alloc(), b" a b\nc ")?;
-    for (cut, wanted) in &CUTS {
-        assert!(rt; is_parted(parted(rt.alloc(), &string, *cut), *wanted));
-    }
+    assert!(rt; are_cut(rt.alloc(), &string));
     Ok(())
 }
 
@@ -163,7 +196,8 @@ fn are_three(answer: Tried<(Vec<u8>, bool, Vec<u8>)>, wanted: (&[u8], bool, &[u8
 }
 
 /// Whether the string begins with a value, or why that isn't asked.
-fn begins(alloc: Global, string: &Bytes, affix: Value) -> Result<bool, Halt> {
+fn begins(alloc: Global, string: &Bytes, affix: Made<Value>) -> Result<bool, Halt> {
+    let affix = affix?;
     let answer = string.py_startsendswith(
         alloc,
         &affix,
@@ -174,17 +208,30 @@ fn begins(alloc: Global, string: &Bytes, affix: Value) -> Result<bool, Halt> {
     answer.done()
 }
 
+fn number(number: i128) -> Value {
+    Value::One(Scalar::Int(number))
+}
+
+fn is_put_together(alloc: Global, string: &Bytes, comma: &PyBytesInner) -> bool {
+    are_three(string.py_partition(alloc, comma), (b"a", true, b"b,c"))
+        && is_made(string.py_add(alloc, b"c"), Ok(b"a,b,cc"))
+        && is_made(string.py_join(alloc, &ByteLists::new(alloc)), Ok(b""))
+}
+
 #[test]
 fn strings_are_parted_and_put_together(rt: HostRuntime) -> Result<(), Fail> {
+    let string = bytes(rt.alloc(), b"a,b,c")?;
+    let comma = inner(rt.alloc(), b",")?;
+    assert!(rt; is_put_together(rt.alloc(), &string, &comma));
+    Ok(())
+}
+
+#[test]
+fn strings_begin_with_values(rt: HostRuntime) -> Result<(), Fail> {
     let alloc = rt.alloc();
     let string = bytes(alloc, b"a,b,c")?;
-    let comma = inner(alloc, b",")?;
-    assert!(rt; are_three(string.py_partition(alloc, &comma), (b"a", true, b"b,c")));
-    assert!(rt; is_made(string.py_add(alloc, b"c"), Ok(b"a,b,cc")));
-    assert!(rt; is_made(string.py_join(alloc, &ByteLists::new(alloc)), Ok(b"")));
-    assert!(rt; begins(alloc, &string, Value::bytes(alloc, b"a")?) == Ok(true));
-    let number = Value::One(Scalar::Int(97));
-    assert!(rt; begins(alloc, &string, number) == Err(Halt::Refused(Fault::Kind)));
+    assert!(rt; begins(alloc, &string, Value::bytes(alloc, b"a")) == Ok(true));
+    assert!(rt; begins(alloc, &string, Ok(number(97))) == Err(Halt::Refused(Fault::Kind)));
     Ok(())
 }
 

@@ -1,7 +1,7 @@
 //! Vectors from outside, by the `struct` module of CPython 3.11 on a 64-bit little-endian machine:
 //! `struct.calcsize(format)` (`SIZES`), `struct.pack(format, *values)` at the ends of each code's
-//! range and with alignment (`NUMBERS`, `WRITTEN`), the numbers that it refuses (`PAST`), and
-//! `struct.unpack(format, bytes)` (`NUMBERS`, `READS`, `READ`). By hand: the texts that are refused,
+//! range and with alignment (`NUMBERS`, `STRINGS`, `TRUTHS`), the numbers that it refuses (`PAST`), and
+//! `struct.unpack(format, bytes)` (`NUMBERS`, `READS`, `CONTENTS`, `TRUTHS`). By hand: the texts that are refused,
 //! `u`, handles, and Pascal strings past 255 bytes.
 use pybuf_struct::{Endianness, FormatCode, FormatSpec, FormatType};
 use pybuf_value::{
@@ -11,21 +11,16 @@ use pybuf_value::{
 use std::alloc::Global;
 use std::test::Fail;
 
-/// A value that a field is given, or reads.
+/// What a format is given, or reads: a value, several numbers, or a handle and a number behind it.
 #[derive(Clone, Copy)]
-enum Part<'a> {
+enum Given<'a> {
     Nothing,
     Int(i128),
     Truth(bool),
     Bytes(&'a [u8]),
     Handle(u64),
-}
-
-/// Values that a format is given, or reads.
-#[derive(Clone, Copy)]
-enum Given<'a> {
+    HandleAnd(u64, i128),
     Numbers(&'a [i128]),
-    Parts(&'a [Part<'a>]),
 }
 
 /// A size, and the formats that have it.
@@ -272,58 +267,55 @@ const PAST: [(&str, i128, i128); 18] = [
     ("@Q", -1, 18446744073709551616),
 ];
 
-/// A value, and the bytes that it is written as.
-const WRITTEN: [(&str, Part<'static>, &[u8]); 24] = [
-    ("c", Part::Bytes(b"\x00"), b"\x00"),
-    (">c", Part::Bytes(b"\xff"), b"\xff"),
-    ("3s", Part::Bytes(b"abc"), b"abc"),
-    ("3s", Part::Bytes(b"ab"), b"ab\x00"),
-    ("3s", Part::Bytes(b"abcd"), b"abc"),
-    ("0s", Part::Bytes(b"abc"), b""),
-    ("s", Part::Bytes(b""), b"\x00"),
-    ("5s", Part::Bytes(b"\x80\xff"), b"\x80\xff\x00\x00\x00"),
-    ("3p", Part::Bytes(b"abc"), b"\x02ab"),
-    ("3p", Part::Bytes(b"a"), b"\x01a\x00"),
-    ("3p", Part::Bytes(b""), b"\x00\x00\x00"),
-    ("p", Part::Bytes(b"abc"), b"\x00"),
-    ("2p", Part::Bytes(b"abc"), b"\x01a"),
-    ("=4p", Part::Bytes(b"xyz"), b"\x03xyz"),
-    ("<10p", Part::Bytes(b"0123456789"), b"\x09012345678"),
-    ("x3s2x", Part::Bytes(b"abc"), b"\x00abc\x00\x00"),
-    ("4xs", Part::Bytes(b"q"), b"\x00\x00\x00\x00q"),
-    ("?", Part::Int(0), b"\x00"),
-    ("?", Part::Int(1), b"\x01"),
-    ("?", Part::Int(2), b"\x01"),
-    ("?", Part::Int(128), b"\x01"),
-    ("?", Part::Int(255), b"\x01"),
-    (">?", Part::Int(0), b"\x00"),
-    (">?", Part::Int(64), b"\x01"),
+/// A bytes value, and the bytes that it is written as.
+const STRINGS: [(&str, &[u8], &[u8]); 17] = [
+    ("c", b"\x00", b"\x00"),
+    (">c", b"\xff", b"\xff"),
+    ("3s", b"abc", b"abc"),
+    ("3s", b"ab", b"ab\x00"),
+    ("3s", b"abcd", b"abc"),
+    ("0s", b"abc", b""),
+    ("s", b"", b"\x00"),
+    ("5s", b"\x80\xff", b"\x80\xff\x00\x00\x00"),
+    ("3p", b"abc", b"\x02ab"),
+    ("3p", b"a", b"\x01a\x00"),
+    ("3p", b"", b"\x00\x00\x00"),
+    ("p", b"abc", b"\x00"),
+    ("2p", b"abc", b"\x01a"),
+    ("=4p", b"xyz", b"\x03xyz"),
+    ("<10p", b"0123456789", b"\x09012345678"),
+    ("x3s2x", b"abc", b"\x00abc\x00\x00"),
+    ("4xs", b"q", b"\x00\x00\x00\x00q"),
 ];
 
-/// The value that is read from bytes.
-const READ: [(&str, Part<'static>, &[u8]); 22] = [
-    ("c", Part::Bytes(b"\x00"), b"\x00"),
-    (">c", Part::Bytes(b"\xff"), b"\xff"),
-    ("3s", Part::Bytes(b"abc"), b"abc"),
-    ("<3s", Part::Bytes(b"\x00\x80\xff"), b"\x00\x80\xff"),
-    ("0s", Part::Bytes(b""), b""),
-    ("s", Part::Bytes(b"z"), b"z"),
-    ("3p", Part::Bytes(b"ab"), b"\x02ab"),
-    ("3p", Part::Bytes(b"a"), b"\x01ab"),
-    ("3p", Part::Bytes(b""), b"\x00ab"),
-    ("3p", Part::Bytes(b"ab"), b"\xffab"),
-    ("=3p", Part::Bytes(b"ab"), b"\x03ab"),
-    ("p", Part::Bytes(b""), b"\x05"),
-    ("4xs", Part::Bytes(b"q"), b"\x00\x00\x00\x00q"),
-    ("x3p", Part::Bytes(b"yz"), b"\x07\x02yz"),
-    ("10p", Part::Bytes(b"1234567"), b"\x07123456789"),
-    ("?", Part::Truth(false), b"\x00"),
-    ("?", Part::Truth(true), b"\x01"),
-    ("?", Part::Truth(true), b"\x02"),
-    ("?", Part::Truth(true), b"\x80"),
-    ("?", Part::Truth(true), b"\xff"),
-    (">?", Part::Truth(false), b"\x00"),
-    (">?", Part::Truth(true), b"\x40"),
+/// A bytes value, and bytes that it is read from.
+const CONTENTS: [(&str, &[u8], &[u8]); 15] = [
+    ("c", b"\x00", b"\x00"),
+    (">c", b"\xff", b"\xff"),
+    ("3s", b"abc", b"abc"),
+    ("<3s", b"\x00\x80\xff", b"\x00\x80\xff"),
+    ("0s", b"", b""),
+    ("s", b"z", b"z"),
+    ("3p", b"ab", b"\x02ab"),
+    ("3p", b"a", b"\x01ab"),
+    ("3p", b"", b"\x00ab"),
+    ("3p", b"ab", b"\xffab"),
+    ("=3p", b"ab", b"\x03ab"),
+    ("p", b"", b"\x05"),
+    ("4xs", b"q", b"\x00\x00\x00\x00q"),
+    ("x3p", b"yz", b"\x07\x02yz"),
+    ("10p", b"1234567", b"\x07123456789"),
+];
+
+/// A truth value, and the byte that it is read from, which as a number is written as 0 or 1.
+const TRUTHS: [(&str, bool, u8); 7] = [
+    ("?", false, 0),
+    ("?", true, 1),
+    ("?", true, 2),
+    ("?", true, 128),
+    ("?", true, 255),
+    (">?", false, 0),
+    (">?", true, 64),
 ];
 
 /// Why texts are no formats, and such texts.
@@ -357,36 +349,52 @@ const REFUSED: [(&str, &[&str]); 5] = [
     ),
 ];
 
-fn push_part(alloc: Global, values: &mut ScalarList, part: Part) -> Made<()> {
-    match part {
-        Part::Nothing => values.push(Scalar::None),
-        Part::Int(number) => values.push(Scalar::Int(number)),
-        Part::Truth(truth) => values.push(Scalar::Bool(truth)),
-        Part::Bytes(bytes) => values.push(Scalar::bytes(alloc, bytes)?),
-        Part::Handle(handle) => values.push(Scalar::Handle(handle)),
-    }
+/// What a format is asked.
+#[derive(Clone, Copy)]
+struct Case<'a> {
+    alloc: Global,
+    lender: &'a SnapList,
+    given: Given<'a>,
+    way: Way<'a>,
 }
 
-fn push_given(alloc: Global, values: &mut ScalarList, given: Given) -> Made<()> {
-    match given {
-        Given::Numbers(numbers) => {
-            for number in numbers {
-                values.push(Scalar::Int(*number))?;
-            }
-        }
-        Given::Parts(parts) => {
-            for part in parts {
-                push_part(alloc, values, *part)?;
-            }
-        }
+/// Which way the values of a row go.
+#[derive(Clone, Copy)]
+enum Way<'a> {
+    /// They are written as these bytes, or refused so.
+    Written(Result<&'a [u8], Fault>),
+    /// They are read from these bytes.
+    Read(&'a [u8]),
+    /// Of so many bytes those from an offset on are enough to read and to write them, or not.
+    At(usize, usize, bool),
+}
+
+fn push_numbers(values: &mut ScalarList, numbers: &[i128]) -> Made<()> {
+    for number in numbers {
+        values.push(Scalar::Int(*number))?;
     }
     Ok(())
 }
 
-fn values_of(alloc: Global, given: Given) -> Made<ScalarList> {
-    let mut values = ScalarList::new(alloc);
-    push_given(alloc, &mut values, given)?;
-    Ok(values)
+fn push_bytes(alloc: Global, values: &mut ScalarList, bytes: &[u8]) -> Made<()> {
+    values.push(Scalar::bytes(alloc, bytes)?)
+}
+
+fn push_pair(values: &mut ScalarList, handle: u64, number: i128) -> Made<()> {
+    values.push(Scalar::Handle(handle))?;
+    values.push(Scalar::Int(number))
+}
+
+fn push_given(alloc: Global, values: &mut ScalarList, given: Given) -> Made<()> {
+    match given {
+        Given::Nothing => values.push(Scalar::None),
+        Given::Int(number) => values.push(Scalar::Int(number)),
+        Given::Truth(truth) => values.push(Scalar::Bool(truth)),
+        Given::Bytes(bytes) => push_bytes(alloc, values, bytes),
+        Given::Handle(handle) => values.push(Scalar::Handle(handle)),
+        Given::HandleAnd(handle, number) => push_pair(values, handle, number),
+        Given::Numbers(numbers) => push_numbers(values, numbers),
+    }
 }
 
 /// Whether a call that writes into a room of other bytes wrote these, or was refused so and left the room as it was.
@@ -398,79 +406,75 @@ fn is_written(answer: Result<(), Fault>, room: &[u8], wanted: Result<&[u8], Faul
 }
 
 fn packs(
-    alloc: Global,
+    case: &Case,
     format: &FormatSpec,
     values: &ScalarList,
-    lender: &SnapList,
     wanted: Result<&[u8], Fault>,
-) -> Made<bool> {
-    match format.pack(alloc, values, lender)? {
-        Outcome::Done(bytes) => Ok(wanted == Ok(bytes.as_slice())),
-        Outcome::Refused(fault) => Ok(wanted == Err(fault)),
+) -> bool {
+    match format.pack(case.alloc, values, case.lender) {
+        Ok(Outcome::Done(bytes)) => wanted == Ok(bytes.as_slice()),
+        Ok(Outcome::Refused(fault)) => wanted == Err(fault),
+        Err(_) => false,
     }
 }
 
 fn packs_into(
-    alloc: Global,
+    case: &Case,
     format: &FormatSpec,
     values: &ScalarList,
-    lender: &SnapList,
     wanted: Result<&[u8], Fault>,
-) -> Made<bool> {
-    let mut room = vec![in alloc; 0xaau8; format.size()]?;
-    let answer = format.pack_into(room.as_mut_slice(), values, lender);
-    Ok(is_written(answer, room.as_slice(), wanted))
+) -> bool {
+    match vec![in case.alloc; 0xaau8; format.size()] {
+        Ok(mut room) => {
+            let answer = format.pack_into(room.as_mut_slice(), values, case.lender);
+            is_written(answer, room.as_slice(), wanted)
+        }
+        Err(_) => false,
+    }
 }
 
 fn packs_values(
-    alloc: Global,
+    case: &Case,
     format: &FormatSpec,
-    values: &[Scalar],
+    values: &ScalarList,
     wanted: Result<&[u8], Fault>,
 ) -> bool {
-    match format.pack_values(alloc, values) {
+    match format.pack_values(case.alloc, values.as_slice()) {
         Ok(bytes) => wanted == Ok(bytes.as_slice()),
-        Err(Halt::Refused(fault)) => wanted == Err(fault),
-        Err(Halt::NoMemory) => false,
+        Err(halt) => matches!(wanted, Err(fault) if halt == Halt::Refused(fault)),
     }
 }
 
 /// The same behind a byte, and before another.
 fn packs_at(
-    alloc: Global,
+    case: &Case,
     format: &FormatSpec,
-    values: &[Scalar],
+    values: &ScalarList,
     wanted: Result<&[u8], Fault>,
-) -> Made<bool> {
-    let mut room = vec![in alloc; 0xaau8; format.size() + 2]?;
-    let answer = format.pack_at(room.as_mut_slice(), 1, values);
-    match room.as_slice() {
-        [0xaa, inner @ .., 0xaa] => Ok(is_written(answer, inner, wanted)),
-        _ => Ok(false),
+) -> bool {
+    match vec![in case.alloc; 0xaau8; format.size() + 2] {
+        Ok(mut room) => {
+            let answer = format.pack_at(room.as_mut_slice(), 1, values.as_slice());
+            match room.as_slice() {
+                [0xaa, inner @ .., 0xaa] => is_written(answer, inner, wanted),
+                _ => false,
+            }
+        }
+        Err(_) => false,
     }
 }
 
 /// Whether all calls that write give these bytes, or refuse the values so; those that know no handle, where none is lent.
 fn write_all(
-    alloc: Global,
+    case: &Case,
     format: &FormatSpec,
     values: &ScalarList,
-    lender: &SnapList,
     wanted: Result<&[u8], Fault>,
-) -> Made<bool> {
-    if !packs(alloc, format, values, lender, wanted)? {
-        return Ok(false);
-    }
-    if !packs_into(alloc, format, values, lender, wanted)? {
-        return Ok(false);
-    }
-    if !lender.is_empty() {
-        return Ok(true);
-    }
-    if !packs_values(alloc, format, values.as_slice(), wanted) {
-        return Ok(false);
-    }
-    packs_at(alloc, format, values.as_slice(), wanted)
+) -> bool {
+    packs(case, format, values, wanted)
+        && packs_into(case, format, values, wanted)
+        && (!case.lender.is_empty()
+            || packs_values(case, format, values, wanted) && packs_at(case, format, values, wanted))
 }
 
 fn is_like(values: ScalarList, wanted: &ScalarList) -> bool {
@@ -479,84 +483,97 @@ fn is_like(values: ScalarList, wanted: &ScalarList) -> bool {
     same
 }
 
-fn unpacks(alloc: Global, format: &FormatSpec, bytes: &[u8], wanted: &ScalarList) -> Made<bool> {
-    match format.unpack(alloc, bytes)? {
-        Outcome::Done(values) => Ok(is_like(values, wanted)),
-        Outcome::Refused(_) => Ok(false),
+fn unpacks(alloc: Global, format: &FormatSpec, bytes: &[u8], wanted: &ScalarList) -> bool {
+    match format.unpack(alloc, bytes) {
+        Ok(Outcome::Done(values)) => is_like(values, wanted),
+        _ => false,
     }
 }
 
-/// The same behind a byte, and before another.
-fn unpacks_from(
-    alloc: Global,
-    format: &FormatSpec,
-    bytes: &[u8],
-    wanted: &ScalarList,
-) -> Made<bool> {
+/// The bytes behind one, and before another.
+fn among(alloc: Global, bytes: &[u8]) -> Made<Vec<u8>> {
     let mut among = vec![in alloc; 0x55u8]?;
     among.extend_from_slice(bytes)?;
     among.push(0x55)?;
-    match format.unpack_from(alloc, among.as_slice(), 1) {
-        Ok(values) => Ok(is_like(values, wanted)),
-        Err(_) => Ok(false),
+    Ok(among)
+}
+
+fn unpacks_from(alloc: Global, format: &FormatSpec, bytes: &[u8], wanted: &ScalarList) -> bool {
+    match format.unpack_from(alloc, bytes, 1) {
+        Ok(values) => is_like(values, wanted),
+        Err(_) => false,
     }
 }
 
 /// Whether all calls that read give these values.
-fn read_all(alloc: Global, format: &FormatSpec, bytes: &[u8], wanted: &ScalarList) -> Made<bool> {
-    if !unpacks(alloc, format, bytes, wanted)? {
-        return Ok(false);
+fn read_all(alloc: Global, format: &FormatSpec, bytes: &[u8], wanted: &ScalarList) -> bool {
+    match among(alloc, bytes) {
+        Ok(among) => {
+            unpacks(alloc, format, bytes, wanted)
+                && unpacks_from(alloc, format, among.as_slice(), wanted)
+        }
+        Err(_) => false,
     }
-    unpacks_from(alloc, format, bytes, wanted)
 }
 
-/// Which way a row is to be taken.
-#[derive(Clone, Copy)]
-enum Way<'a> {
-    /// Values are written as these bytes, or refused so.
-    Written(Result<&'a [u8], Fault>),
-    /// They are read from these bytes.
-    Read(&'a [u8]),
+fn is_read_at(alloc: Global, format: &FormatSpec, room: &[u8], offset: usize) -> bool {
+    format.unpack_from(alloc, room, offset).is_ok()
 }
 
-fn goes(
+/// Whether the calls at an offset both read and write, or both refuse.
+fn fit_at(
     alloc: Global,
     format: &FormatSpec,
     values: &ScalarList,
-    lender: &SnapList,
-    way: Way,
-) -> Made<bool> {
-    match way {
-        Way::Written(wanted) => write_all(alloc, format, values, lender, wanted),
-        Way::Read(bytes) => read_all(alloc, format, bytes, values),
+    length: usize,
+    offset: usize,
+    fits: bool,
+) -> bool {
+    match vec![in alloc; 0u8; length] {
+        Ok(mut room) => {
+            let read = is_read_at(alloc, format, room.as_slice(), offset);
+            let written = format.pack_at(room.as_mut_slice(), offset, values.as_slice());
+            read == fits && written == (if fits { Ok(()) } else { Err(Fault::Struct) })
+        }
+        Err(_) => false,
     }
 }
 
-fn goes_with(
-    alloc: Global,
-    format: &FormatSpec,
-    given: Given,
-    lender: &SnapList,
-    way: Way,
-) -> Made<bool> {
-    let values = values_of(alloc, given)?;
-    let answer = goes(alloc, format, &values, lender, way);
+fn goes(case: &Case, format: &FormatSpec, values: &ScalarList) -> bool {
+    match case.way {
+        Way::Written(wanted) => write_all(case, format, values, wanted),
+        Way::Read(bytes) => read_all(case.alloc, format, bytes, values),
+        Way::At(length, offset, fits) => fit_at(case.alloc, format, values, length, offset, fits),
+    }
+}
+
+fn goes_by(case: &Case, format: &FormatSpec) -> bool {
+    let mut values = ScalarList::new(case.alloc);
+    let pushed = push_given(case.alloc, &mut values, case.given);
+    let answer = pushed.is_ok() && goes(case, format, &values);
     drop(values);
     answer
 }
 
-/// Whether the values go by the format in this way.
-fn does(
-    alloc: Global,
-    text: &str,
-    given: Given,
-    lender: &SnapList,
-    way: Way,
-) -> Result<bool, Halt> {
-    let format = FormatSpec::from_str(alloc, text)?;
-    let answer = goes_with(alloc, &format, given, lender, way);
-    drop(format);
-    Ok(answer?)
+/// Whether the values of a row go their way by a format.
+fn does(case: &Case, text: &str) -> bool {
+    match FormatSpec::parse(case.alloc, text.as_bytes()) {
+        Ok(Outcome::Done(format)) => {
+            let answer = goes_by(case, &format);
+            drop(format);
+            answer
+        }
+        _ => false,
+    }
+}
+
+fn row<'a>(alloc: Global, lender: &'a SnapList, given: Given<'a>, way: Way<'a>) -> Case<'a> {
+    Case {
+        alloc,
+        lender,
+        given,
+        way,
+    }
 }
 
 fn size_of(alloc: Global, text: &str) -> Result<usize, Halt> {
@@ -566,96 +583,151 @@ fn size_of(alloc: Global, text: &str) -> Result<usize, Halt> {
     Ok(size)
 }
 
-#[test]
-fn sizes_are_those_of_python(rt: HostRuntime) -> Result<(), Fail> {
+/// The first format whose size is another.
+fn of_another_size(alloc: Global) -> Option<&'static str> {
     for (size, formats) in &SIZES {
         for format in *formats {
-            assert_eq!(rt; size_of(rt.alloc(), format), Ok(*size), "{format}");
+            if size_of(alloc, format) != Ok(*size) {
+                return Some(format);
+            }
         }
     }
+    None
+}
+
+/// The first text that is not refused.
+fn taken(alloc: Global) -> Option<&'static str> {
+    for (_why, formats) in &REFUSED {
+        for format in *formats {
+            if size_of(alloc, format) != Err(Halt::Refused(Fault::Struct)) {
+                return Some(format);
+            }
+        }
+    }
+    None
+}
+
+#[test]
+fn sizes_are_those_of_python(rt: HostRuntime) -> Result<(), Fail> {
+    assert_eq!(rt; of_another_size(rt.alloc()), None);
     Ok(())
 }
 
 #[test]
 fn texts_outside_the_grammar_are_refused(rt: HostRuntime) -> Result<(), Fail> {
-    for (_why, formats) in &REFUSED {
-        for format in *formats {
-            let size = size_of(rt.alloc(), format);
-            assert_eq!(rt; size, Err(Halt::Refused(Fault::Struct)), "{format}");
+    assert_eq!(rt; taken(rt.alloc()), None);
+    Ok(())
+}
+
+// What follows tells of each table the format of the first row that isn't as it says.
+
+fn other_numbers(alloc: Global, none: &SnapList) -> Option<&'static str> {
+    for (format, numbers, bytes) in &NUMBERS {
+        let given = Given::Numbers(numbers);
+        let written = does(&row(alloc, none, given, Way::Written(Ok(bytes))), format);
+        let read = does(&row(alloc, none, given, Way::Read(bytes)), format);
+        if !(written && read) {
+            return Some(format);
         }
     }
-    Ok(())
+    None
+}
+
+fn other_numbers_read(alloc: Global, none: &SnapList) -> Option<&'static str> {
+    for (format, numbers, bytes) in &READS {
+        let given = Given::Numbers(numbers);
+        if !does(&row(alloc, none, given, Way::Read(bytes)), format) {
+            return Some(format);
+        }
+    }
+    None
+}
+
+fn numbers_taken(alloc: Global, none: &SnapList) -> Option<&'static str> {
+    for (format, below, above) in &PAST {
+        for number in &[*below, *above] {
+            let given = Given::Int(*number);
+            let way = Way::Written(Err(Fault::Struct));
+            if !does(&row(alloc, none, given, way), format) {
+                return Some(format);
+            }
+        }
+    }
+    None
+}
+
+fn other_strings_written(alloc: Global, none: &SnapList) -> Option<&'static str> {
+    for (format, content, bytes) in &STRINGS {
+        let given = Given::Bytes(content);
+        if !does(&row(alloc, none, given, Way::Written(Ok(bytes))), format) {
+            return Some(format);
+        }
+    }
+    None
+}
+
+fn other_strings_read(alloc: Global, none: &SnapList) -> Option<&'static str> {
+    for (format, content, bytes) in &CONTENTS {
+        let given = Given::Bytes(content);
+        if !does(&row(alloc, none, given, Way::Read(bytes)), format) {
+            return Some(format);
+        }
+    }
+    None
+}
+
+fn is_truth(alloc: Global, none: &SnapList, format: &str, truth: bool, byte: u8) -> bool {
+    let number = Given::Int(i128::from(byte));
+    let written = [u8::from(truth)];
+    does(
+        &row(alloc, none, number, Way::Written(Ok(&written))),
+        format,
+    ) && does(
+        &row(alloc, none, Given::Truth(truth), Way::Read(&[byte])),
+        format,
+    )
+}
+
+fn other_truths(alloc: Global, none: &SnapList) -> Option<&'static str> {
+    for (format, truth, byte) in &TRUTHS {
+        if !is_truth(alloc, none, format, *truth, *byte) {
+            return Some(format);
+        }
+    }
+    None
 }
 
 #[test]
 fn numbers_are_those_of_python(rt: HostRuntime) -> Result<(), Fail> {
     let none = SnapList::new(rt.alloc());
-    for (format, numbers, bytes) in &NUMBERS {
-        let given = Given::Numbers(numbers);
-        assert!(rt;
-            does(rt.alloc(), format, given, &none, Way::Written(Ok(bytes)))?,
-            "{format}"
-        );
-        assert!(rt;
-            does(rt.alloc(), format, given, &none, Way::Read(bytes))?,
-            "{format}"
-        );
-    }
-    for (format, numbers, bytes) in &READS {
-        let given = Given::Numbers(numbers);
-        assert!(rt;
-            does(rt.alloc(), format, given, &none, Way::Read(bytes))?,
-            "{format}"
-        );
-    }
-    Ok(())
-}
-
-#[test]
-fn numbers_past_the_ends_are_refused(rt: HostRuntime) -> Result<(), Fail> {
-    let none = SnapList::new(rt.alloc());
-    let refused = Way::Written(Err(Fault::Struct));
-    for (format, below, above) in &PAST {
-        for number in &[*below, *above] {
-            let given = Given::Numbers(&[*number]);
-            assert!(rt;
-                does(rt.alloc(), format, given, &none, refused)?,
-                "{format}"
-            );
-        }
-    }
+    assert_eq!(rt; other_numbers(rt.alloc(), &none), None);
+    assert_eq!(rt; other_numbers_read(rt.alloc(), &none), None);
+    assert_eq!(rt; numbers_taken(rt.alloc(), &none), None);
     Ok(())
 }
 
 #[test]
 fn strings_and_truth_values_are_those_of_python(rt: HostRuntime) -> Result<(), Fail> {
     let none = SnapList::new(rt.alloc());
-    for (format, part, bytes) in &WRITTEN {
-        let given = Given::Parts(&[*part]);
-        assert!(rt;
-            does(rt.alloc(), format, given, &none, Way::Written(Ok(bytes)))?,
-            "{format}"
-        );
-    }
-    for (format, part, bytes) in &READ {
-        let given = Given::Parts(&[*part]);
-        assert!(rt;
-            does(rt.alloc(), format, given, &none, Way::Read(bytes))?,
-            "{format}"
-        );
-    }
+    assert_eq!(rt; other_strings_written(rt.alloc(), &none), None);
+    assert_eq!(rt; other_strings_read(rt.alloc(), &none), None);
+    assert_eq!(rt; other_truths(rt.alloc(), &none), None);
     Ok(())
+}
+
+fn is_long_pascal(alloc: Global, none: &SnapList) -> bool {
+    let mut field = [b'a'; 300];
+    field[0] = 255;
+    let whole = Given::Bytes(&field[1..]);
+    let short = Given::Bytes(&field[1..256]);
+    does(&row(alloc, none, whole, Way::Written(Ok(&field))), "300p")
+        && does(&row(alloc, none, short, Way::Read(&field)), "300p")
 }
 
 #[test]
 fn long_pascal_strings(rt: HostRuntime) -> Result<(), Fail> {
     let none = SnapList::new(rt.alloc());
-    let mut field = [b'a'; 300];
-    field[0] = 255;
-    let whole = Given::Parts(&[Part::Bytes(&field[1..])]);
-    assert!(rt; does(rt.alloc(), "300p", whole, &none, Way::Written(Ok(&field)))?);
-    let short = Given::Parts(&[Part::Bytes(&field[1..256])]);
-    assert!(rt; does(rt.alloc(), "300p", short, &none, Way::Read(&field))?);
+    assert!(rt; is_long_pascal(rt.alloc(), &none));
     Ok(())
 }
 
@@ -681,49 +753,30 @@ fn wide_characters_and_accessors(rt: HostRuntime) -> Result<(), Fail> {
     Ok(())
 }
 
-/// Formats, how many bytes there are, and an offset: where they are read as no field or one, or refused.
-const OFFSETS: [(&str, usize, usize, bool); 6] = [
-    ("", 3, 10, false),
-    ("", 3, 3, true),
-    ("B", 3, 2, true),
-    ("B", 3, 3, false),
-    ("<H", 3, 1, true),
-    ("<H", 3, 2, false),
+/// Formats, their value, how many bytes there are, and an offset: where they are enough.
+const OFFSETS: [(&str, &[i128], usize, usize, bool); 6] = [
+    ("", &[], 3, 10, false),
+    ("", &[], 3, 3, true),
+    ("B", &[5], 3, 2, true),
+    ("B", &[5], 3, 3, false),
+    ("<H", &[5], 3, 1, true),
+    ("<H", &[5], 3, 2, false),
 ];
 
-/// Packs 5 where the format asks for a value.
-fn five_packed_at(format: &FormatSpec, room: &mut [u8], offset: usize) -> Result<(), Fault> {
-    if format.arg_count() == 0 {
-        return format.pack_at(room, offset, &[]);
-    }
-    format.pack_at(room, offset, &[Scalar::Int(5)])
-}
-
-/// Whether as many bytes from the offset on are read and written, or refused.
-fn are_enough(alloc: Global, text: &str, length: usize, offset: usize) -> Result<bool, Halt> {
-    let format = FormatSpec::from_str(alloc, text)?;
-    let mut room = vec![in alloc; 0u8; length]?;
-    let read = match format.unpack_from(alloc, room.as_slice(), offset) {
-        Ok(values) => {
-            drop(values);
-            true
+fn wrongly_at(alloc: Global, none: &SnapList) -> Option<&'static str> {
+    for (format, numbers, length, offset, fits) in &OFFSETS {
+        let way = Way::At(*length, *offset, *fits);
+        if !does(&row(alloc, none, Given::Numbers(numbers), way), format) {
+            return Some(format);
         }
-        Err(halt) => halt != Halt::Refused(Fault::Struct)
-    };
-    let written = five_packed_at(&format, room.as_mut_slice(), offset) != Err(Fault::Struct);
-    if read == written {
-        Ok(read)
-    } else {
-        Err(Halt::Refused(Fault::Value))
     }
+    None
 }
 
 #[test]
 fn too_few_bytes_are_refused(rt: HostRuntime) -> Result<(), Fail> {
-    for (text, length, offset, fits) in &OFFSETS {
-        let answer = are_enough(rt.alloc(), text, *length, *offset)?;
-        assert_eq!(rt; answer, *fits, "{text}");
-    }
+    let none = SnapList::new(rt.alloc());
+    assert_eq!(rt; wrongly_at(rt.alloc(), &none), None);
     Ok(())
 }
 
@@ -734,39 +787,36 @@ const SNAPS: [(u64, SnapKind, &[u8]); 3] = [
     (7, SnapKind::Bytes, b"kk"),
 ];
 
-/// Values, and the bytes that they are written as, or why they are refused. The lender hasn't the handle 99.
-const HANDED: [(&str, &[Part<'static>], Result<&[u8], Fault>); 22] = [
-    ("c", &[Part::Handle(1)], Ok(b"k")),
-    ("2s", &[Part::Handle(2)], Ok(b"xy")),
-    ("3p", &[Part::Handle(2)], Ok(b"\x02xy")),
-    ("0p", &[Part::Handle(99)], Ok(b"")),
-    ("b", &[Part::Handle(1)], Err(Fault::Struct)),
-    ("Q", &[Part::Handle(99)], Err(Fault::Struct)),
-    ("?", &[Part::Handle(1)], Err(Fault::Kind)),
-    ("?", &[Part::Handle(99)], Err(Fault::Kind)),
-    ("c", &[Part::Handle(2)], Err(Fault::Kind)),
-    ("c", &[Part::Handle(7)], Err(Fault::Struct)),
-    ("c", &[Part::Handle(99)], Err(Fault::UnknownName)),
-    ("1p", &[Part::Handle(99)], Err(Fault::UnknownName)),
-    (
-        "sb",
-        &[Part::Handle(99), Part::Int(300)],
-        Err(Fault::UnknownName),
-    ),
-    (
-        "bs",
-        &[Part::Handle(99), Part::Int(300)],
-        Err(Fault::Struct),
-    ),
-    ("s", &[Part::Handle(99), Part::Int(300)], Err(Fault::Struct)),
-    ("?b", &[Part::Handle(99), Part::Int(300)], Err(Fault::Kind)),
-    ("4s", &[Part::Int(5)], Err(Fault::Kind)),
-    ("4s", &[Part::Nothing], Err(Fault::Kind)),
-    ("4p", &[Part::Int(5)], Err(Fault::Kind)),
-    ("4p", &[Part::Nothing], Err(Fault::Kind)),
-    ("c", &[Part::Int(5)], Err(Fault::Kind)),
-    ("c", &[Part::Nothing], Err(Fault::Kind)),
+/// A handle, and the bytes that it is written as. The lender hasn't the handle 99.
+const TAKEN: [(&str, u64, &[u8]); 4] = [
+    ("c", 1, b"k"),
+    ("2s", 2, b"xy"),
+    ("3p", 2, b"\x02xy"),
+    ("0p", 99, b""),
 ];
+
+/// A handle, and why it is refused.
+const REFUSED_HANDLES: [(&str, u64, Fault); 8] = [
+    ("b", 1, Fault::Struct),
+    ("Q", 99, Fault::Struct),
+    ("?", 1, Fault::Kind),
+    ("?", 99, Fault::Kind),
+    ("c", 2, Fault::Kind),
+    ("c", 7, Fault::Struct),
+    ("c", 99, Fault::UnknownName),
+    ("1p", 99, Fault::UnknownName),
+];
+
+/// Why the handle 99 and the number 300 are refused.
+const REFUSED_PAIRS: [(&str, Fault); 4] = [
+    ("sb", Fault::UnknownName),
+    ("bs", Fault::Struct),
+    ("s", Fault::Struct),
+    ("?b", Fault::Kind),
+];
+
+/// Formats that take neither a number nor `None`.
+const OF_BYTES: [&str; 3] = ["4s", "4p", "c"];
 
 fn push_snap(
     alloc: Global,
@@ -788,19 +838,81 @@ fn push_snap(
     lender.push((handle, snap))
 }
 
-// A handle counts as its bytes, and the first refusal decides.
+fn push_snaps(alloc: Global, lender: &mut SnapList) -> Made<()> {
+    for (handle, kind, content) in &SNAPS {
+        push_snap(alloc, lender, *handle, *kind, content)?;
+    }
+    Ok(())
+}
+
+fn otherwise_taken(alloc: Global, lender: &SnapList) -> Option<&'static str> {
+    for (format, handle, bytes) in &TAKEN {
+        let way = Way::Written(Ok(bytes));
+        if !does(&row(alloc, lender, Given::Handle(*handle), way), format) {
+            return Some(format);
+        }
+    }
+    None
+}
+
+fn is_refused(alloc: Global, lender: &SnapList, given: Given, fault: Fault, format: &str) -> bool {
+    does(&row(alloc, lender, given, Way::Written(Err(fault))), format)
+}
+
+fn handle_taken(alloc: Global, lender: &SnapList) -> Option<&'static str> {
+    for (format, handle, fault) in &REFUSED_HANDLES {
+        if !is_refused(alloc, lender, Given::Handle(*handle), *fault, format) {
+            return Some(format);
+        }
+    }
+    None
+}
+
+fn pair_taken(alloc: Global, lender: &SnapList) -> Option<&'static str> {
+    for (format, fault) in &REFUSED_PAIRS {
+        if !is_refused(alloc, lender, Given::HandleAnd(99, 300), *fault, format) {
+            return Some(format);
+        }
+    }
+    None
+}
+
+fn no_bytes_taken(alloc: Global, none: &SnapList) -> Option<&'static str> {
+    for format in &OF_BYTES {
+        if !is_refused(alloc, none, Given::Int(5), Fault::Kind, format) {
+            return Some(format);
+        }
+        if !is_refused(alloc, none, Given::Nothing, Fault::Kind, format) {
+            return Some(format);
+        }
+    }
+    None
+}
+
+fn lender(alloc: Global) -> Made<SnapList> {
+    let mut lender = SnapList::new(alloc);
+    push_snaps(alloc, &mut lender)?;
+    Ok(lender)
+}
+
 #[test]
 fn handles_count_as_their_bytes(rt: HostRuntime) -> Result<(), Fail> {
-    let mut lender = SnapList::new(rt.alloc());
-    for (handle, kind, content) in &SNAPS {
-        push_snap(rt.alloc(), &mut lender, *handle, *kind, content)?;
-    }
-    for (format, parts, wanted) in &HANDED {
-        let given = Given::Parts(parts);
-        assert!(rt;
-            does(rt.alloc(), format, given, &lender, Way::Written(*wanted))?,
-            "{format}"
-        );
-    }
+    let lender = lender(rt.alloc())?;
+    assert_eq!(rt; otherwise_taken(rt.alloc(), &lender), None);
+    Ok(())
+}
+
+#[test]
+fn the_first_refusal_decides(rt: HostRuntime) -> Result<(), Fail> {
+    let lender = lender(rt.alloc())?;
+    assert_eq!(rt; handle_taken(rt.alloc(), &lender), None);
+    assert_eq!(rt; pair_taken(rt.alloc(), &lender), None);
+    Ok(())
+}
+
+#[test]
+fn no_bytes_are_of_a_wrong_kind(rt: HostRuntime) -> Result<(), Fail> {
+    let none = SnapList::new(rt.alloc());
+    assert_eq!(rt; no_bytes_taken(rt.alloc(), &none), None);
     Ok(())
 }
