@@ -188,10 +188,15 @@ class Drawn:
     """Lines of sessions, drawn."""
 
     KINDS = [b"bytearray"] * 6 + [b"bytes", b"vector", b"rovector"]
+    # all methods, by how many arguments they take
     METHODS = {
-        b"": b"upper title isdigit swapcase strip split splitlines hex expandtabs".split(),
-        b" VALUE": b"find rfind count startswith endswith removeprefix partition add concat join strip split mul zfill".split(),
-        b" VALUE VALUE": b"replace center maketrans index translate".split(),
+        b"": b"isalnum isalpha isascii isdigit islower isspace istitle isupper lower upper swapcase capitalize title hex strip lstrip rstrip split "
+        b"rsplit expandtabs splitlines decode".split(),
+        b" VALUE": b"add concat mul hex fromhex center ljust rjust find rfind index rindex count startswith endswith join translate strip lstrip "
+        b"rstrip removeprefix removesuffix split rsplit partition rpartition expandtabs splitlines zfill decode".split(),
+        b" VALUE VALUE": b"hex center ljust rjust find rfind index rindex count startswith endswith maketrans translate split rsplit replace "
+        b"decode".split(),
+        b" VALUE VALUE VALUE": b"find rfind index rindex count startswith endswith replace".split(),
     }
     # How often each is drawn, by the name that it has: what makes views and takes them away, what asks for another length, and
     # what only reads.
@@ -200,29 +205,37 @@ class Drawn:
         (6, b"release VIEW"),
         (2, b"exit VIEW"),
         (2, b"range own 0 2"),
+        (1, b"range NAME NUMBER NUMBER"),
         (6, b"get VIEW KEY"),
         (3, b"get own KEY"),
+        (1, b"get ANY VALUE"),
         (2, b"cast VIEW FORMAT"),
         (2, b"cast VIEW 'B' [2,2]"),
         (2, b"castf VIEW 'B' [2,2]"),
+        (1, b"cast VIEW VALUE"),
+        (1, b"cast VIEW FORMAT VALUE"),
         (1, b"toreadonly VIEW"),
         (1, b"contig VIEW"),
         (1, b"enter VIEW"),
         (3, b"set VIEW KEY VALUE"),
         (3, b"set own KEY VALUE"),
+        (1, b"set ANY VALUE VALUE"),
         (2, b"del own KEY"),
+        (1, b"del ANY VALUE"),
         (6, b"append own VALUE"),
         (2, b"extend own VALUE"),
         (1, b"iadd own VALUE"),
         (2, b"insert own NUMBER NUMBER"),
+        (1, b"insert own VALUE VALUE"),
         (3, b"pop own"),
-        (1, b"pop own NUMBER"),
-        (1, b"remove own NUMBER"),
+        (1, b"pop own VALUE"),
+        (1, b"remove own VALUE"),
         (1, b"clear own"),
         (1, b"reverse own"),
         (1, b"imul own SMALL"),
         (2, b"init own BYTES"),
         (1, b"init own VALUE"),
+        (1, b"init own VALUE VALUE"),
         (1, b"copy own"),
         (1, b"take own"),
         (2, b"len NAME"),
@@ -236,13 +249,19 @@ class Drawn:
         (1, b"repr NAME"),
         (1, b"contains own VALUE"),
         (1, b"hex VIEW"),
+        (1, b"hex NAME VALUE"),
+        (1, b"hex VIEW VALUE VALUE"),
         (2, b"iter NAME"),
         (4, b"next ITERATOR"),
         (1, b"hint ITERATOR"),
-        (1, b"setstate ITERATOR NUMBER"),
+        (1, b"setstate ITERATOR VALUE"),
         (1, b"len ANY"),
-        (4, b"call own METHOD"),
+        (6, b"call own METHOD"),
+        (1, b"call VIEW METHOD"),
     ]
+
+    # what makes a view, mostly
+    VIEWS = (b"view ", b"range ", b"get VIEW ", b"get ANY ", b"cast ", b"castf ", b"toreadonly ")
 
     def __init__(self, draw):
         self.draw = draw
@@ -296,19 +315,42 @@ class Drawn:
     def put(self, pattern):
         return b"".join(map(self.word, tokens(pattern)))
 
+    def command(self, pattern):
+        """A command, once in twenty times of any subject, whether it has it or not."""
+        words = pattern.split(b" ")
+        if self.draw.random() < 0.05:
+            words[1] = b"ANY"
+        return self.put(b" ".join(words))
+
     def lines(self, most_sessions, most_lines):
         draw = self.draw
         sessions = draw.randint(1, most_sessions)
         commands = [command for _, command in self.COMMANDS]
         first = b"new %s x%s" % (draw.choice(self.KINDS), draw.randbytes(draw.choice([0, 1, 4, 8, 24])).hex().encode())
         patterns = draw.choices(commands, self.weights, k=draw.randint(0, most_lines))
-        return [first] + [b"%d %s" % (draw.randrange(sessions), self.put(pattern)) for pattern in patterns]
+        return [first] + [b"%d %s" % (draw.randrange(sessions), self.command(pattern)) for pattern in patterns]
+
+    def script(self):
+        """The lines of one session of 200: some that make no view, then all kinds, and again such behind the release of its views.
+        So most sessions add bytes and take some out while nobody has a view."""
+        commands = [(command, weight) for (_, command), weight in zip(self.COMMANDS, self.weights)]
+        others = [(command, weight) for command, weight in commands if not command.startswith(self.VIEWS)]
+        drawn = lambda some, count: self.draw.choices(*zip(*some), k=count)
+        releases = [b"release m%d" % number for number in range(20)]
+        return list(map(self.command, drawn(others, 70) + drawn(commands, 80) + releases + drawn(others, 30)))
 
 
 def drawn(count, seed, most_sessions=SESSIONS, most_lines=LINES):
     """So many inputs."""
     draw = random.Random(seed)
     return [Drawn(draw).lines(most_sessions, most_lines) for _ in range(count)]
+
+
+def scripts(count, seed, sessions=8):
+    """So many inputs, of sessions that each ask 200 commands of a bytearray."""
+    draw = random.Random(seed)
+    asked = lambda number: [b"%d %s" % (number, line) for line in Drawn(draw).script()]
+    return [[b"new bytearray x6162636465666768"] + [line for number in range(sessions) for line in asked(number)] for _ in range(count)]
 
 
 def main():

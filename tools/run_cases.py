@@ -210,7 +210,7 @@ def long_words():
 
 def drawn_sessions():
     """Inputs of sessions that are drawn, the same ones each time."""
-    inputs = check_sessions.drawn(16, 17, 16, 200)
+    inputs = check_sessions.drawn(16, 17, 16, 200) + check_sessions.scripts(10, 50)
     given = (b"".join(line + b"\n" for line in lines) for lines in inputs)
     # (one with lines of no session or of one alone is no such case)
     cases = [Case(f"input {number}", it, None, DONE, [b"share"]) for number, it in enumerate(given, 1)]
