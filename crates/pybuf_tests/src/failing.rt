@@ -1,5 +1,5 @@
 //! Devices in memory that fail at each of their calls in turn, and an input that is cut at each place.
-use pybuf_cli::{ListSink, ListSource, QuietSink, QuietSource, Status, serve_alone, serve_bytes};
+use pybuf_cli::{ListSink, ListSource, Sink, Source, Status, serve_alone, serve_bytes};
 use pybuf_value::{ByteList, CountList, Made};
 use std::alloc::Global;
 use std::test::Fail;
@@ -16,16 +16,15 @@ get h1 4:8:None\ncast h2 'H'\nset h3 0 1\nset h3 1 258\nget h1 8:16:None\ncast h
 set h5 0 5\nset h5 1 4294967295\nhex h1\nappend h0 104\nrelease h1\nrelease h2\nrelease h3\n\
 release h4\nrelease h5\nextend h0 x68656c6c6f\nlen h0\n";
 
-/// How a run ended, how often its device failed, how many bytes were left to be read, how many were
-/// put, and whether these are the front of what was due.
-#[derive(Clone, Copy, Debug, PartialEq, Eq)]
-struct Ended {
-    status: Status,
-    faults: u64,
-    left: usize,
-    put: usize,
-    front: bool,
-}
+/// A call that no device comes to.
+const NEVER: usize = usize::MAX;
+
+/// How a run ended, how often a device failed, how many bytes were left to be read, how many were put, and whether these
+/// are the front of what was due.
+type Ended = (Status, u64, usize, usize, bool);
+
+/// A run that nothing stopped.
+const WHOLE: Ended = (Status::Done, 0, 0, OUTPUT.len(), true);
 
 fn bytes(alloc: Global, bytes: &[u8]) -> Made<ByteList> {
     Ok(ByteList::from_vec(Vec::from_slice(alloc, bytes)?))
@@ -37,63 +36,46 @@ fn only(alloc: Global, number: usize) -> Made<CountList> {
     Ok(numbers)
 }
 
-/// A run whose source moves a byte at each call, and fails at this one.
-fn run_from(alloc: Global, failing: usize) -> Made<Ended> {
-    let mut source = ListSource::new(bytes(alloc, INPUT)?, 1, only(alloc, failing)?);
-    let mut sink = QuietSink::new(alloc);
+/// A source that moves a byte of the input at each call, and fails at this one.
+fn source(alloc: Global, failing: usize) -> Made<ListSource> {
+    let calls = only(alloc, failing)?;
+    Ok(ListSource::new(bytes(alloc, INPUT)?, 1, calls))
+}
+
+/// A sink that puts a byte at each call, and fails at this one.
+fn sink(alloc: Global, failing: usize) -> Made<ListSink> {
+    Ok(ListSink::new(alloc, 1, only(alloc, failing)?))
+}
+
+/// How a run ends whose devices fail at these calls.
+fn run(alloc: Global, read: usize, write: usize) -> Made<Ended> {
+    let mut source = source(alloc, read)?;
+    let mut sink = sink(alloc, write)?;
     let status = serve_alone(alloc, &[], &mut source, &mut sink);
-    Ok(Ended {
+    let faults = source.faults().wrapping_add(sink.faults());
+    let put = sink.bytes();
+    Ok((
         status,
-        faults: source.faults(),
-        left: source.left().len(),
-        put: sink.bytes().len(),
-        front: OUTPUT.starts_with(sink.bytes()),
-    })
+        faults,
+        source.left().len(),
+        put.len(),
+        OUTPUT.starts_with(put),
+    ))
 }
 
-/// A run whose sink puts a byte at each call, and fails at this one.
-fn run_into(alloc: Global, failing: usize) -> Made<Ended> {
-    let mut source = QuietSource::new(bytes(alloc, INPUT)?);
-    let mut sink = ListSink::new(alloc, 1, only(alloc, failing)?);
-    let status = serve_alone(alloc, &[], &mut source, &mut sink);
-    Ok(Ended {
-        status,
-        faults: sink.faults(),
-        left: source.left().len(),
-        put: sink.bytes().len(),
-        front: OUTPUT.starts_with(sink.bytes()),
-    })
+/// What is written for an input, and how it ends, from bytes to bytes.
+fn served(alloc: Global, input: &[u8]) -> Made<(ByteList, Status)> {
+    Ok(serve_bytes(alloc, &[], bytes(alloc, input)?))
 }
-
-/// How an input ends.
-fn status_of(alloc: Global, input: &[u8]) -> Made<Status> {
-    let (_, status) = serve_bytes(alloc, &[], bytes(alloc, input)?);
-    Ok(status)
-}
-
-/// A run that nothing stopped.
-const WHOLE: Ended = Ended {
-    status: Status::Done,
-    faults: 0,
-    left: 0,
-    put: OUTPUT.len(),
-    front: true,
-};
 
 // A call for each byte, and one that finds the end.
 #[test]
 fn a_source_fails_at_each_of_its_calls(rt: HostRuntime) -> Result<(), Fail> {
     for call in 0..=INPUT.len() {
-        let ended = Ended {
-            status: Status::ReadFault,
-            faults: 1,
-            left: INPUT.len() - call,
-            put: 0,
-            front: true,
-        };
-        assert_eq!(rt; run_from(rt.alloc(), call)?, ended);
+        let ended = (Status::ReadFault, 1, INPUT.len() - call, 0, true);
+        assert_eq!(rt; run(rt.alloc(), call, NEVER)?, ended);
     }
-    assert_eq!(rt; run_from(rt.alloc(), INPUT.len() + 1)?, WHOLE);
+    assert_eq!(rt; run(rt.alloc(), INPUT.len() + 1, NEVER)?, WHOLE);
     Ok(())
 }
 
@@ -101,16 +83,10 @@ fn a_source_fails_at_each_of_its_calls(rt: HostRuntime) -> Result<(), Fail> {
 #[test]
 fn a_sink_fails_at_each_of_its_calls(rt: HostRuntime) -> Result<(), Fail> {
     for call in 0..OUTPUT.len() {
-        let ended = Ended {
-            status: Status::WriteFault,
-            faults: 1,
-            left: 0,
-            put: call,
-            front: true,
-        };
-        assert_eq!(rt; run_into(rt.alloc(), call)?, ended);
+        let ended = (Status::WriteFault, 1, 0, call, true);
+        assert_eq!(rt; run(rt.alloc(), NEVER, call)?, ended);
     }
-    assert_eq!(rt; run_into(rt.alloc(), OUTPUT.len())?, WHOLE);
+    assert_eq!(rt; run(rt.alloc(), NEVER, OUTPUT.len())?, WHOLE);
     Ok(())
 }
 
@@ -118,8 +94,17 @@ fn a_sink_fails_at_each_of_its_calls(rt: HostRuntime) -> Result<(), Fail> {
 #[test]
 fn an_input_is_cut_at_each_place(rt: HostRuntime) -> Result<(), Fail> {
     for place in 0..=HEADER.len() {
-        let status = status_of(rt.alloc(), &HEADER[..place])?;
+        let (_, status) = served(rt.alloc(), &HEADER[..place])?;
         assert!(rt; status == Status::Done || status == Status::BadLine);
     }
+    Ok(())
+}
+
+// What the program does with other inputs is what the cases show, which `tools/run_cases.py` runs.
+#[test]
+fn bytes_to_bytes(rt: HostRuntime) -> Result<(), Fail> {
+    let (output, status) = served(rt.alloc(), INPUT)?;
+    assert_eq!(rt; status, Status::Done);
+    assert_eq!(rt; output.as_slice(), OUTPUT);
     Ok(())
 }

@@ -7,8 +7,6 @@ mod devices;
 #[cfg(test)]
 mod failing;
 #[cfg(test)]
-mod rows;
-#[cfg(test)]
 mod sharing;
 #[cfg(test)]
 mod users;

@@ -3,7 +3,7 @@
 use pybuf_uses::{
     Handover, Header, Interpreter, LineBuffer, NumberArray, Reading, Statement, WeatherLog,
 };
-use pybuf_view::{ByteList, Fault, Halt, Item, PyBuffer, Reply, Scalar, Text};
+use pybuf_view::{ByteList, Fault, Halt, Item, Made, PyBuffer, Reply, Scalar, Text};
 use std::alloc::Global;
 use std::test::Fail;
 
@@ -131,23 +131,33 @@ fn statements_are_answered(rt: HostRuntime) -> Result<(), Fail> {
     Ok(())
 }
 
-#[test]
-fn a_program_is_run(rt: HostRuntime) -> Result<(), Fail> {
-    let alloc = rt.alloc();
-    let program = vec![in alloc;
-        Statement::ByteArray(ByteList::from_slice(alloc, b"abc")?),
+/// The statements of a program on a bytearray of these bytes.
+fn program(alloc: Global, bytes: ByteList) -> Made<Vec<Statement>> {
+    Ok(vec![in alloc;
+        Statement::ByteArray(bytes),
         Statement::MemoryView(0),
         Statement::SetItem(1, 0, 65),
         Statement::Release(1),
         Statement::GetItem(1, 0),
         Statement::Bytes(0),
-    ]?;
+    ]?)
+}
+
+/// The answers to it, as numbers.
+fn answers(alloc: Global) -> Made<Vec<i128>> {
+    let program = program(alloc, ByteList::from_slice(alloc, b"abc")?)?;
     let answers = Interpreter::new(alloc).run(program)?;
-    let mut told_all = Vec::new(alloc);
+    let mut numbers = Vec::new(alloc);
     for answer in answers.into_vec() {
-        told_all.push(told(answer))?;
+        numbers.push(told(answer))?;
     }
-    assert_eq!(rt; told_all.as_slice(), [0, 1, -1, -1, -3, -9].as_slice());
+    Ok(numbers)
+}
+
+#[test]
+fn a_program_is_run(rt: HostRuntime) -> Result<(), Fail> {
+    let numbers = answers(rt.alloc())?;
+    assert_eq!(rt; numbers.as_slice(), [0, 1, -1, -1, -3, -9].as_slice());
     Ok(())
 }
 

@@ -5,9 +5,8 @@ ghost use Rattle.pybuf_state.specs.Fits.{LoansFit};
 ghost use Rattle.pybuf_share.specs.Finishing.{AreAll};
 ghost use Rattle.pybuf_share.specs.Working.{ScriptFits};
 
-use crate::histories::append;
-use crate::scripts::plain_command;
-use pybuf_command::{ExporterKind, LocalCommand, LocalReply, Subject};
+use crate::asking::append;
+use pybuf_command::{ExporterKind, LocalCommand, LocalReply};
 use pybuf_share::{
     Entry, FinishFault, Joined, LocalCommandList, OpenGate, ScriptList, Session, SharedExporter,
     run_sessions,
@@ -31,7 +30,7 @@ fn byte_of(session: u64) -> u8 {
 fn append_own(alloc: Global, session: u64) -> LocalCommand
     ensures { LoansFit result.loans }
 {
-    plain_command(alloc, Subject::Own, append(byte_of(session) as i128))
+    append(alloc, byte_of(session))
 }
 
 /// Whether an entry is that of its session, and this byte is the session's.

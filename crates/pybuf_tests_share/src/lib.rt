@@ -5,28 +5,18 @@
 #[cfg(test)]
 mod appending;
 #[cfg(test)]
+mod asking;
+#[cfg(test)]
 mod carrying;
-#[cfg(test)]
-mod drawing;
-#[cfg(test)]
-mod drawn;
-#[cfg(test)]
-mod draws;
 #[cfg(test)]
 mod finishing;
 #[cfg(test)]
 mod flags;
 #[cfg(test)]
-mod histories;
-#[cfg(test)]
 mod meetings;
 #[cfg(test)]
 mod refused;
 #[cfg(test)]
-mod ring;
+mod starting;
 #[cfg(test)]
-mod scripts;
-#[cfg(test)]
-mod shared;
-#[cfg(test)]
-mod verbs;
+mod turns;

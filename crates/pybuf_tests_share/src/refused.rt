@@ -1,12 +1,12 @@
 //! A history for which there is no memory leaves exporter and session as they were, wherever memory runs out: with all
 //! memory it is asked as often, and nothing is refused.
-ghost use Rattle.std.specs.Prelude.{◌≡◌};
+ghost use Rattle.std.specs.Prelude.{◌≡◌, []};
 
-use crate::histories::append;
-use crate::scripts::plain_command;
-use pybuf_command::{ExporterKind, LocalReply, Subject, Verb};
+use crate::asking::{append, bytes};
+use crate::starting::started;
+use pybuf_command::{LocalCommand, LocalReply};
 use pybuf_share::{Session, SharedExporter};
-use pybuf_value::{ByteList, Item, Made, Scalar};
+use pybuf_value::Made;
 use std::alloc::Global;
 use std::marker::Brand;
 use std::sync::Wait;
@@ -16,18 +16,17 @@ use std::test::Fail;
 /// So many bytes are appended.
 const ROUNDS: usize = 40;
 
-/// Asks a command to which nothing is lent. Whether it was answered, or `None` where it wasn't and the session isn't as before.
+/// Whether a command was answered, or `None` where it wasn't and the session isn't as before.
 fn is_answered<L: Ledger, R: Wait>(
     rt: &R,
-    alloc: Global,
     shared: &SharedExporter<L>,
     session: &mut Session<L>,
-    verb: Verb,
-) -> Option<bool> {
+    command: LocalCommand,
+) -> Option<bool>
+    requires { command.loans ≡ [] }
+{
     let before = session.receipts().len();
-    let answered = shared
-        .call(rt, session, plain_command(alloc, Subject::Own, verb))
-        .is_ok();
+    let answered = shared.call(rt, session, command).is_ok();
     if answered {
         return Some(true);
     }
@@ -43,10 +42,13 @@ fn has_length<L: Ledger, R: Wait>(
     alloc: Global,
     shared: &SharedExporter<L>,
     session: &mut Session<L>,
-    length: i128,
+    length: usize,
 ) -> bool {
-    match is_answered(rt, alloc, shared, session, Verb::Len) {
-        Some(true) => { session.last() == Some(&LocalReply::Item(Item::One(Scalar::Int(length)))) }
+    match is_answered(rt, shared, session, bytes(alloc)) {
+        Some(true) => match session.last() {
+            Some(LocalReply::Bytes(bytes)) => bytes.len() == length,
+            _ => false,
+        },
         Some(false) => true,
         None => false,
     }
@@ -59,9 +61,9 @@ fn keeps_count<L: Ledger, R: Wait>(
     shared: &SharedExporter<L>,
     session: &mut Session<L>,
 ) -> bool {
-    let mut length: i128 = 0;
+    let mut length = 0usize;
     for _ in 0..ROUNDS {
-        match is_answered(rt, alloc, shared, session, append(7)) {
+        match is_answered(rt, shared, session, append(alloc, 7)) {
             Some(true) => length = length.wrapping_add(1),
             Some(false) => {}
             None => return false,
@@ -73,33 +75,26 @@ fn keeps_count<L: Ledger, R: Wait>(
     true
 }
 
-fn one_session<L: Ledger, R: Wait>(rt: &R, alloc: Global, blank: Blank) -> Made<bool>
+fn two_sessions<L: Ledger, R: Wait>(rt: &R, alloc: Global, blank: Blank) -> Made<bool>
     requires name { blank.name ≡ L.name }
     requires parts { blank.parts ≡ L.parts }
-    requires one { blank.parts ≡ 1 }
+    requires two { blank.parts ≡ 2 }
 {
-    let bytes = ByteList::new(alloc);
-    let (shared, mut sessions) = SharedExporter::<L>::start(
-        alloc,
-        blank,
-        ExporterKind::ByteArray,
-        bytes,
-        1,
-    )?;
-    match sessions.as_mut_slice() {
-        [session] => Ok(keeps_count(rt, alloc, &shared, session)),
-        _ => Ok(false),
+    let (shared, mut sessions) = started::<L>(alloc, blank, b"")?;
+    match sessions.first_mut() {
+        Some(session) => Ok(keeps_count(rt, alloc, &shared, session)),
+        None => Ok(false),
     }
 }
 
-fn one_session_by_brand<R: Wait>(rt: &R, alloc: Global) -> Made<bool> {
-    one_session::<Brand, R>(rt, alloc, Blank::new(1))
+fn two_sessions_by_brand<R: Wait>(rt: &R, alloc: Global) -> Made<bool> {
+    two_sessions::<Brand, R>(rt, alloc, Blank::new(2))
 }
 
 #[test]
 fn a_history_without_memory_leaves_all_as_it_was(rt: HostRuntime) -> Result<(), Fail> {
     // (where memory ran out before the first call, there is no history)
-    let kept = one_session_by_brand(&rt, rt.alloc()).unwrap_or(true);
+    let kept = two_sessions_by_brand(&rt, rt.alloc()).unwrap_or(true);
     assert!(rt; kept);
     Ok(())
 }

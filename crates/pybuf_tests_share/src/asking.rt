@@ -1,0 +1,66 @@
+//! What sessions ask in these tests, and replies as letters.
+ghost use Rattle.std.specs.Prelude.{◌≡◌, []};
+
+use pybuf_command::{LoanList, LocalCommand, LocalReply, Subject, Verb};
+use pybuf_share::Session;
+use pybuf_value::{Fault, Item, Made, Scalar, Value};
+use std::alloc::Global;
+use std::sync::ledger::Ledger;
+
+/// A command to which nothing is lent.
+pub(crate) fn plain_command(alloc: Global, subject: Subject, verb: Verb) -> LocalCommand
+    ensures { result.loans ≡ [] }
+{
+    LocalCommand {
+        subject,
+        verb,
+        loans: LoanList::new(alloc),
+    }
+}
+
+pub(crate) fn len(alloc: Global) -> LocalCommand
+    ensures { result.loans ≡ [] }
+{
+    plain_command(alloc, Subject::Own, Verb::Len)
+}
+
+pub(crate) fn append(alloc: Global, byte: u8) -> LocalCommand
+    ensures { result.loans ≡ [] }
+{
+    let value = Value::One(Scalar::Int(byte as i128));
+    plain_command(alloc, Subject::Own, Verb::Append { value })
+}
+
+/// The bytes of the exporter.
+pub(crate) fn bytes(alloc: Global) -> LocalCommand
+    ensures { result.loans ≡ [] }
+{
+    plain_command(alloc, Subject::Own, Verb::ToBytes { order: None })
+}
+
+/// A digit, of a small number.
+pub(crate) fn digit(number: u64) -> u8 {
+    b'0'.wrapping_add((number % 10) as u8)
+}
+
+/// A reply as a letter, and a small number as its digit.
+pub(crate) fn letter(reply: Option<&LocalReply>) -> u8 {
+    match reply {
+        Some(LocalReply::Ok) => b'o',
+        Some(LocalReply::View(0)) => b'v',
+        Some(LocalReply::Iter(0)) => b'i',
+        Some(LocalReply::Bytes(_)) => b's',
+        Some(LocalReply::Item(Item::One(Scalar::Int(number)))) => digit(*number as u64),
+        Some(LocalReply::Refused(Fault::Buffer)) => b'r',
+        _ => b'?',
+    }
+}
+
+/// Adds the last reply of a session, and bytes behind their letter.
+pub(crate) fn tell_last<L: Ledger>(told: &mut Vec<u8>, session: &Session<L>) -> Made<()> {
+    told.push(letter(session.last()))?;
+    if let Some(LocalReply::Bytes(bytes)) = session.last() {
+        told.extend_from_slice(bytes.as_slice())?;
+    }
+    Ok(())
+}
