@@ -1,121 +1,95 @@
 //! The methods of `PyBytes` and of its iterator, with Python's answers: a line of the program makes the same commands
 //! on a world, and none calls these.
-use crate::answers::{
-    Asks, bytes, bytes_reply, call_of, carry_out, count_reply, number, truth_reply,
-};
-use pybuf_command::{LoanList, LocalReply, MethodName};
+use crate::answers::{number, tell, tell_bytes, tell_count, tell_truth};
+use pybuf_command::{LoanList, LocalReply, MethodCall, MethodName};
+use pybuf_exporter::ExporterState;
 use pybuf_object::{PyBytes, PyBytesIterator};
-use pybuf_value::{CompareOp, Made};
+use pybuf_value::{CompareOp, Made, Value, ValueList};
 use std::alloc::Global;
 use std::test::Fail;
 
-/// A call, named as the method. `StateExports` is asked of the exporter, and `Number` of an iterator of that number.
-#[derive(Clone, Copy)]
-enum Call {
-    AsBuffer,
-    AsBytes,
-    Compare(CompareOp, &'static [u8]),
-    Contains(&'static [u8]),
-    ContainsByte(i128),
-    Exports,
-    GetItem(i128),
-    Hash,
-    IsEmpty,
-    Iter,
-    Len,
-    LengthHint,
-    Next,
-    Number(usize),
-    Range(i128, i128),
-    Repr,
-    RFind(&'static [u8]),
-    SetState(i128),
-    StateExports,
-    ToBytes,
+/// The last place of two bytes, by the name of the method.
+fn rfind(object: &mut PyBytes, alloc: Global) -> Made<LocalReply> {
+    let mut args = ValueList::new(alloc);
+    args.push(Value::bytes(alloc, b"ab")?)?;
+    let name = MethodName::RFind;
+    object.call(MethodCall { name, args }, LoanList::new(alloc))
 }
 
-impl Asks for Call {
-    type Object = PyBytes;
-
-    /// What a call answers of the object, or of its iterator 0.
-    fn answer(self, object: &mut PyBytes, alloc: Global) -> Made<LocalReply> {
-        match self {
-            Call::AsBuffer => object.as_buffer(LoanList::new(alloc)),
-            Call::AsBytes => bytes_reply(alloc, object.as_bytes()),
-            Call::Compare(op, other) => object.cmp(op, bytes(alloc, other)?, LoanList::new(alloc)),
-            Call::Contains(part) => object.contains(bytes(alloc, part)?, LoanList::new(alloc)),
-            Call::ContainsByte(byte) => object.contains(number(byte), LoanList::new(alloc)),
-            Call::Exports => object.exports(LoanList::new(alloc)),
-            Call::GetItem(index) => object.getitem(number(index), LoanList::new(alloc)),
-            Call::Hash => object.hash(LoanList::new(alloc)),
-            Call::IsEmpty => truth_reply(object.is_empty()),
-            Call::Iter => object.iter(LoanList::new(alloc)),
-            Call::Len => count_reply(object.len()),
-            Call::Next => PyBytesIterator::of(0).next(alloc, object.state_mut()),
-            Call::LengthHint => PyBytesIterator::of(0).length_hint(alloc, object.state_mut()),
-            Call::Range(from, to) => object.range(number(from), number(to), LoanList::new(alloc)),
-            Call::Repr => object.repr_str(LoanList::new(alloc)),
-            Call::RFind(part) => {
-                let method = call_of(alloc, MethodName::RFind, bytes(alloc, part)?)?;
-                object.call(method, LoanList::new(alloc))
-            }
-            Call::SetState(place) => {
-                let iterator = PyBytesIterator::of(0);
-                iterator.setstate(object.state_mut(), number(place), LoanList::new(alloc))
-            }
-            Call::Number(iterator) => count_reply(PyBytesIterator::of(iterator).number()),
-            Call::StateExports => count_reply(object.state().exports()),
-            Call::ToBytes => object.tobytes(LoanList::new(alloc)),
-        }
-    }
+fn read(object: &mut PyBytes, alloc: Global, told: &mut Vec<u8>) -> Made<()> {
+    tell(told, alloc, object.as_buffer(LoanList::new(alloc)))?;
+    tell(
+        told,
+        alloc,
+        object.range(number(1), number(3), LoanList::new(alloc)),
+    )?;
+    tell(
+        told,
+        alloc,
+        object.getitem(number(-1), LoanList::new(alloc)),
+    )?;
+    tell(told, alloc, object.tobytes(LoanList::new(alloc)))?;
+    tell(told, alloc, object.exports(LoanList::new(alloc)))
 }
 
-/// As `b = b'abcab'` of Python 3. A view is told by its number, and a hash by the bytes that it is of.
-const ANSWERED: [(Call, &str); 15] = [
-    (Call::AsBuffer, "v0"),
-    (Call::Range(1, 3), "v1"),
-    (Call::GetItem(-1), "98"),
-    (Call::ToBytes, "b'abcab'"),
-    (Call::Exports, "2"),
-    (Call::StateExports, "2"),
-    (Call::Len, "5"),
-    (Call::IsEmpty, "False"),
-    (Call::AsBytes, "b'abcab'"),
-    (Call::Compare(CompareOp::Lt, b"abd"), "True"),
-    (Call::Hash, "b'abcab'"),
-    (Call::Repr, "b'abcab'"),
-    (Call::Contains(b"ca"), "True"),
-    (Call::ContainsByte(100), "False"),
-    (Call::RFind(b"ab"), "3"),
-];
+fn ask(object: &mut PyBytes, alloc: Global, told: &mut Vec<u8>) -> Made<()> {
+    let other = Value::bytes(alloc, b"abd")?;
+    tell(
+        told,
+        alloc,
+        object.cmp(CompareOp::Lt, other, LoanList::new(alloc)),
+    )?;
+    tell(told, alloc, object.hash(LoanList::new(alloc)))?;
+    tell(told, alloc, object.repr_str(LoanList::new(alloc)))?;
+    tell(
+        told,
+        alloc,
+        object.contains(number(100), LoanList::new(alloc)),
+    )?;
+    tell(told, alloc, rfind(object, alloc))
+}
 
+fn look(object: &PyBytes, told: &mut Vec<u8>) -> Made<()> {
+    tell_count(told, object.len())?;
+    tell_truth(told, object.is_empty())?;
+    tell_bytes(told, object.as_bytes())?;
+    tell_count(told, object.state().exports())
+}
+
+/// Iterator 0 of an exporter.
+fn go_on(state: &mut ExporterState, alloc: Global, told: &mut Vec<u8>) -> Made<()> {
+    let items = PyBytesIterator::of(0);
+    tell(told, alloc, items.next(alloc, state))?;
+    tell(told, alloc, items.length_hint(alloc, state))?;
+    tell(
+        told,
+        alloc,
+        items.setstate(state, number(9), LoanList::new(alloc)),
+    )?;
+    tell(told, alloc, items.next(alloc, state))?;
+    tell_count(told, items.number())
+}
+
+fn read_all(object: &mut PyBytes, alloc: Global, told: &mut Vec<u8>) -> Made<()> {
+    read(object, alloc, told)?;
+    ask(object, alloc, told)?;
+    look(object, told)?;
+    tell(told, alloc, object.iter(LoanList::new(alloc)))?;
+    go_on(object.state_mut(), alloc, told)
+}
+
+/// As `b = b'abcab'` of Python 3. A hash is told by the bytes that it is of.
 #[test]
-fn bytes_are_read_compared_and_searched(rt: HostRuntime) -> Result<(), Fail> {
+fn bytes_are_read_and_iterated(rt: HostRuntime) -> Result<(), Fail> {
     let alloc = rt.alloc();
+    let mut told = Vec::new(alloc);
     let mut object = PyBytes::new_ref(alloc, Vec::from_slice(alloc, b"abcab")?);
-    let (mut told, mut wanted) = (Vec::new(alloc), Vec::new(alloc));
-    carry_out(&mut object, alloc, &ANSWERED, &mut told, &mut wanted)?;
-    assert_eq!(rt; told.as_slice(), wanted.as_slice());
-    Ok(())
-}
-
-/// As `i = iter(b'ab')` of Python 3.
-const ITEMS: [(Call, &str); 7] = [
-    (Call::Iter, "i0"),
-    (Call::Next, "97"),
-    (Call::LengthHint, "1"),
-    (Call::SetState(9), "None"),
-    (Call::Next, "StopIteration"),
-    (Call::LengthHint, "0"),
-    (Call::Number(3), "3"),
-];
-
-#[test]
-fn bytes_are_iterated(rt: HostRuntime) -> Result<(), Fail> {
-    let alloc = rt.alloc();
-    let mut object = PyBytes::new_ref(alloc, Vec::from_slice(alloc, b"ab")?);
-    let (mut told, mut wanted) = (Vec::new(alloc), Vec::new(alloc));
-    carry_out(&mut object, alloc, &ITEMS, &mut told, &mut wanted)?;
-    assert_eq!(rt; told.as_slice(), wanted.as_slice());
+    let done = read_all(&mut object, alloc, &mut told);
+    drop(object);
+    done?;
+    assert_eq!(rt;
+        told.as_slice(),
+        b"view 0; view 1; 98; b'abcab'; 2; True; b'abcab'; b'abcab'; False; 3; 5; False; b'abcab'; 2; iterator 0; 97; 4; ok; stop; 0".as_slice()
+    );
     Ok(())
 }

@@ -1,4 +1,4 @@
-//! Tests of the calls of objects, buffers, borrows, exporters and worlds that no line of the program makes.
+//! Tests of the calls of objects, buffers, borrows and exporters that no line of the program makes.
 #![tactic(auto)]
 
 #[cfg(test)]
@@ -12,18 +12,14 @@ mod byte_arrays;
 #[cfg(test)]
 mod byte_strings;
 #[cfg(test)]
-mod counted;
-#[cfg(test)]
 mod described;
 #[cfg(test)]
 mod exporters;
+#[cfg(test)]
+mod lent_vectors;
 #[cfg(test)]
 mod memory_views;
 #[cfg(test)]
 mod plain_calls;
 #[cfg(test)]
-mod vectors;
-#[cfg(test)]
 mod view_methods;
-#[cfg(test)]
-mod worlds;

@@ -1,112 +1,76 @@
 //! How a `PyMemoryView` is made of what an exporter or a buffer has: a line of the program makes views by commands on
 //! a world alone.
-use crate::answers::{
-    exporter_of, lend_by, tell_count, tell_fault, tell_numbered, tell_truth, tell_view, tell_word,
-};
+use crate::answers::{exporter_of, lend, tell_count, tell_fault, tell_truth, tell_view, tell_word};
 use pybuf_buffer::PyBuffer;
 use pybuf_command::Subject;
-use pybuf_desc::BufferDescriptor;
 use pybuf_exporter::ExporterState;
 use pybuf_memoryobject::PyMemoryView;
-use pybuf_value::{DimList, Made, Outcome, Text};
+use pybuf_value::{Made, Outcome, Tried};
 use std::alloc::Global;
 use std::ops::Range;
 use std::test::Fail;
 
-fn view_of(
-    state: &mut ExporterState,
-    alloc: Global,
-    subject: Subject,
-    told: &mut Vec<u8>,
-) -> Made<()> {
-    match PyMemoryView::from_object(alloc, state, subject)? {
-        Outcome::Done(view) => tell_numbered(told, b'v', view.number()),
+fn tell_made(told: &mut Vec<u8>, made: Tried<PyMemoryView>) -> Made<()> {
+    match made? {
+        Outcome::Done(view) => tell_count(told, view.number()),
         Outcome::Refused(fault) => tell_fault(told, fault),
     }
 }
 
-/// Releases view 0.
-fn let_go(state: &mut ExporterState, told: &mut Vec<u8>) -> Made<()> {
+/// Views of all bytes and of view 0, before it is released and after that.
+fn view_subjects(state: &mut ExporterState, alloc: Global, told: &mut Vec<u8>) -> Made<()> {
+    tell_made(told, PyMemoryView::from_object(alloc, state, Subject::Own))?;
+    tell_made(
+        told,
+        PyMemoryView::from_object(alloc, state, Subject::View(0)),
+    )?;
     if state.view_count() < 1 {
         return tell_word(told, b"none");
     }
     PyMemoryView::of(0).release(state);
-    tell_count(told, state.exports())
+    tell_made(
+        told,
+        PyMemoryView::from_object(alloc, state, Subject::View(0)),
+    )?;
+    tell_made(
+        told,
+        PyMemoryView::from_object(alloc, state, Subject::Iter(0)),
+    )
 }
 
-fn view_every_subject(state: &mut ExporterState, alloc: Global, told: &mut Vec<u8>) -> Made<()> {
-    view_of(state, alloc, Subject::Own, told)?;
-    view_of(state, alloc, Subject::View(0), told)?;
-    let_go(state, told)?;
-    view_of(state, alloc, Subject::View(0), told)?;
-    view_of(state, alloc, Subject::View(9), told)?;
-    view_of(state, alloc, Subject::Iter(0), told)?;
-    tell_count(told, state.exports())
-}
-
-#[test]
-fn a_memoryview_is_made_of_what_it_is_asked_of(rt: HostRuntime) -> Result<(), Fail> {
-    let alloc = rt.alloc();
-    let mut state = exporter_of(alloc, b"abc")?;
-    let mut told = Vec::new(alloc);
-    view_every_subject(&mut state, alloc, &mut told)?;
-    assert_eq!(rt;
-        told.as_slice(),
-        b"v0 v1 1 ValueError UnknownName UnknownName 1".as_slice()
-    );
-    Ok(())
-}
-
-/// Three rows of two bytes, one after the other.
-fn three_rows(alloc: Global) -> Made<BufferDescriptor> {
-    let mut dims = DimList::new(alloc);
-    dims.push((3, 2, 0))?;
-    dims.push((2, 1, 0))?;
-    let format = Text::from_str(alloc, "B")?;
-    Ok(BufferDescriptor::raw(6, false, 1, format, dims))
-}
-
-/// Buffer 0, of three rows.
-fn lend_rows(state: &mut ExporterState, alloc: Global, told: &mut Vec<u8>) -> Made<()> {
-    lend_by(state, alloc, three_rows(alloc)?, 0, told)
-}
-
-fn view_of_buffer(state: &mut ExporterState, alloc: Global, told: &mut Vec<u8>) -> Made<()> {
-    let buffer = PyBuffer::of(0);
+/// A memoryview of buffer 2, and one more of that.
+fn view_buffer(state: &mut ExporterState, alloc: Global, told: &mut Vec<u8>) -> Made<()> {
+    let buffer = PyBuffer::of(2);
     if !buffer.is_live(state) {
-        return tell_word(told, b"dead");
+        return tell_word(told, b"released");
     }
     let view = PyMemoryView::from_buffer(alloc, state, &buffer)?;
-    tell_numbered(told, b'v', view.number())
-}
-
-fn view_again(state: &mut ExporterState, alloc: Global, told: &mut Vec<u8>) -> Made<()> {
-    if !PyBuffer::of(1).is_live(state) {
-        return tell_word(told, b"dead");
+    if !PyBuffer::of(view.number()).is_live(state) {
+        return tell_word(told, b"released");
     }
-    let twin = PyMemoryView::of(1).new_view(alloc, state)?;
-    tell_numbered(told, b'v', twin.number())
+    let twin = view.new_view(alloc, state)?;
+    tell_view(told, state, twin.number())
 }
 
-/// Memoryview of a range of the rows of buffer 0, where they are there.
-fn view_of_rows(
+/// Memoryview of a range of the rows of buffer 2, where they are there.
+fn view_rows(
     state: &mut ExporterState,
     alloc: Global,
     range: Range<usize>,
     told: &mut Vec<u8>,
 ) -> Made<()> {
-    let buffer = PyBuffer::of(0);
+    let buffer = PyBuffer::of(2);
     if !buffer.is_live(state) {
-        return tell_word(told, b"dead");
+        return tell_word(told, b"released");
     }
     if !buffer.has_entries(state, &range) {
         return tell_truth(told, false);
     }
     let rows = PyMemoryView::from_buffer_range(alloc, state, &buffer, range)?;
-    tell_numbered(told, b'v', rows.number())
+    tell_view(told, state, rows.number())
 }
 
-/// Tells an exporter that is a copy, and lets it go.
+/// Tells a view of an exporter that is a copy, and lets it go.
 fn tell_copy(told: &mut Vec<u8>, copy: ExporterState, view: usize) -> Made<()> {
     let done = tell_view(told, &copy, view);
     drop(copy);
@@ -115,36 +79,36 @@ fn tell_copy(told: &mut Vec<u8>, copy: ExporterState, view: usize) -> Made<()> {
 
 /// A copy of the memoryview of a range of rows.
 fn copy_rows(state: &ExporterState, alloc: Global, told: &mut Vec<u8>) -> Made<()> {
-    if !PyBuffer::of(3).is_live(state) {
-        return tell_word(told, b"dead");
+    if !PyBuffer::of(5).is_live(state) {
+        return tell_word(told, b"released");
     }
-    let (copy, packed) = PyMemoryView::of(3).to_contiguous(alloc, state)?;
+    let (copy, packed) = PyMemoryView::of(5).to_contiguous(alloc, state)?;
     tell_copy(told, copy, packed.number())
 }
 
-fn view_buffer(state: &mut ExporterState, alloc: Global, told: &mut Vec<u8>) -> Made<()> {
-    lend_rows(state, alloc, told)?;
-    view_of_buffer(state, alloc, told)?;
-    view_again(state, alloc, told)?;
-    tell_view(told, state, 2)?;
-    view_of_rows(state, alloc, 1..3, told)?;
-    tell_view(told, state, 3)?;
+fn view_all(state: &mut ExporterState, alloc: Global, told: &mut Vec<u8>) -> Made<()> {
+    view_subjects(state, alloc, told)?;
+    lend(state, alloc, "B", 1, &[(3, 2), (2, 1)], 0, told)?;
+    view_buffer(state, alloc, told)?;
+    view_rows(state, alloc, 1..3, told)?;
+    view_rows(state, alloc, 2..4, told)?;
     copy_rows(state, alloc, told)?;
-    view_of_rows(state, alloc, 2..4, told)?;
     tell_count(told, state.exports())
 }
 
 /// The rows from 1 up to 3 as `memoryview(b'abcdef').cast('B', (3, 2))[1:3]` of Python 3, whose `tobytes()` is
 /// `b'cdef'`.
 #[test]
-fn a_memoryview_has_the_items_of_a_buffer(rt: HostRuntime) -> Result<(), Fail> {
+fn a_memoryview_is_made_of_what_it_is_asked_of(rt: HostRuntime) -> Result<(), Fail> {
     let alloc = rt.alloc();
-    let mut state = exporter_of(alloc, b"abcdef")?;
     let mut told = Vec::new(alloc);
-    view_buffer(&mut state, alloc, &mut told)?;
+    let mut state = exporter_of(alloc, b"abcdef")?;
+    let done = view_all(&mut state, alloc, &mut told);
+    drop(state);
+    done?;
     assert_eq!(rt;
         told.as_slice(),
-        b"v0 v1 v2 b'abcdef' v3 b'cdef' b'cdef' False 4".as_slice()
+        b"0; 1; ValueError; UnknownName; 2; b'abcdef'; b'cdef'; False; b'cdef'; 5".as_slice()
     );
     Ok(())
 }
