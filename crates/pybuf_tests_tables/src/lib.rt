@@ -2,10 +2,4 @@
 #![tactic(auto)]
 
 #[cfg(test)]
-mod answers;
-#[cfg(test)]
-mod offsets;
-#[cfg(test)]
 mod records;
-#[cfg(test)]
-mod views;
