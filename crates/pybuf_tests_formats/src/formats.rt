@@ -855,7 +855,13 @@ fn otherwise_taken(alloc: Global, lender: &SnapList) -> Option<&'static str> {
     None
 }
 
-fn is_refused(alloc: Global, lender: &SnapList, given: Given, fault: Fault, format: &str) -> bool {
+fn is_refused<'a>(
+    alloc: Global,
+    lender: &'a SnapList,
+    given: Given<'a>,
+    fault: Fault,
+    format: &str,
+) -> bool {
     does(&row(alloc, lender, given, Way::Written(Err(fault))), format)
 }
 
