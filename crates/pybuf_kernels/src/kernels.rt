@@ -23,8 +23,8 @@ use std::time::CpuClock;
 pub enum Work {
     /// Something is done with views of one object.
     Views(Given, Doing),
-    /// Lines are followed in a world of two objects, and the last is carried out again and again.
-    Beside(Pair, [&'static str; 3], &'static str),
+    /// The lines of a text are followed in a world of two objects, and then one line is carried out again and again.
+    Beside(Pair, &'static str, &'static str),
     /// Views are made and released, by plain arguments or not.
     Make(Making, bool),
     /// Records are read or written.
@@ -121,13 +121,13 @@ pub const COPY_KERNELS: [(&str, Work); 38] = [
     ),
     (
         "set-contiguous",
-        Work::Beside(Pair::Zeros(1), ["", "", ""], "set h1 None:None:1 h3"),
+        Work::Beside(Pair::Zeros(1), "", "set h1 None:None:1 h3"),
     ),
     (
         "set-stepped",
         Work::Beside(
             Pair::Zeros(2),
-            ["cast h1 'B'", "cast h3 'B'", "get h5 None:None:2"],
+            "cast h1 'B'\ncast h3 'B'\nget h5 None:None:2",
             "set h4 None:None:2 h6",
         ),
     ),
@@ -135,7 +135,7 @@ pub const COPY_KERNELS: [(&str, Work); 38] = [
         "set-stepped-H",
         Work::Beside(
             Pair::Zeros(2),
-            ["cast h1 'H'", "cast h3 'H'", "get h5 None:None:2"],
+            "cast h1 'H'\ncast h3 'H'\nget h5 None:None:2",
             "set h4 None:None:2 h6",
         ),
     ),
@@ -143,7 +143,7 @@ pub const COPY_KERNELS: [(&str, Work); 38] = [
         "set-stepped-i",
         Work::Beside(
             Pair::Zeros(2),
-            ["cast h1 'i'", "cast h3 'i'", "get h5 None:None:2"],
+            "cast h1 'i'\ncast h3 'i'\nget h5 None:None:2",
             "set h4 None:None:2 h6",
         ),
     ),
@@ -151,7 +151,7 @@ pub const COPY_KERNELS: [(&str, Work); 38] = [
         "set-stepped-q",
         Work::Beside(
             Pair::Zeros(2),
-            ["cast h1 'q'", "cast h3 'q'", "get h5 None:None:2"],
+            "cast h1 'q'\ncast h3 'q'\nget h5 None:None:2",
             "set h4 None:None:2 h6",
         ),
     ),
@@ -159,7 +159,7 @@ pub const COPY_KERNELS: [(&str, Work); 38] = [
         "set-reversed",
         Work::Beside(
             Pair::Zeros(1),
-            ["cast h1 'B'", "cast h3 'B'", "get h5 None:None:-1"],
+            "cast h1 'B'\ncast h3 'B'\nget h5 None:None:-1",
             "set h4 None:None:1 h6",
         ),
     ),
@@ -167,7 +167,7 @@ pub const COPY_KERNELS: [(&str, Work); 38] = [
         "set-reversed-H",
         Work::Beside(
             Pair::Zeros(1),
-            ["cast h1 'H'", "cast h3 'H'", "get h5 None:None:-1"],
+            "cast h1 'H'\ncast h3 'H'\nget h5 None:None:-1",
             "set h4 None:None:1 h6",
         ),
     ),
@@ -175,7 +175,7 @@ pub const COPY_KERNELS: [(&str, Work); 38] = [
         "set-reversed-i",
         Work::Beside(
             Pair::Zeros(1),
-            ["cast h1 'i'", "cast h3 'i'", "get h5 None:None:-1"],
+            "cast h1 'i'\ncast h3 'i'\nget h5 None:None:-1",
             "set h4 None:None:1 h6",
         ),
     ),
@@ -183,17 +183,13 @@ pub const COPY_KERNELS: [(&str, Work); 38] = [
         "set-reversed-q",
         Work::Beside(
             Pair::Zeros(1),
-            ["cast h1 'q'", "cast h3 'q'", "get h5 None:None:-1"],
+            "cast h1 'q'\ncast h3 'q'\nget h5 None:None:-1",
             "set h4 None:None:1 h6",
         ),
     ),
     (
         "set-planes",
-        Work::Beside(
-            Pair::Planes,
-            ["get h4 None:None:2", "", ""],
-            "set h0 0:None:None h5",
-        ),
+        Work::Beside(Pair::Planes, "get h4 None:None:2", "set h0 0:None:None h5"),
     ),
     (
         "set-stepped-rows-B",
@@ -301,13 +297,13 @@ pub const METHOD_KERNELS: [(&str, Work); 23] = [
     ("compare", Work::Views(Given::Twins, Doing::Compare)),
     (
         "compare-beside",
-        Work::Beside(Pair::Texts, ["", "", ""], "compare h1 == h3"),
+        Work::Beside(Pair::Texts, "", "compare h1 == h3"),
     ),
     (
         "compare-reversed",
         Work::Beside(
             Pair::Texts,
-            ["get h1 None:None:-1", "get h3 None:None:-1", ""],
+            "get h1 None:None:-1\nget h3 None:None:-1",
             "compare h4 == h5",
         ),
     ),
@@ -315,7 +311,7 @@ pub const METHOD_KERNELS: [(&str, Work); 23] = [
         "compare-codes",
         Work::Beside(
             Pair::Numbers,
-            ["cast h1 'H'", "cast h3 'i'", ""],
+            "cast h1 'H'\ncast h3 'i'",
             "compare h4 == h5",
         ),
     ),
@@ -324,11 +320,11 @@ pub const METHOD_KERNELS: [(&str, Work); 23] = [
     ("find-end", Work::Call(Method::FindEnd)),
     (
         "find-view",
-        Work::Beside(Pair::Texts, ["", "", ""], "call h0 find h3"),
+        Work::Beside(Pair::Texts, "", "call h0 find h3"),
     ),
     (
         "contains-byte",
-        Work::Beside(Pair::Texts, ["", "", ""], "contains h0 122"),
+        Work::Beside(Pair::Texts, "", "contains h0 122"),
     ),
     ("count-byte", Work::Call(Method::Count(b"a"))),
     ("count-three", Work::Call(Method::Count(b"abc"))),
@@ -336,10 +332,7 @@ pub const METHOD_KERNELS: [(&str, Work); 23] = [
     ("split-blanks", Work::Call(Method::SplitAtBlanks)),
     ("splitlines", Work::Call(Method::SplitLines)),
     ("join", Work::Call(Method::Join)),
-    (
-        "add-view",
-        Work::Beside(Pair::Texts, ["", "", ""], "call h0 add h3"),
-    ),
+    ("add-view", Work::Beside(Pair::Texts, "", "call h0 add h3")),
     ("replace-same", Work::Call(Method::Replace(b"xy"))),
     ("replace-longer", Work::Call(Method::Replace(b"wxyz"))),
     ("translate", Work::Call(Method::Translate)),

@@ -32,8 +32,8 @@ pub struct Beside {
 }
 
 /// The command that a line spells.
-fn command_of(alloc: Global, line: &str) -> Result<Command, Halt> {
-    match pybuf_line::command(alloc, line.as_bytes()) {
+fn command_of(alloc: Global, line: &[u8]) -> Result<Command, Halt> {
+    match pybuf_line::command(alloc, line) {
         Ok(command) => Ok(command),
         Err(Unread::NoCommand) => Err(Halt::Refused(Fault::Value)),
         Err(Unread::NoMemory) => Err(Halt::NoMemory),
@@ -47,7 +47,7 @@ fn carry_out(world: &mut World, command: &Command) -> Made<()> {
 }
 
 /// Carries out the command of a line.
-fn follow(alloc: Global, world: &mut World, line: &str) -> Result<(), Halt> {
+fn follow(alloc: Global, world: &mut World, line: &[u8]) -> Result<(), Halt> {
     let command = command_of(alloc, line)?;
     let done = carry_out(world, &command);
     command.let_go();
@@ -79,9 +79,9 @@ fn make_both(
     second: Vec<u8>,
 ) -> Result<(), Halt> {
     make(world, first)?;
-    follow(alloc, world, "view h0")?;
+    follow(alloc, world, b"view h0")?;
     make(world, second)?;
-    follow(alloc, world, "view h2")
+    follow(alloc, world, b"view h2")
 }
 
 fn make_zeros(alloc: Global, world: &mut World, plan: Plan, times: usize) -> Result<(), Halt> {
@@ -96,7 +96,7 @@ fn make_planes(alloc: Global, world: &mut World, plan: Plan) -> Result<(), Halt>
     let line = format!(in alloc; "cast h3 'B' [{planes},256,16]")?;
     let second = drawn(alloc, plan.seed, size)?;
     make_both(alloc, world, vec![in alloc; 0u8; plan.size]?, second)?;
-    follow(alloc, world, line.as_str())
+    follow(alloc, world, line.as_bytes())
 }
 
 fn make_texts(alloc: Global, world: &mut World, plan: Plan) -> Result<(), Halt> {
@@ -121,22 +121,22 @@ fn make_pair(alloc: Global, world: &mut World, plan: Plan, pair: Pair) -> Result
 }
 
 impl Beside {
-    /// A world of two bytearrays, in which lines were followed, but for empty ones, and the command of a line.
+    /// A world of two bytearrays, in which the lines of a text were followed, and the command of a line.
     pub fn of(
         alloc: Global,
         plan: Plan,
         pair: Pair,
-        lines: [&'static str; 3],
+        lines: &str,
         line: &str,
     ) -> Result<Beside, Halt> {
         let mut world = World::new(alloc);
         make_pair(alloc, &mut world, plan, pair)?;
-        for before in &lines {
+        for before in lines.as_bytes().split(|byte| *byte == b'\n') {
             if !before.is_empty() {
                 follow(alloc, &mut world, before)?;
             }
         }
-        let command = command_of(alloc, line)?;
+        let command = command_of(alloc, line.as_bytes())?;
         Ok(Beside { world, command })
     }
 }
