@@ -2,9 +2,10 @@
 ghost use Rattle.std.specs.Prelude.{◌≡◌, []};
 
 use pybuf_command::{LoanList, LocalCommand, LocalReply, Subject, Verb};
-use pybuf_share::Session;
+use pybuf_share::{Session, SharedExporter};
 use pybuf_value::{Fault, Item, Made, Scalar, Value};
 use std::alloc::Global;
+use std::sync::Wait;
 use std::sync::ledger::Ledger;
 
 /// A command to which nothing is lent.
@@ -36,6 +37,18 @@ pub(crate) fn bytes(alloc: Global) -> LocalCommand
     ensures { result.loans ≡ [] }
 {
     plain_command(alloc, Subject::Own, Verb::ToBytes { order: None })
+}
+
+/// Asks a command to which nothing is lent. It has no clause, so that what a call says is no fact of its callers' proofs.
+pub(crate) fn ask<L: Ledger, R: Wait>(
+    rt: &R,
+    shared: &SharedExporter<L>,
+    session: &mut Session<L>,
+    command: LocalCommand,
+) -> Made<()>
+    requires { command.loans ≡ [] }
+{
+    shared.call(rt, session, command)
 }
 
 /// A digit, of a small number.

@@ -3,10 +3,10 @@
 //! asked for.
 ghost use Rattle.std.specs.Prelude.{◌≡◌, []};
 
-use crate::asking::{bytes, letter, plain_command, tell_last};
+use crate::asking::{ask, bytes, letter, plain_command, tell_last};
 use crate::flags::Count;
 use crate::starting::{Both, both};
-use pybuf_command::{LocalCommand, LocalReply, Subject, Verb};
+use pybuf_command::{LocalCommand, Subject, Verb};
 use pybuf_share::{Session, SharedExporter};
 use pybuf_value::{Made, PySlice, Scalar, Value};
 use std::alloc::Global;
@@ -42,7 +42,24 @@ fn view_last(alloc: Global) -> LocalCommand
     plain_command(alloc, Subject::Own, Verb::Range { from, to })
 }
 
-/// Carries the bytes of a view to another exporter, and tells whether there were any, and what was replied last there.
+/// Carries the bytes of a subject to another exporter. The letter tells whether there were any, or that memory ran out.
+fn carried<A: Ledger, B: Ledger, R: Wait>(
+    rt: &R,
+    alloc: Global,
+    to: &SharedExporter<A>,
+    session: &mut Session<A>,
+    from: &SharedExporter<B>,
+    giver: &mut Session<B>,
+    subject: Subject,
+) -> u8 {
+    match to.carry(rt, alloc, session, put(alloc), 0, from, giver, subject) {
+        Ok(true) => b'c',
+        Ok(false) => b'-',
+        Err(_) => b'm',
+    }
+}
+
+/// Carries the bytes of a view, and tells whether there were any, and what was replied last to who got them.
 fn carry_view<A: Ledger, B: Ledger, R: Wait>(
     rt: &R,
     alloc: Global,
@@ -53,9 +70,7 @@ fn carry_view<A: Ledger, B: Ledger, R: Wait>(
     view: usize,
     told: &mut Vec<u8>,
 ) -> Made<()> {
-    let subject = Subject::View(view);
-    let is_carried = to.carry(rt, alloc, session, put(alloc), 0, from, giver, subject)?;
-    told.push(if is_carried { b'c' } else { b'-' })?;
+    told.push(carried(rt, alloc, to, session, from, giver, Subject::View(view)))?;
     told.push(letter(session.last()))?;
     Ok(())
 }
@@ -77,6 +92,25 @@ fn carry_views<A: Ledger, B: Ledger, R: Wait>(
     Ok(())
 }
 
+/// Makes a view of each of two exporters, and carries these; then tells what both hold.
+fn carry_and_tell<A: Ledger, B: Ledger, R: Wait>(
+    rt: &R,
+    alloc: Global,
+    one: &SharedExporter<A>,
+    ours: &mut Session<A>,
+    other: &SharedExporter<B>,
+    theirs: &mut Session<B>,
+    told: &mut Vec<u8>,
+) -> Made<()> {
+    ask(rt, one, ours, view_last(alloc))?;
+    ask(rt, other, theirs, view_last(alloc))?;
+    carry_views(rt, alloc, one, ours, other, theirs, told)?;
+    ask(rt, one, ours, bytes(alloc))?;
+    tell_last(told, ours)?;
+    ask(rt, other, theirs, bytes(alloc))?;
+    tell_last(told, theirs)
+}
+
 /// Carries the last byte of each of two exporters to the front of the other. Of a view that was never given nothing is carried.
 fn carry_in_turn<A: Ledger, B: Ledger, R: Wait>(
     rt: &R,
@@ -89,13 +123,7 @@ fn carry_in_turn<A: Ledger, B: Ledger, R: Wait>(
     let (other, _, theirs) = right;
     let mut ours = ours;
     let mut theirs = theirs;
-    one.call(rt, &mut ours, view_last(alloc))?;
-    other.call(rt, &mut theirs, view_last(alloc))?;
-    carry_views(rt, alloc, &one, &mut ours, &other, &mut theirs, told)?;
-    one.call(rt, &mut ours, bytes(alloc))?;
-    tell_last(told, &ours)?;
-    other.call(rt, &mut theirs, bytes(alloc))?;
-    tell_last(told, &theirs)
+    carry_and_tell(rt, alloc, &one, &mut ours, &other, &mut theirs, told)
 }
 
 /// Carries all bytes of an exporter to another. 1 where they were put there.
@@ -107,8 +135,8 @@ fn carry_all<A: Ledger, B: Ledger, R: Wait>(
     from: &SharedExporter<B>,
     giver: &mut Session<B>,
 ) -> u64 {
-    let carried = to.carry(rt, alloc, session, put(alloc), 0, from, giver, Subject::Own);
-    if matches!(carried, Ok(true)) && matches!(session.last(), Some(LocalReply::Ok)) {
+    let letter_of_call = carried(rt, alloc, to, session, from, giver, Subject::Own);
+    if letter_of_call == b'c' && letter(session.last()) == b'o' {
         1
     } else {
         0
