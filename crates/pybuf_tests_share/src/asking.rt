@@ -56,6 +56,15 @@ pub(crate) fn digit(number: u64) -> u8 {
     b'0'.wrapping_add((number % 10) as u8)
 }
 
+/// The digit of the number 2 or 3.
+fn digit_of(number: i128) -> u8 {
+    match number {
+        2 => b'2',
+        3 => b'3',
+        _ => b'?',
+    }
+}
+
 /// A reply as a letter, and the numbers 2 and 3 as digits.
 pub(crate) fn letter(reply: Option<&LocalReply>) -> u8 {
     match reply {
@@ -63,8 +72,7 @@ pub(crate) fn letter(reply: Option<&LocalReply>) -> u8 {
         Some(LocalReply::View(0)) => b'v',
         Some(LocalReply::Iter(0)) => b'i',
         Some(LocalReply::Bytes(_)) => b's',
-        Some(LocalReply::Item(Item::One(Scalar::Int(2)))) => b'2',
-        Some(LocalReply::Item(Item::One(Scalar::Int(3)))) => b'3',
+        Some(LocalReply::Item(Item::One(Scalar::Int(number)))) => digit_of(*number),
         Some(LocalReply::Refused(Fault::Buffer)) => b'r',
         _ => b'?',
     }
