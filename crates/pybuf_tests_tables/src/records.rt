@@ -35,7 +35,7 @@ const TABLE: &[u8] = &[1, 2, 0, 5, 6, 1];
 
 /// As `struct.calcsize`, `iter_unpack`, `unpack_from` and `pack_into` of Python 3 answer, and items of a field as its
 /// memoryview reads and writes them; a size of 0 is refused here.
-const ROWS: [(&str, Ask, &str); 41] = [
+const ROWS: &[(&str, Ask, &str)] = &[
     ("<BH", Ask::Measure, "3 2"),
     ("BH", Ask::Measure, "4 2"),
     ("4x", Ask::Measure, "4 0"),
@@ -317,11 +317,28 @@ fn told_of(alloc: Global, format: &str, ask: Ask) -> Made<Vec<u8>> {
     Ok(told)
 }
 
+/// Adds a line of what each row is answered, and of what it should be.
+fn answer_all(
+    alloc: Global,
+    rows: &[(&str, Ask, &str)],
+    told: &mut Vec<u8>,
+    wanted: &mut Vec<u8>,
+) -> Made<()> {
+    for (format, ask, word) in rows {
+        let answer = told_of(alloc, format, *ask)?;
+        told.extend_from_slice(answer.as_slice())?;
+        told.push(b'\n')?;
+        wanted.extend_from_slice(word.as_bytes())?;
+        wanted.push(b'\n')?;
+    }
+    Ok(())
+}
+
 #[test]
 fn records_are_measured_read_and_written(rt: HostRuntime) -> Result<(), Fail> {
-    for (format, ask, wanted) in &ROWS {
-        let told = told_of(rt.alloc(), format, *ask)?;
-        assert_eq!(rt; told.as_slice(), wanted.as_bytes(), "{format}");
-    }
+    let alloc = rt.alloc();
+    let (mut told, mut wanted) = (Vec::new(alloc), Vec::new(alloc));
+    answer_all(alloc, ROWS, &mut told, &mut wanted)?;
+    assert_eq!(rt; told.as_slice(), wanted.as_slice());
     Ok(())
 }

@@ -224,13 +224,13 @@ fn pairs(
 fn pairs_beside(
     one: &BufferDescriptor,
     alloc: Global,
-    (row, column): (isize, isize),
+    strides: (isize, isize),
     start: usize,
     join: bool,
 ) -> Made<(usize, usize)>
     requires { shape_of one.now.dims ≡ 2 ∷ 3 ∷ [] }
 {
-    let other = grid(alloc, row, column)?;
+    let other = grid(alloc, strides.0, strides.1)?;
     let answer = pairs(one, 7, &other, start, join);
     drop(other);
     Ok(answer)
