@@ -1,4 +1,4 @@
-"""What crates/pybuf_kernels does with typed arrays, by Python's `array` on the same bytes, with the same words (`measuring.py`)."""
+"""What crates/bench_kernels does with typed arrays, by Python's `array` on the same bytes, with the same words (`measuring.py`)."""
 import pathlib
 import sys
 from array import array

@@ -1,4 +1,4 @@
-"""What crates/pybuf_kernels does, by Python's own calls on the same bytes, with the same words (`measuring.py`).
+"""What crates/bench_kernels does, by Python's own calls on the same bytes, with the same words (`measuring.py`).
 
 The kernel `copy` copies so many bytes from one place to another, and nothing else. A kernel behind `numpy-` is what
 numpy does of it, and `numpy-names` alone prints which there are.

@@ -1,4 +1,4 @@
-"""What crates/pybuf_kernels does with views in several dimensions, by Python's memoryviews of the same bytes, with the same words (`measuring.py`).
+"""What crates/bench_kernels does with views in several dimensions, by Python's memoryviews of the same bytes, with the same words (`measuring.py`).
 
 No call of a memoryview makes such views, but an array of Python's own tests takes any strides.
 """

@@ -1,4 +1,4 @@
-"""What crates/pybuf_kernels does with tables of records, by Python's `struct` on the same bytes, with the same words (`measuring.py`)."""
+"""What crates/bench_kernels does with tables of records, by Python's `struct` on the same bytes, with the same words (`measuring.py`)."""
 import pathlib
 import struct
 import sys

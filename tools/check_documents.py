@@ -29,6 +29,8 @@ import draw_pictures
 
 ROOT = pathlib.Path(__file__).resolve().parent.parent
 TOP = [ROOT / "README.md", ROOT / "CONTRIBUTING.md", ROOT / "CHANGELOG.md", ROOT / "examples/README.md"]
+# The name of a crate, as a pattern.
+CRATE = r"(?:pybuf|test|golden|bench|example)_\w+"
 DOCUMENTS = TOP + sorted((ROOT / "docs").glob("*.md"))
 # The heading of the definitions that the contract of `serve` cites.
 CITED = "## Cited by the contract of `serve`"
@@ -294,7 +296,7 @@ def named_definitions(lines):
     folder = ""
     for number, line in enumerate(lines, 1):
         for name in re.findall(r"`([^`\s]+)`", line):
-            whole = re.fullmatch(r"(pybuf_\w+/specs/)(\w+\.antt)?", name)
+            whole = re.fullmatch(rf"({CRATE}/specs/)(\w+\.antt)?", name)
             if whole is not None:
                 folder = whole[1]
                 name = whole[2] or ""
@@ -310,7 +312,7 @@ def imported_definitions(start):
         if path in found:
             continue
         found.add(path)
-        for crate, name in re.findall(r"^use Rattle\.(pybuf_\w+)\.specs\.(\w+)", path.read_text(), re.MULTILINE):
+        for crate, name in re.findall(rf"^use Rattle\.({CRATE})\.specs\.(\w+)", path.read_text(), re.MULTILINE):
             other = ROOT / "crates" / crate / "specs" / f"{name}.antt"
             if other.exists():
                 waiting.append(other)
@@ -347,7 +349,7 @@ def check_definitions(document, lines):
 def check_differences(document, lines):
     """The cases and the tests that show a difference: a name of three words or more is a case, or stands in a table's output.
     Each line of a list names one, or clauses or tests in general."""
-    printed = (ROOT / "crates" / "pybuf_method_tables" / "stdout").read_text().split()
+    printed = (ROOT / "crates" / "golden_methods" / "stdout").read_text().split()
     listed = [(number, line) for number, line in enumerate(lines, 1) if line.startswith("- ")]
     if not listed:
         report(document, 1, "the differences were not found")
@@ -355,14 +357,14 @@ def check_differences(document, lines):
         cases = [name for name in quoted(line) if re.fullmatch(r"(?:\w+/)?[A-Za-z0-9]+(?:-[A-Za-z0-9]+){2,}", name)]
         for name in cases:
             if not (ROOT / "cases" / (name if "/" in name else f"differences/{name}")).exists() and name not in printed:
-                report(document, number, f"no case and no line of pybuf_method_tables is named {name}")
-        tests = re.findall(r"((?:`\w+`(?:,| and)? ?)+)of `(pybuf_tests\w*)`", line)
+                report(document, number, f"no case and no line of golden_methods is named {name}")
+        tests = re.findall(r"((?:`\w+`(?:,| and)? ?)+)of `(test_\w+)`", line)
         for names, crate in tests:
             source = "".join(path.read_text() for path in (ROOT / "crates" / crate / "src").glob("**/*.rt"))
             for name in quoted(names):
                 if f"fn {name}(" not in source:
                     report(document, number, f"{crate} has no test {name}")
-        if not cases and not tests and not re.search(r"`cases/|tests of `|clauses|`pybuf_method_tables`", line):
+        if not cases and not tests and not re.search(r"`cases/|tests of `|clauses|`golden_methods`", line):
             report(document, number, "nothing that shows the difference is named")
 
 
@@ -371,7 +373,7 @@ def check_names(document, lines):
     tops = ("crates/", "docs/", "examples/", "cases/", "tools/", "bench/", ".ci/")
     for number, line in enumerate(lines, 1):
         for name in re.findall(r"`([^`\s]+)`", line):
-            if re.match(r"pybuf_\w+/(src|specs|proofs)/", name):
+            if re.match(rf"{CRATE}/(src|specs|proofs)/", name):
                 name = "crates/" + name
             if name.startswith(tops) and not re.search(r"[A-Z]{3,}/|NAME|[*{<]", name):
                 path = name.split("::")[0].rstrip("/")

@@ -1,11 +1,11 @@
 #!/usr/bin/env python3
-"""Compares what `pybuf_elf` prints of the sections of programs with what `readelf -h -S` says, and ends with status 1 where
+"""Compares what `example_elf` prints of the sections of programs with what `readelf -h -S` says, and ends with status 1 where
 they differ.
 
     python3 tools/compare_sections.py            of the programs that the gate built
     python3 tools/compare_sections.py FILE..     of these files
     python3 tools/compare_sections.py --stored   of its stored input, by what is stored of its output: this needs no program
-    python3 tools/compare_sections.py --write    writes what `pybuf_elf` has to print of its stored input
+    python3 tools/compare_sections.py --write    writes what `example_elf` has to print of its stored input
 
 The last line counts the files. Where `readelf` isn't there, or with --stored, those that are not compared are skipped.
 """
@@ -16,8 +16,8 @@ import subprocess
 import sys
 
 ROOT = pathlib.Path(__file__).resolve().parent.parent
-READER = ROOT / "crates/pybuf_elf"
-PROGRAM = READER / "out/pybuf_elf"
+READER = ROOT / "crates/example_elf"
+PROGRAM = READER / "out/example_elf"
 PROGRAMS = [ROOT / "crates/pybuf/out/pybuf", PROGRAM]
 
 # The numbers of the types and of the flags of sections, by what `readelf` writes for them.
@@ -81,7 +81,7 @@ def told(path):
 
 
 def printed(path):
-    """The lines that `pybuf_elf` prints of a file."""
+    """The lines that `example_elf` prints of a file."""
     with open(path, "rb") as file:
         run = subprocess.run([PROGRAM], stdin=file, capture_output=True, check=True, env={})
     return run.stdout.decode().split("\n")[:-1]
@@ -112,9 +112,9 @@ def main(words):
         came = (READER / "stdout").read_text().split("\n")[:-1] if stored else printed(path)
         if wanted != came:
             differing += 1
-            print(f"{path}: pybuf_elf prints otherwise than readelf")
+            print(f"{path}: example_elf prints otherwise than readelf")
             for line in sorted({*wanted} ^ {*came}):
-                print(f"    {'readelf' if line in wanted else 'pybuf_elf'}: {line}")
+                print(f"    {'readelf' if line in wanted else 'example_elf'}: {line}")
         else:
             print(f"{path}: {len(wanted)} lines are those of readelf")
     print(f"{len(files) - differing} passed, {differing} failed" + (f", {left} skipped" if left else ""))

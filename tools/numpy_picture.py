@@ -1,5 +1,5 @@
 #!/usr/bin/env python3
-"""Writes what the program `pybuf_picture_table` has to write: the levels of a picture and of its parts, by NumPy's views.
+"""Writes what the program `golden_picture` has to write: the levels of a picture and of its parts, by NumPy's views.
 
     python3 tools/numpy_picture.py            writes it
     python3 tools/numpy_picture.py --check    writes nothing, and ends with 1 where the file would change
@@ -12,7 +12,7 @@ import sys
 
 import numpy
 
-STDOUT = pathlib.Path(__file__).resolve().parent.parent / "crates/pybuf_picture_table/stdout"
+STDOUT = pathlib.Path(__file__).resolve().parent.parent / "crates/golden_picture/stdout"
 
 
 def rows_of(name, part):

@@ -1,5 +1,5 @@
 #!/usr/bin/env python3
-"""Writes what NumPy says of views in several dimensions: the cases of `cases/nd`, and what the program `pybuf_nd_table` is
+"""Writes what NumPy says of views in several dimensions: the cases of `cases/nd`, and what the program `golden_nd` is
 given and has to write.
 
     python3 tools/numpy_views.py            writes them
@@ -31,7 +31,7 @@ import case_files
 
 ROOT = pathlib.Path(__file__).resolve().parent.parent
 CASES = ROOT / "cases/nd"
-TABLE = ROOT / "crates/pybuf_nd_table"
+TABLE = ROOT / "crates/golden_nd"
 USAGE, BAD_DATA = 6, 9
 LARGE = 2**127
 

@@ -1,5 +1,5 @@
 #!/usr/bin/env python3
-"""Writes what the program `pybuf_column_table` has to write: casts in column order and row-major, and walks in column order.
+"""Writes what the program `golden_columns` has to write: casts in column order and row-major, and walks in column order.
 
     python3 tools/python_columns.py            writes it
     python3 tools/python_columns.py --check    writes nothing, and ends with 1 where the file would change
@@ -22,7 +22,7 @@ sys.dont_write_bytecode = True
 
 import case_files
 
-CRATE = pathlib.Path(__file__).resolve().parent.parent / "crates/pybuf_column_table"
+CRATE = pathlib.Path(__file__).resolve().parent.parent / "crates/golden_columns"
 ORDERS = {"F": ND_FORTRAN, "C": 0}
 SLICES = {"[::2]": slice(None, None, 2), "[::-1]": slice(None, None, -1), "[:0]": slice(0)}
 

@@ -1,7 +1,7 @@
 #!/usr/bin/env python3
-"""Writes what `pybuf_method_tables` must print, from the methods of Python's own `bytes`.
+"""Writes what `golden_methods` must print, from the methods of Python's own `bytes`.
 
-    python3 tools/python_methods.py > crates/pybuf_method_tables/stdout
+    python3 tools/python_methods.py > crates/golden_methods/stdout
 
 A line is a method, its argument (a needle, as `x` and hexadecimal digits, or the name of the texts), the number
 of answers, and the FNV-1a hash, of 64 bits, of the texts of the answers, each of which ends with a line

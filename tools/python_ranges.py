@@ -1,5 +1,5 @@
 #!/usr/bin/env python3
-"""Writes what the program `pybuf_range_table` has to write: the ranges of walks that join the dimensions of the tail.
+"""Writes what the program `golden_ranges` has to write: the ranges of walks that join the dimensions of the tail.
 
     python3 tools/python_ranges.py            writes it
     python3 tools/python_ranges.py --check    writes nothing, and ends with 1 where the file would change
@@ -23,7 +23,7 @@ sys.dont_write_bytecode = True
 
 import case_files
 
-CRATE = pathlib.Path(__file__).resolve().parent.parent / "crates/pybuf_range_table"
+CRATE = pathlib.Path(__file__).resolve().parent.parent / "crates/golden_ranges"
 SIZE = 2
 STEPS = [1, 2, -1]
 

@@ -1,5 +1,0 @@
-use Rattle.std.proofs.Common.{length}
-use Rattle.pybuf_column_table.proofs.+items_of.Given as goal
-
-abbrev pub decreases-items_of : goal.decreases-items_of
-decreases-items_of l = length l.shape.now

@@ -1,5 +1,0 @@
-use Rattle.std.proofs.Common.{length}
-use Rattle.pybuf_picture.proofs.canvas.Picture.crop.Goals as goal
-
-pub add-requires-clause-valid : goal.add-requires-clause-valid
-add-requires-clause-valid c = c.in_ok-desc.ensures.valid (length c.args.self.now.levels) c.described-start.ensures.valid

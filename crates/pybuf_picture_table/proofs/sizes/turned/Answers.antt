@@ -1,9 +1,0 @@
-use Rattle.std.proofs.Common.{◌∙◌}
-use Rattle.pybuf_picture_table.proofs.SizeLemmas.{sized, on_ok}
-use Rattle.pybuf_picture_table.proofs.sizes.turned.Goals as goal
-
-pub returns : goal.returns
-returns c =
-    on_ok c.turn.result _ _
-    (λ k made. sized c.args.picture.now _ made.0 k _ _ _ made.2 (made.1.rows ∙ c.requires.wide) (made.1.columns ∙ c.requires.tall) (made.1.channels ∙ c.requires.deep))
-    c.turn.ensures.ok

@@ -1,9 +1,0 @@
-use Rattle.std.proofs.Common.{◌∙◌}
-use Rattle.pybuf_picture_table.proofs.SizeLemmas.{sized, on_ok}
-use Rattle.pybuf_picture_table.proofs.sizes.whole.Goals as goal
-
-pub returns : goal.returns
-returns c =
-    on_ok c.whole.result _ _
-    (λ k made. sized c.args.picture.now _ made.0 k _ _ _ made.2 (made.1.rows ∙ c.requires.rows) (made.1.columns ∙ c.requires.columns) (made.1.channels ∙ c.requires.channels))
-    c.whole.ensures.ok

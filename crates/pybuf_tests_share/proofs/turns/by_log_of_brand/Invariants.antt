@@ -1,4 +1,0 @@
-use Rattle.pybuf_tests_share.proofs.turns.by_log_of_brand.Given as goal
-
-abbrev pub ghosts-by_log : goal.ghosts-by_log
-ghosts-by_log a = record { name = a.blank.name; parts = a.blank.parts }

@@ -1,4 +1,0 @@
-use Rattle.pybuf_tests_slices.proofs.queues.work_by_brand.Given as goal
-
-abbrev pub ghosts-work : goal.ghosts-work
-ghosts-work a = record { name = a.blank.name; parts = a.blank.parts }

@@ -1,4 +1,0 @@
-use Rattle.pybuf_thread_kernels.proofs.asking.replies_of_one.Given as goal
-
-abbrev pub ghosts-ask_of_one : goal.ghosts-ask_of_one
-ghosts-ask_of_one g a = record { name = a.blank.name; parts = a.blank.parts }
