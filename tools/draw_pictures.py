@@ -1,5 +1,5 @@
 #!/usr/bin/env python3
-"""Draws the pictures of `docs/` from the replies of the program, and writes them.
+"""Draws the pictures of `docs/`, and writes them: two from the replies of the program, and that of the floors from `crates.txt`.
 
     python3 tools/draw_pictures.py [PROGRAM]
 
@@ -205,6 +205,49 @@ def picture_of_reply(reply, bad):
     return picture.svg()
 
 
+def floors():
+    """The floors of `crates.txt`, the lowest first: the name of each, and its crates."""
+    found = []
+    for line in (ROOT / "crates.txt").read_text().splitlines():
+        crate, colon, _ = line.partition(":")
+        if line.startswith("# ") and colon:
+            found.append((crate.removeprefix("# "), []))
+        elif colon:
+            found[-1][1].append(crate.split()[0])
+    return [(name, crates) for name, crates in found if crates]
+
+
+def picture_of_floors():
+    """The crates as a house: a floor stands on those below it, and what is no part of the library stands beside it, on top."""
+    left, wide, high, step, gap = 150, 980, 28, 40, 8
+    rows = []
+    for name, crates in reversed(floors()):
+        beside = name == "Beside the library"
+        row, at = [], left
+        for crate in crates:
+            width = 20 + 7.9 * len(crate)
+            if at + width > wide - 12 and row:
+                rows.append((name, row, beside))
+                name, row, at = "", [], left
+            row.append((crate, at, width))
+            at += width + gap
+        rows.append((name, row, beside))
+    picture = Picture(
+        wide,
+        56 + step * len(rows),
+        "The floors of the house",
+        "A row for each floor, the lowest at the bottom, with its crates. A crate stands on crates of lower floors and on those to its left.",
+    )
+    picture.text(22, 30, "Each floor stands on those below it", bold=True, size=15)
+    for number, (name, row, beside) in enumerate(rows):
+        y = 48 + step * number
+        picture.text(left - 12, y + 19, name, anchor="end", size=13)
+        for crate, at, width in row:
+            picture.box(at, y, width, high, GREY if beside else BLUE)
+            picture.text(at + width / 2, y + 19, crate, anchor="middle", code=True, size=13)
+    return picture.svg()
+
+
 def pictures(output_of):
     """The pictures by the names of their files, from what is written for an example and the status that comes."""
     lines = (ROOT / "examples" / SLICES).read_text().splitlines()
@@ -216,7 +259,11 @@ def pictures(output_of):
     number = int(told.split(" ")[1])
     bad = (ROOT / "examples" / BAD_LINE).read_text().splitlines()[number - 1]
     reply = dict(zip(lines, written))
-    return {"places-of-views.svg": picture_of_places(reply), "line-to-reply.svg": picture_of_reply(reply, (bad, told, status))}
+    return {
+        "places-of-views.svg": picture_of_places(reply),
+        "line-to-reply.svg": picture_of_reply(reply, (bad, told, status)),
+        "floors.svg": picture_of_floors(),
+    }
 
 
 def stored(name):
