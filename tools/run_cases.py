@@ -133,7 +133,7 @@ def differences(program, case, ran):
     elif ran.status != case.status:
         found.append(f"the status has to be {case.status}, and is {ran.status}")
     expected = COMPLAINTS.get(case.status, b"")
-    if ran.complaint != expected:
+    if ran.complaint is not None and ran.complaint != expected:
         found.append(f"on standard error has to come {shown(expected)}, and came {shown(ran.complaint)}")
     return [it for it in found if it is not None]
 

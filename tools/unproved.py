@@ -3,7 +3,7 @@
 `tried` runs the program itself, with `rt try --cases`. That readies each case for half a second, so a thousand cases take ten
 minutes. `served` makes a program of its own, in a copy of the sources: it has the program's `src/main.rt` but for `main`, which hands
 one case after the other to the same call, `serve`, with sources and sinks in memory. So a thousand cases are run in seconds; the real
-words, input and output of the program are what `tried` shows.
+words, input and output of the program are what `tried` shows. What a case of `tried` writes on standard error isn't told.
 """
 
 import collections
@@ -22,7 +22,8 @@ TRY = ["rt", "try", "--steps", "0", "--seconds", SECONDS]
 # How many bytes of cases one run of the program serves, or one case: what ends one run ends no other.
 BATCH = 262_144
 
-# What came of a case. `written` is None where it is known to be what has to be written; `fault` says why nothing came.
+# What came of a case. `written` is None where it is known to be what has to be written, and `complaint`, what came on standard error,
+# where `rt try --cases` doesn't tell it; `fault` says why nothing came.
 Ran = collections.namedtuple("Ran", "status written complaint fault", defaults=(None,))
 
 
@@ -238,9 +239,9 @@ def tried(cases, is_told):
         if not status:
             ran.append(Ran(None, None, b"", f"it did not end: {(complaint + line)[-600:]}"))
         elif " output=expected " in line:
-            ran.append(Ran(int(status[1]), None, complaint.encode()))
+            ran.append(Ran(int(status[1]), None, None))
         else:
-            ran.append(Ran(int(status[1]), written or b"", complaint.encode()))
+            ran.append(Ran(int(status[1]), written or b"", None))
     return ran
 
 
