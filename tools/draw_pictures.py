@@ -211,18 +211,18 @@ def floors():
     for line in (ROOT / "crates.txt").read_text().splitlines():
         crate, colon, _ = line.partition(":")
         if line.startswith("# ") and colon:
-            found.append((crate.removeprefix("# "), []))
+            found.append((crate.removeprefix("# ").partition(",")[0], []))
         elif colon:
             found[-1][1].append(crate.split()[0])
     return [(name, crates) for name, crates in found if crates]
 
 
 def picture_of_floors():
-    """The crates as a house: a floor stands on those below it, and what is no part of the library stands beside it, on top."""
+    """The crates as a house: a floor stands on those below it. What is no part of the library is grey, on top."""
     left, wide, high, step, gap = 150, 980, 28, 40, 8
     rows = []
     for name, crates in reversed(floors()):
-        beside = name == "Beside the library"
+        beside = not crates[0].startswith("pybuf")
         row, at = [], left
         for crate in crates:
             width = 20 + 7.9 * len(crate)
