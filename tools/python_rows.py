@@ -2566,6 +2566,29 @@ compare h0 >= h1
 """,
     ),
     Case(
+        "rows that lie apart are equal to rows that lie together or turned round",
+        """
+new bytes x000102030405060708090a0b
+new bytes x000102060708
+new bytes x060708000102
+view h0
+view h1
+view h2
+cast h3 'B' [4,3]
+cast h4 'B' [2,3]
+cast h5 'B' [2,3]
+get h6 None:None:2
+compare h9 == h7
+compare h7 == h9
+compare h9 == h8
+get h8 None:None:-1
+compare h9 == h10
+compare h10 == h9
+compare h7 == h10
+compare h8 == h10
+""",
+    ),
+    Case(
         "views of several dimensions are equal by their shapes and all of their items",
         """
 new bytes x000102030405060708090a0b
