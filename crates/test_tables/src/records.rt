@@ -8,7 +8,8 @@ use pybuf_command::{ExporterKind, Subject, Verb};
 use pybuf_exporter::ExporterState;
 use pybuf_table::Records;
 use pybuf_value::{
-    ByteList, Fault, Halt, Made, NoHandles, Outcome, Scalar, ScalarList, Value, push_bytes, push_number, push_scalar,
+    ByteList, Fault, Halt, Made, NoHandles, Outcome, Scalar, ScalarList, Value, push_bytes,
+    push_number, push_scalar,
 };
 use std::alloc::Global;
 use std::test::Fail;
@@ -82,7 +83,8 @@ fn records_stand_at_offsets(rt: HostRuntime) -> Result<(), Fail> {
     Ok(())
 }
 
-const AT_OFFSETS: &str = " 1 2 b'\\x07ABdef' 5 262 b'abc\\x07AB' StructError StructError b'abcdef' 1 2 b'\\x07ABdef' 5 262 b'abc\\x07AB' StructError StructError b'abcdef' StructError StructError b'abcdef' StructError StructError b'abcdef' StructError StructError b'abcdef'";
+const AT_OFFSETS: &str =
+    " 1 2 b'\\x07ABdef' 5 262 b'abc\\x07AB' StructError StructError b'abcdef' 1 2 b'\\x07ABdef' 5 262 b'abc\\x07AB' StructError StructError b'abcdef' StructError StructError b'abcdef' StructError StructError b'abcdef' StructError StructError b'abcdef'";
 
 /// Sets an item of a view.
 fn set_item(state: &mut ExporterState, alloc: Global, view: &PyBuffer, item: i128, value: i128) {
@@ -95,7 +97,14 @@ fn set_item(state: &mut ExporterState, alloc: Global, view: &PyBuffer, item: i12
 
 /// Sets an item of the view of a field to 9, or tells why there is no such view; and tells the number of unreleased views
 /// and the bytes.
-fn tell_field(told: &mut Vec<u8>, alloc: Global, records: &Records, state: &mut ExporterState, field: usize, item: i128) {
+fn tell_field(
+    told: &mut Vec<u8>,
+    alloc: Global,
+    records: &Records,
+    state: &mut ExporterState,
+    field: usize,
+    item: i128,
+) {
     match records.field_view(alloc, state, field) {
         Ok(Outcome::Done(view)) => set_item(state, alloc, &view, item, 9),
         Ok(Outcome::Refused(fault)) => tell_fault(told, fault),
@@ -119,8 +128,18 @@ const FIELDS: [(&str, &[u8], usize, i128); 7] = [
 ];
 
 /// Tells what is told of a bytearray of these bytes.
-fn tell_field_of(told: &mut Vec<u8>, alloc: Global, format: &str, bytes: &[u8], field: usize, item: i128) {
-    match (Records::from_str(alloc, format), ByteList::from_slice(alloc, bytes)) {
+fn tell_field_of(
+    told: &mut Vec<u8>,
+    alloc: Global,
+    format: &str,
+    bytes: &[u8],
+    field: usize,
+    item: i128,
+) {
+    match (
+        Records::from_str(alloc, format),
+        ByteList::from_slice(alloc, bytes),
+    ) {
         (Ok(records), Ok(bytes)) => {
             let mut state = ExporterState::new(alloc, ExporterKind::ByteArray, bytes);
             tell_field(told, alloc, &records, &mut state, field, item);
@@ -141,4 +160,5 @@ fn fields_are_written_through_views(rt: HostRuntime) -> Result<(), Fail> {
     Ok(())
 }
 
-const WRITTEN: &str = " 1 b'\\x01\\x02\\x00\\x05\\t\\x00' 1 b'\\t\\x02\\x00\\x05\\x06\\x01' IndexError 0 b'\\x01\\x02\\x00\\x05\\x06\\x01' StructError 0 b'\\x01\\x02\\x00\\x05' ValueError 0 b'\\x01\\x02\\x00\\x05\\x06\\x01' 1 b'abcdef\\t\\x00' ValueError";
+const WRITTEN: &str =
+    " 1 b'\\x01\\x02\\x00\\x05\\t\\x00' 1 b'\\t\\x02\\x00\\x05\\x06\\x01' IndexError 0 b'\\x01\\x02\\x00\\x05\\x06\\x01' StructError 0 b'\\x01\\x02\\x00\\x05' ValueError 0 b'\\x01\\x02\\x00\\x05\\x06\\x01' 1 b'abcdef\\t\\x00' ValueError";
