@@ -1,5 +1,5 @@
 //! Commands for the objects of a world, by numbers and bytes.
-ghost use Rattle.std.specs.Prelude.{◌≡◌, ◌≢◌, ◌<◌, Some, None, IsSomeAnd};
+ghost use Rattle.std.specs.Prelude.{◌≡◌, ◌≢◌, ◌↔◌, ◌<◌, Some, None, IsSomeAnd};
 ghost use Rattle.pybuf_command.specs.declared.commands.Verb.TheVariants as verb;
 ghost use Rattle.pybuf_command.specs.declared.worlds.Command.TheVariants as command;
 ghost use Rattle.pybuf_value.specs.declared.values.Value.TheVariants as value;
@@ -39,7 +39,7 @@ pub extern "C" fn pybuf_proved_new(
 ) -> u32
     ensures memory { result ≡ 1 → held handle.new ≡ held handle.old }
     ensures none { result ≡ 2 → NoneHold (held handle.old) (held handle.new) }
-    ensures bad { result ≡ 6 → 3 < kind }
+    ensures bad { (result ≡ 6) ↔ (3 < kind) }
     ensures bad_kept { result ≡ 6 → held handle.new ≡ held handle.old }
     ensures answered { result ≢ 1 → result ≢ 2 → result ≢ 6 → (made : ExporterKind) → kind_number made ≡ kind → BothHold (Answers (command.New made (source_of bytes.now)) result) (held handle.old) (held handle.new) }
 {
@@ -512,7 +512,7 @@ pub extern "C" fn pybuf_proved_property(
 ) -> u32
     ensures memory { result ≡ 1 → held handle.new ≡ held handle.old }
     ensures none { result ≡ 2 → NoneHold (held handle.old) (held handle.new) }
-    ensures bad { result ≡ 6 → 12 < name }
+    ensures bad { (result ≡ 6) ↔ (12 < name) }
     ensures bad_kept { result ≡ 6 → held handle.new ≡ held handle.old }
     ensures answered { result ≢ 1 → result ≢ 2 → result ≢ 6 → (asked : PropertyName) → property_number asked ≡ name → BothHold (Answers (command.Do subject (verb.Property asked)) result) (held handle.old) (held handle.new) }
 {
@@ -540,7 +540,7 @@ pub extern "C" fn pybuf_proved_compare(
 ) -> u32
     ensures memory { result ≡ 1 → held handle.new ≡ held handle.old }
     ensures none { result ≡ 2 → NoneHold (held handle.old) (held handle.new) }
-    ensures bad { result ≡ 6 → 5 < operator }
+    ensures bad { (result ≡ 6) ↔ (5 < operator) }
     ensures bad_kept { result ≡ 6 → held handle.new ≡ held handle.old }
     ensures answered { result ≢ 1 → result ≢ 2 → result ≢ 6 → (op : CompareOp) → operator_number op ≡ operator → BothHold (Answers (command.Do subject (verb.Compare op (bytes_value bytes.now))) result) (held handle.old) (held handle.new) }
 {
@@ -571,7 +571,7 @@ pub extern "C" fn pybuf_proved_compare_with(
 ) -> u32
     ensures memory { result ≡ 1 → held handle.new ≡ held handle.old }
     ensures none { result ≡ 2 → NoneHold (held handle.old) (held handle.new) }
-    ensures bad { result ≡ 6 → 5 < operator }
+    ensures bad { (result ≡ 6) ↔ (5 < operator) }
     ensures bad_kept { result ≡ 6 → held handle.new ≡ held handle.old }
     ensures answered { result ≢ 1 → result ≢ 2 → result ≢ 6 → (op : CompareOp) → operator_number op ≡ operator → BothHold (Answers (command.Do subject (verb.Compare op (object_value other))) result) (held handle.old) (held handle.new) }
 {
