@@ -1,11 +1,12 @@
 //! Views of every format of `struct`, which `PyBuffer::new` makes: `cast` makes those of one native code alone.
 ghost use Rattle.pybuf_state.specs.Fits.{LoansFit};
 
-use crate::answers::{exporter_of, lend, number, tell, tell_word};
-use pybuf_command::{Loan, LoanList, LocalReply, Subject, Verb};
+use crate::answers::{Word, bytes, described, exporter_of, number, say, tell};
+use pybuf_buffer::PyBuffer;
+use pybuf_command::{Loan, LoanList, Subject, Verb};
 use pybuf_exporter::ExporterState;
 use pybuf_state::FitLoans;
-use pybuf_value::{CompareOp, Made, PySlice, Scalar, Value};
+use pybuf_value::{CompareOp, Made, Outcome, PySlice, Scalar, Value};
 use std::alloc::Global;
 use std::test::Fail;
 
@@ -35,11 +36,6 @@ enum Ask {
     ToReadOnly,
 }
 
-/// What handle 0 names.
-fn named(handle: u64) -> Value {
-    Value::One(Scalar::Handle(handle))
-}
-
 /// The slice of all, with a step.
 fn slice(step: i128) -> Value {
     Value::Slice(PySlice {
@@ -49,58 +45,44 @@ fn slice(step: i128) -> Value {
     })
 }
 
-fn value_of(alloc: Global, given: Given) -> Made<Value> {
+fn value_of(alloc: Global, given: Given) -> Value {
     match given {
-        Given::Number(n) => Ok(number(n)),
-        Given::Bytes(bytes) => Value::bytes(alloc, bytes),
-        Given::Named(handle) => Ok(named(handle)),
+        Given::Number(n) => number(n),
+        Given::Bytes(given) => bytes(alloc, given),
+        Given::Named(handle) => Value::One(Scalar::Handle(handle)),
     }
 }
 
-fn set(key: Value, value: Value) -> Verb {
-    Verb::Set { key, value }
-}
-
-fn verb_of(alloc: Global, ask: Ask) -> Made<Verb> {
+fn verb_of(alloc: Global, ask: Ask) -> Verb {
     match ask {
-        Ask::Assign(view) => Ok(set(slice(1), named(view))),
-        Ask::Backwards => Ok(Verb::Get { key: slice(-1) }),
-        Ask::Equal(view) => Ok(Verb::Compare {
+        Ask::Assign(view) => Verb::Set {
+            key: slice(1),
+            value: value_of(alloc, Given::Named(view)),
+        },
+        Ask::Backwards => Verb::Get { key: slice(-1) },
+        Ask::Equal(view) => Verb::Compare {
             op: CompareOp::Eq,
-            other: named(view),
-        }),
-        Ask::Get(index) => Ok(Verb::Get { key: number(index) }),
-        Ask::Hash => Ok(Verb::Hash),
-        Ask::Iter => Ok(Verb::Iter),
-        Ask::Next => Ok(Verb::Next),
-        Ask::Set(index, given) => Ok(set(number(index), value_of(alloc, given)?)),
-        Ask::ToBytes => Ok(Verb::ToBytes { order: None }),
-        Ask::ToList => Ok(Verb::ToList),
-        Ask::ToReadOnly => Ok(Verb::ToReadonly),
+            other: value_of(alloc, Given::Named(view)),
+        },
+        Ask::Get(index) => Verb::Get { key: number(index) },
+        Ask::Hash => Verb::Hash,
+        Ask::Iter => Verb::Iter,
+        Ask::Next => Verb::Next,
+        Ask::Set(index, given) => Verb::Set {
+            key: number(index),
+            value: value_of(alloc, given),
+        },
+        Ask::ToBytes => Verb::ToBytes { order: None },
+        Ask::ToList => Verb::ToList,
+        Ask::ToReadOnly => Verb::ToReadonly,
     }
-}
-
-/// Asks a subject of an exporter.
-fn answer(
-    state: &mut ExporterState,
-    alloc: Global,
-    loans: &LoanList,
-    subject: Subject,
-    ask: Ask,
-) -> Made<LocalReply>
-    requires { LoansFit loans.now }
-{
-    let verb = verb_of(alloc, ask)?;
-    let answer = state.carry_out(subject, &verb, loans);
-    drop(verb);
-    answer
 }
 
 /// Two records of a byte and a number of two bytes each, with a gap between; the other two are the same but for the gaps.
 const RECORDS: &[u8] = b"\x01\xff\x02\x00\x03\xfe\x04\x00\x01\x00\x02\x00\x03\xee\x04\x00";
 
 /// Views: format, place of the first item, and number and size of the items, which lie one after the other.
-const MADE: [(&str, usize, usize, usize, &str); 14] = [
+const MADE: [(&str, usize, usize, u8, &str); 14] = [
     ("BH", 0, 2, 4, "0"),
     ("BH", 8, 2, 4, "1"),
     ("<h", 8, 4, 2, "2"),
@@ -184,81 +166,58 @@ const ASKED: [(Subject, Ask, &str); 41] = [
     (Subject::View(0), Ask::Hash, "! ValueError"),
 ];
 
-fn make(state: &mut ExporterState, alloc: Global, told: &mut Vec<u8>) -> Made<()> {
-    for (format, start, count, size, _) in &MADE {
-        let stride = (*size).min(isize::MAX as usize) as isize;
-        lend(
-            state,
-            alloc,
-            format,
-            *size,
-            &[(*count, stride)],
-            *start,
-            told,
-        )?;
+/// Makes the views, and adds what is told and what is to be told.
+fn make(
+    state: &mut ExporterState,
+    alloc: Global,
+    told: &mut Vec<u8>,
+    wanted: &mut Vec<u8>,
+) -> Made<()> {
+    for (format, start, count, size, word) in &MADE {
+        say(wanted, Word::Shown(word.as_bytes()));
+        let dims = [(*count, *size as isize, 0)];
+        let descriptor = described(alloc, format, *size as usize, &dims)?;
+        match PyBuffer::new(alloc, state, descriptor, *start)? {
+            Outcome::Done(buffer) => say(told, Word::Count(buffer.number())),
+            Outcome::Refused(fault) => say(told, Word::Fault(fault)),
+        }
     }
     Ok(())
+}
+
+/// Asks a subject of an exporter. It has no clause, so that what a command says is no fact of the loop's proof.
+fn ask_one(
+    state: &mut ExporterState,
+    alloc: Global,
+    loans: &LoanList,
+    asked: (Subject, Ask),
+    told: &mut Vec<u8>,
+)
+    requires { LoansFit loans.now }
+{
+    let verb = verb_of(alloc, asked.1);
+    let answer = state.carry_out(asked.0, &verb, loans);
+    drop(verb);
+    tell(told, alloc, answer);
 }
 
 fn ask_all(
     state: &mut ExporterState,
     alloc: Global,
-    loans: &LoanList,
+    loans: &mut LoanList,
     told: &mut Vec<u8>,
-) -> Made<()>
-    requires { LoansFit loans.now }
-{
-    for (subject, ask, _) in &ASKED {
-        tell(told, alloc, answer(state, alloc, loans, *subject, *ask))?;
-    }
-    Ok(())
-}
-
-/// What the handles name.
-fn name_views(loans: &mut LoanList) -> Made<()> {
+    wanted: &mut Vec<u8>,
+) -> Made<()> {
     for view in 0..13usize {
         loans.push((view as u64, Loan::View(view)))?;
     }
-    loans.push((99, Loan::Own))
-}
-
-fn ask_if_fit(
-    state: &mut ExporterState,
-    alloc: Global,
-    loans: &LoanList,
-    told: &mut Vec<u8>,
-) -> Made<()> {
+    loans.push((99, Loan::Own))?;
     if !loans.fit(alloc)? {
-        return tell_word(told, b"unfit");
+        return Ok(());
     }
-    ask_all(state, alloc, loans, told)
-}
-
-fn name_and_ask(
-    state: &mut ExporterState,
-    alloc: Global,
-    loans: &mut LoanList,
-    told: &mut Vec<u8>,
-) -> Made<()> {
-    name_views(loans)?;
-    ask_if_fit(state, alloc, loans, told)
-}
-
-fn make_and_ask(state: &mut ExporterState, alloc: Global, told: &mut Vec<u8>) -> Made<()> {
-    make(state, alloc, told)?;
-    let mut loans = LoanList::new(alloc);
-    let done = name_and_ask(state, alloc, &mut loans, told);
-    drop(loans);
-    done
-}
-
-/// What is to be told.
-fn want(wanted: &mut Vec<u8>) -> Made<()> {
-    for (_, _, _, _, word) in &MADE {
-        tell_word(wanted, word.as_bytes())?;
-    }
-    for (_, _, word) in &ASKED {
-        tell_word(wanted, word.as_bytes())?;
+    for (subject, ask, word) in &ASKED {
+        say(wanted, Word::Shown(word.as_bytes()));
+        ask_one(state, alloc, loans, (*subject, *ask), told);
     }
     Ok(())
 }
@@ -267,11 +226,14 @@ fn want(wanted: &mut Vec<u8>) -> Made<()> {
 fn a_view_has_items_of_every_format(rt: HostRuntime) -> Result<(), Fail> {
     let alloc = rt.alloc();
     let (mut told, mut wanted) = (Vec::new(alloc), Vec::new(alloc));
-    want(&mut wanted)?;
     let mut state = exporter_of(alloc, RECORDS)?;
-    let done = make_and_ask(&mut state, alloc, &mut told);
+    let mut loans = LoanList::new(alloc);
+    let made = make(&mut state, alloc, &mut told, &mut wanted);
+    let asked = ask_all(&mut state, alloc, &mut loans, &mut told, &mut wanted);
+    drop(loans);
     drop(state);
-    done?;
+    made?;
+    asked?;
     assert_eq!(rt; told.as_slice(), wanted.as_slice());
     Ok(())
 }
