@@ -42,6 +42,14 @@ pub(crate) fn bytes(alloc: Global, bytes: &[u8]) -> Value {
     }
 }
 
+/// A text as a value, and None where there is no memory.
+pub(crate) fn text(alloc: Global, text: &str) -> Value {
+    match Value::text(alloc, text) {
+        Ok(value) => value,
+        Err(_) => Value::One(Scalar::None),
+    }
+}
+
 /// A bytearray of these bytes.
 pub(crate) fn exporter_of(alloc: Global, bytes: &[u8]) -> Made<ExporterState> {
     let bytes = ByteList::from_slice(alloc, bytes)?;

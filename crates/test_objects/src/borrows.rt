@@ -1,11 +1,11 @@
 //! Arguments that are borrowed as bytes for a call: no line of the program borrows one.
-use crate::answers::{Word, exporter_of, say};
+use crate::answers::{Word, bytes, none, number, say, tell, text};
 use pybuf_borrow::{
     ArgAsciiBuffer, ArgBytesLike, ArgMemoryBuffer, ArgStrOrBytesLike, try_bytes_like,
 };
 use pybuf_command::Subject;
 use pybuf_exporter::ExporterState;
-use pybuf_memoryobject::PyMemoryView;
+use pybuf_object::PyByteArray;
 use pybuf_value::{Fault, Made, NoHandles, Outcome, Value};
 use std::alloc::Global;
 use std::test::Fail;
@@ -26,12 +26,14 @@ fn borrow(value: &Value, told: &mut Vec<u8>) {
     }
 }
 
-/// The bytes of a text or bytes, and whether a copy of the argument is the value.
+/// The bytes of a text or bytes, and what is borrowed of a copy of the value.
 fn borrow_text(value: &Value, alloc: Global, told: &mut Vec<u8>) -> Made<()> {
     if let Outcome::Done(argument) = ArgStrOrBytesLike::try_from_value(alloc, value, &NoHandles)? {
         say(told, Word::Bytes(argument.borrow_bytes()));
-        let object = argument.as_object(alloc)?;
-        say(told, Word::Truth(object == *value));
+        if let Ok(object) = argument.as_object(alloc) {
+            borrow(&object, told);
+            drop(object);
+        }
     }
     Ok(())
 }
@@ -45,10 +47,11 @@ fn borrow_ascii(value: &Value, alloc: Global, told: &mut Vec<u8>) -> Made<()> {
     Ok(())
 }
 
-fn borrow_by_each(value: &Value, alloc: Global, told: &mut Vec<u8>) -> Made<()> {
-    borrow(value, told);
-    borrow_text(value, alloc, told)?;
-    borrow_ascii(value, alloc, told)
+fn borrow_by_each(value: Value, alloc: Global, told: &mut Vec<u8>) {
+    borrow(&value, told);
+    let _ = borrow_text(&value, alloc, told);
+    let _ = borrow_ascii(&value, alloc, told);
+    drop(value);
 }
 
 /// A text stands for its UTF-8, and where only ASCII is asked, no other text stands for bytes.
@@ -56,19 +59,12 @@ fn borrow_by_each(value: &Value, alloc: Global, told: &mut Vec<u8>) -> Made<()> 
 fn values_are_borrowed_as_bytes(rt: HostRuntime) -> Result<(), Fail> {
     let alloc = rt.alloc();
     let mut told = Vec::new(alloc);
-    for text in ["ab", "a\u{e9}"] {
-        let value = Value::text(alloc, text)?;
-        let done = borrow_by_each(&value, alloc, &mut told);
-        drop(value);
-        done?;
-    }
-    let value = Value::bytes(alloc, b"\xffc")?;
-    let done = borrow_by_each(&value, alloc, &mut told);
-    drop(value);
-    done?;
+    borrow_by_each(text(alloc, "ab"), alloc, &mut told);
+    borrow_by_each(text(alloc, "a\u{e9}"), alloc, &mut told);
+    borrow_by_each(bytes(alloc, b"\xffc"), alloc, &mut told);
     assert_eq!(rt;
         told.as_slice(),
-        b"TypeError; b'ab'; True; 2; TypeError; b'a\\xc3\\xa9'; True; ValueError; 2; 2; b'\\xffc'; True; 2".as_slice()
+        b"TypeError; b'ab'; TypeError; 2; TypeError; b'a\\xc3\\xa9'; TypeError; ValueError; 2; 2; b'\\xffc'; 2; 2; 2".as_slice()
     );
     Ok(())
 }
@@ -89,14 +85,21 @@ fn turn(state: &mut ExporterState, subject: Subject, told: &mut Vec<u8>) {
 fn a_write_goes_to_the_borrowed_places(rt: HostRuntime) -> Result<(), Fail> {
     let alloc = rt.alloc();
     let mut told = Vec::new(alloc);
-    let mut state = exporter_of(alloc, b"abcdef")?;
-    let whole = PyMemoryView::of_all(&mut state)?;
-    let part = whole.slice(&mut state, 1..4)?;
-    turn(&mut state, Subject::View(part.number()), &mut told);
+    let mut object = PyByteArray::from_slice(alloc, b"abcdef")?;
+    tell(
+        &mut told,
+        alloc,
+        object.range(number(1), number(4), none(alloc)),
+    );
+    let state = object.state_mut();
+    turn(state, Subject::View(0), &mut told);
     say(&mut told, Word::Bytes(state.bytes()));
-    turn(&mut state, Subject::Own, &mut told);
+    turn(state, Subject::Own, &mut told);
     say(&mut told, Word::Bytes(state.bytes()));
-    drop(state);
-    assert_eq!(rt; told.as_slice(), b"3; b'adcbef'; 6; b'febcda'".as_slice());
+    drop(object);
+    assert_eq!(rt;
+        told.as_slice(),
+        b"view 0; 3; b'adcbef'; 6; b'febcda'".as_slice()
+    );
     Ok(())
 }

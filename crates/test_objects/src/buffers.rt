@@ -8,9 +8,10 @@ use pybuf_buffer::{PyBuffer, Steps};
 use pybuf_command::{ExporterKind, Subject};
 use pybuf_exporter::ExporterState;
 use pybuf_memoryobject::{PyMemoryView, VecBuffer};
-use pybuf_value::{Halt, Made, Outcome};
+use pybuf_value::{Made, Outcome};
 use std::alloc::Global;
 use std::marker::Brand;
+use std::ops::Range;
 use std::sync::ledger::{Blank, Ledger};
 use std::test::Fail;
 
@@ -56,53 +57,74 @@ fn read(state: &ExporterState, alloc: Global, told: &mut Vec<u8>) -> Made<()> {
     Ok(())
 }
 
-/// How one more view is made of buffer 0, if it is unreleased.
-#[derive(Clone, Copy)]
-enum By {
-    Buffer,
-    Object,
-    Range,
-    Retain,
-    View,
+/// The bytes of a view.
+fn tell_view(state: &ExporterState, view: usize, told: &mut Vec<u8>) {
+    if let Ok(bytes) = PyMemoryView::of(view).to_vec(state) {
+        say(told, Word::Bytes(bytes.as_slice()));
+    }
 }
 
-/// The number of one more view.
-fn view_by(by: By, state: &mut ExporterState, alloc: Global) -> Result<usize, Halt> {
+/// One more view of buffer 0.
+fn keep(state: &mut ExporterState, alloc: Global, told: &mut Vec<u8>) -> Made<()> {
     let buffer = PyBuffer::of(0);
     if !buffer.is_live(state) {
-        return Ok(usize::MAX);
+        return Ok(());
     }
-    match by {
-        By::Buffer => Ok(PyMemoryView::from_buffer(alloc, state, &buffer)?.number()),
-        By::Object => match PyMemoryView::from_object(alloc, state, Subject::View(0))? {
-            Outcome::Done(view) => Ok(view.number()),
-            Outcome::Refused(fault) => Err(Halt::Refused(fault)),
-        },
-        By::Range => {
-            if !buffer.has_entries(state, &(1..3)) {
-                return Ok(usize::MAX);
-            }
-            Ok(PyMemoryView::from_buffer_range(alloc, state, &buffer, 1..3)?.number())
-        }
-        By::Retain => Ok(buffer.retain(alloc, state)?.number()),
-        By::View => Ok(PyMemoryView::of(0).new_view(alloc, state)?.number()),
-    }
+    let twin = buffer.retain(alloc, state)?;
+    tell_view(state, twin.number(), told);
+    Ok(())
 }
 
-/// The bytes of one more view by each call.
-fn view_all(state: &mut ExporterState, alloc: Global, told: &mut Vec<u8>) -> Result<(), Halt> {
-    for by in [By::Buffer, By::Object, By::Range, By::Retain, By::View] {
-        let view = view_by(by, state, alloc)?;
-        let bytes = PyMemoryView::of(view).to_vec(state)?;
-        say(told, Word::Bytes(bytes.as_slice()));
+/// A memoryview of buffer 0, and one more of that.
+fn view_buffer(state: &mut ExporterState, alloc: Global, told: &mut Vec<u8>) -> Made<()> {
+    let buffer = PyBuffer::of(0);
+    if !buffer.is_live(state) {
+        return Ok(());
+    }
+    let view = PyMemoryView::from_buffer(alloc, state, &buffer)?;
+    if !PyBuffer::of(view.number()).is_live(state) {
+        return Ok(());
+    }
+    let twin = view.new_view(alloc, state)?;
+    tell_view(state, twin.number(), told);
+    Ok(())
+}
+
+/// A memoryview of a range of the items of buffer 0, where they are there.
+fn view_range(
+    state: &mut ExporterState,
+    alloc: Global,
+    range: Range<usize>,
+    told: &mut Vec<u8>,
+) -> Made<()> {
+    let buffer = PyBuffer::of(0);
+    if !buffer.is_live(state) {
+        return Ok(());
+    }
+    if !buffer.has_entries(state, &range) {
+        return Ok(());
+    }
+    let part = PyMemoryView::from_buffer_range(alloc, state, &buffer, range)?;
+    tell_view(state, part.number(), told);
+    Ok(())
+}
+
+/// A memoryview of all bytes.
+fn view_object(state: &mut ExporterState, alloc: Global, told: &mut Vec<u8>) -> Made<()> {
+    if let Outcome::Done(view) = PyMemoryView::from_object(alloc, state, Subject::Own)? {
+        tell_view(state, view.number(), told);
     }
     Ok(())
 }
 
-fn lend_and_view(lent: &mut VecBuffer, alloc: Global, told: &mut Vec<u8>) -> Result<(), Halt> {
+fn lend_and_view(lent: &mut VecBuffer, alloc: Global, told: &mut Vec<u8>) -> Made<()> {
     lend(lent, alloc, told)?;
     read(lent.state(), alloc, told)?;
-    view_all(lent.state_mut(), alloc, told)
+    let state = lent.state_mut();
+    keep(state, alloc, told)?;
+    view_buffer(state, alloc, told)?;
+    view_range(state, alloc, 1..3, told)?;
+    view_object(state, alloc, told)
 }
 
 /// As `memoryview(b'abcdef')[::2]` of Python 3, a slice `[1:3]` of it, and its bytes.
@@ -120,7 +142,7 @@ fn views_are_made_of_a_buffer(rt: HostRuntime) -> Result<(), Fail> {
     drop(state);
     assert_eq!(rt;
         told.as_slice(),
-        b"0; 3ace; b'ace'; b'ace'; b'ace'; b'ce'; b'ace'; b'ace'; b'xyz'; 0".as_slice()
+        b"0; 3ace; b'ace'; b'ace'; b'ace'; b'ce'; b'abcdef'; b'xyz'; 0".as_slice()
     );
     Ok(())
 }

@@ -27,13 +27,9 @@ enum Ask {
     Backwards,
     Equal(u64),
     Get(i128),
-    Hash,
-    Iter,
-    Next,
     Set(i128, Given),
     ToBytes,
     ToList,
-    ToReadOnly,
 }
 
 /// The slice of all, with a step.
@@ -65,16 +61,12 @@ fn verb_of(alloc: Global, ask: Ask) -> Verb {
             other: value_of(alloc, Given::Named(view)),
         },
         Ask::Get(index) => Verb::Get { key: number(index) },
-        Ask::Hash => Verb::Hash,
-        Ask::Iter => Verb::Iter,
-        Ask::Next => Verb::Next,
         Ask::Set(index, given) => Verb::Set {
             key: number(index),
             value: value_of(alloc, given),
         },
         Ask::ToBytes => Verb::ToBytes { order: None },
         Ask::ToList => Verb::ToList,
-        Ask::ToReadOnly => Verb::ToReadonly,
     }
 }
 
@@ -100,10 +92,9 @@ const MADE: [(&str, usize, usize, u8, &str); 14] = [
 ];
 
 /// As `struct.unpack_from` and `struct.pack_into` of Python 3 read and write these bytes, and as memoryviews of these
-/// formats, which its C API makes, are compared and iterated. By hand, since Python refuses it: what is assigned by a
-/// slice, an item of bytes that is written from a view or its object, and the bytes that are hashed.
-const ASKED: [(Subject, Ask, &str); 41] = [
-    (Subject::View(0), Ask::Get(0), "(1, 2)"),
+/// formats, which its C API makes, are compared. By hand, since Python refuses it: what is assigned by a slice, and an
+/// item of bytes that is written from a view or its object.
+const ASKED: [(Subject, Ask, &str); 27] = [
     (
         Subject::View(0),
         Ask::Set(0, Given::Number(7)),
@@ -113,14 +104,7 @@ const ASKED: [(Subject, Ask, &str); 41] = [
     (Subject::View(0), Ask::Equal(1), "True"),
     (Subject::View(0), Ask::Backwards, "view 12"),
     (Subject::View(12), Ask::ToList, "[(3, 4), (1, 2)]"),
-    (Subject::View(12), Ask::Equal(0), "False"),
-    (Subject::View(12), Ask::Iter, "iterator 0"),
-    (Subject::Iter(0), Ask::Next, "(3, 4)"),
-    (Subject::Iter(0), Ask::Next, "(1, 2)"),
-    (Subject::Iter(0), Ask::Next, "stop"),
     (Subject::View(2), Ask::ToList, "[1, 2, -4605, 4]"),
-    (Subject::View(3), Ask::ToList, "[256, 512, 1006, 1024]"),
-    (Subject::View(2), Ask::Equal(3), "False"),
     (Subject::View(3), Ask::Set(-1, Given::Number(258)), "ok"),
     (
         Subject::View(3),
@@ -131,16 +115,13 @@ const ASKED: [(Subject, Ask, &str); 41] = [
     (Subject::View(4), Ask::Get(0), "(1, -1)"),
     (Subject::View(5), Ask::ToList, "[(), ()]"),
     (Subject::View(6), Ask::Equal(1), "True"),
-    (Subject::View(6), Ask::Equal(4), "False"),
     (Subject::View(7), Ask::Set(0, Given::Number(258)), "ok"),
-    (Subject::View(8), Ask::Get(0), "b'\\x00\\x00\\x02\\x01'"),
     (Subject::View(8), Ask::Set(1, Given::Bytes(b"XY")), "ok"),
     (
         Subject::View(8),
         Ask::Set(1, Given::Number(5)),
         "! TypeError",
     ),
-    (Subject::View(9), Ask::Get(0), "b'\\x00'"),
     (Subject::View(9), Ask::Set(1, Given::Bytes(b"abcdef")), "ok"),
     (Subject::View(9), Ask::Get(1), "b'abc'"),
     (Subject::View(8), Ask::Get(3), "b'\\x03abc'"),
@@ -161,9 +142,6 @@ const ASKED: [(Subject, Ask, &str); 41] = [
         "! TypeError",
     ),
     (Subject::Own, Ask::ToBytes, "b'\\x03abcXYZW\\x03abcXYZW'"),
-    (Subject::View(0), Ask::ToReadOnly, "view 13"),
-    (Subject::View(13), Ask::Hash, "b'\\x03abcXYZW'"),
-    (Subject::View(0), Ask::Hash, "! ValueError"),
 ];
 
 /// Makes the views, and adds what is told and what is to be told.
@@ -201,23 +179,41 @@ fn ask_one(
     tell(told, alloc, answer);
 }
 
+/// What the handles name.
+fn name_views(loans: &mut LoanList) -> Made<()> {
+    for view in 0..13usize {
+        loans.push((view as u64, Loan::View(view)))?;
+    }
+    loans.push((99, Loan::Own))
+}
+
+/// Asks all, and adds what is told and what is to be told.
 fn ask_all(
+    state: &mut ExporterState,
+    alloc: Global,
+    loans: &LoanList,
+    told: &mut Vec<u8>,
+    wanted: &mut Vec<u8>,
+)
+    requires { LoansFit loans.now }
+{
+    for (subject, ask, word) in &ASKED {
+        say(wanted, Word::Shown(word.as_bytes()));
+        ask_one(state, alloc, loans, (*subject, *ask), told);
+    }
+}
+
+fn make_and_ask(
     state: &mut ExporterState,
     alloc: Global,
     loans: &mut LoanList,
     told: &mut Vec<u8>,
     wanted: &mut Vec<u8>,
 ) -> Made<()> {
-    for view in 0..13usize {
-        loans.push((view as u64, Loan::View(view)))?;
-    }
-    loans.push((99, Loan::Own))?;
-    if !loans.fit(alloc)? {
-        return Ok(());
-    }
-    for (subject, ask, word) in &ASKED {
-        say(wanted, Word::Shown(word.as_bytes()));
-        ask_one(state, alloc, loans, (*subject, *ask), told);
+    make(state, alloc, told, wanted)?;
+    name_views(loans)?;
+    if loans.fit(alloc)? {
+        ask_all(state, alloc, loans, told, wanted);
     }
     Ok(())
 }
@@ -228,12 +224,10 @@ fn a_view_has_items_of_every_format(rt: HostRuntime) -> Result<(), Fail> {
     let (mut told, mut wanted) = (Vec::new(alloc), Vec::new(alloc));
     let mut state = exporter_of(alloc, RECORDS)?;
     let mut loans = LoanList::new(alloc);
-    let made = make(&mut state, alloc, &mut told, &mut wanted);
-    let asked = ask_all(&mut state, alloc, &mut loans, &mut told, &mut wanted);
+    let done = make_and_ask(&mut state, alloc, &mut loans, &mut told, &mut wanted);
     drop(loans);
     drop(state);
-    made?;
-    asked?;
+    done?;
     assert_eq!(rt; told.as_slice(), wanted.as_slice());
     Ok(())
 }

@@ -1,6 +1,6 @@
 //! The methods of `PyMemoryView` by commands that no example or benchmark shows: a line of the program makes the same
 //! commands on a world.
-use crate::answers::{exporter_of, none, number, tell};
+use crate::answers::{exporter_of, none, number, tell, text};
 use pybuf_exporter::ExporterState;
 use pybuf_memoryobject::PyMemoryView;
 use pybuf_value::{Halt, Scalar, ScalarList, Value};
@@ -16,19 +16,6 @@ fn three_by_two(alloc: Global) -> Value {
     let _ = parts.push(Scalar::Int(3));
     let _ = parts.push(Scalar::Int(2));
     Value::Tuple(parts)
-}
-
-/// The items of a view in three rows of two, which lie in column order.
-fn cast(
-    view: &PyMemoryView,
-    state: &mut ExporterState,
-    alloc: Global,
-    told: &mut Vec<u8>,
-) -> Result<(), Halt> {
-    let format = Value::text(alloc, "B")?;
-    let shape = three_by_two(alloc);
-    tell(told, alloc, view.cast_f(state, format, shape, none(alloc)));
-    Ok(())
 }
 
 fn ask(view: &PyMemoryView, state: &mut ExporterState, alloc: Global, told: &mut Vec<u8>) {
@@ -61,7 +48,8 @@ fn measure(view: &PyMemoryView, state: &mut ExporterState, alloc: Global, told: 
 fn call_all(state: &mut ExporterState, alloc: Global, told: &mut Vec<u8>) -> Result<(), Halt> {
     let whole = PyMemoryView::of_all(state)?;
     let view = whole.cast_to(state, "H")?;
-    cast(&whole, state, alloc, told)?;
+    let (format, shape) = (text(alloc, "B"), three_by_two(alloc));
+    tell(told, alloc, whole.cast_f(state, format, shape, none(alloc)));
     ask(&view, state, alloc, told);
     measure(&view, state, alloc, told);
     measure(&PyMemoryView::of(2), state, alloc, told);
