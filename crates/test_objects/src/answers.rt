@@ -1,20 +1,53 @@
 //! Answers as one text, so that a test compares a whole script at once: a word for each, as it is shown, with "; "
 //! between.
 //!
-//! A script hands each answer to a function without clauses, which lets it go: so none drops a reply, a command or an
-//! object at each place where it may stop.
-use pybuf_buffer::PyBuffer;
-use pybuf_command::{ExporterKind, LocalReply};
+//! A word for which there is no memory is left out, and so its test fails. So no script stops at a word, where each
+//! reply, value and object that is alive would be let go.
+ghost use Rattle.std.specs.Prelude.{◌≡◌, []};
+
+use pybuf_command::{ExporterKind, LoanList, LocalReply};
 use pybuf_desc::BufferDescriptor;
 use pybuf_exporter::ExporterState;
 use pybuf_value::{
-    ByteList, DimList, Fault, Made, Outcome, Scalar, Text, Tried, Value, push_bytes, push_number,
-    push_truth,
+    ByteList, DimList, Fault, Made, Scalar, Text, Value, push_bytes, push_number, push_truth,
 };
 use std::alloc::Global;
 
+/// What is told by a word.
+#[derive(Clone, Copy)]
+pub(crate) enum Word<'a> {
+    Bytes(&'a [u8]),
+    Count(usize),
+    Fault(Fault),
+    Shown(&'a [u8]),
+    Truth(bool),
+}
+
+/// No loans.
+pub(crate) fn none(alloc: Global) -> LoanList
+    ensures { result ≡ [] }
+{
+    LoanList::new(alloc)
+}
+
 pub(crate) fn number(n: i128) -> Value {
     Value::One(Scalar::Int(n))
+}
+
+/// Bytes as a value, and None where there is no memory.
+pub(crate) fn bytes(alloc: Global, bytes: &[u8]) -> Value {
+    match Value::bytes(alloc, bytes) {
+        Ok(value) => value,
+        Err(_) => Value::One(Scalar::None),
+    }
+}
+
+/// A text as a value, and None where there is no memory.
+pub(crate) fn text(alloc: Global, text: &str) -> Value {
+    match Value::text(alloc, text) {
+        Ok(value) => value,
+        Err(_) => Value::One(Scalar::None),
+    }
 }
 
 /// A bytearray of these bytes.
@@ -23,94 +56,52 @@ pub(crate) fn exporter_of(alloc: Global, bytes: &[u8]) -> Made<ExporterState> {
     Ok(ExporterState::new(alloc, ExporterKind::ByteArray, bytes))
 }
 
-/// Adds a word.
-pub(crate) fn tell_word(told: &mut Vec<u8>, word: &[u8]) -> Made<()> {
+/// Items of a format and a size in these dimensions: entries and stride of each.
+pub(crate) fn described(
+    alloc: Global,
+    format: &str,
+    size: usize,
+    dims: &[(usize, isize, isize)],
+) -> Made<BufferDescriptor> {
+    let mut len = size;
+    for (entries, _, _) in dims {
+        len = len.saturating_mul(*entries);
+    }
+    let dims = DimList::from_slice(alloc, dims)?;
+    let format = Text::from_str(alloc, format)?;
+    Ok(BufferDescriptor::raw(len, false, size, format, dims))
+}
+
+fn push_word(told: &mut Vec<u8>, word: Word<'_>) -> Made<()> {
     if !told.is_empty() {
         told.extend_from_slice(b"; ")?;
     }
-    told.extend_from_slice(word)?;
-    Ok(())
-}
-
-pub(crate) fn tell_bytes(told: &mut Vec<u8>, bytes: &[u8]) -> Made<()> {
-    tell_word(told, b"")?;
-    push_bytes(told, bytes)
-}
-
-pub(crate) fn tell_count(told: &mut Vec<u8>, count: usize) -> Made<()> {
-    tell_word(told, b"")?;
-    push_number(told, count as i128)
-}
-
-pub(crate) fn tell_truth(told: &mut Vec<u8>, truth: bool) -> Made<()> {
-    tell_word(told, b"")?;
-    push_truth(told, truth)
-}
-
-pub(crate) fn tell_fault(told: &mut Vec<u8>, fault: Fault) -> Made<()> {
-    tell_word(told, fault.python_name().as_bytes())
-}
-
-fn tell_reply(told: &mut Vec<u8>, alloc: Global, reply: &LocalReply) -> Made<()> {
-    let shown = format!(in alloc; "{reply}")?;
-    tell_word(told, shown.as_bytes())
-}
-
-/// Adds what a call answers.
-pub(crate) fn tell(told: &mut Vec<u8>, alloc: Global, answer: Made<LocalReply>) -> Made<()> {
-    let reply = answer?;
-    let done = tell_reply(told, alloc, &reply);
-    drop(reply);
-    done
-}
-
-/// Adds the number of a buffer, or why there is none.
-pub(crate) fn tell_buffer(told: &mut Vec<u8>, made: Tried<PyBuffer>) -> Made<()> {
-    match made? {
-        Outcome::Done(buffer) => tell_count(told, buffer.number()),
-        Outcome::Refused(fault) => tell_fault(told, fault),
+    match word {
+        Word::Bytes(bytes) => push_bytes(told, bytes),
+        Word::Count(count) => push_number(told, count as i128),
+        Word::Fault(fault) => {
+            told.extend_from_slice(fault.python_name().as_bytes())?;
+            Ok(())
+        }
+        Word::Shown(shown) => {
+            told.extend_from_slice(shown)?;
+            Ok(())
+        }
+        Word::Truth(truth) => push_truth(told, truth),
     }
 }
 
-/// Adds the bytes of a view, where they lie together.
-pub(crate) fn tell_view(told: &mut Vec<u8>, state: &ExporterState, view: usize) -> Made<()> {
-    let buffer = PyBuffer::of(view);
-    if !buffer.is_live(state) {
-        return tell_word(told, b"released");
-    }
-    match buffer.as_contiguous(state) {
-        Some(bytes) => tell_bytes(told, bytes),
-        None => tell_word(told, b"None"),
-    }
+/// Adds a word.
+pub(crate) fn say(told: &mut Vec<u8>, word: Word<'_>) {
+    let _ = push_word(told, word);
 }
 
-/// Items of a format and a size in these dimensions: entries and stride of each.
-fn described(
-    alloc: Global,
-    format: &str,
-    size: usize,
-    dims: &[(usize, isize)],
-) -> Made<BufferDescriptor> {
-    let mut list = DimList::new(alloc);
-    let mut len = size;
-    for (entries, stride) in dims {
-        list.push((*entries, *stride, 0))?;
-        len = len.saturating_mul(*entries);
+/// Adds what a call answers, as it is shown.
+pub(crate) fn tell(told: &mut Vec<u8>, alloc: Global, answer: Made<LocalReply>) {
+    if let Ok(reply) = answer {
+        if let Ok(shown) = format!(in alloc; "{reply}") {
+            say(told, Word::Shown(shown.as_bytes()));
+        }
+        drop(reply);
     }
-    let format = Text::from_str(alloc, format)?;
-    Ok(BufferDescriptor::raw(len, false, size, format, list))
-}
-
-/// One more buffer, of such items from a place on.
-pub(crate) fn lend(
-    state: &mut ExporterState,
-    alloc: Global,
-    format: &str,
-    size: usize,
-    dims: &[(usize, isize)],
-    start: usize,
-    told: &mut Vec<u8>,
-) -> Made<()> {
-    let descriptor = described(alloc, format, size, dims)?;
-    tell_buffer(told, PyBuffer::new(alloc, state, descriptor, start))
 }

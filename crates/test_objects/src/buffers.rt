@@ -1,76 +1,34 @@
-//! The calls of `PyBuffer`, and those of an exporter that lend its bytes or resize them: no line of the program makes
-//! a buffer by a descriptor of its own, or is lent bytes.
+//! The calls of `VecBuffer`, `PyBuffer` and `PyMemoryView` that make views without a command: no line of the program
+//! makes one by a descriptor of its own, or of a buffer.
 ghost use Rattle.std.specs.Prelude.{◌≡◌, true};
 ghost use Rattle.pybuf_state.specs.Live.{is_live};
 
-use crate::answers::{
-    exporter_of, lend, tell_bytes, tell_count, tell_fault, tell_truth, tell_view, tell_word,
-};
+use crate::answers::{Word, described, say};
 use pybuf_buffer::{PyBuffer, Steps};
+use pybuf_command::{ExporterKind, Subject};
 use pybuf_exporter::ExporterState;
-use pybuf_value::Made;
+use pybuf_memoryobject::{PyMemoryView, VecBuffer};
+use pybuf_value::{Made, Outcome};
 use std::alloc::Global;
 use std::marker::Brand;
+use std::ops::Range;
 use std::sync::ledger::{Blank, Ledger};
 use std::test::Fail;
 
-/// One byte more at the end, where the exporter can be resized.
-fn resize(state: &mut ExporterState, told: &mut Vec<u8>) -> Made<()> {
-    if state.kind().is_readonly() {
-        return tell_word(told, b"readonly");
+/// Buffer 0 of a vector, of every other byte.
+fn lend(lent: &mut VecBuffer, alloc: Global, told: &mut Vec<u8>) -> Made<()> {
+    let descriptor = described(alloc, "B", 1, &[(3, 2, 0)])?;
+    if lent.state().kind() != (ExporterKind::Vector { readonly: false }) {
+        return Ok(());
     }
-    match state.resizable() {
-        Ok(bytes) => {
-            bytes.push(33)?;
-            Ok(())
-        }
-        Err(fault) => tell_fault(told, fault),
+    if let Outcome::Done(buffer) = lent.into_pybuffer_with_descriptor(descriptor)? {
+        say(told, Word::Count(buffer.number()));
     }
-}
-
-/// A second buffer as buffer 0, which is then released.
-fn keep(state: &mut ExporterState, alloc: Global, told: &mut Vec<u8>) -> Made<()> {
-    let buffer = PyBuffer::of(0);
-    if !buffer.is_live(state) {
-        return tell_word(told, b"released");
-    }
-    let twin = buffer.retain(alloc, state)?;
-    tell_count(told, twin.number())?;
-    tell_count(told, state.exports())?;
-    if state.view_count() < 1 {
-        return tell_word(told, b"none");
-    }
-    buffer.release(state);
-    tell_truth(told, buffer.is_live(state))
-}
-
-fn keep_and_let_go(state: &mut ExporterState, alloc: Global, told: &mut Vec<u8>) -> Made<()> {
-    lend(state, alloc, "B", 1, &[(7, 1)], 0, told)?;
-    resize(state, told)?;
-    tell_bytes(told, state.bytes())?;
-    lend(state, alloc, "B", 1, &[(7, 1)], 0, told)?;
-    keep(state, alloc, told)?;
-    resize(state, told)?;
-    tell_count(told, state.exports())
-}
-
-#[test]
-fn a_buffer_is_made_kept_and_released(rt: HostRuntime) -> Result<(), Fail> {
-    let alloc = rt.alloc();
-    let mut told = Vec::new(alloc);
-    let mut state = exporter_of(alloc, b"abcdef")?;
-    let done = keep_and_let_go(&mut state, alloc, &mut told);
-    drop(state);
-    done?;
-    assert_eq!(rt;
-        told.as_slice(),
-        b"ValueError; b'abcdef!'; 0; 1; 2; False; BufferError; 1".as_slice()
-    );
     Ok(())
 }
 
-/// Appends the bytes of a buffer twice, counted by a caller's counter.
-fn append_twice<L: Ledger>(
+/// Appends the bytes of a buffer, counted by a caller's counter.
+fn append<L: Ledger>(
     buffer: &PyBuffer,
     state: &ExporterState,
     bytes: &mut Vec<u8>,
@@ -81,91 +39,110 @@ fn append_twice<L: Ledger>(
     requires parts { blank.parts ≡ L.parts }
     requires one { blank.parts ≡ 1 }
 {
-    let mut steps = Steps::<L>::new(blank);
-    buffer.append_to(state, bytes, &mut steps)?;
-    buffer.append_to(state, bytes, &mut steps)
+    buffer.append_to(state, bytes, &mut Steps::<L>::new(blank))
 }
 
-/// What is read of buffer 0.
-fn collect(state: &ExporterState, alloc: Global, told: &mut Vec<u8>) -> Made<()> {
+/// The number and the bytes of buffer 0, which don't lie together, and those of a copy of it.
+fn read(state: &ExporterState, alloc: Global, told: &mut Vec<u8>) -> Made<()> {
     let buffer = PyBuffer::of(0);
     if !buffer.is_live(state) {
-        return tell_word(told, b"released");
+        return Ok(());
     }
-    let length = buffer.contiguous_or_collect(alloc, state, |bytes| bytes.len())?;
-    tell_count(told, length)?;
-    buffer.append_uncounted(state, told)?;
-    append_twice::<Brand>(&buffer, state, told, Blank::new(1))?;
-    tell_bytes(told, buffer.obj_bytes(state))
+    let count = buffer.contiguous_or_collect(alloc, state, |bytes| bytes.len())?;
+    say(told, Word::Count(count));
+    append::<Brand>(&buffer, state, told, Blank::new(1))?;
+    let (copy, _) = PyMemoryView::of(0).to_contiguous(alloc, state)?;
+    say(told, Word::Bytes(copy.bytes()));
+    drop(copy);
+    Ok(())
 }
 
-/// Turns the bytes of a buffer round, where they may be written and lie together.
-fn is_turned(state: &mut ExporterState, view: usize) -> bool {
-    let buffer = PyBuffer::of(view);
+/// The bytes of a view.
+fn tell_view(state: &ExporterState, view: usize, told: &mut Vec<u8>) {
+    if let Ok(bytes) = PyMemoryView::of(view).to_vec(state) {
+        say(told, Word::Bytes(bytes.as_slice()));
+    }
+}
+
+/// One more view of buffer 0.
+fn keep(state: &mut ExporterState, alloc: Global, told: &mut Vec<u8>) -> Made<()> {
+    let buffer = PyBuffer::of(0);
     if !buffer.is_live(state) {
-        return false;
+        return Ok(());
     }
-    match buffer.as_contiguous_mut(state) {
-        Some(bytes) => {
-            bytes.reverse();
-            true
-        }
-        None => false,
-    }
+    let twin = buffer.retain(alloc, state)?;
+    tell_view(state, twin.number(), told);
+    Ok(())
 }
 
-/// The same by the test, and by the exporter, whose clause says what is written; then all bytes of the exporter.
-fn are_turned(state: &mut ExporterState, view: usize) -> bool {
-    let buffer = PyBuffer::of(view);
+/// A memoryview of buffer 0, and one more of that.
+fn view_buffer(state: &mut ExporterState, alloc: Global, told: &mut Vec<u8>) -> Made<()> {
+    let buffer = PyBuffer::of(0);
     if !buffer.is_live(state) {
-        return false;
+        return Ok(());
     }
-    if !buffer.is_contiguous_mut(state) {
-        return false;
+    let view = PyMemoryView::from_buffer(alloc, state, &buffer)?;
+    if !PyBuffer::of(view.number()).is_live(state) {
+        return Ok(());
     }
-    state.contiguous_bytes_mut(buffer.number()).reverse();
-    true
+    let twin = view.new_view(alloc, state)?;
+    tell_view(state, twin.number(), told);
+    Ok(())
 }
 
-/// Turns all bytes of the exporter round, where a buffer may be written.
-fn is_turned_whole(state: &mut ExporterState, view: usize) -> bool {
-    let buffer = PyBuffer::of(view);
+/// A memoryview of a range of the items of buffer 0, where they are there.
+fn view_range(
+    state: &mut ExporterState,
+    alloc: Global,
+    range: Range<usize>,
+    told: &mut Vec<u8>,
+) -> Made<()> {
+    let buffer = PyBuffer::of(0);
     if !buffer.is_live(state) {
-        return false;
+        return Ok(());
     }
-    if !buffer.is_contiguous_mut(state) {
-        return false;
+    if !buffer.has_entries(state, &range) {
+        return Ok(());
     }
-    buffer.obj_bytes_mut(state).reverse();
-    true
+    let part = PyMemoryView::from_buffer_range(alloc, state, &buffer, range)?;
+    tell_view(state, part.number(), told);
+    Ok(())
 }
 
-/// As `memoryview(b)[::-2]` and `memoryview(b)[2:5]` of Python 3, where `b = bytearray(b'abcdef')`.
-fn read_and_write(state: &mut ExporterState, alloc: Global, told: &mut Vec<u8>) -> Made<()> {
-    lend(state, alloc, "B", 1, &[(3, -2)], 5, told)?;
-    lend(state, alloc, "B", 1, &[(3, 1)], 2, told)?;
-    collect(state, alloc, told)?;
-    tell_view(told, state, 0)?;
-    tell_truth(told, is_turned(state, 0))?;
-    tell_truth(told, is_turned(state, 1))?;
-    tell_bytes(told, state.bytes())?;
-    tell_view(told, state, 1)?;
-    tell_truth(told, are_turned(state, 1))?;
-    tell_truth(told, is_turned_whole(state, 1))?;
-    tell_bytes(told, state.bytes())
+/// A memoryview of all bytes.
+fn view_object(state: &mut ExporterState, alloc: Global, told: &mut Vec<u8>) -> Made<()> {
+    if let Outcome::Done(view) = PyMemoryView::from_object(alloc, state, Subject::Own)? {
+        tell_view(state, view.number(), told);
+    }
+    Ok(())
 }
 
+fn lend_and_view(lent: &mut VecBuffer, alloc: Global, told: &mut Vec<u8>) -> Made<()> {
+    lend(lent, alloc, told)?;
+    read(lent.state(), alloc, told)?;
+    let state = lent.state_mut();
+    keep(state, alloc, told)?;
+    view_buffer(state, alloc, told)?;
+    view_range(state, alloc, 1..3, told)?;
+    view_object(state, alloc, told)
+}
+
+/// As `memoryview(b'abcdef')[::2]` of Python 3, a slice `[1:3]` of it, and its bytes.
 #[test]
-fn a_buffer_is_read_and_written_where_it_lies(rt: HostRuntime) -> Result<(), Fail> {
+fn views_are_made_of_a_buffer(rt: HostRuntime) -> Result<(), Fail> {
     let alloc = rt.alloc();
     let mut told = Vec::new(alloc);
-    let mut state = exporter_of(alloc, b"abcdef")?;
-    let done = read_and_write(&mut state, alloc, &mut told);
-    drop(state);
+    let mut lent = VecBuffer::from(alloc, Vec::from_slice(alloc, b"abcdef")?);
+    let done = lend_and_view(&mut lent, alloc, &mut told);
+    drop(lent);
     done?;
+    let (state, buffer) = PyBuffer::from_byte_vector(alloc, Vec::from_slice(alloc, b"xyz")?)?;
+    say(&mut told, Word::Bytes(state.bytes()));
+    say(&mut told, Word::Count(buffer.number()));
+    drop(state);
     assert_eq!(rt;
         told.as_slice(),
-        b"0; 1; 3fdbfdbfdb; b'abcdef'; None; False; True; b'abedcf'; b'edc'; True; True; b'fedcba'".as_slice()
+        b"0; 3ace; b'ace'; b'ace'; b'ace'; b'ce'; b'abcdef'; b'xyz'; 0".as_slice()
     );
     Ok(())
 }

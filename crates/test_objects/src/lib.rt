@@ -16,10 +16,4 @@ mod described;
 #[cfg(test)]
 mod exporters;
 #[cfg(test)]
-mod lent_vectors;
-#[cfg(test)]
-mod memory_views;
-#[cfg(test)]
-mod plain_calls;
-#[cfg(test)]
 mod view_methods;

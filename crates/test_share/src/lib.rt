@@ -7,16 +7,6 @@ mod appending;
 #[cfg(test)]
 mod asking;
 #[cfg(test)]
-mod carrying;
-#[cfg(test)]
-mod finishing;
-#[cfg(test)]
-mod flags;
+mod logging;
 #[cfg(test)]
 mod meetings;
-#[cfg(test)]
-mod refused;
-#[cfg(test)]
-mod starting;
-#[cfg(test)]
-mod turns;
