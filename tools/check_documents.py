@@ -347,17 +347,16 @@ def check_definitions(document, lines):
 
 
 def check_differences(document, lines):
-    """The cases and the tests that show a difference: a name of three words or more is a case, or stands in a table's output.
-    Each line of a list names one, or clauses or tests in general."""
-    printed = (ROOT / "crates" / "golden_methods" / "stdout").read_text().split()
+    """The cases and the tests that show a difference: a name of three words or more is a case. Each line of a list names one,
+    or clauses or tests in general."""
     listed = [(number, line) for number, line in enumerate(lines, 1) if line.startswith("- ")]
     if not listed:
         report(document, 1, "the differences were not found")
     for number, line in listed:
         cases = [name for name in quoted(line) if re.fullmatch(r"(?:\w+/)?[A-Za-z0-9]+(?:-[A-Za-z0-9]+){2,}", name)]
         for name in cases:
-            if not (ROOT / "cases" / (name if "/" in name else f"differences/{name}")).exists() and name not in printed:
-                report(document, number, f"no case and no line of golden_methods is named {name}")
+            if not (ROOT / "cases" / (name if "/" in name else f"differences/{name}")).exists():
+                report(document, number, f"no case is named {name}")
         tests = re.findall(r"((?:`\w+`(?:,| and)? ?)+)of `(test_\w+)`", line)
         for names, crate in tests:
             source = "".join(path.read_text() for path in (ROOT / "crates" / crate / "src").glob("**/*.rt"))

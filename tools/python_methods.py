@@ -8,9 +8,6 @@ of answers, and the FNV-1a hash, of 64 bits, of the texts of the answers, each o
 feed: numbers in decimal digits, with `1` and `0` for true and false, bytes in hexadecimal digits, of a
 list each part with a comma behind it, and of a refusal the name of the exception. Of a partition the
 middle part is told as whether there was a match.
-
-At the end stand the answers that differ from Python's by choice, by name. They are written out here,
-and this stops where Python's answer is no other.
 """
 import itertools
 import operator
@@ -104,33 +101,6 @@ def of_shapes(name, words):
     line("fromhex", name, lambda word: bytes.fromhex(word.decode("ascii")), [(word,) for word in words])
 
 
-# Python's call, and our answer
-DIFFERENCES = {
-    "maketrans-of-repeated-bytes": (lambda: bytes.maketrans(b"aa", b"xy")[97:98], "x78"),
-    "translate-by-a-number": (lambda: b"a".translate(5), "ValueError"),
-    "expandtabs-of-a-wide-tab": (lambda: b"a".expandtabs(2**32), "x61"),
-    "hex-in-wide-groups": (lambda: b"a".hex(":", 2**32), "'61'"),
-    "hex-of-nothing": (lambda: b"".hex("::", 1), "''"),
-    "hex-without-groups": (lambda: b"a".hex("::", 0), "'61'"),
-    "startswith-in-no-range": (lambda: b"a".startswith(5, 2), "False"),
-    "startswith-of-a-list": (lambda: b"a".startswith([97]), "True"),
-    "contains-of-a-list": (lambda: [97] in b"ba", "True"),
-    "contains-of-a-view-apart": (lambda: memoryview(b"b_a_")[::2] in b"ba", "True"),
-}
-
-
-def difference(name, call, ours):
-    """The line of a difference."""
-    try:
-        answer = call()
-        python = "x" + answer.hex() if isinstance(answer, bytes) else repr(answer)
-    except Exception as fault:
-        python = type(fault).__name__
-    if python == ours:
-        raise SystemExit(f"{name}: Python answers {python} too")
-    print("difference", name, ours)
-
-
 def main():
     words = texts(b"ab", 6)
     for needle in texts(b"ab", 3):
@@ -143,8 +113,6 @@ def main():
     of_shapes("tabs", texts(b"a\t\n\r", 5))
     of_shapes("digits", texts(b"1aF g", 5))
     line("maketrans", "ab", bytes.maketrans, itertools.product(MAPPED, MAPPED))
-    for name, (call, ours) in DIFFERENCES.items():
-        difference(name, call, ours)
 
 
 main()

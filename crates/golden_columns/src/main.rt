@@ -4,25 +4,34 @@
 //! written by `tools/python_columns.py`.
 #![tactic(auto)]
 
-ghost use Rattle.std.specs.Prelude.{◌≡◌, ◌*◌, ◌^◌, ◌<◌, All, IfSome};
+ghost use Rattle.std.specs.Prelude.{◌≡◌, ◌*◌, ◌<◌, All, IfSome};
 ghost use Rattle.pybuf_desc.specs.Layouts.{product};
 ghost use Rattle.pybuf_desc.specs.Valid.{IsPlaceable};
 
 use pybuf_desc::BufferDescriptor;
 use pybuf_index::SaturatedSlice;
-use pybuf_value::{Made, PySlice, Scalar, Text};
+use pybuf_value::{Made, PySlice, Text, push_number};
 use std::alloc::Global;
+use std::io::Write;
 use std::process::ExitCode;
 
 /// As many bytes as the items of the greatest shape have.
 const ROOM: usize = 54;
 
 /// Slices as they are written, with their stop and their step.
-const SLICES: [(&str, Option<i128>, i128); 3] = [
-    ("[::2]", None, 2),
-    ("[::-1]", None, -1),
-    ("[:0]", Some(0), 1),
+const SLICES: [(&[u8], Option<isize>, isize); 3] = [
+    (b"[::2]", None, 2),
+    (b"[::-1]", None, -1),
+    (b"[:0]", Some(0), 1),
 ];
+
+/// A cast of bytes: whether to column order, the size of its items, and its shape.
+#[derive(Clone, Copy)]
+struct Cast<'a> {
+    in_columns: bool,
+    size: usize,
+    shape: &'a [usize],
+}
 
 /// How many items a shape has, where each dimension has an entry and the number fits.
 fn items_of(shape: &[usize]) -> Option<usize>
@@ -53,185 +62,186 @@ fn bytes_of(size: usize, shape: &[usize]) -> Option<usize>
 }
 
 /// Adds the numbers with commas between them, in brackets.
-fn push_entries(alloc: Global, text: &mut String, entries: &[usize]) -> Made<()> {
-    let mut before = "[";
-    for n in entries {
-        let shown = format!(in alloc; "{before}{n}")?;
-        text.push_str(shown.as_str())?;
-        before = ",";
+fn push_shape(out: &mut Vec<u8>, shape: &[usize]) -> Made<()> {
+    out.push(b'[')?;
+    for k in 0..shape.len() {
+        if k > 0 {
+            out.push(b',')?;
+        }
+        push_number(out, shape[k] as i128)?;
     }
-    if entries.is_empty() {
-        text.push_str(before)?;
-    }
-    text.push_str("]")?;
+    out.push(b']')?;
     Ok(())
 }
 
 /// The same of the strides of dimensions.
-fn push_strides(alloc: Global, text: &mut String, dims: &[(usize, isize, isize)]) -> Made<()> {
-    let mut before = "[";
-    for dim in dims {
-        let stride = dim.1;
-        let shown = format!(in alloc; "{before}{stride}")?;
-        text.push_str(shown.as_str())?;
-        before = ",";
+fn push_strides(out: &mut Vec<u8>, dims: &[(usize, isize, isize)]) -> Made<()> {
+    out.push(b'[')?;
+    for k in 0..dims.len() {
+        if k > 0 {
+            out.push(b',')?;
+        }
+        push_number(out, dims[k].1 as i128)?;
     }
-    if dims.is_empty() {
-        text.push_str(before)?;
-    }
-    text.push_str("]")?;
+    out.push(b']')?;
     Ok(())
 }
 
 /// Adds `C` where the items lie without a gap row-major, and `F` where they do so in column order.
-fn push_contiguity(text: &mut String, d: &BufferDescriptor) -> Made<()>
+fn push_contiguity(out: &mut Vec<u8>, d: &BufferDescriptor) -> Made<()>
     requires { IsPlaceable d.now }
 {
-    text.push_str(if d.is_contiguous() { " C" } else { " -" })?;
-    text.push_str(if d.is_f_contiguous() { "F" } else { "-" })?;
+    out.extend_from_slice(if d.is_contiguous() { b" C" } else { b" -" })?;
+    out.push(if d.is_f_contiguous() { b'F' } else { b'-' })?;
     Ok(())
 }
 
 /// Adds the line of a descriptor.
 fn push_line(
-    alloc: Global,
-    text: &mut String,
-    name: &str,
-    slice: &str,
+    out: &mut Vec<u8>,
+    cast: Cast,
+    slice: &[u8],
     d: &BufferDescriptor,
     start: usize,
 ) -> Made<()> {
-    let shown = format!(in alloc; "{name} {slice} ")?;
-    text.push_str(shown.as_str())?;
+    out.push(if cast.in_columns { b'F' } else { b'C' })?;
+    push_number(out, cast.size as i128)?;
+    out.push(b' ')?;
+    push_shape(out, cast.shape)?;
+    out.push(b' ')?;
+    out.extend_from_slice(slice)?;
     if d.validate(start, ROOM).is_err() {
-        text.push_str("refused\n")?;
+        out.extend_from_slice(b" refused\n")?;
         return Ok(());
     }
-    push_strides(alloc, text, d.dim_desc())?;
-    push_contiguity(text, d)?;
+    out.push(b' ')?;
+    push_strides(out, d.dim_desc())?;
+    push_contiguity(out, d)?;
     for range in d.column_segments(start) {
-        let (start, end) = (range.start, range.end);
-        let shown = format!(in alloc; " {start}..{end}")?;
-        text.push_str(shown.as_str())?;
+        out.push(b' ')?;
+        push_number(out, range.start as i128)?;
+        out.extend_from_slice(b"..")?;
+        push_number(out, range.end as i128)?;
     }
-    text.push_str("\n")?;
+    out.push(b'\n')?;
     Ok(())
 }
 
-/// The slice with a stop and a step.
-fn slice_to(stop: Option<i128>, step: i128) -> PySlice {
-    let stop = match stop {
-        None => Scalar::None,
-        Some(stop) => Scalar::Int(stop),
-    };
-    PySlice {
-        start: Scalar::None,
-        stop,
-        step: Scalar::Int(step),
-    }
-}
-
-/// Adds the line of a slice along the first dimension.
-fn push_slice(
+/// What a slice picks along the first dimension, and where that starts; none where there is none.
+fn sliced(
     alloc: Global,
-    text: &mut String,
-    name: &str,
     d: &BufferDescriptor,
-    shown: &str,
     slice: &PySlice,
-) -> Made<()> {
+) -> Made<Option<(BufferDescriptor, usize)>> {
     if d.validate(0, ROOM).is_err() {
-        return Ok(());
+        return Ok(None);
     }
     if d.ndim() == 0 {
-        return Ok(());
+        return Ok(None);
     }
-    if let Ok(slice) = SaturatedSlice::with_slice(slice) {
-        let (cut, start) = d.sliced(alloc, 0, &slice)?;
-        push_line(alloc, text, name, shown, &cut, start)?;
+    match SaturatedSlice::with_slice(slice) {
+        Ok(slice) => Ok(Some(d.sliced(alloc, 0, &slice)?)),
+        Err(_) => Ok(None),
     }
-    Ok(())
 }
 
-/// Adds the lines of a cast: of all its items, and of its slices.
-fn push_cast(alloc: Global, text: &mut String, name: &str, d: &BufferDescriptor) -> Made<()> {
-    push_line(alloc, text, name, "[...]", d, 0)?;
+/// Adds the line of a slice, where there is one.
+fn push_cut(
+    out: &mut Vec<u8>,
+    cast: Cast,
+    shown: &[u8],
+    cut: Option<(BufferDescriptor, usize)>,
+) -> Made<()> {
+    match &cut {
+        Some((d, start)) => push_line(out, cast, shown, d, *start),
+        None => Ok(()),
+    }
+}
+
+/// Adds the lines of all items, and of the slices.
+fn push_lines(alloc: Global, out: &mut Vec<u8>, cast: Cast, d: &BufferDescriptor) -> Made<()> {
+    push_line(out, cast, b"[...]", d, 0)?;
     for (shown, stop, step) in SLICES {
-        push_slice(alloc, text, name, d, shown, &slice_to(stop, step))?;
+        let cut = sliced(alloc, d, &PySlice::new(None, stop, Some(step)))?;
+        push_cut(out, cast, shown, cut)?;
     }
     Ok(())
 }
 
-/// An order, an item size and a shape as they are shown.
-fn name_of(alloc: Global, order: &str, size: usize, shape: &[usize]) -> Made<String> {
-    let mut name = format!(in alloc; "{order}{size} ")?;
-    push_entries(alloc, &mut name, shape)?;
-    Ok(name)
-}
-
-/// Adds the lines of a shape in both orders.
-fn push_shape(alloc: Global, text: &mut String, size: usize, shape: &[usize]) -> Made<()>
-    requires some { 0 < size }
-    requires fits { size < 2 ^ 63 }
-{
+/// The descriptor of a cast, where its bytes are no more than the greatest shape has.
+fn described(alloc: Global, cast: Cast) -> Made<Option<BufferDescriptor>> {
+    let Cast {
+        in_columns,
+        size,
+        shape,
+    } = cast;
+    if size == 0 || size > ROOM || shape.len() > 3 {
+        return Ok(None);
+    }
     let Some(len) = bytes_of(size, shape) else {
-        return Ok(());
+        return Ok(None);
     };
     if len > ROOM {
-        return Ok(());
-    }
-    if shape.len() > 3 {
-        return Ok(());
+        return Ok(None);
     }
     let bytes = BufferDescriptor::simple(alloc, len, false)?;
     if !bytes.is_contiguous() {
-        return Ok(());
+        return Ok(None);
     }
-    let columns = bytes.cast_shape_f(alloc, Text::new(alloc), size, shape)?;
-    let name = name_of(alloc, "F", size, shape)?;
-    push_cast(alloc, text, name.as_str(), &columns)?;
-    let rows = bytes.cast_shape(alloc, Text::new(alloc), size, shape)?;
-    let name = name_of(alloc, "C", size, shape)?;
-    push_cast(alloc, text, name.as_str(), &rows)
+    let made = if in_columns {
+        bytes.cast_shape_f(alloc, Text::new(alloc), size, shape)?
+    } else {
+        bytes.cast_shape(alloc, Text::new(alloc), size, shape)?
+    };
+    Ok(Some(made))
 }
 
-/// Adds the lines of all shapes of items of a size.
-fn push_shapes(alloc: Global, text: &mut String, size: usize) -> Made<()>
-    requires some { 0 < size }
-    requires fits { size < 2 ^ 63 }
-{
-    push_shape(alloc, text, size, [].as_slice())?;
-    for n in 0usize..3 {
-        push_shape(alloc, text, size, [n + 1].as_slice())?;
+/// Adds the lines of a cast.
+fn push_cast(alloc: Global, out: &mut Vec<u8>, cast: Cast) -> Made<()> {
+    match described(alloc, cast)? {
+        Some(d) => push_lines(alloc, out, cast, &d),
+        None => Ok(()),
     }
-    for n in 0usize..9 {
-        push_shape(alloc, text, size, [n / 3 + 1, n % 3 + 1].as_slice())?;
-    }
-    for n in 0usize..27 {
-        push_shape(
-            alloc,
-            text,
+}
+
+/// Adds the lines of a shape in both orders.
+fn push_both(alloc: Global, out: &mut Vec<u8>, size: usize, shape: &[usize]) -> Made<()> {
+    for in_columns in [true, false] {
+        let cast = Cast {
+            in_columns,
             size,
-            [n / 9 + 1, n / 3 % 3 + 1, n % 3 + 1].as_slice(),
-        )?;
+            shape,
+        };
+        push_cast(alloc, out, cast)?;
     }
     Ok(())
 }
 
-/// All lines.
-fn all(alloc: Global) -> Made<String> {
-    let mut text = String::new(alloc);
-    push_shapes(alloc, &mut text, 1)?;
-    push_shapes(alloc, &mut text, 2)?;
-    Ok(text)
+/// All lines: of items of one byte and of two, in shapes of no dimension up to three.
+fn push_all(alloc: Global, out: &mut Vec<u8>) -> Made<()> {
+    for size in [1usize, 2] {
+        push_both(alloc, out, size, [].as_slice())?;
+        for n in 0usize..3 {
+            push_both(alloc, out, size, [n + 1].as_slice())?;
+        }
+        for n in 0usize..9 {
+            push_both(alloc, out, size, [n / 3 + 1, n % 3 + 1].as_slice())?;
+        }
+        for n in 0usize..27 {
+            let shape = [n / 9 + 1, n / 3 % 3 + 1, n % 3 + 1];
+            push_both(alloc, out, size, shape.as_slice())?;
+        }
+    }
+    Ok(())
 }
 
 fn main(rt: HostRuntime) -> ExitCode {
-    match all(rt.alloc()) {
-        Ok(text) => match print!(rt; "{text}") {
-            Ok(()) => ExitCode::from(0),
-            Err(_) => ExitCode::from(5),
-        },
-        Err(_) => ExitCode::from(3),
+    let mut out = Vec::new(rt.alloc());
+    if push_all(rt.alloc(), &mut out).is_err() {
+        return ExitCode::from(3);
+    }
+    match rt.stdout().write_all(out.as_slice()) {
+        Ok(()) => ExitCode::SUCCESS,
+        Err(_) => ExitCode::from(5),
     }
 }

@@ -1,114 +1,133 @@
 //! Tries the methods of strings of bytes on all short texts over small alphabets, and prints for each
 //! method and argument how many answers there were and the hash of their texts. What must come out is
-//! written by `tools/python_methods.py` from the methods of Python's own `bytes`. At the end stand the
-//! answers that differ from Python's by choice.
+//! written by `tools/python_methods.py` from the methods of Python's own `bytes`.
 #![tactic(auto)]
 
-mod differences;
 mod letters;
 mod methods;
 mod needles;
-mod report;
 mod shapes;
 mod tally;
 mod texts;
 
-use differences::push_differences;
 use methods::{Method, OF_LETTERS, OF_NEEDLES, OF_SHAPES, tally_of};
 use pybuf_bytes::PyBytesInner;
-use pybuf_value::Made;
-use report::Report;
+use pybuf_value::{Made, push_number};
 use shapes::tally_tables;
 use std::alloc::Global;
+use std::io::Write;
 use std::process::ExitCode;
+use tally::Tally;
 use texts::{single_bytes, string, texts};
+
+/// Adds the line of a method and its argument.
+fn push_line(out: &mut Vec<u8>, method: &str, argument: &[u8], tally: &Tally) -> Made<()> {
+    out.extend_from_slice(method.as_bytes())?;
+    out.push(b' ')?;
+    out.extend_from_slice(argument)?;
+    out.push(b' ')?;
+    push_number(out, tally.count as i128)?;
+    out.push(b' ')?;
+    let mut digits = [0u8; 16];
+    // the room takes the two digits of each of eight bytes, so this is no refusal
+    let _ = hex::encode_to_slice(tally.hash.to_be_bytes(), &mut digits);
+    out.extend_from_slice(digits.as_slice())?;
+    out.push(b'\n')?;
+    Ok(())
+}
 
 /// Adds the lines of methods on texts, for a needle where they take one.
 fn push_methods(
-    report: &mut Report,
+    alloc: Global,
+    out: &mut Vec<u8>,
     methods: &[(&str, Method)],
-    argument: &str,
+    argument: &[u8],
     texts: &[PyBytesInner],
     needle: &PyBytesInner,
 ) -> Made<()> {
     for (name, method) in methods {
-        let tally = tally_of(report.alloc, *method, texts, needle)?;
-        report.tally(name, argument, &tally)?;
+        let tally = tally_of(alloc, *method, texts, needle)?;
+        push_line(out, name, argument, &tally)?;
     }
     Ok(())
 }
 
-/// Adds the lines of a needle.
-fn push_needle(report: &mut Report, words: &[PyBytesInner], needle: &PyBytesInner) -> Made<()> {
-    let digits = hex::encode(report.alloc, needle.as_bytes())?;
-    let shown = format!(in report.alloc; "x{digits}")?;
-    push_methods(report, &OF_NEEDLES, shown.as_str(), words, needle)
-}
-
-/// Adds the lines of each needle.
-fn push_needles(alloc: Global, report: &mut Report) -> Made<()> {
-    let words = texts(alloc, b"ab", 6)?;
-    let needles = texts(alloc, b"ab", 3)?;
-    for needle in needles.as_slice() {
-        push_needle(report, words.as_slice(), needle)?;
+/// Adds the lines of each needle, which is named by an `x` and its digits.
+fn push_needles(
+    alloc: Global,
+    out: &mut Vec<u8>,
+    words: &[PyBytesInner],
+    needles: &[PyBytesInner],
+) -> Made<()> {
+    for needle in needles {
+        let digits = hex::encode(alloc, needle.as_bytes())?;
+        let mut shown = Vec::from_slice(alloc, b"x")?;
+        shown.extend_from_slice(digits.as_bytes())?;
+        push_methods(alloc, out, &OF_NEEDLES, shown.as_slice(), words, needle)?;
     }
     Ok(())
 }
 
 /// Texts that have a name: all over an alphabet up to a length.
-const LETTERS: [(&str, &[u8], usize); 3] = [
-    ("letters", b"aB1 ", 5),
-    ("blanks", b"a \x0b\x1c", 5),
-    ("breaks", b"a\n\r", 6),
+const LETTERS: [(&[u8], &[u8], usize); 3] = [
+    (b"letters", b"aB1 ", 5),
+    (b"blanks", b"a \x0b\x1c", 5),
+    (b"breaks", b"a\n\r", 6),
 ];
 
 /// The same, for the methods that pad, write or read.
-const SHAPES: [(&str, &[u8], usize); 3] = [
-    ("signs", b"+-1a", 4),
-    ("tabs", b"a\t\n\r", 5),
-    ("digits", b"1aF g", 5),
+const SHAPES: [(&[u8], &[u8], usize); 3] = [
+    (b"signs", b"+-1a", 4),
+    (b"tabs", b"a\t\n\r", 5),
+    (b"digits", b"1aF g", 5),
 ];
 
 /// Adds the lines of methods without a needle on texts that have a name.
 fn push_named(
-    report: &mut Report,
+    alloc: Global,
+    out: &mut Vec<u8>,
     methods: &[(&str, Method)],
-    name: &str,
-    texts: Made<Vec<PyBytesInner>>,
+    name: &[u8],
+    texts: &[PyBytesInner],
 ) -> Made<()> {
-    let texts = texts?;
-    let needle = string(report.alloc, b"")?;
-    push_methods(report, methods, name, texts.as_slice(), &needle)
+    let needle = string(alloc, b"")?;
+    push_methods(alloc, out, methods, name, texts, &needle)
+}
+
+/// Adds the lines of methods on the texts over each alphabet.
+fn push_alphabets(
+    alloc: Global,
+    out: &mut Vec<u8>,
+    methods: &[(&str, Method)],
+    alphabets: &[(&[u8], &[u8], usize)],
+) -> Made<()> {
+    for (name, letters, longest) in alphabets {
+        let texts = texts(alloc, letters, *longest)?;
+        push_named(alloc, out, methods, name, texts.as_slice())?;
+    }
+    Ok(())
 }
 
 /// Adds all lines.
-fn push_all(alloc: Global, report: &mut Report) -> Made<()> {
-    push_needles(alloc, report)?;
-    for (name, letters, longest) in &LETTERS {
-        push_named(report, &OF_LETTERS, name, texts(alloc, letters, *longest))?;
-    }
-    push_named(report, &OF_LETTERS, "bytes", single_bytes(alloc))?;
-    for (name, letters, longest) in &SHAPES {
-        push_named(report, &OF_SHAPES, name, texts(alloc, letters, *longest))?;
-    }
-    report.tally("maketrans", "ab", &tally_tables(alloc)?)?;
-    push_differences(alloc, report)
-}
-
-/// All lines.
-fn all(alloc: Global) -> Made<Report> {
-    let text = String::new(alloc);
-    let mut report = Report { alloc, text };
-    push_all(alloc, &mut report)?;
-    Ok(report)
+fn push_all(alloc: Global, out: &mut Vec<u8>) -> Made<()> {
+    let words = texts(alloc, b"ab", 6)?;
+    let needles = texts(alloc, b"ab", 3)?;
+    push_needles(alloc, out, words.as_slice(), needles.as_slice())?;
+    push_alphabets(alloc, out, &OF_LETTERS, &LETTERS)?;
+    let singles = single_bytes(alloc)?;
+    push_named(alloc, out, &OF_LETTERS, b"bytes", singles.as_slice())?;
+    push_alphabets(alloc, out, &OF_SHAPES, &SHAPES)?;
+    let tables = tally_tables(alloc)?;
+    push_line(out, "maketrans", b"ab", &tables)
 }
 
 fn main(rt: HostRuntime) -> ExitCode {
-    match all(rt.alloc()) {
-        Ok(Report { text, .. }) => match print!(rt; "{text}") {
-            Ok(()) => ExitCode::from(0),
-            Err(_) => ExitCode::from(5),
-        },
-        Err(_) => ExitCode::from(3),
+    let mut out = Vec::new(rt.alloc());
+    if push_all(rt.alloc(), &mut out).is_err() {
+        return ExitCode::from(3);
+    }
+    match rt.stdout().write_all(out.as_slice()) {
+        Ok(()) => ExitCode::SUCCESS,
+        Err(_) => ExitCode::from(5),
     }
 }

@@ -52,9 +52,13 @@ fn options(alloc: Global, needle: &[u8], bounds: Bounds) -> Made<ByteInnerFindOp
 
 /// What a text begins or ends with, and where.
 fn affix(alloc: Global, needle: &[u8], bounds: Bounds) -> Made<StartsEndsWithArgs> {
-    let affix = value(alloc, needle)?;
+    let needle = Vec::from_slice(alloc, needle)?;
     let (start, end) = bounds;
-    Ok(StartsEndsWithArgs { affix, start, end })
+    Ok(StartsEndsWithArgs {
+        affix: value(needle),
+        start,
+        end,
+    })
 }
 
 /// The first place of a needle.
@@ -71,14 +75,21 @@ fn last_place(bytes: &[u8], needle: &[u8]) -> Option<usize>
     bytes.rfind(needle)
 }
 
-/// Whether a text begins with the needle, or ends with it.
-fn stands_at(case: &Case, bounds: Bounds, at_end: bool) -> Tried<bool> {
-    let args = affix(case.alloc, case.needle.as_bytes(), bounds)?;
-    let lender = SnapList::new(case.alloc);
+/// Whether a text begins with an affix, or ends with it.
+fn stands_at(case: &Case, args: &StartsEndsWithArgs, at_end: bool) -> Tried<bool> {
+    let (alloc, text) = (case.alloc, case.text.as_bytes());
+    let lender = SnapList::new(alloc);
     if at_end {
-        return endswith(case.alloc, case.text.as_bytes(), &args, &lender);
+        endswith(alloc, text, args, &lender)
+    } else {
+        startswith(alloc, text, args, &lender)
     }
-    startswith(case.alloc, case.text.as_bytes(), &args, &lender)
+}
+
+/// Whether a text begins with the needle, or ends with it.
+fn stands_between(case: &Case, bounds: Bounds, at_end: bool) -> Tried<bool> {
+    let args = affix(case.alloc, case.needle.as_bytes(), bounds)?;
+    stands_at(case, &args, at_end)
 }
 
 /// The answer of one call.
@@ -92,8 +103,8 @@ fn add_between(case: &Case, method: Bounded, bounds: Bounds, tally: &mut Tally) 
             tally.add(text.find(alloc, options(alloc, needle, bounds)?, last_place))
         }
         Bounded::Count => tally.add(text.count(alloc, options(alloc, needle, bounds)?)),
-        Bounded::StartsWith => tally.add(stands_at(case, bounds, false)),
-        Bounded::EndsWith => tally.add(stands_at(case, bounds, true)),
+        Bounded::StartsWith => tally.add(stands_between(case, bounds, false)),
+        Bounded::EndsWith => tally.add(stands_between(case, bounds, true)),
     }
 }
 
@@ -157,9 +168,9 @@ fn joined(case: &Case) -> Tried<Vec<u8>> {
 
 /// The needle, as a value, behind a text.
 fn concatenated(case: &Case) -> Tried<Vec<u8>> {
-    let other = value(case.alloc, case.needle.as_bytes())?;
+    let needle = Vec::from_slice(case.alloc, case.needle.as_bytes())?;
     case.text
-        .concat(case.alloc, &other, &SnapList::new(case.alloc))
+        .concat(case.alloc, &value(needle), &SnapList::new(case.alloc))
 }
 
 /// The answer of one call.

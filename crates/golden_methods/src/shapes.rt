@@ -6,7 +6,7 @@ use pybuf_bytes::{
     ByteInnerPaddingOptions, ByteInnerSplitOptions, ByteInnerTranslateOptions, ExpandTabsArgs,
     PyBytesInner, SplitArgs,
 };
-use pybuf_value::{Made, Outcome, SnapList, Tried, Value};
+use pybuf_value::{Made, Outcome, SnapList, Tried};
 use std::alloc::Global;
 
 /// Methods that take a number: a greatest number of cuts, a number of repeats, or the size of a tab or of a group.
@@ -83,12 +83,25 @@ pub fn add_replaced(case: &Case, tally: &mut Tally) -> Made<()> {
     Ok(())
 }
 
-/// The answer of one `translate`, by a table or by none, without the bytes of the needle.
-fn translated(case: &Case, table: Option<Value>) -> Tried<Vec<u8>> {
-    let delete = Some(value(case.alloc, case.needle.as_bytes())?);
-    let options = ByteInnerTranslateOptions { table, delete };
-    case.text
-        .translate(case.alloc, &options, &SnapList::new(case.alloc))
+/// A table or none, and the bytes of the needle, which are left out.
+fn by_table(case: &Case, table: Option<Vec<u8>>) -> Made<ByteInnerTranslateOptions> {
+    let delete = Vec::from_slice(case.alloc, case.needle.as_bytes())?;
+    Ok(ByteInnerTranslateOptions {
+        table: table.map(value),
+        delete: Some(value(delete)),
+    })
+}
+
+/// The answer of one `translate`.
+fn add_with(case: &Case, options: &ByteInnerTranslateOptions, tally: &mut Tally) -> Made<()> {
+    let lender = SnapList::new(case.alloc);
+    tally.add(case.text.translate(case.alloc, options, &lender))
+}
+
+/// The answer of `translate` by a table or by none, without the bytes of the needle.
+fn add_by(case: &Case, table: Option<Vec<u8>>, tally: &mut Tally) -> Made<()> {
+    let options = by_table(case, table)?;
+    add_with(case, &options, tally)
 }
 
 /// The table that has each byte of one text in place of that of the other.
@@ -98,19 +111,19 @@ fn table_of(alloc: Global, from: &[u8], to: &[u8]) -> Tried<Vec<u8>> {
     PyBytesInner::maketrans(alloc, &from, &to)
 }
 
-/// The table that swaps `a` and `b`, as a value; none where it is refused.
-fn swapping(alloc: Global) -> Made<Option<Value>> {
+/// The table that swaps `a` and `b`; none where it is refused.
+fn swapping(alloc: Global) -> Made<Option<Vec<u8>>> {
     match table_of(alloc, b"ab", b"ba")? {
-        Outcome::Done(table) => Ok(Some(value(alloc, table.as_slice())?)),
+        Outcome::Done(table) => Ok(Some(table)),
         Outcome::Refused(_) => Ok(None),
     }
 }
 
 /// The answers of `translate` by no table, by one, and by two bytes, which are none.
 pub fn add_translated(case: &Case, tally: &mut Tally) -> Made<()> {
-    tally.add(translated(case, None))?;
-    tally.add(translated(case, swapping(case.alloc)?))?;
-    tally.add(translated(case, Some(value(case.alloc, b"ab")?)))
+    add_by(case, None, tally)?;
+    add_by(case, swapping(case.alloc)?, tally)?;
+    add_by(case, Some(Vec::from_slice(case.alloc, b"ab")?), tally)
 }
 
 /// Bytes that differ from each other, and bytes that stand for them.
@@ -141,37 +154,50 @@ const WIDTHS: [isize; 10] = [-1, 0, 1, 2, 3, 4, 5, 6, 7, 8];
 
 /// To a width, with stars or with blanks.
 fn options_for(alloc: Global, width: isize, starred: bool) -> Made<ByteInnerPaddingOptions> {
-    let fillchar = if starred {
-        Some(value(alloc, b"*")?)
-    } else {
-        None
-    };
-    Ok(ByteInnerPaddingOptions { width, fillchar })
+    let mut star = None;
+    if starred {
+        star = Some(Vec::from_slice(alloc, b"*")?);
+    }
+    Ok(ByteInnerPaddingOptions {
+        width,
+        fillchar: star.map(value),
+    })
 }
 
-/// The answer of one call, with a fill byte or, without one, with blanks.
+/// The answer of one call.
 fn add_width(
     case: &Case,
     method: Padding,
     options: &ByteInnerPaddingOptions,
+    lender: &SnapList,
     tally: &mut Tally,
 ) -> Made<()> {
-    let (alloc, text, lender) = (case.alloc, case.text, SnapList::new(case.alloc));
+    let (alloc, text) = (case.alloc, case.text);
     match method {
-        Padding::Center => tally.add(text.center(alloc, options, &lender)),
-        Padding::LeftJustify => tally.add(text.ljust(alloc, options, &lender)),
-        Padding::RightJustify => tally.add(text.rjust(alloc, options, &lender)),
+        Padding::Center => tally.add(text.center(alloc, options, lender)),
+        Padding::LeftJustify => tally.add(text.ljust(alloc, options, lender)),
+        Padding::RightJustify => tally.add(text.rjust(alloc, options, lender)),
         Padding::ZeroFill => tally.add(text.zfill(alloc, options.width)),
     }
+}
+
+/// The answer by one width, with stars or with blanks.
+fn add_padding(
+    case: &Case,
+    method: Padding,
+    width: isize,
+    starred: bool,
+    tally: &mut Tally,
+) -> Made<()> {
+    let options = options_for(case.alloc, width, starred)?;
+    add_width(case, method, &options, &SnapList::new(case.alloc), tally)
 }
 
 /// The answers of a method that pads, by each width, with blanks and with stars.
 pub fn add_padded(case: &Case, method: Padding, tally: &mut Tally) -> Made<()> {
     for width in &WIDTHS {
-        for starred in [false, true] {
-            let options = options_for(case.alloc, *width, starred)?;
-            add_width(case, method, &options, tally)?;
-        }
+        add_padding(case, method, *width, false, tally)?;
+        add_padding(case, method, *width, true, tally)?;
     }
     Ok(())
 }

@@ -18,9 +18,8 @@ pub fn string(alloc: Global, bytes: &[u8]) -> Made<PyBytesInner> {
 }
 
 /// The bytes as a value.
-pub fn value(alloc: Global, bytes: &[u8]) -> Made<Value> {
-    let list = ByteList::from_vec(Vec::from_slice(alloc, bytes)?);
-    Ok(Value::One(Scalar::Bytes(list)))
+pub fn value(bytes: Vec<u8>) -> Value {
+    Value::One(Scalar::Bytes(ByteList::from_vec(bytes)))
 }
 
 /// A text and a letter behind it; none behind no text.

@@ -102,45 +102,50 @@ fn last_view(alloc: Global, words: &[&[u8]]) -> Made<Option<View>> {
 }
 
 /// Adds the line of a line.
-fn push_line(alloc: Global, out: &mut String, words: &[&[u8]]) -> Made<()> {
+fn push_line(alloc: Global, out: &mut Vec<u8>, words: &[&[u8]]) -> Made<()> {
     match last_view(alloc, words)? {
         Some(view) => {
-            if push_view(alloc, out, &view)? {
+            if push_view(out, &view)? {
                 push_assigned(alloc, out, view)?;
             }
         }
-        None => out.push_str("refused")?,
+        None => out.extend_from_slice(b"refused")?,
     }
-    out.push_str("\n")?;
+    out.push(b'\n')?;
     Ok(())
 }
 
-/// All lines.
-fn answer<R: Read>(alloc: Global, reader: &mut R) -> Made<String> {
-    let input = read_input(alloc, reader)?;
-    let mut out = String::new(alloc);
+/// Adds all lines.
+fn push_lines(alloc: Global, out: &mut Vec<u8>, input: &[u8]) -> Made<()> {
     let mut words = Vec::new(alloc);
-    let mut rest = input.as_slice();
+    let mut rest = input;
     for _line in 0..input.len() {
         match next_line(rest) {
             Some((line, after)) => {
                 fill_words(&mut words, line)?;
-                push_line(alloc, &mut out, words.as_slice())?;
+                push_line(alloc, out, words.as_slice())?;
                 rest = after;
             }
-            None => return Ok(out),
+            None => return Ok(()),
         }
     }
-    Ok(out)
+    Ok(())
+}
+
+/// Adds the lines of what is read.
+fn answer<R: Read>(alloc: Global, reader: &mut R, out: &mut Vec<u8>) -> Made<()> {
+    let input = read_input(alloc, reader)?;
+    push_lines(alloc, out, input.as_slice())
 }
 
 fn main(rt: HostRuntime) -> ExitCode {
     let mut reader = rt.stdin();
-    match answer(rt.alloc(), &mut reader) {
-        Ok(text) => match rt.stdout().write_all(text.as_bytes()) {
-            Ok(()) => ExitCode::SUCCESS,
-            Err(_) => ExitCode::from(5),
-        },
-        Err(_) => ExitCode::from(3),
+    let mut out = Vec::new(rt.alloc());
+    if answer(rt.alloc(), &mut reader, &mut out).is_err() {
+        return ExitCode::from(3);
+    }
+    match rt.stdout().write_all(out.as_slice()) {
+        Ok(()) => ExitCode::SUCCESS,
+        Err(_) => ExitCode::from(5),
     }
 }

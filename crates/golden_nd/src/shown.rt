@@ -1,63 +1,54 @@
 //! A view as it is shown.
 
 use crate::steps::{ROOM, View};
-use pybuf_value::Made;
-use std::alloc::Global;
+use pybuf_value::{Made, push_number};
 
 /// Adds the number of entries of each dimension.
-fn push_shape(alloc: Global, out: &mut String, dims: &[(usize, isize, isize)]) -> Made<()> {
-    out.push_str("[")?;
-    let mut is_first = true;
-    for dim in dims {
-        if !is_first {
-            out.push_str(",")?;
+fn push_shape(out: &mut Vec<u8>, dims: &[(usize, isize, isize)]) -> Made<()> {
+    out.push(b'[')?;
+    for k in 0..dims.len() {
+        if k > 0 {
+            out.push(b',')?;
         }
-        is_first = false;
-        let entries = dim.0;
-        let shown = format!(in alloc; "{entries}")?;
-        out.push_str(shown.as_str())?;
+        push_number(out, dims[k].0 as i128)?;
     }
-    out.push_str("]")?;
+    out.push(b']')?;
     Ok(())
 }
 
 /// Adds the stride of each dimension of more than one entry.
-fn push_strides(alloc: Global, out: &mut String, dims: &[(usize, isize, isize)]) -> Made<()> {
-    out.push_str(" (")?;
-    let mut is_first = true;
-    for dim in dims {
-        if !is_first {
-            out.push_str(",")?;
+fn push_strides(out: &mut Vec<u8>, dims: &[(usize, isize, isize)]) -> Made<()> {
+    out.extend_from_slice(b" (")?;
+    for k in 0..dims.len() {
+        if k > 0 {
+            out.push(b',')?;
         }
-        is_first = false;
-        let (entries, stride, _) = *dim;
+        let (entries, stride, _) = dims[k];
         if entries > 1 {
-            let shown = format!(in alloc; "{stride}")?;
-            out.push_str(shown.as_str())?;
+            push_number(out, stride as i128)?;
         } else {
-            out.push_str("-")?;
+            out.push(b'-')?;
         }
     }
-    out.push_str(")")?;
+    out.push(b')')?;
     Ok(())
 }
 
 /// Adds a view: its shape, and where it has items its strides and the places of these. Says whether it is valid.
-pub fn push_view(alloc: Global, out: &mut String, view: &View) -> Made<bool> {
+pub fn push_view(out: &mut Vec<u8>, view: &View) -> Made<bool> {
     let desc = &view.desc;
     if desc.validate(view.start, ROOM).is_err() {
-        out.push_str("refused")?;
+        out.extend_from_slice(b"refused")?;
         return Ok(false);
     }
-    push_shape(alloc, out, desc.dim_desc())?;
+    push_shape(out, desc.dim_desc())?;
     if desc.is_zero_in_shape() {
         return Ok(true);
     }
-    push_strides(alloc, out, desc.dim_desc())?;
+    push_strides(out, desc.dim_desc())?;
     for range in desc.segments(view.start, false) {
-        let place = range.start;
-        let shown = format!(in alloc; " {place}")?;
-        out.push_str(shown.as_str())?;
+        out.push(b' ')?;
+        push_number(out, range.start as i128)?;
     }
     Ok(true)
 }

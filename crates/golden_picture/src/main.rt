@@ -10,7 +10,7 @@ ghost use Rattle.golden_picture.specs.Sizes.{HasSize};
 
 use example_picture::Picture;
 use pybuf_buffer::PyBuffer;
-use pybuf_value::Made;
+use pybuf_value::{Made, push_number};
 use sizes::{cropped, flipped, turned, whole};
 use std::alloc::Global;
 use std::io::Write;
@@ -29,55 +29,15 @@ fn numbered(alloc: Global) -> Made<Picture>
 }
 
 /// Adds a level, with a blank before it.
-fn push_level(alloc: Global, out: &mut String, level: u8) -> Made<()> {
-    let shown = format!(in alloc; " {level}")?;
-    out.push_str(shown.as_str())?;
-    Ok(())
-}
-
-/// Adds the levels of a pixel.
-fn push_pixel(
-    alloc: Global,
-    out: &mut String,
-    picture: &Picture,
-    part: &PyBuffer,
-    row: usize,
-    column: usize,
-    size: (usize, usize, usize),
-) -> Made<()>
-    requires size { HasSize picture.now part.now size.0 size.1 size.2 }
-    requires row { row < size.0 }
-    requires column { column < size.1 }
-{
-    for channel in 0..size.2 {
-        push_level(alloc, out, picture.level(part, row, column, channel))?;
-    }
-    Ok(())
-}
-
-/// Adds the levels of a row.
-fn push_row(
-    alloc: Global,
-    out: &mut String,
-    picture: &Picture,
-    part: &PyBuffer,
-    row: usize,
-    size: (usize, usize, usize),
-) -> Made<()>
-    requires size { HasSize picture.now part.now size.0 size.1 size.2 }
-    requires row { row < size.0 }
-{
-    for column in 0..size.1 {
-        push_pixel(alloc, out, picture, part, row, column, size)?;
-    }
-    Ok(())
+fn push_level(out: &mut Vec<u8>, level: u8) -> Made<()> {
+    out.push(b' ')?;
+    push_number(out, level as i128)
 }
 
 /// Adds a name, and the levels of a part, a line for each row.
 fn push_part(
-    alloc: Global,
-    out: &mut String,
-    name: &str,
+    out: &mut Vec<u8>,
+    name: &[u8],
     picture: &Picture,
     part: &PyBuffer,
     size: (usize, usize, usize),
@@ -85,20 +45,24 @@ fn push_part(
     requires { HasSize picture.now part.now size.0 size.1 size.2 }
 {
     for row in 0..size.0 {
-        out.push_str(name)?;
-        push_row(alloc, out, picture, part, row, size)?;
-        out.push_str("\n")?;
+        out.extend_from_slice(name)?;
+        for column in 0..size.1 {
+            for channel in 0..size.2 {
+                push_level(out, picture.level(part, row, column, channel))?;
+            }
+        }
+        out.push(b'\n')?;
     }
     Ok(())
 }
 
 /// Adds the levels of a picture.
-fn push_levels(alloc: Global, out: &mut String, picture: &Picture) -> Made<()> {
-    out.push_str("painted")?;
+fn push_levels(out: &mut Vec<u8>, picture: &Picture) -> Made<()> {
+    out.extend_from_slice(b"painted")?;
     for level in picture.levels() {
-        push_level(alloc, out, *level)?;
+        push_level(out, *level)?;
     }
-    out.push_str("\n")?;
+    out.push(b'\n')?;
     Ok(())
 }
 
@@ -109,29 +73,37 @@ fn paint(picture: &mut Picture, part: &PyBuffer)
     picture.paint(part, 0, 1, 2, 200);
 }
 
-/// All lines.
-fn answer(alloc: Global) -> Made<String> {
-    let mut out = String::new(alloc);
+/// Adds the lines of a picture's parts, and then its levels once one was painted.
+fn push_parts(out: &mut Vec<u8>, picture: &mut Picture) -> Made<()>
+    requires rows { picture.old.rows ≡ 2 }
+    requires columns { picture.old.columns ≡ 3 }
+    requires channels { picture.old.channels ≡ 3 }
+{
+    let all = whole(picture)?;
+    push_part(out, b"whole", picture, &all, (2, 3, 3))?;
+    let some = cropped(picture, &all)?;
+    push_part(out, b"cropped", picture, &some, (2, 2, 3))?;
+    let back = flipped(picture, &some)?;
+    push_part(out, b"flipped", picture, &back, (2, 2, 3))?;
+    let round = turned(picture, &back)?;
+    push_part(out, b"turned", picture, &round, (2, 2, 3))?;
+    paint(picture, &round);
+    push_levels(out, picture)
+}
+
+/// Adds all lines.
+fn push_all(alloc: Global, out: &mut Vec<u8>) -> Made<()> {
     let mut picture = numbered(alloc)?;
-    let all = whole(&mut picture)?;
-    push_part(alloc, &mut out, "whole", &picture, &all, (2, 3, 3))?;
-    let some = cropped(&mut picture, &all)?;
-    push_part(alloc, &mut out, "cropped", &picture, &some, (2, 2, 3))?;
-    let back = flipped(&mut picture, &some)?;
-    push_part(alloc, &mut out, "flipped", &picture, &back, (2, 2, 3))?;
-    let round = turned(&mut picture, &back)?;
-    push_part(alloc, &mut out, "turned", &picture, &round, (2, 2, 3))?;
-    paint(&mut picture, &round);
-    push_levels(alloc, &mut out, &picture)?;
-    Ok(out)
+    push_parts(out, &mut picture)
 }
 
 fn main(rt: HostRuntime) -> ExitCode {
-    match answer(rt.alloc()) {
-        Ok(text) => match rt.stdout().write_all(text.as_bytes()) {
-            Ok(()) => ExitCode::SUCCESS,
-            Err(_) => ExitCode::from(5),
-        },
-        Err(_) => ExitCode::from(3),
+    let mut out = Vec::new(rt.alloc());
+    if push_all(rt.alloc(), &mut out).is_err() {
+        return ExitCode::from(3);
+    }
+    match rt.stdout().write_all(out.as_slice()) {
+        Ok(()) => ExitCode::SUCCESS,
+        Err(_) => ExitCode::from(5),
     }
 }

@@ -5,8 +5,9 @@
 
 use pybuf_desc::BufferDescriptor;
 use pybuf_index::SaturatedSlice;
-use pybuf_value::{DimList, Made, PySlice, Scalar, Text};
+use pybuf_value::{DimList, Made, PySlice, Text, push_number};
 use std::alloc::Global;
+use std::io::Write;
 use std::process::ExitCode;
 
 /// The bytes of an item.
@@ -15,7 +16,7 @@ const SIZE: isize = 2;
 /// As many bytes as the items of the greatest shape have.
 const ROOM: usize = 162;
 
-const STEPS: [i128; 3] = [1, 2, -1];
+const STEPS: [isize; 3] = [1, 2, -1];
 
 /// How many bytes the items of a shape have.
 fn bytes_of(shape: &[u8]) -> usize {
@@ -48,117 +49,119 @@ fn row_major(alloc: Global, shape: &[u8]) -> Made<BufferDescriptor> {
 }
 
 /// Adds the ranges of a walk, or that the descriptor isn't valid.
-fn push_ranges(alloc: Global, text: &mut String, d: &BufferDescriptor, start: usize) -> Made<()> {
+fn push_ranges(out: &mut Vec<u8>, d: &BufferDescriptor, start: usize) -> Made<()> {
     if d.validate(start, ROOM).is_err() {
-        text.push_str(" refused\n")?;
+        out.extend_from_slice(b" refused\n")?;
         return Ok(());
     }
     for range in d.segments(start, true) {
-        let (start, end) = (range.start, range.end);
-        let shown = format!(in alloc; " {start}..{end}")?;
-        text.push_str(shown.as_str())?;
+        out.push(b' ')?;
+        push_number(out, range.start as i128)?;
+        out.extend_from_slice(b"..")?;
+        push_number(out, range.end as i128)?;
     }
-    text.push_str("\n")?;
+    out.push(b'\n')?;
     Ok(())
 }
 
-/// Adds the line of a slice along the first dimension.
-fn push_slice(
+/// Adds a shape.
+fn push_shape(out: &mut Vec<u8>, shape: &[u8]) -> Made<()> {
+    out.push(b'[')?;
+    for k in 0..shape.len() {
+        if k > 0 {
+            out.push(b',')?;
+        }
+        push_number(out, shape[k] as i128)?;
+    }
+    out.push(b']')?;
+    Ok(())
+}
+
+/// What a slice picks along the first dimension, and where that starts; none where there is none.
+fn sliced(
     alloc: Global,
-    text: &mut String,
-    name: &str,
     d: &BufferDescriptor,
-    step: i128,
-) -> Made<()> {
+    slice: &PySlice,
+) -> Made<Option<(BufferDescriptor, usize)>> {
     if d.validate(0, ROOM).is_err() {
-        return Ok(());
+        return Ok(None);
     }
     if d.ndim() == 0 {
-        return Ok(());
+        return Ok(None);
     }
-    let slice = PySlice {
-        start: Scalar::None,
-        stop: Scalar::None,
-        step: Scalar::Int(step),
-    };
-    if let Ok(slice) = SaturatedSlice::with_slice(&slice) {
-        let (cut, start) = d.sliced(alloc, 0, &slice)?;
-        let shown = format!(in alloc; "{name} {step}")?;
-        text.push_str(shown.as_str())?;
-        push_ranges(alloc, text, &cut, start)?;
+    match SaturatedSlice::with_slice(slice) {
+        Ok(slice) => Ok(Some(d.sliced(alloc, 0, &slice)?)),
+        Err(_) => Ok(None),
     }
-    Ok(())
 }
 
-/// A shape as it is shown.
-fn name_of(alloc: Global, shape: &[u8]) -> Made<String> {
-    let mut name = String::from_str(alloc, "[")?;
-    let mut is_first = true;
-    for n in shape {
-        if !is_first {
-            name.push_str(",")?;
+/// Adds the line of a slice, where there is one.
+fn push_cut(
+    out: &mut Vec<u8>,
+    shape: &[u8],
+    step: isize,
+    cut: Option<(BufferDescriptor, usize)>,
+) -> Made<()> {
+    match &cut {
+        Some((d, start)) => {
+            push_shape(out, shape)?;
+            out.push(b' ')?;
+            push_number(out, step as i128)?;
+            push_ranges(out, d, *start)
         }
-        is_first = false;
-        let shown = format!(in alloc; "{n}")?;
-        name.push_str(shown.as_str())?;
+        None => Ok(()),
     }
-    name.push_str("]")?;
-    Ok(name)
+}
+
+/// Adds the line of a shape, or where it has dimensions and is valid the lines of its slices.
+fn push_lines(alloc: Global, out: &mut Vec<u8>, shape: &[u8], d: &BufferDescriptor) -> Made<()> {
+    if shape.is_empty() || d.validate(0, ROOM).is_err() {
+        push_shape(out, shape)?;
+        return push_ranges(out, d, 0);
+    }
+    for step in STEPS {
+        let cut = sliced(alloc, d, &PySlice::new(None, None, Some(step)))?;
+        push_cut(out, shape, step, cut)?;
+    }
+    Ok(())
 }
 
 /// Adds the lines of a shape.
-fn push_shape(alloc: Global, text: &mut String, shape: &[u8]) -> Made<()> {
+fn push_walks(alloc: Global, out: &mut Vec<u8>, shape: &[u8]) -> Made<()> {
     let d = row_major(alloc, shape)?;
-    let name = name_of(alloc, shape)?;
-    if shape.is_empty() || d.validate(0, ROOM).is_err() {
-        text.push_str(name.as_str())?;
-        return push_ranges(alloc, text, &d, 0);
-    }
-    for step in &STEPS {
-        push_slice(alloc, text, name.as_str(), &d, *step)?;
-    }
-    Ok(())
+    push_lines(alloc, out, shape, &d)
 }
 
-/// Adds the lines of the shapes of four dimensions that begin with an entry.
-fn push_deepest(alloc: Global, text: &mut String, first: u8) -> Made<()> {
-    for n in 0u8..64 {
-        push_shape(alloc, text, [first, n / 16, n / 4 % 4, n % 4].as_slice())?;
-    }
-    Ok(())
-}
-
-/// Adds the lines of the shapes of three dimensions and of fewer.
-fn push_shallow(alloc: Global, text: &mut String) -> Made<()> {
-    push_shape(alloc, text, [].as_slice())?;
+/// All lines: of the shapes of no dimension up to four.
+fn push_all(alloc: Global, out: &mut Vec<u8>) -> Made<()> {
+    push_walks(alloc, out, [].as_slice())?;
     for n in 0u8..4 {
-        push_shape(alloc, text, [n].as_slice())?;
+        push_walks(alloc, out, [n].as_slice())?;
     }
     for n in 0u8..16 {
-        push_shape(alloc, text, [n / 4, n % 4].as_slice())?;
+        push_walks(alloc, out, [n / 4, n % 4].as_slice())?;
     }
     for n in 0u8..64 {
-        push_shape(alloc, text, [n / 16, n / 4 % 4, n % 4].as_slice())?;
+        push_walks(alloc, out, [n / 16, n / 4 % 4, n % 4].as_slice())?;
+    }
+    for n in 0u16..256 {
+        let n = n as u8;
+        push_walks(
+            alloc,
+            out,
+            [n / 64, n / 16 % 4, n / 4 % 4, n % 4].as_slice(),
+        )?;
     }
     Ok(())
-}
-
-/// All lines.
-fn all(alloc: Global) -> Made<String> {
-    let mut text = String::new(alloc);
-    push_shallow(alloc, &mut text)?;
-    for first in 0u8..4 {
-        push_deepest(alloc, &mut text, first)?;
-    }
-    Ok(text)
 }
 
 fn main(rt: HostRuntime) -> ExitCode {
-    match all(rt.alloc()) {
-        Ok(text) => match print!(rt; "{text}") {
-            Ok(()) => ExitCode::from(0),
-            Err(_) => ExitCode::from(5),
-        },
-        Err(_) => ExitCode::from(3),
+    let mut out = Vec::new(rt.alloc());
+    if push_all(rt.alloc(), &mut out).is_err() {
+        return ExitCode::from(3);
+    }
+    match rt.stdout().write_all(out.as_slice()) {
+        Ok(()) => ExitCode::SUCCESS,
+        Err(_) => ExitCode::from(5),
     }
 }
