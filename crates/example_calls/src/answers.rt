@@ -1,9 +1,9 @@
-//! Values made of Rust's, and answers as one result.
-use crate::telling::{refuses, same};
+//! Answers as one result, and values that name another object.
+use crate::telling::{equal, refuses, same};
 use crate::values::none;
 use pybuf_view::{
-    Answer, Fault, FitLoans, Halt, Loan, LoanList, LocalReply, PyByteArray, PySlice, Scalar,
-    Subject, Value,
+    Answer, Fault, FitLoans, Halt, Loan, LoanList, LocalReply, Made, PyByteArray, Scalar, Subject,
+    Value,
 };
 use std::alloc::Global;
 use std::test::Fail;
@@ -12,24 +12,6 @@ use std::test::Fail;
 fn number_at(alloc: Global, array: &mut PyByteArray, index: i128) -> Result<Option<i128>, Halt> {
     let reply = array.getitem(Value::from(index), none(alloc)).done()?;
     Ok(reply.number())
-}
-
-/// The bytes of a slice.
-fn cut(alloc: Global, array: &mut PyByteArray) -> Result<Option<Vec<u8>>, Halt> {
-    let slice = PySlice::from(1..3);
-    let reply = array.getitem(Value::from(slice), none(alloc)).done()?;
-    Ok(reply.into_bytes())
-}
-
-#[test]
-fn answers_are_one_result(rt: HostRuntime) -> Result<(), Fail> {
-    let alloc = rt.alloc();
-    let mut array = PyByteArray::from_slice(alloc, b"abcd")?;
-    assert!(rt; number_at(alloc, &mut array, -1) == Ok(Some(100)));
-    refuses(&rt, number_at(alloc, &mut array, 4), Fault::Index);
-    let middle = cut(alloc, &mut array)?.unwrap_or(Vec::new(alloc));
-    same(&rt, middle.as_slice(), b"bc");
-    Ok(())
 }
 
 /// Loans by which the handle 7 names another bytearray.
@@ -52,10 +34,13 @@ fn assign(alloc: Global, array: &mut PyByteArray, loans: LoanList) -> Result<Loc
 }
 
 #[test]
-fn another_object_is_named_among_the_values(rt: HostRuntime) -> Result<(), Fail> {
+fn answers_are_one_result(rt: HostRuntime) -> Result<(), Fail> {
     let alloc = rt.alloc();
     let mut array = PyByteArray::from_slice(alloc, b"abcd")?;
     let other = PyByteArray::from_slice(alloc, b"XYZ")?;
+    let last = number_at(alloc, &mut array, -1)?;
+    equal(&rt, last, Some(100));
+    refuses(&rt, number_at(alloc, &mut array, 4), Fault::Index);
     drop(assign(alloc, &mut array, lend(alloc, &other)?)?);
     same(&rt, array.borrow_buf(), b"aXYZd");
     Ok(())

@@ -1,5 +1,5 @@
 //! `PyArray`: numbers of one size, as Python's `array`.
-use crate::telling::refuses;
+use crate::telling::{equal, refuses};
 use pybuf_array::{ArrayCode, PyArray};
 use pybuf_view::{Fault, PySlice};
 use std::test::Fail;
@@ -11,12 +11,12 @@ fn a_slice_shares_the_numbers_of_an_array(rt: HostRuntime) -> Result<(), Fail> {
     let all = array.view()?;
     let last = array.vslice(all, &PySlice::from(1..))?;
     array.vset(last, 0, 20)?;
-    assert!(rt; array.get(1) == Ok(20));
+    equal(&rt, array.get(1)?, 20);
     refuses(&rt, array.append(4), Fault::Buffer);
     array.release(all)?;
     array.release(last)?;
     refuses(&rt, array.append(40_000), Fault::Overflow);
-    assert!(rt; array.pop(None) == Ok(3));
+    equal(&rt, array.pop(None)?, 3);
     assert!(rt; array.numbers()?.as_slice() == [1, 20].as_slice());
     Ok(())
 }

@@ -1,9 +1,9 @@
 //! `PyBuffer`, `VecBuffer`, and bytes that are borrowed for a call.
-use crate::telling::{Told, same, tells};
+use crate::telling::{Told, equal, same, tells};
 use crate::values::{bytes, int, none};
 use pybuf_view::{
-    ArgBytesLike, ArgMemoryBuffer, ExporterKind, Fault, PyBuffer, PyByteArray, SnapList, Subject,
-    VecBuffer, try_rw_bytes_like,
+    Answer, ArgBytesLike, ArgMemoryBuffer, BufferDescriptor, DimList, ExporterKind, Fault,
+    PyBuffer, PyByteArray, PyMemoryView, SnapList, Subject, Text, VecBuffer, try_rw_bytes_like,
 };
 use std::alloc::Global;
 use std::test::Fail;
@@ -24,6 +24,20 @@ fn a_buffer_lends_the_bytes_of_a_view(rt: HostRuntime) -> Result<(), Fail> {
     Ok(())
 }
 
+#[test]
+fn a_field_behind_a_header_is_written(rt: HostRuntime) -> Result<(), Fail> {
+    let alloc = rt.alloc();
+    let mut array = PyByteArray::from_slice(alloc, b"HD\x01\x05\0\x02\x06\0")?;
+    let state = array.state_mut();
+    let format = Text::from_str(alloc, "<H")?;
+    let dims = DimList::from_slice(alloc, &[(2, 3, 0)])?;
+    let descriptor = BufferDescriptor::raw(4, false, 2, format, dims);
+    let numbers = PyBuffer::new(alloc, state, descriptor, 3).done()?;
+    PyMemoryView::of(numbers.number()).set(state, 1, 258)?;
+    same(&rt, state.bytes(), b"HD\x01\x05\0\x02\x02\x01");
+    Ok(())
+}
+
 /// Lends a vector's bytes, and tries to take them out before and after the loan ends.
 fn lend_and_take(alloc: Global, bytes: &[u8]) -> Result<(Option<Fault>, Vec<u8>), Fail> {
     let mut vector = VecBuffer::from(alloc, Vec::from_slice(alloc, bytes)?);
@@ -38,35 +52,24 @@ fn lend_and_take(alloc: Global, bytes: &[u8]) -> Result<(Option<Fault>, Vec<u8>)
 }
 
 #[test]
-fn a_vector_is_taken_back(rt: HostRuntime) -> Result<(), Fail> {
-    let (refused, taken) = lend_and_take(rt.alloc(), b"abc")?;
-    assert!(rt; refused == Some(Fault::Buffer));
-    same(&rt, taken.as_slice(), b"abc");
-    Ok(())
-}
-
-#[test]
-fn the_bytes_of_a_value_are_borrowed(rt: HostRuntime) -> Result<(), Fail> {
+fn bytes_are_lent_and_borrowed(rt: HostRuntime) -> Result<(), Fail> {
     let alloc = rt.alloc();
+    let (refused, taken) = lend_and_take(alloc, b"abc")?;
+    equal(&rt, refused, Some(Fault::Buffer));
+    same(&rt, taken.as_slice(), b"abc");
     let lender = SnapList::new(alloc);
     let value = bytes(alloc, b"abc")?;
     match ArgBytesLike::try_from_value(&value, &lender) {
         Ok(argument) => same(&rt, argument.borrow_buf(), b"abc"),
         Err(_) => assert!(rt; false),
     }
-    Ok(())
-}
-
-#[test]
-fn the_bytes_of_a_view_are_borrowed_to_be_written(rt: HostRuntime) -> Result<(), Fail> {
-    let alloc = rt.alloc();
     let mut array = PyByteArray::from_slice(alloc, b"abcdef")?;
     tells(&rt, array.range(int(1), int(4), none(alloc)), Told::View(0));
     let state = array.state_mut();
     let turned = try_rw_bytes_like(state, Subject::View(0), |bytes| bytes.reverse());
-    assert!(rt; turned.is_ok());
+    equal(&rt, turned, Ok(()));
     same(&rt, state.bytes(), b"adcbef");
     let refused = ArgMemoryBuffer::try_from_subject(state, Subject::View(1)).err();
-    assert!(rt; refused == Some(Fault::UnknownName));
+    equal(&rt, refused, Some(Fault::UnknownName));
     Ok(())
 }

@@ -1,5 +1,5 @@
 //! `PyByteArray`, as Python's `bytearray`.
-use crate::telling::{Told, refuses, same, tells};
+use crate::telling::{Told, equal, refuses, same, tells};
 use crate::values::{bytes, int, none, part};
 use pybuf_view::{ExporterKind, Fault, PyByteArray};
 use std::test::Fail;
@@ -8,13 +8,10 @@ use std::test::Fail;
 fn a_bytearray_is_edited(rt: HostRuntime) -> Result<(), Fail> {
     let alloc = rt.alloc();
     let three = bytes(alloc, b"XYZ")?;
-    let mut array = PyByteArray::new_ref(alloc, Vec::from_slice(alloc, b"abc")?);
+    let mut array = PyByteArray::from_slice(alloc, b"abc")?;
     tells(&rt, array.append(int(100), none(alloc)), Told::Done);
-    tells(
-        &rt,
-        array.setitem(part(0, 2), three, none(alloc)),
-        Told::Done,
-    );
+    let set = array.setitem(part(0, 2), three, none(alloc));
+    tells(&rt, set, Told::Done);
     tells(&rt, array.delitem(int(-1), none(alloc)), Told::Done);
     tells(&rt, array.insert(int(0), int(33), none(alloc)), Told::Done);
     tells(&rt, array.pop(None, none(alloc)), Told::Number(99));
@@ -39,26 +36,17 @@ fn end_line(array: &mut PyByteArray) -> Result<bool, Fail> {
 }
 
 #[test]
-fn the_bytes_are_lent_as_a_vector(rt: HostRuntime) -> Result<(), Fail> {
-    let alloc = rt.alloc();
-    let mut array = PyByteArray::from_slice(alloc, b"abc")?;
-    assert!(rt; end_line(&mut array)?);
-    tells(&rt, array.as_buffer(none(alloc)), Told::View(0));
-    assert!(rt; !end_line(&mut array)?);
-    same(&rt, array.borrow_buf(), b"abc\n");
-    Ok(())
-}
-
-#[test]
 fn plain_edits_wait_for_views(rt: HostRuntime) -> Result<(), Fail> {
     let alloc = rt.alloc();
     let mut array = PyByteArray::from_slice(alloc, b"abc")?;
     tells(&rt, array.as_buffer(none(alloc)), Told::View(0));
     refuses(&rt, array.push(100), Fault::Buffer);
     array.set(0, b'A')?;
-    assert!(rt; array.state_mut().release_view(0).is_ok());
+    equal(&rt, array.state_mut().release_view(0), Ok(()));
     array.push(100)?;
-    assert!(rt; array.pop_last() == Ok(Some(100)));
+    equal(&rt, array.pop_last()?, Some(100));
     same(&rt, array.as_slice(), b"Abc");
+    equal(&rt, end_line(&mut array)?, true);
+    same(&rt, array.as_slice(), b"Abc\n");
     Ok(())
 }

@@ -1,13 +1,13 @@
 //! The methods of strings of bytes, by the type that has them and by their names.
-use crate::telling::{Told, gives, same, tells};
+use crate::telling::{Told, equal, gives, same, tells};
 use crate::values::{bytes, none};
 use pybuf_view::{
-    Answer, ByteStr, Fault, MethodCall, MethodName, PyBytes, PyBytesInner, ValueList,
+    Answer, ByteStr, Fault, Made, MethodCall, MethodName, PyBytes, PyBytesInner, ValueList,
 };
 use std::alloc::Global;
 use std::test::Fail;
 
-fn string(alloc: Global, bytes: &[u8]) -> Result<PyBytesInner, Fail> {
+fn string(alloc: Global, bytes: &[u8]) -> Made<PyBytesInner> {
     Ok(PyBytesInner::from(Vec::from_slice(alloc, bytes)?))
 }
 
@@ -26,33 +26,27 @@ fn strings_have_methods(rt: HostRuntime) -> Result<(), Fail> {
 }
 
 #[test]
-fn lent_bytes_are_searched(rt: HostRuntime) {
-    let line = ByteStr::new(b"key=a,b");
-    assert!(rt; line.find(b"=", None, None) == Some(3));
-    assert!(rt; line.rfind(b"=", Some(4), None) == None);
-    assert!(rt; line.index(b";", None, None) == Err(Fault::Value));
-    assert!(rt; line.count(b",", Some(-3), None) == 1);
-    assert!(rt; line.startswith(b"key", None, None));
-}
-
-#[test]
-fn lent_bytes_are_split_and_replaced(rt: HostRuntime) -> Result<(), Fail> {
+fn lent_bytes_are_searched_and_split(rt: HostRuntime) -> Result<(), Fail> {
     let alloc = rt.alloc();
     let line = ByteStr::new(b"key=a,b");
+    equal(&rt, line.find(b"=", None, None), Some(3));
+    equal(&rt, line.rfind(b"=", Some(4), None), None);
+    equal(&rt, line.index(b";", None, None), Err(Fault::Value));
+    equal(&rt, line.count(b",", Some(-3), None), 1);
+    equal(&rt, line.startswith(b"key", None, None), true);
     let parts = line.split(alloc, Some(b","), Some(1))?;
-    match parts.as_slice() {
-        [_, last] => same(&rt, last.as_slice(), b"b"),
-        _ => assert!(rt; false),
+    if let Some(last) = parts.get(1) {
+        same(&rt, last.as_slice(), b"b");
     }
     let replaced = line.replace(alloc, b",", b", ", None)?;
     same(&rt, replaced.as_slice(), b"key=a, b");
     let text = ByteStr::new(b"\xc3\xa9").decode(alloc, None, None)?;
-    assert!(rt; text.as_str() == "é");
+    equal(&rt, text.as_str(), "é");
     Ok(())
 }
 
 /// A call of a method with one argument.
-fn call(alloc: Global, name: MethodName, argument: &[u8]) -> Result<MethodCall, Fail> {
+fn call(alloc: Global, name: MethodName, argument: &[u8]) -> Made<MethodCall> {
     let mut args = ValueList::new(alloc);
     args.push(bytes(alloc, argument)?)?;
     Ok(MethodCall { name, args })

@@ -1,6 +1,6 @@
 //! What the examples ask of answers.
 //!
-//! Each takes what it looks at, so that no example drops a reply at each place where it may stop; and slices are
+//! Each takes what it looks at, so that no example drops a reply at each place where it may stop; and values are
 //! compared here, since each comparison in an example itself is proved anew.
 use pybuf_view::{Fault, Halt, Item, LocalReply, Made, Reply, Scalar};
 use std::process::Abort;
@@ -53,6 +53,7 @@ pub(crate) fn tells<R: Abort>(rt: &R, answer: Made<LocalReply>, wanted: Told) {
 
 fn heard_by(reply: &Reply) -> Told {
     match reply {
+        Reply::Ok => Told::Done,
         Reply::Handle(handle) => Told::Handle(*handle),
         Reply::Item(Item::One(Scalar::Int(number))) => Told::Number(*number),
         Reply::Refused(fault) => Told::Refused(*fault),
@@ -60,20 +61,9 @@ fn heard_by(reply: &Reply) -> Told {
     }
 }
 
-fn heard(answer: Made<Reply>) -> Option<Told> {
-    match answer {
-        Ok(reply) => {
-            let heard = heard_by(&reply);
-            drop(reply);
-            Some(heard)
-        }
-        Err(_) => None,
-    }
-}
-
-/// The answer of a world tells this.
-pub(crate) fn hears<R: Abort>(rt: &R, answer: Made<Reply>, wanted: Told) {
-    let heard = heard(answer);
+/// The reply of a world tells this.
+pub(crate) fn hears<R: Abort>(rt: &R, reply: Option<&Reply>, wanted: Told) {
+    let heard = reply.map(heard_by);
     assert!(*rt; heard == Some(wanted));
 }
 
@@ -102,43 +92,6 @@ pub(crate) fn gives<R: Abort>(rt: &R, answer: Made<LocalReply>, wanted: &[u8]) {
     assert!(*rt; has);
 }
 
-fn is_number(item: &Item, wanted: i128) -> bool {
-    match item {
-        Item::One(Scalar::Int(number)) => *number == wanted,
-        _ => false,
-    }
-}
-
-fn are_numbers(items: &[Item], wanted: &[i128]) -> bool {
-    if items.len() != wanted.len() {
-        return false;
-    }
-    items
-        .iter()
-        .zip(wanted)
-        .all(|(item, number)| is_number(item, *number))
-}
-
-fn has_numbers(answer: Made<LocalReply>, wanted: &[i128]) -> bool {
-    match answer {
-        Ok(reply) => {
-            let has = match &reply {
-                LocalReply::Items { shape: _, items } => are_numbers(items.as_slice(), wanted),
-                _ => false,
-            };
-            drop(reply);
-            has
-        }
-        Err(_) => false,
-    }
-}
-
-/// The answer is a list of these numbers.
-pub(crate) fn lists<R: Abort>(rt: &R, answer: Made<LocalReply>, wanted: &[i128]) {
-    let has = has_numbers(answer, wanted);
-    assert!(*rt; has);
-}
-
 /// The call is refused so.
 pub(crate) fn refuses<T: Drop, R: Abort>(rt: &R, answer: Result<T, Halt>, wanted: Fault) {
     let halt = answer.err();
@@ -148,4 +101,9 @@ pub(crate) fn refuses<T: Drop, R: Abort>(rt: &R, answer: Result<T, Halt>, wanted
 /// The bytes are these.
 pub(crate) fn same<R: Abort>(rt: &R, bytes: &[u8], wanted: &[u8]) {
     assert!(*rt; bytes == wanted);
+}
+
+/// The value is this.
+pub(crate) fn equal<T: PartialEq + Drop, R: Abort>(rt: &R, value: T, wanted: T) {
+    assert!(*rt; value == wanted);
 }

@@ -63,30 +63,19 @@ fn run(alloc: Global, read: usize, write: usize) -> Made<Ended> {
     ))
 }
 
-/// What is written for an input, and how it ends, from bytes to bytes.
-fn served(alloc: Global, input: &[u8]) -> Made<(ByteList, Status)> {
-    Ok(serve_bytes(alloc, &[], bytes(alloc, input)?))
-}
-
-// A call for each byte, and one that finds the end.
+// A source makes a call for each byte, and one that finds the end; a sink makes one for each byte, and what was put before
+// a call that fails is the front of what was due.
 #[test]
-fn a_source_fails_at_each_of_its_calls(rt: HostRuntime) -> Result<(), Fail> {
+fn devices_fail_at_each_of_their_calls(rt: HostRuntime) -> Result<(), Fail> {
     for call in 0..=INPUT.len() {
         let ended = (Status::ReadFault, 1, INPUT.len() - call, 0, true);
-        assert_eq!(rt; run(rt.alloc(), call, NEVER)?, ended);
+        assert!(rt; run(rt.alloc(), call, NEVER)? == ended);
     }
-    assert_eq!(rt; run(rt.alloc(), INPUT.len() + 1, NEVER)?, WHOLE);
-    Ok(())
-}
-
-// A call for each byte. What was put before is the front of what was due.
-#[test]
-fn a_sink_fails_at_each_of_its_calls(rt: HostRuntime) -> Result<(), Fail> {
     for call in 0..OUTPUT.len() {
         let ended = (Status::WriteFault, 1, 0, call, true);
-        assert_eq!(rt; run(rt.alloc(), NEVER, call)?, ended);
+        assert!(rt; run(rt.alloc(), NEVER, call)? == ended);
     }
-    assert_eq!(rt; run(rt.alloc(), NEVER, OUTPUT.len())?, WHOLE);
+    assert!(rt; run(rt.alloc(), INPUT.len() + 1, OUTPUT.len())? == WHOLE);
     Ok(())
 }
 
@@ -94,17 +83,9 @@ fn a_sink_fails_at_each_of_its_calls(rt: HostRuntime) -> Result<(), Fail> {
 #[test]
 fn an_input_is_cut_at_each_place(rt: HostRuntime) -> Result<(), Fail> {
     for place in 0..=HEADER.len() {
-        let (_, status) = served(rt.alloc(), &HEADER[..place])?;
+        let input = bytes(rt.alloc(), &HEADER[..place])?;
+        let (_, status) = serve_bytes(rt.alloc(), &[], input);
         assert!(rt; status == Status::Done || status == Status::BadLine);
     }
-    Ok(())
-}
-
-// What the program does with other inputs is what the cases show, which `tools/run_cases.py` runs.
-#[test]
-fn bytes_to_bytes(rt: HostRuntime) -> Result<(), Fail> {
-    let (output, status) = served(rt.alloc(), INPUT)?;
-    assert_eq!(rt; status, Status::Done);
-    assert_eq!(rt; output.as_slice(), OUTPUT);
     Ok(())
 }

@@ -1,5 +1,5 @@
 //! Tests of what the program has not: a source and a sink that fail, bytes in place of devices,
-//! sessions that wait for each other, and the four users of the library.
+//! sessions that wait for each other, and the users of the library.
 #![tactic(auto)]
 
 #[cfg(test)]

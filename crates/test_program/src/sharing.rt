@@ -1,13 +1,10 @@
-//! Sessions of lines by a gate: two that wait for each other, and a source that fails before any begins.
-use pybuf_cli::{ListSource, QuietSink, QuietSource, Sink, Source, Status, serve_gated};
-use pybuf_value::{ByteList, CountList, Made, Text};
-use pybuf_view::{Gate, OpenGate};
-use std::alloc::Global;
-use std::sync::Wait;
+//! Sessions of lines by a gate: two that wait for each other.
+use pybuf_cli::{QuietSink, QuietSource, Sink, Status, serve_gated};
+use pybuf_value::{ByteList, Text};
+use pybuf_view::Gate;
 use std::sync::atomic::{AtomicU64, Ordering};
 use std::test::Fail;
 use std::thread;
-use std::thread::Threads;
 
 /// Two sessions, each of which asks twice.
 const INPUT: &[u8] = b"new bytearray x6162\n0 len own\n0 len own\n1 len own\n1 len own\n";
@@ -83,47 +80,25 @@ impl Gate for Meeting {
     }
 }
 
-/// What `share` ends with.
-fn shared<R: Threads + Wait + Sync, S: Source, K: Sink, G: Gate + Sync>(
-    rt: &R,
-    alloc: Global,
-    source: &mut S,
-    sink: &mut K,
-    gate: &G,
-) -> Made<Status> {
-    let mut words = Vec::new(alloc);
-    words.push(Text::from_str(alloc, "share")?)?;
-    Ok(serve_gated(rt, alloc, words.as_slice(), source, sink, gate))
-}
-
-fn bytes(alloc: Global, bytes: &[u8]) -> Made<ByteList> {
-    Ok(ByteList::from_vec(Vec::from_slice(alloc, bytes)?))
-}
-
 #[test]
 fn each_needs_the_other(rt: HostRuntime) -> Result<(), Fail> {
+    let alloc = rt.alloc();
     let meeting = Meeting::new();
-    let mut source = QuietSource::new(bytes(rt.alloc(), INPUT)?);
-    let mut sink = QuietSink::new(rt.alloc());
-    let status = shared(&rt, rt.alloc(), &mut source, &mut sink, &meeting)?;
-    assert_eq!(rt; status, Status::Done);
-    assert!(rt; meeting.was_held());
-    assert!(rt;
-        sink.bytes()
-            .ends_with(b" len own -> 2\ncalls 4\nbytes b'ab'\n")
+    let mut words = Vec::new(alloc);
+    words.push(Text::from_str(alloc, "share")?)?;
+    let mut source = QuietSource::new(ByteList::from_slice(alloc, INPUT)?);
+    let mut sink = QuietSink::new(alloc);
+    let status = serve_gated(
+        &rt,
+        alloc,
+        words.as_slice(),
+        &mut source,
+        &mut sink,
+        &meeting,
     );
-    Ok(())
-}
-
-#[test]
-fn a_source_fails_before_any_session_begins(rt: HostRuntime) -> Result<(), Fail> {
-    let mut calls = CountList::new(rt.alloc());
-    calls.push(0)?;
-    let mut source = ListSource::new(bytes(rt.alloc(), INPUT)?, INPUT.len(), calls);
-    let mut sink = QuietSink::new(rt.alloc());
-    let status = shared(&rt, rt.alloc(), &mut source, &mut sink, &OpenGate)?;
-    assert_eq!(rt; status, Status::ReadFault);
-    assert_eq!(rt; sink.bytes().len(), 0);
-    assert_eq!(rt; source.left().len(), INPUT.len());
+    assert!(rt; status == Status::Done);
+    assert!(rt; meeting.was_held());
+    let end = b" len own -> 2\ncalls 4\nbytes b'ab'\n";
+    assert!(rt; sink.bytes().ends_with(end));
     Ok(())
 }
