@@ -33,11 +33,11 @@ fn two_by_three(alloc: Global) -> Made<Value> {
 #[test]
 fn a_cast_has_a_shape(rt: HostRuntime) -> Result<(), Fail> {
     let alloc = rt.alloc();
-    let (format, shape) = (text(alloc, "B")?, Some(two_by_three(alloc)?));
     let mut array = PyByteArray::from_slice(alloc, b"abcdef")?;
     let state = array.state_mut();
     let view = PyMemoryView::of_all(state)?;
-    let cast = view.cast(state, format, shape, none(alloc));
+    let (format, shape) = (text(alloc, "B")?, two_by_three(alloc)?);
+    let cast = view.cast(state, format, Some(shape), none(alloc));
     tells(&rt, cast, Told::View(1));
     let rows = PyMemoryView::of(1);
     tells(&rt, rows.len(state, none(alloc)), Told::Number(2));

@@ -1,6 +1,6 @@
 //! `PyMemoryView` by plain arguments.
 use crate::telling::{refuses, same};
-use pybuf_view::{Fault, Halt, PyByteArray, PyMemoryView, PySlice};
+use pybuf_view::{ExporterState, Fault, Halt, PyByteArray, PyMemoryView, PySlice};
 use std::test::Fail;
 
 #[test]
@@ -33,21 +33,31 @@ fn items_are_read_and_written(rt: HostRuntime) -> Result<(), Fail> {
     Ok(())
 }
 
+/// Copies over items of the one: bytes, then the last items of the other, and then its own backwards.
+fn assign(state: &mut ExporterState, other: &mut ExporterState) -> Result<(), Halt> {
+    let view = PyMemoryView::of_all(state)?;
+    let last = PyMemoryView::of_all(other)?.slice(other, 3..)?;
+    view.assign(state, 0..2, b"12")?;
+    view.assign_from(state, 3.., other, &last)?;
+    view.assign_within(state, PySlice::new(None, None, Some(-1)), &view)
+}
+
 #[test]
 fn items_of_a_view_are_assigned(rt: HostRuntime) -> Result<(), Fail> {
     let alloc = rt.alloc();
+    let mut array = PyByteArray::from_slice(alloc, b"abcdef")?;
     let mut other = PyByteArray::from_slice(alloc, b"UVWXYZ")?;
-    let source = PyMemoryView::of_all(other.state_mut())?;
-    let last = source.slice(other.state_mut(), 3..)?;
+    assign(array.state_mut(), other.state_mut())?;
+    same(&rt, array.as_slice(), b"ZYXc21");
+    Ok(())
+}
+
+#[test]
+fn a_view_has_rows(rt: HostRuntime) -> Result<(), Fail> {
+    let alloc = rt.alloc();
     let mut array = PyByteArray::from_slice(alloc, b"abcdef")?;
     let state = array.state_mut();
-    let view = PyMemoryView::of_all(state)?;
-    view.assign(state, 0..2, b"12")?;
-    view.assign_from(state, 3.., other.state(), &last)?;
-    same(&rt, state.bytes(), b"12cXYZ");
-    view.assign_within(state, PySlice::new(None, None, Some(-1)), &view)?;
-    same(&rt, state.bytes(), b"ZYXc21");
-    let rows = view.cast_shape(state, "B", &[2, 3])?;
+    let rows = PyMemoryView::of_all(state)?.cast_shape(state, "B", &[2, 3])?;
     assert!(rt; rows.shape_vec(state)?.as_slice() == [2usize, 3].as_slice());
     assert!(rt; rows.strides_vec(state)?.as_slice() == [3isize, 1].as_slice());
     Ok(())

@@ -3,13 +3,12 @@
 //!
 //! What is answered is told as one text, a word for each answer with a blank before it. A word that finds no memory is
 //! missing there. Records, rows and exporters are lent, so no function that tells has anything to let go.
-use pybuf_buffer::{PyBuffer, step_without_loans};
-use pybuf_command::{ExporterKind, Subject, Verb};
+use pybuf_command::ExporterKind;
 use pybuf_exporter::ExporterState;
 use pybuf_table::Records;
 use pybuf_value::{
-    ByteList, Fault, Halt, Made, NoHandles, Outcome, Scalar, ScalarList, Value, push_bytes,
-    push_number, push_scalar,
+    ByteList, Fault, Halt, Made, NoHandles, Outcome, Scalar, ScalarList, push_bytes, push_number,
+    push_scalar,
 };
 use std::alloc::Global;
 use std::test::Fail;
@@ -86,15 +85,6 @@ fn records_stand_at_offsets(rt: HostRuntime) -> Result<(), Fail> {
 const AT_OFFSETS: &str =
     " 1 2 b'\\x07ABdef' 5 262 b'abc\\x07AB' StructError StructError b'abcdef' 1 2 b'\\x07ABdef' 5 262 b'abc\\x07AB' StructError StructError b'abcdef' StructError StructError b'abcdef' StructError StructError b'abcdef' StructError StructError b'abcdef'";
 
-/// Sets an item of a view.
-fn set_item(state: &mut ExporterState, alloc: Global, view: &PyBuffer, item: i128, value: i128) {
-    let verb = Verb::Set {
-        key: Value::One(Scalar::Int(item)),
-        value: Value::One(Scalar::Int(value)),
-    };
-    drop(step_without_loans(alloc, state, Subject::View(view.number()), verb));
-}
-
 /// Sets an item of the view of a field to 9, or tells why there is no such view; and tells the number of unreleased views
 /// and the bytes.
 fn tell_field(
@@ -103,10 +93,10 @@ fn tell_field(
     records: &Records,
     state: &mut ExporterState,
     field: usize,
-    item: i128,
+    item: isize,
 ) {
     match records.field_view(alloc, state, field) {
-        Ok(Outcome::Done(view)) => set_item(state, alloc, &view, item, 9),
+        Ok(Outcome::Done(view)) => drop(state.put_number(view.number(), item, 9)),
         Ok(Outcome::Refused(fault)) => tell_fault(told, fault),
         Err(_) => {}
     }
@@ -117,7 +107,7 @@ fn tell_field(
 }
 
 /// Formats, bytes, a field, an item.
-const FIELDS: [(&str, &[u8], usize, i128); 7] = [
+const FIELDS: [(&str, &[u8], usize, isize); 7] = [
     ("<BH", &[1, 2, 0, 5, 6, 1], 1, 1),
     ("<BH", &[1, 2, 0, 5, 6, 1], 0, 0),
     ("<BH", &[1, 2, 0, 5, 6, 1], 2, 0),
@@ -134,7 +124,7 @@ fn tell_field_of(
     format: &str,
     bytes: &[u8],
     field: usize,
-    item: i128,
+    item: isize,
 ) {
     match (
         Records::from_str(alloc, format),
