@@ -1,7 +1,7 @@
 //! The traits of Rust that bytes and bytearrays have.
 use crate::telling::{Told, same, tells};
 use crate::values::none;
-use pybuf_view::PyByteArray;
+use pybuf_view::{PyByteArray, PyBytes};
 use std::io::{ErrorKind, Read, Write};
 use std::test::Fail;
 
@@ -15,6 +15,14 @@ fn a_bytearray_is_a_queue(rt: HostRuntime) -> Result<(), Fail> {
     tells(&rt, queue.as_buffer(none(rt.alloc())), Told::View(0));
     let lent = Err(ErrorKind::ResourceBusy);
     assert!(rt; queue.write(b"e").map_err(|error| error.kind()) == lent);
-    same(&rt, &queue[0..2], b"cd");
+    same(&rt, queue.as_slice(), b"cd");
+    Ok(())
+}
+
+#[test]
+fn bytes_are_a_slice(rt: HostRuntime) -> Result<(), Fail> {
+    let object = PyBytes::from(Vec::from_slice(rt.alloc(), b"adcb")?);
+    assert!(rt; object[1] == b'd');
+    same(&rt, &object[1..3], b"dc");
     Ok(())
 }
