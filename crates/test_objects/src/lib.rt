@@ -1,8 +1,13 @@
-//! Tests of the calls of objects, buffers, borrows and exporters that no line of the program makes.
+//! Tests of the calls of objects, buffers, borrows, exporters, shared exporters and tables that no line of the program
+//! makes.
 #![tactic(auto)]
 
 #[cfg(test)]
 mod answers;
+#[cfg(test)]
+mod appending;
+#[cfg(test)]
+mod asking;
 #[cfg(test)]
 mod borrows;
 #[cfg(test)]
@@ -15,5 +20,11 @@ mod byte_strings;
 mod described;
 #[cfg(test)]
 mod exporters;
+#[cfg(test)]
+mod logging;
+#[cfg(test)]
+mod meetings;
+#[cfg(test)]
+mod records;
 #[cfg(test)]
 mod view_methods;

@@ -1,4 +1,4 @@
-use Rattle.test_share.proofs.logging.by_log_of_brand.Given as goal
+use Rattle.test_objects.proofs.logging.by_log_of_brand.Given as goal
 
 abbrev pub ghosts-by_log : goal.ghosts-by_log
 ghosts-by_log a = record { name = a.blank.name; parts = a.blank.parts }

@@ -1,8 +1,8 @@
 use Rattle.std.proofs.Common.{rules, ◌≡◌, ◌<◌, ℕ, List, length, drop, get_or, sym, subst}
 use Rattle.pybuf_share.specs.Sessions.{Asker}
 use Rattle.pybuf_share.specs.Finishing.{AreAll}
-use Rattle.test_share.proofs.Kept.{all_kept, all_taken}
-use Rattle.test_share.proofs.appending.append_each.Goals as goal
+use Rattle.test_objects.proofs.Kept.{all_kept, all_taken}
+use Rattle.test_objects.proofs.appending.append_each.Goals as goal
 
 pub returns : goal.returns
 returns g c =

@@ -1,34 +1,16 @@
 //! Records at offsets, and views of one field of each. Formats, records in order and chosen ones are those of the cases of
 //! `cases/tables`.
-//!
-//! What is answered is told as one text, a word for each answer with a blank before it. A word that finds no memory is
-//! missing there. Records, rows and exporters are lent, so no function that tells has anything to let go.
-use pybuf_command::ExporterKind;
+use crate::answers::{Word, exporter_of, say};
 use pybuf_exporter::ExporterState;
 use pybuf_table::Records;
-use pybuf_value::{
-    ByteList, Fault, Halt, Made, NoHandles, Outcome, Scalar, ScalarList, push_bytes, push_number,
-    push_scalar,
-};
+use pybuf_value::{Halt, Made, NoHandles, Outcome, Scalar, ScalarList, number_in};
 use std::alloc::Global;
 use std::test::Fail;
 
-fn tell_bytes(told: &mut Vec<u8>, bytes: &[u8]) {
-    if told.push(b' ').is_ok() {
-        drop(push_bytes(told, bytes));
-    }
-}
-
-fn tell_fault(told: &mut Vec<u8>, fault: Fault) {
-    if told.push(b' ').is_ok() {
-        drop(told.extend_from_slice(fault.python_name().as_bytes()));
-    }
-}
-
 fn tell_row(told: &mut Vec<u8>, row: &ScalarList) {
     for value in row.as_slice() {
-        if told.push(b' ').is_ok() {
-            drop(push_scalar(told, value));
+        if let Ok(number) = number_in(value) {
+            say(told, Word::Count(number as usize));
         }
     }
 }
@@ -37,7 +19,7 @@ fn tell_row(told: &mut Vec<u8>, row: &ScalarList) {
 fn tell_from(told: &mut Vec<u8>, alloc: Global, records: &Records, offset: isize) {
     match records.unpack_from(alloc, &[1, 2, 0, 5, 6, 1], offset) {
         Ok(Outcome::Done(row)) => tell_row(told, &row),
-        Ok(Outcome::Refused(fault)) => tell_fault(told, fault),
+        Ok(Outcome::Refused(fault)) => say(told, Word::Fault(fault)),
         Err(_) => {}
     }
 }
@@ -46,9 +28,9 @@ fn tell_from(told: &mut Vec<u8>, alloc: Global, records: &Records, offset: isize
 fn tell_packed(told: &mut Vec<u8>, records: &Records, offset: isize, row: &ScalarList) {
     let mut room = *b"abcdef";
     if let Err(fault) = records.pack_into(&mut room, offset, row, &NoHandles) {
-        tell_fault(told, fault);
+        say(told, Word::Fault(fault));
     }
-    tell_bytes(told, &room);
+    say(told, Word::Bytes(&room));
 }
 
 const OFFSETS: [isize; 9] = [0, 3, 4, -6, -3, -2, -7, isize::MAX, isize::MIN];
@@ -69,8 +51,8 @@ fn row_of(alloc: Global, first: i128, last: i128) -> Made<ScalarList> {
     Ok(values)
 }
 
-// As `struct.unpack_from('<BH', bytes([1, 2, 0, 5, 6, 1]), offset)` of Python 3 answers, and `struct.pack_into('<BH', room,
-// offset, 7, 0x4241)`, where `room` is `bytearray(b'abcdef')`.
+/// As `struct.unpack_from('<BH', bytes([1, 2, 0, 5, 6, 1]), offset)` of Python 3 answers, and `struct.pack_into('<BH', room,
+/// offset, 7, 0x4241)`, where `room` is `bytearray(b'abcdef')`.
 #[test]
 fn records_stand_at_offsets(rt: HostRuntime) -> Result<(), Fail> {
     let alloc = rt.alloc();
@@ -83,7 +65,7 @@ fn records_stand_at_offsets(rt: HostRuntime) -> Result<(), Fail> {
 }
 
 const AT_OFFSETS: &str =
-    " 1 2 b'\\x07ABdef' 5 262 b'abc\\x07AB' StructError StructError b'abcdef' 1 2 b'\\x07ABdef' 5 262 b'abc\\x07AB' StructError StructError b'abcdef' StructError StructError b'abcdef' StructError StructError b'abcdef' StructError StructError b'abcdef'";
+    "1; 2; b'\\x07ABdef'; 5; 262; b'abc\\x07AB'; StructError; StructError; b'abcdef'; 1; 2; b'\\x07ABdef'; 5; 262; b'abc\\x07AB'; StructError; StructError; b'abcdef'; StructError; StructError; b'abcdef'; StructError; StructError; b'abcdef'; StructError; StructError; b'abcdef'";
 
 /// Sets an item of the view of a field to 9, or tells why there is no such view; and tells the number of unreleased views
 /// and the bytes.
@@ -97,13 +79,11 @@ fn tell_field(
 ) {
     match records.field_view(alloc, state, field) {
         Ok(Outcome::Done(view)) => drop(state.put_number(view.number(), item, 9)),
-        Ok(Outcome::Refused(fault)) => tell_fault(told, fault),
+        Ok(Outcome::Refused(fault)) => say(told, Word::Fault(fault)),
         Err(_) => {}
     }
-    if told.push(b' ').is_ok() {
-        drop(push_number(told, state.exports() as i128));
-    }
-    tell_bytes(told, state.bytes());
+    say(told, Word::Count(state.exports()));
+    say(told, Word::Bytes(state.bytes()));
 }
 
 /// Formats, bytes, a field, an item.
@@ -126,20 +106,16 @@ fn tell_field_of(
     field: usize,
     item: isize,
 ) {
-    match (
-        Records::from_str(alloc, format),
-        ByteList::from_slice(alloc, bytes),
-    ) {
-        (Ok(records), Ok(bytes)) => {
-            let mut state = ExporterState::new(alloc, ExporterKind::ByteArray, bytes);
+    match (Records::from_str(alloc, format), exporter_of(alloc, bytes)) {
+        (Ok(records), Ok(mut state)) => {
             tell_field(told, alloc, &records, &mut state, field, item);
         }
-        (Err(Halt::Refused(fault)), Ok(_)) => tell_fault(told, fault),
+        (Err(Halt::Refused(fault)), Ok(_)) => say(told, Word::Fault(fault)),
         _ => {}
     }
 }
 
-// Items of a field are as the memoryview of Python 3 writes them; a size of 0 is refused here.
+/// Items of a field are as the memoryview of Python 3 writes them; a size of 0 is refused here.
 #[test]
 fn fields_are_written_through_views(rt: HostRuntime) -> Result<(), Fail> {
     let mut told = Vec::new(rt.alloc());
@@ -151,4 +127,4 @@ fn fields_are_written_through_views(rt: HostRuntime) -> Result<(), Fail> {
 }
 
 const WRITTEN: &str =
-    " 1 b'\\x01\\x02\\x00\\x05\\t\\x00' 1 b'\\t\\x02\\x00\\x05\\x06\\x01' IndexError 0 b'\\x01\\x02\\x00\\x05\\x06\\x01' StructError 0 b'\\x01\\x02\\x00\\x05' ValueError 0 b'\\x01\\x02\\x00\\x05\\x06\\x01' 1 b'abcdef\\t\\x00' ValueError";
+    "1; b'\\x01\\x02\\x00\\x05\\t\\x00'; 1; b'\\t\\x02\\x00\\x05\\x06\\x01'; IndexError; 0; b'\\x01\\x02\\x00\\x05\\x06\\x01'; StructError; 0; b'\\x01\\x02\\x00\\x05'; ValueError; 0; b'\\x01\\x02\\x00\\x05\\x06\\x01'; 1; b'abcdef\\t\\x00'; ValueError";
