@@ -62,53 +62,82 @@ fn value_of(alloc: Global, word: &[u8]) -> Made<Option<Value>> {
     }
 }
 
-/// The view after the step that begins at a word, and how many words the step has.
-fn step(alloc: Global, view: &View, words: &[&[u8]], at: usize) -> Made<(Option<View>, usize)> {
+/// Takes the step that begins at a word. The result is whether it was taken, and how many words it has.
+fn step(alloc: Global, view: &mut View, words: &[&[u8]], at: usize) -> Made<(bool, usize)> {
     let Some(word) = words.get(at) else {
-        return Ok((None, 1));
+        return Ok((false, 1));
     };
     let argument = match words.get(at.wrapping_add(1)) {
         Some(next) => value_of(alloc, next)?,
         None => None,
     };
     let count = if argument.is_none() { 1 } else { 2 };
-    let made = after_step(alloc, view, word, argument.as_ref())?;
-    Ok((made, count))
+    let made = after_step(alloc, view, word, argument.as_ref());
+    drop(argument);
+    match made? {
+        Some(next) => {
+            *view = next;
+            Ok((true, count))
+        }
+        None => Ok((false, count)),
+    }
 }
 
-/// The last view of the words of a line.
-fn last_view(alloc: Global, words: &[&[u8]]) -> Made<Option<View>> {
+/// Takes the steps behind the first word of a line. The result is whether all were taken.
+fn take_steps(alloc: Global, view: &mut View, words: &[&[u8]]) -> Made<bool> {
+    let mut at: usize = 1;
+    for _step in 0..words.len() {
+        if at >= words.len() {
+            return Ok(true);
+        }
+        let (is_taken, count) = step(alloc, view, words, at)?;
+        if !is_taken {
+            return Ok(false);
+        }
+        at = at.wrapping_add(count);
+    }
+    Ok(true)
+}
+
+/// Adds a view, and the array once others were assigned to its items.
+fn push_last(alloc: Global, out: &mut Vec<u8>, view: View) -> Made<()> {
+    let is_valid = push_view(out, &view);
+    if let Ok(true) = is_valid {
+        return push_assigned(alloc, out, view);
+    }
+    drop(view);
+    is_valid?;
+    Ok(())
+}
+
+/// The array of the first word of a line.
+fn first_view(alloc: Global, words: &[&[u8]]) -> Made<Option<View>> {
     let Some(shape) = words.first() else {
         return Ok(None);
     };
     let told = value_of(alloc, shape)?;
-    let Some(first) = whole(alloc, told.as_ref())? else {
-        return Ok(None);
-    };
+    let made = whole(alloc, told.as_ref());
+    drop(told);
+    made
+}
+
+/// Adds what the steps of a line make of a view.
+fn push_steps(alloc: Global, out: &mut Vec<u8>, first: View, words: &[&[u8]]) -> Made<()> {
     let mut view = first;
-    let mut at: usize = 1;
-    for _step in 0..words.len() {
-        if at >= words.len() {
-            return Ok(Some(view));
-        }
-        let (made, count) = step(alloc, &view, words, at)?;
-        let Some(next) = made else {
-            return Ok(None);
-        };
-        view = next;
-        at = at.wrapping_add(count);
+    let taken = take_steps(alloc, &mut view, words);
+    if let Ok(true) = taken {
+        return push_last(alloc, out, view);
     }
-    Ok(Some(view))
+    drop(view);
+    taken?;
+    out.extend_from_slice(b"refused")?;
+    Ok(())
 }
 
 /// Adds the line of a line.
 fn push_line(alloc: Global, out: &mut Vec<u8>, words: &[&[u8]]) -> Made<()> {
-    match last_view(alloc, words)? {
-        Some(view) => {
-            if push_view(out, &view)? {
-                push_assigned(alloc, out, view)?;
-            }
-        }
+    match first_view(alloc, words)? {
+        Some(first) => push_steps(alloc, out, first, words)?,
         None => out.extend_from_slice(b"refused")?,
     }
     out.push(b'\n')?;
