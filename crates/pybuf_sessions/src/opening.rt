@@ -17,12 +17,20 @@ fn bytes_of(options: ByteInnerNewOptions) -> Option<ByteList>
         encoding,
         errors,
     } = options;
+    // What is dropped is handed over: a value that ends with its scope would spell out all its variants.
     if encoding.is_some() {
+        drop(source);
+        drop(encoding);
+        drop(errors);
         return None;
     }
+    drop(encoding);
     if errors.is_some() {
+        drop(source);
+        drop(errors);
         return None;
     }
+    drop(errors);
     match source {
         Some(source) => bytes_of_value(source),
         None => None,
