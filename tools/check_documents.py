@@ -156,7 +156,7 @@ def shown_behind(lines, at):
 def check_inputs(document, lines, examples):
     """Inputs that a document pipes into the program, writes into a file, or takes from an example."""
     for at, line in enumerate(lines):
-        tried = re.fullmatch(r" {4}\$ (?:cd crates/pybuf && )?rt try < \.\./\.\./examples/(\S+)", line)
+        tried = re.fullmatch(r" {4}\$ (?:cd crates/pybuf_program && )?rt try < \.\./\.\./examples/(\S+)", line)
         if tried is not None:
             stored, shown = ROOT / "examples" / f"{tried[1]}.stdout", shown_behind(lines, at + 1)
             if not stored.exists():

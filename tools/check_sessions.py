@@ -3,7 +3,7 @@
 
     python3 tools/check_sessions.py [--program PROGRAM] [--count N] [--seed N] [--runs N] [FILE..]
 
-PROGRAM is what the gate built, `crates/pybuf/out/pybuf`, where none is named. The FILEs are inputs of `share`; where none is
+PROGRAM is what the gate built, `crates/pybuf_program/out/pybuf_program`, where none is named. The FILEs are inputs of `share`; where none is
 named, so many are drawn, 300 of them, of up to 16 sessions and 400 lines, and each is run twice.
 
 It knows nothing but commands and their names. Of what `share` writes it looks whether
@@ -25,7 +25,7 @@ import sys
 from concurrent.futures import ThreadPoolExecutor
 
 ROOT = pathlib.Path(__file__).resolve().parent.parent
-PROGRAM = ROOT / "crates/pybuf/out/pybuf"
+PROGRAM = ROOT / "crates/pybuf_program/out/pybuf_program"
 SECONDS = 60
 SESSIONS, LINES = 16, 400
 # a text between quotes, a word, or what stands between words

@@ -2,7 +2,7 @@
 """Makes drawn inputs with the replies that they should get, to try the program on.
 
     python3 tools/compare.py FOLDER [SEED [COUNT]]
-    cd crates/pybuf && rt try --cases FOLDER
+    cd crates/pybuf_program && rt try --cases FOLDER
 
 The replies are those of Python's own objects, but for the differences that `docs/DIFFERENCES.md`
 names, each of which `Ours` has in one place. Nothing of this is a part of the tests.

@@ -18,7 +18,7 @@ import sys
 ROOT = pathlib.Path(__file__).resolve().parent.parent
 READER = ROOT / "crates/example_elf"
 PROGRAM = READER / "out/example_elf"
-PROGRAMS = [ROOT / "crates/pybuf/out/pybuf", PROGRAM]
+PROGRAMS = [ROOT / "crates/pybuf_program/out/pybuf_program", PROGRAM]
 
 # The numbers of the types and of the flags of sections, by what `readelf` writes for them.
 TYPES = {

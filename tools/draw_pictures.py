@@ -3,7 +3,7 @@
 
     python3 tools/draw_pictures.py [PROGRAM]
 
-PROGRAM is what the gate built, `crates/pybuf/out/pybuf`, where none is named. It is run on two examples, whose replies
+PROGRAM is what the gate built, `crates/pybuf_program/out/pybuf_program`, where none is named. It is run on two examples, whose replies
 `tools/run_cases.py` compares with those that are stored beside them. From the stored ones `tools/check_documents.py`
 draws the pictures again, and compares them with the files.
 
@@ -17,7 +17,7 @@ import subprocess
 import sys
 
 ROOT = pathlib.Path(__file__).resolve().parent.parent
-PROGRAM = ROOT / "crates/pybuf/out/pybuf"
+PROGRAM = ROOT / "crates/pybuf_program/out/pybuf_program"
 SLICES, BAD_LINE = "slices-of-a-cast", "bad-line"
 CODE = "ui-monospace, SFMono-Regular, Menlo, Consolas, 'DejaVu Sans Mono', monospace"
 PLAIN = "system-ui, 'Segoe UI', Roboto, 'DejaVu Sans', Arial, sans-serif"
@@ -168,8 +168,8 @@ def picture_of_reply(reply, bad):
         ("the line", ""),
         ("the grammar", "pybuf_line"),
         ("the world", "pybuf_world"),
-        ("checks, in order", "pybuf_rows_reads"),
-        ("what is done", "pybuf_rows_reads"),
+        ("checks, in order", "pybuf_verbs_reads"),
+        ("what is done", "pybuf_verbs_reads"),
         ("the reply", "pybuf_line"),
     ]
     picture = Picture(

@@ -4,7 +4,7 @@
     python3 tools/hostile.py refused [--try] [--last N]
     python3 tools/hostile.py mutated [--count N] [--seed N]
 
-It is no part of the gate. The program is `crates/pybuf/out/pybuf`, or what `--program` names. It ends with status 1 where a
+It is no part of the gate. The program is `crates/pybuf_program/out/pybuf_program`, or what `--program` names. It ends with status 1 where a
 run ended otherwise than it may.
 
 `refused` runs a few cases of `cases/worked`, two of them of `array`, two inputs of `share` and three of `table`, with one growth of memory refused, the first, then the second, and so on until a
@@ -218,7 +218,7 @@ def refused_by_try(last):
             given, whole = (WORKED / name).read_bytes(), (WORKED / f"{name}.stdout").read_bytes()
             words = ["rt", "try", "--fail-alloc", str(number)]
             pipes = dict.fromkeys(("stdout", "stderr"), subprocess.PIPE)
-            ended = subprocess.run(words, input=given, cwd=ROOT / "crates/pybuf", **pipes)
+            ended = subprocess.run(words, input=given, cwd=ROOT / "crates/pybuf_program", **pipes)
             # (the toolchain tells of its run on standard error too)
             complaint = NO_MEMORY_LINE if NO_MEMORY_LINE in ended.stderr else b""
             statuses[ended.returncode] += 1
@@ -369,7 +369,7 @@ def mutated_cases(program, count, draw):
 def main():
     parser = argparse.ArgumentParser(description=__doc__, formatter_class=argparse.RawDescriptionHelpFormatter)
     parser.add_argument("what", choices=["refused", "mutated"])
-    parser.add_argument("--program", default=str(ROOT / "crates/pybuf/out/pybuf"))
+    parser.add_argument("--program", default=str(ROOT / "crates/pybuf_program/out/pybuf_program"))
     parser.add_argument("--try", dest="by_try", action="store_true")
     parser.add_argument("--last", type=int, default=10)
     parser.add_argument("--count", type=int, default=100_000)

@@ -5,7 +5,7 @@
     python3 tools/run_cases.py --unproved          all but the examples, on what `rt try` builds without proof
     python3 tools/run_cases.py --unproved examples the examples and the input that is stored beside the program, so too
 
-PROGRAM is what the gate built, `crates/pybuf/out/pybuf`, where none is named. The FOLDERs are `examples` and every
+PROGRAM is what the gate built, `crates/pybuf_program/out/pybuf_program`, where none is named. The FOLDERs are `examples` and every
 folder of `cases/`; where none is named, the lines of `cases/no-commands.txt` and `cases/no-operations.txt` and the inputs
 that are made here are run too. Without proof the examples run on the program itself, and all others on its one call,
 `serve`: `tools/unproved.py` says why. Those that want little memory to be there are skipped then.
@@ -41,7 +41,7 @@ import unproved
 from unproved import Ran
 
 ROOT = pathlib.Path(__file__).resolve().parent.parent
-PROGRAM = ROOT / "crates/pybuf/out/pybuf"
+PROGRAM = ROOT / "crates/pybuf_program/out/pybuf_program"
 # Files of lines that are wrong, and the words with which each of them is read.
 WRONG_LINES = {"no-commands": (), "no-operations": (b"array", b"H")}
 PAGE = "README.md"
@@ -284,10 +284,10 @@ def folders(named):
 
 def own_input():
     """The input that is stored beside the program, with its words, output and status, as a case."""
-    stored = {name: path.read_bytes() for name in ("stdin", "stdout", "args", "status") for path in [ROOT / "crates/pybuf" / name] if path.is_file()}
+    stored = {name: path.read_bytes() for name in ("stdin", "stdout", "args", "status") for path in [ROOT / "crates/pybuf_program" / name] if path.is_file()}
     words = stored.get("args", b"").split(b"\n")
     case = Case("the stored input", stored.get("stdin", b""), stored.get("stdout", b""), int(stored.get("status", b"0")), words if words[-1] else words[:-1])
-    return Folder("crates/pybuf", [case], [])
+    return Folder("crates/pybuf_program", [case], [])
 
 
 class Replays:
@@ -369,7 +369,7 @@ def main(words):
         return main_unproved(words[1:])
     program = pathlib.Path(words[0] if words else PROGRAM).resolve()
     if not program.is_file():
-        print(f"{program} is not there: build it by `rt ci`, or by `rt run` in crates/pybuf", file=sys.stderr)
+        print(f"{program} is not there: build it by `rt ci`, or by `rt run` in crates/pybuf_program", file=sys.stderr)
         print("0 passed, 1 failed")
         return 1
     passed = failed = 0

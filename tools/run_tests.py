@@ -29,7 +29,7 @@ from processes import started_from_here
 
 ROOT = pathlib.Path(__file__).resolve().parent.parent
 # The program that the examples run, as they do its stored input.
-PROGRAM = "pybuf"
+PROGRAM = "pybuf_program"
 # How much memory an `rt try` may want, and how many seconds a program or a test may take, as under `rt ci`.
 ROOM_KIB = 3_000_000
 SECONDS = "120"

@@ -179,7 +179,7 @@ pub fn serve_all<R: Threads + Wait + Sync, I: Read, O: Write>(
 def crates_with(name):
     """The list of crates, with one more that uses what the program does, and the writer of numbers."""
     lines = (ROOT / "crates.txt").read_text().rstrip("\n").split("\n")
-    uses = next(line.partition(":")[2].split() for line in lines if line.partition(":")[0] == "pybuf")
+    uses = next(line.partition(":")[2].split() for line in lines if line.partition(":")[0] == "pybuf_program")
     return "\n".join([*lines, f"{name}: {' '.join(dict.fromkeys([*uses, 'pybuf_line']))}"]) + "\n"
 
 
@@ -191,10 +191,10 @@ def copy_sources(to):
     (to / "crates.txt").write_text(crates_with(NAME))
     # (the kit looks here for the top of a repository)
     (to / ".git").mkdir()
-    main = (ROOT / "crates/pybuf/src/main.rt").read_text()
+    main = (ROOT / "crates/pybuf_program/src/main.rt").read_text()
     head, found, _ = main.partition("fn main(")
     if not found or "use pybuf_cli::{ReaderSource, Status, WriterSink, serve};" not in head:
-        raise OSError("tools/unproved.py no longer knows crates/pybuf/src/main.rt: it needs its imports of pybuf_cli, words and complaint")
+        raise OSError("tools/unproved.py no longer knows crates/pybuf_program/src/main.rt: it needs its imports of pybuf_cli, words and complaint")
     head = head.replace("use pybuf_cli::{ReaderSource, Status, WriterSink, serve};", "mod each;\n\nuse pybuf_cli::Status;")
     (to / "crates" / NAME / "src").mkdir(parents=True)
     (to / "crates" / NAME / "src/main.rt").write_text(head + MAIN)
@@ -231,7 +231,7 @@ def tried(cases, is_told):
                 path.with_suffix(".args").write_bytes(b"".join(word + b"\n" for word in case.words))
             if not is_told(case):
                 path.with_suffix(".stdout").write_bytes(case.written)
-        told = try_cases(ROOT / "crates/pybuf", room)
+        told = try_cases(ROOT / "crates/pybuf_program", room)
     ran = []
     for number, case in enumerate(cases):
         written, complaint, line = told.get(f"case{number}", (None, "", ""))

@@ -1,7 +1,7 @@
 //! Answers as one result, and values that name another object.
 use crate::telling::{equal, refuses, same};
 use crate::values::none;
-use pybuf_view::{
+use pybuf::{
     Answer, Fault, FitLoans, Halt, Loan, LoanList, LocalReply, Made, PyByteArray, Scalar, Subject,
     Value,
 };

@@ -1,7 +1,7 @@
 //! `PyArray`: numbers of one size, as Python's `array`.
 use crate::telling::{equal, refuses};
+use pybuf::{Fault, Halt, PySlice};
 use pybuf_array::{ArrayCode, PyArray};
-use pybuf_view::{Fault, Halt, PySlice};
 use std::process::Abort;
 use std::test::Fail;
 

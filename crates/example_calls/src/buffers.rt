@@ -1,7 +1,7 @@
 //! `PyBuffer`, `VecBuffer`, and bytes that are borrowed for a call.
 use crate::telling::{Told, equal, same, tells};
 use crate::values::{bytes, int, none};
-use pybuf_view::{
+use pybuf::{
     Answer, ArgBytesLike, ArgMemoryBuffer, BufferDescriptor, DimList, ExporterKind, Fault,
     PyBuffer, PyByteArray, PyMemoryView, SnapList, Subject, Text, VecBuffer, try_rw_bytes_like,
 };

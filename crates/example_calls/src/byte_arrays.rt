@@ -1,7 +1,7 @@
 //! `PyByteArray`, as Python's `bytearray`.
 use crate::telling::{Told, equal, refuses, same, tells};
 use crate::values::{bytes, int, none, part};
-use pybuf_view::{ExporterKind, Fault, PyByteArray};
+use pybuf::{ExporterKind, Fault, PyByteArray};
 use std::test::Fail;
 
 #[test]

@@ -1,7 +1,7 @@
 //! `PyBytes`, as Python's `bytes`.
 use crate::telling::{Told, equal, gives, tells};
 use crate::values::{bytes, int, none, part};
-use pybuf_view::{CompareOp, Fault, PyBytes};
+use pybuf::{CompareOp, Fault, PyBytes};
 use std::test::Fail;
 
 #[test]

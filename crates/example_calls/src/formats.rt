@@ -1,6 +1,6 @@
 //! `FormatSpec`, as Python's `struct`.
 use crate::telling::{equal, refuses, same};
-use pybuf_view::{Fault, FormatSpec, Scalar};
+use pybuf::{Fault, FormatSpec, Scalar};
 use std::test::Fail;
 
 #[test]

@@ -1,7 +1,7 @@
 //! Iterators of bytes, bytearrays and memoryviews.
 use crate::telling::{Told, tells};
 use crate::values::{int, none};
-use pybuf_view::{Fault, PyByteArray, PyByteArrayIterator, PyMemoryView, PyMemoryViewIterator};
+use pybuf::{Fault, PyByteArray, PyByteArrayIterator, PyMemoryView, PyMemoryViewIterator};
 use std::test::Fail;
 
 #[test]

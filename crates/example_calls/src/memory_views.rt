@@ -1,7 +1,7 @@
 //! `PyMemoryView`, as Python's `memoryview`.
 use crate::telling::{Told, gives, same, tells};
 use crate::values::{every, int, none, text};
-use pybuf_view::{Fault, Made, PyByteArray, PyMemoryView, Scalar, ScalarList, Value};
+use pybuf::{Fault, Made, PyByteArray, PyMemoryView, Scalar, ScalarList, Value};
 use std::alloc::Global;
 use std::test::Fail;
 

@@ -1,6 +1,6 @@
 //! `PyMemoryView` by plain arguments.
 use crate::telling::{refuses, same};
-use pybuf_view::{ExporterState, Fault, Halt, PyByteArray, PyMemoryView, PySlice};
+use pybuf::{ExporterState, Fault, Halt, PyByteArray, PyMemoryView, PySlice};
 use std::test::Fail;
 
 #[test]

@@ -1,7 +1,7 @@
 //! `Records`: the records of a file.
 use crate::telling::{equal, same};
+use pybuf::{Answer, CompareOp, NoHandles, Scalar};
 use pybuf_table::Records;
-use pybuf_view::{Answer, CompareOp, NoHandles, Scalar};
 use std::alloc::Global;
 use std::test::Fail;
 

@@ -1,6 +1,6 @@
 //! Slices, as Python's `slice`.
 use crate::telling::{equal, same};
-use pybuf_view::{Fault, PySlice, SaturatedSlice, SliceableSequenceMutOp, SliceableSequenceOp};
+use pybuf::{Fault, PySlice, SaturatedSlice, SliceableSequenceMutOp, SliceableSequenceOp};
 use std::test::Fail;
 
 #[test]

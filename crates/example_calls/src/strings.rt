@@ -1,7 +1,7 @@
 //! The methods of strings of bytes, by the type that has them and by their names.
 use crate::telling::{Told, equal, gives, same, tells};
 use crate::values::{bytes, none};
-use pybuf_view::{
+use pybuf::{
     Answer, ByteStr, Fault, Made, MethodCall, MethodName, PyBytes, PyBytesInner, ValueList,
 };
 use std::alloc::Global;

@@ -1,6 +1,6 @@
 //! Five things that are asked often, as the pages show them beside Python's.
 use crate::telling::{equal, same};
-use pybuf_view::{ByteStr, FormatSpec, PyByteArray, PyMemoryView};
+use pybuf::{ByteStr, FormatSpec, PyByteArray, PyMemoryView};
 use std::test::Fail;
 
 #[test]

@@ -2,7 +2,7 @@
 //!
 //! Each takes what it looks at, so that no example drops a reply at each place where it may stop; and values are
 //! compared here, since each comparison in an example itself is proved anew.
-use pybuf_view::{Fault, Halt, Item, LocalReply, Made, Reply, Scalar};
+use pybuf::{Fault, Halt, Item, LocalReply, Made, Reply, Scalar};
 use std::process::Abort;
 
 /// What is told by a reply that has no parts, as the examples compare it.

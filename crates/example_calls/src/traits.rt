@@ -1,7 +1,7 @@
 //! The traits of Rust that bytes and bytearrays have.
 use crate::telling::{Told, same, tells};
 use crate::values::none;
-use pybuf_view::{PyByteArray, PyBytes};
+use pybuf::{PyByteArray, PyBytes};
 use std::io::{ErrorKind, Read, Write};
 use std::test::Fail;
 

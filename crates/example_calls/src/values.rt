@@ -1,7 +1,7 @@
 //! The values and the loans that the examples give to commands.
 ghost use Rattle.std.specs.Prelude.{◌≡◌, []};
 
-use pybuf_view::{LoanList, Made, PySlice, Scalar, Value};
+use pybuf::{LoanList, Made, PySlice, Scalar, Value};
 use std::alloc::Global;
 
 /// No loans, which every call takes.

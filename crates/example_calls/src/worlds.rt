@@ -1,7 +1,7 @@
 //! `World`: objects that are named by handles, and commands as values.
 use crate::telling::{Told, equal, hears};
 use crate::values::int;
-use pybuf_view::{
+use pybuf::{
     ByteInnerNewOptions, Command, ExporterKind, Fault, Made, ReplyList, Value, Verb, World,
 };
 use std::alloc::Global;

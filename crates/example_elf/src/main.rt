@@ -5,9 +5,9 @@
 
 use bstr::ByteSlice;
 use example_users::{SectionTable, read_section_table, read_sections, section_records};
+use pybuf::{Fault, Halt, Made};
 use pybuf_table::RecordIter;
 use pybuf_value::push_number;
-use pybuf_view::{Fault, Halt, Made};
 use std::alloc::Global;
 use std::io::{Read, Write};
 use std::process::ExitCode;

@@ -4,8 +4,8 @@ ghost use Rattle.pybuf_value.specs.Halting.{Gives};
 ghost use Rattle.pybuf_table.specs.Records.{record_format};
 ghost use Rattle.example_users.specs.Elf.{header_values_of, section_format, section_table_of, sections_of};
 
+use pybuf::{Answer, Fault, Halt, ScalarList};
 use pybuf_table::{RecordIter, Records};
-use pybuf_view::{Answer, Fault, Halt, ScalarList};
 use std::alloc::Global;
 
 /// Where the sections of a file are described.

@@ -4,7 +4,7 @@ ghost use Rattle.pybuf_share.specs.Finishing.{RefusesAtLast};
 ghost use Rattle.pybuf_share.specs.Sessions.{new_session};
 ghost use Rattle.example_users.specs.Handing.{handed, byte_array, extending, IsAlone, IsNotHanded};
 
-use pybuf_view::{
+use pybuf::{
     ByteList, ExporterKind, FinishFault, Joined, LoanList, LocalCommand, Made, Scalar, Session,
     SharedExporter, Subject, Value, Verb,
 };

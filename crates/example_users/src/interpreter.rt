@@ -4,7 +4,7 @@ ghost use Rattle.pybuf_command.specs.declared.worlds.Reply.TheVariants as replie
 ghost use Rattle.pybuf_value.specs.declared.faults.Fault as faults;
 ghost use Rattle.example_users.specs.Program.{command_of};
 
-use pybuf_view::{
+use pybuf::{
     ByteInnerNewOptions, ByteList, Command, ExporterKind, Made, Reply, ReplyList, Scalar, Text,
     Value, Verb, World, handles_stay, refusals_change_nothing, runs_stay_sound,
 };

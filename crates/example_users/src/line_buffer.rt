@@ -2,7 +2,7 @@
 ghost use Rattle.std.specs.Prelude.{◌≡◌, length, min, take, is_some, MatchOption, MatchResult};
 ghost use Rattle.pybuf_value.specs.declared.halt.Halt.{Halt};
 
-use pybuf_view::{Halt, PyByteArray, PyMemoryView, place_of_byte};
+use pybuf::{Halt, PyByteArray, PyMemoryView, place_of_byte};
 use std::alloc::Global;
 use std::marker::Model;
 

@@ -3,7 +3,7 @@ ghost use Rattle.std.specs.Prelude.{◌≡◌, ◌↔◌, ◌<◌, ◌≤◌, �
 ghost use Rattle.pybuf_value.specs.declared.halt.Halt.{Halt};
 ghost use Rattle.pybuf_value.specs.declared.faults.Fault.{Fault};
 
-use pybuf_view::{ExporterState, Fault, Halt, PyByteArray, PyMemoryView};
+use pybuf::{ExporterState, Fault, Halt, PyByteArray, PyMemoryView};
 use std::alloc::Global;
 use std::marker::Model;
 

@@ -3,7 +3,7 @@ ghost use Rattle.std.specs.Prelude.{◌≡◌, Ok};
 ghost use Rattle.pybuf_value.specs.Halting.{Gives};
 ghost use Rattle.example_users.specs.Log.{header_of, reading_of};
 
-use pybuf_view::{Fault, FormatSpec, Halt, PyBytes};
+use pybuf::{Fault, FormatSpec, Halt, PyBytes};
 use std::alloc::Global;
 use std::marker::Model;
 

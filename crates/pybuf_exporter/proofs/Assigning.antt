@@ -38,8 +38,8 @@ use Rattle.pybuf_state.specs.Live.{layout_in}
 use Rattle.pybuf_state.specs.Loans.{Lent, are_named, given_loan, names_of, lent_as, subject_in, snap_in, lents_by}
 use Rattle.pybuf_state.specs.Snaps.{snap_of_exporter, snap_of_view, iterator_snap}
 use Rattle.pybuf_state.specs.Sound.{IsSoundExporter}
-use Rattle.pybuf_rows_writes.specs.Assign.{lent_source, source_in, assign_of_view}
-use Rattle.pybuf_rows_writes.specs.Laws.{AssignIsSafe, AssignmentsAreByValue, ContentsHoldTheItems}
+use Rattle.pybuf_verbs_writes.specs.Assign.{lent_source, source_in, assign_of_view}
+use Rattle.pybuf_verbs_writes.specs.Laws.{AssignIsSafe, AssignmentsAreByValue, ContentsHoldTheItems}
 use Rattle.pybuf_exporter.specs.Step.{settled_answer}
 use Rattle.pybuf_exporter.specs.Assigning.{item_in, item_of_subject, item_of_snap, item_of_loan, item_before, source_before, StepsAssignByValue, SnapsHoldTheItems}
 

@@ -20,9 +20,9 @@ use Rattle.pybuf_command.specs.declared.commands.LocalReply.TheVariants as reply
 use Rattle.pybuf_state.specs.Exporter.{Exporter, View, live_layout, with_view}
 use Rattle.pybuf_state.specs.Laws.{LiveLayoutsAreSound}
 use Rattle.pybuf_state.specs.Sound.{IsSoundExporter}
-use Rattle.pybuf_rows_views.specs.Cast.{column_cast_of_view}
-use Rattle.pybuf_rows_views.specs.Laws.{HoldsTheBytes, ColumnCastsHoldTheBytes}
-use Rattle.pybuf_rows_reads.specs.ToBytes.{by_letter, content_in, is_column_order}
+use Rattle.pybuf_verbs_views.specs.Cast.{column_cast_of_view}
+use Rattle.pybuf_verbs_views.specs.Laws.{HoldsTheBytes, ColumnCastsHoldTheBytes}
+use Rattle.pybuf_verbs_reads.specs.ToBytes.{by_letter, content_in, is_column_order}
 use Rattle.pybuf_exporter.specs.Step.{settled_answer}
 use Rattle.pybuf_exporter.specs.Columns.{bytes_replied, order_named, GivesTheBytesBack, ColumnCastsGiveTheBytesBack}
 use Rattle.pybuf_exporter.specs.Laws.{CommandsKeepSound}

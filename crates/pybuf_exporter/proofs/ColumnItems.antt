@@ -17,7 +17,7 @@ use Rattle.pybuf_command.specs.declared.commands.LocalReply.{LocalReply}
 use Rattle.pybuf_command.specs.declared.commands.LocalReply.TheVariants as reply
 use Rattle.pybuf_state.specs.Exporter.{Exporter, live_layout}
 use Rattle.pybuf_state.specs.Laws.{LiveLayoutsAreSound}
-use Rattle.pybuf_rows_writes.specs.Laws.{ContentsHoldTheItems}
+use Rattle.pybuf_verbs_writes.specs.Laws.{ContentsHoldTheItems}
 use Rattle.pybuf_exporter.specs.Columns.{column_number_at, HoldsTheSameItems, OrdersHoldTheSameItems}
 use Rattle.pybuf_exporter.proofs.ColumnBytes.{read, read_by}
 

@@ -13,8 +13,8 @@ use Rattle.pybuf_command.specs.declared.commands.LocalCommand.{LocalCommand}
 use Rattle.pybuf_state.specs.Exporter.{Exporter}
 use Rattle.pybuf_state.specs.Loans.{Lent}
 use Rattle.pybuf_state.specs.Answers.{Answers}
-use Rattle.pybuf_rows_edits.specs.Counting.{taken_places, TakesFirst, grows_at_end}
-use Rattle.pybuf_rows_edits.specs.Edits.{is_edit, edit_of_own}
+use Rattle.pybuf_verbs_edits.specs.Counting.{taken_places, TakesFirst, grows_at_end}
+use Rattle.pybuf_verbs_edits.specs.Edits.{is_edit, edit_of_own}
 use Rattle.pybuf_exporter.specs.Stored.{StoredExporter}
 use Rattle.pybuf_exporter.specs.Counting.{IsQueueStep, IsQueueRun, QueuesMoveFewBytes}
 

@@ -34,13 +34,13 @@ use Rattle.pybuf_value.specs.declared.snaps.Snap.{Snap}
 use Rattle.pybuf_state.specs.Fresh.{IsCopyOf}
 use Rattle.pybuf_state.specs.Keeps.{Keeps, IsSameOrReleased, LengthsStay, ReadOnlyBytesStay, IsSameOrMoved, IteratorsStay, is_one_line, is_answer, IsSafe, RepliesCopy, IsCopied, IsIterated}
 use Rattle.pybuf_state.specs.Laws.{ReadingKeeps, LiveLayoutsAreSound}
-use Rattle.pybuf_rows_views.specs.Laws.{ViewIsSafe, SliceIsSafe, CastIsSafe, ColumnCastIsSafe, ReleaseIsSafe, ToReadonlyIsSafe, RangeIsSafe, EnterIsSafe, ContiguousIsCopied}
-use Rattle.pybuf_rows_reads.specs.Laws.{GetIsSafe, BytesIsSafe, LenIsSafe, PropertyIsSafe, ToListIsSafe}
-use Rattle.pybuf_rows_writes.specs.Laws.{SetIsSafe, AssignIsSafe}
-use Rattle.pybuf_rows_edits.specs.Laws.{EditsAreSafe, DeleteOfViewIsSafe}
-use Rattle.pybuf_rows_compare.specs.Laws.{CompareIsSafe, HashIsSafe, ReprIsSafe}
-use Rattle.pybuf_rows_methods.specs.Laws.{CallIsSafe, ContainsIsSafe, HexIsSafe}
-use Rattle.pybuf_rows_iters.specs.Laws.{IterIsSafe, IteratorsAreSafe}
+use Rattle.pybuf_verbs_views.specs.Laws.{ViewIsSafe, SliceIsSafe, CastIsSafe, ColumnCastIsSafe, ReleaseIsSafe, ToReadonlyIsSafe, RangeIsSafe, EnterIsSafe, ContiguousIsCopied}
+use Rattle.pybuf_verbs_reads.specs.Laws.{GetIsSafe, BytesIsSafe, LenIsSafe, PropertyIsSafe, ToListIsSafe}
+use Rattle.pybuf_verbs_writes.specs.Laws.{SetIsSafe, AssignIsSafe}
+use Rattle.pybuf_verbs_edits.specs.Laws.{EditsAreSafe, DeleteOfViewIsSafe}
+use Rattle.pybuf_verbs_compare.specs.Laws.{CompareIsSafe, HashIsSafe, ReprIsSafe}
+use Rattle.pybuf_verbs_methods.specs.Laws.{CallIsSafe, ContainsIsSafe, HexIsSafe}
+use Rattle.pybuf_verbs_iters.specs.Laws.{IterIsSafe, IteratorsAreSafe}
 use Rattle.pybuf_exporter.specs.Step.{get_of_view, row, answer_by, answer_of, settled_answer, estep, set_in_own, set_through_view}
 use Rattle.pybuf_exporter.specs.Rows.{RowsAreSafe, RowIsSafe, StepsKeepSound}
 use Rattle.pybuf_exporter.specs.Laws.{CommandsKeepSound, LengthsStayUnderCommands, ReadOnlyBytesStayUnderCommands, IteratorsStayUnderCommands, is_of_iterators, OthersLeaveIterators, IterationChangesNothingElse, RefusedCommandsChangeNothing, NamesAlikeDoTheSame, ItemsAreRead, FreshRepliesAreCopies, ShownTextsAreOneLine, CommandsKeepItemsApart, NamesItsOwn, RepliedNamesAreThere, SubjectsStay}

@@ -55,34 +55,34 @@ use Rattle.pybuf_state.specs.Loans.{Lent, are_named, lents_by, names_of, snaps_o
 use Rattle.pybuf_state.specs.Snaps.{snap_of_exporter}
 use Rattle.pybuf_state.specs.Laws.{ReadingKeeps}
 use Rattle.pybuf_state.specs.Resizing.{has_exports, resizable}
-use Rattle.pybuf_rows_views.specs.Cast as casts
-use Rattle.pybuf_rows_views.specs.Range as ranges
-use Rattle.pybuf_rows_views.specs.View as views
-use Rattle.pybuf_rows_views.specs.Slice.{slice_of_view}
-use Rattle.pybuf_rows_views.specs.Release.{release_of_view}
-use Rattle.pybuf_rows_views.specs.Enter.{enter_of_view}
-use Rattle.pybuf_rows_views.specs.Contiguous.{contiguous_of_view}
-use Rattle.pybuf_rows_views.specs.ToReadonly.{toreadonly_of_view}
-use Rattle.pybuf_rows_reads.specs.Get as gets
-use Rattle.pybuf_rows_reads.specs.ToBytes as orders
-use Rattle.pybuf_rows_reads.specs.Len.{len_of_own, len_of_view}
-use Rattle.pybuf_rows_reads.specs.Property as properties
-use Rattle.pybuf_rows_reads.specs.ToList.{list_of_view}
-use Rattle.pybuf_rows_compare.specs.Compare as compares
-use Rattle.pybuf_rows_compare.specs.Hash.{hash_of_own, hash_of_view}
-use Rattle.pybuf_rows_compare.specs.Repr as reprs
-use Rattle.pybuf_rows_writes.specs.Set as sets
-use Rattle.pybuf_rows_writes.specs.Assign as assigns
-use Rattle.pybuf_rows_methods.specs.Calls.{call_of_own, contains_of_own, hex_of_view}
+use Rattle.pybuf_verbs_views.specs.Cast as casts
+use Rattle.pybuf_verbs_views.specs.Range as ranges
+use Rattle.pybuf_verbs_views.specs.View as views
+use Rattle.pybuf_verbs_views.specs.Slice.{slice_of_view}
+use Rattle.pybuf_verbs_views.specs.Release.{release_of_view}
+use Rattle.pybuf_verbs_views.specs.Enter.{enter_of_view}
+use Rattle.pybuf_verbs_views.specs.Contiguous.{contiguous_of_view}
+use Rattle.pybuf_verbs_views.specs.ToReadonly.{toreadonly_of_view}
+use Rattle.pybuf_verbs_reads.specs.Get as gets
+use Rattle.pybuf_verbs_reads.specs.ToBytes as orders
+use Rattle.pybuf_verbs_reads.specs.Len.{len_of_own, len_of_view}
+use Rattle.pybuf_verbs_reads.specs.Property as properties
+use Rattle.pybuf_verbs_reads.specs.ToList.{list_of_view}
+use Rattle.pybuf_verbs_compare.specs.Compare as compares
+use Rattle.pybuf_verbs_compare.specs.Hash.{hash_of_own, hash_of_view}
+use Rattle.pybuf_verbs_compare.specs.Repr as reprs
+use Rattle.pybuf_verbs_writes.specs.Set as sets
+use Rattle.pybuf_verbs_writes.specs.Assign as assigns
+use Rattle.pybuf_verbs_methods.specs.Calls.{call_of_own, contains_of_own, hex_of_view}
 use Rattle.pybuf_methods.specs.Methods.{method_reply}
 use Rattle.pybuf_methods.specs.Sought.{contains_in}
 use Rattle.pybuf_methods.specs.Shaped.{hex_of}
-use Rattle.pybuf_rows_iters.specs.Iterators as iterators
-use Rattle.pybuf_rows_edits.specs.Common.{with_bytes, is_itself}
-use Rattle.pybuf_rows_edits.specs.Growing as growing
-use Rattle.pybuf_rows_edits.specs.Shrinking as shrinking
-use Rattle.pybuf_rows_edits.specs.Replacing as replacing
-use Rattle.pybuf_rows_edits.specs.Edits.{edit_of_own}
+use Rattle.pybuf_verbs_iters.specs.Iterators as iterators
+use Rattle.pybuf_verbs_edits.specs.Common.{with_bytes, is_itself}
+use Rattle.pybuf_verbs_edits.specs.Growing as growing
+use Rattle.pybuf_verbs_edits.specs.Shrinking as shrinking
+use Rattle.pybuf_verbs_edits.specs.Replacing as replacing
+use Rattle.pybuf_verbs_edits.specs.Edits.{edit_of_own}
 use Rattle.pybuf_bytes.specs.Options.{bytes_of_options}
 use Rattle.pybuf_exporter.specs.Step.{get_of_view, set_through_view, set_in_own, row_of_own, row_of_view, row, answer_by, estep, settled_answer}
 use Rattle.pybuf_exporter.specs.Laws.{StructErrorIsNeverReplied}

@@ -16,7 +16,7 @@ use Rattle.pybuf_command.specs.declared.commands.LocalReply.{LocalReply}
 use Rattle.pybuf_command.specs.declared.commands.LocalReply.TheVariants as reply
 use Rattle.pybuf_memoryview.specs.Items.{byte_item}
 use Rattle.pybuf_state.specs.Exporter.{Exporter, Iterator, iterator_put}
-use Rattle.pybuf_rows_iters.specs.Iterators.{item_over, moved_on, next_unless}
+use Rattle.pybuf_verbs_iters.specs.Iterators.{item_over, moved_on, next_unless}
 use Rattle.pybuf_exporter.specs.Step.{settled_answer, estep}
 use Rattle.pybuf_exporter.specs.Laws.{nexts, IteratorsGiveTheBytes}
 

@@ -42,20 +42,20 @@ use Rattle.pybuf_state.specs.Keeps.{is_vector}
 use Rattle.pybuf_state.specs.Resizing.{resizable}
 use Rattle.pybuf_state.specs.Snaps.{snap_of_exporter}
 use Rattle.pybuf_state.specs.Loans.{Lent, are_named, lents_by, names_of, snaps_of}
-use Rattle.pybuf_rows_views.specs.Cast.{layout_in_shape, column_layout_in}
-use Rattle.pybuf_rows_reads.specs.ToBytes.{is_column_order}
-use Rattle.pybuf_rows_views.specs.Range.{part_between}
-use Rattle.pybuf_rows_reads.specs.Get.{get_in_kind, byte_of_own, part_of_own, item_of_layout, item_of_view}
-use Rattle.pybuf_rows_reads.specs.Property.{property_of_own, property_of_layout, is_exports}
-use Rattle.pybuf_rows_compare.specs.Compare.{has_no_order_with, other_in}
-use Rattle.pybuf_rows_compare.specs.Repr.{shown_bytes}
-use Rattle.pybuf_rows_writes.specs.Set.{byte_set, set_of_own, set_target, set_of_view}
-use Rattle.pybuf_rows_writes.specs.Assign.{assign_target, source_in, has_form_of, assign_of_view}
-use Rattle.pybuf_rows_edits.specs.Common.{with_bytes, is_itself}
-use Rattle.pybuf_rows_edits.specs.Shrinking.{count_or_last, popped, removed, cleared, byte_deleted, deleted}
-use Rattle.pybuf_rows_edits.specs.Replacing.{slice_set, assign_of_own, initialized}
-use Rattle.pybuf_rows_edits.specs.Growing.{appended, inserted, repeated, repeated_unless_empty, extended, extended_or_doubled, multiplied, added}
-use Rattle.pybuf_rows_iters.specs.Iterators.{item_over, moved_on, next_unless, put_unless, iterator_over_bytes, row_of_iterator}
+use Rattle.pybuf_verbs_views.specs.Cast.{layout_in_shape, column_layout_in}
+use Rattle.pybuf_verbs_reads.specs.ToBytes.{is_column_order}
+use Rattle.pybuf_verbs_views.specs.Range.{part_between}
+use Rattle.pybuf_verbs_reads.specs.Get.{get_in_kind, byte_of_own, part_of_own, item_of_layout, item_of_view}
+use Rattle.pybuf_verbs_reads.specs.Property.{property_of_own, property_of_layout, is_exports}
+use Rattle.pybuf_verbs_compare.specs.Compare.{has_no_order_with, other_in}
+use Rattle.pybuf_verbs_compare.specs.Repr.{shown_bytes}
+use Rattle.pybuf_verbs_writes.specs.Set.{byte_set, set_of_own, set_target, set_of_view}
+use Rattle.pybuf_verbs_writes.specs.Assign.{assign_target, source_in, has_form_of, assign_of_view}
+use Rattle.pybuf_verbs_edits.specs.Common.{with_bytes, is_itself}
+use Rattle.pybuf_verbs_edits.specs.Shrinking.{count_or_last, popped, removed, cleared, byte_deleted, deleted}
+use Rattle.pybuf_verbs_edits.specs.Replacing.{slice_set, assign_of_own, initialized}
+use Rattle.pybuf_verbs_edits.specs.Growing.{appended, inserted, repeated, repeated_unless_empty, extended, extended_or_doubled, multiplied, added}
+use Rattle.pybuf_verbs_iters.specs.Iterators.{item_over, moved_on, next_unless, put_unless, iterator_over_bytes, row_of_iterator}
 use Rattle.pybuf_exporter.specs.Step.{get_of_view, set_through_view, set_in_own, row, row_of_own, row_of_view, settled_answer}
 use Rattle.pybuf_exporter.specs.Owning.{reply_owns, hands_over, OwningRepliesChangeNothing, TakenBytesAreAll, NextIsUndone, NoIteratorHasNoNext}
 

@@ -29,11 +29,11 @@ use Rattle.pybuf_state.specs.Laws.{ReadingKeeps}
 use Rattle.pybuf_state.specs.Loans.{Lent, is_named, are_known, given_loan, names_of, lent_as, subject_in, snap_in, lents_by, lent_for_each}
 use Rattle.pybuf_state.specs.Resizing.{resizable}
 use Rattle.pybuf_state.specs.Snaps.{snap_kind_of, snap_of_exporter, snap_of_view, iterator_snap}
-use Rattle.pybuf_rows_edits.specs.Common.{with_bytes, is_own, is_itself}
-use Rattle.pybuf_rows_edits.specs.Growing.{added, iadd_of_own}
-use Rattle.pybuf_rows_edits.specs.Edits.{edit_of_own, is_edit}
-use Rattle.pybuf_rows_edits.specs.Asking.{asks}
-use Rattle.pybuf_rows_edits.specs.Laws.{IsAsked, EditsAskBeforeTheyResize, IsAddedToItself, OnlyAddingItselfIsRefusedEarlier}
+use Rattle.pybuf_verbs_edits.specs.Common.{with_bytes, is_own, is_itself}
+use Rattle.pybuf_verbs_edits.specs.Growing.{added, iadd_of_own}
+use Rattle.pybuf_verbs_edits.specs.Edits.{edit_of_own, is_edit}
+use Rattle.pybuf_verbs_edits.specs.Asking.{asks}
+use Rattle.pybuf_verbs_edits.specs.Laws.{IsAsked, EditsAskBeforeTheyResize, IsAddedToItself, OnlyAddingItselfIsRefusedEarlier}
 use Rattle.pybuf_exporter.specs.Step.{row_of_own, answer_of, settled_answer, estep}
 use Rattle.pybuf_exporter.specs.Rows.{RowsAreSafe}
 use Rattle.pybuf_exporter.specs.Laws.{AddsItself, IsRefusedWhileExported, ResizingIsRefusedWhileExported, AddingItselfIsRefused, OnlyByteArraysAreAddedTo}

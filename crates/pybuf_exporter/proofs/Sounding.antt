@@ -15,8 +15,8 @@ use Rattle.pybuf_state.specs.Answers.{Answers}
 use Rattle.pybuf_state.specs.Keeps.{IsSafe, IsCarriedOut}
 use Rattle.pybuf_state.specs.Sound.{IsSoundExporter}
 use Rattle.pybuf_state.specs.Loans.{lent_as}
-use Rattle.pybuf_rows_writes.specs.Assign.{assign_of_lent}
-use Rattle.pybuf_rows_writes.specs.Laws.{AssignIsSafe}
+use Rattle.pybuf_verbs_writes.specs.Assign.{assign_of_lent}
+use Rattle.pybuf_verbs_writes.specs.Laws.{AssignIsSafe}
 
 carried_out : (old new : Exporter) (row : Result (Exporter × LocalReply) Fault) (r : LocalReply) → IsSafe old row → row ≡ Ok (new, r) → IsCarriedOut old (new, r)
 carried_out old new row r safe is = subst (λ (x : Result (Exporter × LocalReply) Fault). IfDone (IsCarriedOut old) x) is safe

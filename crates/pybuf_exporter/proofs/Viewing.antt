@@ -24,7 +24,7 @@ use Rattle.pybuf_memoryview.specs.Items.{item_by}
 use Rattle.pybuf_memoryview.specs.Lists.{items_of_layout}
 use Rattle.pybuf_state.specs.Exporter.{Exporter, View, Iterator, live_layout, iterator_put}
 use Rattle.pybuf_state.specs.Laws.{LiveLayoutsAreSound}
-use Rattle.pybuf_rows_iters.specs.Iterators.{item_at, entry_at, item_over, moved_on, next_unless}
+use Rattle.pybuf_verbs_iters.specs.Iterators.{item_at, entry_at, item_over, moved_on, next_unless}
 use Rattle.pybuf_exporter.specs.Step.{settled_answer}
 use Rattle.pybuf_exporter.specs.Laws.{nexts}
 use Rattle.pybuf_exporter.specs.Iterating.{IteratorsGiveTheItems, ReleasedViewsAreNotIterated, OtherShapesAreNotIterated, IteratorsStopPastTheEntries, ExhaustedIteratorsStop}

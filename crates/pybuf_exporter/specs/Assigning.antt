@@ -24,7 +24,7 @@ use Rattle.pybuf_state.specs.Loans.{snap_in}
 use Rattle.pybuf_state.specs.Snaps.{snap_of_exporter, snap_of_subject}
 use Rattle.pybuf_state.specs.Sound.{IsSoundExporter}
 use Rattle.pybuf_state.specs.Fits.{LoansFit}
-use Rattle.pybuf_rows_writes.specs.Laws.{AreOutside}
+use Rattle.pybuf_verbs_writes.specs.Laws.{AreOutside}
 use Rattle.pybuf_exporter.specs.Step.{estep}
 
 -- ---- items

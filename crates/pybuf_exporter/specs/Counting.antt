@@ -10,8 +10,8 @@ use Rattle.pybuf_command.specs.declared.commands.LocalCommand.{LocalCommand}
 use Rattle.pybuf_command.specs.Handles.{handles_read}
 use Rattle.pybuf_state.specs.Exporter.{Exporter}
 use Rattle.pybuf_state.specs.Loans.{Lent, lent_for_each}
-use Rattle.pybuf_rows_edits.specs.Counting.{taken_places, TakesFirst, grows_at_end, can_leave_length}
-use Rattle.pybuf_rows_edits.specs.Edits.{is_edit}
+use Rattle.pybuf_verbs_edits.specs.Counting.{taken_places, TakesFirst, grows_at_end, can_leave_length}
+use Rattle.pybuf_verbs_edits.specs.Edits.{is_edit}
 use Rattle.pybuf_exporter.specs.Step.{answer_of}
 use Rattle.pybuf_exporter.specs.Stored.{StoredExporter}
 

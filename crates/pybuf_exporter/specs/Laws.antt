@@ -30,8 +30,8 @@ use Rattle.pybuf_state.specs.Spaced.{IsSpaced}
 use Rattle.pybuf_state.specs.Fresh.{IsCopyOf}
 use Rattle.pybuf_state.specs.Keeps.{LengthsStay, ReadOnlyBytesStay, IteratorsStay, is_one_line}
 use Rattle.pybuf_state.specs.Resizing.{has_exports}
-use Rattle.pybuf_rows_edits.specs.Edits.{is_edit}
-use Rattle.pybuf_rows_edits.specs.Asking.{asks}
+use Rattle.pybuf_verbs_edits.specs.Edits.{is_edit}
+use Rattle.pybuf_verbs_edits.specs.Asking.{asks}
 use Rattle.pybuf_exporter.specs.Step.{estep, estep_by, reads_in_place}
 
 -- each command leaves a sound exporter sound

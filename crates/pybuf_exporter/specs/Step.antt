@@ -14,28 +14,28 @@ use Rattle.pybuf_command.specs.declared.loans.Loan.{Loan}
 use Rattle.pybuf_command.specs.Handles.{handles_of, handles_read}
 use Rattle.pybuf_state.specs.Exporter.{Exporter}
 use Rattle.pybuf_state.specs.Loans.{Lent, are_named, lents_by, names_of, snaps_of}
-use Rattle.pybuf_rows_views.specs.View.{view_of_own, view_of_view}
-use Rattle.pybuf_rows_views.specs.Range.{range_of_own}
-use Rattle.pybuf_rows_views.specs.Slice.{slice_of_view}
-use Rattle.pybuf_rows_views.specs.Cast.{cast_of_view, column_cast_of_view}
-use Rattle.pybuf_rows_views.specs.Release.{release_of_view}
-use Rattle.pybuf_rows_views.specs.Enter.{enter_of_view}
-use Rattle.pybuf_rows_views.specs.Contiguous.{contiguous_of_view}
-use Rattle.pybuf_rows_views.specs.ToReadonly.{toreadonly_of_view}
-use Rattle.pybuf_rows_reads.specs.Get.{get_of_own, item_of_view}
-use Rattle.pybuf_rows_reads.specs.ToBytes.{bytes_of_own, bytes_of_view}
-use Rattle.pybuf_rows_reads.specs.Len.{len_of_own, len_of_view}
-use Rattle.pybuf_rows_reads.specs.Property.{property_of_own, property_of_view}
-use Rattle.pybuf_rows_reads.specs.ToList.{list_of_view}
-use Rattle.pybuf_rows_compare.specs.Compare.{compare_of_own, compare_of_view}
-use Rattle.pybuf_rows_compare.specs.Hash.{hash_of_own, hash_of_view}
-use Rattle.pybuf_rows_compare.specs.Repr.{repr_of_own, repr_of_view}
-use Rattle.pybuf_rows_writes.specs.Set.{set_of_own, set_of_view}
-use Rattle.pybuf_rows_writes.specs.Assign.{assign_of_view}
-use Rattle.pybuf_rows_methods.specs.Calls.{call_of_own, contains_of_own, hex_of_view}
-use Rattle.pybuf_rows_iters.specs.Iterators.{iter_of_own, iter_of_view, row_of_iterator}
-use Rattle.pybuf_rows_edits.specs.Shrinking.{delete_of_view}
-use Rattle.pybuf_rows_edits.specs.Edits.{edit_of_own}
+use Rattle.pybuf_verbs_views.specs.View.{view_of_own, view_of_view}
+use Rattle.pybuf_verbs_views.specs.Range.{range_of_own}
+use Rattle.pybuf_verbs_views.specs.Slice.{slice_of_view}
+use Rattle.pybuf_verbs_views.specs.Cast.{cast_of_view, column_cast_of_view}
+use Rattle.pybuf_verbs_views.specs.Release.{release_of_view}
+use Rattle.pybuf_verbs_views.specs.Enter.{enter_of_view}
+use Rattle.pybuf_verbs_views.specs.Contiguous.{contiguous_of_view}
+use Rattle.pybuf_verbs_views.specs.ToReadonly.{toreadonly_of_view}
+use Rattle.pybuf_verbs_reads.specs.Get.{get_of_own, item_of_view}
+use Rattle.pybuf_verbs_reads.specs.ToBytes.{bytes_of_own, bytes_of_view}
+use Rattle.pybuf_verbs_reads.specs.Len.{len_of_own, len_of_view}
+use Rattle.pybuf_verbs_reads.specs.Property.{property_of_own, property_of_view}
+use Rattle.pybuf_verbs_reads.specs.ToList.{list_of_view}
+use Rattle.pybuf_verbs_compare.specs.Compare.{compare_of_own, compare_of_view}
+use Rattle.pybuf_verbs_compare.specs.Hash.{hash_of_own, hash_of_view}
+use Rattle.pybuf_verbs_compare.specs.Repr.{repr_of_own, repr_of_view}
+use Rattle.pybuf_verbs_writes.specs.Set.{set_of_own, set_of_view}
+use Rattle.pybuf_verbs_writes.specs.Assign.{assign_of_view}
+use Rattle.pybuf_verbs_methods.specs.Calls.{call_of_own, contains_of_own, hex_of_view}
+use Rattle.pybuf_verbs_iters.specs.Iterators.{iter_of_own, iter_of_view, row_of_iterator}
+use Rattle.pybuf_verbs_edits.specs.Shrinking.{delete_of_view}
+use Rattle.pybuf_verbs_edits.specs.Edits.{edit_of_own}
 
 -- of a view by a key: a new view of the items that a slice picks, or the item that any other key names
 abbrev pub get_of_view : Exporter → ℕ → Value → Result (Exporter × LocalReply) Fault

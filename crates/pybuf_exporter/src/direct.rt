@@ -13,11 +13,11 @@ ghost use Rattle.pybuf_exporter.specs.Step as spec;
 
 use crate::uncounted::pop as pop_of_own;
 use pybuf_command::{LoanList, LocalReply};
-use pybuf_rows_reads::get;
-use pybuf_rows_views::{cast, release, slice, view};
-use pybuf_rows_writes::{assign, set};
 use pybuf_state::{Names, Parts, is_option_known, is_value_known};
 use pybuf_value::{Fault, Halt, Value};
+use pybuf_verbs_reads::get;
+use pybuf_verbs_views::{cast, release, slice, view};
+use pybuf_verbs_writes::{assign, set};
 
 /// `get` of a view: a new view of the items that a slice picks, or the item that any other key names.
 fn row_of_get(parts: &mut Parts, view: usize, key: &Value) -> Result<LocalReply, Halt>

@@ -8,7 +8,6 @@ use crate::uncounted::{answer, append, step as step_uncounted};
 use pybuf_command::{ExporterKind, LoanList, LocalCommand, LocalReply, Subject, Verb};
 use pybuf_desc::BufferDescriptor;
 use pybuf_memoryview::KeptLayout;
-use pybuf_rows_views::release;
 use pybuf_state::{
     Names, Other, Parts, Store, content_of_subject, copies_are_faithful, exporter_of_copy,
     is_value_known, kind_of_subject, new_views_are_sound, run_of_subject, snap_of_subject,
@@ -16,6 +15,7 @@ use pybuf_state::{
 use pybuf_value::{
     ByteList, Fault, Halt, Lent, Made, NoMemory, Snap, SnapKind, Twin, Value, copy_all,
 };
+use pybuf_verbs_views::release;
 use std::alloc::Global;
 use std::marker::Model;
 

@@ -12,32 +12,32 @@ ghost use Rattle.pybuf_exporter.specs.Counting.{QueuesMoveFewBytes};
 fn rows_are_safe()
     ensures { RowsAreSafe }
 {
-    pybuf_rows_views::view_is_safe();
-    pybuf_rows_views::range_is_safe();
-    pybuf_rows_views::slice_is_safe();
-    pybuf_rows_views::cast_is_safe();
-    pybuf_rows_views::column_cast_is_safe();
-    pybuf_rows_views::release_is_safe();
-    pybuf_rows_views::enter_is_safe();
-    pybuf_rows_views::contiguous_is_copied();
-    pybuf_rows_views::toreadonly_is_safe();
-    pybuf_rows_reads::get_is_safe();
-    pybuf_rows_reads::bytes_is_safe();
-    pybuf_rows_reads::len_is_safe();
-    pybuf_rows_reads::property_is_safe();
-    pybuf_rows_reads::tolist_is_safe();
-    pybuf_rows_writes::set_is_safe();
-    pybuf_rows_writes::assign_is_safe();
-    pybuf_rows_edits::edits_are_safe();
-    pybuf_rows_edits::delete_of_view_is_safe();
-    pybuf_rows_compare::compare_is_safe();
-    pybuf_rows_compare::hash_is_safe();
-    pybuf_rows_compare::repr_is_safe();
-    pybuf_rows_methods::call_is_safe();
-    pybuf_rows_methods::contains_is_safe();
-    pybuf_rows_methods::hex_is_safe();
-    pybuf_rows_iters::iter_is_safe();
-    pybuf_rows_iters::iterators_are_safe();
+    pybuf_verbs_views::view_is_safe();
+    pybuf_verbs_views::range_is_safe();
+    pybuf_verbs_views::slice_is_safe();
+    pybuf_verbs_views::cast_is_safe();
+    pybuf_verbs_views::column_cast_is_safe();
+    pybuf_verbs_views::release_is_safe();
+    pybuf_verbs_views::enter_is_safe();
+    pybuf_verbs_views::contiguous_is_copied();
+    pybuf_verbs_views::toreadonly_is_safe();
+    pybuf_verbs_reads::get_is_safe();
+    pybuf_verbs_reads::bytes_is_safe();
+    pybuf_verbs_reads::len_is_safe();
+    pybuf_verbs_reads::property_is_safe();
+    pybuf_verbs_reads::tolist_is_safe();
+    pybuf_verbs_writes::set_is_safe();
+    pybuf_verbs_writes::assign_is_safe();
+    pybuf_verbs_edits::edits_are_safe();
+    pybuf_verbs_edits::delete_of_view_is_safe();
+    pybuf_verbs_compare::compare_is_safe();
+    pybuf_verbs_compare::hash_is_safe();
+    pybuf_verbs_compare::repr_is_safe();
+    pybuf_verbs_methods::call_is_safe();
+    pybuf_verbs_methods::contains_is_safe();
+    pybuf_verbs_methods::hex_is_safe();
+    pybuf_verbs_iters::iter_is_safe();
+    pybuf_verbs_iters::iterators_are_safe();
 }
 
 /// Every command leaves a sound exporter sound, whatever its handles are lent as.
@@ -166,8 +166,8 @@ pub fn resizing_is_refused_while_exported()
 {
     rows_are_safe();
     pybuf_state::reading_keeps();
-    pybuf_rows_edits::edits_ask_before_they_resize();
-    pybuf_rows_edits::only_adding_itself_is_refused_earlier();
+    pybuf_verbs_edits::edits_ask_before_they_resize();
+    pybuf_verbs_edits::only_adding_itself_is_refused_earlier();
 }
 
 /// A bytearray that is added to itself by `iadd` is refused with `BufferError`, whether a view is unreleased or not, and
@@ -200,7 +200,7 @@ pub fn snaps_hold_the_items()
 {
     pybuf_state::live_layouts_are_sound();
     pybuf_memoryview::contents_are_whole();
-    pybuf_rows_writes::contents_hold_the_items();
+    pybuf_verbs_writes::contents_hold_the_items();
 }
 
 /// `set` of a view by a slice, where it isn't refused, is by value: where no two items of the target share a byte, item
@@ -213,8 +213,8 @@ pub fn steps_assign_by_value()
     snaps_hold_the_items();
     pybuf_state::live_layouts_are_sound();
     pybuf_state::subjects_fit();
-    pybuf_rows_writes::assign_is_safe();
-    pybuf_rows_writes::assignments_are_by_value();
+    pybuf_verbs_writes::assign_is_safe();
+    pybuf_verbs_writes::assignments_are_by_value();
 }
 
 /// `castf` of a view, where it isn't refused, makes one whose bytes in column order, as `bytes 'F'` and `bytes 'A'` reply
@@ -225,7 +225,7 @@ pub fn column_casts_give_the_bytes_back()
     pybuf_desc::no_items_are_no_columns();
     pybuf_state::live_layouts_are_sound();
     commands_keep_sound();
-    pybuf_rows_views::column_casts_hold_the_bytes();
+    pybuf_verbs_views::column_casts_hold_the_bytes();
 }
 
 /// The bytes of an unreleased view of a sound exporter in column order are those row by row in another order: there are
@@ -236,7 +236,7 @@ pub fn orders_hold_the_same_items()
     pybuf_desc::columns_stay_inside();
     pybuf_memoryview::contents_are_whole();
     pybuf_state::live_layouts_are_sound();
-    pybuf_rows_writes::contents_hold_the_items();
+    pybuf_verbs_writes::contents_hold_the_items();
 }
 
 /// Where no two items of any view of an exporter share a byte, that is so after every command.

@@ -30,9 +30,9 @@ pub use pybuf_desc::{
     casts_share_their_bytes, contiguity_is_of_strides, shaped_casts_share_their_bytes,
     slicing_back_twice_is_nothing,
 };
-pub use pybuf_rows_compare::equal_views_hash_alike;
-pub use pybuf_rows_methods::{lents_are_paired, names_are_found};
-pub use pybuf_rows_reads::lists_hold_the_items;
-pub use pybuf_rows_views::casts_are_of_bytes;
-pub use pybuf_rows_writes::{assignments_are_by_value, writes_are_seen};
 pub use pybuf_state::copies_are_faithful;
+pub use pybuf_verbs_compare::equal_views_hash_alike;
+pub use pybuf_verbs_methods::{lents_are_paired, names_are_found};
+pub use pybuf_verbs_reads::lists_hold_the_items;
+pub use pybuf_verbs_views::casts_are_of_bytes;
+pub use pybuf_verbs_writes::{assignments_are_by_value, writes_are_seen};

@@ -6,21 +6,21 @@ ghost use Rattle.pybuf_state.specs.Exporter.{exports_of};
 ghost use Rattle.pybuf_state.specs.Loans.{lents_by};
 ghost use Rattle.pybuf_state.specs.Answers.{exporter_of, IsWhole, Answers};
 ghost use Rattle.pybuf_slice.specs.FrontContent.{IsSpare};
-ghost use Rattle.pybuf_rows_edits.specs.Counting.{TakesFirst, taken_places, grows_at_end, can_leave_length};
-ghost use Rattle.pybuf_rows_edits.specs.Edits.{is_edit};
+ghost use Rattle.pybuf_verbs_edits.specs.Counting.{TakesFirst, taken_places, grows_at_end, can_leave_length};
+ghost use Rattle.pybuf_verbs_edits.specs.Edits.{is_edit};
 ghost use Rattle.pybuf_exporter.specs.Counting.{taken_by, grows_by, leaves_by, edits_by};
 ghost use Rattle.pybuf_exporter.specs.Step as spec;
 
 use pybuf_command::{LocalReply, Subject, Verb, handles_of, handles_read};
-use pybuf_rows_compare::{compare, hash, repr};
-use pybuf_rows_edits::{delete_of_view, edit_of_own};
-use pybuf_rows_iters::{making, stepping};
-use pybuf_rows_methods::{Reading, call, contains, hex};
-use pybuf_rows_reads::{get, len, property, to_bytes, to_list};
-use pybuf_rows_views::{cast, contiguous, enter, range, release, slice, to_readonly, view};
-use pybuf_rows_writes::{assign, set};
 use pybuf_state::{Names, Parts, are_known};
 use pybuf_value::{Fault, Halt, Steps, Value};
+use pybuf_verbs_compare::{compare, hash, repr};
+use pybuf_verbs_edits::{delete_of_view, edit_of_own};
+use pybuf_verbs_iters::{making, stepping};
+use pybuf_verbs_methods::{Reading, call, contains, hex};
+use pybuf_verbs_reads::{get, len, property, to_bytes, to_list};
+use pybuf_verbs_views::{cast, contiguous, enter, range, release, slice, to_readonly, view};
+use pybuf_verbs_writes::{assign, set};
 use std::sync::ledger::Ledger;
 
 /// Whether a verb is an edit.

@@ -9,23 +9,23 @@ ghost use Rattle.pybuf_command.specs.declared.commands.LocalReply.TheVariants as
 ghost use Rattle.pybuf_command.specs.declared.commands.PropertyName.TheVariants as names;
 ghost use Rattle.pybuf_state.specs.Answers.{Answers, Reads};
 ghost use Rattle.pybuf_state.specs.Snaps.{snap_of_subject};
-ghost use Rattle.pybuf_rows_views.specs.View.{view_of_own};
-ghost use Rattle.pybuf_rows_views.specs.Slice.{slice_of_view};
-ghost use Rattle.pybuf_rows_views.specs.Cast.{cast_of_view};
-ghost use Rattle.pybuf_rows_reads.specs.Get.{item_of_view};
-ghost use Rattle.pybuf_rows_reads.specs.ToBytes.{bytes_of_view};
-ghost use Rattle.pybuf_rows_reads.specs.Property.{property_of_view};
-ghost use Rattle.pybuf_rows_writes.specs.Assign.{assign_of_view, assign_of_lent};
+ghost use Rattle.pybuf_verbs_views.specs.View.{view_of_own};
+ghost use Rattle.pybuf_verbs_views.specs.Slice.{slice_of_view};
+ghost use Rattle.pybuf_verbs_views.specs.Cast.{cast_of_view};
+ghost use Rattle.pybuf_verbs_reads.specs.Get.{item_of_view};
+ghost use Rattle.pybuf_verbs_reads.specs.ToBytes.{bytes_of_view};
+ghost use Rattle.pybuf_verbs_reads.specs.Property.{property_of_view};
+ghost use Rattle.pybuf_verbs_writes.specs.Assign.{assign_of_view, assign_of_lent};
 ghost use Rattle.pybuf_command.specs.declared.commands.Verb.TheVariants as verbs;
 ghost use Rattle.pybuf_exporter.specs.Step.{estep};
 ghost use Rattle.pybuf_exporter.specs.Telling.{TellsRefusal};
 
 use crate::exporter::ExporterState;
 use pybuf_command::{LoanList, LocalReply};
-use pybuf_rows_reads::{get, property, to_bytes};
-use pybuf_rows_views::{cast, slice, view};
-use pybuf_rows_writes::assign;
 use pybuf_value::{Halt, Item, PySlice, Scalar, Value};
+use pybuf_verbs_reads::{get, property, to_bytes};
+use pybuf_verbs_views::{cast, slice, view};
+use pybuf_verbs_writes::assign;
 
 impl ExporterState {
     /// One more view, of all bytes. The answer is its number. Never refused.
@@ -33,7 +33,7 @@ impl ExporterState {
         ensures answer { Answers (view_of_own self.old.exporter) self.old.exporter (result_map_both replies.View (λ halt. halt) result) self.new.exporter }
         ensures room { self.new.room ≡ self.old.room }
     {
-        pybuf_rows_views::view_is_safe();
+        pybuf_verbs_views::view_is_safe();
         view::add_whole(&mut self.parts)
     }
 
@@ -42,7 +42,7 @@ impl ExporterState {
         ensures answer { Answers (slice_of_view self.old.exporter view slice.now) self.old.exporter (result_map_both replies.View (λ halt. halt) result) self.new.exporter }
         ensures room { self.new.room ≡ self.old.room }
     {
-        pybuf_rows_views::slice_is_safe();
+        pybuf_verbs_views::slice_is_safe();
         slice::add(&mut self.parts, view, slice)
     }
 
@@ -51,7 +51,7 @@ impl ExporterState {
         ensures answer { Answers (cast_of_view self.old.exporter view (values.One (scalars.Text format.now)) None) self.old.exporter (result_map_both replies.View (λ halt. halt) result) self.new.exporter }
         ensures room { self.new.room ≡ self.old.room }
     {
-        pybuf_rows_views::cast_is_safe();
+        pybuf_verbs_views::cast_is_safe();
         cast::add_flat(&mut self.parts, view, format)
     }
 
@@ -65,7 +65,7 @@ impl ExporterState {
         ensures answer { Answers (cast_of_view self.old.exporter view (values.One (scalars.Text format.now)) (Some (values.Tuple (map (λ n. scalars.Int (pos n)) shape.now)))) self.old.exporter (result_map_both replies.View (λ halt. halt) result) self.new.exporter }
         ensures room { self.new.room ≡ self.old.room }
     {
-        pybuf_rows_views::cast_is_safe();
+        pybuf_verbs_views::cast_is_safe();
         cast::add_shaped(&mut self.parts, view, format, shape)
     }
 
@@ -116,7 +116,7 @@ impl ExporterState {
         ensures answer { Answers (assign_of_view self.old.exporter view slice.now (values.One (scalars.Bytes bytes.now)) []) self.old.exporter (result_map_both (λ _. replies.Ok) (λ halt. halt) result) self.new.exporter }
         ensures room { self.new.room ≡ self.old.room }
     {
-        pybuf_rows_writes::assign_is_safe();
+        pybuf_verbs_writes::assign_is_safe();
         assign::put_bytes(&mut self.parts, view, slice, bytes)
     }
 
@@ -132,7 +132,7 @@ impl ExporterState {
         ensures answer { Answers (assign_of_lent self.old.exporter view slice.now (snap_of_subject lender.now.exporter (subjects.View source))) self.old.exporter (result_map_both (λ _. replies.Ok) (λ halt. halt) result) self.new.exporter }
         ensures room { self.new.room ≡ self.old.room }
     {
-        pybuf_rows_writes::assign_is_safe();
+        pybuf_verbs_writes::assign_is_safe();
         assign::put_from(&mut self.parts, view, slice, &lender.parts, source)
     }
 
@@ -141,7 +141,7 @@ impl ExporterState {
         ensures answer { Answers (assign_of_lent self.old.exporter view slice.now (snap_of_subject self.old.exporter (subjects.View source))) self.old.exporter (result_map_both (λ _. replies.Ok) (λ halt. halt) result) self.new.exporter }
         ensures room { self.new.room ≡ self.old.room }
     {
-        pybuf_rows_writes::assign_is_safe();
+        pybuf_verbs_writes::assign_is_safe();
         assign::put_within(&mut self.parts, view, slice, source)
     }
 }

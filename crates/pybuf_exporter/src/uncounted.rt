@@ -6,15 +6,15 @@ ghost use Rattle.pybuf_state.specs.Fits.{LoansFit};
 ghost use Rattle.pybuf_exporter.specs.Step as spec;
 ghost use Rattle.pybuf_exporter.specs.Counting.{edits_by};
 ghost use Rattle.pybuf_exporter.specs.Stored.{stored_of};
-ghost use Rattle.pybuf_rows_edits.specs.Growing as growing;
-ghost use Rattle.pybuf_rows_edits.specs.Shrinking as shrinking;
+ghost use Rattle.pybuf_verbs_edits.specs.Growing as growing;
+ghost use Rattle.pybuf_verbs_edits.specs.Shrinking as shrinking;
 
 use crate::counted::step_of_parts;
 use crate::pick;
 use pybuf_command::{LocalCommand, LocalReply, Subject, Verb};
-use pybuf_rows_edits::{append as append_of_own, pop as pop_of_own};
 use pybuf_state::{Names, Parts};
 use pybuf_value::{Halt, Made, Steps, Value};
+use pybuf_verbs_edits::{append as append_of_own, pop as pop_of_own};
 use std::marker::Brand;
 use std::sync::ledger::{Blank, Ledger};
 

@@ -15,14 +15,14 @@ use Rattle.pybuf_command.specs.declared.commands.PropertyName.TheVariants as nam
 use Rattle.pybuf_command.specs.declared.commands.LocalReply.{LocalReply}
 use Rattle.pybuf_state.specs.Exporter.{Exporter}
 use Rattle.pybuf_state.specs.Loans.{loan_of_snap}
-use Rattle.pybuf_rows_views.specs.View.{view_of_own}
-use Rattle.pybuf_rows_views.specs.Slice.{slice_of_view}
-use Rattle.pybuf_rows_views.specs.Cast.{cast_of_view}
-use Rattle.pybuf_rows_views.specs.Release.{release_of_view}
-use Rattle.pybuf_rows_reads.specs.Get.{item_of_view}
-use Rattle.pybuf_rows_reads.specs.ToBytes.{bytes_of_view}
-use Rattle.pybuf_rows_reads.specs.Property.{property_of_view}
-use Rattle.pybuf_rows_writes.specs.Assign.{assign_of_view, assign_of_lent}
+use Rattle.pybuf_verbs_views.specs.View.{view_of_own}
+use Rattle.pybuf_verbs_views.specs.Slice.{slice_of_view}
+use Rattle.pybuf_verbs_views.specs.Cast.{cast_of_view}
+use Rattle.pybuf_verbs_views.specs.Release.{release_of_view}
+use Rattle.pybuf_verbs_reads.specs.Get.{item_of_view}
+use Rattle.pybuf_verbs_reads.specs.ToBytes.{bytes_of_view}
+use Rattle.pybuf_verbs_reads.specs.Property.{property_of_view}
+use Rattle.pybuf_verbs_writes.specs.Assign.{assign_of_view, assign_of_lent}
 use Rattle.pybuf_exporter.specs.Step.{estep, settled_answer}
 
 -- what a row says is what the command does that is told to this subject, with no loans

@@ -9,17 +9,17 @@ ghost use Rattle.pybuf_command.specs.declared.commands.LocalReply.TheVariants as
 ghost use Rattle.pybuf_command.specs.declared.commands.PropertyName.TheVariants as names;
 ghost use Rattle.pybuf_state.specs.Answers.{Answers, Reads};
 ghost use Rattle.pybuf_state.specs.Snaps.{snap_of_subject};
-ghost use Rattle.pybuf_rows_views.specs.View.{view_of_own};
-ghost use Rattle.pybuf_rows_views.specs.Slice.{slice_of_view};
-ghost use Rattle.pybuf_rows_views.specs.Cast.{cast_of_view};
-ghost use Rattle.pybuf_rows_views.specs.Release.{release_of_view};
-ghost use Rattle.pybuf_rows_reads.specs.Get.{item_of_view};
-ghost use Rattle.pybuf_rows_reads.specs.ToBytes.{bytes_of_view};
-ghost use Rattle.pybuf_rows_reads.specs.Property.{property_of_view};
+ghost use Rattle.pybuf_verbs_views.specs.View.{view_of_own};
+ghost use Rattle.pybuf_verbs_views.specs.Slice.{slice_of_view};
+ghost use Rattle.pybuf_verbs_views.specs.Cast.{cast_of_view};
+ghost use Rattle.pybuf_verbs_views.specs.Release.{release_of_view};
+ghost use Rattle.pybuf_verbs_reads.specs.Get.{item_of_view};
+ghost use Rattle.pybuf_verbs_reads.specs.ToBytes.{bytes_of_view};
+ghost use Rattle.pybuf_verbs_reads.specs.Property.{property_of_view};
 ghost use Rattle.pybuf_command.specs.declared.commands.Verb.TheVariants as verbs;
 ghost use Rattle.pybuf_exporter.specs.Step.{estep};
 ghost use Rattle.pybuf_exporter.specs.Telling.{TellsRefusal};
-ghost use Rattle.pybuf_rows_writes.specs.Assign.{assign_of_view, assign_of_lent};
+ghost use Rattle.pybuf_verbs_writes.specs.Assign.{assign_of_view, assign_of_lent};
 
 use crate::memory_view::PyMemoryView;
 use pybuf_exporter::ExporterState;

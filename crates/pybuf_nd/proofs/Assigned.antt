@@ -11,7 +11,7 @@ use Rattle.pybuf_desc.specs.Places.{places, Stands}
 use Rattle.pybuf_desc.specs.Valid.{IsInside, IsValid}
 use Rattle.pybuf_memoryview.specs.Orders.{nbytes_of}
 use Rattle.pybuf_state.specs.Exporter.{Exporter}
-use Rattle.pybuf_rows_writes.specs.Laid.{laid}
+use Rattle.pybuf_verbs_writes.specs.Laid.{laid}
 use Rattle.pybuf_nd.specs.Assigning.{bytes_assigned}
 use Rattle.pybuf_nd.proofs.LaidItems.{Entered, Inside}
 

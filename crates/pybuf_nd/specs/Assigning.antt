@@ -6,7 +6,7 @@ use Rattle.pybuf_value.specs.Refusing.{◌>>=◌, unless}
 use Rattle.pybuf_desc.specs.Layouts.{Layout}
 use Rattle.pybuf_memoryview.specs.Orders.{nbytes_of}
 use Rattle.pybuf_state.specs.Exporter.{Exporter}
-use Rattle.pybuf_rows_writes.specs.Laid.{laid}
+use Rattle.pybuf_verbs_writes.specs.Laid.{laid}
 
 -- The exporter with the bytes over those of the view's items, in order. Refused where the view can only be
 -- read, and then where its items have another number of bytes.

@@ -5,7 +5,7 @@ ghost use Rattle.pybuf_command.specs.Kinds.{holds_readonly};
 ghost use Rattle.pybuf_desc.specs.Places.{places};
 ghost use Rattle.pybuf_desc.specs.Valid.{IsInside};
 ghost use Rattle.pybuf_state.specs.Live.{is_live, layout_of};
-ghost use Rattle.pybuf_rows_writes.specs.Laid.{laid};
+ghost use Rattle.pybuf_verbs_writes.specs.Laid.{laid};
 ghost use Rattle.pybuf_nd.specs.Assigning.{bytes_assigned};
 
 use crate::laying::lay_dims;

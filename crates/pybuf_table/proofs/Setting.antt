@@ -29,8 +29,8 @@ use Rattle.pybuf_memoryview.specs.Sized.{is_sized, is_size_of}
 use Rattle.pybuf_state.specs.Exporter.{Exporter, live_layout}
 use Rattle.pybuf_state.specs.Loans.{Lent, are_named, lents_by, names_of, snaps_of}
 use Rattle.pybuf_state.specs.Laws.{IsSoundLayout, LiveLayoutsAreSound}
-use Rattle.pybuf_rows_writes.specs.Laid.{bytes_with}
-use Rattle.pybuf_rows_writes.specs.Set.{item_set, set_of_view}
+use Rattle.pybuf_verbs_writes.specs.Laid.{bytes_with}
+use Rattle.pybuf_verbs_writes.specs.Set.{item_set, set_of_view}
 use Rattle.pybuf_exporter.specs.Step.{set_through_view, settled_answer}
 use Rattle.pybuf_table.specs.Records.{RecordFormat}
 use Rattle.pybuf_table.specs.FieldViews.{field_layout, view_of_field}

@@ -13,7 +13,7 @@ use Rattle.pybuf_desc.specs.Items.{bytes_at}
 use Rattle.pybuf_desc.specs.Slices.{slice_of, block_at, first_entry}
 use Rattle.pybuf_index.specs.Parts.{SliceParts, picks_of}
 use Rattle.pybuf_state.specs.Exporter.{Exporter}
-use Rattle.pybuf_rows_writes.specs.Laws.{AreOutside}
+use Rattle.pybuf_verbs_writes.specs.Laws.{AreOutside}
 use Rattle.pybuf_exporter.specs.Assigning.{IsAssignedByValue, StepsAssignByValue}
 use Rattle.pybuf_table.specs.Records.{RecordFormat}
 use Rattle.pybuf_table.specs.FieldViews.{view_of_field}

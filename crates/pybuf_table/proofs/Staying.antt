@@ -5,7 +5,7 @@ use Rattle.std.proofs.lemmas.List.{drop-drop, drop-take, take-take, take_at, dro
 use Rattle.pybuf_struct.specs.Formats.{Field}
 use Rattle.pybuf_struct.specs.Laws.{Spread}
 use Rattle.pybuf_desc.specs.Items.{bytes_at}
-use Rattle.pybuf_rows_writes.specs.Laid.{bytes_with}
+use Rattle.pybuf_verbs_writes.specs.Laid.{bytes_with}
 
 -- ---- bytes
 

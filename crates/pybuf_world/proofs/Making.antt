@@ -17,7 +17,7 @@ use Rattle.pybuf_bytes.specs.Options.{bytes_of_source, text_given, bytes_by, byt
 use Rattle.pybuf_command.specs.declared.kinds.ExporterKind.{ExporterKind}
 use Rattle.pybuf_command.specs.Handles.{source_alone as handle_by, handle_alone, handles_in_option, handles_of_options}
 use Rattle.pybuf_command.specs.declared.worlds.Reply.TheVariants as reply
-use Rattle.pybuf_rows_methods.specs.Names.{paired}
+use Rattle.pybuf_verbs_methods.specs.Names.{paired}
 use Rattle.pybuf_world.specs.World.{World, snap_for, pairs_of, bytes_of_new, world_with_bytes, are_given}
 use Rattle.pybuf_world.specs.Laws.{IsNewMade, NewExportersStandBehind, UnknownSourcesAreRefused}
 

@@ -8,7 +8,7 @@ use Rattle.std.specs.Option.{ok_or}
 use Rattle.pybuf_value.specs.Refusing.{◌>>=◌}
 use Rattle.pybuf_command.specs.declared.kinds.Subject.TheVariants as subject
 use Rattle.pybuf_state.specs.Exporter.{Exporter, View, has_subject, released_at, released_in}
-use Rattle.pybuf_rows_views.specs.Laws.{ReleasingTwiceIsOnce}
+use Rattle.pybuf_verbs_views.specs.Laws.{ReleasingTwiceIsOnce}
 use Rattle.pybuf_world.specs.declared.named.Named.{Named}
 use Rattle.pybuf_world.specs.declared.named.Named.TheVariants as named
 use Rattle.pybuf_world.specs.World.{World, world_with_released, released_in_exporter, released_by_name, released_by, is_name_of_view}

@@ -20,7 +20,7 @@ use Rattle.pybuf_state.specs.Exporter.{Exporter, View, new_exporter, has_subject
 use Rattle.pybuf_state.specs.Keeps.{IsSafe}
 use Rattle.pybuf_state.specs.Sound.{IsSoundView, IsSoundExporter}
 use Rattle.pybuf_state.specs.Spaced.{IsSpaced}
-use Rattle.pybuf_rows_views.specs.Laws.{ReleaseIsSafe}
+use Rattle.pybuf_verbs_views.specs.Laws.{ReleaseIsSafe}
 use Rattle.pybuf_exporter.specs.Step.{estep}
 use Rattle.pybuf_state.specs.Fresh.{is_readonly_subject, made_by_kind, made_of}
 use Rattle.pybuf_exporter.specs.Laws.{NamesItsOwn}

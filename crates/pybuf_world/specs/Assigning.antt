@@ -18,7 +18,7 @@ use Rattle.pybuf_command.specs.declared.worlds.Reply.TheVariants as reply
 use Rattle.pybuf_state.specs.Exporter.{Exporter, new_exporter, live_layout}
 use Rattle.pybuf_state.specs.Fits.{LoansFit}
 use Rattle.pybuf_state.specs.Snaps.{snap_of_exporter}
-use Rattle.pybuf_rows_writes.specs.Laws.{AreOutside}
+use Rattle.pybuf_verbs_writes.specs.Laws.{AreOutside}
 use Rattle.pybuf_exporter.specs.Assigning.{item_in, item_of_subject}
 use Rattle.pybuf_world.specs.declared.named.Named.{Named}
 use Rattle.pybuf_world.specs.declared.named.Named.TheVariants as named

@@ -21,7 +21,7 @@ use Rattle.pybuf_state.specs.Fresh.{is_readonly_subject, made_of}
 use Rattle.pybuf_state.specs.Loans.{loan_of_snap}
 use Rattle.pybuf_state.specs.Names.{loan_of_own}
 use Rattle.pybuf_state.specs.Snaps.{snap_of_subject}
-use Rattle.pybuf_rows_methods.specs.Names.{all_paired}
+use Rattle.pybuf_verbs_methods.specs.Names.{all_paired}
 use Rattle.pybuf_exporter.specs.Step.{estep}
 use Rattle.pybuf_world.specs.declared.named.Named.{Named}
 use Rattle.pybuf_world.specs.declared.named.Named.TheVariants as named

@@ -1,5 +1,5 @@
 //! Laws over every command on a world, from the laws over every command on one exporter.
-ghost use Rattle.pybuf_rows_views.specs.Laws.{ReleasingTwiceIsOnce};
+ghost use Rattle.pybuf_verbs_views.specs.Laws.{ReleasingTwiceIsOnce};
 ghost use Rattle.pybuf_world.specs.Laws.{RefusalsChangeNothing, NoReplyIsAStructError, HandlesStay, ReleasingByHandleTwiceIsOnce, WorldLengthsStay, WorldReadOnlyBytesStay, WorldIteratorsStay, WorldShownTextsAreOneLine, CopiesAreExportersOfTheirOwn, UnviewedCopiesAreExportersOfTheirOwn, NewExportersStandBehind, UnknownSourcesAreRefused, RunsStaySound};
 ghost use Rattle.pybuf_world.specs.Exporters.{ExporterLaws};
 ghost use Rattle.pybuf_world.specs.Laws.{RunsKeepItemsApart, ReleasesAreRefusedByName};
@@ -29,7 +29,7 @@ pub fn releasing_twice_is_once()
     ensures by_number { ReleasingTwiceIsOnce }
     ensures by_handle { ReleasingByHandleTwiceIsOnce }
 {
-    pybuf_rows_views::releasing_twice_is_once();
+    pybuf_verbs_views::releasing_twice_is_once();
 }
 
 /// Under every command on a sound world the views of each exporter are only added or become released,

@@ -17,10 +17,10 @@ use pybuf_command::{
     handle_alone, handles_of_options,
 };
 use pybuf_exporter::{ExporterState, fresh_replies_are_copies, names_alike_do_the_same};
-use pybuf_rows_views::release_is_safe;
 use pybuf_value::{
     ByteList, Fault, Made, NoMemory, Outcome, Snap, SnapKind, SnapList, Tried, push_reserved,
 };
+use pybuf_verbs_views::release_is_safe;
 use std::alloc::Global;
 use std::mem;
 

@@ -1,7 +1,7 @@
 //! Sessions of lines by a gate: two that wait for each other.
+use pybuf::Gate;
 use pybuf_cli::{QuietSink, QuietSource, Sink, Status, serve_gated};
 use pybuf_value::{ByteList, Text};
-use pybuf_view::Gate;
 use std::sync::atomic::{AtomicU64, Ordering};
 use std::test::Fail;
 use std::thread;

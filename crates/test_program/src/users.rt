@@ -3,7 +3,7 @@
 use example_users::{
     Handover, Header, Interpreter, LineBuffer, NumberArray, Reading, Statement, WeatherLog,
 };
-use pybuf_view::{ByteList, Fault, Item, PyBuffer, Reply, Scalar, Text};
+use pybuf::{ByteList, Fault, Item, PyBuffer, Reply, Scalar, Text};
 use std::test::Fail;
 
 #[test]

@@ -2,7 +2,7 @@ use Rattle.std.proofs.Common.{rules, arith, ◌≡◌, ◌+◌, ◌*◌, ◌<◌
 use Rattle.std.specs.Prelude.{nat_abs}
 use Rattle.std.proofs.lemmas.Int.{to_z-of_z}
 use Rattle.pybuf_desc.specs.Places.{places}
-use Rattle.pybuf_rows_writes.specs.Laid.{laid}
+use Rattle.pybuf_verbs_writes.specs.Laid.{laid}
 use Rattle.pybuf_nd.proofs.LaidItems.{Inside, first_dim, other_dims, others_entered, fewer_dims, one_row, one_row_count, begun, this_inside, this_fits, that_low, that_high, enough_here, stepped, all_laid, all_counted}
 use Rattle.pybuf_nd.proofs.laying.+lay_dims.Goals as goal
 

@@ -3,7 +3,7 @@ use Rattle.pybuf_value.specs.declared.values.Value.TheVariants as value
 use Rattle.pybuf_value.specs.declared.values.Scalar.TheVariants as scalar
 use Rattle.std.specs.Prelude.{Some, map, pos, Option}
 use Rattle.pybuf_value.specs.declared.values.Value.{Value}
-use Rattle.pybuf_rows_views.specs.Cast.{cast_of_view}
+use Rattle.pybuf_verbs_views.specs.Cast.{cast_of_view}
 use Rattle.pybuf_command.specs.declared.commands.LocalReply.TheVariants as reply
 use Rattle.pybuf_state.specs.Answers.{exporter_of}
 use Rattle.pybuf_exporter.proofs.Sounding.{stays_sound}

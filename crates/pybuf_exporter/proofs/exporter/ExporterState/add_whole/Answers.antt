@@ -1,5 +1,5 @@
 use Rattle.std.specs.Result.{result_map_both}
-use Rattle.pybuf_rows_views.specs.View.{view_of_own}
+use Rattle.pybuf_verbs_views.specs.View.{view_of_own}
 use Rattle.pybuf_command.specs.declared.commands.LocalReply.TheVariants as reply
 use Rattle.pybuf_state.specs.Answers.{exporter_of}
 use Rattle.pybuf_exporter.proofs.Sounding.{stays_sound}

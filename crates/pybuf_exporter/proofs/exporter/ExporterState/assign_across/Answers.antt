@@ -2,7 +2,7 @@ use Rattle.std.proofs.Common.{rules}
 use Rattle.std.specs.Result.{result_map_both}
 use Rattle.pybuf_command.specs.declared.kinds.Subject.TheVariants as subject
 use Rattle.pybuf_state.specs.Snaps.{snap_of_subject}
-use Rattle.pybuf_rows_writes.specs.Assign.{assign_of_lent}
+use Rattle.pybuf_verbs_writes.specs.Assign.{assign_of_lent}
 use Rattle.pybuf_command.specs.declared.commands.LocalReply.TheVariants as reply
 use Rattle.pybuf_state.specs.Answers.{exporter_of}
 use Rattle.pybuf_exporter.proofs.Sounding.{stays_sound, lent_is_safe}

@@ -1,5 +1,0 @@
-use Rattle.pybuf_rows_compare.proofs.Safe.{hash_safe}
-use Rattle.pybuf_rows_compare.proofs.laws.hash_is_safe.Goals as goal
-
-pub returns : goal.returns
-returns c = hash_safe c.reading_keeps.ensures

@@ -1,5 +1,0 @@
-use Rattle.pybuf_rows_edits.proofs.OwnBuffer.{only_itself}
-use Rattle.pybuf_rows_edits.proofs.laws.only_adding_itself_is_refused_earlier.Goals as goal
-
-pub returns : goal.returns
-returns c = only_itself

@@ -1,5 +1,0 @@
-use Rattle.pybuf_rows_methods.proofs.Safe.{contains_safe}
-use Rattle.pybuf_rows_methods.proofs.laws.contains_is_safe.Goals as goal
-
-pub returns : goal.returns
-returns c = contains_safe c.reading_keeps.ensures

@@ -1,5 +1,0 @@
-use Rattle.pybuf_rows_views.proofs.Safe.{contiguous_copied}
-use Rattle.pybuf_rows_views.proofs.laws.contiguous_is_copied.Goals as goal
-
-pub returns : goal.returns
-returns c = contiguous_copied

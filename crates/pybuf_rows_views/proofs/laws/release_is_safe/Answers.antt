@@ -1,5 +1,0 @@
-use Rattle.pybuf_rows_views.proofs.Safe.{release_safe}
-use Rattle.pybuf_rows_views.proofs.laws.release_is_safe.Goals as goal
-
-pub returns : goal.returns
-returns c = release_safe c.releasing_keeps.ensures

@@ -1,5 +1,0 @@
-use Rattle.pybuf_rows_writes.proofs.ByValue.{contents_hold}
-use Rattle.pybuf_rows_writes.proofs.laws.contents_hold_the_items.Goals as goal
-
-pub returns : goal.returns
-returns c = contents_hold

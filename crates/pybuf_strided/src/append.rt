@@ -1,0 +1,74 @@
+//! Items that lie apart, appended to a vector.
+ghost use Rattle.std.specs.Prelude.{◌≡◌, ◌+◌, ◌*◌, ◌^◌, ◌<◌, ◌≤◌, ◌++◌, length, take, drop, SomeIff, vec_len, vec_capacity, OnOk, OnErr, IsOk};
+ghost use Rattle.pybuf_strided.specs.Apart.{place_of, AreInside, pieces_at};
+
+use crate::moves::{Track, copy_items};
+use std::alloc::AllocError;
+
+/// Copies items over bytes that have room for just these, one item after the other.
+fn fill(room: &mut [u8], source: &[u8], from: Track, size: usize, count: usize)
+    requires whole { length room.old ≡ size * count }
+    requires source_inside { AreInside from.falls from.start from.step count size (length source.now) }
+    ensures { room.new ≡ pieces_at source.now (place_of from.falls from.start from.step) size count }
+{
+    let to = Track {
+        start: 0,
+        step: size,
+        falls: false,
+    };
+    copy_items(room, to, source, from, size, count);
+}
+
+/// Appends one item from where it lies in a source.
+fn append_one(out: &mut Vec<u8>, source: &[u8], start: usize, size: usize) -> Result<(), AllocError>
+    requires { start + size ≤ length source.now }
+    ensures items { OnOk result (out.new.items ≡ out.old.items ++ take size (drop start source.now)) }
+    ensures len { OnOk result (vec_len out.new ≡ vec_len out.old + size) }
+    ensures capacity { vec_capacity out.old ≤ vec_capacity out.new }
+    ensures succeeds { vec_len out.old + size ≤ vec_capacity out.old → IsOk result }
+    ensures err { OnErr result (out.new.items ≡ out.old.items) }
+{
+    out.extend_from_slice(&source[start..start + size])
+}
+
+/// The length of bytes with so many items more, where bytes can be as many.
+fn length_with(len: usize, size: usize, count: usize) -> Option<usize>
+    ensures { SomeIff result (len + size * count < 2 ^ 64) (len + size * count) }
+{
+    let more = size.checked_mul(count)?;
+    len.checked_add(more)
+}
+
+/// Appends so many items of a size from where they lie in a source, one item after the other.
+///
+/// It fails only where memory runs out, which it doesn't where there is room for them, and then nothing is
+/// appended.
+pub fn append_items(
+    out: &mut Vec<u8>,
+    source: &[u8],
+    from: Track,
+    size: usize,
+    count: usize,
+) -> Result<(), AllocError>
+    requires source_inside { AreInside from.falls from.start from.step count size (length source.now) }
+    ensures items { OnOk result (out.new.items ≡ out.old.items ++ pieces_at source.now (place_of from.falls from.start from.step) size count) }
+    ensures len { OnOk result (vec_len out.new ≡ vec_len out.old + size * count) }
+    ensures capacity { vec_capacity out.old ≤ vec_capacity out.new }
+    ensures succeeds { vec_len out.old + size * count ≤ vec_capacity out.old → IsOk result }
+    ensures err { OnErr result (out.new.items ≡ out.old.items) }
+{
+    // Room for several items is filled with zeros before they are copied there, so one would be written twice. One
+    // without bytes may start past the end.
+    if count == 1 && size > 0 {
+        return append_one(out, source, from.start, size);
+    }
+    let len = out.len();
+    match length_with(len, size, count) {
+        None => Err(AllocError),
+        Some(whole) => {
+            out.resize(whole, 0)?;
+            fill(&mut out[len..], source, from, size, count);
+            Ok(())
+        }
+    }
+}

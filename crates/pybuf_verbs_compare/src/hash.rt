@@ -1,0 +1,40 @@
+//! `hash`: the bytes that are fed to a hasher, as in Python's `hash(subject)`.
+ghost use Rattle.pybuf_state.specs.Answers.{exporter_of, IsWhole, Reads};
+ghost use Rattle.pybuf_verbs_compare.specs.Hash as spec;
+
+use pybuf_command::{ExporterKind, LocalReply};
+use pybuf_memoryview::content_of;
+use pybuf_state::Parts;
+use pybuf_value::{ByteList, Fault, Halt};
+
+/// The bytes of Python's `bytes`.
+///
+/// A bytearray may change, so its hash is refused with `TypeError`; a vector has none.
+pub fn of_own(parts: &Parts) -> Result<LocalReply, Halt>
+    ensures { Reads (spec.hash_of_own (exporter_of parts.now)) (exporter_of parts.now) result }
+{
+    match parts.kind {
+        ExporterKind::Vector { readonly: _ } => Err(Halt::Refused(Fault::UnknownName)),
+        ExporterKind::ByteArray => Err(Halt::Refused(Fault::Kind)),
+        ExporterKind::Bytes => {
+            let bytes = Vec::from_slice(parts.alloc, parts.bytes.as_slice())?;
+            Ok(LocalReply::Bytes(ByteList::from_vec(bytes)))
+        }
+    }
+}
+
+/// The bytes of a view's items, in order, whatever its format.
+///
+/// Refused with `ValueError` for a released view, and for one that may be written (Python's
+/// "Binary Sequence Types", on hashes of a memoryview).
+pub fn of_view(parts: &Parts, view: usize) -> Result<LocalReply, Halt>
+    requires { IsWhole parts.now }
+    ensures { Reads (spec.hash_of_view (exporter_of parts.now) view) (exporter_of parts.now) result }
+{
+    let layout = parts.live_layout(view)?;
+    if !layout.is_readonly() {
+        return Err(Halt::Refused(Fault::Value));
+    }
+    let bytes = content_of(parts.alloc, parts.bytes.as_slice(), layout)?;
+    Ok(LocalReply::Bytes(ByteList::from_vec(bytes)))
+}

@@ -1,0 +1,60 @@
+-- The edits that add bytes or put them in place of others, by what a handle names.
+use Rattle.std.specs.Prelude.{ℕ, List, ◌++◌, Option, Some, Result, Ok, Err}
+use Rattle.pybuf_value.specs.declared.faults.Fault.{Fault}
+use Rattle.pybuf_value.specs.declared.faults.Fault.TheVariants as fault
+use Rattle.pybuf_value.specs.declared.snaps.Snap.{Snap}
+use Rattle.pybuf_value.specs.Refusing.{◌>>=◌}
+use Rattle.pybuf_value.specs.Snaps.{content_of, content_of_named}
+use Rattle.pybuf_index.specs.Parts.{SliceParts}
+use Rattle.pybuf_command.specs.declared.commands.LocalReply.{LocalReply}
+use Rattle.pybuf_command.specs.declared.loans.Loan.{Loan}
+use Rattle.pybuf_command.specs.declared.loans.Loan.TheVariants as loan
+use Rattle.pybuf_state.specs.Exporter.{Exporter}
+use Rattle.pybuf_state.specs.Loans.{snap_in}
+use Rattle.pybuf_state.specs.Resizing.{resizable}
+use Rattle.pybuf_verbs_edits.specs.Common.{with_bytes}
+use Rattle.pybuf_verbs_edits.specs.Growing.{repeated_unless_empty}
+use Rattle.pybuf_verbs_edits.specs.Replacing.{assigned, replaced_all}
+
+-- ---- bytes at the end
+
+abbrev pub bytes_added : Exporter → List ℕ → Result (Exporter × LocalReply) Fault
+bytes_added e bytes = do
+  _ ← resizable e
+  Ok (with_bytes e (e.bytes ++ bytes))
+
+-- those of what a handle names, if it is there
+abbrev pub extended_by : Exporter → Option Snap → Result (Exporter × LocalReply) Fault
+extended_by e lent = do
+  bytes ← content_of_named lent
+  bytes_added e bytes
+
+-- the same where they lie one after the other
+abbrev pub added_by : Exporter → Option Snap → Result (Exporter × LocalReply) Fault
+added_by e lent = do
+  bytes ← content_of lent
+  bytes_added e bytes
+
+-- by what the handle is lent as: by itself an exporter is twice what it was
+abbrev pub extended_as : Exporter → Option Loan → Result (Exporter × LocalReply) Fault
+extended_as e (Some loan.Own) = repeated_unless_empty e 2
+extended_as e l = extended_by e (snap_in e l)
+
+-- and `iadd` never adds its own
+abbrev pub added_as : Exporter → Option Loan → Result (Exporter × LocalReply) Fault
+added_as e (Some loan.Own) = Err fault.Buffer
+added_as e l = added_by e (snap_in e l)
+
+-- ---- bytes in place of others
+
+-- a slice is set to the bytes of what a handle names, if it is there
+abbrev pub assigned_by : Exporter → SliceParts → Option Snap → Result (Exporter × LocalReply) Fault
+assigned_by e parts lent = do
+  bytes ← content_of_named lent
+  assigned e parts bytes
+
+-- all bytes give way to those of what a handle names, if it is there
+abbrev pub initialized_by : Exporter → Option Snap → Result (Exporter × LocalReply) Fault
+initialized_by e lent = do
+  bytes ← content_of_named lent
+  replaced_all e bytes

@@ -1,0 +1,72 @@
+//! Which edit a command is.
+ghost use Rattle.std.specs.Prelude.{◌≡◌, ◌≤◌, ◌+◌, ℕ, true, length, OnOk, OnErr};
+ghost use Rattle.pybuf_command.specs.declared.kinds.Subject.TheVariants as subjects;
+ghost use Rattle.pybuf_command.specs.Handles.{handles_read};
+ghost use Rattle.pybuf_state.specs.Exporter.{exports_of};
+ghost use Rattle.pybuf_state.specs.Loans.{lents_by};
+ghost use Rattle.pybuf_state.specs.Answers.{exporter_of, IsWhole, Answers, Reads};
+ghost use Rattle.pybuf_slice.specs.FrontContent.{IsSpare};
+ghost use Rattle.pybuf_verbs_edits.specs.Counting.{TakesFirst, taken_places, grows_at_end, can_leave_length};
+ghost use Rattle.pybuf_verbs_edits.specs.Edits as spec;
+ghost use Rattle.pybuf_verbs_edits.specs.Shrinking as shrinking_spec;
+
+use crate::{growing, replacing, shrinking};
+use pybuf_command::{LocalReply, Verb};
+use pybuf_state::{Names, Parts};
+use pybuf_value::{Fault, Halt, Steps, Value};
+use std::sync::ledger::Ledger;
+
+/// The edit of a verb on the exporter itself.
+///
+/// Refused with `UnknownName` where the verb is no edit, and where the kind of the exporter hasn't it.
+pub fn edit_of_own<N: Names, L: Ledger>(
+    parts: &mut Parts,
+    verb: &Verb,
+    names: &N,
+    moved: &mut Steps<L>,
+) -> Result<LocalReply, Halt>
+    requires whole { IsWhole parts.old }
+    requires fit { N.fit names.now }
+    ensures answer { Answers (spec.edit_of_own (exporter_of parts.old) verb.now (lents_by (exporter_of parts.old) (N.named names.now) (handles_read subjects.Own verb.now))) (exporter_of parts.old) result (exporter_of parts.new) }
+    ensures counted { parts.new.exports ≡ exports_of (exporter_of parts.new) }
+    ensures few { OnOk result (moved.new ≤ moved.old + (length parts.old.bytes.items + length parts.new.bytes.items)) }
+    ensures front_room { (n : ℕ) → TakesFirst (taken_places (exporter_of parts.old) verb.now) n → OnOk result (parts.new.bytes.room ≡ parts.old.bytes.room + n) }
+    ensures front_counter { (n : ℕ) → TakesFirst (taken_places (exporter_of parts.old) verb.now) n → OnOk result (moved.new ≡ moved.old) }
+    ensures end_counter { grows_at_end verb.now (lents_by (exporter_of parts.old) (N.named names.now) (handles_read subjects.Own verb.now)) ≡ true → OnOk result (moved.new + parts.new.bytes.room ≤ moved.old + parts.old.bytes.room) }
+    ensures end_spare { grows_at_end verb.now (lents_by (exporter_of parts.old) (N.named names.now) (handles_read subjects.Own verb.now)) ≡ true → OnOk result (IsSpare parts.new.bytes) }
+    ensures err_room { OnErr result (parts.new.bytes.room ≡ parts.old.bytes.room) }
+    ensures err_counter { OnErr result (moved.new ≡ moved.old) }
+    ensures still_room { can_leave_length verb.now (lents_by (exporter_of parts.old) (N.named names.now) (handles_read subjects.Own verb.now)) ≡ true → OnOk result (length parts.new.bytes.items ≡ length parts.old.bytes.items → parts.new.bytes.room ≡ parts.old.bytes.room) }
+    ensures still_counter { can_leave_length verb.now (lents_by (exporter_of parts.old) (N.named names.now) (handles_read subjects.Own verb.now)) ≡ true → OnOk result (length parts.new.bytes.items ≡ length parts.old.bytes.items → moved.new ≡ moved.old) }
+{
+    match verb {
+        Verb::Append { value } => growing::append(parts, value, moved),
+        Verb::Extend { value } => growing::extend(parts, value, names, moved),
+        Verb::Insert { index, value } => growing::insert(parts, index, value, moved),
+        Verb::Pop { index } => shrinking::pop(parts, index, moved),
+        Verb::Remove { value } => shrinking::remove(parts, value, moved),
+        Verb::Clear => shrinking::clear(parts),
+        Verb::Reverse => replacing::reverse(parts),
+        Verb::Del { key } => shrinking::delete(parts, key, moved),
+        Verb::IAdd { value } => growing::iadd(parts, value, names, moved),
+        Verb::IMul { count } => growing::imul(parts, count),
+        Verb::Init { options } => replacing::init(parts, options, names),
+        Verb::Take => shrinking::take(parts),
+        Verb::Copy => replacing::copy(parts),
+        Verb::Set {
+            key: Value::Slice(slice),
+            value,
+        } => replacing::assign(parts, slice, value, names, moved),
+        _ => Err(Halt::Refused(Fault::UnknownName)),
+    }
+}
+
+/// `del` of a view, which is always refused: with `UnknownName` where it was never given, with
+/// `ValueError` where it was released, and else with `TypeError`.
+pub fn delete_of_view(parts: &Parts, view: usize) -> Result<LocalReply, Halt>
+    requires { IsWhole parts.now }
+    ensures { Reads (shrinking_spec.delete_of_view (exporter_of parts.now) view) (exporter_of parts.now) result }
+{
+    parts.live_layout(view)?;
+    Err(Halt::Refused(Fault::Kind))
+}

@@ -1,0 +1,37 @@
+//! `iter`: a new iterator, as Python's `iter(subject)`.
+ghost use Rattle.pybuf_state.specs.Exporter.{exports_of};
+ghost use Rattle.pybuf_state.specs.Answers.{exporter_of, IsWhole, Answers};
+ghost use Rattle.std.specs.Prelude.{◌≡◌};
+ghost use Rattle.pybuf_verbs_iters.specs.Iterators as spec;
+
+use pybuf_command::{ExporterKind, LocalReply, Subject};
+use pybuf_state::Parts;
+use pybuf_value::{Fault, Halt};
+
+/// An iterator over the bytes of an exporter.
+///
+/// A vector has no items of its own.
+pub fn of_own(parts: &mut Parts) -> Result<LocalReply, Halt>
+    requires { IsWhole parts.old }
+    ensures answer { Answers (spec.iter_of_own (exporter_of parts.old)) (exporter_of parts.old) result (exporter_of parts.new) }
+    ensures counted { parts.new.exports ≡ exports_of (exporter_of parts.new) }
+    ensures room { parts.new.bytes.room ≡ parts.old.bytes.room }
+{
+    match parts.kind {
+        ExporterKind::Vector { readonly: _ } => Err(Halt::Refused(Fault::UnknownName)),
+        _ => parts.add_iterator(Subject::Own),
+    }
+}
+
+/// An iterator over the items of a view.
+///
+/// Refused with `ValueError` for a released view.
+pub fn of_view(parts: &mut Parts, view: usize) -> Result<LocalReply, Halt>
+    requires { IsWhole parts.old }
+    ensures answer { Answers (spec.iter_of_view (exporter_of parts.old) view) (exporter_of parts.old) result (exporter_of parts.new) }
+    ensures counted { parts.new.exports ≡ exports_of (exporter_of parts.new) }
+    ensures room { parts.new.bytes.room ≡ parts.old.bytes.room }
+{
+    parts.live_layout(view)?;
+    parts.add_iterator(Subject::View(view))
+}

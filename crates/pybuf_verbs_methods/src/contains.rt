@@ -1,0 +1,21 @@
+//! `contains`: whether a byte or bytes stand in bytes or in a bytearray.
+ghost use Rattle.pybuf_state.specs.Answers.{exporter_of, Reads};
+ghost use Rattle.pybuf_verbs_methods.specs.Calls as spec;
+
+use pybuf_command::LocalReply;
+use pybuf_methods::{Contents, contains_in};
+use pybuf_state::Parts;
+use pybuf_value::{Halt, Value};
+
+/// Whether a value stands in the bytes: a number as one byte, and any other value as the bytes that it is
+/// read as (Python's library reference, "Common Sequence Operations", `x in s`).
+///
+/// Refused with `UnknownName` for a vector, with `ValueError` for a number outside `0..256`, and else as
+/// `bytes_from_object` refuses.
+pub fn of_own<C: Contents>(parts: &Parts, value: &Value, contents: &C) -> Result<LocalReply, Halt>
+    ensures { Reads (spec.contains_of_own (exporter_of parts.now) value.now (C.pairs contents.now)) (exporter_of parts.now) result }
+{
+    parts.check_string()?;
+    let found = contains_in(parts.alloc, parts.bytes.as_slice(), value, contents)?;
+    Ok(LocalReply::Truth(found))
+}

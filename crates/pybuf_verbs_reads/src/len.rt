@@ -1,0 +1,34 @@
+//! `len`: the number of items.
+ghost use Rattle.std.specs.Prelude.{◌≡◌};
+ghost use Rattle.pybuf_state.specs.Answers.{exporter_of, IsWhole, Reads};
+ghost use Rattle.pybuf_verbs_reads.specs.Len as spec;
+
+use pybuf_command::LocalReply;
+use pybuf_state::Parts;
+use pybuf_value::{Fault, Halt, Item, Scalar};
+
+/// A count as an item.
+pub fn count_item(count: usize) -> Item
+    ensures { result ≡ spec.count_item count }
+{
+    Item::One(Scalar::Int(count as i128))
+}
+
+/// The number of bytes.
+pub fn of_own(parts: &Parts) -> Result<LocalReply, Halt>
+    ensures { Reads (spec.len_of_own (exporter_of parts.now)) (exporter_of parts.now) result }
+{
+    Ok(LocalReply::Item(count_item(parts.bytes.len())))
+}
+
+/// The first entry of a view's shape.
+pub fn of_view(parts: &Parts, view: usize) -> Result<LocalReply, Halt>
+    requires { IsWhole parts.now }
+    ensures { Reads (spec.len_of_view (exporter_of parts.now) view) (exporter_of parts.now) result }
+{
+    let layout = parts.live_layout(view)?;
+    if layout.ndim() == 0 {
+        return Err(Halt::Refused(Fault::Kind));
+    }
+    Ok(LocalReply::Item(count_item(layout.first_entry())))
+}

@@ -1,0 +1,21 @@
+//! `tolist`: the items of a view.
+ghost use Rattle.pybuf_state.specs.Answers.{exporter_of, IsWhole, Reads};
+ghost use Rattle.pybuf_verbs_reads.specs.ToList.{list_of_view};
+
+use crate::lists::{items_of, list_shape};
+use pybuf_command::LocalReply;
+use pybuf_state::{Parts, content_lent};
+use pybuf_value::Halt;
+
+/// The items of a view, in order, with the shape that they are nested by. Items that lie apart are gathered before,
+/// by the loops of `bytes`.
+pub fn of_view(parts: &Parts, view: usize) -> Result<LocalReply, Halt>
+    requires { IsWhole parts.now }
+    ensures { Reads (list_of_view (exporter_of parts.now) view) (exporter_of parts.now) result }
+{
+    let layout = parts.live_layout(view)?;
+    let shape = list_shape(parts.alloc, layout)?;
+    let content = content_lent(parts.alloc, parts.bytes.as_slice(), layout)?;
+    let items = items_of(parts.alloc, layout, content.as_slice())?;
+    Ok(LocalReply::Items { shape, items })
+}

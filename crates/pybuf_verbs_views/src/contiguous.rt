@@ -1,0 +1,18 @@
+//! `contig`: a copy of a view's items, one after the other, of which a new exporter is made.
+ghost use Rattle.pybuf_state.specs.Answers.{exporter_of, IsWhole, Reads};
+ghost use Rattle.pybuf_verbs_views.specs.Contiguous.{contiguous_of_view};
+
+use pybuf_command::LocalReply;
+use pybuf_memoryview::snap_of_copy;
+use pybuf_state::Parts;
+use pybuf_value::Halt;
+
+/// A copy of a view's items, one after the other.
+pub fn of_view(parts: &Parts, view: usize) -> Result<LocalReply, Halt>
+    requires { IsWhole parts.now }
+    ensures { Reads (contiguous_of_view (exporter_of parts.now) view) (exporter_of parts.now) result }
+{
+    let layout = parts.live_layout(view)?;
+    let snap = snap_of_copy(parts.alloc, parts.bytes.as_slice(), layout)?;
+    Ok(LocalReply::Fresh(snap))
+}

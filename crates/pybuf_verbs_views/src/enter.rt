@@ -1,0 +1,16 @@
+//! `enter`: the view itself, which must not be released.
+ghost use Rattle.pybuf_state.specs.Answers.{exporter_of, IsWhole, Reads};
+ghost use Rattle.pybuf_verbs_views.specs.Enter.{enter_of_view};
+
+use pybuf_command::LocalReply;
+use pybuf_state::Parts;
+use pybuf_value::Halt;
+
+/// The view itself.
+pub fn of_view(parts: &Parts, view: usize) -> Result<LocalReply, Halt>
+    requires { IsWhole parts.now }
+    ensures { Reads (enter_of_view (exporter_of parts.now) view) (exporter_of parts.now) result }
+{
+    parts.live_layout(view)?;
+    Ok(LocalReply::Itself)
+}

@@ -1,0 +1,38 @@
+//! `release`: the view is released.
+ghost use Rattle.std.specs.Prelude.{◌≡◌, Ok, Err, OnErr, MatchResult};
+ghost use Rattle.pybuf_state.specs.Exporter.{exports_of};
+ghost use Rattle.pybuf_state.specs.Answers.{exporter_of, IsWhole, Answers};
+ghost use Rattle.pybuf_state.specs.Exporter.{released_in};
+ghost use Rattle.pybuf_verbs_views.specs.Release.{release_of_view};
+
+use pybuf_command::LocalReply;
+use pybuf_state::Parts;
+use pybuf_value::{Fault, Halt};
+
+/// Releases a view that was given. The second time changes nothing.
+///
+/// Refused with `UnknownName` exactly where the view was never given.
+pub fn release(parts: &mut Parts, view: usize) -> Result<(), Fault>
+    requires { IsWhole parts.old }
+    ensures exact { MatchResult result (λ _. released_in (exporter_of parts.old) view ≡ Ok (exporter_of parts.new)) (λ f. released_in (exporter_of parts.old) view ≡ Err f) }
+    ensures err { OnErr result (exporter_of parts.new ≡ exporter_of parts.old) }
+    ensures whole { IsWhole parts.new }
+    ensures room { parts.new.bytes.room ≡ parts.old.bytes.room }
+{
+    pybuf_state::releasing_keeps();
+    match parts.release_view(view) {
+        Ok(()) => Ok(()),
+        Err(fault) => Err(fault),
+    }
+}
+
+/// Releases a view that was given.
+pub fn of_view(parts: &mut Parts, view: usize) -> Result<LocalReply, Halt>
+    requires { IsWhole parts.old }
+    ensures answer { Answers (release_of_view (exporter_of parts.old) view) (exporter_of parts.old) result (exporter_of parts.new) }
+    ensures counted { parts.new.exports ≡ exports_of (exporter_of parts.new) }
+    ensures room { parts.new.bytes.room ≡ parts.old.bytes.room }
+{
+    release(parts, view)?;
+    Ok(LocalReply::Ok)
+}

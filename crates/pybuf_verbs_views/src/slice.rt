@@ -1,0 +1,39 @@
+//! `get` of a view by a slice: a new view of the items that the slice picks.
+ghost use Rattle.std.specs.Prelude.{◌≡◌};
+ghost use Rattle.std.specs.Result.{result_map_both};
+ghost use Rattle.pybuf_command.specs.declared.commands.LocalReply.TheVariants as replies;
+ghost use Rattle.pybuf_state.specs.Exporter.{exports_of};
+ghost use Rattle.pybuf_state.specs.Answers.{exporter_of, IsWhole, Answers};
+ghost use Rattle.pybuf_verbs_views.specs.Slice.{slice_of_view};
+
+use pybuf_command::LocalReply;
+use pybuf_index::SaturatedSlice;
+use pybuf_state::Parts;
+use pybuf_value::{Fault, Halt, PySlice};
+
+/// A view of the items that a slice picks, along the first dimension. The answer is its number.
+pub fn add(parts: &mut Parts, view: usize, slice: &PySlice) -> Result<usize, Halt>
+    requires { IsWhole parts.old }
+    ensures answer { Answers (slice_of_view (exporter_of parts.old) view slice.now) (exporter_of parts.old) (result_map_both replies.View (λ halt. halt) result) (exporter_of parts.new) }
+    ensures counted { parts.new.exports ≡ exports_of (exporter_of parts.new) }
+    ensures room { parts.new.bytes.room ≡ parts.old.bytes.room }
+{
+    let layout = parts.live_layout(view)?;
+    if layout.ndim() == 0 {
+        return Err(Halt::Refused(Fault::Kind));
+    }
+    let slice = SaturatedSlice::with_slice(slice)?;
+    let layout = layout.sliced(parts.alloc, slice)?;
+    parts.push_view(layout)
+}
+
+/// A view of the items that a slice picks, along the first dimension.
+pub fn of_view(parts: &mut Parts, view: usize, slice: &PySlice) -> Result<LocalReply, Halt>
+    requires { IsWhole parts.old }
+    ensures answer { Answers (slice_of_view (exporter_of parts.old) view slice.now) (exporter_of parts.old) result (exporter_of parts.new) }
+    ensures counted { parts.new.exports ≡ exports_of (exporter_of parts.new) }
+    ensures room { parts.new.bytes.room ≡ parts.old.bytes.room }
+{
+    let number = add(parts, view, slice)?;
+    Ok(LocalReply::View(number))
+}

@@ -1,0 +1,46 @@
+//! `view`: a new view of the subject.
+ghost use Rattle.std.specs.Prelude.{◌≡◌};
+ghost use Rattle.std.specs.Result.{result_map_both};
+ghost use Rattle.pybuf_command.specs.declared.commands.LocalReply.TheVariants as replies;
+ghost use Rattle.pybuf_state.specs.Exporter.{exports_of};
+ghost use Rattle.pybuf_state.specs.Answers.{exporter_of, IsWhole, Answers};
+ghost use Rattle.pybuf_verbs_views.specs.View.{view_of_own, view_of_view};
+
+use pybuf_command::LocalReply;
+use pybuf_memoryview::KeptLayout;
+use pybuf_state::Parts;
+use pybuf_value::{Halt, Twin};
+
+/// A view of all the bytes. The answer is its number.
+pub fn add_whole(parts: &mut Parts) -> Result<usize, Halt>
+    requires { IsWhole parts.old }
+    ensures answer { Answers (view_of_own (exporter_of parts.old)) (exporter_of parts.old) (result_map_both replies.View (λ halt. halt) result) (exporter_of parts.new) }
+    ensures counted { parts.new.exports ≡ exports_of (exporter_of parts.new) }
+    ensures room { parts.new.bytes.room ≡ parts.old.bytes.room }
+{
+    let layout = KeptLayout::whole(parts.alloc, parts.bytes.len(), parts.kind.is_readonly())?;
+    parts.push_view(layout)
+}
+
+/// A view of all the bytes.
+pub fn of_own(parts: &mut Parts) -> Result<LocalReply, Halt>
+    requires { IsWhole parts.old }
+    ensures answer { Answers (view_of_own (exporter_of parts.old)) (exporter_of parts.old) result (exporter_of parts.new) }
+    ensures counted { parts.new.exports ≡ exports_of (exporter_of parts.new) }
+    ensures room { parts.new.bytes.room ≡ parts.old.bytes.room }
+{
+    let number = add_whole(parts)?;
+    Ok(LocalReply::View(number))
+}
+
+/// A view of the items of a view.
+pub fn of_view(parts: &mut Parts, view: usize) -> Result<LocalReply, Halt>
+    requires { IsWhole parts.old }
+    ensures answer { Answers (view_of_view (exporter_of parts.old) view) (exporter_of parts.old) result (exporter_of parts.new) }
+    ensures counted { parts.new.exports ≡ exports_of (exporter_of parts.new) }
+    ensures room { parts.new.bytes.room ≡ parts.old.bytes.room }
+{
+    let layout = parts.live_layout(view)?;
+    let layout = layout.copy(parts.alloc)?;
+    parts.add_view(layout)
+}
