@@ -21,6 +21,9 @@ SECONDS = "300"
 TRY = ["rt", "try", "--steps", "0", "--seconds", SECONDS]
 # How many bytes of cases one run of the program serves, or one case: what ends one run ends no other.
 BATCH = 262_144
+# A case of which all is told counts so often: what it writes is told in digits, four times as long as what it reads or more, and
+# `rt try` ends a run that writes more than a mebibyte.
+TOLD = 8
 
 # What came of a case. `written` is None where it is known to be what has to be written, and `complaint`, what came on standard error,
 # where `rt try --cases` doesn't tell it; `fault` says why nothing came.
@@ -260,12 +263,13 @@ def batches_of(cases, is_told):
     lists, last = [], BATCH
     for case in cases:
         text = frame(case, is_told(case))
-        if last + len(text) > BATCH:
+        size = len(text) * (TOLD if is_told(case) else 1)
+        if last + size > BATCH:
             lists.append(([], []))
             last = 0
         lists[-1][0].append(case)
         lists[-1][1].append(text)
-        last += len(text)
+        last += size
     return [(cases, b"".join(texts)) for cases, texts in lists]
 
 
