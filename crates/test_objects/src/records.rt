@@ -10,7 +10,9 @@ use std::test::Fail;
 fn tell_row(told: &mut Vec<u8>, row: &ScalarList) {
     for value in row.as_slice() {
         if let Ok(number) = number_in(value) {
-            say(told, Word::Count(number as usize));
+            if let Ok(count) = usize::try_from(number) {
+                say(told, Word::Count(count));
+            }
         }
     }
 }
