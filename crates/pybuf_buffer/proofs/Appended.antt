@@ -6,7 +6,7 @@ use Rattle.std.specs.List.{flat_map}
 use Rattle.std.proofs.lemmas.Grind.{common_steps, flat_map-append}
 use Rattle.std.proofs.lemmas.List.{length-append, length-take-le, length-drop, get_or_append_left, get_or-append-add}
 use Rattle.std.proofs.lemmas.List.FromFn.{length-map-range_with_len, get_or-map-range_with_len}
-use Rattle.pybuf_apart.specs.Apart.{place_of, AreInside, pieces_at}
+use Rattle.pybuf_strided.specs.Apart.{place_of, AreInside, pieces_at}
 use Rattle.pybuf_desc.specs.declared.line.SegmentLine.{SegmentLine}
 use Rattle.pybuf_desc.specs.SegmentLines.{ranges_of_line, range_on, IsLine}
 use Rattle.pybuf_desc.specs.Layouts.{Layout, HasItemsOfItsShape, LiesInside, product}

@@ -4,8 +4,8 @@ ghost use Rattle.std.specs.List.{flat_map};
 ghost use Rattle.pybuf_desc.specs.Segments.{bytes_in};
 ghost use Rattle.pybuf_desc.specs.SegmentLines.{ranges_of_line, IsLine};
 
-use pybuf_apart::append_items;
 use pybuf_desc::{SegmentLine, Segments};
+use pybuf_strided::append_items;
 use pybuf_value::Steps;
 use std::sync::ledger::Ledger;
 

@@ -7,7 +7,7 @@ use Rattle.std.proofs.lemmas.Bool.{cases_lt}
 use Rattle.std.proofs.lemmas.Bool.Decides.{nat_tests}
 use Rattle.std.proofs.lemmas.Nat.{div-add-mod'}
 use Rattle.std.proofs.lemmas.List.{length-append, length-take-le, length-reverse, take_at, drop-drop, reverse-append}
-use Rattle.pybuf_apart.specs.Apart.{with_piece, pieces_at}
+use Rattle.pybuf_strided.specs.Apart.{with_piece, pieces_at}
 use Rattle.pybuf_index.specs.Picks.{is_negative}
 use Rattle.pybuf_index.specs.Runs.{rising, run_of, run_low, how_many, picks_in_span}
 use Rattle.pybuf_index.specs.Laws.{EachSpan, SpanPicksAre}

@@ -9,7 +9,7 @@ use Rattle.std.proofs.lemmas.Grind.{common_steps}
 use Rattle.std.proofs.lemmas.Int.{to_z-of_z}
 use Rattle.std.proofs.lemmas.List.{reverse-append, length-reverse, get_or_append_left}
 use Rattle.std.proofs.lemmas.List.Elements.{All-head}
-use Rattle.pybuf_apart.specs.Apart.{place_of, AreInside, with_piece, moved_at}
+use Rattle.pybuf_strided.specs.Apart.{place_of, AreInside, with_piece, moved_at}
 use Rattle.pybuf_index.specs.Picks.{is_negative}
 use Rattle.pybuf_index.specs.Parts.{SliceParts, IsSaturated, picks_of}
 use Rattle.pybuf_index.specs.Runs.{rising, run_of, run_low, how_many, picks_in_span}

@@ -1,6 +1,6 @@
 -- Runs that move together.
 use Rattle.std.specs.Prelude.{ℕ, suc, ◌+◌, ◌*◌, List, ◌++◌, take, drop}
-use Rattle.pybuf_apart.specs.Apart.{pieces_at}
+use Rattle.pybuf_strided.specs.Apart.{pieces_at}
 
 -- the place of run k: one byte that is to be taken out is before each run
 abbrev pub run_place : ℕ → ℕ → ℕ → ℕ

@@ -1,6 +1,6 @@
 //! Bytes closed up over those that a slice picks.
 ghost use Rattle.std.specs.Prelude.{◌≡◌, ◌<◌, ◌≤◌, ◌+◌, ◌-◌, ◌*◌, ◌^◌, [], length, take, drop, suc, nat_abs};
-ghost use Rattle.pybuf_apart.specs.Apart.{with_piece};
+ghost use Rattle.pybuf_strided.specs.Apart.{with_piece};
 ghost use Rattle.pybuf_index.specs.Parts.{picks_of};
 ghost use Rattle.pybuf_index.specs.Picks.{is_negative};
 ghost use Rattle.pybuf_index.specs.Runs.{rising, run_low};

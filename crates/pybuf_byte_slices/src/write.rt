@@ -3,8 +3,8 @@ ghost use Rattle.std.specs.Prelude.{◌≡◌, ◌<◌, ◌^◌, ◌-◌, length
 ghost use Rattle.pybuf_index.specs.Parts.{picks_of};
 ghost use Rattle.pybuf_slice.specs.Edits.{set_at};
 
-use pybuf_apart::{Track, copy_items};
 use pybuf_index::{SaturatedSlice, indices_of_a_span};
+use pybuf_strided::{Track, copy_items};
 use std::ops::Range;
 
 /// Where the indices of a span begin: at its first place, or at its last where they fall. An empty span has none.

@@ -6,7 +6,7 @@ use Rattle.std.specs.declared.ops.Range.{Range}
 use Rattle.std.proofs.lemmas.Grind.{flat_map-append}
 use Rattle.std.proofs.lemmas.List.{get_or_append_left, get_or-append-add, length-append, append-nil, map-append}
 use Rattle.std.proofs.lemmas.List.FromFn.{length-range_with_len, get_or-range_with_len}
-use Rattle.pybuf_apart.specs.Apart.{place_of, pieces_at}
+use Rattle.pybuf_strided.specs.Apart.{place_of, pieces_at}
 use Rattle.pybuf_desc.specs.Segments.{bytes_of, bytes_in}
 use Rattle.pybuf_desc.specs.SegmentLines.{range_on}
 use Rattle.pybuf_desc.specs.Laws.{LinesLieInside, LinesHaveTheirPieces}

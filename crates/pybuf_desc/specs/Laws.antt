@@ -24,7 +24,7 @@ use Rattle.pybuf_desc.specs.Segments.{ranges_of, bytes_of, bytes_in}
 use Rattle.pybuf_desc.specs.ColumnSegments.{column_ranges_of}
 use Rattle.pybuf_desc.specs.SegmentLines.{ranges_of_line, IsLine}
 use Rattle.pybuf_desc.specs.declared.line.SegmentLine.{SegmentLine}
-use Rattle.pybuf_apart.specs.Apart.{place_of, AreInside, pieces_at}
+use Rattle.pybuf_strided.specs.Apart.{place_of, AreInside, pieces_at}
 
 -- ---- casts
 

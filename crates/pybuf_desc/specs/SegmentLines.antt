@@ -2,7 +2,7 @@
 use Rattle.std.specs.Prelude.{◌≡◌, ℕ, ◌+◌, ◌*◌, ◌<◌, ◌≤◌, Bool, true, List, map}
 use Rattle.std.specs.List.{range_with_len}
 use Rattle.std.specs.declared.ops.Range.{Range}
-use Rattle.pybuf_apart.specs.Apart.{place_of}
+use Rattle.pybuf_strided.specs.Apart.{place_of}
 use Rattle.pybuf_desc.specs.declared.line.SegmentLine.{SegmentLine}
 
 -- range k: of so many bytes, k steps above the start or below it

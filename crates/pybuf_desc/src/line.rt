@@ -5,7 +5,7 @@ ghost use Rattle.pybuf_desc.specs.Valid.{IsInside};
 ghost use Rattle.pybuf_desc.specs.Segments.{line, range_at};
 ghost use Rattle.pybuf_desc.specs.SegmentLines.{ranges_of_line, IsLine};
 
-use pybuf_apart::Track;
+use pybuf_strided::Track;
 
 /// Ranges of `size` bytes each, `count` of them, whose starts lie in equal steps.
 #[derive(Clone, Copy, Debug)]

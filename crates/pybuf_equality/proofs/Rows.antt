@@ -9,7 +9,7 @@ use Rattle.std.proofs.lemmas.List.{length-append, map-append, get_or_append_left
 use Rattle.std.proofs.lemmas.List.Elements.{All-head, All-tail}
 use Rattle.std.proofs.lemmas.List.Folds.{list_all-append}
 use Rattle.std.proofs.lemmas.List.FromFn.{length-map-range_with_len}
-use Rattle.pybuf_apart.specs.Apart.{place_of, AreInside}
+use Rattle.pybuf_strided.specs.Apart.{place_of, AreInside}
 use Rattle.pybuf_struct.specs.Digits.{number}
 use Rattle.pybuf_desc.specs.declared.line.SegmentLine.{SegmentLine}
 use Rattle.pybuf_desc.specs.Segments.{bytes_in}

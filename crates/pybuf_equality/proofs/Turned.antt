@@ -4,7 +4,7 @@ use Rattle.std.specs.Prelude.{◌&&◌, bytes_eq}
 use Rattle.std.proofs.Math.Seq.{take-add}
 use Rattle.std.proofs.Math.Nat.{zero-mul}
 use Rattle.std.proofs.lemmas.List.{drop-drop}
-use Rattle.pybuf_apart.specs.Apart.{place_of, AreInside}
+use Rattle.pybuf_strided.specs.Apart.{place_of, AreInside}
 use Rattle.pybuf_equality.specs.Tracks.{all_below, same_piece}
 use Rattle.pybuf_equality.proofs.Bools.{bytes_both}
 use Rattle.pybuf_equality.proofs.Cut.{length-bytes_at}

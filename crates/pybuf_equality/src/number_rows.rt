@@ -9,9 +9,9 @@ ghost use Rattle.pybuf_equality.specs.Reading.{ReadsAsNumber};
 ghost use Rattle.pybuf_equality.specs.Walks.{IsPart, ArePaired, HaveSizes, pairs_of_lines, same_numbers_in, same_numbers_of};
 
 use crate::numbers::equal_numbers;
-use pybuf_apart::Track;
 use pybuf_desc::{SegmentLine, ZipSegments};
 use pybuf_memoryview::KeptLayout;
+use pybuf_strided::Track;
 use std::ops::Range;
 
 /// Whether the numbers at two ranges are equal.

@@ -1,13 +1,13 @@
 //! Numbers that lie apart, compared item by item.
 ghost use Rattle.std.specs.Prelude.{◌≡◌, ◌+◌, ◌≤◌, length, take, drop, false, IsTrue};
 ghost use Rattle.std.specs.Ordering.{int_eq};
-ghost use Rattle.pybuf_apart.specs.Apart.{place_of, AreInside};
+ghost use Rattle.pybuf_strided.specs.Apart.{place_of, AreInside};
 ghost use Rattle.pybuf_struct.specs.Digits.{is_width, number};
 ghost use Rattle.pybuf_equality.specs.Tracks.{all_below, same_number};
 
 use crate::tracks::place_on;
 use crate::words::number;
-use pybuf_apart::Track;
+use pybuf_strided::Track;
 
 /// Whether the number at one place is that at another, each by the sign and the size of its own side.
 #[inline]

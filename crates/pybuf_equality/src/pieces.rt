@@ -1,12 +1,12 @@
 //! The bytes of items that lie apart, compared item by item.
 ghost use Rattle.std.specs.Prelude.{◌≡◌, ◌+◌, ◌*◌, ◌<◌, ◌≤◌, ◌^◌, length, take, drop, bytes_eq, true, IsTrue};
-ghost use Rattle.pybuf_apart.specs.Apart.{place_of, AreInside};
+ghost use Rattle.pybuf_strided.specs.Apart.{place_of, AreInside};
 ghost use Rattle.pybuf_struct.specs.Digits.{is_width};
 ghost use Rattle.pybuf_equality.specs.Tracks.{all_below, same_piece};
 
 use crate::tracks::place;
 use crate::words::word;
-use pybuf_apart::Track;
+use pybuf_strided::Track;
 
 /// Whether two items have the same bytes.
 #[inline]

@@ -1,8 +1,8 @@
 //! Places of items that lie in equal steps.
 ghost use Rattle.std.specs.Prelude.{◌≡◌, ◌*◌, ◌<◌, ◌≤◌, ◌^◌, true};
-ghost use Rattle.pybuf_apart.specs.Apart.{place_of};
+ghost use Rattle.pybuf_strided.specs.Apart.{place_of};
 
-use pybuf_apart::Track;
+use pybuf_strided::Track;
 
 /// The place of item `k`.
 #[inline]

@@ -43,7 +43,7 @@ use Rattle.pybuf_verbs_writes.specs.Laws.{AssignIsSafe, AssignmentsAreByValue, C
 use Rattle.pybuf_exporter.specs.Step.{settled_answer}
 use Rattle.pybuf_exporter.specs.Assigning.{item_in, item_of_subject, item_of_snap, item_of_loan, item_before, source_before, StepsAssignByValue, SnapsHoldTheItems}
 
--- ---- the row
+-- ---- the effect
 
 abbrev okay : Exporter × LocalReply → Result (Exporter × LocalReply) Fault
 okay after = Ok after
@@ -51,10 +51,10 @@ okay after = Ok after
 refused_not : (f : Fault) → reply.Refused f ≡ reply.Ok → ⊥
 refused_not f is = absurd (cc)
 
-answered_ok : (e new : Exporter) (named : Bool) (row : Result (Exporter × LocalReply) Fault) → settled_answer e (if named then row else Err fault.UnknownName) ≡ (new, reply.Ok) → row ≡ okay (new, reply.Ok)
+answered_ok : (e new : Exporter) (named : Bool) (effect : Result (Exporter × LocalReply) Fault) → settled_answer e (if named then effect else Err fault.UnknownName) ≡ (new, reply.Ok) → effect ≡ okay (new, reply.Ok)
 answered_ok e new true (Ok after) is = ap okay is
 answered_ok e new true (Err f) is = absurd (refused_not f (ap (λ (after : Exporter × LocalReply). after.1) is))
-answered_ok e new false row is = absurd (refused_not fault.UnknownName (ap (λ (after : Exporter × LocalReply). after.1) is))
+answered_ok e new false effect is = absurd (refused_not fault.UnknownName (ap (λ (after : Exporter × LocalReply). after.1) is))
 
 -- ---- what is lent fits
 
@@ -217,9 +217,9 @@ within j n size some below = grind (arith, some, below)
 pub steps_assign : AssignmentsAreByValue → AssignIsSafe → SubjectsFit → LiveLayoutsAreSound → SnapsHoldTheItems → StepsAssignByValue
 steps_assign by_value safe fit live hold e new k slice v loans sound loans_fit is =
     let lents = lents_by e (names_of loans) (handle_of_value v) in
-    let row : assign_of_view e k slice v lents ≡ okay (new, reply.Ok) = answered_ok e new (are_named e (names_of loans) (handles_of (verb.Set (value.Slice slice) v))) (assign_of_view e k slice v lents) is in
-    let made = by_value e new k slice v lents reply.Ok sound (lents_fit fit e loans (handle_of_value v) sound loans_fit) row in
-    let carried : IsCarriedOut e (new, reply.Ok) = subst (λ (r : Result (Exporter × LocalReply) Fault). IfDone (IsCarriedOut e) r) row (safe e k slice v lents) in
+    let effect : assign_of_view e k slice v lents ≡ okay (new, reply.Ok) = answered_ok e new (are_named e (names_of loans) (handles_of (verb.Set (value.Slice slice) v))) (assign_of_view e k slice v lents) is in
+    let made = by_value e new k slice v lents reply.Ok sound (lents_fit fit e loans (handle_of_value v) sound loans_fit) effect in
+    let carried : IsCarriedOut e (new, reply.Ok) = subst (λ (r : Result (Exporter × LocalReply) Fault). IfDone (IsCarriedOut e) r) effect (safe e k slice v lents) in
     let keeps = carried.keeps sound in
     let done = made.done in
     let named : source_before e loans v ≡ Some made.source = source_is e loans v made.source made.named in

@@ -100,7 +100,7 @@ no_growth e (verb.Hex sep group) lents is grows = true≢false (sym grows)
 no_growth e (verb.Call method) lents is grows = true≢false (sym grows)
 no_growth e (verb.Set key v) lents is grows = true≢false (sym grows)
 
--- a verb that is no edit has no row among the edits
+-- a verb that is no edit has no effect among the edits
 pub no_edit : (e : Exporter) (v : Verb) (lents : List Lent) → is_edit v ≡ false → edit_of_own e v lents ≡ Err fault.UnknownName
 no_edit e (verb.Append v) lents is = absurd (true≢false is)
 no_edit e (verb.Extend v) lents is = absurd (true≢false is)
@@ -147,19 +147,19 @@ no_edit e (verb.Set (value.Slices slices) v) lents is = refl
 
 -- ---- how a command ends
 
-abbrev Row : Type 0
-Row = Result (Exporter × LocalReply) Fault
+abbrev Effect : Type 0
+Effect = Result (Exporter × LocalReply) Fault
 
--- what holds where a row is done holds of a command that is carried out
-pub where_done : (P : Type 0) (row : Row) (old new : Exporter) (a : Result LocalReply Halt) → Answers row old a new → IsOk row → (a ≡ Err halt.NoMemory → ⊥) → OnOk a P → P
-where_done P row old new (Ok r) answers done never holds = holds
-where_done P row old new (Err (halt.Refused f)) answers done never holds = absurd (true≢false (sym (subst IsOk answers.0 done)))
-where_done P row old new (Err halt.NoMemory) answers done never holds = absurd (never refl)
+-- what holds where an effect is done holds of a command that is carried out
+pub where_done : (P : Type 0) (effect : Effect) (old new : Exporter) (a : Result LocalReply Halt) → Answers effect old a new → IsOk effect → (a ≡ Err halt.NoMemory → ⊥) → OnOk a P → P
+where_done P effect old new (Ok r) answers done never holds = holds
+where_done P effect old new (Err (halt.Refused f)) answers done never holds = absurd (true≢false (sym (subst IsOk answers.0 done)))
+where_done P effect old new (Err halt.NoMemory) answers done never holds = absurd (never refl)
 
 -- and what holds where it isn't, of one that is refused
-pub where_refused : (P : Type 0) (row : Row) (old new : Exporter) (a : Result LocalReply Halt) → Answers row old a new → IsErr row → OnErr a P → P
-where_refused P row old new (Ok r) answers refused holds = absurd (true≢false (sym (subst IsErr answers refused)))
-where_refused P row old new (Err h) answers refused holds = holds
+pub where_refused : (P : Type 0) (effect : Effect) (old new : Exporter) (a : Result LocalReply Halt) → Answers effect old a new → IsErr effect → OnErr a P → P
+where_refused P effect old new (Ok r) answers refused holds = absurd (true≢false (sym (subst IsErr answers refused)))
+where_refused P effect old new (Err h) answers refused holds = holds
 
 -- what holds of a command that leaves the length
 pub still_by : (P Q : Type 0) (a : Result LocalReply Halt) → OnOk a (P → Q) → P → OnOk a Q
@@ -176,10 +176,10 @@ pub without_memory : (P : Type 0) (a : Result LocalReply Halt) → a ≡ Err hal
 without_memory P (Ok r) gone holds = absurd (cc)
 without_memory P (Err h) gone holds = holds
 
-pub same_exporter : (row : Row) (old new : Exporter) (a : Result LocalReply Halt) → a ≡ Err halt.NoMemory → Answers row old a new → new ≡ old
-same_exporter row old new (Ok r) gone answers = absurd (cc)
-same_exporter row old new (Err (halt.Refused f)) gone answers = absurd (cc)
-same_exporter row old new (Err halt.NoMemory) gone answers = answers
+pub same_exporter : (effect : Effect) (old new : Exporter) (a : Result LocalReply Halt) → a ≡ Err halt.NoMemory → Answers effect old a new → new ≡ old
+same_exporter effect old new (Ok r) gone answers = absurd (cc)
+same_exporter effect old new (Err (halt.Refused f)) gone answers = absurd (cc)
+same_exporter effect old new (Err halt.NoMemory) gone answers = answers
 
 abbrev pub stored : Exporter → ℕ → StoredExporter
 stored e room = record { exporter = e; room = room }
@@ -196,9 +196,9 @@ where_err P Q (Ok a) holds then = holds
 where_err P Q (Err x) holds then = then holds
 
 -- where memory runs out, exporter and room are as before
-pub closes_stored : {R E : Type 0} (row : Row) (old new : Exporter) (m n : ℕ) (a : Result LocalReply Halt) (r : Result R E) → Answers row old a new → OnErr a (n ≡ m) → OnErr r (a ≡ Err halt.NoMemory) → OnErr r (stored new n ≡ stored old m)
-closes_stored row old new m n a r answers rooms memory =
-    where_err _ _ r memory (λ gone. same_stored new old n m (same_exporter row old new a gone answers) (without_memory _ a gone rooms))
+pub closes_stored : {R E : Type 0} (effect : Effect) (old new : Exporter) (m n : ℕ) (a : Result LocalReply Halt) (r : Result R E) → Answers effect old a new → OnErr a (n ≡ m) → OnErr r (a ≡ Err halt.NoMemory) → OnErr r (stored new n ≡ stored old m)
+closes_stored effect old new m n a r answers rooms memory =
+    where_err _ _ r memory (λ gone. same_stored new old n m (same_exporter effect old new a gone answers) (without_memory _ a gone rooms))
 
 -- so it is where the room stays in any case
 pub always_on_err : {R E : Type 0} (P : Type 0) (r : Result R E) → P → OnErr r P

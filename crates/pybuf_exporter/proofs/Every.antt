@@ -1,4 +1,4 @@
--- Every command, by the laws of its row.
+-- Every command, by the laws of its effect.
 use Rattle.std.proofs.Common.{◌≡◌, ℕ, ◌+◌, ◌<◌, ◌≤◌, List, [], ◌∷◌, length, get_or, Bool, true, false, true≢false, ap, ap₂, sym, ◌∙◌, refl, subst, arith, inl}
 use Rattle.std.specs.Prelude.{◌==◌, ◌&&◌, nat_lt, slice_get, slice_index, Option, Some, Result, Ok, Err, if◌then◌else◌}
 use Rattle.std.proofs.lemmas.Option.{slice_get-get_or, slice_get_within}
@@ -41,12 +41,12 @@ use Rattle.pybuf_verbs_edits.specs.Laws.{EditsAreSafe, DeleteOfViewIsSafe}
 use Rattle.pybuf_verbs_compare.specs.Laws.{CompareIsSafe, HashIsSafe, ReprIsSafe}
 use Rattle.pybuf_verbs_methods.specs.Laws.{CallIsSafe, ContainsIsSafe, HexIsSafe}
 use Rattle.pybuf_verbs_iters.specs.Laws.{IterIsSafe, IteratorsAreSafe}
-use Rattle.pybuf_exporter.specs.Step.{get_of_view, row, answer_by, answer_of, settled_answer, estep, set_in_own, set_through_view}
-use Rattle.pybuf_exporter.specs.Rows.{RowsAreSafe, RowIsSafe, StepsKeepSound}
+use Rattle.pybuf_exporter.specs.Step.{get_of_view, effect, answer_by, answer_of, settled_answer, estep, set_in_own, set_through_view}
+use Rattle.pybuf_exporter.specs.Effects.{EffectsAreSafe, EffectIsSafe, StepsKeepSound}
 use Rattle.pybuf_exporter.specs.Laws.{CommandsKeepSound, LengthsStayUnderCommands, ReadOnlyBytesStayUnderCommands, IteratorsStayUnderCommands, is_of_iterators, OthersLeaveIterators, IterationChangesNothingElse, RefusedCommandsChangeNothing, NamesAlikeDoTheSame, ItemsAreRead, FreshRepliesAreCopies, ShownTextsAreOneLine, CommandsKeepItemsApart, NamesItsOwn, RepliedNamesAreThere, SubjectsStay}
 
--- the laws of the rows
-pub record RowLaws : Type 0 where
+-- the laws of the effects
+pub record EffectLaws : Type 0 where
   pub view : ViewIsSafe
   pub range : RangeIsSafe
   pub slice : SliceIsSafe
@@ -74,106 +74,106 @@ pub record RowLaws : Type 0 where
   pub iter : IterIsSafe
   pub iterators : IteratorsAreSafe
 
-get_of_view_safe : RowLaws → (e : Exporter) (k : ℕ) (key : Value) → IsSafe e (get_of_view e k key)
+get_of_view_safe : EffectLaws → (e : Exporter) (k : ℕ) (key : Value) → IsSafe e (get_of_view e k key)
 get_of_view_safe laws e k (value.Slice slice) = laws.slice e k slice
 get_of_view_safe laws e k (value.One s) = laws.get.1 e k (value.One s)
 get_of_view_safe laws e k (value.Tuple parts) = laws.get.1 e k (value.Tuple parts)
 get_of_view_safe laws e k (value.List parts) = laws.get.1 e k (value.List parts)
 get_of_view_safe laws e k (value.Slices slices) = laws.get.1 e k (value.Slices slices)
 
-set_through_view_safe : RowLaws → (e : Exporter) (k : ℕ) (key v : Value) (lents : List Lent) → IsSafe e (set_through_view e k key v lents)
+set_through_view_safe : EffectLaws → (e : Exporter) (k : ℕ) (key v : Value) (lents : List Lent) → IsSafe e (set_through_view e k key v lents)
 set_through_view_safe laws e k (value.Slice slice) v lents = laws.assign e k slice v lents
 set_through_view_safe laws e k (value.One s) v lents = laws.set.1 e k (value.One s) v lents
 set_through_view_safe laws e k (value.Tuple parts) v lents = laws.set.1 e k (value.Tuple parts) v lents
 set_through_view_safe laws e k (value.List parts) v lents = laws.set.1 e k (value.List parts) v lents
 set_through_view_safe laws e k (value.Slices slices) v lents = laws.set.1 e k (value.Slices slices) v lents
 
-set_in_own_safe : RowLaws → (e : Exporter) (key v : Value) (lents : List Lent) → IsSafe e (set_in_own e key v lents)
+set_in_own_safe : EffectLaws → (e : Exporter) (key v : Value) (lents : List Lent) → IsSafe e (set_in_own e key v lents)
 set_in_own_safe laws e (value.Slice slice) v lents = laws.edits e (verb.Set (value.Slice slice) v) lents
 set_in_own_safe laws e (value.One s) v lents = laws.set.0 e (value.One s) v
 set_in_own_safe laws e (value.Tuple parts) v lents = laws.set.0 e (value.Tuple parts) v
 set_in_own_safe laws e (value.List parts) v lents = laws.set.0 e (value.List parts) v
 set_in_own_safe laws e (value.Slices slices) v lents = laws.set.0 e (value.Slices slices) v
 
--- a line for each row
-pub rows_safe : RowLaws → RowsAreSafe
-rows_safe laws e subject.Own verb.View lents = laws.view.0 e
-rows_safe laws e subject.Own (verb.Get key) lents = laws.get.0 e key
-rows_safe laws e subject.Own (verb.Set key value) lents = set_in_own_safe laws e key value lents
-rows_safe laws e subject.Own (verb.Cast format shape) lents = tt
-rows_safe laws e subject.Own (verb.CastF format shape) lents = tt
-rows_safe laws e subject.Own (verb.ToBytes order) lents = laws.bytes.0 e order
-rows_safe laws e subject.Own verb.Release lents = tt
-rows_safe laws e subject.Own verb.Len lents = laws.len.0 e
-rows_safe laws e subject.Own (verb.Property name) lents = laws.property.0 e name
-rows_safe laws e subject.Own verb.ToReadonly lents = tt
-rows_safe laws e subject.Own (verb.Range from to) lents = laws.range e from to
-rows_safe laws e subject.Own verb.Enter lents = tt
-rows_safe laws e subject.Own verb.Exit lents = tt
-rows_safe laws e subject.Own verb.ToContiguous lents = tt
-rows_safe laws e subject.Own verb.ToList lents = tt
-rows_safe laws e subject.Own (verb.Del key) lents = laws.edits e (verb.Del key) lents
-rows_safe laws e subject.Own (verb.Append v) lents = laws.edits e (verb.Append v) lents
-rows_safe laws e subject.Own (verb.Extend v) lents = laws.edits e (verb.Extend v) lents
-rows_safe laws e subject.Own (verb.Insert index v) lents = laws.edits e (verb.Insert index v) lents
-rows_safe laws e subject.Own (verb.Pop index) lents = laws.edits e (verb.Pop index) lents
-rows_safe laws e subject.Own (verb.Remove v) lents = laws.edits e (verb.Remove v) lents
-rows_safe laws e subject.Own verb.Clear lents = laws.edits e verb.Clear lents
-rows_safe laws e subject.Own verb.Reverse lents = laws.edits e verb.Reverse lents
-rows_safe laws e subject.Own (verb.IAdd v) lents = laws.edits e (verb.IAdd v) lents
-rows_safe laws e subject.Own (verb.IMul count) lents = laws.edits e (verb.IMul count) lents
-rows_safe laws e subject.Own (verb.Init options) lents = laws.edits e (verb.Init options) lents
-rows_safe laws e subject.Own verb.Take lents = laws.edits e verb.Take lents
-rows_safe laws e subject.Own verb.Copy lents = laws.edits e verb.Copy lents
-rows_safe laws e subject.Own (verb.Compare op other) lents = laws.compare.0 e op other lents
-rows_safe laws e subject.Own verb.Hash lents = laws.hash.0 e
-rows_safe laws e subject.Own verb.Repr lents = laws.repr.0 e
-rows_safe laws e subject.Own verb.Iter lents = laws.iter.0 e
-rows_safe laws e subject.Own verb.Next lents = laws.edits e verb.Next lents
-rows_safe laws e subject.Own verb.LengthHint lents = laws.edits e verb.LengthHint lents
-rows_safe laws e subject.Own (verb.SetState state) lents = laws.edits e (verb.SetState state) lents
-rows_safe laws e subject.Own (verb.Contains v) lents = laws.contains e v (snaps_of lents)
-rows_safe laws e subject.Own (verb.Hex sep group) lents = laws.edits e (verb.Hex sep group) lents
-rows_safe laws e subject.Own (verb.Call method) lents = laws.call e method (snaps_of lents)
-rows_safe laws e (subject.View k) verb.View lents = laws.view.1 e k
-rows_safe laws e (subject.View k) (verb.Get key) lents = get_of_view_safe laws e k key
-rows_safe laws e (subject.View k) (verb.Set key value) lents = set_through_view_safe laws e k key value lents
-rows_safe laws e (subject.View k) (verb.Cast format shape) lents = laws.cast e k format shape
-rows_safe laws e (subject.View k) (verb.CastF format shape) lents = laws.column_cast e k format shape
-rows_safe laws e (subject.View k) (verb.ToBytes order) lents = laws.bytes.1 e k order
-rows_safe laws e (subject.View k) verb.Release lents = laws.release e k
-rows_safe laws e (subject.View k) verb.Len lents = laws.len.1 e k
-rows_safe laws e (subject.View k) (verb.Property name) lents = laws.property.1 e k name
-rows_safe laws e (subject.View k) verb.ToReadonly lents = laws.toreadonly e k
-rows_safe laws e (subject.View k) (verb.Range from to) lents = tt
-rows_safe laws e (subject.View k) verb.Enter lents = laws.enter e k
-rows_safe laws e (subject.View k) verb.Exit lents = laws.release e k
-rows_safe laws e (subject.View k) verb.ToContiguous lents = laws.contiguous e k
-rows_safe laws e (subject.View k) verb.ToList lents = laws.tolist e k
-rows_safe laws e (subject.View k) (verb.Del key) lents = laws.delete_of_view e k
-rows_safe laws e (subject.View k) (verb.Append v) lents = tt
-rows_safe laws e (subject.View k) (verb.Extend v) lents = tt
-rows_safe laws e (subject.View k) (verb.Insert index v) lents = tt
-rows_safe laws e (subject.View k) (verb.Pop index) lents = tt
-rows_safe laws e (subject.View k) (verb.Remove v) lents = tt
-rows_safe laws e (subject.View k) verb.Clear lents = tt
-rows_safe laws e (subject.View k) verb.Reverse lents = tt
-rows_safe laws e (subject.View k) (verb.IAdd v) lents = tt
-rows_safe laws e (subject.View k) (verb.IMul count) lents = tt
-rows_safe laws e (subject.View k) (verb.Init options) lents = tt
-rows_safe laws e (subject.View k) verb.Take lents = tt
-rows_safe laws e (subject.View k) verb.Copy lents = tt
-rows_safe laws e (subject.View k) (verb.Compare op other) lents = laws.compare.1 e k op other lents
-rows_safe laws e (subject.View k) verb.Hash lents = laws.hash.1 e k
-rows_safe laws e (subject.View k) verb.Repr lents = laws.repr.1 e k
-rows_safe laws e (subject.View k) verb.Iter lents = laws.iter.1 e k
-rows_safe laws e (subject.View k) verb.Next lents = tt
-rows_safe laws e (subject.View k) verb.LengthHint lents = tt
-rows_safe laws e (subject.View k) (verb.SetState state) lents = tt
-rows_safe laws e (subject.View k) (verb.Contains v) lents = tt
-rows_safe laws e (subject.View k) (verb.Hex sep group) lents = laws.hex e k sep group (snaps_of lents)
-rows_safe laws e (subject.View k) (verb.Call method) lents = tt
-rows_safe laws e (subject.Iter k) v lents = laws.iterators e k v
+-- a line for each effect
+pub effects_safe : EffectLaws → EffectsAreSafe
+effects_safe laws e subject.Own verb.View lents = laws.view.0 e
+effects_safe laws e subject.Own (verb.Get key) lents = laws.get.0 e key
+effects_safe laws e subject.Own (verb.Set key value) lents = set_in_own_safe laws e key value lents
+effects_safe laws e subject.Own (verb.Cast format shape) lents = tt
+effects_safe laws e subject.Own (verb.CastF format shape) lents = tt
+effects_safe laws e subject.Own (verb.ToBytes order) lents = laws.bytes.0 e order
+effects_safe laws e subject.Own verb.Release lents = tt
+effects_safe laws e subject.Own verb.Len lents = laws.len.0 e
+effects_safe laws e subject.Own (verb.Property name) lents = laws.property.0 e name
+effects_safe laws e subject.Own verb.ToReadonly lents = tt
+effects_safe laws e subject.Own (verb.Range from to) lents = laws.range e from to
+effects_safe laws e subject.Own verb.Enter lents = tt
+effects_safe laws e subject.Own verb.Exit lents = tt
+effects_safe laws e subject.Own verb.ToContiguous lents = tt
+effects_safe laws e subject.Own verb.ToList lents = tt
+effects_safe laws e subject.Own (verb.Del key) lents = laws.edits e (verb.Del key) lents
+effects_safe laws e subject.Own (verb.Append v) lents = laws.edits e (verb.Append v) lents
+effects_safe laws e subject.Own (verb.Extend v) lents = laws.edits e (verb.Extend v) lents
+effects_safe laws e subject.Own (verb.Insert index v) lents = laws.edits e (verb.Insert index v) lents
+effects_safe laws e subject.Own (verb.Pop index) lents = laws.edits e (verb.Pop index) lents
+effects_safe laws e subject.Own (verb.Remove v) lents = laws.edits e (verb.Remove v) lents
+effects_safe laws e subject.Own verb.Clear lents = laws.edits e verb.Clear lents
+effects_safe laws e subject.Own verb.Reverse lents = laws.edits e verb.Reverse lents
+effects_safe laws e subject.Own (verb.IAdd v) lents = laws.edits e (verb.IAdd v) lents
+effects_safe laws e subject.Own (verb.IMul count) lents = laws.edits e (verb.IMul count) lents
+effects_safe laws e subject.Own (verb.Init options) lents = laws.edits e (verb.Init options) lents
+effects_safe laws e subject.Own verb.Take lents = laws.edits e verb.Take lents
+effects_safe laws e subject.Own verb.Copy lents = laws.edits e verb.Copy lents
+effects_safe laws e subject.Own (verb.Compare op other) lents = laws.compare.0 e op other lents
+effects_safe laws e subject.Own verb.Hash lents = laws.hash.0 e
+effects_safe laws e subject.Own verb.Repr lents = laws.repr.0 e
+effects_safe laws e subject.Own verb.Iter lents = laws.iter.0 e
+effects_safe laws e subject.Own verb.Next lents = laws.edits e verb.Next lents
+effects_safe laws e subject.Own verb.LengthHint lents = laws.edits e verb.LengthHint lents
+effects_safe laws e subject.Own (verb.SetState state) lents = laws.edits e (verb.SetState state) lents
+effects_safe laws e subject.Own (verb.Contains v) lents = laws.contains e v (snaps_of lents)
+effects_safe laws e subject.Own (verb.Hex sep group) lents = laws.edits e (verb.Hex sep group) lents
+effects_safe laws e subject.Own (verb.Call method) lents = laws.call e method (snaps_of lents)
+effects_safe laws e (subject.View k) verb.View lents = laws.view.1 e k
+effects_safe laws e (subject.View k) (verb.Get key) lents = get_of_view_safe laws e k key
+effects_safe laws e (subject.View k) (verb.Set key value) lents = set_through_view_safe laws e k key value lents
+effects_safe laws e (subject.View k) (verb.Cast format shape) lents = laws.cast e k format shape
+effects_safe laws e (subject.View k) (verb.CastF format shape) lents = laws.column_cast e k format shape
+effects_safe laws e (subject.View k) (verb.ToBytes order) lents = laws.bytes.1 e k order
+effects_safe laws e (subject.View k) verb.Release lents = laws.release e k
+effects_safe laws e (subject.View k) verb.Len lents = laws.len.1 e k
+effects_safe laws e (subject.View k) (verb.Property name) lents = laws.property.1 e k name
+effects_safe laws e (subject.View k) verb.ToReadonly lents = laws.toreadonly e k
+effects_safe laws e (subject.View k) (verb.Range from to) lents = tt
+effects_safe laws e (subject.View k) verb.Enter lents = laws.enter e k
+effects_safe laws e (subject.View k) verb.Exit lents = laws.release e k
+effects_safe laws e (subject.View k) verb.ToContiguous lents = laws.contiguous e k
+effects_safe laws e (subject.View k) verb.ToList lents = laws.tolist e k
+effects_safe laws e (subject.View k) (verb.Del key) lents = laws.delete_of_view e k
+effects_safe laws e (subject.View k) (verb.Append v) lents = tt
+effects_safe laws e (subject.View k) (verb.Extend v) lents = tt
+effects_safe laws e (subject.View k) (verb.Insert index v) lents = tt
+effects_safe laws e (subject.View k) (verb.Pop index) lents = tt
+effects_safe laws e (subject.View k) (verb.Remove v) lents = tt
+effects_safe laws e (subject.View k) verb.Clear lents = tt
+effects_safe laws e (subject.View k) verb.Reverse lents = tt
+effects_safe laws e (subject.View k) (verb.IAdd v) lents = tt
+effects_safe laws e (subject.View k) (verb.IMul count) lents = tt
+effects_safe laws e (subject.View k) (verb.Init options) lents = tt
+effects_safe laws e (subject.View k) verb.Take lents = tt
+effects_safe laws e (subject.View k) verb.Copy lents = tt
+effects_safe laws e (subject.View k) (verb.Compare op other) lents = laws.compare.1 e k op other lents
+effects_safe laws e (subject.View k) verb.Hash lents = laws.hash.1 e k
+effects_safe laws e (subject.View k) verb.Repr lents = laws.repr.1 e k
+effects_safe laws e (subject.View k) verb.Iter lents = laws.iter.1 e k
+effects_safe laws e (subject.View k) verb.Next lents = tt
+effects_safe laws e (subject.View k) verb.LengthHint lents = tt
+effects_safe laws e (subject.View k) (verb.SetState state) lents = tt
+effects_safe laws e (subject.View k) (verb.Contains v) lents = tt
+effects_safe laws e (subject.View k) (verb.Hex sep group) lents = laws.hex e k sep group (snaps_of lents)
+effects_safe laws e (subject.View k) (verb.Call method) lents = tt
+effects_safe laws e (subject.Iter k) v lents = laws.iterators e k v
 
 -- ---- every command
 
@@ -195,7 +195,7 @@ pub record IsLeft (old new : Exporter) : Type 0 where
   pub iterators : IteratorsStay old.iterators new.iterators
   pub items_apart : IsSpaced old → IsSpaced new
 
--- what every row owes where it isn't refused
+-- what every effect owes where it isn't refused
 pub record IsStep (e : Exporter) (s : Subject) (v : Verb) (after : Exporter × LocalReply) : Type 0 where
   pub leaves : IsSoundExporter e → IsLeft e after.0
   pub others : is_of_iterators s v ≡ false → IsSoundExporter e → after.0.iterators ≡ e.iterators
@@ -291,142 +291,142 @@ iterated_step reading e s v (Ok after) of_iterators iterated = record {
 }
 iterated_step reading e s v (Err f) of_iterators iterated = tt
 
-row_step : ReadingKeeps → (e : Exporter) (s : Subject) (v : Verb) (r : Result (Exporter × LocalReply) Fault) → RowIsSafe e s v r → IfDone (IsStep e s v) r
-row_step reading e subject.Own verb.View r safe = safe_step e subject.Own verb.View r refl safe
-row_step reading e subject.Own (verb.Get key) r safe = safe_step e subject.Own (verb.Get key) r refl safe
-row_step reading e subject.Own (verb.Set key value) r safe = safe_step e subject.Own (verb.Set key value) r refl safe
-row_step reading e subject.Own (verb.Cast format shape) r safe = safe_step e subject.Own (verb.Cast format shape) r refl safe
-row_step reading e subject.Own (verb.CastF format shape) r safe = safe_step e subject.Own (verb.CastF format shape) r refl safe
-row_step reading e subject.Own (verb.ToBytes order) r safe = safe_step e subject.Own (verb.ToBytes order) r refl safe
-row_step reading e subject.Own verb.Release r safe = safe_step e subject.Own verb.Release r refl safe
-row_step reading e subject.Own verb.Len r safe = safe_step e subject.Own verb.Len r refl safe
-row_step reading e subject.Own (verb.Property name) r safe = safe_step e subject.Own (verb.Property name) r refl safe
-row_step reading e subject.Own verb.ToReadonly r safe = safe_step e subject.Own verb.ToReadonly r refl safe
-row_step reading e subject.Own (verb.Range from to) r safe = safe_step e subject.Own (verb.Range from to) r refl safe
-row_step reading e subject.Own verb.Enter r safe = safe_step e subject.Own verb.Enter r refl safe
-row_step reading e subject.Own verb.Exit r safe = safe_step e subject.Own verb.Exit r refl safe
-row_step reading e subject.Own verb.ToContiguous r safe = safe_step e subject.Own verb.ToContiguous r refl safe
-row_step reading e subject.Own verb.ToList r safe = safe_step e subject.Own verb.ToList r refl safe
-row_step reading e subject.Own (verb.Del key) r safe = safe_step e subject.Own (verb.Del key) r refl safe
-row_step reading e subject.Own (verb.Append v) r safe = safe_step e subject.Own (verb.Append v) r refl safe
-row_step reading e subject.Own (verb.Extend v) r safe = safe_step e subject.Own (verb.Extend v) r refl safe
-row_step reading e subject.Own (verb.Insert index v) r safe = safe_step e subject.Own (verb.Insert index v) r refl safe
-row_step reading e subject.Own (verb.Pop index) r safe = safe_step e subject.Own (verb.Pop index) r refl safe
-row_step reading e subject.Own (verb.Remove v) r safe = safe_step e subject.Own (verb.Remove v) r refl safe
-row_step reading e subject.Own verb.Clear r safe = safe_step e subject.Own verb.Clear r refl safe
-row_step reading e subject.Own verb.Reverse r safe = safe_step e subject.Own verb.Reverse r refl safe
-row_step reading e subject.Own (verb.IAdd v) r safe = safe_step e subject.Own (verb.IAdd v) r refl safe
-row_step reading e subject.Own (verb.IMul count) r safe = safe_step e subject.Own (verb.IMul count) r refl safe
-row_step reading e subject.Own (verb.Init options) r safe = safe_step e subject.Own (verb.Init options) r refl safe
-row_step reading e subject.Own verb.Take r safe = safe_step e subject.Own verb.Take r refl safe
-row_step reading e subject.Own verb.Copy r safe = copied_step reading e subject.Own verb.Copy r refl safe
-row_step reading e subject.Own (verb.Compare op other) r safe = safe_step e subject.Own (verb.Compare op other) r refl safe
-row_step reading e subject.Own verb.Hash r safe = safe_step e subject.Own verb.Hash r refl safe
-row_step reading e subject.Own verb.Repr r safe = safe_step e subject.Own verb.Repr r refl safe
-row_step reading e subject.Own verb.Iter r safe = iterated_step reading e subject.Own verb.Iter r refl safe
-row_step reading e subject.Own verb.Next r safe = safe_step e subject.Own verb.Next r refl safe
-row_step reading e subject.Own verb.LengthHint r safe = safe_step e subject.Own verb.LengthHint r refl safe
-row_step reading e subject.Own (verb.SetState state) r safe = safe_step e subject.Own (verb.SetState state) r refl safe
-row_step reading e subject.Own (verb.Contains v) r safe = safe_step e subject.Own (verb.Contains v) r refl safe
-row_step reading e subject.Own (verb.Hex sep group) r safe = safe_step e subject.Own (verb.Hex sep group) r refl safe
-row_step reading e subject.Own (verb.Call method) r safe = safe_step e subject.Own (verb.Call method) r refl safe
-row_step reading e (subject.Iter k) v r safe = iterated_step reading e (subject.Iter k) v r refl safe
-row_step reading e (subject.View k) verb.ToContiguous r safe = copied_step reading e (subject.View k) verb.ToContiguous r refl safe
-row_step reading e (subject.View k) verb.View r safe = safe_step e (subject.View k) verb.View r refl safe
-row_step reading e (subject.View k) (verb.Range from to) r safe = safe_step e (subject.View k) (verb.Range from to) r refl safe
-row_step reading e (subject.View k) (verb.Get key) r safe = safe_step e (subject.View k) (verb.Get key) r refl safe
-row_step reading e (subject.View k) (verb.Set key value) r safe = safe_step e (subject.View k) (verb.Set key value) r refl safe
-row_step reading e (subject.View k) (verb.Cast format shape) r safe = safe_step e (subject.View k) (verb.Cast format shape) r refl safe
-row_step reading e (subject.View k) (verb.CastF format shape) r safe = safe_step e (subject.View k) (verb.CastF format shape) r refl safe
-row_step reading e (subject.View k) (verb.ToBytes order) r safe = safe_step e (subject.View k) (verb.ToBytes order) r refl safe
-row_step reading e (subject.View k) verb.Release r safe = safe_step e (subject.View k) verb.Release r refl safe
-row_step reading e (subject.View k) verb.Enter r safe = safe_step e (subject.View k) verb.Enter r refl safe
-row_step reading e (subject.View k) verb.Exit r safe = safe_step e (subject.View k) verb.Exit r refl safe
-row_step reading e (subject.View k) verb.ToList r safe = safe_step e (subject.View k) verb.ToList r refl safe
-row_step reading e (subject.View k) verb.Len r safe = safe_step e (subject.View k) verb.Len r refl safe
-row_step reading e (subject.View k) (verb.Property name) r safe = safe_step e (subject.View k) (verb.Property name) r refl safe
-row_step reading e (subject.View k) verb.ToReadonly r safe = safe_step e (subject.View k) verb.ToReadonly r refl safe
-row_step reading e (subject.View k) (verb.Del key) r safe = safe_step e (subject.View k) (verb.Del key) r refl safe
-row_step reading e (subject.View k) (verb.Append v) r safe = safe_step e (subject.View k) (verb.Append v) r refl safe
-row_step reading e (subject.View k) (verb.Extend v) r safe = safe_step e (subject.View k) (verb.Extend v) r refl safe
-row_step reading e (subject.View k) (verb.Insert index v) r safe = safe_step e (subject.View k) (verb.Insert index v) r refl safe
-row_step reading e (subject.View k) (verb.Pop index) r safe = safe_step e (subject.View k) (verb.Pop index) r refl safe
-row_step reading e (subject.View k) (verb.Remove v) r safe = safe_step e (subject.View k) (verb.Remove v) r refl safe
-row_step reading e (subject.View k) verb.Clear r safe = safe_step e (subject.View k) verb.Clear r refl safe
-row_step reading e (subject.View k) verb.Reverse r safe = safe_step e (subject.View k) verb.Reverse r refl safe
-row_step reading e (subject.View k) (verb.IAdd v) r safe = safe_step e (subject.View k) (verb.IAdd v) r refl safe
-row_step reading e (subject.View k) (verb.IMul count) r safe = safe_step e (subject.View k) (verb.IMul count) r refl safe
-row_step reading e (subject.View k) (verb.Init options) r safe = safe_step e (subject.View k) (verb.Init options) r refl safe
-row_step reading e (subject.View k) verb.Take r safe = safe_step e (subject.View k) verb.Take r refl safe
-row_step reading e (subject.View k) verb.Copy r safe = safe_step e (subject.View k) verb.Copy r refl safe
-row_step reading e (subject.View k) (verb.Compare op other) r safe = safe_step e (subject.View k) (verb.Compare op other) r refl safe
-row_step reading e (subject.View k) verb.Hash r safe = safe_step e (subject.View k) verb.Hash r refl safe
-row_step reading e (subject.View k) verb.Repr r safe = safe_step e (subject.View k) verb.Repr r refl safe
-row_step reading e (subject.View k) verb.Iter r safe = iterated_step reading e (subject.View k) verb.Iter r refl safe
-row_step reading e (subject.View k) verb.Next r safe = safe_step e (subject.View k) verb.Next r refl safe
-row_step reading e (subject.View k) verb.LengthHint r safe = safe_step e (subject.View k) verb.LengthHint r refl safe
-row_step reading e (subject.View k) (verb.SetState state) r safe = safe_step e (subject.View k) (verb.SetState state) r refl safe
-row_step reading e (subject.View k) (verb.Contains v) r safe = safe_step e (subject.View k) (verb.Contains v) r refl safe
-row_step reading e (subject.View k) (verb.Hex sep group) r safe = safe_step e (subject.View k) (verb.Hex sep group) r refl safe
-row_step reading e (subject.View k) (verb.Call method) r safe = safe_step e (subject.View k) (verb.Call method) r refl safe
+effect_step : ReadingKeeps → (e : Exporter) (s : Subject) (v : Verb) (r : Result (Exporter × LocalReply) Fault) → EffectIsSafe e s v r → IfDone (IsStep e s v) r
+effect_step reading e subject.Own verb.View r safe = safe_step e subject.Own verb.View r refl safe
+effect_step reading e subject.Own (verb.Get key) r safe = safe_step e subject.Own (verb.Get key) r refl safe
+effect_step reading e subject.Own (verb.Set key value) r safe = safe_step e subject.Own (verb.Set key value) r refl safe
+effect_step reading e subject.Own (verb.Cast format shape) r safe = safe_step e subject.Own (verb.Cast format shape) r refl safe
+effect_step reading e subject.Own (verb.CastF format shape) r safe = safe_step e subject.Own (verb.CastF format shape) r refl safe
+effect_step reading e subject.Own (verb.ToBytes order) r safe = safe_step e subject.Own (verb.ToBytes order) r refl safe
+effect_step reading e subject.Own verb.Release r safe = safe_step e subject.Own verb.Release r refl safe
+effect_step reading e subject.Own verb.Len r safe = safe_step e subject.Own verb.Len r refl safe
+effect_step reading e subject.Own (verb.Property name) r safe = safe_step e subject.Own (verb.Property name) r refl safe
+effect_step reading e subject.Own verb.ToReadonly r safe = safe_step e subject.Own verb.ToReadonly r refl safe
+effect_step reading e subject.Own (verb.Range from to) r safe = safe_step e subject.Own (verb.Range from to) r refl safe
+effect_step reading e subject.Own verb.Enter r safe = safe_step e subject.Own verb.Enter r refl safe
+effect_step reading e subject.Own verb.Exit r safe = safe_step e subject.Own verb.Exit r refl safe
+effect_step reading e subject.Own verb.ToContiguous r safe = safe_step e subject.Own verb.ToContiguous r refl safe
+effect_step reading e subject.Own verb.ToList r safe = safe_step e subject.Own verb.ToList r refl safe
+effect_step reading e subject.Own (verb.Del key) r safe = safe_step e subject.Own (verb.Del key) r refl safe
+effect_step reading e subject.Own (verb.Append v) r safe = safe_step e subject.Own (verb.Append v) r refl safe
+effect_step reading e subject.Own (verb.Extend v) r safe = safe_step e subject.Own (verb.Extend v) r refl safe
+effect_step reading e subject.Own (verb.Insert index v) r safe = safe_step e subject.Own (verb.Insert index v) r refl safe
+effect_step reading e subject.Own (verb.Pop index) r safe = safe_step e subject.Own (verb.Pop index) r refl safe
+effect_step reading e subject.Own (verb.Remove v) r safe = safe_step e subject.Own (verb.Remove v) r refl safe
+effect_step reading e subject.Own verb.Clear r safe = safe_step e subject.Own verb.Clear r refl safe
+effect_step reading e subject.Own verb.Reverse r safe = safe_step e subject.Own verb.Reverse r refl safe
+effect_step reading e subject.Own (verb.IAdd v) r safe = safe_step e subject.Own (verb.IAdd v) r refl safe
+effect_step reading e subject.Own (verb.IMul count) r safe = safe_step e subject.Own (verb.IMul count) r refl safe
+effect_step reading e subject.Own (verb.Init options) r safe = safe_step e subject.Own (verb.Init options) r refl safe
+effect_step reading e subject.Own verb.Take r safe = safe_step e subject.Own verb.Take r refl safe
+effect_step reading e subject.Own verb.Copy r safe = copied_step reading e subject.Own verb.Copy r refl safe
+effect_step reading e subject.Own (verb.Compare op other) r safe = safe_step e subject.Own (verb.Compare op other) r refl safe
+effect_step reading e subject.Own verb.Hash r safe = safe_step e subject.Own verb.Hash r refl safe
+effect_step reading e subject.Own verb.Repr r safe = safe_step e subject.Own verb.Repr r refl safe
+effect_step reading e subject.Own verb.Iter r safe = iterated_step reading e subject.Own verb.Iter r refl safe
+effect_step reading e subject.Own verb.Next r safe = safe_step e subject.Own verb.Next r refl safe
+effect_step reading e subject.Own verb.LengthHint r safe = safe_step e subject.Own verb.LengthHint r refl safe
+effect_step reading e subject.Own (verb.SetState state) r safe = safe_step e subject.Own (verb.SetState state) r refl safe
+effect_step reading e subject.Own (verb.Contains v) r safe = safe_step e subject.Own (verb.Contains v) r refl safe
+effect_step reading e subject.Own (verb.Hex sep group) r safe = safe_step e subject.Own (verb.Hex sep group) r refl safe
+effect_step reading e subject.Own (verb.Call method) r safe = safe_step e subject.Own (verb.Call method) r refl safe
+effect_step reading e (subject.Iter k) v r safe = iterated_step reading e (subject.Iter k) v r refl safe
+effect_step reading e (subject.View k) verb.ToContiguous r safe = copied_step reading e (subject.View k) verb.ToContiguous r refl safe
+effect_step reading e (subject.View k) verb.View r safe = safe_step e (subject.View k) verb.View r refl safe
+effect_step reading e (subject.View k) (verb.Range from to) r safe = safe_step e (subject.View k) (verb.Range from to) r refl safe
+effect_step reading e (subject.View k) (verb.Get key) r safe = safe_step e (subject.View k) (verb.Get key) r refl safe
+effect_step reading e (subject.View k) (verb.Set key value) r safe = safe_step e (subject.View k) (verb.Set key value) r refl safe
+effect_step reading e (subject.View k) (verb.Cast format shape) r safe = safe_step e (subject.View k) (verb.Cast format shape) r refl safe
+effect_step reading e (subject.View k) (verb.CastF format shape) r safe = safe_step e (subject.View k) (verb.CastF format shape) r refl safe
+effect_step reading e (subject.View k) (verb.ToBytes order) r safe = safe_step e (subject.View k) (verb.ToBytes order) r refl safe
+effect_step reading e (subject.View k) verb.Release r safe = safe_step e (subject.View k) verb.Release r refl safe
+effect_step reading e (subject.View k) verb.Enter r safe = safe_step e (subject.View k) verb.Enter r refl safe
+effect_step reading e (subject.View k) verb.Exit r safe = safe_step e (subject.View k) verb.Exit r refl safe
+effect_step reading e (subject.View k) verb.ToList r safe = safe_step e (subject.View k) verb.ToList r refl safe
+effect_step reading e (subject.View k) verb.Len r safe = safe_step e (subject.View k) verb.Len r refl safe
+effect_step reading e (subject.View k) (verb.Property name) r safe = safe_step e (subject.View k) (verb.Property name) r refl safe
+effect_step reading e (subject.View k) verb.ToReadonly r safe = safe_step e (subject.View k) verb.ToReadonly r refl safe
+effect_step reading e (subject.View k) (verb.Del key) r safe = safe_step e (subject.View k) (verb.Del key) r refl safe
+effect_step reading e (subject.View k) (verb.Append v) r safe = safe_step e (subject.View k) (verb.Append v) r refl safe
+effect_step reading e (subject.View k) (verb.Extend v) r safe = safe_step e (subject.View k) (verb.Extend v) r refl safe
+effect_step reading e (subject.View k) (verb.Insert index v) r safe = safe_step e (subject.View k) (verb.Insert index v) r refl safe
+effect_step reading e (subject.View k) (verb.Pop index) r safe = safe_step e (subject.View k) (verb.Pop index) r refl safe
+effect_step reading e (subject.View k) (verb.Remove v) r safe = safe_step e (subject.View k) (verb.Remove v) r refl safe
+effect_step reading e (subject.View k) verb.Clear r safe = safe_step e (subject.View k) verb.Clear r refl safe
+effect_step reading e (subject.View k) verb.Reverse r safe = safe_step e (subject.View k) verb.Reverse r refl safe
+effect_step reading e (subject.View k) (verb.IAdd v) r safe = safe_step e (subject.View k) (verb.IAdd v) r refl safe
+effect_step reading e (subject.View k) (verb.IMul count) r safe = safe_step e (subject.View k) (verb.IMul count) r refl safe
+effect_step reading e (subject.View k) (verb.Init options) r safe = safe_step e (subject.View k) (verb.Init options) r refl safe
+effect_step reading e (subject.View k) verb.Take r safe = safe_step e (subject.View k) verb.Take r refl safe
+effect_step reading e (subject.View k) verb.Copy r safe = safe_step e (subject.View k) verb.Copy r refl safe
+effect_step reading e (subject.View k) (verb.Compare op other) r safe = safe_step e (subject.View k) (verb.Compare op other) r refl safe
+effect_step reading e (subject.View k) verb.Hash r safe = safe_step e (subject.View k) verb.Hash r refl safe
+effect_step reading e (subject.View k) verb.Repr r safe = safe_step e (subject.View k) verb.Repr r refl safe
+effect_step reading e (subject.View k) verb.Iter r safe = iterated_step reading e (subject.View k) verb.Iter r refl safe
+effect_step reading e (subject.View k) verb.Next r safe = safe_step e (subject.View k) verb.Next r refl safe
+effect_step reading e (subject.View k) verb.LengthHint r safe = safe_step e (subject.View k) verb.LengthHint r refl safe
+effect_step reading e (subject.View k) (verb.SetState state) r safe = safe_step e (subject.View k) (verb.SetState state) r refl safe
+effect_step reading e (subject.View k) (verb.Contains v) r safe = safe_step e (subject.View k) (verb.Contains v) r refl safe
+effect_step reading e (subject.View k) (verb.Hex sep group) r safe = safe_step e (subject.View k) (verb.Hex sep group) r refl safe
+effect_step reading e (subject.View k) (verb.Call method) r safe = safe_step e (subject.View k) (verb.Call method) r refl safe
 
 chosen : (e : Exporter) (s : Subject) (v : Verb) (b : Bool) (r : Result (Exporter × LocalReply) Fault) → IfDone (IsStep e s v) r → IfDone (IsStep e s v) (if b then r else Err fault.UnknownName)
 chosen e s v true r step = step
 chosen e s v false r step = tt
 
-answered_by : RowsAreSafe → ReadingKeeps → (e : Exporter) (s : Subject) (v : Verb) (named : ℕ → Option Loan) → IfDone (IsStep e s v) (answer_by e s v named)
-answered_by rows reading e s v named =
+answered_by : EffectsAreSafe → ReadingKeeps → (e : Exporter) (s : Subject) (v : Verb) (named : ℕ → Option Loan) → IfDone (IsStep e s v) (answer_by e s v named)
+answered_by effects reading e s v named =
     let lents = lents_by e named (handles_read s v) in
-    chosen e s v (are_named e named (handles_of v)) (row e s v lents) (row_step reading e s v (row e s v lents) (rows e s v lents))
+    chosen e s v (are_named e named (handles_of v)) (effect e s v lents) (effect_step reading e s v (effect e s v lents) (effects e s v lents))
 
-pub answered_step : RowsAreSafe → ReadingKeeps → (e : Exporter) (s : Subject) (v : Verb) (loans : List (ℕ × Loan)) → IfDone (IsStep e s v) (answer_of e s v loans)
-answered_step rows reading e s v loans = answered_by rows reading e s v (names_of loans)
+pub answered_step : EffectsAreSafe → ReadingKeeps → (e : Exporter) (s : Subject) (v : Verb) (loans : List (ℕ × Loan)) → IfDone (IsStep e s v) (answer_of e s v loans)
+answered_step effects reading e s v loans = answered_by effects reading e s v (names_of loans)
 
 settled_leaves : ReadingKeeps → (e : Exporter) (s : Subject) (v : Verb) (r : Result (Exporter × LocalReply) Fault) → IfDone (IsStep e s v) r → IsSoundExporter e → IsLeft e (settled_answer e r).0
 settled_leaves reading e s v (Ok after) step sound = step.leaves sound
 settled_leaves reading e s v (Err f) step sound = left_so e e (reading e sound)
 
-step_leaves : RowsAreSafe → ReadingKeeps → (e : Exporter) (s : Subject) (v : Verb) (loans : List (ℕ × Loan)) → IsSoundExporter e → IsLeft e (estep e s v loans).0
-step_leaves rows reading e s v loans sound = settled_leaves reading e s v (answer_of e s v loans) (answered_step rows reading e s v loans) sound
+step_leaves : EffectsAreSafe → ReadingKeeps → (e : Exporter) (s : Subject) (v : Verb) (loans : List (ℕ × Loan)) → IsSoundExporter e → IsLeft e (estep e s v loans).0
+step_leaves effects reading e s v loans sound = settled_leaves reading e s v (answer_of e s v loans) (answered_step effects reading e s v loans) sound
 
-pub steps_keep : RowsAreSafe → ReadingKeeps → StepsKeepSound
-steps_keep rows reading e s v named sound = (settled_leaves reading e s v (answer_by e s v named) (answered_by rows reading e s v named) sound).sound
+pub steps_keep : EffectsAreSafe → ReadingKeeps → StepsKeepSound
+steps_keep effects reading e s v named sound = (settled_leaves reading e s v (answer_by e s v named) (answered_by effects reading e s v named) sound).sound
 
-pub sound_stays : RowsAreSafe → ReadingKeeps → CommandsKeepSound
-sound_stays rows reading e s v loans sound = (step_leaves rows reading e s v loans sound).sound
+pub sound_stays : EffectsAreSafe → ReadingKeeps → CommandsKeepSound
+sound_stays effects reading e s v loans sound = (step_leaves effects reading e s v loans sound).sound
 
-pub lengths_stay_so : RowsAreSafe → ReadingKeeps → LengthsStayUnderCommands
-lengths_stay_so rows reading e s v loans sound = (step_leaves rows reading e s v loans sound).lengths
+pub lengths_stay_so : EffectsAreSafe → ReadingKeeps → LengthsStayUnderCommands
+lengths_stay_so effects reading e s v loans sound = (step_leaves effects reading e s v loans sound).lengths
 
-pub bytes_stay_so : RowsAreSafe → ReadingKeeps → ReadOnlyBytesStayUnderCommands
-bytes_stay_so rows reading e s v loans sound = (step_leaves rows reading e s v loans sound).readonly_bytes
+pub bytes_stay_so : EffectsAreSafe → ReadingKeeps → ReadOnlyBytesStayUnderCommands
+bytes_stay_so effects reading e s v loans sound = (step_leaves effects reading e s v loans sound).readonly_bytes
 
-pub iterators_stay_so : RowsAreSafe → ReadingKeeps → IteratorsStayUnderCommands
-iterators_stay_so rows reading e s v loans sound = (step_leaves rows reading e s v loans sound).iterators
+pub iterators_stay_so : EffectsAreSafe → ReadingKeeps → IteratorsStayUnderCommands
+iterators_stay_so effects reading e s v loans sound = (step_leaves effects reading e s v loans sound).iterators
 
 -- commands of iterators, and all others
 settled_others : (e : Exporter) (s : Subject) (v : Verb) (r : Result (Exporter × LocalReply) Fault) → IfDone (IsStep e s v) r → IsSoundExporter e → is_of_iterators s v ≡ false → (settled_answer e r).0.iterators ≡ e.iterators
 settled_others e s v (Ok after) step sound other = step.others other sound
 settled_others e s v (Err f) step sound other = refl
 
-pub others_leave_so : RowsAreSafe → ReadingKeeps → OthersLeaveIterators
-others_leave_so rows reading e s v loans sound other = settled_others e s v (answer_of e s v loans) (answered_step rows reading e s v loans) sound other
+pub others_leave_so : EffectsAreSafe → ReadingKeeps → OthersLeaveIterators
+others_leave_so effects reading e s v loans sound other = settled_others e s v (answer_of e s v loans) (answered_step effects reading e s v loans) sound other
 
 settled_iterated : (e : Exporter) (s : Subject) (v : Verb) (r : Result (Exporter × LocalReply) Fault) → IfDone (IsStep e s v) r → is_of_iterators s v ≡ true
     → (settled_answer e r).0 ≡ record e { iterators = (settled_answer e r).0.iterators }
 settled_iterated e s v (Ok after) step is = step.nothing_else is
 settled_iterated e s v (Err f) step is = refl
 
-pub nothing_else_so : RowsAreSafe → ReadingKeeps → IterationChangesNothingElse
-nothing_else_so rows reading e s v loans is = settled_iterated e s v (answer_of e s v loans) (answered_step rows reading e s v loans) is
+pub nothing_else_so : EffectsAreSafe → ReadingKeeps → IterationChangesNothingElse
+nothing_else_so effects reading e s v loans is = settled_iterated e s v (answer_of e s v loans) (answered_step effects reading e s v loans) is
 
 -- where the reply is a refusal, the exporter is as before
 settled_refusal : (e : Exporter) (s : Subject) (v : Verb) (r : Result (Exporter × LocalReply) Fault) (f : Fault) → IfDone (IsStep e s v) r → (settled_answer e r).1 ≡ reply.Refused f → (settled_answer e r).0 ≡ e
 settled_refusal e s v (Ok after) f step is = absurd (subst (IsReplyTo e s after.0) is step.replies)
 settled_refusal e s v (Err g) f step is = refl
 
-pub refusals_stay_so : RowsAreSafe → ReadingKeeps → RefusedCommandsChangeNothing
-refusals_stay_so rows reading e s v loans f is = settled_refusal e s v (answer_of e s v loans) f (answered_step rows reading e s v loans) is
+pub refusals_stay_so : EffectsAreSafe → ReadingKeeps → RefusedCommandsChangeNothing
+refusals_stay_so effects reading e s v loans f is = settled_refusal e s v (answer_of e s v loans) f (answered_step effects reading e s v loans) is
 
 -- where the reply is something fresh, the exporter is as before, and it is a copy
 settled_fresh : (e : Exporter) (s : Subject) (v : Verb) (r : Result (Exporter × LocalReply) Fault) (snap : Snap) → IfDone (IsStep e s v) r → (settled_answer e r).1 ≡ reply.Fresh snap
@@ -434,20 +434,20 @@ settled_fresh : (e : Exporter) (s : Subject) (v : Verb) (r : Result (Exporter ×
 settled_fresh e s v (Ok after) snap step is = subst (IsReplyTo e s after.0) is step.replies
 settled_fresh e s v (Err g) snap step is = absurd (cc)
 
-pub fresh_are_copies : RowsAreSafe → ReadingKeeps → FreshRepliesAreCopies
-fresh_are_copies rows reading e s v loans snap is = settled_fresh e s v (answer_of e s v loans) snap (answered_step rows reading e s v loans) is
+pub fresh_are_copies : EffectsAreSafe → ReadingKeeps → FreshRepliesAreCopies
+fresh_are_copies effects reading e s v loans snap is = settled_fresh e s v (answer_of e s v loans) snap (answered_step effects reading e s v loans) is
 
 -- where the reply shows a text, it is one line
 settled_shown : (e : Exporter) (s : Subject) (v : Verb) (r : Result (Exporter × LocalReply) Fault) (text : List ℕ) → IfDone (IsStep e s v) r → (settled_answer e r).1 ≡ reply.Shown text → is_one_line text ≡ true
 settled_shown e s v (Ok after) text step is = subst (IsReplyTo e s after.0) is step.replies
 settled_shown e s v (Err g) text step is = absurd (cc)
 
-pub shown_are_one_line : RowsAreSafe → ReadingKeeps → ShownTextsAreOneLine
-shown_are_one_line rows reading e s v loans text is = settled_shown e s v (answer_of e s v loans) text (answered_step rows reading e s v loans) is
+pub shown_are_one_line : EffectsAreSafe → ReadingKeeps → ShownTextsAreOneLine
+shown_are_one_line effects reading e s v loans text is = settled_shown e s v (answer_of e s v loans) text (answered_step effects reading e s v loans) is
 
 -- where no two items of a view share a byte
-pub items_stay_apart : RowsAreSafe → ReadingKeeps → CommandsKeepItemsApart
-items_stay_apart rows reading e s v loans sound spaced = (step_leaves rows reading e s v loans sound).items_apart spaced
+pub items_stay_apart : EffectsAreSafe → ReadingKeeps → CommandsKeepItemsApart
+items_stay_apart effects reading e s v loans sound spaced = (step_leaves effects reading e s v loans sound).items_apart spaced
 
 -- where the reply names a view or an iterator, it is there
 reply_names : (e : Exporter) (s : Subject) (new : Exporter) (r : LocalReply) → IsReplyTo e s new r → NamesItsOwn new r
@@ -473,8 +473,8 @@ settled_names : (e : Exporter) (s : Subject) (v : Verb) (r : Result (Exporter ×
 settled_names e s v (Ok after) step = reply_names e s after.0 after.1 step.replies
 settled_names e s v (Err g) step = tt
 
-pub names_are_there : RowsAreSafe → ReadingKeeps → RepliedNamesAreThere
-names_are_there rows reading e s v loans = settled_names e s v (answer_of e s v loans) (answered_step rows reading e s v loans)
+pub names_are_there : EffectsAreSafe → ReadingKeeps → RepliedNamesAreThere
+names_are_there effects reading e s v loans = settled_names e s v (answer_of e s v loans) (answered_step effects reading e s v loans)
 
 element_at : {X : Type 0} (xs : List X) (k : ℕ) → k < length xs → X
 element_at [] k below = absurd (omega (arith, below))
@@ -494,13 +494,13 @@ has_still old new lengths iterators subject.Own has = has
 has_still old new lengths iterators (subject.View k) has = still_there IsSameOrReleased old.views new.views lengths.views k has
 has_still old new lengths iterators (subject.Iter k) has = still_there IsSameOrMoved old.iterators new.iterators iterators k has
 
-pub subjects_stay_so : RowsAreSafe → ReadingKeeps → SubjectsStay
-subjects_stay_so rows reading e s v loans other sound has =
-    let left = step_leaves rows reading e s v loans sound in has_still e (estep e s v loans).0 left.lengths left.iterators other has
+pub subjects_stay_so : EffectsAreSafe → ReadingKeeps → SubjectsStay
+subjects_stay_so effects reading e s v loans other sound has =
+    let left = step_leaves effects reading e s v loans sound in has_still e (estep e s v loans).0 left.lengths left.iterators other has
 
 pub alike_steps : NamesAlikeDoTheSame
 alike_steps e s v named others alike =
-    ap₂ (λ (known : Bool) (lents : List Lent). settled_answer e (if known then row e s v lents else Err fault.UnknownName)) alike.known alike.lent
+    ap₂ (λ (known : Bool) (lents : List Lent). settled_answer e (if known then effect e s v lents else Err fault.UnknownName)) alike.known alike.lent
 
 -- ---- items
 

@@ -1,4 +1,4 @@
--- No row is refused with `StructError`, row by row.
+-- No effect is refused with `StructError`, effect by effect.
 use Rattle.std.proofs.Common.{◌≡◌, ℕ, zero, suc, ◌+◌, ◌*◌, ◌/◌, ◌%◌, ◌^◌, ◌++◌, List, [], ◌∷◌, Bool, true, false, true≢false, refl, ap, ◌∙◌, sym, subst, length, map}
 use Rattle.std.specs.Prelude.{◌≢◌, ◌==◌, ◌&&◌, ◌||◌, not, reverse, ◌-◌, ℤ, pos, negsuc, Option, Some, None, Result, Ok, Err, nat_lt, nat_le, slice_get, slice_index, if◌then◌else◌}
 use Rattle.std.specs.List.{list_all, position_or_len}
@@ -84,14 +84,14 @@ use Rattle.pybuf_verbs_edits.specs.Shrinking as shrinking
 use Rattle.pybuf_verbs_edits.specs.Replacing as replacing
 use Rattle.pybuf_verbs_edits.specs.Edits.{edit_of_own}
 use Rattle.pybuf_bytes.specs.Options.{bytes_of_options}
-use Rattle.pybuf_exporter.specs.Step.{get_of_view, set_through_view, set_in_own, row_of_own, row_of_view, row, answer_by, estep, settled_answer}
+use Rattle.pybuf_exporter.specs.Step.{get_of_view, set_through_view, set_in_own, effect_on_own, effect_on_view, effect, answer_by, estep, settled_answer}
 use Rattle.pybuf_exporter.specs.Laws.{StructErrorIsNeverReplied}
-use Rattle.pybuf_exporter.specs.Rows.{RowsAreSafe}
+use Rattle.pybuf_exporter.specs.Effects.{EffectsAreSafe}
 use Rattle.pybuf_exporter.proofs.Every.{IsStep, IsReplyTo, answered_step}
 use Rattle.pybuf_exporter.proofs.Arguments as given
 use Rattle.pybuf_exporter.proofs.Arguments.{is_struct, Known, bind, carried, checked, either, some_or}
 
--- ---- what rows begin with
+-- ---- what effects begin with
 
 view_at : (e : Exporter) (k : ℕ) → Known (state.view_at e k)
 view_at e k = some_or (slice_get e.views k) fault.UnknownName refl
@@ -167,7 +167,7 @@ only _ = refl
 of_key : (shape : List ℕ) (key : Value) → Known (keys.item_of_key shape key)
 of_key shape key = either (length shape == 0) (keys.only_item key) (keys.item_among shape key) (only key) (among shape key)
 
--- ---- rows that make and end views
+-- ---- effects that make and end views
 
 between : (count : ℕ) (from to : ℤ) → Known (ranges.part_between count from to)
 between count (pos from) (pos to) = either (nat_le from to && nat_le to count) (Ok (from, to - from)) (Err fault.Index) tt refl
@@ -240,7 +240,7 @@ column_cast e k format shape =
 release : (e : Exporter) (k : ℕ) → Known (release_of_view e k)
 release e k = bind (state.released_in e k) _ (bind (state.view_at e k) _ (view_at e k) (λ v. tt)) (λ after. tt)
 
--- ---- rows that read
+-- ---- effects that read
 
 byte_of_own : (e : Exporter) (key : Value) → Known (gets.byte_of_own e key)
 byte_of_own e key = bind (items.index_in key) _ (index_in key) (λ index. bind (places.entry_in (length e.bytes) index) _ (entry_in (length e.bytes) index) (λ place. tt))
@@ -299,7 +299,7 @@ bytes_own e (Some v) = refl
 bytes_view : (e : Exporter) (k : ℕ) (order : Option Value) → Known (orders.bytes_of_view e k order)
 bytes_view e k order = bind (state.live_layout e k) _ (live e k) (λ layout. bind (orders.is_column_order layout order) _ (column_order layout order) (λ columns. tt))
 
--- ---- rows that compare
+-- ---- effects that compare
 
 compare_own : (e : Exporter) (op : CompareOp) (other : Value) (lents : List Lent) → Known (compares.compare_of_own e op other lents)
 compare_own e op other lents = bind (unless (is_vector e.kind) fault.UnknownName) _ (checked _ fault.UnknownName refl) (λ _. bind (unless (compares.has_no_order_with e.kind op (compares.other_in other lents)) fault.Kind) _ (checked _ fault.Kind refl) (λ _. tt))
@@ -319,7 +319,7 @@ repr_own e = bind (unless (is_vector e.kind) fault.UnknownName) _ (checked _ fau
 repr : (e : Exporter) (k : ℕ) → Known (reprs.repr_of_view e k)
 repr e k = bind (state.view_at e k) _ (view_at e k) (λ v. tt)
 
--- ---- rows that write
+-- ---- effects that write
 
 set_own : (e : Exporter) (key v : Value) → Known (sets.set_of_own e key v)
 set_own e key v = byte_array_alone e.kind (sets.byte_set e key v) (bind (items.index_in key) _ (index_in key) (λ index. bind (numbers.byte_in v) _ (given.byte_in v) (λ byte. bind (places.entry_in (length e.bytes) index) _ (entry_in (length e.bytes) index) (λ place. tt))))
@@ -408,7 +408,7 @@ put_unless : (exhausted : Bool) (e : Exporter) (k : ℕ) (it : Iterator) (v : Va
 put_unless true e k it v = tt
 put_unless false e k it v = bind (numbers.number_of v) _ (given.number_of v) (λ n. tt)
 
-of_iterator : (e : Exporter) (k : ℕ) (v : Verb) → Known (iterators.row_of_iterator e k v)
+of_iterator : (e : Exporter) (k : ℕ) (v : Verb) → Known (iterators.effect_on_iterator e k v)
 of_iterator e k verb.Iter = bind (state.iterator_at e k) _ (iterator_at e k) (λ it. tt)
 of_iterator e k verb.Next = bind (state.iterator_at e k) _ (iterator_at e k) (λ it. next_unless it.exhausted e k it)
 of_iterator e k verb.LengthHint = bind (iterators.iterator_over_bytes e k) _ (over_bytes e k) (λ it. tt)
@@ -494,9 +494,9 @@ set_own_by_key : (e : Exporter) (key v : Value) (lents : List Lent) → Known (s
 set_own_by_key e (value.Slice s) v lents = set_by_key e (value.Slice s) v lents
 set_own_by_key e key v lents = set_own e key v
 
--- ---- a line for each row
+-- ---- a line for each effect
 
-of_own : (e : Exporter) (v : Verb) (lents : List Lent) → Known (row_of_own e v lents)
+of_own : (e : Exporter) (v : Verb) (lents : List Lent) → Known (effect_on_own e v lents)
 of_own e verb.View lents = tt
 of_own e (verb.Range from to) lents = range e from to
 of_own e (verb.Get key) lents = in_kind e.kind (gets.part_of_own e key) (part_of_own e key)
@@ -512,7 +512,7 @@ of_own e (verb.Contains v) lents = contains e v (snaps_of lents)
 of_own e (verb.Call c) lents = call e c (snaps_of lents)
 of_own e v lents = edit e v lents
 
-of_view : (e : Exporter) (k : ℕ) (v : Verb) (lents : List Lent) → Known (row_of_view e k v lents)
+of_view : (e : Exporter) (k : ℕ) (v : Verb) (lents : List Lent) → Known (effect_on_view e k v lents)
 of_view e k verb.View lents = view e k
 of_view e k (verb.Get key) lents = get e k key
 of_view e k (verb.Set key v) lents = set_through e k key v lents
@@ -535,13 +535,13 @@ of_view e k verb.Iter lents = one_live e k _
 of_view e k (verb.Hex sep group) lents = hex e k sep group (snaps_of lents)
 of_view e k _ lents = refl
 
-rows : (e : Exporter) (s : Subject) (v : Verb) (lents : List Lent) → Known (row e s v lents)
-rows e subject.Own v lents = of_own e v lents
-rows e (subject.View k) v lents = of_view e k v lents
-rows e (subject.Iter k) v lents = of_iterator e k v
+effects : (e : Exporter) (s : Subject) (v : Verb) (lents : List Lent) → Known (effect e s v lents)
+effects e subject.Own v lents = of_own e v lents
+effects e (subject.View k) v lents = of_view e k v lents
+effects e (subject.Iter k) v lents = of_iterator e k v
 
 pub answers : (e : Exporter) (s : Subject) (v : Verb) (named : ℕ → Option Loan) → Known (answer_by e s v named)
-answers e s v named = either (are_named e named (handles_of v)) (row e s v (lents_by e named (handles_read s v))) (Err fault.UnknownName) (rows e s v (lents_by e named (handles_read s v))) refl
+answers e s v named = either (are_named e named (handles_of v)) (effect e s v (lents_by e named (handles_read s v))) (Err fault.UnknownName) (effects e s v (lents_by e named (handles_read s v))) refl
 
 -- ---- replies
 
@@ -556,7 +556,7 @@ not_refused : {A : Type 0} (r : Result A Fault) → Known r → r ≢ Err fault.
 not_refused (Ok x) known is = cc
 not_refused (Err f) known is = let same : f ≡ fault.Struct = cc in other_fault f known same
 
-pub never_replied : RowsAreSafe → ReadingKeeps → StructErrorIsNeverReplied
+pub never_replied : EffectsAreSafe → ReadingKeeps → StructErrorIsNeverReplied
 never_replied safe reading = record {
   commands = λ e s v loans. settled e s v (answer_by e s v (names_of loans)) (answered_step safe reading e s v loans) (answers e s v (names_of loans));
   options = λ pairs source encoding errors. not_refused (bytes_of_options pairs source encoding errors) (given.bytes_of_options pairs source encoding errors);

@@ -1,4 +1,4 @@
--- What has changed where a reply owns memory, row by row.
+-- What has changed where a reply owns memory, effect by effect.
 use Rattle.std.proofs.Common.{◌≡◌, ◌⊎◌, inl, inr, ℕ, List, [], ◌∷◌, Bool, true, false, true≢false, ap, sym, refl, arith, zero, suc, ◌+◌, set, subst, length}
 use Rattle.std.specs.Prelude.{◌*◌, ◌^◌, ◌==◌, not, reverse, Option, Some, None, Result, Ok, Err, slice_get, nat_lt, if◌then◌else◌}
 use Rattle.std.specs.List.{position_or_len}
@@ -55,21 +55,21 @@ use Rattle.pybuf_verbs_edits.specs.Common.{with_bytes, is_itself}
 use Rattle.pybuf_verbs_edits.specs.Shrinking.{count_or_last, popped, removed, cleared, byte_deleted, deleted}
 use Rattle.pybuf_verbs_edits.specs.Replacing.{slice_set, assign_of_own, initialized}
 use Rattle.pybuf_verbs_edits.specs.Growing.{appended, inserted, repeated, repeated_unless_empty, extended, extended_or_doubled, multiplied, added}
-use Rattle.pybuf_verbs_iters.specs.Iterators.{item_over, moved_on, next_unless, put_unless, iterator_over_bytes, row_of_iterator}
-use Rattle.pybuf_exporter.specs.Step.{get_of_view, set_through_view, set_in_own, row, row_of_own, row_of_view, settled_answer}
+use Rattle.pybuf_verbs_iters.specs.Iterators.{item_over, moved_on, next_unless, put_unless, iterator_over_bytes, effect_on_iterator}
+use Rattle.pybuf_exporter.specs.Step.{get_of_view, set_through_view, set_in_own, effect, effect_on_own, effect_on_view, settled_answer}
 use Rattle.pybuf_exporter.specs.Owning.{reply_owns, hands_over, OwningRepliesChangeNothing, TakenBytesAreAll, NextIsUndone, NoIteratorHasNoNext}
 
 -- the reply owns no memory, or nothing changed
 abbrev IsPlainOrSame : Exporter → Exporter × LocalReply → Type 0
 IsPlainOrSame e after = reply_owns after.1 ≡ true → after.0 ≡ e
 
-Row : Type 0
-Row = Result (Exporter × LocalReply) Fault
+Effect : Type 0
+Effect = Result (Exporter × LocalReply) Fault
 
 bind : {A : Type 0} (e : Exporter) (r : Result A Fault) (f : A → Result (Exporter × LocalReply) Fault) → ((a : A) → IfDone (IsPlainOrSame e) (f a)) → IfDone (IsPlainOrSame e) (r >>= f)
 bind e r f after = done_bind (IsPlainOrSame e) r f (λ a _. after a)
 
--- ---- what rows have in common
+-- ---- what effects have in common
 
 in_byte_array : (e : Exporter) (k : ExporterKind) (r : Result (Exporter × LocalReply) Fault) → IfDone (IsPlainOrSame e) r → IfDone (IsPlainOrSame e) (of_byte_array k r)
 in_byte_array e kind.ByteArray r done = done
@@ -89,7 +89,7 @@ chosen e false r s this that = that
 no : {A : Type 0} → false ≡ true → A
 no is = absurd (true≢false (sym is))
 
--- ---- rows of an exporter itself
+-- ---- effects of an exporter itself
 
 own_byte : (e : Exporter) (key : Value) → IfDone (IsPlainOrSame e) (byte_of_own e key)
 own_byte e key = bind e (index_in key) _ (λ index. bind e (entry_in (length e.bytes) index) _ (λ place is. refl))
@@ -148,61 +148,61 @@ own_property e name.Contiguous = tt
 own_property e name.CContiguous = tt
 own_property e name.FContiguous = tt
 
-own_row : (e : Exporter) (v : Verb) (lents : List Lent) → hands_over subject.Own v ≡ false → IfDone (IsPlainOrSame e) (row_of_own e v lents)
-own_row e verb.View lents other = λ is. no is
-own_row e (verb.Range from to) lents other = bind e (number_of from) _ (λ first. bind e (number_of to) _ (λ end. bind e (part_between (length e.bytes) first end) _ (λ part is. no is)))
-own_row e (verb.Get key) lents other = in_kind e e.kind (part_of_own e key) (own_part e key)
-own_row e (verb.Set key v) lents other = own_set e key v lents
-own_row e (verb.ToBytes None) lents other = λ is. refl
-own_row e (verb.ToBytes (Some order)) lents other = tt
-own_row e verb.Len lents other = λ is. refl
-own_row e (verb.Property p) lents other = own_property e p
-own_row e (verb.Compare op v) lents other =
+own_effect : (e : Exporter) (v : Verb) (lents : List Lent) → hands_over subject.Own v ≡ false → IfDone (IsPlainOrSame e) (effect_on_own e v lents)
+own_effect e verb.View lents other = λ is. no is
+own_effect e (verb.Range from to) lents other = bind e (number_of from) _ (λ first. bind e (number_of to) _ (λ end. bind e (part_between (length e.bytes) first end) _ (λ part is. no is)))
+own_effect e (verb.Get key) lents other = in_kind e e.kind (part_of_own e key) (own_part e key)
+own_effect e (verb.Set key v) lents other = own_set e key v lents
+own_effect e (verb.ToBytes None) lents other = λ is. refl
+own_effect e (verb.ToBytes (Some order)) lents other = tt
+own_effect e verb.Len lents other = λ is. refl
+own_effect e (verb.Property p) lents other = own_property e p
+own_effect e (verb.Compare op v) lents other =
     bind e (unless (is_vector e.kind) fault.UnknownName) _ (λ _. bind e (unless (has_no_order_with e.kind op (other_in v lents)) fault.Kind) _ (λ _ is. refl))
-own_row e verb.Hash lents other = bind e (unless (is_vector e.kind) fault.UnknownName) _ (λ _. bind e (unless (not (holds_readonly e.kind)) fault.Kind) _ (λ _ is. refl))
-own_row e verb.Repr lents other = bind e (unless (is_vector e.kind) fault.UnknownName) _ (λ _. bind e (fitted (shown_bytes e.kind e.bytes)) _ (λ text is. refl))
-own_row e verb.Iter lents other = bind e (unless (is_vector e.kind) fault.UnknownName) _ (λ _ is. no is)
-own_row e (verb.Contains v) lents other = bind e (unless (is_vector e.kind) fault.UnknownName) _ (λ _. bind e (contains_in (snaps_of lents) e.bytes v) _ (λ found is. refl))
-own_row e (verb.Call call) lents other = bind e (unless (is_vector e.kind) fault.UnknownName) _ (λ _. bind e (method_reply (snaps_of lents) e.bytes call.name call.args) _ (λ given is. refl))
-own_row e (verb.Append v) lents other = in_byte_array e e.kind (appended e v) (bind e (byte_in v) _ (λ byte. bind e (resizable e) _ (λ _ is. no is)))
-own_row e (verb.Extend v) lents other =
+own_effect e verb.Hash lents other = bind e (unless (is_vector e.kind) fault.UnknownName) _ (λ _. bind e (unless (not (holds_readonly e.kind)) fault.Kind) _ (λ _ is. refl))
+own_effect e verb.Repr lents other = bind e (unless (is_vector e.kind) fault.UnknownName) _ (λ _. bind e (fitted (shown_bytes e.kind e.bytes)) _ (λ text is. refl))
+own_effect e verb.Iter lents other = bind e (unless (is_vector e.kind) fault.UnknownName) _ (λ _ is. no is)
+own_effect e (verb.Contains v) lents other = bind e (unless (is_vector e.kind) fault.UnknownName) _ (λ _. bind e (contains_in (snaps_of lents) e.bytes v) _ (λ found is. refl))
+own_effect e (verb.Call call) lents other = bind e (unless (is_vector e.kind) fault.UnknownName) _ (λ _. bind e (method_reply (snaps_of lents) e.bytes call.name call.args) _ (λ given is. refl))
+own_effect e (verb.Append v) lents other = in_byte_array e e.kind (appended e v) (bind e (byte_in v) _ (λ byte. bind e (resizable e) _ (λ _ is. no is)))
+own_effect e (verb.Extend v) lents other =
     in_byte_array e e.kind (extended_or_doubled e v lents)
     (chosen e (is_itself v lents) (repeated_unless_empty e 2) (extended e v lents) (own_repeated e 2) (bind e (bytes_in (snaps_of lents) v) _ (λ bytes. bind e (resizable e) _ (λ _ is. no is))))
-own_row e (verb.Insert index v) lents other =
+own_effect e (verb.Insert index v) lents other =
     in_byte_array e e.kind (inserted e index v) (bind e (count_in index) _ (λ number. bind e (byte_in v) _ (λ byte. bind e (resizable e) _ (λ _ is. no is))))
-own_row e (verb.Pop index) lents other =
+own_effect e (verb.Pop index) lents other =
     in_byte_array e e.kind (popped e index) (bind e (count_or_last index) _ (λ number. bind e (resizable e) _ (λ _. bind e (entry_in (length e.bytes) number) _ (λ place is. no is))))
-own_row e (verb.Remove v) lents other =
+own_effect e (verb.Remove v) lents other =
     in_byte_array e e.kind (removed e v)
     (bind e (byte_in v) _ (λ byte. bind e (resizable e) _ (λ _. bind e (unless (not (nat_lt (position_or_len (λ b. b == byte) e.bytes) (length e.bytes))) fault.Value) _ (λ _ is. no is))))
-own_row e verb.Clear lents other = in_byte_array e e.kind (cleared e) (bind e (resizable e) _ (λ _ is. no is))
-own_row e verb.Reverse lents other = in_byte_array e e.kind (Ok (with_bytes e (reverse e.bytes))) (λ is. no is)
-own_row e (verb.Del key) lents other = in_byte_array e e.kind (deleted e key) (own_deleted e key)
-own_row e (verb.IAdd v) lents other =
+own_effect e verb.Clear lents other = in_byte_array e e.kind (cleared e) (bind e (resizable e) _ (λ _ is. no is))
+own_effect e verb.Reverse lents other = in_byte_array e e.kind (Ok (with_bytes e (reverse e.bytes))) (λ is. no is)
+own_effect e (verb.Del key) lents other = in_byte_array e e.kind (deleted e key) (own_deleted e key)
+own_effect e (verb.IAdd v) lents other =
     in_byte_array e e.kind (added e v lents)
     (bind e (like_in (snaps_of lents) v) _ (λ bytes. bind e (unless (is_itself v lents) fault.Buffer) _ (λ _. bind e (resizable e) _ (λ _ is. no is))))
-own_row e (verb.IMul count) lents other =
+own_effect e (verb.IMul count) lents other =
     in_byte_array e e.kind (multiplied e count)
     (bind e (count_in count) _ (λ number. chosen e _ (Ok (e, reply.Ok)) (repeated_unless_empty e (times number)) (λ is. refl) (own_repeated e (times number))))
-own_row e (verb.Init options) lents other =
+own_effect e (verb.Init options) lents other =
     in_byte_array e e.kind (initialized e options lents)
     (bind e _ _ (λ bytes. bind e (resizable e) _ (λ _ is. no is)))
-own_row e verb.Take lents other = absurd (true≢false other)
-own_row e verb.Copy lents other = in_byte_array e e.kind (Ok (e, reply.Fresh (snap_of_exporter e))) (λ is. refl)
-own_row e (verb.Cast format shape) lents other = tt
-own_row e (verb.CastF format shape) lents other = tt
-own_row e verb.Release lents other = tt
-own_row e verb.Enter lents other = tt
-own_row e verb.Exit lents other = tt
-own_row e verb.ToContiguous lents other = tt
-own_row e verb.ToList lents other = tt
-own_row e verb.ToReadonly lents other = tt
-own_row e verb.Next lents other = tt
-own_row e verb.LengthHint lents other = tt
-own_row e (verb.SetState state) lents other = tt
-own_row e (verb.Hex sep group) lents other = tt
+own_effect e verb.Take lents other = absurd (true≢false other)
+own_effect e verb.Copy lents other = in_byte_array e e.kind (Ok (e, reply.Fresh (snap_of_exporter e))) (λ is. refl)
+own_effect e (verb.Cast format shape) lents other = tt
+own_effect e (verb.CastF format shape) lents other = tt
+own_effect e verb.Release lents other = tt
+own_effect e verb.Enter lents other = tt
+own_effect e verb.Exit lents other = tt
+own_effect e verb.ToContiguous lents other = tt
+own_effect e verb.ToList lents other = tt
+own_effect e verb.ToReadonly lents other = tt
+own_effect e verb.Next lents other = tt
+own_effect e verb.LengthHint lents other = tt
+own_effect e (verb.SetState state) lents other = tt
+own_effect e (verb.Hex sep group) lents other = tt
 
--- ---- rows of a view
+-- ---- effects of a view
 
 view_item : (e : Exporter) (k : ℕ) (key : Value) → IfDone (IsPlainOrSame e) (item_of_view e k key)
 view_item e k key =
@@ -231,102 +231,102 @@ view_set e k (value.Tuple parts) v lents = view_written e k (value.Tuple parts) 
 view_set e k (value.List parts) v lents = view_written e k (value.List parts) v lents
 view_set e k (value.Slices slices) v lents = view_written e k (value.Slices slices) v lents
 
-view_row : (e : Exporter) (k : ℕ) (v : Verb) (lents : List Lent) → IfDone (IsPlainOrSame e) (row_of_view e k v lents)
-view_row e k verb.View lents = bind e (live_layout e k) _ (λ layout is. no is)
-view_row e k (verb.Get key) lents = view_get e k key
-view_row e k (verb.Set key v) lents = view_set e k key v lents
-view_row e k (verb.Cast format shape) lents =
+view_effect : (e : Exporter) (k : ℕ) (v : Verb) (lents : List Lent) → IfDone (IsPlainOrSame e) (effect_on_view e k v lents)
+view_effect e k verb.View lents = bind e (live_layout e k) _ (λ layout is. no is)
+view_effect e k (verb.Get key) lents = view_get e k key
+view_effect e k (verb.Set key v) lents = view_set e k key v lents
+view_effect e k (verb.Cast format shape) lents =
     bind e (live_layout e k) _ (λ layout. bind e (unless (not (is_contiguous_layout layout)) fault.Kind) _ (λ _. bind e (text_in format) _ (λ text. bind e (layout_in_shape layout text shape) _ (λ cast is. no is))))
-view_row e k (verb.CastF format shape) lents =
+view_effect e k (verb.CastF format shape) lents =
     bind e (live_layout e k) _ (λ layout. bind e (unless (not (is_contiguous_layout layout)) fault.Kind) _ (λ _. bind e (text_in format) _ (λ text. bind e (column_layout_in layout text shape) _ (λ cast is. no is))))
-view_row e k (verb.ToBytes order) lents = bind e (live_layout e k) _ (λ layout. bind e (is_column_order layout order) _ (λ columns is. refl))
-view_row e k verb.Release lents = bind e (released_in e k) _ (λ after is. no is)
-view_row e k verb.Enter lents = bind e (live_layout e k) _ (λ layout is. refl)
-view_row e k verb.Exit lents = bind e (released_in e k) _ (λ after is. no is)
-view_row e k verb.ToContiguous lents = bind e (live_layout e k) _ (λ layout is. refl)
-view_row e k verb.ToList lents = bind e (live_layout e k) _ (λ layout is. refl)
-view_row e k verb.Len lents = bind e (live_layout e k) _ (λ layout. bind e (has_dimensions layout) _ (λ _ is. refl))
-view_row e k (verb.Property p) lents =
+view_effect e k (verb.ToBytes order) lents = bind e (live_layout e k) _ (λ layout. bind e (is_column_order layout order) _ (λ columns is. refl))
+view_effect e k verb.Release lents = bind e (released_in e k) _ (λ after is. no is)
+view_effect e k verb.Enter lents = bind e (live_layout e k) _ (λ layout is. refl)
+view_effect e k verb.Exit lents = bind e (released_in e k) _ (λ after is. no is)
+view_effect e k verb.ToContiguous lents = bind e (live_layout e k) _ (λ layout is. refl)
+view_effect e k verb.ToList lents = bind e (live_layout e k) _ (λ layout is. refl)
+view_effect e k verb.Len lents = bind e (live_layout e k) _ (λ layout. bind e (has_dimensions layout) _ (λ _ is. refl))
+view_effect e k (verb.Property p) lents =
     bind e (unless (is_exports p) fault.UnknownName) _ (λ _. bind e (live_layout e k) _ (λ layout. bind e (property_of_layout layout p) _ (λ answer is. refl)))
-view_row e k verb.ToReadonly lents = bind e (live_layout e k) _ (λ layout is. no is)
-view_row e k (verb.Del key) lents = bind e (live_layout e k) _ (λ layout. tt)
-view_row e k (verb.Compare op v) lents = bind e (view_at e k) _ (λ view. bind e (unless (is_order op) fault.Kind) _ (λ _ is. refl))
-view_row e k verb.Hash lents = bind e (live_layout e k) _ (λ layout. bind e (unless (not layout.readonly) fault.Value) _ (λ _ is. refl))
-view_row e k verb.Repr lents = bind e (view_at e k) _ (λ view is. refl)
-view_row e k verb.Iter lents = bind e (live_layout e k) _ (λ layout is. no is)
-view_row e k (verb.Hex sep group) lents =
+view_effect e k verb.ToReadonly lents = bind e (live_layout e k) _ (λ layout is. no is)
+view_effect e k (verb.Del key) lents = bind e (live_layout e k) _ (λ layout. tt)
+view_effect e k (verb.Compare op v) lents = bind e (view_at e k) _ (λ view. bind e (unless (is_order op) fault.Kind) _ (λ _ is. refl))
+view_effect e k verb.Hash lents = bind e (live_layout e k) _ (λ layout. bind e (unless (not layout.readonly) fault.Value) _ (λ _ is. refl))
+view_effect e k verb.Repr lents = bind e (view_at e k) _ (λ view is. refl)
+view_effect e k verb.Iter lents = bind e (live_layout e k) _ (λ layout is. no is)
+view_effect e k (verb.Hex sep group) lents =
     bind e (live_layout e k) _ (λ layout. bind e (hex_of (snaps_of lents) sep group (content_of_layout e.bytes layout)) _ (λ text is. refl))
-view_row e k (verb.Range from to) lents = tt
-view_row e k (verb.Append v) lents = tt
-view_row e k (verb.Extend v) lents = tt
-view_row e k (verb.Insert index v) lents = tt
-view_row e k (verb.Pop index) lents = tt
-view_row e k (verb.Remove v) lents = tt
-view_row e k verb.Clear lents = tt
-view_row e k verb.Reverse lents = tt
-view_row e k (verb.IAdd v) lents = tt
-view_row e k (verb.IMul count) lents = tt
-view_row e k (verb.Init options) lents = tt
-view_row e k verb.Take lents = tt
-view_row e k verb.Copy lents = tt
-view_row e k verb.Next lents = tt
-view_row e k verb.LengthHint lents = tt
-view_row e k (verb.SetState state) lents = tt
-view_row e k (verb.Contains v) lents = tt
-view_row e k (verb.Call method) lents = tt
+view_effect e k (verb.Range from to) lents = tt
+view_effect e k (verb.Append v) lents = tt
+view_effect e k (verb.Extend v) lents = tt
+view_effect e k (verb.Insert index v) lents = tt
+view_effect e k (verb.Pop index) lents = tt
+view_effect e k (verb.Remove v) lents = tt
+view_effect e k verb.Clear lents = tt
+view_effect e k verb.Reverse lents = tt
+view_effect e k (verb.IAdd v) lents = tt
+view_effect e k (verb.IMul count) lents = tt
+view_effect e k (verb.Init options) lents = tt
+view_effect e k verb.Take lents = tt
+view_effect e k verb.Copy lents = tt
+view_effect e k verb.Next lents = tt
+view_effect e k verb.LengthHint lents = tt
+view_effect e k (verb.SetState state) lents = tt
+view_effect e k (verb.Contains v) lents = tt
+view_effect e k (verb.Call method) lents = tt
 
--- ---- rows of an iterator
+-- ---- effects of an iterator
 
 put_so : (e : Exporter) (k : ℕ) (it : Iterator) (state : Value) (b : Bool) → IfDone (IsPlainOrSame e) (put_unless b e k it state)
 put_so e k it state true = λ is. refl
 put_so e k it state false = bind e (number_of state) _ (λ number is. no is)
 
-iterator_row : (e : Exporter) (k : ℕ) (v : Verb) → hands_over (subject.Iter k) v ≡ false → IfDone (IsPlainOrSame e) (row_of_iterator e k v)
-iterator_row e k verb.Iter other = bind e (iterator_at e k) _ (λ it is. refl)
-iterator_row e k verb.Next other = absurd (true≢false other)
-iterator_row e k verb.LengthHint other = bind e (iterator_over_bytes e k) _ (λ it is. refl)
-iterator_row e k (verb.SetState state) other = bind e (iterator_over_bytes e k) _ (λ it. put_so e k it state it.exhausted)
-iterator_row e k verb.View other = tt
-iterator_row e k (verb.Range from to) other = tt
-iterator_row e k (verb.Get key) other = tt
-iterator_row e k (verb.Set key v) other = tt
-iterator_row e k (verb.Cast format shape) other = tt
-iterator_row e k (verb.CastF format shape) other = tt
-iterator_row e k (verb.ToBytes order) other = tt
-iterator_row e k verb.Release other = tt
-iterator_row e k verb.Enter other = tt
-iterator_row e k verb.Exit other = tt
-iterator_row e k verb.ToContiguous other = tt
-iterator_row e k verb.ToList other = tt
-iterator_row e k verb.Len other = tt
-iterator_row e k (verb.Property p) other = tt
-iterator_row e k verb.ToReadonly other = tt
-iterator_row e k (verb.Del key) other = tt
-iterator_row e k (verb.Append v) other = tt
-iterator_row e k (verb.Extend v) other = tt
-iterator_row e k (verb.Insert index v) other = tt
-iterator_row e k (verb.Pop index) other = tt
-iterator_row e k (verb.Remove v) other = tt
-iterator_row e k verb.Clear other = tt
-iterator_row e k verb.Reverse other = tt
-iterator_row e k (verb.IAdd v) other = tt
-iterator_row e k (verb.IMul count) other = tt
-iterator_row e k (verb.Init options) other = tt
-iterator_row e k verb.Take other = tt
-iterator_row e k verb.Copy other = tt
-iterator_row e k (verb.Compare op v) other = tt
-iterator_row e k verb.Hash other = tt
-iterator_row e k verb.Repr other = tt
-iterator_row e k (verb.Contains v) other = tt
-iterator_row e k (verb.Hex sep group) other = tt
-iterator_row e k (verb.Call method) other = tt
+iterator_effect : (e : Exporter) (k : ℕ) (v : Verb) → hands_over (subject.Iter k) v ≡ false → IfDone (IsPlainOrSame e) (effect_on_iterator e k v)
+iterator_effect e k verb.Iter other = bind e (iterator_at e k) _ (λ it is. refl)
+iterator_effect e k verb.Next other = absurd (true≢false other)
+iterator_effect e k verb.LengthHint other = bind e (iterator_over_bytes e k) _ (λ it is. refl)
+iterator_effect e k (verb.SetState state) other = bind e (iterator_over_bytes e k) _ (λ it. put_so e k it state it.exhausted)
+iterator_effect e k verb.View other = tt
+iterator_effect e k (verb.Range from to) other = tt
+iterator_effect e k (verb.Get key) other = tt
+iterator_effect e k (verb.Set key v) other = tt
+iterator_effect e k (verb.Cast format shape) other = tt
+iterator_effect e k (verb.CastF format shape) other = tt
+iterator_effect e k (verb.ToBytes order) other = tt
+iterator_effect e k verb.Release other = tt
+iterator_effect e k verb.Enter other = tt
+iterator_effect e k verb.Exit other = tt
+iterator_effect e k verb.ToContiguous other = tt
+iterator_effect e k verb.ToList other = tt
+iterator_effect e k verb.Len other = tt
+iterator_effect e k (verb.Property p) other = tt
+iterator_effect e k verb.ToReadonly other = tt
+iterator_effect e k (verb.Del key) other = tt
+iterator_effect e k (verb.Append v) other = tt
+iterator_effect e k (verb.Extend v) other = tt
+iterator_effect e k (verb.Insert index v) other = tt
+iterator_effect e k (verb.Pop index) other = tt
+iterator_effect e k (verb.Remove v) other = tt
+iterator_effect e k verb.Clear other = tt
+iterator_effect e k verb.Reverse other = tt
+iterator_effect e k (verb.IAdd v) other = tt
+iterator_effect e k (verb.IMul count) other = tt
+iterator_effect e k (verb.Init options) other = tt
+iterator_effect e k verb.Take other = tt
+iterator_effect e k verb.Copy other = tt
+iterator_effect e k (verb.Compare op v) other = tt
+iterator_effect e k verb.Hash other = tt
+iterator_effect e k verb.Repr other = tt
+iterator_effect e k (verb.Contains v) other = tt
+iterator_effect e k (verb.Hex sep group) other = tt
+iterator_effect e k (verb.Call method) other = tt
 
 -- ---- every command
 
-row_so : (e : Exporter) (s : Subject) (v : Verb) (lents : List Lent) → hands_over s v ≡ false → IfDone (IsPlainOrSame e) (row e s v lents)
-row_so e subject.Own v lents other = own_row e v lents other
-row_so e (subject.View k) v lents other = view_row e k v lents
-row_so e (subject.Iter k) v lents other = iterator_row e k v other
+effect_so : (e : Exporter) (s : Subject) (v : Verb) (lents : List Lent) → hands_over s v ≡ false → IfDone (IsPlainOrSame e) (effect e s v lents)
+effect_so e subject.Own v lents other = own_effect e v lents other
+effect_so e (subject.View k) v lents other = view_effect e k v lents
+effect_so e (subject.Iter k) v lents other = iterator_effect e k v other
 
 settled_so : (e : Exporter) (r : Result (Exporter × LocalReply) Fault) → IfDone (IsPlainOrSame e) r → IsPlainOrSame e (settled_answer e r)
 settled_so e (Ok after) done = done
@@ -335,9 +335,9 @@ settled_so e (Err f) done = λ is. refl
 pub owning_same : OwningRepliesChangeNothing
 owning_same e s v loans other is =
     let named = names_of loans in
-    let r = row e s v (lents_by e named (handles_read s v)) in
+    let r = effect e s v (lents_by e named (handles_read s v)) in
     settled_so e (if are_named e named (handles_of v) then r else Err fault.UnknownName)
-    (chosen e (are_named e named (handles_of v)) r (Err fault.UnknownName) (row_so e s v (lents_by e named (handles_read s v)) other) tt) is
+    (chosen e (are_named e named (handles_of v)) r (Err fault.UnknownName) (effect_so e s v (lents_by e named (handles_read s v)) other) tt) is
 
 -- ---- `take`
 

@@ -34,55 +34,55 @@ use Rattle.pybuf_verbs_edits.specs.Growing.{added, iadd_of_own}
 use Rattle.pybuf_verbs_edits.specs.Edits.{edit_of_own, is_edit}
 use Rattle.pybuf_verbs_edits.specs.Asking.{asks}
 use Rattle.pybuf_verbs_edits.specs.Laws.{IsAsked, EditsAskBeforeTheyResize, IsAddedToItself, OnlyAddingItselfIsRefusedEarlier}
-use Rattle.pybuf_exporter.specs.Step.{row_of_own, answer_of, settled_answer, estep}
-use Rattle.pybuf_exporter.specs.Rows.{RowsAreSafe}
+use Rattle.pybuf_exporter.specs.Step.{effect_on_own, answer_of, settled_answer, estep}
+use Rattle.pybuf_exporter.specs.Effects.{EffectsAreSafe}
 use Rattle.pybuf_exporter.specs.Laws.{AddsItself, IsRefusedWhileExported, ResizingIsRefusedWhileExported, AddingItselfIsRefused, OnlyByteArraysAreAddedTo}
 use Rattle.pybuf_exporter.proofs.Every.{IsReplyTo, IsStep, answered_step}
 
--- the row of an edit is that edit
-pub row_is_edit : (e : Exporter) (v : Verb) (lents : List Lent) → is_edit v ≡ true → row_of_own e v lents ≡ edit_of_own e v lents
-row_is_edit e (verb.Append v) lents is = refl
-row_is_edit e (verb.Extend v) lents is = refl
-row_is_edit e (verb.Insert index v) lents is = refl
-row_is_edit e (verb.Pop index) lents is = refl
-row_is_edit e (verb.Remove v) lents is = refl
-row_is_edit e verb.Clear lents is = refl
-row_is_edit e verb.Reverse lents is = refl
-row_is_edit e (verb.Del key) lents is = refl
-row_is_edit e (verb.IAdd v) lents is = refl
-row_is_edit e (verb.IMul count) lents is = refl
-row_is_edit e (verb.Init options) lents is = refl
-row_is_edit e verb.Take lents is = refl
-row_is_edit e verb.Copy lents is = refl
-row_is_edit e (verb.Set (value.Slice slice) v) lents is = refl
-row_is_edit e (verb.Set (value.One s) v) lents is = absurd (true≢false (sym is))
-row_is_edit e (verb.Set (value.Tuple parts) v) lents is = absurd (true≢false (sym is))
-row_is_edit e (verb.Set (value.List parts) v) lents is = absurd (true≢false (sym is))
-row_is_edit e (verb.Set (value.Slices slices) v) lents is = absurd (true≢false (sym is))
-row_is_edit e verb.View lents is = absurd (true≢false (sym is))
-row_is_edit e (verb.Range from to) lents is = absurd (true≢false (sym is))
-row_is_edit e (verb.Get key) lents is = absurd (true≢false (sym is))
-row_is_edit e (verb.Cast format shape) lents is = absurd (true≢false (sym is))
-row_is_edit e (verb.CastF format shape) lents is = absurd (true≢false (sym is))
-row_is_edit e (verb.ToBytes order) lents is = absurd (true≢false (sym is))
-row_is_edit e verb.Release lents is = absurd (true≢false (sym is))
-row_is_edit e verb.Enter lents is = absurd (true≢false (sym is))
-row_is_edit e verb.Exit lents is = absurd (true≢false (sym is))
-row_is_edit e verb.ToContiguous lents is = absurd (true≢false (sym is))
-row_is_edit e verb.ToList lents is = absurd (true≢false (sym is))
-row_is_edit e verb.Len lents is = absurd (true≢false (sym is))
-row_is_edit e (verb.Property name) lents is = absurd (true≢false (sym is))
-row_is_edit e verb.ToReadonly lents is = absurd (true≢false (sym is))
-row_is_edit e (verb.Compare op other) lents is = absurd (true≢false (sym is))
-row_is_edit e verb.Hash lents is = absurd (true≢false (sym is))
-row_is_edit e verb.Repr lents is = absurd (true≢false (sym is))
-row_is_edit e verb.Iter lents is = absurd (true≢false (sym is))
-row_is_edit e verb.Next lents is = absurd (true≢false (sym is))
-row_is_edit e verb.LengthHint lents is = absurd (true≢false (sym is))
-row_is_edit e (verb.SetState state) lents is = absurd (true≢false (sym is))
-row_is_edit e (verb.Contains v) lents is = absurd (true≢false (sym is))
-row_is_edit e (verb.Hex sep group) lents is = absurd (true≢false (sym is))
-row_is_edit e (verb.Call method) lents is = absurd (true≢false (sym is))
+-- the effect of an edit is that edit
+pub effect_is_edit : (e : Exporter) (v : Verb) (lents : List Lent) → is_edit v ≡ true → effect_on_own e v lents ≡ edit_of_own e v lents
+effect_is_edit e (verb.Append v) lents is = refl
+effect_is_edit e (verb.Extend v) lents is = refl
+effect_is_edit e (verb.Insert index v) lents is = refl
+effect_is_edit e (verb.Pop index) lents is = refl
+effect_is_edit e (verb.Remove v) lents is = refl
+effect_is_edit e verb.Clear lents is = refl
+effect_is_edit e verb.Reverse lents is = refl
+effect_is_edit e (verb.Del key) lents is = refl
+effect_is_edit e (verb.IAdd v) lents is = refl
+effect_is_edit e (verb.IMul count) lents is = refl
+effect_is_edit e (verb.Init options) lents is = refl
+effect_is_edit e verb.Take lents is = refl
+effect_is_edit e verb.Copy lents is = refl
+effect_is_edit e (verb.Set (value.Slice slice) v) lents is = refl
+effect_is_edit e (verb.Set (value.One s) v) lents is = absurd (true≢false (sym is))
+effect_is_edit e (verb.Set (value.Tuple parts) v) lents is = absurd (true≢false (sym is))
+effect_is_edit e (verb.Set (value.List parts) v) lents is = absurd (true≢false (sym is))
+effect_is_edit e (verb.Set (value.Slices slices) v) lents is = absurd (true≢false (sym is))
+effect_is_edit e verb.View lents is = absurd (true≢false (sym is))
+effect_is_edit e (verb.Range from to) lents is = absurd (true≢false (sym is))
+effect_is_edit e (verb.Get key) lents is = absurd (true≢false (sym is))
+effect_is_edit e (verb.Cast format shape) lents is = absurd (true≢false (sym is))
+effect_is_edit e (verb.CastF format shape) lents is = absurd (true≢false (sym is))
+effect_is_edit e (verb.ToBytes order) lents is = absurd (true≢false (sym is))
+effect_is_edit e verb.Release lents is = absurd (true≢false (sym is))
+effect_is_edit e verb.Enter lents is = absurd (true≢false (sym is))
+effect_is_edit e verb.Exit lents is = absurd (true≢false (sym is))
+effect_is_edit e verb.ToContiguous lents is = absurd (true≢false (sym is))
+effect_is_edit e verb.ToList lents is = absurd (true≢false (sym is))
+effect_is_edit e verb.Len lents is = absurd (true≢false (sym is))
+effect_is_edit e (verb.Property name) lents is = absurd (true≢false (sym is))
+effect_is_edit e verb.ToReadonly lents is = absurd (true≢false (sym is))
+effect_is_edit e (verb.Compare op other) lents is = absurd (true≢false (sym is))
+effect_is_edit e verb.Hash lents is = absurd (true≢false (sym is))
+effect_is_edit e verb.Repr lents is = absurd (true≢false (sym is))
+effect_is_edit e verb.Iter lents is = absurd (true≢false (sym is))
+effect_is_edit e verb.Next lents is = absurd (true≢false (sym is))
+effect_is_edit e verb.LengthHint lents is = absurd (true≢false (sym is))
+effect_is_edit e (verb.SetState state) lents is = absurd (true≢false (sym is))
+effect_is_edit e (verb.Contains v) lents is = absurd (true≢false (sym is))
+effect_is_edit e (verb.Hex sep group) lents is = absurd (true≢false (sym is))
+effect_is_edit e (verb.Call method) lents is = absurd (true≢false (sym is))
 
 -- what replies a refusal is refused so
 refused_by : (e : Exporter) (v : Verb) (r : Result (Exporter × LocalReply) Fault) (f : Fault) → IfDone (IsStep e subject.Own v) r → (settled_answer e r).1 ≡ reply.Refused f → r ≡ Err f
@@ -140,20 +140,20 @@ adds_so e v loans is =
 
 -- ---- the laws
 
-replied : (e : Exporter) (v : Verb) (loans : List (ℕ × Loan)) (asked : Result Bool Fault) (row answer : Result (Exporter × LocalReply) Fault) → answer ≡ row → IfDone (IsStep e subject.Own v) answer → IsAsked e asked row
+replied : (e : Exporter) (v : Verb) (loans : List (ℕ × Loan)) (asked : Result Bool Fault) (effect answer : Result (Exporter × LocalReply) Fault) → answer ≡ effect → IfDone (IsStep e subject.Own v) answer → IsAsked e asked effect
     → (asked ≡ Err fault.Buffer → AddsItself e v loans) → IsRefusedWhileExported e v loans asked (settled_answer e answer).1
-replied e v loans asked row answer same step is own = record {
+replied e v loans asked effect answer same step is own = record {
   earlier = λ f first. ap (λ (r : Result (Exporter × LocalReply) Fault). (settled_answer e r).1) (same ∙ is.earlier f first);
   refused = λ asks live. ap (λ (r : Result (Exporter × LocalReply) Fault). (settled_answer e r).1) (same ∙ is.refused asks live);
   only = λ refusal. either own (is.only (sym same ∙ refused_by e v answer fault.Buffer step refusal));
 }
 
-pub refused_while_exported : RowsAreSafe → ReadingKeeps → EditsAskBeforeTheyResize → OnlyAddingItselfIsRefusedEarlier → ResizingIsRefusedWhileExported
-refused_while_exported rows reading asking alone e v loans edit known =
+pub refused_while_exported : EffectsAreSafe → ReadingKeeps → EditsAskBeforeTheyResize → OnlyAddingItselfIsRefusedEarlier → ResizingIsRefusedWhileExported
+refused_while_exported effects reading asking alone e v loans edit known =
     let lents = lent_for_each e loans (handles_read subject.Own v) in
     let same : answer_of e subject.Own v loans ≡ edit_of_own e v lents =
-    ap (λ (b : Bool). if b then row_of_own e v lents else Err fault.UnknownName) known ∙ row_is_edit e v lents edit in
-    replied e v loans (asks e v lents) (edit_of_own e v lents) (answer_of e subject.Own v loans) same (answered_step rows reading e subject.Own v loans) (asking e v lents) (λ is. adds_so e v loans (alone e v lents is))
+    ap (λ (b : Bool). if b then effect_on_own e v lents else Err fault.UnknownName) known ∙ effect_is_edit e v lents edit in
+    replied e v loans (asks e v lents) (edit_of_own e v lents) (answer_of e subject.Own v loans) same (answered_step effects reading e subject.Own v loans) (asking e v lents) (λ is. adds_so e v loans (alone e v lents is))
 
 -- a handle that is lent as the exporter itself is known
 known_own : (e : Exporter) (loans : List (ℕ × Loan)) (h : ℕ) → loan_of loans h ≡ Some loan.Own → are_known e loans (h ∷ []) ≡ true
@@ -179,12 +179,12 @@ itself_refused e v loans is =
     ∙ ap (λ (lents : List Lent). settled_answer e (iadd_of_own e source lents)) (lent_own_is e loans is.handle is.itself)
     ∙ ap (settled_answer e) (of_own e e.kind is.handle refl is.byte_array)
 
-no_kind : (e : Exporter) (b : Bool) (k : ExporterKind) (row : Result (Exporter × LocalReply) Fault) → k ≢ kind.ByteArray → settled_answer e (if b then of_byte_array k row else Err fault.UnknownName) ≡ (e, reply.Refused fault.UnknownName)
-no_kind e b kind.ByteArray row differs = absurd (differs refl)
-no_kind e true kind.Bytes row differs = refl
-no_kind e false kind.Bytes row differs = refl
-no_kind e true (kind.Vector readonly) row differs = refl
-no_kind e false (kind.Vector readonly) row differs = refl
+no_kind : (e : Exporter) (b : Bool) (k : ExporterKind) (effect : Result (Exporter × LocalReply) Fault) → k ≢ kind.ByteArray → settled_answer e (if b then of_byte_array k effect else Err fault.UnknownName) ≡ (e, reply.Refused fault.UnknownName)
+no_kind e b kind.ByteArray effect differs = absurd (differs refl)
+no_kind e true kind.Bytes effect differs = refl
+no_kind e false kind.Bytes effect differs = refl
+no_kind e true (kind.Vector readonly) effect differs = refl
+no_kind e false (kind.Vector readonly) effect differs = refl
 
 pub others_have_none : OnlyByteArraysAreAddedTo
 others_have_none e v loans differs =

@@ -1,4 +1,4 @@
--- What a safe row answers leaves a sound exporter sound.
+-- What a safe effect answers leaves a sound exporter sound.
 use Rattle.std.proofs.Common.{◌≡◌, sym, subst}
 use Rattle.std.specs.Prelude.{ℕ, Option, Some, None, Result, Ok, Err}
 use Rattle.pybuf_value.specs.declared.faults.Fault.{Fault}
@@ -18,13 +18,13 @@ use Rattle.pybuf_state.specs.Loans.{lent_as}
 use Rattle.pybuf_verbs_writes.specs.Assign.{assign_of_lent}
 use Rattle.pybuf_verbs_writes.specs.Laws.{AssignIsSafe}
 
-carried_out : (old new : Exporter) (row : Result (Exporter × LocalReply) Fault) (r : LocalReply) → IsSafe old row → row ≡ Ok (new, r) → IsCarriedOut old (new, r)
-carried_out old new row r safe is = subst (λ (x : Result (Exporter × LocalReply) Fault). IfDone (IsCarriedOut old) x) is safe
+carried_out : (old new : Exporter) (effect : Result (Exporter × LocalReply) Fault) (r : LocalReply) → IsSafe old effect → effect ≡ Ok (new, r) → IsCarriedOut old (new, r)
+carried_out old new effect r safe is = subst (λ (x : Result (Exporter × LocalReply) Fault). IfDone (IsCarriedOut old) x) is safe
 
-pub stays_sound : (old new : Exporter) (row : Result (Exporter × LocalReply) Fault) (answer : Result LocalReply Halt) → IsSafe old row → IsSoundExporter old → Answers row old answer new → IsSoundExporter new
-stays_sound old new row (Ok r) safe sound is = ((carried_out old new row r safe is).keeps sound).sound
-stays_sound old new row (Err (halt.Refused f)) safe sound is = subst IsSoundExporter (sym is.1) sound
-stays_sound old new row (Err halt.NoMemory) safe sound is = subst IsSoundExporter (sym is) sound
+pub stays_sound : (old new : Exporter) (effect : Result (Exporter × LocalReply) Fault) (answer : Result LocalReply Halt) → IsSafe old effect → IsSoundExporter old → Answers effect old answer new → IsSoundExporter new
+stays_sound old new effect (Ok r) safe sound is = ((carried_out old new effect r safe is).keeps sound).sound
+stays_sound old new effect (Err (halt.Refused f)) safe sound is = subst IsSoundExporter (sym is.1) sound
+stays_sound old new effect (Err halt.NoMemory) safe sound is = subst IsSoundExporter (sym is) sound
 
 pub lent_is_safe : AssignIsSafe → (e : Exporter) (k : ℕ) (slice : PySlice) (lent : Option Snap) → IsSafe e (assign_of_lent e k slice lent)
 lent_is_safe safe e k slice (Some snap) = safe e k slice (value.One (scalar.Handle 0)) (lent_as 0 None (Some snap))

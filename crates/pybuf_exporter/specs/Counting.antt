@@ -50,7 +50,7 @@ LeavesLength old command new =
     (leaves_by command.subject command.verb (lent_for_each old.exporter command.loans (handles_read command.subject command.verb)) ≡ true)
     × (length new.exporter.bytes ≡ length old.exporter.bytes)
 
--- what a command answers, by its row
+-- what a command answers, by its effect
 abbrev pub answer_to : StoredExporter → LocalCommand → Result (Exporter × LocalReply) Fault
 answer_to c command = answer_of c.exporter command.subject command.verb command.loans
 

@@ -1,5 +1,5 @@
 pub mod Step
-pub mod Rows
+pub mod Effects
 pub mod Stored
 pub mod Lending
 pub mod Laws

@@ -1,4 +1,4 @@
--- One command on one exporter: which row it has, and what stands after it.
+-- One command on one exporter: which effect it has, and what stands after it.
 use Rattle.std.specs.Prelude.{ℕ, Bool, true, false, List, Result, Ok, Err, if◌then◌else◌, Option}
 use Rattle.pybuf_value.specs.declared.faults.Fault.{Fault}
 use Rattle.pybuf_value.specs.declared.faults.Fault.TheVariants as fault
@@ -33,7 +33,7 @@ use Rattle.pybuf_verbs_compare.specs.Repr.{repr_of_own, repr_of_view}
 use Rattle.pybuf_verbs_writes.specs.Set.{set_of_own, set_of_view}
 use Rattle.pybuf_verbs_writes.specs.Assign.{assign_of_view}
 use Rattle.pybuf_verbs_methods.specs.Calls.{call_of_own, contains_of_own, hex_of_view}
-use Rattle.pybuf_verbs_iters.specs.Iterators.{iter_of_own, iter_of_view, row_of_iterator}
+use Rattle.pybuf_verbs_iters.specs.Iterators.{iter_of_own, iter_of_view, effect_on_iterator}
 use Rattle.pybuf_verbs_edits.specs.Shrinking.{delete_of_view}
 use Rattle.pybuf_verbs_edits.specs.Edits.{edit_of_own}
 
@@ -60,59 +60,59 @@ reads_in_place subject.Own (verb.Call method) = true
 reads_in_place (subject.View k) (verb.Hex sep group) = true
 reads_in_place s v = false
 
--- The row of a verb on the exporter itself. Every further verb is an edit, or none that an exporter has.
-abbrev pub row_of_own : Exporter → Verb → List Lent → Result (Exporter × LocalReply) Fault
-row_of_own e verb.View lents = view_of_own e
-row_of_own e (verb.Range from to) lents = range_of_own e from to
-row_of_own e (verb.Get key) lents = get_of_own e key
-row_of_own e (verb.Set key value) lents = set_in_own e key value lents
-row_of_own e (verb.ToBytes order) lents = bytes_of_own e order
-row_of_own e verb.Len lents = len_of_own e
-row_of_own e (verb.Property name) lents = property_of_own e name
-row_of_own e (verb.Compare op other) lents = compare_of_own e op other lents
-row_of_own e verb.Hash lents = hash_of_own e
-row_of_own e verb.Repr lents = repr_of_own e
-row_of_own e verb.Iter lents = iter_of_own e
-row_of_own e (verb.Contains v) lents = contains_of_own e v (snaps_of lents)
-row_of_own e (verb.Call method) lents = call_of_own e method (snaps_of lents)
-row_of_own e v lents = edit_of_own e v lents
+-- The effect of a verb on the exporter itself. Every further verb is an edit, or none that an exporter has.
+abbrev pub effect_on_own : Exporter → Verb → List Lent → Result (Exporter × LocalReply) Fault
+effect_on_own e verb.View lents = view_of_own e
+effect_on_own e (verb.Range from to) lents = range_of_own e from to
+effect_on_own e (verb.Get key) lents = get_of_own e key
+effect_on_own e (verb.Set key value) lents = set_in_own e key value lents
+effect_on_own e (verb.ToBytes order) lents = bytes_of_own e order
+effect_on_own e verb.Len lents = len_of_own e
+effect_on_own e (verb.Property name) lents = property_of_own e name
+effect_on_own e (verb.Compare op other) lents = compare_of_own e op other lents
+effect_on_own e verb.Hash lents = hash_of_own e
+effect_on_own e verb.Repr lents = repr_of_own e
+effect_on_own e verb.Iter lents = iter_of_own e
+effect_on_own e (verb.Contains v) lents = contains_of_own e v (snaps_of lents)
+effect_on_own e (verb.Call method) lents = call_of_own e method (snaps_of lents)
+effect_on_own e v lents = edit_of_own e v lents
 
--- the row of a verb on a view
-abbrev pub row_of_view : Exporter → ℕ → Verb → List Lent → Result (Exporter × LocalReply) Fault
-row_of_view e k verb.View lents = view_of_view e k
-row_of_view e k (verb.Get key) lents = get_of_view e k key
-row_of_view e k (verb.Set key value) lents = set_through_view e k key value lents
-row_of_view e k (verb.Cast format shape) lents = cast_of_view e k format shape
-row_of_view e k (verb.CastF format shape) lents = column_cast_of_view e k format shape
-row_of_view e k (verb.ToBytes order) lents = bytes_of_view e k order
-row_of_view e k verb.Release lents = release_of_view e k
-row_of_view e k verb.Enter lents = enter_of_view e k
-row_of_view e k verb.Exit lents = release_of_view e k
-row_of_view e k verb.ToContiguous lents = contiguous_of_view e k
-row_of_view e k verb.ToList lents = list_of_view e k
-row_of_view e k verb.Len lents = len_of_view e k
-row_of_view e k (verb.Property name) lents = property_of_view e k name
-row_of_view e k verb.ToReadonly lents = toreadonly_of_view e k
-row_of_view e k (verb.Del key) lents = delete_of_view e k
-row_of_view e k (verb.Compare op other) lents = compare_of_view e k op other lents
-row_of_view e k verb.Hash lents = hash_of_view e k
-row_of_view e k verb.Repr lents = repr_of_view e k
-row_of_view e k verb.Iter lents = iter_of_view e k
-row_of_view e k (verb.Hex sep group) lents = hex_of_view e k sep group (snaps_of lents)
-row_of_view e k _ lents = Err fault.UnknownName
+-- the effect of a verb on a view
+abbrev pub effect_on_view : Exporter → ℕ → Verb → List Lent → Result (Exporter × LocalReply) Fault
+effect_on_view e k verb.View lents = view_of_view e k
+effect_on_view e k (verb.Get key) lents = get_of_view e k key
+effect_on_view e k (verb.Set key value) lents = set_through_view e k key value lents
+effect_on_view e k (verb.Cast format shape) lents = cast_of_view e k format shape
+effect_on_view e k (verb.CastF format shape) lents = column_cast_of_view e k format shape
+effect_on_view e k (verb.ToBytes order) lents = bytes_of_view e k order
+effect_on_view e k verb.Release lents = release_of_view e k
+effect_on_view e k verb.Enter lents = enter_of_view e k
+effect_on_view e k verb.Exit lents = release_of_view e k
+effect_on_view e k verb.ToContiguous lents = contiguous_of_view e k
+effect_on_view e k verb.ToList lents = list_of_view e k
+effect_on_view e k verb.Len lents = len_of_view e k
+effect_on_view e k (verb.Property name) lents = property_of_view e k name
+effect_on_view e k verb.ToReadonly lents = toreadonly_of_view e k
+effect_on_view e k (verb.Del key) lents = delete_of_view e k
+effect_on_view e k (verb.Compare op other) lents = compare_of_view e k op other lents
+effect_on_view e k verb.Hash lents = hash_of_view e k
+effect_on_view e k verb.Repr lents = repr_of_view e k
+effect_on_view e k verb.Iter lents = iter_of_view e k
+effect_on_view e k (verb.Hex sep group) lents = hex_of_view e k sep group (snaps_of lents)
+effect_on_view e k _ lents = Err fault.UnknownName
 
--- The row of the subject and the verb, with what is lent to it. A subject of a kind that has no such
--- row is an unknown name.
-abbrev pub row : Exporter → Subject → Verb → List Lent → Result (Exporter × LocalReply) Fault
-row e subject.Own v lents = row_of_own e v lents
-row e (subject.View k) v lents = row_of_view e k v lents
-row e (subject.Iter k) v lents = row_of_iterator e k v
+-- The effect of the subject and the verb, with what is lent to it. A subject of a kind that has no such
+-- effect is an unknown name.
+abbrev pub effect : Exporter → Subject → Verb → List Lent → Result (Exporter × LocalReply) Fault
+effect e subject.Own v lents = effect_on_own e v lents
+effect e (subject.View k) v lents = effect_on_view e k v lents
+effect e (subject.Iter k) v lents = effect_on_iterator e k v
 
--- By what each handle is lent as. An unknown handle is refused before all else, also in a value that the row
+-- By what each handle is lent as. An unknown handle is refused before all else, also in a value that the effect
 -- would not look at.
 abbrev pub answer_by : Exporter → Subject → Verb → (ℕ → Option Loan) → Result (Exporter × LocalReply) Fault
 answer_by e s v named =
-    if are_named e named (handles_of v) then row e s v (lents_by e named (handles_read s v))
+    if are_named e named (handles_of v) then effect e s v (lents_by e named (handles_read s v))
     else Err fault.UnknownName
 
 -- the same by loans

@@ -10,12 +10,12 @@ ghost use Rattle.pybuf_exporter.specs.Step.{settled_answer};
 use pybuf_command::LocalReply;
 use pybuf_value::{Halt, Made, NoMemory};
 
-/// The reply of a command by what its row answered.
+/// The reply of a command by what its effect answered.
 pub fn closed(answer: Result<LocalReply, Halt>) -> Made<LocalReply>
-    ensures ok { (row : Result (Exporter × replies.LocalReply) faults.Fault) (old new : Exporter) → Answers row old answer new → IfOk result (λ r. settled_answer old row ≡ (new, r)) }
+    ensures ok { (effect : Result (Exporter × replies.LocalReply) faults.Fault) (old new : Exporter) → Answers effect old answer new → IfOk result (λ r. settled_answer old effect ≡ (new, r)) }
     ensures done { OnOk result (answer ≡ Err halts.NoMemory → ⊥) }
     ensures memory { OnErr result (answer ≡ Err halts.NoMemory) }
-    ensures err { (row : Result (Exporter × replies.LocalReply) faults.Fault) (old new : Exporter) → Answers row old answer new → OnErr result (new ≡ old) }
+    ensures err { (effect : Result (Exporter × replies.LocalReply) faults.Fault) (old new : Exporter) → Answers effect old answer new → OnErr result (new ≡ old) }
 {
     match answer {
         Ok(reply) => Ok(reply),

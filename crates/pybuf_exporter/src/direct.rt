@@ -1,5 +1,5 @@
 //! Commands that are called very often, each with its values lent by themselves: no verb is made for it, none is
-//! looked at for its row, and none is dropped. Each is the command of its verb, and answers the same.
+//! looked at for its effect, and none is dropped. Each is the command of its verb, and answers the same.
 ghost use Rattle.std.specs.Prelude.{◌≡◌, true, false, IfOk, IfErr, OnOk, OnErr};
 ghost use Rattle.pybuf_value.specs.declared.faults.Fault.TheVariants as faults;
 ghost use Rattle.pybuf_command.specs.declared.commands.Verb.TheVariants as verbs;
@@ -20,7 +20,7 @@ use pybuf_verbs_views::{cast, release, slice, view};
 use pybuf_verbs_writes::{assign, set};
 
 /// `get` of a view: a new view of the items that a slice picks, or the item that any other key names.
-fn row_of_get(parts: &mut Parts, view: usize, key: &Value) -> Result<LocalReply, Halt>
+fn effect_of_get(parts: &mut Parts, view: usize, key: &Value) -> Result<LocalReply, Halt>
     requires { IsWhole parts.old }
     ensures answer { Answers (spec.get_of_view (exporter_of parts.old) view key.now) (exporter_of parts.old) result (exporter_of parts.new) }
     ensures counted { parts.new.exports ≡ exports_of (exporter_of parts.new) }
@@ -33,7 +33,7 @@ fn row_of_get(parts: &mut Parts, view: usize, key: &Value) -> Result<LocalReply,
 }
 
 /// `set` of a view: items over those that a slice picks, or the item at an index.
-fn row_of_set<N: Names>(
+fn effect_of_set<N: Names>(
     parts: &mut Parts,
     view: usize,
     key: &Value,
@@ -110,7 +110,7 @@ pub fn get_of_view(
     if !is_value_known(parts, loans, key) {
         return Err(Halt::Refused(Fault::UnknownName));
     }
-    row_of_get(parts, view, key)
+    effect_of_get(parts, view, key)
 }
 
 /// Writes the item of a view at a key, or items over those that a slice picks.
@@ -133,7 +133,7 @@ pub fn set_through_view(
     if !is_value_known(parts, loans, value) {
         return Err(Halt::Refused(Fault::UnknownName));
     }
-    row_of_set(parts, view, key, value, loans)
+    effect_of_set(parts, view, key, value, loans)
 }
 
 /// A new view of the bytes of a view, with items of another format.

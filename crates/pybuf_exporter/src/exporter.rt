@@ -107,7 +107,7 @@ impl ExporterState {
         }
     }
 
-    /// Carries out a command, as its row says: `step_counted` with a counter that nobody reads.
+    /// Carries out a command, as its effect says: `step_counted` with a counter that nobody reads.
     ///
     /// A refusal is a reply, and changes nothing. A subject number that was never given is refused
     /// with `UnknownName`, and so is, before all else, a handle among the command's values that its

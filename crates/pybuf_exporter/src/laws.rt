@@ -1,16 +1,16 @@
-//! Laws over every command, from the laws of the rows.
+//! Laws over every command, from the laws of the effects.
 ghost use Rattle.pybuf_exporter.specs.Laws.{CommandsKeepSound, LengthsStayUnderCommands, ReadOnlyBytesStayUnderCommands, IteratorsStayUnderCommands, OthersLeaveIterators, IterationChangesNothingElse, IteratorsGiveTheBytes, ReadingInPlaceChangesNothing, RefusedCommandsChangeNothing, FreshRepliesAreCopies, NamesAlikeDoTheSame, ItemsAreRead, ResizingIsRefusedWhileExported, AddingItselfIsRefused, OnlyByteArraysAreAddedTo, ShownTextsAreOneLine, StructErrorIsNeverReplied};
 ghost use Rattle.pybuf_exporter.specs.Iterating.{IteratorsGiveTheItems, ReleasedViewsAreNotIterated, OtherShapesAreNotIterated, IteratorsStopPastTheEntries, ExhaustedIteratorsStop};
 ghost use Rattle.pybuf_exporter.specs.Assigning.{StepsAssignByValue, SnapsHoldTheItems};
 ghost use Rattle.pybuf_exporter.specs.Columns.{ColumnCastsGiveTheBytesBack, OrdersHoldTheSameItems};
 ghost use Rattle.pybuf_exporter.specs.Laws.{CommandsKeepItemsApart, RepliedNamesAreThere, SubjectsStay};
 ghost use Rattle.pybuf_exporter.specs.Owning.{OwningRepliesChangeNothing, TakenBytesAreAll, NextIsUndone, NoIteratorHasNoNext};
-ghost use Rattle.pybuf_exporter.specs.Rows.{RowsAreSafe, StepsKeepSound};
+ghost use Rattle.pybuf_exporter.specs.Effects.{EffectsAreSafe, StepsKeepSound};
 ghost use Rattle.pybuf_exporter.specs.Counting.{QueuesMoveFewBytes};
 
-/// Each row keeps a sound exporter, or replies a copy.
-fn rows_are_safe()
-    ensures { RowsAreSafe }
+/// Each effect keeps a sound exporter, or replies a copy.
+fn effects_are_safe()
+    ensures { EffectsAreSafe }
 {
     pybuf_verbs_views::view_is_safe();
     pybuf_verbs_views::range_is_safe();
@@ -44,7 +44,7 @@ fn rows_are_safe()
 pub(crate) fn steps_keep_sound()
     ensures { StepsKeepSound }
 {
-    rows_are_safe();
+    effects_are_safe();
     pybuf_state::reading_keeps();
 }
 
@@ -52,7 +52,7 @@ pub(crate) fn steps_keep_sound()
 pub fn commands_keep_sound()
     ensures { CommandsKeepSound }
 {
-    rows_are_safe();
+    effects_are_safe();
     pybuf_state::reading_keeps();
 }
 
@@ -61,7 +61,7 @@ pub fn commands_keep_sound()
 pub fn lengths_stay()
     ensures { LengthsStayUnderCommands }
 {
-    rows_are_safe();
+    effects_are_safe();
     pybuf_state::reading_keeps();
 }
 
@@ -69,7 +69,7 @@ pub fn lengths_stay()
 pub fn readonly_bytes_stay()
     ensures { ReadOnlyBytesStayUnderCommands }
 {
-    rows_are_safe();
+    effects_are_safe();
     pybuf_state::reading_keeps();
 }
 
@@ -78,7 +78,7 @@ pub fn readonly_bytes_stay()
 pub fn iterators_stay()
     ensures { IteratorsStayUnderCommands }
 {
-    rows_are_safe();
+    effects_are_safe();
     pybuf_state::reading_keeps();
 }
 
@@ -91,7 +91,7 @@ pub fn reading_in_place_changes_nothing()
 pub fn others_leave_iterators()
     ensures { OthersLeaveIterators }
 {
-    rows_are_safe();
+    effects_are_safe();
     pybuf_state::reading_keeps();
 }
 
@@ -99,7 +99,7 @@ pub fn others_leave_iterators()
 pub fn iteration_changes_nothing_else()
     ensures { IterationChangesNothingElse }
 {
-    rows_are_safe();
+    effects_are_safe();
     pybuf_state::reading_keeps();
 }
 
@@ -113,7 +113,7 @@ pub fn iterators_give_the_bytes()
 pub fn refused_commands_change_nothing()
     ensures { RefusedCommandsChangeNothing }
 {
-    rows_are_safe();
+    effects_are_safe();
     pybuf_state::reading_keeps();
 }
 
@@ -122,7 +122,7 @@ pub fn refused_commands_change_nothing()
 pub fn struct_error_is_never_replied()
     ensures { StructErrorIsNeverReplied }
 {
-    rows_are_safe();
+    effects_are_safe();
     pybuf_state::reading_keeps();
 }
 
@@ -131,7 +131,7 @@ pub fn struct_error_is_never_replied()
 pub fn fresh_replies_are_copies()
     ensures { FreshRepliesAreCopies }
 {
-    rows_are_safe();
+    effects_are_safe();
     pybuf_state::reading_keeps();
 }
 
@@ -139,7 +139,7 @@ pub fn fresh_replies_are_copies()
 pub fn shown_texts_are_one_line()
     ensures { ShownTextsAreOneLine }
 {
-    rows_are_safe();
+    effects_are_safe();
     pybuf_state::reading_keeps();
 }
 
@@ -164,7 +164,7 @@ pub fn items_are_read()
 pub fn resizing_is_refused_while_exported()
     ensures { ResizingIsRefusedWhileExported }
 {
-    rows_are_safe();
+    effects_are_safe();
     pybuf_state::reading_keeps();
     pybuf_verbs_edits::edits_ask_before_they_resize();
     pybuf_verbs_edits::only_adding_itself_is_refused_earlier();
@@ -243,7 +243,7 @@ pub fn orders_hold_the_same_items()
 pub fn commands_keep_items_apart()
     ensures { CommandsKeepItemsApart }
 {
-    rows_are_safe();
+    effects_are_safe();
     pybuf_state::reading_keeps();
 }
 
@@ -251,7 +251,7 @@ pub fn commands_keep_items_apart()
 pub fn replied_names_are_there()
     ensures { RepliedNamesAreThere }
 {
-    rows_are_safe();
+    effects_are_safe();
     pybuf_state::reading_keeps();
 }
 
@@ -259,7 +259,7 @@ pub fn replied_names_are_there()
 pub fn subjects_stay()
     ensures { SubjectsStay }
 {
-    rows_are_safe();
+    effects_are_safe();
     pybuf_state::reading_keeps();
 }
 

@@ -1,4 +1,4 @@
-//! Which row a command has.
+//! Which effect a command has.
 ghost use Rattle.std.specs.Prelude.{◌≡◌, ◌≤◌, ◌+◌, ℕ, true, false, length, OnOk, OnErr};
 ghost use Rattle.pybuf_command.specs.declared.kinds.Subject.TheVariants as subjects;
 ghost use Rattle.pybuf_command.specs.Handles.{handles_of, handles_read};
@@ -49,9 +49,9 @@ fn is_edit(verb: &Verb) -> bool
     }
 }
 
-/// The row of a verb on the exporter itself that is no edit, with the handles among its values.
+/// The effect of a verb on the exporter itself that is no edit, with the handles among its values.
 #[tactic(auto, using(crate::proofs::Counting::no_edit))]
-fn row_without_edits<N: Names>(
+fn effect_without_edits<N: Names>(
     parts: &mut Parts,
     verb: &Verb,
     handles: &[u64],
@@ -61,7 +61,7 @@ fn row_without_edits<N: Names>(
     requires given { handles.now ≡ handles_of verb.now }
     requires fit { N.fit names.now }
     requires no_edit { is_edit verb.now ≡ false }
-    ensures answer { Answers (spec.row_of_own (exporter_of parts.old) verb.now (lents_by (exporter_of parts.old) (N.named names.now) (handles_read subjects.Own verb.now))) (exporter_of parts.old) result (exporter_of parts.new) }
+    ensures answer { Answers (spec.effect_on_own (exporter_of parts.old) verb.now (lents_by (exporter_of parts.old) (N.named names.now) (handles_read subjects.Own verb.now))) (exporter_of parts.old) result (exporter_of parts.new) }
     ensures counted { parts.new.exports ≡ exports_of (exporter_of parts.new) }
     ensures room { parts.new.bytes.room ≡ parts.old.bytes.room }
 {
@@ -91,9 +91,9 @@ fn row_without_edits<N: Names>(
     }
 }
 
-/// The row of a verb on the exporter itself, with the handles among its values.
-#[tactic(auto, using(crate::proofs::Refusing::row_is_edit, crate::proofs::Counting::no_front, crate::proofs::Counting::no_growth))]
-fn row_of_own<N: Names, L: Ledger>(
+/// The effect of a verb on the exporter itself, with the handles among its values.
+#[tactic(auto, using(crate::proofs::Refusing::effect_is_edit, crate::proofs::Counting::no_front, crate::proofs::Counting::no_growth))]
+fn effect_on_own<N: Names, L: Ledger>(
     parts: &mut Parts,
     verb: &Verb,
     handles: &[u64],
@@ -103,7 +103,7 @@ fn row_of_own<N: Names, L: Ledger>(
     requires whole { IsWhole parts.old }
     requires given { handles.now ≡ handles_of verb.now }
     requires fit { N.fit names.now }
-    ensures answer { Answers (spec.row_of_own (exporter_of parts.old) verb.now (lents_by (exporter_of parts.old) (N.named names.now) (handles_read subjects.Own verb.now))) (exporter_of parts.old) result (exporter_of parts.new) }
+    ensures answer { Answers (spec.effect_on_own (exporter_of parts.old) verb.now (lents_by (exporter_of parts.old) (N.named names.now) (handles_read subjects.Own verb.now))) (exporter_of parts.old) result (exporter_of parts.new) }
     ensures counted { parts.new.exports ≡ exports_of (exporter_of parts.new) }
     ensures few { OnOk result (moved.new ≤ moved.old + (length parts.old.bytes.items + length parts.new.bytes.items)) }
     ensures front_room { (n : ℕ) → TakesFirst (taken_places (exporter_of parts.old) verb.now) n → OnOk result (parts.new.bytes.room ≡ parts.old.bytes.room + n) }
@@ -120,12 +120,12 @@ fn row_of_own<N: Names, L: Ledger>(
     if is_edit(verb) {
         edit_of_own(parts, verb, names, moved)
     } else {
-        row_without_edits(parts, verb, handles, names)
+        effect_without_edits(parts, verb, handles, names)
     }
 }
 
-/// The row of a verb on a view.
-fn row_of_view<N: Names>(
+/// The effect of a verb on a view.
+fn effect_on_view<N: Names>(
     parts: &mut Parts,
     k: usize,
     verb: &Verb,
@@ -133,7 +133,7 @@ fn row_of_view<N: Names>(
 ) -> Result<LocalReply, Halt>
     requires whole { IsWhole parts.old }
     requires fit { N.fit names.now }
-    ensures answer { Answers (spec.row_of_view (exporter_of parts.old) k verb.now (lents_by (exporter_of parts.old) (N.named names.now) (handles_read (subjects.View k) verb.now))) (exporter_of parts.old) result (exporter_of parts.new) }
+    ensures answer { Answers (spec.effect_on_view (exporter_of parts.old) k verb.now (lents_by (exporter_of parts.old) (N.named names.now) (handles_read (subjects.View k) verb.now))) (exporter_of parts.old) result (exporter_of parts.new) }
     ensures counted { parts.new.exports ≡ exports_of (exporter_of parts.new) }
     ensures room { parts.new.bytes.room ≡ parts.old.bytes.room }
 {
@@ -178,7 +178,7 @@ fn row_of_view<N: Names>(
     }
 }
 
-/// What a command answers: what the row of the subject and the verb does. A handle that names nothing is refused
+/// What a command answers: what the effect of the subject and the verb does. A handle that names nothing is refused
 /// with `UnknownName`, before all else.
 pub fn answer<N: Names, L: Ledger>(
     parts: &mut Parts,
@@ -208,8 +208,8 @@ pub fn answer<N: Names, L: Ledger>(
         return Err(Halt::Refused(Fault::UnknownName));
     }
     match subject {
-        Subject::Own => row_of_own(parts, verb, handles.as_slice(), names, moved),
-        Subject::View(k) => row_of_view(parts, k, verb, names),
+        Subject::Own => effect_on_own(parts, verb, handles.as_slice(), names, moved),
+        Subject::View(k) => effect_on_view(parts, k, verb, names),
         Subject::Iter(k) => stepping::of_iterator(parts, k, verb),
     }
 }

@@ -1,4 +1,4 @@
-//! Calls on views by plain arguments: each but `put_number` goes to its row with numbers and slices, and makes no value,
+//! Calls on views by plain arguments: each but `put_number` goes to its effect with numbers and slices, and makes no value,
 //! no loan and no reply. `put_number` is the command `set` with two values and no loans.
 ghost use Rattle.std.specs.Prelude.{◌≡◌, [], map, pos, None, Some, IfOk, OnErr};
 ghost use Rattle.std.specs.Result.{result_map_both};

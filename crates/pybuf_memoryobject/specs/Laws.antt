@@ -25,9 +25,9 @@ use Rattle.pybuf_verbs_reads.specs.Property.{property_of_view}
 use Rattle.pybuf_verbs_writes.specs.Assign.{assign_of_view, assign_of_lent}
 use Rattle.pybuf_exporter.specs.Step.{estep, settled_answer}
 
--- what a row says is what the command does that is told to this subject, with no loans
+-- what an effect says is what the command does that is told to this subject, with no loans
 abbrev pub IsCommand : Exporter → Subject → Verb → Result (Exporter × LocalReply) Fault → Type 0
-IsCommand e s v row = settled_answer e row ≡ estep e s v []
+IsCommand e s v effect = settled_answer e effect ≡ estep e s v []
 
 -- a whole number as a value
 abbrev pub number_value : ℤ → Value

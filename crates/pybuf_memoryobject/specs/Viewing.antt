@@ -6,9 +6,9 @@ use Rattle.pybuf_command.specs.declared.kinds.Subject.{Subject}
 use Rattle.pybuf_command.specs.declared.commands.Verb.TheVariants as verb
 use Rattle.pybuf_command.specs.declared.commands.LocalReply.TheVariants as reply
 use Rattle.pybuf_state.specs.Exporter.{Exporter}
-use Rattle.pybuf_exporter.specs.Step.{row}
+use Rattle.pybuf_exporter.specs.Step.{effect}
 
--- one more view, as the row of the verb `View` makes it of the subject, or that row's refusal
+-- one more view, as the effect of the verb `View` makes it of the subject, or that effect's refusal
 abbrev pub IsViewOf : Exporter → Subject → Exporter → Outcome ℕ → Type 0
-IsViewOf old s new (outcome.Done k) = row old s verb.View [] ≡ Ok (new, reply.View k)
-IsViewOf old s new (outcome.Refused f) = (row old s verb.View [] ≡ Err f) × (new ≡ old)
+IsViewOf old s new (outcome.Done k) = effect old s verb.View [] ≡ Ok (new, reply.View k)
+IsViewOf old s new (outcome.Refused f) = (effect old s verb.View [] ≡ Err f) × (new ≡ old)

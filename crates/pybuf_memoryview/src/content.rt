@@ -11,8 +11,8 @@ ghost use Rattle.pybuf_desc.specs.SegmentLines.{ranges_of_line, IsLine};
 ghost use Rattle.pybuf_memoryview.specs.Orders.{nbytes_of};
 
 use crate::kept::KeptLayout;
-use pybuf_apart::append_items;
 use pybuf_desc::{SegmentLine, Segments};
+use pybuf_strided::append_items;
 use pybuf_value::Made;
 use std::alloc::Global;
 

@@ -8,7 +8,7 @@ use Rattle.std.proofs.Math.Nat.{mul-le-mul_right}
 use Rattle.std.proofs.lemmas.Bool.{le-ltb}
 use Rattle.std.proofs.lemmas.Grind.{common_steps}
 use Rattle.std.proofs.lemmas.List.{map-append, drop-drop, length-map}
-use Rattle.pybuf_apart.specs.Apart.{place_of, AreInside, moved_at}
+use Rattle.pybuf_strided.specs.Apart.{place_of, AreInside, moved_at}
 use Rattle.pybuf_desc.specs.Places.{places}
 use Rattle.pybuf_desc.specs.Segments.{line}
 use Rattle.pybuf_desc.specs.Valid.{IsInside}

@@ -6,7 +6,7 @@ ghost use Rattle.pybuf_desc.specs.Segments.{line};
 ghost use Rattle.pybuf_desc.specs.Valid.{IsInside};
 ghost use Rattle.pybuf_verbs_writes.specs.Laid.{laid};
 
-use pybuf_apart::{Track, copy_items};
+use pybuf_strided::{Track, copy_items};
 
 /// Lays bytes from a place on over items that lie in equal steps. Answers the place after them.
 fn lay_row(

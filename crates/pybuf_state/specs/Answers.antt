@@ -1,4 +1,4 @@
--- What the code of a row owes to its definition.
+-- What the code of an effect owes to its definition.
 use Rattle.std.specs.Prelude.{◌≡◌, Result, Ok, Err}
 use Rattle.pybuf_value.specs.declared.faults.Fault.{Fault}
 use Rattle.pybuf_value.specs.declared.halt.Halt.{Halt}
@@ -17,15 +17,15 @@ pub record IsWhole (p : Parts) : Type 0 where
   pub counted : p.exports ≡ exports_of (exporter_of p)
   pub sound : IsSoundExporter (exporter_of p)
 
--- The answer is the row's: its reply with its exporter, or its fault and the exporter as before.
+-- The answer is the effect's: its reply with its exporter, or its fault and the exporter as before.
 -- Where memory runs out, the exporter is as before.
 abbrev pub Answers : Result (Exporter × LocalReply) Fault → Exporter → Result LocalReply Halt → Exporter → Type 0
-Answers row old (Ok r) new = row ≡ Ok (new, r)
-Answers row old (Err (halt.Refused f)) new = (row ≡ Err f) × (new ≡ old)
-Answers row old (Err halt.NoMemory) new = new ≡ old
+Answers effect old (Ok r) new = effect ≡ Ok (new, r)
+Answers effect old (Err (halt.Refused f)) new = (effect ≡ Err f) × (new ≡ old)
+Answers effect old (Err halt.NoMemory) new = new ≡ old
 
--- the same of a row that only reads
+-- the same of an effect that only reads
 abbrev pub Reads : Result (Exporter × LocalReply) Fault → Exporter → Result LocalReply Halt → Type 0
-Reads row e (Ok r) = row ≡ Ok (e, r)
-Reads row e (Err (halt.Refused f)) = row ≡ Err f
-Reads row e (Err halt.NoMemory) = Unit {0}
+Reads effect e (Ok r) = effect ≡ Ok (e, r)
+Reads effect e (Err (halt.Refused f)) = effect ≡ Err f
+Reads effect e (Err halt.NoMemory) = Unit {0}

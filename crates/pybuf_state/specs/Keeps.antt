@@ -77,17 +77,17 @@ is_answer e (reply.View k) = has_subject e (subject.View k)
 is_answer e (reply.Iter k) = has_subject e (subject.Iter k)
 is_answer e _ = true
 
--- a row that isn't refused keeps all this, replies neither a refusal nor something fresh, shows one line at
+-- an effect that isn't refused keeps all this, replies neither a refusal nor something fresh, shows one line at
 -- most, and names what its exporter has then
 pub record IsCarriedOut (old : Exporter) (after : Exporter × LocalReply) : Type 0 where
   pub keeps : IsSoundExporter old → Keeps old after.0
   pub answers : is_answer after.0 after.1 ≡ true
 
--- the same of a row that may be refused
+-- the same of an effect that may be refused
 abbrev pub IsSafe : Exporter → Result (Exporter × LocalReply) Fault → Type 0
-IsSafe old row = IfDone (IsCarriedOut old) row
+IsSafe old effect = IfDone (IsCarriedOut old) effect
 
--- a row of iterators that isn't refused changes nothing but iterators, and replies as `IsCarriedOut` says
+-- an effect of iterators that isn't refused changes nothing but iterators, and replies as `IsCarriedOut` says
 pub record IsIterated (old : Exporter) (after : Exporter × LocalReply) : Type 0 where
   pub same : after.0 ≡ record old { iterators = after.0.iterators }
   pub iterators : IteratorsStay old.iterators after.0.iterators
@@ -98,7 +98,7 @@ abbrev pub RepliesCopy : Exporter → Subject → LocalReply → Type 0
 RepliesCopy old s (reply.Fresh snap) = IsCopyOf old s snap
 RepliesCopy old s _ = ⊥
 
--- a row that isn't refused leaves the exporter as it is, and replies a copy of the view
+-- an effect that isn't refused leaves the exporter as it is, and replies a copy of the view
 pub record IsCopied (old : Exporter) (s : Subject) (after : Exporter × LocalReply) : Type 0 where
   pub same : after.0 ≡ old
   pub copied : RepliesCopy old s after.1

@@ -1,4 +1,4 @@
--- Which handles an exporter knows by its loans, and what is lent to the row of a command.
+-- Which handles an exporter knows by its loans, and what is lent to the effect of a command.
 use Rattle.std.specs.Prelude.{ℕ, Bool, true, false, List, [], ◌∷◌, length, map, Option, Some, None, nat_lt}
 use Rattle.std.specs.List.{flat_map, list_all}
 use Rattle.pybuf_value.specs.declared.snaps.Snap.{Snap}

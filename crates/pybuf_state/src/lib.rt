@@ -1,7 +1,7 @@
 //! The parts of an exporter: its bytes, its views and the count of its exports, what holds of them,
 //! what of them is lent, and what each change of them keeps; and whether loans fit.
 //!
-//! The rows of commands work on these parts. Users of the library have them as `ExporterState` of
+//! The effects of commands work on these parts. Users of the library have them as `ExporterState` of
 //! `pybuf_exporter`.
 #![tactic(auto)]
 

@@ -36,7 +36,7 @@ abbrev pub given_by : {X : Type 0} → Outcome X → Result X Fault
 given_by (outcome.Done x) = Ok x
 given_by (outcome.Refused f) = Err f
 
--- the same, a refusal among what stops a row
+-- the same, a refusal among what stops an effect
 abbrev pub stopped_by : {X : Type 0} → Result X Fault → Result X Halt
 stopped_by (Ok x) = Ok x
 stopped_by (Err f) = Err (halt.Refused f)

@@ -1,4 +1,4 @@
-//! Why a row of the command table stops: it is refused, or memory ran out.
+//! Why an effect of the command table stops: it is refused, or memory ran out.
 ghost use Rattle.std.specs.Prelude.{◌≡◌, Result, Ok, IfOk};
 ghost use Rattle.pybuf_value.specs.Halting.{Gives, outcome_of, items_of};
 ghost use Rattle.pybuf_value.specs.declared.faults.Fault as faults;
@@ -10,7 +10,7 @@ use pybuf_copy::NoMemory;
 use std::alloc::{AllocError, AllocFailed};
 use thiserror::Error;
 
-/// Why a row stops, so that its body can use `?` alone. Its `Display` is Python's name of the exception.
+/// Why an effect stops, so that its body can use `?` alone. Its `Display` is Python's name of the exception.
 #[derive(Clone, Copy, Debug, PartialEq, Eq, Error)]
 pub enum Halt {
     #[error("{0}")]

@@ -1,4 +1,4 @@
--- Rows that compare keep a sound exporter.
+-- Effects that compare keep a sound exporter.
 use Rattle.std.proofs.Common.{◌≡◌, ℕ, ◌^◌, List, length, Bool, true, false, refl, subst}
 use Rattle.std.specs.Prelude.{not, nat_lt, Option, Result, Ok, Err, if◌then◌else◌}
 use Rattle.pybuf_value.specs.declared.faults.Fault.{Fault}
@@ -29,7 +29,7 @@ read reading e r answers = record { keeps = λ sound. reading e sound; answers =
 -- ---- compare
 
 compared_answers : (e : Exporter) (bytes : List ℕ) (op : CompareOp) (other : Result (List ℕ) Fault) → is_answer e (bytes_compared bytes op other) ≡ true
-compared_answers e bytes op (Ok row) = refl
+compared_answers e bytes op (Ok effect) = refl
 compared_answers e bytes op (Err f) = refl
 
 string_safe : ReadingKeeps → (e : Exporter) (op : CompareOp) (other : Option Snap) → IsSafe e (compare_string e op other)

@@ -1,4 +1,4 @@
--- The rows keep a sound exporter, and what equality and hashes have to do with each other.
+-- The effects keep a sound exporter, and what equality and hashes have to do with each other.
 use Rattle.std.specs.Prelude.{◌≡◌, ℕ, ◌<◌, List, true, false, Ok}
 use Rattle.std.specs.List.{All}
 use Rattle.pybuf_value.specs.declared.values.Value.{Value}

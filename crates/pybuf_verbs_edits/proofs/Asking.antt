@@ -31,40 +31,40 @@ use Rattle.pybuf_verbs_edits.specs.Replacing.{assigned, slice_set, initialized}
 use Rattle.pybuf_verbs_edits.specs.Asking.{passed, key_passed, assignment_asks, byte_array_asks}
 use Rattle.pybuf_verbs_edits.specs.Laws.{IsAsked, EditsAskBeforeTheyResize}
 
-abbrev Row : Type 0
-Row = Result (Exporter × LocalReply) Fault
+abbrev Effect : Type 0
+Effect = Result (Exporter × LocalReply) Fault
 
-abbrev is_buffer : Row → Type 0
-is_buffer row = row ≡ Err fault.Buffer
+abbrev is_buffer : Effect → Type 0
+is_buffer effect = effect ≡ Err fault.Buffer
 
 -- a check that refuses decides
 refused_so : (e : Exporter) (f : Fault) → IsAsked e (Err f) (Err f)
 refused_so e f = record {
-  earlier = λ g is. ap (λ (y : Fault). let gone : Row = Err y in gone) (let same : f ≡ g = cc in same);
+  earlier = λ g is. ap (λ (y : Fault). let gone : Effect = Err y in gone) (let same : f ≡ g = cc in same);
   refused = λ is live. absurd (cc);
   only = λ is. inr (let same : f ≡ fault.Buffer = cc in ap (λ (y : Fault). let gone : Result Bool Fault = Err y in gone) same);
 }
 
 -- what follows a check
-checked : {A : Type 0} (e : Exporter) (r : Result A Fault) (f : A → Result Bool Fault) (g : A → Row) → ((a : A) → IsAsked e (f a) (g a)) → IsAsked e (r >>= f) (r >>= g)
+checked : {A : Type 0} (e : Exporter) (r : Result A Fault) (f : A → Result Bool Fault) (g : A → Effect) → ((a : A) → IsAsked e (f a) (g a)) → IsAsked e (r >>= f) (r >>= g)
 checked e (Ok a) f g after = after a
 checked e (Err x) f g after = refused_so e x
 
 -- a check after which another length is asked for
-passing : {A : Type 0} (e : Exporter) (r : Result A Fault) (g : A → Row) → ((a : A) → IsAsked e (Ok true) (g a)) → IsAsked e (passed r) (r >>= g)
+passing : {A : Type 0} (e : Exporter) (r : Result A Fault) (g : A → Effect) → ((a : A) → IsAsked e (Ok true) (g a)) → IsAsked e (passed r) (r >>= g)
 passing e (Ok a) g after = after a
 passing e (Err x) g after = refused_so e x
 
 -- what asks for nothing is never refused so
-never : (e : Exporter) (row : Row) → (is_buffer row → ⊥) → IsAsked e (Ok false) row
-never e row other = record { earlier = λ f is. absurd (cc); refused = λ is live. absurd (cc); only = λ is. absurd (other is) }
+never : (e : Exporter) (effect : Effect) → (is_buffer effect → ⊥) → IsAsked e (Ok false) effect
+never e effect other = record { earlier = λ f is. absurd (cc); refused = λ is live. absurd (cc); only = λ is. absurd (other is) }
 
 -- what is asked is refused while a view is unreleased, and what comes after it refuses in other ways
-asking_when : (e : Exporter) (b : Bool) (g : Bool → Row) → has_exports e ≡ b → ((u : Bool) → is_buffer (g u) → ⊥) → IsAsked e (Ok true) (unless b fault.Buffer >>= g)
+asking_when : (e : Exporter) (b : Bool) (g : Bool → Effect) → has_exports e ≡ b → ((u : Bool) → is_buffer (g u) → ⊥) → IsAsked e (Ok true) (unless b fault.Buffer >>= g)
 asking_when e true g is after = record { earlier = λ f is. absurd (cc); refused = λ asked live. refl; only = λ refusal. inl (refl, is) }
 asking_when e false g is after = record { earlier = λ f is. absurd (cc); refused = λ asked live. absurd (true≢false (sym live ∙ is)); only = λ refusal. absurd (after true refusal) }
 
-asking : (e : Exporter) (g : Bool → Row) → ((u : Bool) → is_buffer (g u) → ⊥) → IsAsked e (Ok true) (resizable e >>= g)
+asking : (e : Exporter) (g : Bool → Effect) → ((u : Bool) → is_buffer (g u) → ⊥) → IsAsked e (Ok true) (resizable e >>= g)
 asking e g after = asking_when e (has_exports e) g refl after
 
 done_so : (after : Exporter × LocalReply) → is_buffer (Ok after) → ⊥
@@ -81,10 +81,10 @@ placed (Some place) g is = absurd (cc)
 
 -- ---- only a bytearray has edits
 
-of_kind : (k : ExporterKind) (e : Exporter) (a : Result Bool Fault) (row : Row) → IsAsked e a row → IsAsked e (of_byte_array k a) (of_byte_array k row)
-of_kind kind.ByteArray e a row asked = asked
-of_kind kind.Bytes e a row asked = refused_so e fault.UnknownName
-of_kind (kind.Vector readonly) e a row asked = refused_so e fault.UnknownName
+of_kind : (k : ExporterKind) (e : Exporter) (a : Result Bool Fault) (effect : Effect) → IsAsked e an effect → IsAsked e (of_byte_array k a) (of_byte_array k effect)
+of_kind kind.ByteArray e a effect asked = asked
+of_kind kind.Bytes e a effect asked = refused_so e fault.UnknownName
+of_kind (kind.Vector readonly) e a effect asked = refused_so e fault.UnknownName
 
 none_of_kind : (k : ExporterKind) (e : Exporter) → IsAsked e (of_byte_array k (Ok false)) (Err fault.UnknownName)
 none_of_kind kind.ByteArray e = never e (Err fault.UnknownName) (λ is. absurd (cc))
@@ -102,13 +102,13 @@ inserting e index v lents = checked e (count_in index) _ _ (λ number. passing e
 repeating : (e : Exporter) (n : ℕ) → IsAsked e (Ok true) (repeated e n)
 repeating e n = asking e _ (λ u. then_done (not (nat_lt (length e.bytes * n) (2 ^ 63))) fault.Overflow _ (λ is. absurd (cc)))
 
-unless_empty : (e : Exporter) (b : Bool) (same : Exporter × LocalReply) (row : Row) → IsAsked e (Ok true) row → IsAsked e (Ok (not b)) (if b then Ok same else row)
-unless_empty e true same row asked = never e (Ok same) (done_so same)
-unless_empty e false same row asked = asked
+unless_empty : (e : Exporter) (b : Bool) (same : Exporter × LocalReply) (effect : Effect) → IsAsked e (Ok true) effect → IsAsked e (Ok (not b)) (if b then Ok same else effect)
+unless_empty e true same effect asked = never e (Ok same) (done_so same)
+unless_empty e false same effect asked = asked
 
-unless_once : (e : Exporter) (b c : Bool) (same : Exporter × LocalReply) (row : Row) → IsAsked e (Ok (not c)) row → IsAsked e (Ok (not b && not c)) (if b then Ok same else row)
-unless_once e true c same row asked = never e (Ok same) (done_so same)
-unless_once e false c same row asked = asked
+unless_once : (e : Exporter) (b c : Bool) (same : Exporter × LocalReply) (effect : Effect) → IsAsked e (Ok (not c)) effect → IsAsked e (Ok (not b && not c)) (if b then Ok same else effect)
+unless_once e true c same effect asked = never e (Ok same) (done_so same)
+unless_once e false c same effect asked = asked
 
 repeating_unless_empty : (e : Exporter) (n : ℕ) → IsAsked e (Ok (not (length e.bytes == 0))) (repeated_unless_empty e n)
 repeating_unless_empty e n = unless_empty e (length e.bytes == 0) _ (repeated e n) (repeating e n)
@@ -119,9 +119,9 @@ multiplying e count lents = checked e (count_in count) _ _ (λ number. unless_on
 extending_by : (e : Exporter) (v : Value) (lents : List Lent) → IsAsked e (passed (bytes_in (snaps_of lents) v)) (extended e v lents)
 extending_by e v lents = passing e (bytes_in (snaps_of lents) v) _ (λ bytes. asking e _ (λ u. done_so _))
 
-either : (e : Exporter) (b : Bool) (a c : Result Bool Fault) (row other : Row) → IsAsked e a row → IsAsked e c other → IsAsked e (if b then a else c) (if b then row else other)
-either e true a c row other first second = first
-either e false a c row other first second = second
+either : (e : Exporter) (b : Bool) (a c : Result Bool Fault) (effect other : Effect) → IsAsked e an effect → IsAsked e c other → IsAsked e (if b then a else c) (if b then effect else other)
+either e true a c effect other first second = first
+either e false a c effect other first second = second
 
 extending : (e : Exporter) (v : Value) (lents : List Lent) → IsAsked e (byte_array_asks e (verb.Extend v) lents) (extended_or_doubled e v lents)
 extending e v lents = either e (is_itself v lents) _ _ (repeated_unless_empty e 2) (extended e v lents) (repeating_unless_empty e 2) (extending_by e v lents)
@@ -156,11 +156,11 @@ taking e true = asking e _ (λ u. done_so _)
 taking e false = never e (Err fault.UnknownName) (λ is. absurd (cc))
 
 -- a slice asks where it gets another number of bytes than it picks
-of_count : (e : Exporter) (b other : Bool) (row : Row) → has_exports e ≡ b → (is_buffer row → ⊥) → IsAsked e (Ok other) (unless (b && other) fault.Buffer >>= λ _. row)
-of_count e true true row is after = record { earlier = λ f is. absurd (cc); refused = λ asked live. refl; only = λ refusal. inl (refl, is) }
-of_count e true false row is after = never e row after
-of_count e false true row is after = record { earlier = λ f is. absurd (cc); refused = λ asked live. absurd (true≢false (sym live ∙ is)); only = λ refusal. absurd (after refusal) }
-of_count e false false row is after = never e row after
+of_count : (e : Exporter) (b other : Bool) (effect : Effect) → has_exports e ≡ b → (is_buffer effect → ⊥) → IsAsked e (Ok other) (unless (b && other) fault.Buffer >>= λ _. effect)
+of_count e true true effect is after = record { earlier = λ f is. absurd (cc); refused = λ asked live. refl; only = λ refusal. inl (refl, is) }
+of_count e true false effect is after = never e effect after
+of_count e false true effect is after = record { earlier = λ f is. absurd (cc); refused = λ asked live. absurd (true≢false (sym live ∙ is)); only = λ refusal. absurd (after refusal) }
+of_count e false false effect is after = never e effect after
 
 assigning_parts : (e : Exporter) (parts : SliceParts) (bytes : List ℕ) → IsAsked e (Ok (not (length (picks_of (length e.bytes) parts) == length bytes))) (assigned e parts bytes)
 assigning_parts e parts bytes =

@@ -36,8 +36,8 @@ use Rattle.pybuf_verbs_edits.specs.Growing.{repeated_unless_empty, extended_or_d
 use Rattle.pybuf_verbs_edits.specs.Replacing.{assigned_from, replaced_all, initialized}
 use Rattle.pybuf_verbs_edits.specs.LentBytes.{bytes_added, extended_by, added_by, extended_as, added_as, assigned_by, initialized_by}
 
-abbrev Row : Type 0
-Row = Result (Exporter × LocalReply) Fault
+abbrev Effect : Type 0
+Effect = Result (Exporter × LocalReply) Fault
 
 abbrev okay : {X : Type 0} → X → Result X Fault
 okay x = Ok x
@@ -92,7 +92,7 @@ view_content : (e : Exporter) (k : ℕ) (l : Layout) → live_layout e k ≡ Ok 
 view_content e k l found = view_given e.bytes (slice_get e.views k) l found
 
 -- an edit by them that asks for another length is refused, whatever they are
-view_asks : (e : Exporter) (k : ℕ) (l : Layout) (g : List ℕ → Bool → Row) → live_layout e k ≡ Ok l → (content_of_named (snap_of_subject e (subject.View k)) >>= λ bytes. (resizable e >>= g bytes)) ≡ Err fault.Buffer
+view_asks : (e : Exporter) (k : ℕ) (l : Layout) (g : List ℕ → Bool → Effect) → live_layout e k ≡ Ok l → (content_of_named (snap_of_subject e (subject.View k)) >>= λ bytes. (resizable e >>= g bytes)) ≡ Err fault.Buffer
 view_asks e k l g found =
     ap (λ (r : Result (List ℕ) Fault). r >>= λ bytes. (resizable e >>= g bytes)) (view_content e k l found)
     ∙ ap (λ (r : Result Bool Fault). r >>= g (content_of_layout e.bytes l)) (view_there e k (slice_get e.views k) l refl found)
@@ -105,18 +105,18 @@ view_initializes e k l found = view_asks e k l (λ bytes _. okay (with_bytes e b
 
 adds_live : (e : Exporter) (k : ℕ) (v : View) (b : Bool) (l : Layout) → slice_get e.views k ≡ Some v → v.released ≡ b → (unless b fault.Value >>= λ _. okay v.layout) ≡ Ok l → is_contiguous_layout l ≡ true
     → added_by e (Some (snap_of_view e.bytes v)) ≡ Err fault.Buffer
-adds_live e k v true l at is found row = absurd (cc)
-adds_live e k v false l at is found row =
+adds_live e k v true l at is found effect = absurd (cc)
+adds_live e k v false l at is found effect =
     let shown : v.layout ≡ l = cc in
-    let in_a_row : is_contiguous_layout v.layout ≡ true = ap is_contiguous_layout shown ∙ row in
+    let in_a_row : is_contiguous_layout v.layout ≡ true = ap is_contiguous_layout shown ∙ effect in
     rw (is, in_a_row, refused e k v at is) refl
 
 adds : (e : Exporter) (k : ℕ) (o : Option View) (l : Layout) → slice_get e.views k ≡ o → layout_found o ≡ Ok l → is_contiguous_layout l ≡ true → added_by e (option_map (snap_of_view e.bytes) o) ≡ Err fault.Buffer
-adds e k None l at found row = absurd (cc)
-adds e k (Some v) l at found row = adds_live e k v v.released l at refl found row
+adds e k None l at found effect = absurd (cc)
+adds e k (Some v) l at found effect = adds_live e k v v.released l at refl found effect
 
 pub view_adds : (e : Exporter) (k : ℕ) (l : Layout) → live_layout e k ≡ Ok l → is_contiguous_layout l ≡ true → added_by e (snap_of_subject e (subject.View k)) ≡ Err fault.Buffer
-view_adds e k l found row = adds e k (slice_get e.views k) l refl found row
+view_adds e k l found effect = adds e k (slice_get e.views k) l refl found effect
 
 -- ---- something of another exporter
 
@@ -156,7 +156,7 @@ own_named : (h : ℕ) (snap : Snap) → names_own (alone h (Some subject.Own) (S
 own_named h snap = ap (λ (b : Bool). if b then true else false) (same_handle h)
 
 -- `extend`
-abbrev extended_if : Exporter → Bool → Option Snap → Row
+abbrev extended_if : Exporter → Bool → Option Snap → Effect
 extended_if e itself lent = if itself then repeated_unless_empty e 2 else extended_by e lent
 
 extends : (e : Exporter) (h : ℕ) (s : Option Subject) (o : Option Snap) → is_own s ≡ false → extended_or_doubled e (value.One (scalar.Handle h)) (alone h s o) ≡ extended_by e o
@@ -176,7 +176,7 @@ handle_extends e h (Some (loan.Other snap)) = extends e h None (Some snap) refl
 handle_extends e h (Some loan.Missing) = refl
 
 -- `iadd`
-abbrev added_if : Exporter → Bool → Option Snap → Row
+abbrev added_if : Exporter → Bool → Option Snap → Effect
 added_if e itself lent = content_of lent >>= λ bytes. (unless itself fault.Buffer >>= λ _. bytes_added e bytes)
 
 adds_bytes : (e : Exporter) (h : ℕ) (s : Option Subject) (o : Option Snap) → is_own s ≡ false → added e (value.One (scalar.Handle h)) (alone h s o) ≡ added_by e o
@@ -207,13 +207,13 @@ handle_adds e h (Some loan.Missing) = refl
 pub handle_assigns : (e : Exporter) (parts : SliceParts) (h : ℕ) (o : Option Loan) → assigned_from e parts (value.One (scalar.Handle h)) (alone h (subject_in o) (snap_in e o)) ≡ assigned_by e parts (snap_in e o)
 handle_assigns e parts h o = ap (assigned_by e parts) (found_alone h (subject_in o) (snap_in e o))
 
--- a row that is given what is lent for a value that is a handle answers by what that is lent as
-pub by_handle : (row : Value → List Lent → Row) (short : Option Loan → Row) (e : Exporter) (v : Value) (h : ℕ) (named : ℕ → Option Loan) (o : Option Loan) (r : Result LocalReply Halt) (new : Exporter)
-    → ((x : Option Loan) → row (value.One (scalar.Handle h)) (alone h (subject_in x) (snap_in e x)) ≡ short x) → v ≡ value.One (scalar.Handle h) → o ≡ named h
-    → Answers (short o) e r new → Answers (row v (lents_by e named (handle_of_value v))) e r new
-by_handle row short e v h named o r new same is found answers =
-    subst (λ (x : Value). Answers (row x (lents_by e named (handle_of_value x))) e r new) (sym is)
-    (subst (λ (answer : Row). Answers answer e r new) (sym (same (named h)))
+-- an effect that is given what is lent for a value that is a handle answers by what that is lent as
+pub by_handle : (effect : Value → List Lent → Effect) (short : Option Loan → Effect) (e : Exporter) (v : Value) (h : ℕ) (named : ℕ → Option Loan) (o : Option Loan) (r : Result LocalReply Halt) (new : Exporter)
+    → ((x : Option Loan) → effect (value.One (scalar.Handle h)) (alone h (subject_in x) (snap_in e x)) ≡ short x) → v ≡ value.One (scalar.Handle h) → o ≡ named h
+    → Answers (short o) e r new → Answers (effect v (lents_by e named (handle_of_value v))) e r new
+by_handle effect short e v h named o r new same is found answers =
+    subst (λ (x : Value). Answers (effect x (lents_by e named (handle_of_value x))) e r new) (sym is)
+    (subst (λ (answer : Effect). Answers answer e r new) (sym (same (named h)))
     (subst (λ (x : Option Loan). Answers (short x) e r new) found answers))
 
 -- ---- what is lent for a source alone

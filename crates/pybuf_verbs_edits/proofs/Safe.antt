@@ -53,7 +53,7 @@ passed : (b : Bool) (f : Fault) (u : Bool) → unless b f ≡ Ok u → b ≡ fal
 passed true f u is = absurd (cc)
 passed false f u is = refl
 
--- ---- ways that rows end
+-- ---- ways that effects end
 
 kept : Ways → (e : Exporter) → IsSafe e (Ok (e, reply.Ok))
 kept ways e = record { keeps = λ sound. ways.reading e sound; answers = refl }
@@ -68,15 +68,15 @@ written ways e bytes writable same = record { keeps = λ sound. ways.writing e b
 asked : (e : Exporter) (f : Bool → Result (Exporter × LocalReply) Fault) → ((u : Bool) → has_exports e ≡ false → IsSafe e (f u)) → IsSafe e (resizable e >>= f)
 asked e f after = bind e (resizable e) f (λ u is. after u (passed (has_exports e) fault.Buffer u is))
 
-either : (e : Exporter) (b : Bool) (row other : Result (Exporter × LocalReply) Fault) → IsSafe e row → IsSafe e other → IsSafe e (if b then row else other)
-either e true row other first second = first
-either e false row other first second = second
+either : (e : Exporter) (b : Bool) (effect other : Result (Exporter × LocalReply) Fault) → IsSafe e effect → IsSafe e other → IsSafe e (if b then effect else other)
+either e true effect other first second = first
+either e false effect other first second = second
 
--- the row of a bytearray is that of an exporter that may be written
-of_kind : (e : Exporter) (k : ExporterKind) (row : Result (Exporter × LocalReply) Fault) → e.kind ≡ k → (holds_readonly e.kind ≡ false → IsSafe e row) → IsSafe e (of_byte_array k row)
-of_kind e kind.ByteArray row is safe = safe (ap holds_readonly is)
-of_kind e kind.Bytes row is safe = tt
-of_kind e (kind.Vector readonly) row is safe = tt
+-- the effect of a bytearray is that of an exporter that may be written
+of_kind : (e : Exporter) (k : ExporterKind) (effect : Result (Exporter × LocalReply) Fault) → e.kind ≡ k → (holds_readonly e.kind ≡ false → IsSafe e effect) → IsSafe e (of_byte_array k effect)
+of_kind e kind.ByteArray effect is safe = safe (ap holds_readonly is)
+of_kind e kind.Bytes effect is safe = tt
+of_kind e (kind.Vector readonly) effect is safe = tt
 
 -- ---- a line for each
 

@@ -1,4 +1,4 @@
--- What an edit takes out at the front, by the checks of its row.
+-- What an edit takes out at the front, by the checks of its effect.
 use Rattle.std.proofs.Common.{◌≡◌, ◌≢◌, inl, inr, ℕ, zero, suc, ◌+◌, ◌-◌, ◌/◌, min, ◌<◌, ◌≤◌, ℤ, pos, negsuc, List, [], ◌∷◌, length, take, drop, true, false, Bool, sym, subst, ap, ◌∙◌, refl, arith, length-take, length-drop, length-append}
 use Rattle.std.specs.Prelude.{nat_abs, Result, Ok, Err}
 use Rattle.std.proofs.lemmas.Bool.{cases_lt}

@@ -32,10 +32,10 @@ DeleteOfViewIsSafe = (e : Exporter) (k : ℕ) → IsSafe e (delete_of_view e k)
 -- Where a check before refuses, the answer is that refusal, whether a view is unreleased or not. Where these are
 -- passed and another length is asked for, the answer is `BufferError` while a view is unreleased. It is so
 -- nowhere else, but where a check before gives it.
-pub record IsAsked (e : Exporter) (asked : Result Bool Fault) (row : Result (Exporter × LocalReply) Fault) : Type 0 where
-  pub earlier : (f : Fault) → asked ≡ Err f → row ≡ Err f
-  pub refused : asked ≡ Ok true → has_exports e ≡ true → row ≡ Err fault.Buffer
-  pub only : row ≡ Err fault.Buffer → ((asked ≡ Ok true) × (has_exports e ≡ true)) ⊎ (asked ≡ Err fault.Buffer)
+pub record IsAsked (e : Exporter) (asked : Result Bool Fault) (effect : Result (Exporter × LocalReply) Fault) : Type 0 where
+  pub earlier : (f : Fault) → asked ≡ Err f → effect ≡ Err f
+  pub refused : asked ≡ Ok true → has_exports e ≡ true → effect ≡ Err fault.Buffer
+  pub only : effect ≡ Err fault.Buffer → ((asked ≡ Ok true) × (has_exports e ≡ true)) ⊎ (asked ≡ Err fault.Buffer)
 
 abbrev pub EditsAskBeforeTheyResize : Type 0
 EditsAskBeforeTheyResize = (e : Exporter) (v : Verb) (lents : List Lent) → IsAsked e (asks e v lents) (edit_of_own e v lents)

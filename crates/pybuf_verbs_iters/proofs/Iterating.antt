@@ -1,4 +1,4 @@
--- Rows of iterators change nothing but iterators.
+-- Effects of iterators change nothing but iterators.
 use Rattle.std.proofs.Common.{◌≡◌, ℕ, ◌+◌, List, [], ◌∷◌, ◌++◌, Bool, true, false, true≢false, sym, refl, ◌∙◌, ap, arith}
 use Rattle.std.specs.Prelude.{Option, Some, None, Result, Ok, Err, not, nat_lt, slice_get, length}
 use Rattle.std.proofs.lemmas.List.{length-append}
@@ -23,7 +23,7 @@ use Rattle.pybuf_verbs_iters.specs.Laws.{IterIsSafe, IteratorsAreSafe}
 bind : {A : Type 0} (e : Exporter) (r : Result A Fault) (f : A → Result (Exporter × LocalReply) Fault) → ((a : A) → r ≡ Ok a → IfDone (IsIterated e) (f a)) → IfDone (IsIterated e) (r >>= f)
 bind e r f after = done_bind (IsIterated e) r f after
 
--- ---- the three ways of a row
+-- ---- the three ways of an effect
 
 -- one more iterator
 last_is_there : (its : List Iterator) (it : Iterator) → nat_lt (length its) (length (its ++ it ∷ [])) ≡ true

@@ -129,11 +129,11 @@ setstate_of_iterator e k state = do
   it ← iterator_over_bytes e k
   put_unless it.exhausted e k it state
 
--- ---- the row of a verb on an iterator
+-- ---- the effect of a verb on an iterator
 
-abbrev pub row_of_iterator : Exporter → ℕ → Verb → Result (Exporter × LocalReply) Fault
-row_of_iterator e k verb.Iter = iter_of_iterator e k
-row_of_iterator e k verb.Next = next_of_iterator e k
-row_of_iterator e k verb.LengthHint = hint_of_iterator e k
-row_of_iterator e k (verb.SetState state) = setstate_of_iterator e k state
-row_of_iterator e k _ = Err fault.UnknownName
+abbrev pub effect_on_iterator : Exporter → ℕ → Verb → Result (Exporter × LocalReply) Fault
+effect_on_iterator e k verb.Iter = iter_of_iterator e k
+effect_on_iterator e k verb.Next = next_of_iterator e k
+effect_on_iterator e k verb.LengthHint = hint_of_iterator e k
+effect_on_iterator e k (verb.SetState state) = setstate_of_iterator e k state
+effect_on_iterator e k _ = Err fault.UnknownName

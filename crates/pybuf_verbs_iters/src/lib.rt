@@ -1,4 +1,4 @@
-//! Rows of iterators: one is made, gives its next item, tells how many are left, and is moved to a place.
+//! Effects of iterators: one is made, gives its next item, tells how many are left, and is moved to a place.
 #![tactic(auto)]
 
 mod laws;

@@ -170,12 +170,12 @@ fn set_state(parts: &mut Parts, k: usize, state: &Value) -> Result<LocalReply, H
     Ok(LocalReply::Ok)
 }
 
-// ---- the row of a verb
+// ---- the effect of a verb
 
-/// The row of a verb on an iterator.
+/// The effect of a verb on an iterator.
 pub fn of_iterator(parts: &mut Parts, k: usize, verb: &Verb) -> Result<LocalReply, Halt>
     requires { IsWhole parts.old }
-    ensures answer { Answers (spec.row_of_iterator (exporter_of parts.old) k verb.now) (exporter_of parts.old) result (exporter_of parts.new) }
+    ensures answer { Answers (spec.effect_on_iterator (exporter_of parts.old) k verb.now) (exporter_of parts.old) result (exporter_of parts.new) }
     ensures counted { parts.new.exports ≡ exports_of (exporter_of parts.new) }
     ensures room { parts.new.bytes.room ≡ parts.old.bytes.room }
 {

@@ -1,4 +1,4 @@
--- Rows that read bytes as strings keep a sound exporter.
+-- Effects that read bytes as strings keep a sound exporter.
 use Rattle.std.proofs.Common.{◌≡◌, true, refl, Ok}
 use Rattle.std.specs.Prelude.{Result}
 use Rattle.pybuf_value.specs.declared.faults.Fault.{Fault}

@@ -1,4 +1,4 @@
--- What holds of these rows, and of what handles name.
+-- What holds of these effects, and of what handles name.
 use Rattle.std.specs.Prelude.{◌≡◌, ℕ, List, Option}
 use Rattle.pybuf_value.specs.declared.snaps.Snap.{Snap}
 use Rattle.pybuf_value.specs.declared.values.Value.{Value}

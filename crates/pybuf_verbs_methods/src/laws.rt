@@ -1,4 +1,4 @@
-//! What holds of these rows, and of what handles name.
+//! What holds of these effects, and of what handles name.
 ghost use Rattle.pybuf_verbs_methods.specs.Laws.{CallIsSafe, ContainsIsSafe, HexIsSafe, LentsArePaired, NamesAreFound};
 
 use pybuf_state::reading_keeps;

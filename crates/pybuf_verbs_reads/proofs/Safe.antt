@@ -1,4 +1,4 @@
--- Rows that read keep a sound exporter.
+-- Effects that read keep a sound exporter.
 use Rattle.std.proofs.Common.{◌≡◌, ℕ, length, Bool, true, false, refl, subst}
 use Rattle.std.specs.Prelude.{Option, Some, None, Result, Ok, Err, if◌then◌else◌}
 use Rattle.pybuf_value.specs.declared.faults.Fault.{Fault}

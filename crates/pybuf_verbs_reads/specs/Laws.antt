@@ -1,4 +1,4 @@
--- The rows keep a sound exporter, and only a refusal is replied as one; and what `tolist` lists.
+-- The effects keep a sound exporter, and only a refusal is replied as one; and what `tolist` lists.
 use Rattle.std.specs.Prelude.{◌≡◌, ℕ, List, length, Ok, Option, Some, slice_get}
 use Rattle.pybuf_value.specs.declared.values.Item.{Item}
 use Rattle.pybuf_value.specs.declared.values.Value.{Value}

@@ -1,4 +1,4 @@
--- Each row keeps a sound exporter.
+-- Each effect keeps a sound exporter.
 use Rattle.std.proofs.Common.{◌≡◌, ◌≢◌, ℕ, zero, suc, ◌<◌, ◌≤◌, ◌+◌, ◌-◌, ◌*◌, mul_comm, ap, ◌∙◌, List, [], ◌∷◌, ◌++◌, length, Bool, true, false, true≢false, ap₂, sym, refl, subst, arith}
 use Rattle.pybuf_value.specs.declared.faults.Fault.{Fault}
 use Rattle.pybuf_value.specs.declared.faults.Fault.TheVariants as fault

@@ -1,4 +1,4 @@
--- The rows keep a sound exporter, and only a refusal is replied as one.
+-- The effects keep a sound exporter, and only a refusal is replied as one.
 use Rattle.std.specs.Prelude.{◌≡◌, ◌||◌, ℕ, true, List, Option, Some, Ok}
 use Rattle.pybuf_value.specs.declared.values.PySlice.{PySlice}
 use Rattle.pybuf_value.specs.declared.values.Value.{Value}

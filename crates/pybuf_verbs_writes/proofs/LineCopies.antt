@@ -10,7 +10,7 @@ use Rattle.std.proofs.lemmas.List.{length-append, length-map, length-take-le, le
 use Rattle.std.proofs.lemmas.List.Elements.{All-head}
 use Rattle.std.proofs.lemmas.List.FromFn.{length-range_with_len, length-map-range_with_len}
 use Rattle.pybuf_slice.specs.Reads.{elements_at}
-use Rattle.pybuf_apart.specs.Apart.{place_of, AreInside, with_piece, moved_at, pieces_at}
+use Rattle.pybuf_strided.specs.Apart.{place_of, AreInside, with_piece, moved_at, pieces_at}
 use Rattle.pybuf_desc.specs.declared.line.SegmentLine.{SegmentLine}
 use Rattle.pybuf_desc.specs.Segments.{bytes_of, bytes_in}
 use Rattle.pybuf_desc.specs.SegmentLines.{ranges_of_line, range_on, IsLine}

@@ -1,4 +1,4 @@
--- Rows that write keep a sound exporter.
+-- Effects that write keep a sound exporter.
 use Rattle.std.proofs.Common.{◌≡◌, ℕ, ◌+◌, ◌<◌, ◌≤◌, List, [], ◌∷◌, length, Bool, true, false, true≢false, ap, sym, ◌∙◌, refl, subst, arith}
 use Rattle.std.specs.Prelude.{not, ℤ, pos, negsuc, ◌==◌, ◌&&◌, nat_lt, slice_index, Result, Ok, Err}
 use Rattle.std.proofs.lemmas.Bool.{eqb-true}
@@ -56,7 +56,7 @@ byte_safe writing e key value writable =
       answers = refl;
     })))
 
--- the row of a bytearray is that of an exporter that may be written
+-- the effect of a bytearray is that of an exporter that may be written
 in_kind : (e : Exporter) (k : ExporterKind) (r : Result (Exporter × LocalReply) Fault) → e.kind ≡ k → (holds_readonly e.kind ≡ false → IsSafe e r) → IsSafe e (of_byte_array k r)
 in_kind e kind.ByteArray r is safe = safe (ap holds_readonly is)
 in_kind e kind.Bytes r is safe = tt
@@ -131,7 +131,7 @@ piece_is fills layout pairs value =
     let spelled = kind_ok (format_of layout.format) format parsed in
     packed_piece fills layout pairs value format spelled (packed_bytes format pairs (scalar_in value ∷ [])) refl)
 
--- ---- the row
+-- ---- the effect
 
 -- a view that may be written is one of bytes that may be
 by_kind : (k : ExporterKind) (b : Bool) (layout : Layout) → holds_readonly k ≡ b → layout.readonly ≡ false → (holds_readonly k ≡ true → layout.readonly ≡ true) → holds_readonly k ≡ false

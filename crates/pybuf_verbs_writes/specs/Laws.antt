@@ -1,4 +1,4 @@
--- The rows keep a sound exporter, and only a refusal is replied as one, and what is written is read.
+-- The effects keep a sound exporter, and only a refusal is replied as one, and what is written is read.
 use Rattle.std.specs.Prelude.{◌≡◌, ◌≢◌, ◌⊎◌, ℕ, ◌+◌, ◌*◌, ◌<◌, ◌≤◌, pos, List, [], ◌∷◌, All, length, slice_index, take, drop, true, false, Ok}
 use Rattle.pybuf_value.specs.declared.values.Item.{Item}
 use Rattle.pybuf_value.specs.declared.values.Value.{Value}

@@ -7,14 +7,14 @@ ghost use Rattle.pybuf_desc.specs.Items.{content_of_layout};
 ghost use Rattle.pybuf_desc.specs.Layouts.{LiesInside};
 ghost use Rattle.pybuf_desc.specs.Segments.{bytes_of};
 ghost use Rattle.pybuf_desc.specs.SegmentLines.{ranges_of_line, IsLine};
-ghost use Rattle.pybuf_apart.specs.Apart.{place_of, AreInside, pieces_at};
+ghost use Rattle.pybuf_strided.specs.Apart.{place_of, AreInside, pieces_at};
 ghost use Rattle.pybuf_memoryview.specs.Orders.{nbytes_of};
 ghost use Rattle.pybuf_verbs_writes.specs.Laid as spec;
 ghost use Rattle.pybuf_verbs_writes.specs.LaidBytes as bytewise;
 
-use pybuf_apart::{Track, copy_items};
 use pybuf_desc::{SegmentLine, Segments, ZipSegments};
 use pybuf_memoryview::{KeptLayout, first_place};
+use pybuf_strided::{Track, copy_items};
 use std::ops::Range;
 
 /// Copies bytes from a place on over those of a range, as many as that has. Answers the place after them.

@@ -351,12 +351,12 @@ released_has : (e : Exporter) (k : ℕ) (r : Result View Fault) → IfDone (HasA
 released_has e k (Ok v) = has_released e k v
 released_has e k (Err f) = tt
 
--- what a release leaves is what its row leaves
-row_steps : (e : Exporter) (r : Result Exporter Fault) → IsSafe e (r >>= (λ after. Ok (after, local.Ok))) → IfDone (HasAllOf e) r → IsWell e → IfDone (IsStepped e) r
-row_steps e (Ok after) safe has well =
+-- what a release leaves is what its effect leaves
+effect_steps : (e : Exporter) (r : Result Exporter Fault) → IsSafe e (r >>= (λ after. Ok (after, local.Ok))) → IfDone (HasAllOf e) r → IsWell e → IfDone (IsStepped e) r
+effect_steps e (Ok after) safe has well =
     let keeps = safe.keeps well.sound in
     record { well = record { sound = keeps.sound; apart = keeps.items_apart well.apart }; subjects = has }
-row_steps e (Err f) safe has well = tt
+effect_steps e (Err f) safe has well = tt
 
 released_is_sound : (w after : World) (i : ℕ) (old : Exporter) (r : Result Exporter Fault) → slice_get w.exporters i ≡ Some old → IfDone (IsStepped old) r → IsSoundWorld w → world_with_released w i r ≡ Ok after → IsSoundWorld after
 released_is_sound w after i old (Ok e) at stepped sound is =
@@ -370,7 +370,7 @@ released_is_owned w after i (Err f) owners owned is = absurd (cc)
 
 exporter_released_sound : ReleaseIsSafe → (w after : World) (i k : ℕ) (o : Option Exporter) → slice_get w.exporters i ≡ o → IsSoundWorld w → released_in_exporter w i k o ≡ Ok after → IsSoundWorld after
 exporter_released_sound safe w after i k (Some e) at sound is =
-    released_is_sound w after i e (released_in e k) at (row_steps e (released_in e k) (safe e k) (released_has e k (view_at e k)) (well_at w i e sound at)) sound is
+    released_is_sound w after i e (released_in e k) at (effect_steps e (released_in e k) (safe e k) (released_has e k (view_at e k)) (well_at w i e sound at)) sound is
 exporter_released_sound safe w after i k None at sound is = absurd (cc)
 
 exporter_released_owned : (w after : World) (i k : ℕ) (o : Option Exporter) (owners : List ℕ) → AreOwners w owners → released_in_exporter w i k o ≡ Ok after → AreOwners after owners

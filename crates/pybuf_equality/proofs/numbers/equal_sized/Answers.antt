@@ -1,6 +1,6 @@
 use Rattle.std.proofs.Common.{ℕ, take, drop, false, ap₂, sym, ◌∙◌}
 use Rattle.std.specs.Ordering.{int_eq}
-use Rattle.pybuf_apart.specs.Apart.{place_of}
+use Rattle.pybuf_strided.specs.Apart.{place_of}
 use Rattle.pybuf_struct.specs.Digits.{number}
 use Rattle.pybuf_equality.specs.Tracks.{same_number}
 use Rattle.pybuf_equality.proofs.Below.{failed_below, more_below}

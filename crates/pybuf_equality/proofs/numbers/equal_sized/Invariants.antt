@@ -1,5 +1,5 @@
 use Rattle.std.proofs.Common.{◌≡◌, true}
-use Rattle.pybuf_apart.specs.Apart.{place_of}
+use Rattle.pybuf_strided.specs.Apart.{place_of}
 use Rattle.pybuf_equality.specs.Tracks.{all_below, same_number}
 use Rattle.pybuf_equality.proofs.numbers.equal_sized.Given as goal
 

@@ -1,5 +1,5 @@
 use Rattle.std.proofs.Common.{◌≡◌, length, ◌∙◌, arith}
-use Rattle.pybuf_apart.specs.Apart.{place_of}
+use Rattle.pybuf_strided.specs.Apart.{place_of}
 use Rattle.pybuf_equality.proofs.Rows.{none_differ}
 use Rattle.pybuf_equality.proofs.Turned.{turned_inside, turned_tracks}
 use Rattle.pybuf_equality.proofs.pieces.equal_pieces.Goals as goal

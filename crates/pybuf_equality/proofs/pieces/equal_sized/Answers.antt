@@ -1,6 +1,6 @@
 use Rattle.std.proofs.Common.{ℕ, take, drop, not, ap₂, sym, ◌∙◌}
 use Rattle.std.specs.Prelude.{eqb, bytes_eq}
-use Rattle.pybuf_apart.specs.Apart.{place_of}
+use Rattle.pybuf_strided.specs.Apart.{place_of}
 use Rattle.pybuf_equality.specs.Tracks.{same_piece}
 use Rattle.pybuf_equality.proofs.Below.{failed_below}
 use Rattle.pybuf_equality.proofs.pieces.equal_sized.Goals as goal

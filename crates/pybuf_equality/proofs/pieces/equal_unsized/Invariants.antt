@@ -1,6 +1,6 @@
 use Rattle.std.proofs.Common.{◌≡◌, not, true}
 use Rattle.std.specs.Prelude.{eqb}
-use Rattle.pybuf_apart.specs.Apart.{place_of}
+use Rattle.pybuf_strided.specs.Apart.{place_of}
 use Rattle.pybuf_equality.specs.Tracks.{all_below, same_piece}
 use Rattle.pybuf_equality.proofs.pieces.equal_unsized.Given as goal
 

@@ -2,7 +2,7 @@ use Rattle.std.proofs.Common.{w64, pos, ap, ◌∙◌, length, drop, List, ℕ}
 use Rattle.std.specs.Prelude.{nat_abs}
 use Rattle.std.specs.Int.Signed.{lt_z}
 use Rattle.std.proofs.lemmas.Int.{to_z-of_z}
-use Rattle.pybuf_apart.specs.Apart.{place_of}
+use Rattle.pybuf_strided.specs.Apart.{place_of}
 use Rattle.pybuf_verbs_writes.specs.Laid.{laid}
 use Rattle.pybuf_nd.proofs.LaidItems.{by_track, moved_is_laid}
 use Rattle.pybuf_nd.proofs.laying.lay_row.Goals as goal

@@ -1,6 +1,6 @@
 use Rattle.std.proofs.Common.{length, ap, ◌∙◌}
 use Rattle.std.specs.List.{flat_map}
-use Rattle.pybuf_apart.specs.Apart.{place_of, pieces_at}
+use Rattle.pybuf_strided.specs.Apart.{place_of, pieces_at}
 use Rattle.pybuf_desc.specs.Segments.{bytes_of}
 use Rattle.pybuf_desc.specs.SegmentLines.{ranges_of_line}
 use Rattle.pybuf_verbs_writes.proofs.LineCopies.{line_put, length-put}

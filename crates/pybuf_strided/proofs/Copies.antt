@@ -4,7 +4,7 @@ use Rattle.std.proofs.Math.Nat.{zero-mul, mul-le-mul_right}
 use Rattle.std.proofs.lemmas.Grind.{common_steps}
 use Rattle.std.proofs.lemmas.List.{length-append, length-take-le, length-drop, append-nil, take_at, drop-drop}
 use Rattle.std.proofs.Math.Seq.{drop-append-add}
-use Rattle.pybuf_apart.specs.Apart.{place_of, with_piece, moved_at, pieces_at}
+use Rattle.pybuf_strided.specs.Apart.{place_of, with_piece, moved_at, pieces_at}
 
 -- one more item is copied
 pub next_moved : (bytes : List ℕ) (to : ℕ → ℕ) (source : List ℕ) (from : ℕ → ℕ) (size k : ℕ) (now more : List ℕ) → now ≡ moved_at bytes to source from size k

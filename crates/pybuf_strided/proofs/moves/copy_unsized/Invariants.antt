@@ -1,7 +1,7 @@
 use Rattle.std.proofs.Common.{◌≡◌, length, not}
 use Rattle.std.specs.Prelude.{eqb}
-use Rattle.pybuf_apart.specs.Apart.{place_of, moved_at}
-use Rattle.pybuf_apart.proofs.moves.copy_unsized.Given as goal
+use Rattle.pybuf_strided.specs.Apart.{place_of, moved_at}
+use Rattle.pybuf_strided.proofs.moves.copy_unsized.Given as goal
 
 abbrev pub invariant-loop-k : goal.invariant-loop-k
 invariant-loop-k g l = record {

@@ -1,9 +1,9 @@
-use Rattle.pybuf_exporter.proofs.Every.{rows_safe}
-use Rattle.pybuf_exporter.proofs.laws.rows_are_safe.Goals as goal
+use Rattle.pybuf_exporter.proofs.Every.{effects_safe}
+use Rattle.pybuf_exporter.proofs.laws.effects_are_safe.Goals as goal
 
 pub returns : goal.returns
 returns c =
-    rows_safe (record {
+    effects_safe (record {
       view = c.view_is_safe.ensures;
       range = c.range_is_safe.ensures;
       slice = c.slice_is_safe.ensures;

@@ -1,4 +1,4 @@
--- What all rows owe to the laws over every command.
+-- What all effects owe to the laws over every command.
 use Rattle.std.specs.Prelude.{ℕ, List, Option, Result}
 use Rattle.pybuf_value.specs.declared.faults.Fault.{Fault}
 use Rattle.pybuf_value.specs.Refusing.{IfDone}
@@ -12,19 +12,19 @@ use Rattle.pybuf_state.specs.Exporter.{Exporter}
 use Rattle.pybuf_state.specs.Loans.{Lent}
 use Rattle.pybuf_state.specs.Keeps.{IsSafe, IsCopied, IsIterated}
 use Rattle.pybuf_state.specs.Sound.{IsSoundExporter}
-use Rattle.pybuf_exporter.specs.Step.{row, estep_by}
+use Rattle.pybuf_exporter.specs.Step.{effect, estep_by}
 
--- `contig` of a view and `copy` of a bytearray reply a copy of it, `iter` and the rows of an iterator change
--- iterators alone, and every other row is safe
-abbrev pub RowIsSafe : Exporter → Subject → Verb → Result (Exporter × LocalReply) Fault → Type 0
-RowIsSafe e (subject.View k) verb.ToContiguous after = IfDone (IsCopied e (subject.View k)) after
-RowIsSafe e subject.Own verb.Copy after = IfDone (IsCopied e subject.Own) after
-RowIsSafe e (subject.Iter k) v after = IfDone (IsIterated e) after
-RowIsSafe e s verb.Iter after = IfDone (IsIterated e) after
-RowIsSafe e s v after = IsSafe e after
+-- `contig` of a view and `copy` of a bytearray reply a copy of it, `iter` and the effects of an iterator change
+-- iterators alone, and every other effect is safe
+abbrev pub EffectIsSafe : Exporter → Subject → Verb → Result (Exporter × LocalReply) Fault → Type 0
+EffectIsSafe e (subject.View k) verb.ToContiguous after = IfDone (IsCopied e (subject.View k)) after
+EffectIsSafe e subject.Own verb.Copy after = IfDone (IsCopied e subject.Own) after
+EffectIsSafe e (subject.Iter k) v after = IfDone (IsIterated e) after
+EffectIsSafe e s verb.Iter after = IfDone (IsIterated e) after
+EffectIsSafe e s v after = IsSafe e after
 
-abbrev pub RowsAreSafe : Type 0
-RowsAreSafe = (e : Exporter) (s : Subject) (v : Verb) (lents : List Lent) → RowIsSafe e s v (row e s v lents)
+abbrev pub EffectsAreSafe : Type 0
+EffectsAreSafe = (e : Exporter) (s : Subject) (v : Verb) (lents : List Lent) → EffectIsSafe e s v (effect e s v lents)
 
 -- each command leaves a sound exporter sound, whatever its handles are lent as
 abbrev pub StepsKeepSound : Type 0

@@ -1,6 +1,6 @@
 //! Items that lie apart, appended to a vector.
 ghost use Rattle.std.specs.Prelude.{◌≡◌, ◌+◌, ◌*◌, ◌^◌, ◌<◌, ◌≤◌, ◌++◌, length, take, drop, SomeIff, vec_len, vec_capacity, OnOk, OnErr, IsOk};
-ghost use Rattle.pybuf_apart.specs.Apart.{place_of, AreInside, pieces_at};
+ghost use Rattle.pybuf_strided.specs.Apart.{place_of, AreInside, pieces_at};
 
 use crate::moves::{Track, copy_items};
 use std::alloc::AllocError;

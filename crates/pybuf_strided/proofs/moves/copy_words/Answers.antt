@@ -1,8 +1,8 @@
 use Rattle.std.proofs.Common.{◌∙◌, not}
 use Rattle.std.specs.Prelude.{eqb}
-use Rattle.pybuf_apart.specs.Apart.{place_of}
-use Rattle.pybuf_apart.proofs.Copies.{next_moved, next_place}
-use Rattle.pybuf_apart.proofs.moves.copy_words.Goals as goal
+use Rattle.pybuf_strided.specs.Apart.{place_of}
+use Rattle.pybuf_strided.proofs.Copies.{next_moved, next_place}
+use Rattle.pybuf_strided.proofs.moves.copy_words.Goals as goal
 
 pub loop-k-preserved : goal.loop-k-preserved
 loop-k-preserved g c = record {

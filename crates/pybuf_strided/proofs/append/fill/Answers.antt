@@ -1,7 +1,7 @@
 use Rattle.std.proofs.Common.{◌∙◌}
-use Rattle.pybuf_apart.specs.Apart.{place_of}
-use Rattle.pybuf_apart.proofs.Copies.{all_filled, room_inside}
-use Rattle.pybuf_apart.proofs.append.fill.Goals as goal
+use Rattle.pybuf_strided.specs.Apart.{place_of}
+use Rattle.pybuf_strided.proofs.Copies.{all_filled, room_inside}
+use Rattle.pybuf_strided.proofs.append.fill.Goals as goal
 
 pub returns : goal.returns
 returns c = c.copy_items.ensures ∙ all_filled c.args.room.now c.args.source.now (place_of c.args.from.falls c.args.from.start c.args.from.step) c.args.size c.args.count c.requires.source_inside.high c.requires.whole

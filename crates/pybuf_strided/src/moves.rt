@@ -1,6 +1,6 @@
 //! The loops.
 ghost use Rattle.std.specs.Prelude.{◌≡◌, ◌+◌, ◌*◌, ◌<◌, ◌≤◌, ◌^◌, true, length, take, drop};
-ghost use Rattle.pybuf_apart.specs.Apart.{place_of, AreInside, with_piece, moved_at};
+ghost use Rattle.pybuf_strided.specs.Apart.{place_of, AreInside, with_piece, moved_at};
 
 /// Where items lie: the place of the first, and how far each is from the one before it, above it or
 /// below.
