@@ -166,9 +166,8 @@ def of_header():
 
     def flush():
         nonlocal block
-        shown = re.sub(r"^(#|extern|static inline|typedef struct \w+ \w+;).*?$", lambda it: it[0] if it[1].startswith(("#define PYBUF_V", "typ")) else "", block, flags=re.MULTILINE)
-        shown = re.sub(r"^(pybuf_\w+ pybuf_\w+\([^;{]*\))\n\{.*?\n\}", r"\1;", shown, flags=re.DOTALL | re.MULTILINE)
-        shown = shown.replace("#ifdef __cplusplus", "").replace("#ifndef PYBUF_H", "").strip("\n")
+        shown = re.sub(r"^static inline ([^\n]*\))\n\{.*?\n\}", r"\1;", block, flags=re.DOTALL | re.MULTILINE)
+        shown = re.sub(r"^(#(?!define PYBUF_V)|extern).*$", "", shown, flags=re.MULTILINE).strip("\n")
         if shown.strip():
             made.append(["", *(f"    {line}" for line in shown.split("\n") if line.strip())])
         block = ""
