@@ -407,6 +407,22 @@ def check_bad_archives(room, one, top, install):
     check("what was refused left no folder", not none.exists())
 
 
+def check_stopped(room, install, prefix):
+    """An install that is stopped, sooner and later, has done everything or nothing."""
+    for number in range(6):
+        copy = room.folder / f"stopped-{number}"
+        shutil.copytree(prefix, copy, symlinks=True)
+        before = snapshot(copy)
+        running = subprocess.Popen([install, "--replace", copy], env=room.environment, stdout=subprocess.DEVNULL, stderr=subprocess.DEVNULL)
+        try:
+            running.wait(0.04 + 0.12 * number)
+        except subprocess.TimeoutExpired:
+            running.terminate()
+        status = running.wait(SECONDS)
+        listed = (copy / "share/pybuf/installed").read_text()
+        check(f"an install that is stopped is whole or undone ({number})", snapshot(copy) == before if status else listed.startswith(f"# pybuf {NUMBER}\n"), f"status {status}")
+
+
 def check_bad_folders(room, install, uninstall):
     """Folders that can't be written, that have files of others, or another version."""
     file = room.folder / "file"
@@ -414,6 +430,10 @@ def check_bad_folders(room, install, uninstall):
     refused(room, "a folder below a file is refused", [install, file / "pybuf"], "can't be made or written: nothing was installed", file)
     if pathlib.Path("/proc/self").exists():
         refused(room, "a folder that nobody can write is refused", [install, "/proc/pybuf"], "can't be made or written: nothing was installed")
+    if os.getuid() != 0:
+        locked = room.fresh("locked")
+        locked.chmod(0o555)
+        refused(room, "a folder that may only be read is refused", [install, locked], "can't be made or written: nothing was installed", locked)
     other = room.fresh("other")
     (other / "bin").mkdir()
     (other / "bin/pybuf").write_text("another program")
@@ -435,6 +455,7 @@ def check_bad_folders(room, install, uninstall):
     shutil.rmtree(broken / "bin")
     (broken / "bin").write_text("no folder")
     refused(room, "an older version comes back if the new one can't be placed", [install, "--replace", broken], "everything is as it was", broken)
+    check_stopped(room, install, old)
     ran = room.run(install, "--replace", old)
     good = ran.returncode == 0 and f"has pybuf {NUMBER} in place of 0.9.0" in ran.stdout and not (old / "share/pybuf/gone").exists()
     check("--replace puts the new version in place of the older one", good, ran.stdout + ran.stderr)

@@ -5,7 +5,7 @@
     tools/version.py --check    compares each place with it, and names those that have another
     tools/version.py --write    writes it to each place
 
-The places are the header, the crate, the Python package, CITATION.cff and the names of archives on the page docs/tasks/install.md.
+The places are the header, the crate, the Python package, CITATION.cff and the names of archives on all pages.
 The newest heading of CHANGELOG.md is compared, and never written. The name of the shared library, the man pages and the archives
 take the version when they are made. The status is 1 where a place has another version, and 2 where the arguments are wrong.
 """
@@ -22,8 +22,9 @@ PLACES = {
     "bindings/rust/Cargo.lock": [r'(?<=\nname = "pybuf"\nversion = ")'],
     "bindings/python/pybuf/_version.py": [r"(?<=__version__ = ')"],
     "CITATION.cff": [r"(?<=\nversion: )"],
-    "docs/tasks/install.md": [r"(?<=pybuf-)"],
 }
+# Of an archive the name, on any page.
+ARCHIVE = re.compile(rf"(?<=\bpybuf-){NUMBER}(?=[-.\w])")
 PARTS = ("MAJOR", "MINOR", "PATCH")
 
 
@@ -67,6 +68,14 @@ def main(words):
     newest = re.search(r"^## (.*)$", (ROOT / "CHANGELOG.md").read_text(), re.MULTILINE)
     if not newest or newest[1].split()[0] != wanted:
         faults.append(f"CHANGELOG.md begins with another version than {wanted}")
+    for path in [ROOT / "README.md", *sorted((ROOT / "docs").rglob("*.md"))]:
+        text = path.read_text()
+        came, name = ARCHIVE.sub(wanted, text), path.relative_to(ROOT)
+        if came != text and words == ["--write"]:
+            path.write_text(came)
+            print(f"version: {name} has {wanted} now")
+        elif came != text:
+            faults.append(f"{name} names an archive of another version than {wanted}: tools/version.py --write")
     for fault in faults:
         print(f"version: {fault}", file=sys.stderr)
     return 1 if faults else 0
