@@ -11,10 +11,10 @@
   replies say.
 - Each example has to be named in `examples/README.md`.
 - A picture has to be what `tools/draw_pictures.py` draws from the replies of its examples.
-- A line in a table of `docs/COMMANDS.md` has to stand in an example, with the reply of the table. A value in its table of
+- A line in a table of `docs/reference/commands.md` has to stand in an example, with the reply of the table. A value in its table of
   values has to stand in the input of one, and a reply in its table of replies in the output of one.
-- A file or a folder that a document names has to be there, and so has a case or a test that `docs/DIFFERENCES.md` names.
-- `docs/DEFINITIONS.md` has to name each file of definitions but those of laws, and those that the contract of `serve`
+- A file or a folder that a document names has to be there, and so has a case or a test that `docs/reference/differences.md` names.
+- `docs/reference/definitions.md` has to name each file of definitions but those of laws, and those that the contract of `serve`
   imports, through others too, under the heading that says so, and no others there.
 """
 
