@@ -14,8 +14,11 @@
 - A line in a table of `docs/reference/commands.md` has to stand in an example, with the reply of the table. A value in its table of
   values has to stand in the input of one, and a reply in its table of replies in the output of one.
 - A file or a folder that a document names has to be there, and so has a case or a test that `docs/reference/differences.md` names.
-- `docs/reference/definitions.md` has to name each file of definitions but those of laws, and those that the contract of `serve`
-  imports, through others too, under the heading that says so, and no others there.
+- A link to a heading has to name one.
+- `docs/reference/api` has to be what `tools/write_reference.py` writes, and every public item has to have a doc comment.
+- A page of `docs/` says in its first line for whom it is, and has at most 400 lines. All pages that people write have at most
+  30,000 words, and README at most 900.
+- What `tools/page_blocks.py` says of the blocks of code: each is run, or compared with a tested file, or says why not.
 """
 
 import pathlib
@@ -26,14 +29,17 @@ import sys
 sys.dont_write_bytecode = True
 
 import draw_pictures
+import page_blocks
+import write_reference
 
 ROOT = pathlib.Path(__file__).resolve().parent.parent
 TOP = [ROOT / "README.md", ROOT / "CONTRIBUTING.md", ROOT / "CHANGELOG.md", ROOT / "examples/README.md"]
 # The name of a crate, as a pattern.
 CRATE = r"(?:pybuf|test|golden|bench|example)_\w+"
-DOCUMENTS = TOP + sorted((ROOT / "docs").glob("*.md"))
-# The heading of the definitions that the contract of `serve` cites.
-CITED = "## Cited by the contract of `serve`"
+API = ROOT / "docs/reference/api"
+DOCUMENTS = TOP + sorted(path for path in (ROOT / "docs").glob("**/*.md") if API not in path.parents)
+# How many lines a page may have, how many words README, and how many all pages that people write, but the list of changes.
+LINES, FIRST_WORDS, WORDS = 400, 900, 30_000
 # The head of a session that is shown beside Python.
 BESIDE_PYTHON = "| Line | Reply | In Python |"
 ENDINGS = {"rust": ".rt", "antt": ".antt"}
@@ -217,8 +223,8 @@ def check_examples(document, lines):
 
 def check_pictures():
     """Every picture is there, as it is drawn from what is stored of its examples."""
-    drawn = {ROOT / "docs" / name: text for name, text in draw_pictures.pictures(draw_pictures.stored).items()}
-    for path in sorted({*drawn, *(ROOT / "docs").glob("*.svg")}):
+    drawn = {draw_pictures.FOLDER / name: text for name, text in draw_pictures.pictures(draw_pictures.stored).items()}
+    for path in sorted({*drawn, *(ROOT / "docs").glob("**/*.svg")}):
         if not path.exists() or drawn.get(path) != path.read_text():
             report(path, 1, "tools/draw_pictures.py draws another picture")
 
@@ -291,59 +297,52 @@ def check_tables(document, lines, examples):
             report(document, number, f"no example has the reply {reply}")
 
 
-def named_definitions(lines):
-    """Files of definitions that are named, with the number of the line. A name without a folder lies in that named last."""
-    folder = ""
-    for number, line in enumerate(lines, 1):
-        for name in re.findall(r"`([^`\s]+)`", line):
-            whole = re.fullmatch(rf"({CRATE}/specs/)(\w+\.antt)?", name)
-            if whole is not None:
-                folder = whole[1]
-                name = whole[2] or ""
-            if folder and re.fullmatch(r"[A-Z]\w+(\.antt)?", name):
-                yield number, f"crates/{folder}{name.removesuffix('.antt')}.antt", whole is not None or name.endswith(".antt")
+def words_in(text):
+    """How many words a text has: what stands between blanks and has a letter or a digit, code and tables too."""
+    return sum(1 for word in text.split() if re.search(r"\w", word))
 
 
-def imported_definitions(start):
-    """The files of definitions that one imports, through others too, and that one."""
-    found, waiting = set(), [start]
-    while waiting:
-        path = waiting.pop()
-        if path in found:
-            continue
-        found.add(path)
-        for crate, name in re.findall(rf"^use Rattle\.({CRATE})\.specs\.(\w+)", path.read_text(), re.MULTILINE):
-            other = ROOT / "crates" / crate / "specs" / f"{name}.antt"
-            if other.exists():
-                waiting.append(other)
-    return {str(path.relative_to(ROOT)) for path in found}
-
-
-def check_cited(document, lines):
-    """The section on what the contract of `serve` cites names the files that it imports, and no others."""
-    start = next((at for at, line in enumerate(lines) if line.startswith(CITED)), None)
-    if start is None:
-        report(document, 1, f"there is no heading {CITED}")
+def check_size(document, lines):
+    """How long a page is, and that its first line says for whom it is."""
+    if document == ROOT / "README.md" and words_in("\n".join(lines)) > FIRST_WORDS:
+        report(document, 1, f"it has {words_in(chr(10).join(lines))} words, and may have {FIRST_WORDS}")
+    if ROOT / "docs" not in document.parents:
         return
-    end = next(at for at, line in enumerate([*lines[start + 1 :], "## "], start + 1) if line.startswith("## "))
-    named = {name for _, name, _ in named_definitions(lines[start:end]) if (ROOT / name).exists()}
-    cited = imported_definitions(ROOT / "crates/pybuf_cli/specs/Serving.antt")
-    for name in sorted(cited - named):
-        report(document, start + 1, f"{name} is imported by the contract of `serve`, and is not named in this section")
-    for name in sorted(named - cited):
-        report(document, start + 1, f"{name} is not imported by the contract of `serve`")
+    if len(lines) - 1 > LINES:
+        report(document, 1, f"it has {len(lines) - 1} lines, and may have {LINES}")
+    if len(lines) < 3 or not lines[0].startswith("# ") or not lines[2].startswith("For "):
+        report(document, 3, "its first line doesn't say for whom it is (`For ..`)")
 
 
-def check_definitions(document, lines):
-    """Every file of definitions is named, and every file that is named is there."""
-    named = set()
-    for number, name, is_file in named_definitions(lines):
-        named.add(name)
-        if is_file and not (ROOT / name).exists():
-            report(document, number, f"{name} is not there")
-    for path in sorted((ROOT / "crates").glob("*/specs/*.antt")):
-        if path.name not in ("Lib.antt", "Laws.antt") and str(path.relative_to(ROOT)) not in named:
-            report(document, 1, f"{path.relative_to(ROOT)} is not named")
+def check_words():
+    """How many words all pages have."""
+    count = sum(words_in(path.read_text()) for path in DOCUMENTS if path.name != "CHANGELOG.md" and path.exists())
+    if count > WORDS:
+        faults.append(f"all pages have {count} words, and may have {WORDS}")
+
+
+def check_reference():
+    """The generated reference is what the script writes, and every public item has a doc comment."""
+    written = {API / name: text for name, text in write_reference.pages().items()}
+    for path in sorted({*written, *API.glob("*")}):
+        if not path.exists() or written.get(path) != path.read_text():
+            report(path, 1, "tools/write_reference.py writes another page")
+    for crate in write_reference.crates():
+        for item in write_reference.public(crate):
+            if not item.docs:
+                report(item.file, item.line, f"{item.full()} has no doc comment")
+
+
+def anchors(path, kept={}):
+    """The names by which the headings of a page are linked."""
+    if path not in kept:
+        inside, found = False, set()
+        for line in path.read_text().split("\n"):
+            inside = inside != line.startswith("```")
+            if not inside and re.match(r"#+ ", line):
+                found.add(write_reference.anchor(line.lstrip("#").strip()))
+        kept[path] = found
+    return kept[path]
 
 
 def check_differences(document, lines):
@@ -378,13 +377,18 @@ def check_names(document, lines):
                 path = name.split("::")[0].rstrip("/")
                 if "/out" not in path and not (ROOT / path).exists():
                     report(document, number, f"{name} is not there")
-        for name in re.findall(r"\]\(([^)#\s]+)(?:#[^)]*)?\)", line):
-            if "://" not in name and not (document.parent / name).exists():
+        for name, heading in re.findall(r"\]\(([^)#\s]*)(?:#([^)]*))?\)", line):
+            if "://" in name:
+                continue
+            path = document.parent / name if name else document
+            if not path.exists():
                 report(document, number, f"{name} is not there")
+            elif heading and path.suffix == ".md" and heading not in anchors(path):
+                report(document, number, f"{name or 'this page'} has no heading #{heading}")
 
 
 def main():
-    kept = {}
+    kept, tables = {}, []
     examples = outputs()
     for document in DOCUMENTS:
         if not document.exists():
@@ -396,16 +400,20 @@ def main():
         check_beside_python(document, lines, examples)
         check_edits(document, lines)
         check_names(document, lines)
-        if document.name == "DEFINITIONS.md":
-            check_definitions(document, lines)
-            check_cited(document, lines)
-        if document.name == "DIFFERENCES.md":
+        check_size(document, lines)
+        faults.extend(page_blocks.faults_of(document, lines))
+        if document == ROOT / "docs/reference/differences.md":
             check_differences(document, lines)
-        if document.name == "COMMANDS.md":
-            check_tables(document, lines, examples)
+        if document == ROOT / "docs/reference/commands.md":
+            tables += lines
+        if document == ROOT / "docs/reference/forms.md":
+            tables += lines
         if document == ROOT / "examples/README.md":
             check_examples(document, lines)
+    check_tables(ROOT / "docs/reference/commands.md", tables, examples)
     check_pictures()
+    check_reference()
+    check_words()
     for fault in faults:
         print(fault)
     return 1 if faults else 0
