@@ -324,7 +324,7 @@ def pages():
     lines += [
         f"They have {len(every) - len(laws)} public items with their contracts, and {len(laws)} laws. [names.md](names.md) is an index of all names,"
         " [laws.md](laws.md) has the laws, and [definitions.md](definitions.md) the files of definitions that contracts cite."
-        " [How to read a clause](../definitions.md) explains the notation.",
+        " [How to read a clause](../../explain/proved.md#how-to-read-a-clause) explains the notation.",
         "",
         "| Crate | What it has |",
         "|---|---|",
@@ -379,7 +379,7 @@ def pages():
         "",
         "For whoever wants to know what a contract cites. Each file of definitions stands with the comment at its head, and the names that it defines.",
         "A file with a star is cited by the contract of `serve`, the one call that the program makes, itself or through others:"
-        f" there are {len(cited)} of these, and they are what you have to believe of the program. [How to read a clause](../definitions.md) says in which order.",
+        f" there are {len(cited)} of these, and they are what you have to believe of the program. [Which definitions you have to believe](../../explain/proved.md#which-definitions-you-have-to-believe) says in which order to read them.",
         "",
     ]
     for crate in names:
