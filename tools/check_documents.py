@@ -9,6 +9,8 @@
 - An input of the program has to be an example of `examples/`, with the output that the document shows.
 - A session that stands beside Python has to be an example, with these replies, and Python, run here, has to give what the
   replies say.
+- Lines that stand with their replies have to be a part of an example. Code that stands in four languages has to stand in files that are
+  tested.
 - Each example has to be named in `examples/README.md`.
 - A picture has to be what `tools/draw_pictures.py` draws from the replies of its examples.
 - A line in a table of `docs/reference/commands.md` has to stand in an example, with the reply of the table. A value in its table of
@@ -42,6 +44,11 @@ DOCUMENTS = TOP + sorted(path for path in (ROOT / "docs").glob("**/*.md") if API
 LINES, FIRST_WORDS, WORDS = 400, 900, 30_000
 # The head of a session that is shown beside Python.
 BESIDE_PYTHON = "| Line | Reply | In Python |"
+# The head of a session, or a part of one, that stands with its replies.
+SHOWN = "| You write | It replies |"
+# The head of tasks in four languages, and where the code of each language is tested.
+TASKS = "| Task | Rattle | C | Rust | Python |"
+TESTED = ["crates/example_calls/src/*.rt", "bindings/c/*.c", "bindings/rust/examples/*.rs", "bindings/python/*.py"]
 ENDINGS = {"rust": ".rt", "antt": ".antt"}
 BOUND = {"c": "c/*.c", "rs": "rust/examples/*.rs", "python": "python/*.py"}
 faults = []
@@ -169,11 +176,16 @@ def check_inputs(document, lines, examples):
                 report(document, at + 1, f"there is no example {tried[1]}")
             elif shown and shown != stored.read_text():
                 report(document, at + 1, "the example has another output")
-        piped = re.fullmatch(r" {4}\$ (printf .*) \| pybuf((?: (?:array|table) .*)?)", line)
+        piped = re.fullmatch(r" {4}\$ (printf .*) \| pybuf((?: (?:array .*|table .*|share))?)", line)
         if piped is not None:
             text = shlex.split(piped[1])[1].encode().decode("unicode_escape")
             if shlex.split(piped[2]) not in words_of(text, shown_behind(lines, at + 1)):
                 report(document, at + 1, "no example has this input, these words and this output")
+        alone = re.fullmatch(r" {4}\$ pybuf (make \d+)", line)
+        if alone is not None and alone[1].split() not in [
+            word for given, written in examples if written == shown_behind(lines, at + 1) for word in words_of(given, written)
+        ]:
+            report(document, at + 1, "no example has these words and this output")
         if re.fullmatch(r" {4}\$ cat > \S+ <<'END'", line) is not None:
             end = lines.index("    END", at)
             text = "".join(part[4:] + "\n" for part in lines[at + 1 : end])
@@ -211,6 +223,25 @@ def check_beside_python(document, lines, examples):
         report(document, 1, "no example has the session that stands beside Python")
     if not given and document == ROOT / "README.md":
         report(document, 1, "no session stands beside Python")
+
+
+def check_shown(document, lines, examples):
+    """Sessions that stand with their replies: each is a run of lines of an example."""
+    runs = [list(zip(given.split("\n"), written.split("\n"))) for given, written in examples]
+    for start, line in enumerate(lines):
+        if line.startswith(SHOWN):
+            shown = [tuple(quoted(cell)[0] for cell in cells[:2]) for _, cells in rows(lines[start:], SHOWN)]
+            if not any(shown == run[at : at + len(shown)] for run in runs for at in range(len(run))):
+                report(document, start + 1, "no example has these lines with these replies")
+
+
+def check_tasks(document, lines):
+    """The code of tasks in four languages: each piece stands in a line of a file that is tested."""
+    for number, cells in rows(lines, TASKS):
+        for cell, pattern in zip(cells[1:], TESTED):
+            for code in quoted(cell):
+                if not any(code in path.read_text() for path in ROOT.glob(pattern)):
+                    report(document, number, f"{code} stands in no file {pattern}")
 
 
 def check_examples(document, lines):
@@ -398,6 +429,8 @@ def main():
         check_blocks(document, lines, kept)
         check_inputs(document, lines, examples)
         check_beside_python(document, lines, examples)
+        check_shown(document, lines, examples)
+        check_tasks(document, lines)
         check_edits(document, lines)
         check_names(document, lines)
         check_size(document, lines)
