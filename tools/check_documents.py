@@ -119,7 +119,7 @@ def check_blocks(document, lines, kept):
             block = "".join(part + "\n" for part in lines[start : number - 1])
             if not any(path.read_text() == block for path in (ROOT / "bindings").glob(BOUND[language])):
                 report(document, start, f"the block is no file of bindings/{BOUND[language]}")
-        ending = ENDINGS.get(language)
+        ending = None if document.parent.name == "learn" and start in page_blocks.written(lines) else ENDINGS.get(language)
         if ending is not None:
             block = stripped(lines[start : number - 1])
             if ending not in kept:
@@ -400,13 +400,14 @@ def check_differences(document, lines):
 def check_names(document, lines):
     """Files and folders that are named between backquotes or linked."""
     tops = ("crates/", "docs/", "examples/", "cases/", "tools/", "bench/", ".ci/")
+    made = page_blocks.written(lines).values() if document.parent.name == "learn" else ()
     for number, line in enumerate(lines, 1):
         for name in re.findall(r"`([^`\s]+)`", line):
             if re.match(rf"{CRATE}/(src|specs|proofs)/", name):
                 name = "crates/" + name
             if name.startswith(tops) and not re.search(r"[A-Z]{3,}/|NAME|[*{<]", name):
                 path = name.split("::")[0].rstrip("/")
-                if "/out" not in path and not (ROOT / path).exists():
+                if "/out" not in path and path not in made and not (ROOT / path).exists():
                     report(document, number, f"{name} is not there")
         for name, heading in re.findall(r"\]\(([^)#\s]*)(?:#([^)]*))?\)", line):
             if "://" in name:

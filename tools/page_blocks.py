@@ -51,10 +51,25 @@ def blocks(lines):
     return found
 
 
+# The line before a block that is written to a file.
+INTO = re.compile(r".*\binto `([^`]+)`.*:")
+
+
+def written(lines):
+    """The files that a page to learn from writes, by the number of the line at which the block begins."""
+    found = {}
+    for number, language, _ in blocks(lines):
+        before = next((line for line in reversed(lines[: number - 1]) if line.strip()), "")
+        named = INTO.fullmatch(before)
+        if language is not None and named:
+            found[number] = named[1]
+    return found
+
+
 def is_checked(document, language, block):
     learn = document.parent.name == "learn"
     if language is not None:
-        return language in CHECKED or learn
+        return language in CHECKED
     if learn and block[0].startswith("    $ "):
         return True
     if block[0].startswith("    file: "):

@@ -10,7 +10,6 @@ The folder has a copy of `crates.txt`, `HANDLES` and `crates/`, and is taken awa
 - each command, a line `    $ ..`, is run at the top of the folder, and what it writes has to be what stands behind it.
 """
 import pathlib
-import re
 import shutil
 import subprocess
 import sys
@@ -22,20 +21,18 @@ import page_blocks
 
 ROOT = pathlib.Path(__file__).resolve().parent.parent
 LEARN = ROOT / "docs/learn"
-INTO = re.compile(r".*\binto `([^`]+)`.*:")
 # How long a command may take, in seconds: a program is built from nothing.
 SECONDS = 3000
 
 
 def steps(lines):
     """What a reader does: files to write (a name and a text), and commands (a line of the page, the command, and what it writes)."""
+    files = page_blocks.written(lines)
     for number, language, block in page_blocks.blocks(lines):
         if language is not None:
-            before = next(line for line in reversed(lines[: number - 1]) if line.strip())
-            named = INTO.fullmatch(before)
-            if named is None:
-                raise ValueError(f"line {number}: no line says into which file this goes")
-            yield "file", number, named[1], "".join(line + "\n" for line in block)
+            # (a block that no line names a file for is refused by tools/check_documents.py, or shows what stands elsewhere)
+            if number in files:
+                yield "file", number, files[number], "".join(line + "\n" for line in block)
             continue
         command = None
         for line in block:
