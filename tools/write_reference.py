@@ -43,7 +43,7 @@ class Item:
         return f"{self.owner}::{self.name}" if self.owner else self.name
 
     def is_law(self):
-        return self.file.name == "laws.rt" and self.kind == "fn" and f"fn {self.name}()" in self.code[0]
+        return self.file.name == "laws.rt" and self.kind == "fn" and re.search(rf"fn {self.name}(?:<.*>)?\(\)", self.code[0]) is not None
 
     def contract(self):
         return "\n".join(line for line in self.code if re.match(r"\s*(requires|ensures)\b", line))
