@@ -28,7 +28,7 @@ pub enum Halt {
 
 /// The answer of a public call, by the result of its body, which may stop for either cause.
 ///
-/// Example: of `Err(Halt::Refused(Fault::Value))` it is `Ok(Outcome::Refused(Fault::Value))`, and of `Ok(5)` it is `Ok(Outcome::Done(5))`.
+/// Example: of `Ok(5)` it is `Ok(Outcome::Done(5))`, and of `Err(Halt::NoMemory)` it is `Err(NoMemory)`.
 pub fn tried<T>(answer: Result<T, Halt>) -> Tried<T>
     ensures { (wanted : Result T faults.Fault) → Gives wanted answer → IfOk result (λ o. o ≡ outcome_of wanted) }
 {
