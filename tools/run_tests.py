@@ -168,6 +168,7 @@ def parts(built):
     """All parts. Where everything is built, those that `rt ci` has run are left out."""
     checks = [
         command_part("documents", "python3", "tools/check_documents.py"),
+        command_part("items", "python3", "tools/check_items.py"),
         command_part("boundaries", ".ci/boundaries"),
         command_part("byhand", ".ci/byhand"),
     ]

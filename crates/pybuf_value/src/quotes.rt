@@ -18,6 +18,8 @@ fn holds(bytes: &[u8], byte: u8) -> bool
 
 /// The quote that Python's `repr` writes round the bytes: a double one where they hold a single
 /// quote and no double one, and else a single one.
+///
+/// Example: `quote(b"it's")` is `b'"'`, and `quote(b"a")` is `b'\''`.
 pub fn quote(bytes: &[u8]) -> u8
     ensures value { result ≡ quote_of bytes.now }
     ensures ascii { result < 128 }
@@ -55,7 +57,10 @@ fn push_hexadecimal(out: &mut Vec<u8>, byte: u8) -> Made<()>
 /// Adds a byte as it stands between such quotes: with a backslash before the quote and before a
 /// backslash, `\t`, `\n` and `\r` for these three, and `\x` with two digits for any other byte that
 /// isn't printed of ASCII.
+///
 /// Where memory runs out, nothing is added.
+///
+/// Example: for the quote `b'\''` it adds `a` for `b'a'`, and `\x00` for the byte 0.
 pub fn push_escaped(out: &mut Vec<u8>, quote: u8, byte: u8) -> Made<()>
     ensures ok { OnOk result (out.new.items ≡ out.old.items ++ escaped_byte quote byte) }
     ensures err { OnErr result (out.new.items ≡ out.old.items) }
@@ -128,6 +133,8 @@ fn write_quoted(out: &mut Vec<u8>, bytes: &[u8]) -> Made<()>
 
 /// Adds the bytes between quotes, as Python's `repr` writes them, without the `b`. Where memory runs
 /// out, nothing is added.
+///
+/// Example: of `b"a\0"` it adds `'a\x00'`.
 pub fn push_quoted(out: &mut Vec<u8>, bytes: &[u8]) -> Made<()>
     ensures ok { OnOk result (out.new.items ≡ out.old.items ++ quoted_text bytes.now) }
     ensures err { OnErr result (out.new.items ≡ out.old.items) }
@@ -184,6 +191,8 @@ pub(crate) fn quoted_length(bytes: &[u8]) -> u128
 /// Adds the bytes between quotes, as Python's `repr` writes them, without the `b`: the quote, each
 /// byte as it stands between such quotes, and the quote (Python's library reference, "Bytes
 /// Objects"). The room is taken once. Where memory runs out, `out` is as before.
+///
+/// Example: of `b"it's"` it adds `"it's"`.
 pub fn escaped(alloc: Global, bytes: &[u8], out: &mut ByteList) -> Made<()>
     ensures ok { OnOk result (out.new ≡ out.old ++ quoted_text bytes.now) }
     ensures err { OnErr result (out.new ≡ out.old) }

@@ -61,6 +61,8 @@ fn write_escaped<W: fmt::Write>(f: &mut fmt::Formatter<W>, quote: u8, bytes: &[u
 }
 
 /// Writes bytes between quotes, as Python's `repr` writes them, without the `b`.
+///
+/// Example: of `b"a\0"` it writes `'a\x00'`.
 pub fn write_quoted<W: fmt::Write>(f: &mut fmt::Formatter<W>, bytes: &[u8]) -> fmt::Result
     ensures { WritesOnOk W.write_str_gives f.old result (quoted_text bytes.now) f.new }
 {
@@ -71,6 +73,8 @@ pub fn write_quoted<W: fmt::Write>(f: &mut fmt::Formatter<W>, bytes: &[u8]) -> f
 }
 
 /// Writes bytes, as Python's `repr` writes them.
+///
+/// Example: of `b"a\0"` it writes `b'a\x00'`.
 pub fn write_bytes<W: fmt::Write>(f: &mut fmt::Formatter<W>, bytes: &[u8]) -> fmt::Result
     ensures { WritesOnOk W.write_str_gives f.old result (bytes_text bytes.now) f.new }
 {
@@ -78,7 +82,9 @@ pub fn write_bytes<W: fmt::Write>(f: &mut fmt::Formatter<W>, bytes: &[u8]) -> fm
     write_quoted(f, bytes)
 }
 
-/// Writes a truth value.
+/// Writes a truth value, `True` or `False`.
+///
+/// Example: of true it writes `True`.
 pub fn write_truth<W: fmt::Write>(f: &mut fmt::Formatter<W>, truth: bool) -> fmt::Result
     ensures { WritesOnOk W.write_str_gives f.old result (truth_text truth) f.new }
 {
@@ -108,11 +114,15 @@ impl fmt::Display for Scalar {
 }
 
 /// What a tuple or a list that is shown may have as its parts.
+///
+/// Example: the number 5 is a part that is written as `5`.
 pub trait Shown {
     // the text of a part
     ghost text: { Self → List ℕ };
 
-    /// Writes the part.
+    /// Writes the part, as it stands in a tuple or a list.
+    ///
+    /// Example: of the bytes `b"ab"` it writes `b'ab'`.
     fn show<W: fmt::Write>(&self, f: &mut fmt::Formatter<W>) -> fmt::Result
         ensures { WritesOnOk W.write_str_gives f.old result (text self.now) f.new };
 }
@@ -169,7 +179,9 @@ fn write_next_parts<T: Shown, W: fmt::Write>(f: &mut fmt::Formatter<W>, parts: &
     Ok(())
 }
 
-/// Writes a tuple.
+/// Writes a tuple, as Python's `repr` does.
+///
+/// Example: of 1, 2 it writes `(1, 2)`, and of 1 alone `(1,)`.
 pub fn write_tuple<T: Shown, W: fmt::Write>(f: &mut fmt::Formatter<W>, parts: &[T]) -> fmt::Result
     ensures { WritesOnOk W.write_str_gives f.old result (tuple_text T.text parts.now) f.new }
 {
@@ -189,7 +201,9 @@ pub fn write_tuple<T: Shown, W: fmt::Write>(f: &mut fmt::Formatter<W>, parts: &[
     }
 }
 
-/// Writes a list.
+/// Writes a list, as Python's `repr` does.
+///
+/// Example: of 1, 2 it writes `[1, 2]`.
 pub fn write_list<T: Shown, W: fmt::Write>(f: &mut fmt::Formatter<W>, parts: &[T]) -> fmt::Result
     ensures { WritesOnOk W.write_str_gives f.old result (list_text T.text parts.now) f.new }
 {
