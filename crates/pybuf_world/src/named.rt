@@ -20,7 +20,7 @@ pub enum Named {
 }
 
 /// What a command is asked of: the handle that it says, and what this names.
-/// Example: after `view h0` the command `len h1` has as its target the handle 1, the exporter 0 and the subject `Subject::View(0)`.
+/// Example: for `len h1` after `view h0` it is the handle 1, the exporter 0 and the subject `Subject::View(0)`.
 #[derive(Clone, Copy, Debug, PartialEq, Eq)]
 pub struct Target {
     pub handle: u64,
