@@ -157,7 +157,7 @@ fn row_line(
 impl<'a> Segments<'a> {
     /// Takes what is left of a row of ranges, or the next row where nothing of one is left. It is None where no row
     /// is left. Takes no memory.
-    /// Example: of bytes in the shape `[2, 3]`, item by item, with the strides 4 and 1, the first call takes a line of three ranges.
+    /// Example: of bytes in the shape `[2, 3]`, item by item, the first call takes a line of three ranges.
     pub fn next_line(&mut self) -> Option<SegmentLine>
         ensures takes { MatchOption result (self.old ≡ []) (λ line. self.old ≡ ranges_of_line line ++ self.new) }
         ensures line { IfSome result IsLine }
