@@ -1,10 +1,11 @@
 #!/usr/bin/env python3
-"""Writes the man pages: pybuf(1) and pybuf-lines(5) of the page of commands, and pybuf(3) of the header's comments.
+"""Writes the man pages: pybuf(1) and pybuf-lines(5) of two pages of reference, and pybuf(3) of the header's comments.
 
     tools/man_pages.py FOLDER
 
-The page of commands is the file commands.md, in whatever case, in docs/ or below. The headings with the tables of words and of statuses go to
-pybuf(1), with the introduction and what reads no lines; all others go to pybuf-lines(5). So what a man page says stands in one place.
+The pages are docs/reference/commands.md, with the lines and replies, and docs/reference/forms.md, with the words behind the program's name and
+the statuses. Words, statuses and what reads no lines go to pybuf(1), and all else to pybuf-lines(5). So what a man page says stands in
+one place.
 """
 import pathlib
 import re
@@ -16,6 +17,7 @@ from version import version
 
 ROOT = pathlib.Path(__file__).resolve().parent.parent
 HEADER = ROOT / "include/pybuf.h"
+LINES, FORMS = ROOT / "docs/reference/commands.md", ROOT / "docs/reference/forms.md"
 # The headings that pybuf(1) has; the first and the last have to be there.
 OF_PROGRAM = ("Words", "Scripts", "Tables", "Shapes", "Statuses")
 # Stands for a star until a page is whole.
@@ -93,25 +95,21 @@ def roff(lines, shift=0):
             yield f".IP {bullet} 4\n{inline(text)}"
         elif re.match(r" +- ", line):
             yield f".RS 4\n.IP \\(bu 4\n{inline(line.strip()[2:])}\n.RE"
-        elif line.strip():
+        elif line.strip() and not line.startswith("<!--"):
             yield f".PP\n{inline(line)}"
         at = end
 
 
-def commands_page():
-    found = sorted(path for path in (ROOT / "docs").rglob("*.md") if path.name.lower() == "commands.md")
-    if len(found) != 1:
-        sys.exit(f"man_pages: docs/ has {len(found)} pages named commands.md, and one is needed")
-    return found[0].read_text().split("\n")
-
-
-def sections(lines):
-    """The introduction of a page, and its sections by their titles."""
+def sections(path):
+    """The introduction of a page, and its sections by their titles. An introduction says for whom the page is, and names others: that is
+    left out."""
     parts, title = {"": []}, ""
-    for line in lines[1:]:
+    for line in path.read_text().split("\n")[1:]:
         if line.startswith("## "):
             title = line[3:]
             parts[title] = []
+        if not title:
+            line = re.sub(r"^For [^.]*\. ?| ?\[[^\]]*\]\([^)]*\.md[^)]*\)[^.]*\.", "", line)
         parts[title].append(line)
     return parts
 
@@ -129,15 +127,15 @@ def page(name, about, before, parts):
 
 
 def of_commands():
-    parts = sections(commands_page())
-    for title in ("Words", "Statuses"):
+    parts = {**sections(FORMS), **sections(LINES)}
+    for title in ("Words", "Statuses", "Commands", "Replies"):
         if title not in parts:
-            sys.exit(f"man_pages: the page of commands has no heading {title}")
+            sys.exit(f"man_pages: neither {LINES.relative_to(ROOT)} nor {FORMS.relative_to(ROOT)} has the heading {title}")
     forms = [cells_of(line)[0] for line in parts["Words"] if line.startswith("| ")][1:]
     forms = [form for cell in forms for form in re.findall(r"`([^`]+)`", cell)]
     synopsis = ".SH SYNOPSIS\n.nf\n.B pybuf\n" + "".join(f".B pybuf {escaped(form)}\n" for form in forms) + ".fi\n"
     program = [["# DESCRIPTION", *parts[""]], *(parts[title] for title in OF_PROGRAM if title in parts)]
-    lines = [part for title, part in parts.items() if title and title not in OF_PROGRAM]
+    lines = [part for name in (LINES, FORMS) for title, part in sections(name).items() if title and title not in OF_PROGRAM]
     yield "pybuf.1", page("pybuf.1", "runs lines about bytes, bytearrays and memoryviews", synopsis, program)
     yield "pybuf-lines.5", page("pybuf-lines.5", "the lines that pybuf reads, and its replies", "", lines)
 
