@@ -20,6 +20,12 @@
 #include <stddef.h>
 #include <stdint.h>
 
+/* The version of this header, as the file VERSION has it. The major number is that of the shared library's name. */
+#define PYBUF_VERSION_MAJOR 1
+#define PYBUF_VERSION_MINOR 0
+#define PYBUF_VERSION_PATCH 0
+#define PYBUF_VERSION "1.0.0"
+
 #ifdef __cplusplus
 extern "C" {
 #endif
@@ -48,6 +54,9 @@ typedef enum pybuf_status {
 
 /* The name of a status, as "IndexError" or "no memory". It is the library's, and stays. */
 const char *pybuf_status_name(pybuf_status status);
+
+/* The version of the library that is linked or loaded, as "1.0.0". It is the library's, and stays. */
+const char *pybuf_version(void);
 
 /* ---- worlds, by lines ---- */
 

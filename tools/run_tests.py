@@ -7,7 +7,7 @@
     ./test --list      the names of the parts
 
 It proves nothing. Its parts are each crate of tests and each program with stored output, which `rt try` builds and runs; the
-cases and examples; what the pages show; the sections of programs, as `readelf` has them; and the bindings. As many parts
+cases and examples; what the pages show; the sections of programs, as `readelf` has them; a release; and the bindings. As many parts
 run side by side as there are processors, and memory for them. Each has a line when it ends; of one that failed, what it said
 stands below, with the command that repeats it alone. What can't be run here is skipped, and the reason said.
 
@@ -171,6 +171,7 @@ def parts(built):
     """All parts. Where everything is built, those that `rt ci` has run are left out."""
     checks = [
         command_part("documents", "python3", "tools/check_documents.py"),
+        command_part("items", "python3", "tools/check_items.py"),
         command_part("boundaries", ".ci/boundaries"),
         command_part("byhand", ".ci/byhand"),
     ]
@@ -181,6 +182,7 @@ def parts(built):
             command_part("sections", "python3", "tools/compare_sections.py"),
             command_part("bindings-build", "bindings/build", "--after-ci"),
             command_part("bindings", "bindings/test"),
+            command_part("release", "python3", "tools/check_release.py"),
         ]
     return [
         command_part("cases", "python3", "tools/run_cases.py", "--unproved"),
@@ -191,6 +193,7 @@ def parts(built):
         *checks,
         command_part("sections", "python3", "tools/compare_sections.py", "--stored"),
         command_part("exports", "python3", "bindings/check_exports.py"),
+        command_part("release", "python3", "tools/check_release.py", "--stand-in"),
         skipped_part("bindings", "bindings/build && bindings/test", "rt builds a static library of a proved crate alone; `.ci/run` runs them"),
     ]
 

@@ -19,9 +19,13 @@ impl AnyStrWrapper for PyBytesInner {
 }
 
 /// The arguments of a cut of bytes.
+///
+/// Example: the separator `b","` and the number -1 ask for cuts at all commas.
 pub type ByteInnerSplitOptions = SplitArgs<PyBytesInner>;
 
 /// What is searched for, and the bounds between which it is searched.
+///
+/// Example: the needle `b"bc"` with the start 2 and no end is searched for in the bytes from place 2 on.
 #[derive(Debug, Drop)]
 pub struct ByteInnerFindOptions {
     pub sub: Needle,
@@ -46,6 +50,8 @@ impl ByteInnerFindOptions {
     /// The bytes that are searched for, and the range of the bounds in bytes of a length.
     ///
     /// Refused with `ValueError` exactly for a number outside `0..256`.
+    ///
+    /// Example: of the number 98 with the start -2 and no end, in 5 bytes, it gives `b"b"` and `3..5`.
     pub fn get_value(self, alloc: Global, len: usize) -> Tried<(Vec<u8>, Range<usize>)>
         ensures { IfOk result (λ outcome. search_answered outcome ≡ outcome_of (search_of self.sub self.start self.end len)) }
     {

@@ -26,6 +26,8 @@ use std::alloc::Global;
 
 /// Bytes that are lent. They have the methods of Python's `bytes` with plain arguments (Library
 /// reference, "Bytes and Bytearray Operations"); a bound or a number that isn't given is None.
+///
+/// Example: `ByteStr::new(b"key=value").find(b"=", None, None)` is `Some(3)`.
 #[derive(Clone, Copy, Debug)]
 pub struct ByteStr<'a> {
     bytes: &'a [u8],
@@ -52,7 +54,9 @@ fn name_given(alloc: Global, name: Option<&str>) -> Made<Option<Text>>
 }
 
 impl<'a> ByteStr<'a> {
-    /// These bytes.
+    /// Lends these bytes, so that the methods can be called on them. Takes no memory.
+    ///
+    /// Example: `ByteStr::new(b"ab")` stands for the bytes `b"ab"`.
     pub fn new(bytes: &'a [u8]) -> ByteStr<'a>
         ensures { str_bytes result ≡ bytes.now }
     {
@@ -60,6 +64,8 @@ impl<'a> ByteStr<'a> {
     }
 
     /// The first place between the bounds where `sub` stands, None where it stands at none.
+    ///
+    /// Example: `ByteStr::new(b"abcabc").find(b"bc", Some(2), None)` is `Some(4)`.
     pub fn find(self, sub: &[u8], start: Option<isize>, end: Option<isize>) -> Option<usize>
         ensures { result ≡ place_in_range first_place (str_bytes self.entry) sub.now (adjusted start end (length (str_bytes self.entry))) }
     {
@@ -67,7 +73,9 @@ impl<'a> ByteStr<'a> {
         first_place_in_range(self.bytes, sub, range)
     }
 
-    /// The last such place.
+    /// The last place between the bounds where `sub` stands, None where it stands at none.
+    ///
+    /// Example: `ByteStr::new(b"abcabc").rfind(b"bc", None, None)` is `Some(4)`.
     pub fn rfind(self, sub: &[u8], start: Option<isize>, end: Option<isize>) -> Option<usize>
         ensures { result ≡ place_in_range last_place (str_bytes self.entry) sub.now (adjusted start end (length (str_bytes self.entry))) }
     {
@@ -78,6 +86,8 @@ impl<'a> ByteStr<'a> {
     /// The place that `find` gives.
     ///
     /// Refused with `ValueError` exactly where it gives none.
+    ///
+    /// Example: `ByteStr::new(b"abc").index(b"x", None, None)` is `Err(Fault::Value)`.
     pub fn index(self, sub: &[u8], start: Option<isize>, end: Option<isize>) -> Result<usize, Fault>
         ensures { result ≡ ok_or (place_in_range first_place (str_bytes self.entry) sub.now (adjusted start end (length (str_bytes self.entry)))) faults.Fault.Value }
     {
@@ -88,6 +98,8 @@ impl<'a> ByteStr<'a> {
     }
 
     /// The number of matches of `sub` between the bounds, of which no two overlap.
+    ///
+    /// Example: `ByteStr::new(b"aaaa").count(b"aa", None, None)` is 2.
     pub fn count(self, sub: &[u8], start: Option<isize>, end: Option<isize>) -> usize
         ensures { result ≡ number_in_range (str_bytes self.entry) sub.now (adjusted start end (length (str_bytes self.entry))) }
     {
@@ -96,6 +108,8 @@ impl<'a> ByteStr<'a> {
     }
 
     /// Whether the bytes between the bounds begin with the prefix.
+    ///
+    /// Example: `ByteStr::new(b"a.py").startswith(b"py", Some(2), None)` is `true`.
     pub fn startswith(self, prefix: &[u8], start: Option<isize>, end: Option<isize>) -> bool
         ensures { startswith_of [] (values.One (scalars.Bytes prefix.now)) start end (str_bytes self.entry) ≡ Ok result }
     {
@@ -106,6 +120,8 @@ impl<'a> ByteStr<'a> {
     }
 
     /// Whether the bytes between the bounds end with the suffix.
+    ///
+    /// Example: `ByteStr::new(b"a.py").endswith(b".py", None, Some(3))` is `false`.
     pub fn endswith(self, suffix: &[u8], start: Option<isize>, end: Option<isize>) -> bool
         ensures { endswith_of [] (values.One (scalars.Bytes suffix.now)) start end (str_bytes self.entry) ≡ Ok result }
     {
@@ -119,6 +135,8 @@ impl<'a> ByteStr<'a> {
     /// at most so many cuts; a negative number is no bound.
     ///
     /// Refused with `ValueError` exactly for an empty separator.
+    ///
+    /// Example: `ByteStr::new(b"a,b,c").split(alloc, Some(b","), Some(1))` gives `b"a"` and `b"b,c"`.
     pub fn split(
         self,
         alloc: Global,
@@ -139,6 +157,8 @@ impl<'a> ByteStr<'a> {
     /// is no bound.
     ///
     /// Refused with `OverflowError` exactly where that is more than `isize::MAX` bytes.
+    ///
+    /// Example: `ByteStr::new(b"aaa").replace(alloc, b"a", b"xy", Some(2))` gives `b"xyxya"`.
     pub fn replace(
         self,
         alloc: Global,
@@ -157,6 +177,8 @@ impl<'a> ByteStr<'a> {
     ///
     /// Refused with `ValueError` exactly for another codec, for another handler of errors than
     /// `strict`, for a byte past ASCII under `ascii`, and for bytes that are no UTF-8.
+    ///
+    /// Example: `ByteStr::new(b"ab").decode(alloc, Some("ascii"), None)` gives the text `ab`.
     pub fn decode(
         self,
         alloc: Global,

@@ -11,6 +11,8 @@ use std::alloc::Global;
 
 /// The codec and the handler of errors by which bytes are decoded, as arguments of Python's
 /// `bytes.decode`. Without a codec it is UTF-8; without a handler, errors are refused.
+///
+/// Example: the codec `ascii` without a handler refuses `b"\xff"`.
 #[derive(Debug, Drop)]
 pub struct DecodeArgs {
     pub encoding: Option<Text>,
@@ -75,6 +77,8 @@ fn decoded(
 ///
 /// Refused with `ValueError` exactly for another codec, for another handler of errors than `strict`, for
 /// a byte past ASCII under `ascii`, and for bytes that are no UTF-8.
+///
+/// Example: of `b"\xc3\xa9"` without a codec it gives the text `é`, and by `ascii` it is refused with `ValueError`.
 pub fn decode_text(
     alloc: Global,
     bytes: &[u8],
@@ -86,7 +90,11 @@ pub fn decode_text(
     tried(decoded(alloc, bytes, encoding, errors))
 }
 
-/// The same by the arguments.
+/// The text that the bytes are by the codec and the handler of the arguments.
+///
+/// Refused as `decode_text` is.
+///
+/// Example: of `b"ab"` and the codec `utf-8` it gives the text `ab`.
 pub fn bytes_decode(alloc: Global, bytes: &[u8], args: &DecodeArgs) -> Tried<Text>
     ensures { IfOk result (λ outcome. outcome ≡ outcome_of (spec.decoded bytes.now args.now.encoding args.now.errors)) }
 {

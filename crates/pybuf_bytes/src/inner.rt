@@ -16,6 +16,8 @@ use std::ops::DerefSlice;
 
 /// A string of bytes, as the value of Python's `bytes` and `bytearray`. A clause sees the list of its
 /// bytes.
+///
+/// Example: `PyBytesInner::from(vec)` of the bytes 97 and 98 stands for `b"ab"`.
 #[derive(Debug, Drop)]
 pub struct PyBytesInner {
     bytes: Vec<u8>,
@@ -29,6 +31,8 @@ impl Model for PyBytesInner {
 
 impl PyBytesInner {
     /// The string of these bytes. Takes no memory.
+    ///
+    /// Example: of the vector of 97 and 98 it is the string `b"ab"`.
     pub fn from(bytes: Vec<u8>) -> PyBytesInner
         ensures { result ≡ bytes.items }
     {
@@ -36,6 +40,8 @@ impl PyBytesInner {
     }
 
     /// The bytes, in order. Takes no memory.
+    ///
+    /// Example: of `b"ab"` it is the vector of 97 and 98.
     pub fn into_vec(self) -> Vec<u8>
         ensures { result.items ≡ self }
     {
@@ -44,6 +50,8 @@ impl PyBytesInner {
     }
 
     /// The bytes, lent.
+    ///
+    /// Example: of the string `b"ab"` it is `b"ab"`.
     pub fn as_bytes(&self) -> &[u8]
         ensures { result.now ≡ self.now }
     {
@@ -51,6 +59,8 @@ impl PyBytesInner {
     }
 
     /// The number of bytes, at most `isize::MAX`.
+    ///
+    /// Example: of `b"ab"` it is 2.
     pub fn len(&self) -> usize
         ensures value { result ≡ length self.now }
         ensures small { result < 2 ^ 63 }
@@ -59,6 +69,8 @@ impl PyBytesInner {
     }
 
     /// Whether there is no byte.
+    ///
+    /// Example: of `b""` it is `true`, and of `b"ab"` it is `false`.
     pub fn is_empty(&self) -> bool
         ensures { result ≡ (length self.now == 0) }
     {
@@ -68,6 +80,8 @@ impl PyBytesInner {
     /// What a comparison operator answers of these bytes and others: the first bytes that differ
     /// decide, and of two strings that don't differ so far the shorter one is less (Python's language
     /// reference, "Value comparisons").
+    ///
+    /// Example: of `b"ab"` and `b"b"` by `CompareOp::Lt` it is `true`.
     pub fn cmp(&self, other: &[u8], op: CompareOp) -> bool
         ensures { result ≡ answers op (order_of self.now other.now) }
     {
@@ -75,6 +89,8 @@ impl PyBytesInner {
     }
 
     /// Feeds the bytes to a hasher, in one call of its `write`, and nothing else.
+    ///
+    /// Example: of `b"ab"` it calls `hasher.write(b"ab")`.
     pub fn hash<H: Hasher>(&self, hasher: &mut H)
         ensures { hasher.new ≡ H.write hasher.old self.now }
     {
@@ -84,6 +100,8 @@ impl PyBytesInner {
     /// The bytes as Python's `repr` writes them: `b'..'` (library reference, "Bytes Objects").
     ///
     /// Refused with `OverflowError` exactly where that is more than `isize::MAX` bytes.
+    ///
+    /// Example: of the bytes 97 and 0 it gives the text `b'a\x00'`.
     pub fn repr_bytes(&self, alloc: Global) -> Tried<Text>
         ensures { IfOk result (λ outcome. outcome ≡ outcome_of (fitted (repr_of (codes "b") self.now []))) }
     {
@@ -94,6 +112,8 @@ impl PyBytesInner {
     /// `NAME(b'..')` (library reference, "Bytearray Objects").
     ///
     /// Refused with `OverflowError` exactly where that is more than `isize::MAX` bytes.
+    ///
+    /// Example: of `b"ab"` and `bytearray` it gives the text `bytearray(b'ab')`.
     pub fn repr_with_name(&self, alloc: Global, class_name: &Text) -> Tried<Text>
         ensures { IfOk result (λ outcome. outcome ≡ outcome_of (fitted (repr_of (class_name.now ++ codes "(b") self.now (codes ")")))) }
     {

@@ -3,13 +3,24 @@ use pybuf_value::{ByteList, ByteLists, Exact, Made, Text, Twin};
 use std::alloc::Global;
 
 /// What a method answers.
+///
+/// Example: `find` of a needle that stands at 3 answers `MethodReply::Number(3)`.
 #[derive(Debug, Drop)]
 pub enum MethodReply {
+    /// Bytes, as `lower` and `strip` answer them.
+    /// Example: `lower` of `b"aB"` answers `Bytes` of `b"ab"`.
     Bytes(ByteList),
+    /// Parts, as `split`, `splitlines` and `partition` answer them.
+    /// Example: `split` of `b"a b"` answers `ByteLists` of `b"a"` and `b"b"`.
     ByteLists(ByteLists),
+    /// A truth, as `isalpha` and `startswith` answer it.
+    /// Example: `isalpha` of `b"aB"` answers `Truth(true)`.
     Truth(bool),
     /// A place, a number of matches, or -1 where nothing is found.
+    /// Example: `find` of `b"x"` in `b"ab"` answers `Number(-1)`.
     Number(i128),
+    /// A text, as `decode` and `hex` answer it.
+    /// Example: `hex` of `b"ab"` answers `Text` of `6162`.
     Text(Text),
 }
 

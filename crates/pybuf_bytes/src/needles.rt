@@ -10,9 +10,16 @@ use pybuf_value::{
 use std::alloc::Global;
 
 /// What is searched for: bytes, or a number that stands for one byte.
+///
+/// Example: `Needle::Number(98)` and the needle of `b"b"` stand at the same places.
 #[derive(Debug, Drop)]
 pub enum Needle {
+    /// Bytes, which may be none.
+    /// Example: `Bytes` of `b"bc"` stands in `b"abc"` at 1.
     Bytes(PyBytesInner),
+    /// A number that stands for one byte; a number outside `0..256` is refused where it is searched
+    /// for.
+    /// Example: `Number(98)` stands in `b"abc"` at 1.
     Number(i128),
 }
 
@@ -38,6 +45,8 @@ impl Needle {
     ///
     /// Refused with `ValueError` for a number outside `0..256`, and else as `bytes_from_object`
     /// refuses.
+    ///
+    /// Example: of the value 98 it is `Needle::Number(98)`, and of 256 it is refused with `ValueError`.
     pub fn try_from_value<L: Lender>(alloc: Global, value: &Value, lender: &L) -> Tried<Needle>
         ensures { IfOk result (λ outcome. outcome ≡ outcome_of (spec.needle_in (L.pairs lender.now) value.now)) }
     {

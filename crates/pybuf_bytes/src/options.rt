@@ -155,6 +155,8 @@ fn bytes_answered<L: Lender>(
 
 /// The bytes that options ask for. The options are words of commands and stand below strings of bytes, so
 /// that these calls are those of a trait.
+///
+/// Example: the options with the source 3 alone ask for `b"\0\0\0"`.
 pub trait NewOptions {
     ghost options: { Self → ByteInnerNewOptions };
 
@@ -168,10 +170,17 @@ pub trait NewOptions {
     /// and else as `bytes_from_object` refuses it; with `TypeError` for a handler of errors without
     /// an encoding, and for a source with an encoding that is no text; with `ValueError` for another
     /// encoding, for another handler of errors than `strict`, and for a character past ASCII.
+    ///
+    /// Example: of the text `é` with the encoding `utf-8` it gives `b"\xc3\xa9"`.
     fn get_bytes<L: Lender>(&self, alloc: Global, lender: &L) -> Tried<PyBytesInner>
         ensures { IfOk result (λ outcome. outcome ≡ outcome_of (spec.bytes_of_options (L.pairs lender.now) (options self.now).source (options self.now).encoding (options self.now).errors)) };
 
-    /// The same for Python's `bytearray`, which takes the same arguments.
+    /// The bytes that the options ask for, for Python's `bytearray`, which takes the same arguments as
+    /// `bytes`.
+    ///
+    /// Refused as `get_bytes` is.
+    ///
+    /// Example: of the source 3 alone it gives `b"\0\0\0"`.
     fn get_bytearray_inner<L: Lender>(&self, alloc: Global, lender: &L) -> Tried<PyBytesInner>
         ensures { IfOk result (λ outcome. outcome ≡ outcome_of (spec.bytes_of_options (L.pairs lender.now) (options self.now).source (options self.now).encoding (options self.now).errors)) };
 }

@@ -23,6 +23,8 @@ impl PyBytesInner {
     /// The bytes, and others behind them (Library reference, "Common Sequence Operations", `s + t`).
     ///
     /// Refused with `OverflowError` exactly where both are more than `isize::MAX` bytes.
+    ///
+    /// Example: of `b"ab"` and `b"cd"` it gives `b"abcd"`.
     pub fn add(&self, alloc: Global, other: &[u8]) -> Tried<Vec<u8>>
         ensures { IfOk result (λ outcome. items_of outcome ≡ outcome_of (fitted (self.now ++ other.now))) }
     {
@@ -35,6 +37,8 @@ impl PyBytesInner {
     /// Refused with `UnknownName` where the lender hasn't the handle, with `ValueError` where it names
     /// a released view, with `TypeError` for every other value, and then with `OverflowError` exactly
     /// where both are more than `isize::MAX` bytes.
+    ///
+    /// Example: of `b"ab"` and the bytes value `b"cd"` it gives `b"abcd"`, and of the number 5 it is refused with `TypeError`.
     pub fn concat<L: Lender>(&self, alloc: Global, other: &Value, lender: &L) -> Tried<Vec<u8>>
         ensures { IfOk result (λ outcome. items_of outcome ≡ outcome_of (spec.concat_of (L.pairs lender.now) other.now self.now)) }
     {
@@ -45,6 +49,8 @@ impl PyBytesInner {
     /// "Common Sequence Operations", `s * n`).
     ///
     /// Refused with `OverflowError` exactly where that is more than `isize::MAX` bytes.
+    ///
+    /// Example: of `b"ab"` and 3 it gives `b"ababab"`, and of -1 it gives `b""`.
     pub fn mul(&self, alloc: Global, n: isize) -> Tried<Vec<u8>>
         ensures { IfOk result (λ outcome. items_of outcome ≡ outcome_of (spec.repeated_of n self.now)) }
     {
@@ -56,6 +62,8 @@ impl PyBytesInner {
     ///
     /// Refused with `OverflowError` exactly where that is more than `isize::MAX` bytes. After a
     /// refusal, or where memory runs out, the bytes are as before.
+    ///
+    /// Example: with 2 it makes `b"abab"` of `b"ab"`.
     pub fn imul(&mut self, alloc: Global, n: isize) -> Tried<()>
         ensures answer { IfOk result (λ outcome. outcome ≡ outcome_of (refusal_of (spec.repeated_of n self.old))) }
         ensures bytes { OnOk result (self.new ≡ spec.or_before self.old (spec.repeated_of n self.old)) }
@@ -79,6 +87,8 @@ impl PyBytesInner {
     /// Operations"). Takes no memory.
     ///
     /// Refused with `ValueError` exactly for a number outside `0..256`.
+    ///
+    /// Example: of `b"abc"` and the needle 98 it is `Ok(true)`, and of the needle 256 it is `Err(Fault::Value)`.
     pub fn contains(&self, needle: &Needle) -> Result<bool, Fault>
         ensures { result ≡ spec.contains_of needle.now self.now }
     {
@@ -90,6 +100,8 @@ impl PyBytesInner {
     /// end.
     ///
     /// Refused with `ValueError` exactly for a number outside `0..256`.
+    ///
+    /// Example: of `b"aaaa"` and the needle `b"aa"` without bounds it gives 2.
     pub fn count(&self, alloc: Global, options: ByteInnerFindOptions) -> Tried<usize>
         ensures { IfOk result (λ outcome. outcome ≡ outcome_of (spec.count_of options.sub options.start options.end self.now)) }
     {
@@ -101,6 +113,8 @@ impl PyBytesInner {
     /// the bytes between the bounds and those of the needle.
     ///
     /// Refused with `ValueError` exactly for a number outside `0..256`.
+    ///
+    /// Example: of `b"abcabc"`, the needle `b"bc"` with the start 2, and the search `first_place` it gives `Some(4)`.
     pub fn find<F: Fn(&[u8], &[u8]) -> Option<usize>>(
         &self,
         alloc: Global,
@@ -120,16 +134,21 @@ impl PyBytesInner {
     /// reference, "Bytes and Bytearray Operations", `bytes.split`).
     ///
     /// Refused with `ValueError` exactly for an empty separator.
+    ///
+    /// Example: of `b"a,b,c"`, the separator `b","` and at most one cut it gives `b"a"` and `b"b,c"`.
     pub fn split(&self, alloc: Global, options: ByteInnerSplitOptions) -> Tried<ByteLists>
         ensures { IfOk result (λ outcome. outcome ≡ outcome_of (spec.split_of options.sep options.maxsplit self.now)) }
     {
         split_at(alloc, self.as_bytes(), options)
     }
 
-    /// The same with cuts from the right; the parts are in order (Library reference, "Bytes and
-    /// Bytearray Operations", `bytes.rsplit`).
+    /// The parts between the matches of a separator from the right, or without a separator between runs
+    /// of blanks; the parts are in the order of the bytes, and the greatest number of cuts is no bound
+    /// where it is negative (Library reference, "Bytes and Bytearray Operations", `bytes.rsplit`).
     ///
     /// Refused with `ValueError` exactly for an empty separator.
+    ///
+    /// Example: of `b"a,b,c"`, the separator `b","` and at most one cut it gives `b"a,b"` and `b"c"`.
     pub fn rsplit(&self, alloc: Global, options: ByteInnerSplitOptions) -> Tried<ByteLists>
         ensures { IfOk result (λ outcome. outcome ≡ outcome_of (spec.rsplit_of options.sep options.maxsplit self.now)) }
     {
@@ -141,6 +160,8 @@ impl PyBytesInner {
     /// Operations", `bytes.partition`).
     ///
     /// Refused with `ValueError` exactly for an empty separator.
+    ///
+    /// Example: of `b"a=b=c"` and `b"="` it gives `b"a"`, `true` and `b"b=c"`.
     pub fn partition(&self, alloc: Global, sub: &PyBytesInner) -> Tried<(Vec<u8>, bool, Vec<u8>)>
         ensures { IfOk result (λ outcome. spec.parts_answered outcome ≡ outcome_of (spec.partition_by sub.now self.now)) }
     {
@@ -152,6 +173,8 @@ impl PyBytesInner {
     /// Operations", `bytes.rpartition`).
     ///
     /// Refused with `ValueError` exactly for an empty separator.
+    ///
+    /// Example: of `b"a=b=c"` and `b"="` it gives `b"c"`, `true` and `b"a=b"`.
     pub fn rpartition(&self, alloc: Global, sub: &PyBytesInner) -> Tried<(Vec<u8>, bool, Vec<u8>)>
         ensures { IfOk result (λ outcome. spec.parts_answered outcome ≡ outcome_of (spec.rpartition_by sub.now self.now)) }
     {
@@ -162,6 +185,8 @@ impl PyBytesInner {
     /// Operations", `bytes.join`).
     ///
     /// Refused with `OverflowError` exactly where that is more than `isize::MAX` bytes.
+    ///
+    /// Example: of the string `b", "` and the parts `b"a"` and `b"b"` it gives `b"a, b"`.
     pub fn join(&self, alloc: Global, parts: &ByteLists) -> Tried<Vec<u8>>
         ensures { IfOk result (λ outcome. items_of outcome ≡ outcome_of (fitted (joined self.now parts.now))) }
     {
@@ -170,6 +195,8 @@ impl PyBytesInner {
 
     /// The bytes without a prefix, where they begin with it; it is removed once (Library reference,
     /// "Bytes and Bytearray Operations", `bytes.removeprefix`).
+    ///
+    /// Example: of `b"ababc"` and `b"ab"` it gives `b"abc"`.
     pub fn removeprefix(&self, alloc: Global, prefix: &PyBytesInner) -> Made<Vec<u8>>
         ensures { IfOk result (λ bytes. bytes.items ≡ without_prefix self.now prefix.now) }
     {
@@ -179,6 +206,8 @@ impl PyBytesInner {
 
     /// The bytes without a suffix, where they end with it; it is removed once (Library reference,
     /// "Bytes and Bytearray Operations", `bytes.removesuffix`).
+    ///
+    /// Example: of `b"abcbc"` and `b"bc"` it gives `b"abc"`.
     pub fn removesuffix(&self, alloc: Global, suffix: &PyBytesInner) -> Made<Vec<u8>>
         ensures { IfOk result (λ bytes. bytes.items ≡ without_suffix self.now suffix.now) }
     {

@@ -19,6 +19,8 @@ use std::alloc::Global;
 /// Sequence Operations").
 ///
 /// Refused with `ValueError` exactly for a number outside `0..256`.
+///
+/// Example: of `b"abc"` and the needle 98 it is `Ok(true)`, and of the needle 256 it is `Err(Fault::Value)`.
 pub fn contains_needle(bytes: &[u8], needle: &Needle) -> Result<bool, Fault>
     ensures { result ≡ spec.contains_of needle.now bytes.now }
 {
@@ -35,6 +37,8 @@ pub fn contains_needle(bytes: &[u8], needle: &Needle) -> Result<bool, Fault>
 /// reference, "Bytes and Bytearray Operations", `bytes.count`); none where the start passes the end.
 ///
 /// Refused with `ValueError` exactly for a number outside `0..256`.
+///
+/// Example: of `b"aaaa"` and the needle `b"aa"` without bounds it gives 2.
 pub fn count_between(alloc: Global, bytes: &[u8], options: ByteInnerFindOptions) -> Tried<usize>
     ensures { IfOk result (λ outcome. outcome ≡ outcome_of (spec.count_of options.sub options.start options.end bytes.now)) }
 {
@@ -51,6 +55,8 @@ pub fn count_between(alloc: Global, bytes: &[u8], options: ByteInnerFindOptions)
 /// bytes between the bounds and those of the needle.
 ///
 /// Refused with `ValueError` exactly for a number outside `0..256`.
+///
+/// Example: of `b"abcabc"`, the needle `b"bc"` with the start 2, and the search `first_place` it gives `Some(4)`.
 pub fn find_between<F: Fn(&[u8], &[u8]) -> Option<usize>>(
     alloc: Global,
     bytes: &[u8],
@@ -89,6 +95,8 @@ fn copied_parts(
 /// Operations", `bytes.partition`).
 ///
 /// Refused with `ValueError` exactly for an empty separator.
+///
+/// Example: of `b"a=b=c"` and `b"="` it gives `b"a"`, `true` and `b"b=c"`.
 pub fn partition_at(
     alloc: Global,
     bytes: &[u8],
@@ -109,6 +117,8 @@ pub fn partition_at(
 /// `bytes.rpartition`).
 ///
 /// Refused with `ValueError` exactly for an empty separator.
+///
+/// Example: of `b"a=b=c"` and `b"="` it gives `b"c"`, `true` and `b"a=b"`.
 pub fn rpartition_at(
     alloc: Global,
     bytes: &[u8],
@@ -130,6 +140,8 @@ pub fn rpartition_at(
 /// Refused with `UnknownName` where the lender hasn't the handle, with `ValueError` where it names a
 /// released view, with `TypeError` for every other value, and then with `OverflowError` exactly where
 /// both are more than `isize::MAX` bytes.
+///
+/// Example: of `b"ab"` and the bytes value `b"cd"` it gives `b"abcd"`, and of the number 5 it is refused with `TypeError`.
 pub fn concat_with<L: Lender>(
     alloc: Global,
     bytes: &[u8],
@@ -152,6 +164,8 @@ pub fn concat_with<L: Lender>(
 /// "Bytes and Bytearray Operations", `bytes.split`).
 ///
 /// Refused with `ValueError` exactly for an empty separator.
+///
+/// Example: of `b" a  b "` without a separator or a bound it gives `b"a"` and `b"b"`.
 pub fn split_at(alloc: Global, bytes: &[u8], options: ByteInnerSplitOptions) -> Tried<ByteLists>
     ensures { IfOk result (λ outcome. outcome ≡ outcome_of (spec.split_of options.sep options.maxsplit bytes.now)) }
 {
@@ -169,10 +183,13 @@ pub fn split_at(alloc: Global, bytes: &[u8], options: ByteInnerSplitOptions) -> 
     }
 }
 
-/// The same with cuts from the right; the parts are in order (Library reference, "Bytes and Bytearray
-/// Operations", `bytes.rsplit`).
+/// The parts between the matches of a separator from the right, or without a separator between runs of
+/// blanks; the parts are in the order of the bytes, and the greatest number of cuts is no bound where
+/// it is negative (Library reference, "Bytes and Bytearray Operations", `bytes.rsplit`).
 ///
 /// Refused with `ValueError` exactly for an empty separator.
+///
+/// Example: of `b"a,b,c"`, the separator `b","` and at most one cut it gives `b"a,b"` and `b"c"`.
 pub fn rsplit_at(alloc: Global, bytes: &[u8], options: ByteInnerSplitOptions) -> Tried<ByteLists>
     ensures { IfOk result (λ outcome. outcome ≡ outcome_of (spec.rsplit_of options.sep options.maxsplit bytes.now)) }
 {

@@ -23,6 +23,8 @@ use std::alloc::Global;
 /// Refused, where there are bytes, a separator and a size other than 0, with `ValueError` exactly for a
 /// separator that isn't one byte below 128, and then with `OverflowError` exactly where the text is more
 /// than `isize::MAX` bytes.
+///
+/// Example: of `b"\x01\xab\xff"`, the separator `b":"` and the size 2 it gives the text `01:abff`.
 pub fn bytes_to_hex(
     alloc: Global,
     bytes: &[u8],
@@ -36,6 +38,8 @@ pub fn bytes_to_hex(
 
 impl PyBytesInner {
     /// The bytes as hexadecimal digits, as `bytes_to_hex` gives and refuses them.
+    ///
+    /// Example: of `b"\x01\xab"` without a separator it gives the text `01ab`.
     pub fn hex(
         &self,
         alloc: Global,
@@ -51,6 +55,8 @@ impl PyBytesInner {
     /// between pairs are skipped (Python's library reference, "Bytes Objects", `bytes.fromhex`).
     ///
     /// Refused with `ValueError` exactly for every other text.
+    ///
+    /// Example: of `b"01 aB"` it gives `b"\x01\xab"`, and of `b"1"` it is refused with `ValueError`.
     pub fn fromhex(alloc: Global, text: &[u8]) -> Tried<Vec<u8>>
         ensures { IfOk result (λ outcome. items_of outcome ≡ outcome_of (bytes_of_hex text.now)) }
     {
@@ -61,6 +67,8 @@ impl PyBytesInner {
     /// (library reference, "Bytes and Bytearray Operations", `bytes.translate`).
     ///
     /// Refused as `ByteInnerTranslateOptions::get_value` is.
+    ///
+    /// Example: of `b"abc"` without a table, where `b"b"` is to be dropped, it gives `b"ac"`.
     pub fn translate<L: Lender>(
         &self,
         alloc: Global,
@@ -83,6 +91,8 @@ impl PyBytesInner {
     /// Bytearray Operations", `bytes.maketrans`).
     ///
     /// Refused with `ValueError` exactly where the lengths differ.
+    ///
+    /// Example: of `b"ab"` and `b"xy"` it gives a table whose bytes at 97, 98 and 99 are `b"xyc"`.
     pub fn maketrans(alloc: Global, from: &PyBytesInner, to: &PyBytesInner) -> Tried<Vec<u8>>
         ensures { IfOk result (λ outcome. items_of outcome ≡ outcome_of (table_of from.now to.now)) }
     {
@@ -94,6 +104,8 @@ impl PyBytesInner {
     /// and else on the right (library reference, "Bytes and Bytearray Operations", `bytes.center`).
     ///
     /// Refused as `ByteInnerPaddingOptions::fill` is.
+    ///
+    /// Example: of `b"ab"` in the width 5 it gives `b"  ab "`.
     pub fn center<L: Lender>(
         &self,
         alloc: Global,
@@ -109,6 +121,8 @@ impl PyBytesInner {
     /// (library reference, "Bytes and Bytearray Operations", `bytes.ljust`).
     ///
     /// Refused as `ByteInnerPaddingOptions::fill` is.
+    ///
+    /// Example: of `b"ab"` in the width 4 it gives `b"ab  "`.
     pub fn ljust<L: Lender>(
         &self,
         alloc: Global,
@@ -124,6 +138,8 @@ impl PyBytesInner {
     /// (library reference, "Bytes and Bytearray Operations", `bytes.rjust`).
     ///
     /// Refused as `ByteInnerPaddingOptions::fill` is.
+    ///
+    /// Example: of `b"ab"` in the width 4 it gives `b"  ab"`.
     pub fn rjust<L: Lender>(
         &self,
         alloc: Global,
@@ -138,6 +154,8 @@ impl PyBytesInner {
     /// The bytes with digits `0` before them up to a width, behind one sign that they begin with; the
     /// bytes where they are long enough (library reference, "Bytes and Bytearray Operations",
     /// `bytes.zfill`).
+    ///
+    /// Example: of `b"-5"` and the width 4 it gives `b"-005"`.
     pub fn zfill(&self, alloc: Global, width: isize) -> Made<Vec<u8>>
         ensures { IfOk result (λ bytes. bytes.items ≡ zero_filled width self.now) }
     {
@@ -150,6 +168,8 @@ impl PyBytesInner {
     /// (library reference, "Bytes and Bytearray Operations", `bytes.expandtabs`).
     ///
     /// Refused with `OverflowError` exactly where that is more than `isize::MAX` bytes.
+    ///
+    /// Example: of `b"a\tb"` and the size 4 it gives `b"a   b"`.
     pub fn expandtabs(&self, alloc: Global, options: ExpandTabsArgs) -> Tried<Vec<u8>>
         ensures { IfOk result (λ outcome. items_of outcome ≡ outcome_of (expanded (tab_size options.tabsize) self.now)) }
     {
@@ -161,6 +181,8 @@ impl PyBytesInner {
     /// reference, "Bytes and Bytearray Operations", `bytes.replace`).
     ///
     /// Refused with `OverflowError` exactly where that is more than `isize::MAX` bytes.
+    ///
+    /// Example: of `b"aaa"`, `b"a"`, `b"xy"` and the number 2 it gives `b"xyxya"`.
     pub fn replace(
         &self,
         alloc: Global,
@@ -174,7 +196,10 @@ impl PyBytesInner {
         as_vec(pybuf_shaping::replace(alloc, self.as_bytes(), from.as_bytes(), to.as_bytes(), most))
     }
 
-    /// The same where both are of one length, so that each byte keeps its place.
+    /// The bytes with others in place of the first matches of a needle from the left, and of all where
+    /// no number is given. Both are of one length, so that each byte keeps its place.
+    ///
+    /// Example: of `b"aaa"`, `b"a"`, `b"x"` and the number 2 it gives `b"xxa"`.
     pub fn replace_in_place(
         &self,
         alloc: Global,

@@ -5,6 +5,8 @@ ghost use Rattle.pybuf_command.specs.Arity as spec;
 use crate::methods::MethodName;
 
 /// Whether a method takes so many arguments.
+///
+/// Example: `takes(MethodName::Find, 3)` is `true`, and `takes(MethodName::Find, 4)` is `false`.
 pub fn takes(name: MethodName, count: usize) -> bool
     ensures { result ≡ spec.takes name count }
 {

@@ -13,6 +13,8 @@ use pybuf_value::{Made, PySlice, Scalar, Value};
 use std::alloc::Global;
 
 /// The loan of the first pair of a handle, None exactly where there is no such pair.
+///
+/// Example: of the pairs of 0 and `Loan::Own`, and of 0 and `Loan::View(1)`, it is `Some(&Loan::Own)` for 0, and `None` for 1.
 pub fn loan_of(loans: &[(u64, Loan)], handle: u64) -> Option<&Loan>
     ensures { option_copied result ≡ loan_of loans.now handle }
 {
@@ -174,6 +176,8 @@ fn push_read(handles: &mut Vec<u64>, subject: Subject, verb: &Verb) -> Made<()>
 /// The handles whose bytes a command reads: a value that is written through a view or by a slice, one
 /// that bytes are added or made of, one that a subject is compared with or searched for, a separator of
 /// digits, and each argument of a method.
+///
+/// Example: of `extend` by `h1` it gives 1, and of `append` by a number none.
 pub fn handles_read(alloc: Global, subject: Subject, verb: &Verb) -> Made<Vec<u64>>
     ensures { IfOk result (λ handles. handles.items ≡ spec.handles_read subject verb.now) }
 {
@@ -213,6 +217,8 @@ fn push_handles(handles: &mut Vec<u64>, verb: &Verb) -> Made<()>
 }
 
 /// The handles of all values of a command, in order.
+///
+/// Example: of `insert h1 h2` it gives 1 and 2.
 pub fn handles_of(alloc: Global, verb: &Verb) -> Made<Vec<u64>>
     ensures { IfOk result (λ handles. handles.items ≡ spec.handles_of verb.now) }
 {
@@ -222,6 +228,8 @@ pub fn handles_of(alloc: Global, verb: &Verb) -> Made<Vec<u64>>
 }
 
 /// The handles of what a new exporter's bytes are made of, in order.
+///
+/// Example: of the source `h1` alone it gives 1.
 pub fn handles_of_options(alloc: Global, options: &ByteInnerNewOptions) -> Made<Vec<u64>>
     ensures { IfOk result (λ handles. handles.items ≡ spec.handles_of_options options.now) }
 {
@@ -232,6 +240,8 @@ pub fn handles_of_options(alloc: Global, options: &ByteInnerNewOptions) -> Made<
 
 /// The handle that a source alone is, where neither an encoding nor a rule for errors is given. Of no other
 /// options are the bytes of a handle read.
+///
+/// Example: of the source `h1` alone it is `Some(1)`, and with an encoding besides it is `None`.
 pub fn handle_alone(options: &ByteInnerNewOptions) -> Option<u64>
     ensures { result ≡ spec.handle_alone options.now }
 {

@@ -10,17 +10,24 @@ use std::alloc::Global;
 use std::marker::Model;
 
 /// What a handle of a command names.
+///
+/// Example: `Loan::Own` says that a handle names the exporter that the command works on.
 #[derive(Debug, Drop, PartialEq)]
 pub enum Loan {
     /// The exporter that the command works on.
+    /// Example: a bytearray `h0` that is extended by `h0` is lent the pair of 0 and `Own`.
     Own,
     /// The view of this number of that exporter.
+    /// Example: where `h1` names the first view of the exporter, the pair is 1 and `View(0)`.
     View(usize),
     /// The iterator of this number of that exporter.
+    /// Example: where `h2` names the first iterator of the exporter, the pair is 2 and `Iter(0)`.
     Iter(usize),
     /// Another exporter, or a view or an iterator of one, as it stands.
+    /// Example: where `h3` names another bytearray of `b"ab"`, the pair is 3 and `Other` of a snap of `b"ab"`.
     Other(Snap),
     /// Nothing: the handle was never given.
+    /// Example: a value `h9` of a world that has given no `h9` is lent as `Missing`.
     Missing,
 }
 
@@ -73,6 +80,8 @@ fn loan_in_place(loans: &[(u64, Loan)], handle: u64) -> Option<&Loan>
 /// the list of pairs.
 ///
 /// Where each handle is its pair's place, as in the lines of sessions, a loan is found without a search.
+///
+/// Example: the list of the pair of 0 and `Loan::Own` says that the handle 0 names the exporter itself.
 #[derive(Debug, Drop)]
 pub struct LoanList {
     loans: Vec<(u64, Loan)>,
@@ -87,7 +96,9 @@ impl Model for LoanList {
 }
 
 impl LoanList {
-    /// No loans. Takes no memory.
+    /// A list without loans. Takes no memory.
+    ///
+    /// Example: `LoanList::new(alloc).len()` is 0.
     pub fn new(alloc: Global) -> LoanList
         ensures { result ≡ [] }
     {
@@ -98,6 +109,8 @@ impl LoanList {
     }
 
     /// The number of loans, at most `isize::MAX`.
+    ///
+    /// Example: of the list of one pair it is 1.
     pub fn len(&self) -> usize
         ensures value { result ≡ length self.now }
         ensures small { result < 2 ^ 63 }
@@ -106,6 +119,8 @@ impl LoanList {
     }
 
     /// Whether there are no loans.
+    ///
+    /// Example: `LoanList::new(alloc).is_empty()` is `true`.
     pub fn is_empty(&self) -> bool
         ensures { result ≡ (length self.now == 0) }
     {
@@ -113,6 +128,8 @@ impl LoanList {
     }
 
     /// The loans, lent.
+    ///
+    /// Example: of the list of the pair of 0 and `Loan::Own` it is `&[(0, Loan::Own)]`.
     pub fn as_slice(&self) -> &[(u64, Loan)]
         ensures { result.now ≡ self.now }
     {
@@ -120,6 +137,8 @@ impl LoanList {
     }
 
     /// Adds a handle with what it names at the end. Where memory runs out, the list is as before.
+    ///
+    /// Example: with the pair of 0 and `Loan::Own` the empty list becomes the list of that pair.
     #[tactic(auto, using(crate::proofs::Places::placed_and_one))]
     pub fn push(&mut self, pair: (u64, Loan)) -> Made<()>
         ensures ok { OnOk result (self.new ≡ self.old ++ pair ∷ []) }
@@ -132,6 +151,8 @@ impl LoanList {
     }
 
     /// The loan of the first pair of a handle, None exactly where there is no such pair.
+    ///
+    /// Example: of the list of the pair of 0 and `Loan::Own` it is `Some(&Loan::Own)` for 0, and `None` for 1.
     pub fn loan(&self, handle: u64) -> Option<&Loan>
         ensures { option_copied result ≡ loan_of self.now handle }
     {
@@ -142,7 +163,9 @@ impl LoanList {
         }
     }
 
-    /// The same loans, in order. Takes no memory.
+    /// The list of the loans of a vector, in order. Takes no memory.
+    ///
+    /// Example: of the vector of the pair of 0 and `Loan::Own` it is the list of that pair.
     pub fn from_vec(loans: Vec<(u64, Loan)>) -> LoanList
         ensures { result ≡ loans.items }
     {
@@ -150,7 +173,9 @@ impl LoanList {
         LoanList { loans, placed }
     }
 
-    /// The same loans, in order. Takes no memory.
+    /// The vector of the loans, in order. Takes no memory.
+    ///
+    /// Example: of the list of the pair of 0 and `Loan::Own` it is the vector of that pair.
     pub fn into_vec(self) -> Vec<(u64, Loan)>
         ensures { result.items ≡ self }
     {

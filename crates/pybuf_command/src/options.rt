@@ -5,6 +5,8 @@ use std::alloc::Global;
 /// What bytes are made of, as the arguments of Python's `bytes(source, encoding, errors)` (Library
 /// reference, "Built-in Functions", `bytearray`). An argument that isn't there is absent; a `None`
 /// that is given is a value.
+///
+/// Example: the source 3 without an encoding asks for `b"\0\0\0"`.
 #[derive(Debug, Drop, PartialEq)]
 pub struct ByteInnerNewOptions {
     pub source: Option<Value>,

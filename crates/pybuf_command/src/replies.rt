@@ -7,7 +7,10 @@ use crate::commands::LocalReply;
 use pybuf_value::{Fault, Item, Refusable, Scalar};
 
 impl LocalReply {
-    /// The number of a reply that is a single whole number: an item, a byte, a length or a place.
+    /// The number of a reply that is a single whole number: an item, a byte, a length or a place. None
+    /// exactly for every other reply.
+    ///
+    /// Example: of the reply to `Verb::Len` of `b"Abc"` it is `Some(3)`, and of `LocalReply::Ok` it is `None`.
     pub fn number(&self) -> Option<i128>
         ensures { result ≡ number_told self.now }
     {
@@ -17,7 +20,9 @@ impl LocalReply {
         }
     }
 
-    /// The truth value of a reply that is one, also as an item.
+    /// The truth value of a reply that is one, also as an item. None exactly for every other reply.
+    ///
+    /// Example: `LocalReply::Truth(true).truth()` is `Some(true)`, and `LocalReply::Ok.truth()` is `None`.
     pub fn truth(&self) -> Option<bool>
         ensures { result ≡ truth_told self.now }
     {
@@ -28,7 +33,9 @@ impl LocalReply {
         }
     }
 
-    /// The number of the view that was made.
+    /// The number of the view that was made. None exactly where none was.
+    ///
+    /// Example: `LocalReply::View(0).view()` is `Some(0)`, and `LocalReply::Ok.view()` is `None`.
     pub fn view(&self) -> Option<usize>
         ensures { result ≡ view_told self.now }
     {
@@ -38,7 +45,9 @@ impl LocalReply {
         }
     }
 
-    /// Why it was refused, if it was.
+    /// Why it was refused. None exactly where it wasn't.
+    ///
+    /// Example: `LocalReply::Refused(Fault::Index).refusal()` is `Some(Fault::Index)`, and `LocalReply::Ok.refusal()` is `None`.
     pub fn refusal(&self) -> Option<Fault>
         ensures { result ≡ refusal_told self.now }
     {
@@ -48,7 +57,9 @@ impl LocalReply {
         }
     }
 
-    /// The text of a reply that is one, lent.
+    /// The text of a reply that is one, lent. None exactly for every other reply.
+    ///
+    /// Example: of the reply to `PropertyName::Format` of a view of `b"ab"` it is `Some("B")`.
     pub fn text(&self) -> Option<&str>
         ensures { option_copied result ≡ text_told self.now }
     {
@@ -59,7 +70,9 @@ impl LocalReply {
         }
     }
 
-    /// The bytes of a reply that is bytes. Takes no memory.
+    /// The bytes of a reply that is bytes. None exactly for every other reply. Takes no memory.
+    ///
+    /// Example: of the reply to `Verb::ToBytes` of `b"ab"` it is `Some` of the vector of `b"ab"`.
     pub fn into_bytes(self) -> Option<Vec<u8>>
         ensures { option_map (λ bytes. bytes.items) result ≡ bytes_told self }
     {

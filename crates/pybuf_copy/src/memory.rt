@@ -2,6 +2,8 @@
 use std::alloc::{AllocError, AllocFailed};
 
 /// Memory ran out. What the call was lent is as before.
+///
+/// Example: where no block is left for a copy of `b"ab"`, `Twin::copy` answers `Err(NoMemory)`.
 #[derive(Clone, Copy, Debug, PartialEq, Eq)]
 pub struct NoMemory;
 
@@ -18,4 +20,6 @@ impl<T: Drop> From<AllocFailed<T>> for NoMemory {
 }
 
 /// The answer of a call that fails only for want of memory.
+///
+/// Example: `lower(alloc, b"aB")` is `Ok` of the vector of `b"ab"`, or `Err(NoMemory)`.
 pub type Made<T> = Result<T, NoMemory>;

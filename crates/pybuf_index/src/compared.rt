@@ -82,6 +82,8 @@ fn mix(hash: u64, lane: u64) -> u64
 /// The hash of a slice by the hashes of its parts, its lanes: they are mixed in their order, over
 /// numbers of 64 bits that wrap, as Python mixes those of a tuple. It is never -1 but where a lane is
 /// `u64::MAX`, which stands for a part without a hash.
+///
+/// Example: `hash_of_lanes(1, 2, 3)` is -2340833382717974474.
 pub fn hash_of_lanes(start: u64, stop: u64, step: u64) -> i64
     ensures { result ≡ hash_of start stop step }
 {

@@ -11,6 +11,8 @@ use std::marker::Model;
 use std::ops::Range;
 
 /// The indices of a slice that are left to come. A clause sees the list of them, in order.
+///
+/// Example: that of the slice `::2` in five items gives 0, 2, 4.
 #[derive(Clone, Debug, Drop)]
 pub struct SaturatedSliceIter {
     // The indices are `left` numbers from `low` up, one `stride` apart; where they fall, the
@@ -34,6 +36,8 @@ impl Model for SaturatedSliceIter {
 
 impl SaturatedSliceIter {
     /// The indices of the slice in a sequence of `seq_len` items.
+    ///
+    /// Example: of the slice `::2` and five items it gives 0, 2, 4.
     pub fn new(slice: &SaturatedSlice, seq_len: usize) -> SaturatedSliceIter
         requires { seq_len < 2 ^ 63 }
         ensures { result ≡ picks_of seq_len slice.now }
@@ -44,6 +48,8 @@ impl SaturatedSliceIter {
 
     /// The indices of a span: from its first place up, or from its last one down where the step is
     /// negative. The arguments are the answer of `adjust_indices`.
+    ///
+    /// Example: of the range `0..5`, the step 2 and the number 3 it gives 0, 2, 4.
     pub fn from_adjust_indices(range: Range<usize>, step: isize, len: usize) -> SaturatedSliceIter
         requires ordered { range.start ≤ range.end }
         requires within { range.end < 2 ^ 63 }
@@ -63,6 +69,8 @@ impl SaturatedSliceIter {
     }
 
     /// The indices of a span, one stride apart: from its first place up, or from its last one down.
+    ///
+    /// Example: of the range `0..5` and the stride 2 it gives 0, 2, 4, or, where it falls, 4, 2, 0.
     pub fn in_span(range: Range<usize>, stride: usize, falls: bool) -> SaturatedSliceIter
         requires ordered { range.start ≤ range.end }
         requires within { range.end < 2 ^ 63 }
@@ -80,6 +88,8 @@ impl SaturatedSliceIter {
     }
 
     /// The same indices, the least first.
+    ///
+    /// Example: of the indices 4, 2, 0 it gives 0, 2, 4.
     pub fn positive_order(self) -> SaturatedSliceIter
         ensures rises { IsStrictlyIncreasing result }
         ensures same { (result ≡ self) ⊎ (result ≡ reverse self) }

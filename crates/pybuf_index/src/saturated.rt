@@ -12,6 +12,8 @@ use std::marker::Model;
 use std::ops::Range;
 
 /// A slice whose parts fit `isize`, and whose step is not 0. A clause sees its parts.
+///
+/// Example: of the slice `0:2**70` it has the start 0, the stop `isize::MAX` and the step 1.
 #[derive(Clone, Copy, Debug)]
 pub struct SaturatedSlice {
     start: Option<isize>,
@@ -38,6 +40,8 @@ impl SaturatedSlice {
     /// Refused with `TypeError` where the step is neither `None` nor a number, then with
     /// `ValueError` where it is 0, then with `TypeError` where the start, and then the stop, is
     /// neither `None` nor a number.
+    ///
+    /// Example: of the slice `::2` its step is 2, and of `::0` it is `Err(Fault::Value)`.
     pub fn with_slice(slice: &PySlice) -> Result<SaturatedSlice, Fault>
         ensures parts { result ≡ saturated_parts_of slice.now }
         ensures indices { IfOk result (λ saturated. SameAsItsParts slice.now saturated) }
@@ -57,6 +61,8 @@ impl SaturatedSlice {
     /// The span goes from the start to the stop, or, where the step is negative, from one past the
     /// stop to one past the start. Where there are no indices the span is empty, and stands at the
     /// start, or at one past the stop.
+    ///
+    /// Example: of `::2` in five items it is `(0..5, 2, 3)`, and of `5:0:-2` in six items `(1..6, -2, 3)`.
     pub fn adjust_indices(&self, len: usize) -> (Range<usize>, isize, usize)
         requires { len < 2 ^ 63 }
         ensures saturated { IsSaturated self.now }
@@ -76,6 +82,8 @@ impl SaturatedSlice {
     }
 
     /// The indices of the slice in a sequence of `len` items, in order.
+    ///
+    /// Example: of `5:0:-2` in six items it gives 5, 3, 1.
     pub fn iter(&self, len: usize) -> SaturatedSliceIter
         requires { len < 2 ^ 63 }
         ensures { result ≡ picks_of len self.now }

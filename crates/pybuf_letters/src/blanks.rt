@@ -81,6 +81,8 @@ fn cut_from_right(alloc: Global, bytes: &[u8], cuts: usize) -> Made<ByteLists>
 /// reference, "Bytes and Bytearray Operations"): none is empty, and after `max` parts the rest from
 /// the next part on, with the blanks at its end, is the last. A negative `max` is no bound: there are
 /// no more parts than bytes.
+///
+/// Example: `split_at_blanks(alloc, b" a b c ", 1)` gives `b"a"` and `b"b c "`.
 pub fn split_at_blanks(alloc: Global, bytes: &[u8], max: isize) -> Made<ByteLists>
     ensures { IfOk result (λ parts. parts ≡ spec.blank_parts max bytes.now) }
 {
@@ -93,6 +95,8 @@ pub fn split_at_blanks(alloc: Global, bytes: &[u8], max: isize) -> Made<ByteList
 /// The parts between runs of blanks from the last to the first, cut from the right: none is empty, and
 /// after `max` parts the rest up to the next part, with the blanks at its beginning, is the last of the
 /// list. A negative `max` is no bound.
+///
+/// Example: `blank_parts_from_last(alloc, b" a b c ", 1)` gives `b"c"` and `b" a b"`.
 pub fn blank_parts_from_last(alloc: Global, bytes: &[u8], max: isize) -> Made<ByteLists>
     ensures { IfOk result (λ parts. parts ≡ spec.blank_parts_from_last max bytes.now) }
 {
@@ -102,9 +106,12 @@ pub fn blank_parts_from_last(alloc: Global, bytes: &[u8], max: isize) -> Made<By
     cut_from_right(alloc, bytes, max as usize)
 }
 
-/// The same parts in order, as of Python's `bytes.rsplit()` without a separator (Library reference,
-/// "Bytes and Bytearray Operations"): after `max` parts from the right the rest is the first of the
-/// list.
+/// The parts between runs of blanks cut from the right, in the order of the bytes, as of Python's
+/// `bytes.rsplit()` without a separator (Library reference, "Bytes and Bytearray Operations"): none is
+/// empty, and after `max` parts from the right the rest, with the blanks at its beginning, is the first
+/// of the list. A negative `max` is no bound.
+///
+/// Example: `rsplit_at_blanks(alloc, b" a b c ", 1)` gives `b" a b"` and `b"c"`.
 pub fn rsplit_at_blanks(alloc: Global, bytes: &[u8], max: isize) -> Made<ByteLists>
     ensures { IfOk result (λ parts. parts ≡ spec.blank_rparts max bytes.now) }
 {

@@ -8,6 +8,8 @@ use std::alloc::Global;
 
 /// The bytes with each letter in lower case, as of Python's `bytes.lower` (Library reference, "Bytes
 /// and Bytearray Operations"). The letters of ASCII alone are letters.
+///
+/// Example: of `b"aB1"` it gives `b"ab1"`.
 pub fn lower(alloc: Global, bytes: &[u8]) -> Made<Vec<u8>>
     ensures { IfOk result (λ made. made.items ≡ spec.lower bytes.now) }
 {
@@ -15,6 +17,8 @@ pub fn lower(alloc: Global, bytes: &[u8]) -> Made<Vec<u8>>
 }
 
 /// The bytes with each letter in upper case, as of Python's `bytes.upper`.
+///
+/// Example: of `b"aB1"` it gives `b"AB1"`.
 pub fn upper(alloc: Global, bytes: &[u8]) -> Made<Vec<u8>>
     ensures { IfOk result (λ made. made.items ≡ spec.upper bytes.now) }
 {
@@ -32,6 +36,8 @@ fn swapped(b: u8) -> u8
 }
 
 /// The bytes with each letter in the other case, as of Python's `bytes.swapcase`.
+///
+/// Example: of `b"aB1"` it gives `b"Ab1"`.
 pub fn swapcase(alloc: Global, bytes: &[u8]) -> Made<Vec<u8>>
     ensures { IfOk result (λ made. made.items ≡ spec.swapcase bytes.now) }
 {
@@ -42,8 +48,10 @@ pub fn swapcase(alloc: Global, bytes: &[u8]) -> Made<Vec<u8>>
     Ok(made)
 }
 
-/// The bytes with the first in upper case and the rest in lower case, as of Python's
+/// The bytes with the first byte in upper case and the rest in lower case, as of Python's
 /// `bytes.capitalize`.
+///
+/// Example: of `b"aB c"` it gives `b"Ab c"`.
 pub fn capitalize(alloc: Global, bytes: &[u8]) -> Made<Vec<u8>>
     ensures { IfOk result (λ made. made.items ≡ spec.capitalize bytes.now) }
 {
@@ -64,8 +72,10 @@ fn title_byte(after_letter: bool, b: u8) -> u8
     b.to_ascii_uppercase()
 }
 
-/// The bytes with each letter that stands after no letter in upper case, and each other one in lower
-/// case, as of Python's `bytes.title`.
+/// The bytes with each letter that stands behind no other letter in upper case, and with every other
+/// letter in lower case, as of Python's `bytes.title`.
+///
+/// Example: of `b"aB c1d"` it gives `b"Ab C1D"`.
 pub fn title(alloc: Global, bytes: &[u8]) -> Made<Vec<u8>>
     ensures { IfOk result (λ made. made.items ≡ spec.title bytes.now) }
 {

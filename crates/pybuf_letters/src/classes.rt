@@ -4,6 +4,8 @@ ghost use Rattle.std.specs.Char.{is_ascii_alphabetic, is_ascii_alphanumeric, is_
 ghost use Rattle.pybuf_letters.specs.Classes as spec;
 
 /// Whether a byte is a blank: a space, or one of the five from the tab to the carriage return.
+///
+/// Example: `is_py_ascii_whitespace(b'\x0b')` is `true`, and `is_py_ascii_whitespace(b'a')` is `false`.
 pub fn is_py_ascii_whitespace(b: u8) -> bool
     ensures { result ≡ spec.is_blank b }
 {
@@ -12,6 +14,8 @@ pub fn is_py_ascii_whitespace(b: u8) -> bool
 
 /// Whether there are bytes and each is a letter or a digit of ASCII, as of Python's `bytes.isalnum`
 /// (Library reference, "Bytes and Bytearray Operations").
+///
+/// Example: `is_alnum(b"a1")` is `true`, and `is_alnum(b"")` is `false`.
 pub fn is_alnum(bytes: &[u8]) -> bool
     ensures { result ≡ spec.all_of is_ascii_alphanumeric bytes.now }
 {
@@ -22,6 +26,8 @@ pub fn is_alnum(bytes: &[u8]) -> bool
 }
 
 /// Whether there are bytes and each is a letter of ASCII, as of Python's `bytes.isalpha`.
+///
+/// Example: `is_alpha(b"aB")` is `true`, and `is_alpha(b"a1")` is `false`.
 pub fn is_alpha(bytes: &[u8]) -> bool
     ensures { result ≡ spec.all_of is_ascii_alphabetic bytes.now }
 {
@@ -32,6 +38,8 @@ pub fn is_alpha(bytes: &[u8]) -> bool
 }
 
 /// Whether there are bytes and each is a decimal digit of ASCII, as of Python's `bytes.isdigit`.
+///
+/// Example: `is_digit(b"10")` is `true`, and `is_digit(b"1.0")` is `false`.
 pub fn is_digit(bytes: &[u8]) -> bool
     ensures { result ≡ spec.all_of is_ascii_digit bytes.now }
 {
@@ -42,6 +50,8 @@ pub fn is_digit(bytes: &[u8]) -> bool
 }
 
 /// Whether there are bytes and each is a blank, as of Python's `bytes.isspace`.
+///
+/// Example: `is_space(b" \t")` is `true`, and `is_space(b"")` is `false`.
 pub fn is_space(bytes: &[u8]) -> bool
     ensures { result ≡ spec.all_of spec.is_blank bytes.now }
 {
@@ -52,6 +62,8 @@ pub fn is_space(bytes: &[u8]) -> bool
 }
 
 /// Whether some byte is in lower case and none in upper case, as of Python's `bytes.islower`.
+///
+/// Example: `is_lower(b"a1")` is `true`, and `is_lower(b"aB")` is `false`.
 pub fn is_lower(bytes: &[u8]) -> bool
     ensures { result ≡ spec.all_in_case is_ascii_lowercase is_ascii_uppercase bytes.now }
 {
@@ -66,6 +78,8 @@ pub fn is_lower(bytes: &[u8]) -> bool
 }
 
 /// Whether some byte is in upper case and none in lower case, as of Python's `bytes.isupper`.
+///
+/// Example: `is_upper(b"A1")` is `true`, and `is_upper(b"1")` is `false`.
 pub fn is_upper(bytes: &[u8]) -> bool
     ensures { result ≡ spec.all_in_case is_ascii_uppercase is_ascii_lowercase bytes.now }
 {
@@ -79,8 +93,10 @@ pub fn is_upper(bytes: &[u8]) -> bool
     found
 }
 
-/// Whether there is a letter, each letter in upper case stands after no letter, and each in lower case
-/// after a letter, as of Python's `bytes.istitle`.
+/// Whether there is a letter, each letter in upper case stands behind no other letter, and each letter
+/// in lower case stands behind a letter, as of Python's `bytes.istitle`.
+///
+/// Example: `is_title(b"Ab Cd")` is `true`, and `is_title(b"AB")` is `false`.
 pub fn is_title(bytes: &[u8]) -> bool
     ensures { result ≡ spec.is_title bytes.now }
 {

@@ -48,9 +48,11 @@ fn take_line(bytes: &[u8], keep_ends: bool) -> (&[u8], &[u8])
     (&bytes[..bare], &bytes[whole..])
 }
 
-/// The lines, as of Python's `bytes.splitlines` (Library reference, "Bytes and Bytearray Operations"):
-/// each ends with `\n`, `\r` or `\r\n`, but for the last, which may end without; the ends are kept or
-/// not. There is no empty line after the last end.
+/// The lines, as of Python's `bytes.splitlines` (Library reference, "Bytes and Bytearray Operations").
+/// Each line ends with `\n`, `\r` or `\r\n`, but the last one may end without. The ends are kept
+/// exactly where `keep_ends` is true. There is no empty line behind the last end.
+///
+/// Example: `split_lines(alloc, b"a\n\nb\r\n", false)` gives `b"a"`, `b""` and `b"b"`.
 pub fn split_lines(alloc: Global, bytes: &[u8], keep_ends: bool) -> Made<ByteLists>
     ensures { IfOk result (λ lines. lines ≡ spec.split_lines keep_ends bytes.now) }
 {

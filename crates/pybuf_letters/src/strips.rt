@@ -24,8 +24,11 @@ fn set_of(chars: Option<&[u8]>) -> &[u8]
     }
 }
 
-/// The bytes from the first on that isn't among `chars`, or isn't a blank where no `chars` are given,
-/// lent, as of Python's `bytes.lstrip` (Library reference, "Bytes and Bytearray Operations").
+/// The bytes from the first on that isn't among `chars`, or that isn't a blank where no `chars` are
+/// given, as of Python's `bytes.lstrip` (Library reference, "Bytes and Bytearray Operations"). They are
+/// lent.
+///
+/// Example: `strip_left(b" ab ", None)` is `b"ab "`.
 pub fn strip_left<'a>(bytes: &'a [u8], chars: Option<&[u8]>) -> &'a [u8]
     ensures { result.now ≡ spec.stripped_left (spec.goes (option_copied chars.entry)) bytes.now }
 {
@@ -35,8 +38,10 @@ pub fn strip_left<'a>(bytes: &'a [u8], chars: Option<&[u8]>) -> &'a [u8]
     }
 }
 
-/// The bytes up to the last that isn't among `chars`, or isn't a blank where no `chars` are given,
-/// lent, as of Python's `bytes.rstrip`.
+/// The bytes up to the last that isn't among `chars`, or that isn't a blank where no `chars` are given,
+/// as of Python's `bytes.rstrip`. They are lent.
+///
+/// Example: `strip_right(b" ab ", None)` is `b" ab"`.
 pub fn strip_right<'a>(bytes: &'a [u8], chars: Option<&[u8]>) -> &'a [u8]
     ensures { result.now ≡ spec.stripped_right (spec.goes (option_copied chars.entry)) bytes.now }
 {
@@ -46,8 +51,10 @@ pub fn strip_right<'a>(bytes: &'a [u8], chars: Option<&[u8]>) -> &'a [u8]
     }
 }
 
-/// The bytes without those at both ends that are among `chars`, or are blanks where no `chars` are
-/// given, lent, as of Python's `bytes.strip`.
+/// The bytes without those at both ends that are among `chars`, or that are blanks where no `chars` are
+/// given, as of Python's `bytes.strip`. They are lent.
+///
+/// Example: `strip(b"xaby", Some(b"yx"))` is `b"ab"`.
 pub fn strip<'a>(bytes: &'a [u8], chars: Option<&[u8]>) -> &'a [u8]
     ensures { result.now ≡ spec.stripped (spec.goes (option_copied chars.entry)) bytes.now }
 {

@@ -19,6 +19,8 @@ use std::ops::Range;
 
 /// What bytes are to begin or to end with, and the bounds between which they are looked at. An affix
 /// is a value that is read as bytes, or a tuple of such values.
+///
+/// Example: the affix `b"py"` with the start 2 asks of `b"a.py"` whether `b"py"` begins with it.
 #[derive(Debug, Drop)]
 pub struct StartsEndsWithArgs {
     pub affix: Value,
@@ -29,6 +31,8 @@ pub struct StartsEndsWithArgs {
 impl StartsEndsWithArgs {
     /// The affix, and the range of the bounds in bytes of a length; no range exactly where neither
     /// bound is there.
+    ///
+    /// Example: with the start -2 and no end, of 5 bytes, the range is `Some(3..5)`.
     pub fn get_value(&self, len: usize) -> (&Value, Option<Range<usize>>)
         ensures affix { result.0.now ≡ self.now.affix }
         ensures range { result.1 ≡ range_if_any self.now.start self.now.end len }
@@ -41,6 +45,8 @@ impl StartsEndsWithArgs {
 
     /// The affix, and the bytes between the bounds. `None` exactly where a bound is there and the
     /// range's start passes its end.
+    ///
+    /// Example: with the start 2 and no end, of `b"a.py"`, the bytes are `b"py"`; with the start 3 and the end 2, `None`.
     pub fn prepare<'a>(&'a self, bytes: &'a [u8]) -> Option<(&'a Value, &'a [u8])>
         ensures { MatchOption result (between_bounds self.now.start self.now.end bytes.now ≡ None) (λ pair. (pair.0.now ≡ self.now.affix) × (between_bounds self.now.start self.now.end bytes.now ≡ Some pair.1.now)) }
     {
@@ -56,6 +62,8 @@ impl StartsEndsWithArgs {
 ///
 /// Refused with `UnknownName` where the lender hasn't the handle, with `ValueError` where it names a
 /// released view, and with `TypeError` for an iterator and for every other value.
+///
+/// Example: `bytes_lent` of the bytes value `b"ab"` is `Ok(b"ab")`, and of the number 5 it is `Err(Fault::Kind)`.
 pub fn bytes_lent<'a, L: Lender>(value: &'a Scalar, lender: &'a L) -> Result<&'a [u8], Fault>
     ensures { MatchResult result (λ bytes. bytes_in (L.pairs lender.now) (values.One value.now) ≡ Ok bytes.now) (λ fault. bytes_in (L.pairs lender.now) (values.One value.now) ≡ Err fault) }
 {
@@ -120,6 +128,8 @@ fn single_or_any_of<L: Lender, F: Fn(&[u8]) -> bool>(
 /// Nothing but a list is copied.
 ///
 /// Refused as `bytes_from_object` refuses the value, or the first part that is refused.
+///
+/// Example: of the tuple `(b"x", b"ab")` and the test whether `b"abc"` begins with the bytes, it is true.
 pub fn single_or_tuple_any<L: Lender, F: Fn(&[u8]) -> bool>(
     alloc: Global,
     value: &Value,
@@ -138,6 +148,8 @@ pub fn single_or_tuple_any<L: Lender, F: Fn(&[u8]) -> bool>(
 /// False where the start passes the end, whatever the affix is.
 ///
 /// Refused as `single_or_tuple_any` refuses.
+///
+/// Example: of `b"a.py"` with the affix `(b"b", b"a")` it is true, and with the start 5 and the affix `b""` it is false.
 pub fn startswith<L: Lender>(
     alloc: Global,
     bytes: &[u8],
@@ -164,6 +176,8 @@ pub fn startswith<L: Lender>(
 /// where the start passes the end, whatever the affix is.
 ///
 /// Refused as `single_or_tuple_any` refuses.
+///
+/// Example: of `b"a.py"` with the affix `(b".rs", b".py")` it is true, and with the end 3 it is false.
 pub fn endswith<L: Lender>(
     alloc: Global,
     bytes: &[u8],

@@ -23,6 +23,8 @@ fn place_of(part: i128, len: usize) -> usize
 /// length, each bound is clamped to `isize`, a negative one counts from the end and is 0 where it
 /// lies before the front, and an end past the length is the length. The start isn't lowered, so that
 /// it can lie past the end.
+///
+/// Example: `adjust_indices(Some(-2), None, 5)` is `3..5`, and `adjust_indices(Some(9), Some(9), 5)` is `9..5`.
 pub fn adjust_indices(start: Option<i128>, end: Option<i128>, len: usize) -> Range<usize>
     ensures { result ≡ spec.adjusted start end len }
 {
@@ -38,11 +40,15 @@ pub fn adjust_indices(start: Option<i128>, end: Option<i128>, len: usize) -> Ran
 }
 
 /// A range of bytes.
+///
+/// Example: of the ranges `3..5` and `9..5` it tells the first as one with its start at most its end.
 pub trait StringRange {
     // Whether the start is at most the end.
     ghost is_ordered: { Self → Bool };
 
     /// Whether the start is at most the end.
+    ///
+    /// Example: `(3..5).is_normal()` is `true`, and `(9..5).is_normal()` is `false`.
     fn is_normal(&self) -> bool
         ensures { result ≡ is_ordered self.now };
 }
@@ -57,6 +63,8 @@ impl StringRange for Range<usize> {
 
 /// The bytes between two bounds: all of them where neither is there, and none where the start passes the
 /// end. They are lent.
+///
+/// Example: `between(b"abcde", Some(-2), None)` is `Some(b"de")`, and `between(b"abcde", Some(9), None)` is `None`.
 pub fn between(bytes: &[u8], start: Option<i128>, end: Option<i128>) -> Option<&[u8]>
     ensures { option_copied result ≡ spec.between_bounds start end bytes.now }
 {

@@ -26,6 +26,8 @@ fn fitted_length(length: u128) -> Option<usize>
 /// The bytes of both, one after the other (Library reference, "Common Sequence Operations", `s + t`).
 ///
 /// Refused with `OverflowError` exactly where they are more than `isize::MAX`.
+///
+/// Example: `added(alloc, b"ab", b"cd")` gives `b"abcd"`.
 pub fn added(alloc: Global, front: &[u8], back: &[u8]) -> Tried<Vec<u8>>
     ensures { IfOk result (λ outcome. items_of outcome ≡ outcome_of (fitted (front.now ++ back.now))) }
 {
@@ -65,13 +67,20 @@ fn push_further<T: AnyStrWrapper>(whole: &mut Vec<u8>, separator: &[u8], parts: 
 /// Operations", `bytes.join`).
 ///
 /// Refused with `OverflowError` exactly where that is more than `isize::MAX` bytes.
+///
+/// Example: of the separator `b", "` and the parts `b"a"` and `b"b"` it gives `b"a, b"`; of no parts it gives no bytes.
 pub fn joined(alloc: Global, separator: &[u8], parts: &[ByteList]) -> Tried<Vec<u8>>
     ensures { IfOk result (λ outcome. items_of outcome ≡ outcome_of (fitted (owned.joined separator.now parts.now))) }
 {
     joined_parts(alloc, separator, parts)
 }
 
-/// The same of parts of any kind that bytes can be read from. Nothing is copied but into the answer.
+/// The parts, with the separator between each two, where the parts are of any kind that bytes can be
+/// read from. Nothing is copied but into the answer.
+///
+/// Refused with `OverflowError` exactly where that is more than `isize::MAX` bytes.
+///
+/// Example: of the separator `b"-"` and the parts `b"a"`, `b""` and `b"b"` it gives `b"a--b"`.
 pub fn joined_parts<T: AnyStrWrapper>(
     alloc: Global,
     separator: &[u8],
@@ -120,6 +129,8 @@ fn times_over(alloc: Global, bytes: &[u8], times: usize) -> Made<Vec<u8>>
 /// Sequence Operations", `s * n`).
 ///
 /// Refused with `OverflowError` exactly where that is more than `isize::MAX` bytes.
+///
+/// Example: `repeated(alloc, b"ab", 3)` gives `b"ababab"`, and `repeated(alloc, b"ab", -1)` gives no bytes.
 #[tactic(auto, using(crate::proofs::RepeatLemmas::fitted_repeated))]
 pub fn repeated(alloc: Global, bytes: &[u8], n: isize) -> Tried<Vec<u8>>
     ensures { IfOk result (λ outcome. items_of outcome ≡ outcome_of (fitted (text.repeated (times n) bytes.now))) }

@@ -19,6 +19,8 @@ fn parts_allowed(most: isize) -> usize
 /// What stands between the matches of a separator from the left, in order; `most` is the greatest
 /// number of cuts, and a negative one is no bound. No bytes are one empty part (Library reference,
 /// "Bytes and Bytearray Operations", `bytes.split`).
+///
+/// Example: `split(alloc, b"a,b,c", b",", 1)` gives `b"a"` and `b"b,c"`.
 pub fn split(alloc: Global, bytes: &[u8], separator: &[u8], most: isize) -> Made<ByteLists>
     ensures { IfOk result (λ parts. parts ≡ spec.split_parts most separator.now bytes.now) }
 {
@@ -30,8 +32,11 @@ pub fn split(alloc: Global, bytes: &[u8], separator: &[u8], most: isize) -> Made
     Ok(ByteLists::from_vec(lists))
 }
 
-/// The same with cuts at the matches from the right; the parts are in order (Library reference,
-/// "Bytes and Bytearray Operations", `bytes.rsplit`).
+/// What stands between the matches of a separator from the right, in the order of the bytes; `most` is
+/// the greatest number of cuts, and a negative one is no bound. No bytes are one empty part (Library
+/// reference, "Bytes and Bytearray Operations", `bytes.rsplit`).
+///
+/// Example: `rsplit(alloc, b"a,b,c", b",", 1)` gives `b"a,b"` and `b"c"`.
 pub fn rsplit(alloc: Global, bytes: &[u8], separator: &[u8], most: isize) -> Made<ByteLists>
     ensures { IfOk result (λ parts. parts ≡ spec.rsplit_parts most separator.now bytes.now) }
 {
@@ -47,6 +52,8 @@ pub fn rsplit(alloc: Global, bytes: &[u8], separator: &[u8], most: isize) -> Mad
 /// What stands before the first match of a separator, whether there is one, and what stands behind
 /// it; without a match all the bytes are the front (Library reference, "Bytes and Bytearray
 /// Operations", `bytes.partition`). The parts are lent.
+///
+/// Example: `partition(b"a=b=c", b"=")` is `(b"a", true, b"b=c")`.
 pub fn partition<'a>(bytes: &'a [u8], separator: &[u8]) -> (&'a [u8], bool, &'a [u8])
     ensures front { result.0.now ≡ (spec.partition_of separator.now bytes.now).0 }
     ensures found { result.1 ≡ (spec.partition_of separator.now bytes.now).1 }
@@ -61,6 +68,8 @@ pub fn partition<'a>(bytes: &'a [u8], separator: &[u8]) -> (&'a [u8], bool, &'a 
 /// What stands behind the last match of a separator, whether there is one, and what stands before it;
 /// without a match all the bytes are the back (Library reference, "Bytes and Bytearray Operations",
 /// `bytes.rpartition`). The parts are lent.
+///
+/// Example: `rpartition(b"a=b=c", b"=")` is `(b"c", true, b"a=b")`.
 pub fn rpartition<'a>(bytes: &'a [u8], separator: &[u8]) -> (&'a [u8], bool, &'a [u8])
     ensures back { result.0.now ≡ (spec.rpartition_of separator.now bytes.now).0 }
     ensures found { result.1 ≡ (spec.rpartition_of separator.now bytes.now).1 }

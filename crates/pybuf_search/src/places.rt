@@ -18,6 +18,8 @@ fn whole_place(bytes: &[u8], needle: &[u8]) -> Option<usize>
 /// The first place at which the needle stands, from 0 to the length: an empty needle stands at 0.
 /// `None` exactly where it stands nowhere (Library reference, "Bytes and Bytearray Operations",
 /// `bytes.find`).
+///
+/// Example: `first_place(b"abcabc", b"bc")` is `Some(1)`.
 pub fn first_place(bytes: &[u8], needle: &[u8]) -> Option<usize>
     ensures value { result ≡ spec.first_place bytes.now needle.now }
     ensures inside { IfSome result (λ place. place + length needle.now ≤ length bytes.now) }
@@ -31,6 +33,8 @@ pub fn first_place(bytes: &[u8], needle: &[u8]) -> Option<usize>
 /// The last place at which the needle stands, from 0 to the length: an empty needle stands at the
 /// length. `None` exactly where it stands nowhere (Library reference, "Bytes and Bytearray
 /// Operations", `bytes.rfind`).
+///
+/// Example: `last_place(b"abcabc", b"bc")` is `Some(4)`.
 pub fn last_place(bytes: &[u8], needle: &[u8]) -> Option<usize>
     ensures value { result ≡ spec.last_place bytes.now needle.now }
     ensures inside { IfSome result (λ place. place + length needle.now ≤ length bytes.now) }
@@ -40,6 +44,8 @@ pub fn last_place(bytes: &[u8], needle: &[u8]) -> Option<usize>
 
 /// Whether the needle stands anywhere, as Python's `in` asks (Library reference, "Common Sequence
 /// Operations").
+///
+/// Example: `holds_needle(b"abc", b"bc")` is `true`, and `holds_needle(b"abc", b"ac")` is `false`.
 pub fn holds_needle(bytes: &[u8], needle: &[u8]) -> bool
     ensures { result ≡ spec.holds_needle bytes.now needle.now }
 {
@@ -49,6 +55,8 @@ pub fn holds_needle(bytes: &[u8], needle: &[u8]) -> bool
 /// The number of matches from the left, of which no two overlap; an empty needle stands once before
 /// each byte and once at the end (Library reference, "Bytes and Bytearray Operations",
 /// `bytes.count`).
+///
+/// Example: `number_of_matches(b"aaaa", b"aa")` is 2, and `number_of_matches(b"ab", b"")` is 3.
 #[tactic(auto, using(crate::proofs::OneByte::counted_by_byte))]
 pub fn number_of_matches(bytes: &[u8], needle: &[u8]) -> usize
     ensures { result ≡ spec.number_of_matches bytes.now needle.now }

@@ -11,6 +11,8 @@ use std::ops::Range;
 
 /// The place that a search finds in a range of the bytes, counted from their front; none where the
 /// range's start passes its end. The search is handed the bytes of the range, and the needle.
+///
+/// Example: of `b"abcabc"`, the needle `b"bc"`, the range `2..6` and the search `first_place` it is `Some(4)`.
 pub fn place_in_range<F: Fn(&[u8], &[u8]) -> Option<usize>>(
     bytes: &[u8],
     needle: &[u8],
@@ -35,6 +37,8 @@ pub fn place_in_range<F: Fn(&[u8], &[u8]) -> Option<usize>>(
 
 /// The first place of the needle in a range of the bytes, counted from their front; none where the
 /// range's start passes its end.
+///
+/// Example: `first_place_in_range(b"abcabc", b"bc", 2..6)` is `Some(4)`.
 pub fn first_place_in_range(bytes: &[u8], needle: &[u8], range: Range<usize>) -> Option<usize>
     requires { range.end ≤ length bytes.now }
     ensures { result ≡ spec.place_in_range places.first_place bytes.now needle.now range }
@@ -44,6 +48,8 @@ pub fn first_place_in_range(bytes: &[u8], needle: &[u8], range: Range<usize>) ->
 
 /// The last place of the needle in a range of the bytes, counted from their front; none where the
 /// range's start passes its end.
+///
+/// Example: `last_place_in_range(b"abcabc", b"bc", 0..5)` is `Some(1)`.
 pub fn last_place_in_range(bytes: &[u8], needle: &[u8], range: Range<usize>) -> Option<usize>
     requires { range.end ≤ length bytes.now }
     ensures { result ≡ spec.place_in_range places.last_place bytes.now needle.now range }
@@ -53,6 +59,8 @@ pub fn last_place_in_range(bytes: &[u8], needle: &[u8], range: Range<usize>) -> 
 
 /// The number of matches of the needle in a range of the bytes, of which no two overlap; none where
 /// the range's start passes its end.
+///
+/// Example: `number_in_range(b"abcabc", b"bc", 2..6)` is 1.
 pub fn number_in_range(bytes: &[u8], needle: &[u8], range: Range<usize>) -> usize
     requires { range.end ≤ length bytes.now }
     ensures { result ≡ spec.number_in_range bytes.now needle.now range }

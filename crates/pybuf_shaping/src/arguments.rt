@@ -17,6 +17,8 @@ use pybuf_value::{
 use std::alloc::Global;
 
 /// How many spaces there are from one tab to the next, as an argument of Python's `bytes.expandtabs`.
+///
+/// Example: the size 4 makes `b"a   b"` of `b"a\tb"`.
 #[derive(Clone, Copy, Debug)]
 pub struct ExpandTabsArgs {
     pub tabsize: isize,
@@ -24,6 +26,8 @@ pub struct ExpandTabsArgs {
 
 impl ExpandTabsArgs {
     /// The size of a tab: 0 for a negative number.
+    ///
+    /// Example: for the number 8 it is 8, and for -1 it is 0.
     pub fn tabsize(&self) -> usize
         ensures value { result ≡ tabs.tab_size self.now.tabsize }
         ensures small { result < 2 ^ 63 }
@@ -32,8 +36,11 @@ impl ExpandTabsArgs {
     }
 }
 
-/// The width to which bytes are filled up, and what with, as arguments of Python's `bytes.center`,
-/// `bytes.ljust` and `bytes.rjust`. Without a fill byte it is a space.
+/// The width to which bytes are filled up, and the byte that they are filled up with, as arguments of
+/// Python's `bytes.center`, `bytes.ljust` and `bytes.rjust`. Without a fill byte they are filled up
+/// with spaces.
+///
+/// Example: the width 5 and the fill byte `b"*"` make `b"ab***"` of `b"ab"` on the left.
 #[derive(Debug, Drop)]
 pub struct ByteInnerPaddingOptions {
     pub width: isize,
@@ -55,11 +62,13 @@ fn fill_in<L: Lender>(value: &Value, lender: &L) -> Result<u8, Fault>
     }
 }
 
-/// The fill byte that an argument is: that of a bytes value, or of an exporter of kind bytes or bytearray,
-/// of one byte; a space where none is given.
+/// The fill byte that an argument is: the one byte of a bytes value, or of an exporter of kind bytes or
+/// bytearray; it is a space where none is given.
 ///
 /// Refused with `UnknownName` where the lender hasn't the handle, and with `TypeError` for every other
 /// value.
+///
+/// Example: of the bytes value `b"*"` it is `Ok(b'*')`, and of `b"**"` it is `Err(Fault::Kind)`.
 pub fn fill_of<L: Lender>(value: Option<&Value>, lender: &L) -> Result<u8, Fault>
     ensures { result ≡ spec.fill_of (L.pairs lender.now) (option_copied value.entry) }
 {
@@ -71,6 +80,8 @@ pub fn fill_of<L: Lender>(value: Option<&Value>, lender: &L) -> Result<u8, Fault
 
 impl ByteInnerPaddingOptions {
     /// The fill byte, as `fill_of` gives and refuses it.
+    ///
+    /// Example: where no fill byte is given it is `Ok(b' ')`.
     pub fn fill<L: Lender>(&self, lender: &L) -> Result<u8, Fault>
         ensures { result ≡ spec.fill_of (L.pairs lender.now) self.now.fillchar }
     {
@@ -81,6 +92,8 @@ impl ByteInnerPaddingOptions {
 /// The bytes in the middle of a width, as `center` puts them, by the options.
 ///
 /// Refused as `ByteInnerPaddingOptions::fill` is.
+///
+/// Example: with the width 6 and the fill byte `b"*"` it makes `b"*abc**"` of `b"abc"`.
 pub fn center_with<L: Lender>(
     alloc: Global,
     bytes: &[u8],
@@ -98,6 +111,8 @@ pub fn center_with<L: Lender>(
 /// The bytes on the left of a width, as `justify_left` puts them, by the options.
 ///
 /// Refused as `ByteInnerPaddingOptions::fill` is.
+///
+/// Example: with the width 4 and no fill byte it makes `b"ab  "` of `b"ab"`.
 pub fn justify_left_with<L: Lender>(
     alloc: Global,
     bytes: &[u8],
@@ -115,6 +130,8 @@ pub fn justify_left_with<L: Lender>(
 /// The bytes on the right of a width, as `justify_right` puts them, by the options.
 ///
 /// Refused as `ByteInnerPaddingOptions::fill` is.
+///
+/// Example: with the width 4 and no fill byte it makes `b"  ab"` of `b"ab"`.
 pub fn justify_right_with<L: Lender>(
     alloc: Global,
     bytes: &[u8],
@@ -132,6 +149,8 @@ pub fn justify_right_with<L: Lender>(
 /// The table by which bytes are mapped, and the bytes that are dropped before, as arguments of Python's
 /// `bytes.translate`. Without a table, or where it is Python's `None`, each byte stays; without bytes to
 /// be dropped, none is.
+///
+/// Example: without a table and with `b"b"` to be dropped, `translate` makes `b"ac"` of `b"abc"`.
 #[derive(Debug, Drop)]
 pub struct ByteInnerTranslateOptions {
     pub table: Option<Value>,
@@ -215,6 +234,8 @@ impl ByteInnerTranslateOptions {
     /// Refused with `UnknownName` where the lender hasn't a handle. A table that is no bytes, or not 256
     /// of them, is refused with `ValueError`, and then what is no bytes to be dropped as
     /// `bytes_from_object` refuses it.
+    ///
+    /// Example: without a table and with `b"b"` to be dropped it gives the bytes from 0 to 255, and `b"b"`.
     pub fn get_value<L: Lender>(&self, alloc: Global, lender: &L) -> Tried<(Vec<u8>, Vec<u8>)>
         ensures { IfOk result (λ outcome. spec.pair_answered outcome ≡ outcome_of (spec.tables_of (L.pairs lender.now) self.now.table self.now.delete)) }
     {
@@ -246,6 +267,8 @@ fn translation<L: Lender>(
 /// Python's `None`, each byte stays; without bytes to be dropped, none is.
 ///
 /// Refused as `ByteInnerTranslateOptions::get_value` is.
+///
+/// Example: of `b"abc"`, without a table and with `b"b"` to be dropped, it gives `b"ac"`.
 pub fn translate_by<L: Lender>(
     alloc: Global,
     bytes: &[u8],

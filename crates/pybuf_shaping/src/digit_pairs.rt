@@ -83,6 +83,8 @@ fn read_pairs(alloc: Global, text: &[u8]) -> Result<ByteList, Halt>
 /// of ASCII between pairs are skipped (Python's library reference, "Bytes Objects", `bytes.fromhex`).
 ///
 /// Refused with `ValueError` exactly for every other text.
+///
+/// Example: of `b"01 aB"` it gives `b"\x01\xab"`, and of `b"1"` it is refused with `ValueError`.
 pub fn bytes_of_hex(alloc: Global, text: &[u8]) -> Tried<ByteList>
     ensures { IfOk result (λ outcome. outcome ≡ outcome_of (spec.bytes_of_hex text.now)) }
 {

@@ -142,6 +142,8 @@ fn text_of(alloc: Global, separator: Option<&[u8]>, size: isize, bytes: &[u8]) -
 /// Refused, where there are bytes, a separator and a size other than 0, with `ValueError` exactly for a
 /// separator that isn't one byte below 128, and then with `OverflowError` exactly where the text is more
 /// than `isize::MAX` bytes.
+///
+/// Example: `hex_text(alloc, b"\x01\xab\xff", Some(b":"), 2)` gives the text `01:abff`, and for -2 the text `01ab:ff`.
 pub fn hex_text(alloc: Global, bytes: &[u8], separator: Option<&[u8]>, size: isize) -> Tried<Text>
     ensures { IfOk result (λ outcome. outcome ≡ outcome_of (spec.hex_text (option_copied separator.entry) size bytes.now)) }
 {

@@ -17,6 +17,8 @@ fn missing(width: isize, bytes: &[u8]) -> usize
 }
 
 /// The bytes between so many fill bytes on the left and on the right, in room that is taken once.
+///
+/// Example: `pad(alloc, b"ab", 1, 2, b'*')` gives `b"*ab**"`.
 pub fn pad(alloc: Global, bytes: &[u8], left: usize, right: usize, fill: u8) -> Made<ByteList>
     requires { left + length bytes.now + right < 2 ^ 63 }
     ensures { IfOk result (λ list. list ≡ spec.padded left right fill bytes.now) }
@@ -45,6 +47,8 @@ fn left_share(width: isize, count: usize) -> usize
 /// The bytes in the middle of a width, filled up on both sides; the bytes where they are long enough. Of
 /// an odd number of missing bytes one more stands on the left where the width is odd too, and else on
 /// the right (Python's library reference, "Bytes and Bytearray Operations", `bytes.center`).
+///
+/// Example: `center(alloc, b"ab", 5, b'*')` gives `b"**ab*"`, and `center(alloc, b"abc", 6, b'*')` gives `b"*abc**"`.
 pub fn center(alloc: Global, bytes: &[u8], width: isize, fill: u8) -> Made<ByteList>
     ensures { IfOk result (λ list. list ≡ spec.centered width fill bytes.now) }
 {
@@ -55,6 +59,8 @@ pub fn center(alloc: Global, bytes: &[u8], width: isize, fill: u8) -> Made<ByteL
 
 /// The bytes on the left of a width, filled up on the right; the bytes where they are long enough
 /// (library reference, "Bytes and Bytearray Operations", `bytes.ljust`).
+///
+/// Example: `justify_left(alloc, b"ab", 4, b'*')` gives `b"ab**"`.
 pub fn justify_left(alloc: Global, bytes: &[u8], width: isize, fill: u8) -> Made<ByteList>
     ensures { IfOk result (λ list. list ≡ spec.justified_left width fill bytes.now) }
 {
@@ -63,6 +69,8 @@ pub fn justify_left(alloc: Global, bytes: &[u8], width: isize, fill: u8) -> Made
 
 /// The bytes on the right of a width, filled up on the left; the bytes where they are long enough
 /// (library reference, "Bytes and Bytearray Operations", `bytes.rjust`).
+///
+/// Example: `justify_right(alloc, b"ab", 4, b'*')` gives `b"**ab"`.
 pub fn justify_right(alloc: Global, bytes: &[u8], width: isize, fill: u8) -> Made<ByteList>
     ensures { IfOk result (λ list. list ≡ spec.justified_right width fill bytes.now) }
 {
@@ -83,6 +91,8 @@ fn sign_length(bytes: &[u8]) -> usize
 
 /// The bytes with digits `0` before them up to a width, behind one sign that they begin with; the bytes
 /// where they are long enough (library reference, "Bytes and Bytearray Operations", `bytes.zfill`).
+///
+/// Example: `zero_fill(alloc, b"-5", 4)` gives `b"-005"`.
 pub fn zero_fill(alloc: Global, bytes: &[u8], width: isize) -> Made<ByteList>
     ensures { IfOk result (λ list. list ≡ spec.zero_filled width bytes.now) }
 {

@@ -126,14 +126,19 @@ fn replacement(
 /// "Bytes and Bytearray Operations", `bytes.replace`). Each match is found once, and room is taken once.
 ///
 /// Refused with `OverflowError` exactly where that is more than `isize::MAX` bytes.
+///
+/// Example: `replace(alloc, b"aaa", b"a", b"xy", 2)` gives `b"xyxya"`; with `b""` and `b"-"`, `b"ab"` becomes `b"-a-b-"`.
 pub fn replace(alloc: Global, bytes: &[u8], old: &[u8], new: &[u8], most: isize) -> Tried<ByteList>
     ensures { IfOk result (λ outcome. outcome ≡ outcome_of (spec.replacement most old.now new.now bytes.now)) }
 {
     tried(replacement(alloc, bytes, old, new, most))
 }
 
-/// The same of bytes that are as long as the needle, so that each keeps its place: in place of the first
-/// `most` matches, and of all where no number is given. No refusal.
+/// The bytes with others in place of the first `most` matches of a needle from the left, and of all
+/// where no number is given. Both are of one length, so that each byte keeps its place. Nothing is
+/// refused.
+///
+/// Example: `replace_in_place(alloc, b"aaa", b"a", b"x", Some(2))` gives `b"xxa"`.
 pub fn replace_in_place(
     alloc: Global,
     bytes: &[u8],

@@ -7,6 +7,8 @@ use pybuf_value::{ByteList, Fault, Halt, Made, Tried, tried};
 use std::alloc::Global;
 
 /// The table that maps each byte to itself: the bytes from 0 to 255.
+///
+/// Example: its byte at 97 is 97.
 pub fn identity_table(alloc: Global) -> Made<ByteList>
     ensures value { IfOk result (λ table. table ≡ spec.all_bytes) }
     ensures full { IfOk result (λ table. length table ≡ 256) }
@@ -49,6 +51,8 @@ fn table_of(alloc: Global, from: &[u8], to: &[u8]) -> Result<ByteList, Halt>
 /// reference, "Bytes and Bytearray Operations", `bytes.maketrans`).
 ///
 /// Refused with `ValueError` exactly where the lengths differ.
+///
+/// Example: the bytes at 97, 98 and 99 of the table of `b"ab"` and `b"xy"` are `b"xyc"`.
 pub fn make_table(alloc: Global, from: &[u8], to: &[u8]) -> Tried<ByteList>
     ensures { IfOk result (λ outcome. outcome ≡ outcome_of (spec.table_of from.now to.now)) }
 {
@@ -104,6 +108,8 @@ fn mapped_without(alloc: Global, bytes: &[u8], table: &[u8], dropped: &[u8]) -> 
 
 /// The bytes without those to be dropped, each other mapped by its entry of a table of 256 bytes
 /// (Python's library reference, "Bytes and Bytearray Operations", `bytes.translate`).
+///
+/// Example: with the bytes from 0 to 255 as the table, and `b"b"` to be dropped, it makes `b"ac"` of `b"abc"`.
 pub fn translate(alloc: Global, bytes: &[u8], table: &[u8], dropped: &[u8]) -> Made<ByteList>
     requires { length table.now ≡ 256 }
     ensures { IfOk result (λ list. list ≡ spec.translated table.now dropped.now bytes.now) }

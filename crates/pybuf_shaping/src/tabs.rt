@@ -7,6 +7,8 @@ use pybuf_value::{ByteList, Fault, Halt, Made, Tried, tried};
 use std::alloc::Global;
 
 /// The size of a tab, as the number of spaces from one to the next: a number of 0 or less drops tabs.
+///
+/// Example: `tab_size(8)` is 8, and `tab_size(-1)` is 0.
 pub fn tab_size(number: isize) -> usize
     ensures value { result ≡ spec.tab_size number }
     ensures small { result < 2 ^ 63 }
@@ -99,6 +101,8 @@ fn with_spaces(alloc: Global, size: usize, bytes: &[u8]) -> Result<ByteList, Hal
 /// `isize::MAX`.
 ///
 /// Refused with `OverflowError` exactly where that is more than `isize::MAX` bytes.
+///
+/// Example: `expand_tabs(alloc, b"a\tb", 4)` gives `b"a   b"`, and `expand_tabs(alloc, b"a\tb", 0)` gives `b"ab"`.
 pub fn expand_tabs(alloc: Global, bytes: &[u8], size: usize) -> Tried<ByteList>
     requires { size < 2 ^ 63 }
     ensures { IfOk result (λ outcome. outcome ≡ outcome_of (spec.expanded size bytes.now)) }

@@ -18,18 +18,26 @@ use std::ops::Range;
 /// A sequence whose elements are set, deleted and replaced by numbers, ranges and slices. Elements
 /// that stay are the very same, and elements that come from a slice are copies. After a refusal, or
 /// where memory runs out, the sequence is as before.
+///
+/// Example: the vector 1, 2, 3 becomes 1, 9, 3 where 9 is set at the number -2.
 pub trait SliceableSequenceMutOp: SliceableSequenceOp {
     /// Puts a value in the place of an element.
+    ///
+    /// Example: with the index 1 and the value 9 the elements 1, 2, 3 become 1, 9, 3.
     fn do_set(&mut self, index: usize, value: Self::Item)
         requires { index < length (Self.elements self.old) }
         ensures { Self.elements self.new ≡ slice_set (Self.elements self.old) index value };
 
     /// Takes the element at a place out.
+    ///
+    /// Example: with the index 1 the elements 1, 2, 3 become 1, 3.
     fn do_delete(&mut self, index: usize)
         requires { index < length (Self.elements self.old) }
         ensures { Self.elements self.new ≡ elements_off (Self.elements self.old) (index ∷ []) };
 
     /// Puts copies of the items in place of the elements of a range.
+    ///
+    /// Example: with the range `1..3` and the items 8, 9, 10 the elements 1, 2, 3, 4 become 1, 8, 9, 10, 4.
     fn do_set_range(&mut self, alloc: Global, range: Range<usize>, items: &[Self::Item]) -> Made<()>
         requires ordered { range.start ≤ range.end }
         requires inside { range.end ≤ length (Self.elements self.old) }
@@ -37,12 +45,16 @@ pub trait SliceableSequenceMutOp: SliceableSequenceOp {
         ensures err { OnErr result (Self.elements self.new ≡ Self.elements self.old) };
 
     /// Takes the elements of a range out.
+    ///
+    /// Example: with the range `1..3` the elements 1, 2, 3, 4 become 1, 4.
     fn do_delete_range(&mut self, range: Range<usize>)
         requires ordered { range.start ≤ range.end }
         requires inside { range.end ≤ length (Self.elements self.old) }
         ensures { Self.elements self.new ≡ replaced_range (Self.elements self.old) range.start range.end [] };
 
     /// Puts copies of the items at as many indices.
+    ///
+    /// Example: with the indices 2 and 0 and the items 8 and 9 the elements 1, 2, 3 become 9, 2, 8.
     fn do_set_indexes(
         &mut self,
         alloc: Global,
@@ -55,6 +67,8 @@ pub trait SliceableSequenceMutOp: SliceableSequenceOp {
         ensures err { OnErr result (Self.elements self.new ≡ Self.elements self.old) };
 
     /// Takes the elements at rising indices of a range out.
+    ///
+    /// Example: with the range `0..3` and the indices 0 and 2 the elements 1, 2, 3, 4 become 2, 4.
     fn do_delete_indexes(&mut self, range: Range<usize>, indexes: SaturatedSliceIter)
         requires ordered { range.start ≤ range.end }
         requires inside { range.end ≤ length (Self.elements self.old) }
@@ -64,6 +78,8 @@ pub trait SliceableSequenceMutOp: SliceableSequenceOp {
 
     /// Puts a value in the place of the element that a number names. Refused with `IndexError`
     /// exactly where there is none.
+    ///
+    /// Example: with the number -1 and the value 9 the elements 1, 2, 3 become 1, 2, 9; the number 3 is refused.
     fn setitem_by_index(&mut self, index: isize, value: Self::Item) -> Result<(), Fault>
         requires { length (Self.elements self.old) < 2 ^ 63 }
         ensures answer { result ≡ named_or_index_error (item_place (length (Self.elements self.old)) index) }
@@ -71,6 +87,8 @@ pub trait SliceableSequenceMutOp: SliceableSequenceOp {
 
     /// Takes the element that a number names out. Refused with `IndexError` exactly where there is
     /// none.
+    ///
+    /// Example: with the number -1 the elements 1, 2, 3 become 1, 2; the number 3 is refused.
     fn delitem_by_index(&mut self, index: isize) -> Result<(), Fault>
         requires { length (Self.elements self.old) < 2 ^ 63 }
         ensures answer { result ≡ named_or_index_error (item_place (length (Self.elements self.old)) index) }
@@ -81,6 +99,8 @@ pub trait SliceableSequenceMutOp: SliceableSequenceOp {
     ///
     /// Refused with `ValueError` exactly where the step isn't 1 and there are not as many items as
     /// indices.
+    ///
+    /// Example: with the slice `1:2` and the items 8, 9 the elements 1, 2, 3 become 1, 8, 9, 3.
     fn setitem_by_slice(
         &mut self,
         alloc: Global,
@@ -94,6 +114,8 @@ pub trait SliceableSequenceMutOp: SliceableSequenceOp {
 
     /// Puts copies of the items in place of as many elements of a slice. Refused with `BufferError`
     /// exactly where there are not as many items as indices.
+    ///
+    /// Example: with the slice `::2` and the items 8, 9 the elements 1, 2, 3 become 8, 2, 9; one item is refused.
     fn setitem_by_slice_no_resize(
         &mut self,
         alloc: Global,
@@ -106,6 +128,8 @@ pub trait SliceableSequenceMutOp: SliceableSequenceOp {
         ensures memory { OnErr result (Self.elements self.new ≡ Self.elements self.old) };
 
     /// Takes the elements at the indices of a slice out. Takes no memory.
+    ///
+    /// Example: with the slice `::2` the elements 1, 2, 3 become 2.
     fn delitem_by_slice(&mut self, slice: SaturatedSlice)
         requires { length (Self.elements self.old) < 2 ^ 63 }
         ensures { Self.elements self.new ≡ elements_off (Self.elements self.old) (picks_of (length (Self.elements self.old)) slice) };
@@ -167,12 +191,16 @@ impl<T: Twin> SliceableSequenceMutOp for Vec<T> {
     }
 }
 
-/// A sequence that is repeated.
+/// A sequence of which repeated copies can be made.
+///
+/// Example: the vector 1, 2 three times is 1, 2, 1, 2, 1, 2.
 pub trait SequenceExt: SliceableSequenceOp {
     /// Copies of the elements, `n` times one after another, none where `n` is negative.
     ///
     /// Refused with `OverflowError` exactly where the length times `n` passes `isize::MAX`; memory is
     /// taken only where it doesn't.
+    ///
+    /// Example: with 2 the elements 1, 2 give 1, 2, 1, 2, and with -1 they give none.
     fn mul(&self, alloc: Global, n: isize) -> Tried<Vec<Self::Item>>
         requires { length (Self.elements self.now) < 2 ^ 63 }
         ensures list { IfOk result (λ outcome. SameLists Self.Item.same (repeat_answer (Self.elements self.now) n) outcome) }
@@ -185,9 +213,13 @@ impl<T: Twin> SequenceExt for Vec<T> {
     }
 }
 
-/// A sequence that is repeated in place.
+/// A sequence that can be repeated in its own place.
+///
+/// Example: the vector 1, 2 becomes 1, 2, 1, 2 where it is repeated twice.
 pub trait SequenceMutExt: SliceableSequenceOp {
-    /// The vector of the elements.
+    /// The vector of the elements, lent to be changed.
+    ///
+    /// Example: of the vector 1, 2 it is that vector itself.
     fn as_vec_mut(&mut self) -> &mut Vec<Self::Item>
         ensures { result.now.items ≡ Self.elements self.old };
 
@@ -196,6 +228,8 @@ pub trait SequenceMutExt: SliceableSequenceOp {
     ///
     /// Refused with `OverflowError` exactly where the length times `n` passes `isize::MAX`. After a
     /// refusal, or where memory runs out, the sequence is as before.
+    ///
+    /// Example: with 2 the elements 1, 2 become 1, 2, 1, 2, and with 0 there are none.
     fn imul(&mut self, alloc: Global, n: isize) -> Tried<()>
         requires { length (Self.elements self.old) < 2 ^ 63 }
         ensures answer { IfOk result (λ outcome. outcome ≡ fits_answer (length (Self.elements self.old) * times n)) }

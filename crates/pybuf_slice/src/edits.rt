@@ -191,6 +191,8 @@ pub(crate) fn delitem_by_slice<T: Twin>(list: &mut Vec<T>, slice: SaturatedSlice
 /// Moves the elements between the indices of a slice to the front of its span, in order, each at most
 /// once. The answer is the range that is left: without its elements, the list is the one from which
 /// those at the indices are deleted.
+///
+/// Example: with the slice `0:3:2` of 1, 2, 3, 4 the answer is `1..3`, and the items off that range are then 2 and 4.
 pub fn close_up<T: Twin>(items: &mut [T], slice: SaturatedSlice) -> Range<usize>
     requires { length items.old < 2 ^ 63 }
     ensures list { replaced_range items.new result.start result.end [] ≡ elements_off items.old (picks_of (length items.old) slice) }

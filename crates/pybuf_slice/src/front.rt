@@ -11,6 +11,8 @@ use std::sync::ledger::Ledger;
 ///
 /// A step is one byte that is moved to another place within. What the allocator copies where it makes
 /// more room, and what is written anew, isn't counted.
+///
+/// Example: `b"abcd"` whose first byte was dropped is `b"bcd"` behind a room of one byte.
 #[derive(Debug, Drop)]
 pub struct FrontBytes {
     bytes: Vec<u8>,
@@ -58,6 +60,8 @@ impl FrontBytes {
     ghost use Rattle.pybuf_slice.specs.FrontContent.{IsSpare};
 
     /// The bytes of a vector, without room. Takes no memory.
+    ///
+    /// Example: of the vector of `b"ab"` it is `b"ab"` with no room before it.
     pub fn from(bytes: Vec<u8>) -> FrontBytes
         ensures items { result.items ≡ bytes.items }
         ensures room { result.room ≡ 0 }
@@ -66,6 +70,8 @@ impl FrontBytes {
     }
 
     /// The number of bytes, at most `isize::MAX`.
+    ///
+    /// Example: of `b"abcd"` after `drop_front` of one byte it is 3.
     pub fn len(&self) -> usize
         ensures value { result ≡ length self.now.items }
         ensures small { result < 2 ^ 63 }
@@ -74,6 +80,8 @@ impl FrontBytes {
     }
 
     /// How many bytes of free room lie before the first.
+    ///
+    /// Example: of `b"abcd"` after `drop_front` of one byte it is 1.
     pub fn front_room(&self) -> usize
         ensures { result ≡ self.now.room }
     {
@@ -81,6 +89,8 @@ impl FrontBytes {
     }
 
     /// The bytes, lent.
+    ///
+    /// Example: of `b"abcd"` after `drop_front` of one byte it is `b"bcd"`.
     pub fn as_slice(&self) -> &[u8]
         ensures { result.now ≡ self.now.items }
     {
@@ -88,6 +98,8 @@ impl FrontBytes {
     }
 
     /// The bytes, lent to be written in place. Their number and the room stay.
+    ///
+    /// Example: where `b'x'` is written at its place 0, `b"abcd"` becomes `b"xbcd"`.
     pub fn as_mut_slice(&mut self) -> &mut [u8]
         ensures* writes_back { sem 𝓛 (LendsItems self.entry result) }
         ensures value { result.now ≡ self.old.items }
@@ -96,6 +108,8 @@ impl FrontBytes {
     }
 
     /// The bytes from one place up to another, lent to be written in place.
+    ///
+    /// Example: of `b"abcd"`, from 1 up to 3, it is `b"bc"`.
     pub fn run_mut(&mut self, start: usize, end: usize) -> &mut [u8]
         requires ordered { start ≤ end }
         requires inside { end ≤ length self.old.items }
@@ -106,6 +120,8 @@ impl FrontBytes {
     }
 
     /// Takes the first bytes away, so many, and leaves them as room. Nothing moves, and no memory is taken.
+    ///
+    /// Example: with 1 `b"abcd"` becomes `b"bcd"`, and the room rises from 0 to 1.
     pub fn drop_front<L: Ledger>(&mut self, n: usize, moved: &mut Steps<L>)
         requires { n ≤ length self.old.items }
         ensures items { self.new.items ≡ drop n self.old.items }
@@ -119,6 +135,8 @@ impl FrontBytes {
     /// that afterwards there is no room, or less than there are bytes.
     ///
     /// Where memory runs out, bytes, room and counter are as before.
+    ///
+    /// Example: with `b"cd"` `b"ab"` becomes `b"abcd"`.
     pub fn push_all<L: Ledger>(&mut self, items: &[u8], moved: &mut Steps<L>) -> Made<()>
         ensures items { OnOk result (self.new.items ≡ self.old.items ++ items.now) }
         ensures counter { OnOk result (moved.new + self.new.room ≤ moved.old + self.old.room) }
@@ -144,6 +162,8 @@ impl FrontBytes {
 
     /// Puts other bytes in place of those of a range, as many as there are. Those behind the range move
     /// once, where the number of bytes changes. Where memory runs out, bytes, room and counter are as before.
+    ///
+    /// Example: with the range `1..2` and `b"xyz"` `b"abc"` becomes `b"axyzc"`.
     pub fn splice<L: Ledger>(
         &mut self,
         range: Range<usize>,
@@ -170,6 +190,8 @@ impl FrontBytes {
     }
 
     /// Takes the bytes of a range out. Those behind it move once, where it has any. Takes no memory.
+    ///
+    /// Example: with the range `1..2` `b"abc"` becomes `b"ac"`.
     pub fn remove<L: Ledger>(&mut self, range: Range<usize>, moved: &mut Steps<L>)
         requires ordered { range.start ≤ range.end }
         requires inside { range.end ≤ length self.old.items }
@@ -187,6 +209,8 @@ impl FrontBytes {
     }
 
     /// The bytes, lent as a vector without room, to be changed in any way. Takes no memory.
+    ///
+    /// Example: of `b"abcd"` after `drop_front` of one byte it is the vector of `b"bcd"`.
     pub fn make_flat(&mut self) -> &mut Vec<u8>
         ensures* writes_back { sem 𝓛 (LendsVector self.entry result) }
         ensures value { result.now.items ≡ self.old.items }

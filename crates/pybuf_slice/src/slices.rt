@@ -15,7 +15,9 @@ use pybuf_value::{Fault, Made, Outcome, Tried, Twin, copy_all};
 use std::alloc::Global;
 use std::ops::Range;
 
-/// The element at a place.
+/// A copy of the element at a place.
+///
+/// Example: `do_get(alloc, &[1, 2, 3], 1)` gives 2.
 pub fn do_get<T: Twin>(alloc: Global, items: &[T], index: usize) -> Made<T>
     requires { index < length items.now }
     ensures { IfOk result (λ item. IsSomeAnd (slice_get items.now index) (λ source. T.same source item)) }
@@ -23,7 +25,9 @@ pub fn do_get<T: Twin>(alloc: Global, items: &[T], index: usize) -> Made<T>
     items[index].copy(alloc)
 }
 
-/// The elements of a range.
+/// Copies of the elements of a range, in order.
+///
+/// Example: `do_slice(alloc, &[1, 2, 3, 4], 1..3)` gives 2, 3.
 pub fn do_slice<T: Twin>(alloc: Global, items: &[T], range: Range<usize>) -> Made<Vec<T>>
     requires ordered { range.start ≤ range.end }
     requires inside { range.end ≤ length items.now }
@@ -32,7 +36,9 @@ pub fn do_slice<T: Twin>(alloc: Global, items: &[T], range: Range<usize>) -> Mad
     copy_all(alloc, &items[range])
 }
 
-/// The elements of a range, the last first.
+/// Copies of the elements of a range, the last first.
+///
+/// Example: `do_slice_reverse(alloc, &[1, 2, 3, 4], 1..3)` gives 3, 2.
 pub fn do_slice_reverse<T: Twin>(alloc: Global, items: &[T], range: Range<usize>) -> Made<Vec<T>>
     requires ordered { range.start ≤ range.end }
     requires inside { range.end ≤ length items.now }
@@ -43,7 +49,9 @@ pub fn do_slice_reverse<T: Twin>(alloc: Global, items: &[T], range: Range<usize>
     Ok(list)
 }
 
-/// Every `step`-th element of a range, from its first.
+/// Copies of every `step`-th element of a range, from its first.
+///
+/// Example: `do_stepped_slice(alloc, &[1, 2, 3, 4], 0..4, 2)` gives 1, 3.
 pub fn do_stepped_slice<T: Twin>(
     alloc: Global,
     items: &[T],
@@ -64,7 +72,9 @@ pub fn do_stepped_slice<T: Twin>(
     )
 }
 
-/// Every `step`-th element of a range, from its last down.
+/// Copies of every `step`-th element of a range, from its last down.
+///
+/// Example: `do_stepped_slice_reverse(alloc, &[1, 2, 3, 4], 0..4, 2)` gives 4, 2.
 pub fn do_stepped_slice_reverse<T: Twin>(
     alloc: Global,
     items: &[T],
@@ -81,7 +91,9 @@ pub fn do_stepped_slice_reverse<T: Twin>(
     gather(alloc, items, SaturatedSliceIter::in_span(range, step, true))
 }
 
-/// No elements. Takes no memory.
+/// A vector without elements. Takes no memory.
+///
+/// Example: `empty::<u8>(alloc).len()` is 0.
 pub fn empty<T>(alloc: Global) -> Vec<T>
     ensures { result.items ≡ [] }
 {
@@ -89,6 +101,8 @@ pub fn empty<T>(alloc: Global) -> Vec<T>
 }
 
 /// The number of elements.
+///
+/// Example: `len(&[1, 2, 3])` is 3.
 pub fn len<T>(items: &[T]) -> usize
     ensures { result ≡ length items.now }
 {
@@ -96,6 +110,8 @@ pub fn len<T>(items: &[T]) -> usize
 }
 
 /// The place of the element that a number names: `None` exactly where there is none.
+///
+/// Example: `wrap_index(&[1, 2, 3], -1)` is `Some(2)`, and `wrap_index(&[1, 2, 3], 3)` is `None`.
 pub fn wrap_index<T>(items: &[T], p: isize) -> Option<usize>
     requires { length items.now < 2 ^ 63 }
     ensures { result ≡ item_place (length items.now) p }
@@ -104,6 +120,8 @@ pub fn wrap_index<T>(items: &[T], p: isize) -> Option<usize>
 }
 
 /// The place from 0 to the length that is nearest to a number.
+///
+/// Example: `saturate_index(&[1, 2, 3], -1)` is 2, and `saturate_index(&[1, 2, 3], 9)` is 3.
 pub fn saturate_index<T>(items: &[T], p: isize) -> usize
     requires { length items.now < 2 ^ 63 }
     ensures { result ≡ saturated_place (length items.now) p }
@@ -111,7 +129,9 @@ pub fn saturate_index<T>(items: &[T], p: isize) -> usize
     p.saturated_at(items.len())
 }
 
-/// The elements at the indices of a slice, in their order.
+/// Copies of the elements at the indices of a slice, in the order of the indices.
+///
+/// Example: of 1, 2, 3 and the slice `::-1` it gives 3, 2, 1.
 pub fn getitem_by_slice<T: Twin>(alloc: Global, items: &[T], slice: SaturatedSlice) -> Made<Vec<T>>
     requires { length items.now < 2 ^ 63 }
     ensures { IfOk result (λ list. AllZip T.same (elements_at items.now (picks_of (length items.now) slice)) list.items) }
@@ -125,8 +145,12 @@ pub fn getitem_by_slice<T: Twin>(alloc: Global, items: &[T], slice: SaturatedSli
     gather(alloc, items, slice.iter(items.len()))
 }
 
-/// The element that a number names. Refused with `IndexError` exactly where there is none, and
-/// memory is taken only where there is one.
+/// A copy of the element that a number names; a negative number counts from the end.
+///
+/// Refused with `IndexError` exactly where there is no such element, and memory is taken only where
+/// there is one.
+///
+/// Example: `getitem_by_index(alloc, &[1, 2, 3], -1)` gives 3, and 3 in place of -1 is refused.
 pub fn getitem_by_index<T: Twin>(alloc: Global, items: &[T], index: isize) -> Tried<T>
     requires { length items.now < 2 ^ 63 }
     ensures item { IfOk result (λ outcome. SameOutcome T.same (item_at items.now index) outcome) }
@@ -154,6 +178,8 @@ fn gather<T: Twin>(alloc: Global, items: &[T], mut indexes: SaturatedSliceIter) 
 }
 
 /// Puts a value in the place of an element.
+///
+/// Example: with the index 1 and the value 9 the elements 1, 2, 3 become 1, 9, 3.
 pub fn do_set<T: Twin>(items: &mut [T], index: usize, value: T)
     requires { index < length items.old }
     ensures { items.new ≡ slice_set items.old index value }
@@ -162,6 +188,8 @@ pub fn do_set<T: Twin>(items: &mut [T], index: usize, value: T)
 }
 
 /// Puts copies of the items at as many indices. Where memory runs out, the elements are as before.
+///
+/// Example: with the indices 2 and 0 and the items 8 and 9 the elements 1, 2, 3 become 9, 2, 8.
 pub fn do_set_indexes<T: Twin>(
     alloc: Global,
     places: &mut [T],
@@ -192,8 +220,12 @@ fn scatter<T: Twin>(places: &mut [T], mut indexes: SaturatedSliceIter, others: V
     }
 }
 
-/// Puts a value in the place of the element that a number names. Refused with `IndexError` exactly
-/// where there is none.
+/// Puts a value in the place of the element that a number names; a negative number counts from the end.
+///
+/// Refused with `IndexError` exactly where there is no such element. After a refusal the elements are
+/// as before.
+///
+/// Example: with -1 and the value 9 the elements 1, 2, 3 become 1, 2, 9, and 3 in place of -1 is refused.
 pub fn setitem_by_index<T: Twin>(items: &mut [T], index: isize, value: T) -> Result<(), Fault>
     requires { length items.old < 2 ^ 63 }
     ensures answer { result ≡ named_or_index_error (item_place (length items.old) index) }
@@ -212,6 +244,8 @@ pub fn setitem_by_index<T: Twin>(items: &mut [T], index: isize, value: T) -> Res
 ///
 /// Refused with `BufferError` exactly where there are not as many items as indices. After a refusal,
 /// or where memory runs out, the elements are as before.
+///
+/// Example: with the slice `::2` and the items 8, 9 the elements 1, 2, 3 become 8, 2, 9; one item is refused.
 pub fn setitem_by_slice_no_resize<T: Twin>(
     alloc: Global,
     places: &mut [T],

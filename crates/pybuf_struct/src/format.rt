@@ -8,6 +8,8 @@ use std::alloc::Global;
 use std::marker::Model;
 
 /// A code of a format with its count. A clause sees its count, its code, and the padding before it.
+///
+/// Example: `3h` of the format `<3hB` is a code with the count 3, the code `Short` and no padding.
 #[derive(Clone, Copy, Debug)]
 pub struct FormatCode {
     repeat: usize,
@@ -35,6 +37,8 @@ impl FormatCode {
     }
 
     /// The count that the text writes before the code, 1 where it writes none.
+    ///
+    /// Example: of `3h` it is 3, and of `h` it is 1.
     pub fn repeat(&self) -> usize
         ensures { result ≡ self.now.repeat }
     {
@@ -42,6 +46,8 @@ impl FormatCode {
     }
 
     /// The code.
+    ///
+    /// Example: of `3h` it is `FormatType::Short`.
     pub fn code(&self) -> FormatType
         ensures { result ≡ self.now.code }
     {
@@ -49,6 +55,8 @@ impl FormatCode {
     }
 
     /// By how many bytes the offset is raised before the code; 0 in a format that isn't native.
+    ///
+    /// Example: of the second code of `bI` it is 3, and of that of `<bI` it is 0.
     pub fn pre_padding(&self) -> usize
         ensures { result ≡ self.now.pre_padding }
     {
@@ -65,6 +73,8 @@ impl FormatCode {
 
     /// The number of fields that the code gives: none for `x`, one for `s` and `p`, and as many as
     /// its count for every other code.
+    ///
+    /// Example: of `3h` it is 3, of `3s` it is 1, and of `3x` it is 0.
     pub fn arg_count(&self) -> usize
         ensures { result ≡ field_count self.now }
     {
@@ -84,6 +94,8 @@ impl Twin for FormatCode {
 
 /// A format, as `struct.Struct` of Python's `struct` page holds one. A clause sees the order of
 /// its bytes, its codes and its size.
+///
+/// Example: the format of `<hI` has the order `Little`, the codes `h` and `I`, and the size 6.
 #[derive(Debug, Drop)]
 pub struct FormatSpec {
     order: Endianness,
@@ -120,6 +132,8 @@ impl FormatSpec {
 
     /// The total size in bytes: that of the fields, of the alignment before codes, and of `x`
     /// codes. There is no alignment at the end.
+    ///
+    /// Example: of `<bI` it is 5, and of `bI` it is 8.
     pub fn size(&self) -> usize
         ensures total { result ≡ self.now.size }
         ensures bound { result < 2 ^ 63 }
@@ -129,6 +143,8 @@ impl FormatSpec {
     }
 
     /// The byte order, as the text's prefix says it.
+    ///
+    /// Example: of `<hI` it is `Endianness::Little`, and of `hI` it is `Endianness::Native`.
     pub fn endianness(&self) -> Endianness
         ensures { result ≡ self.now.order }
     {
@@ -136,6 +152,8 @@ impl FormatSpec {
     }
 
     /// The number of fields, which is the number of values that the format reads or writes.
+    ///
+    /// Example: of `<2h3sx` it is 3.
     pub fn arg_count(&self) -> usize
         ensures { result ≡ length (fields self.now) }
     {
@@ -143,6 +161,8 @@ impl FormatSpec {
     }
 
     /// The codes, one for each code of the text, in order.
+    ///
+    /// Example: of `<2h3s` they are two: `Short` with the count 2, and `Str` with the count 3.
     pub fn codes(&self) -> &[FormatCode]
         ensures { result.now ≡ self.now.codes }
     {

@@ -28,6 +28,8 @@ fn is_item_code(code: FormatType) -> bool
 /// None for every other text. Takes no memory.
 ///
 /// These are the formats that a view may be cast to, as in Python ("Built-in Types", `memoryview.cast`), and `u`.
+///
+/// Example: `native_single_code(b"@H")` is `Some(FormatType::UShort)`, and `native_single_code(b"<H")` is `None`.
 pub fn native_single_code(text: &[u8]) -> Option<FormatType>
     ensures { result ≡ spec.native_single_code text.now }
 {
@@ -36,6 +38,8 @@ pub fn native_single_code(text: &[u8]) -> Option<FormatType>
 }
 
 /// Whether the items of a format are single bytes: it is `b`, `B` or `c`, alone or behind `@`. Takes no memory.
+///
+/// Example: `is_byte_format(b"@c")` is `true`, and `is_byte_format(b"H")` is `false`.
 pub fn is_byte_format(text: &[u8]) -> bool
     ensures { result ≡ spec.is_byte_format text.now }
 {
@@ -47,6 +51,8 @@ pub fn is_byte_format(text: &[u8]) -> bool
 
 impl FormatType {
     /// Whether the items of the code are single bytes, as those of `b`, `B` and `c`.
+    ///
+    /// Example: `FormatType::Char.is_byte()` is `true`, and `FormatType::Pad.is_byte()` is `false`.
     pub fn is_byte(self) -> bool
         ensures { result ≡ spec.is_byte_code self }
     {
@@ -57,6 +63,8 @@ impl FormatType {
     }
 
     /// The bytes of one item of the code alone, as the format that is its letter has them.
+    ///
+    /// Example: `FormatType::UInt.native_size()` is 4.
     pub fn native_size(self) -> usize
         ensures { result ≡ size_of order.Native self }
     {

@@ -283,6 +283,8 @@ impl FormatSpec {
     ///   or fills them with zeros. `p` does so after a first byte, which is the least of the number
     ///   of bytes, the field's length less 1, and 255. A `p` of length 0 takes every value;
     /// - a handle that `c`, `s` or `p` looks at and the lender hasn't is `UnknownName`.
+    ///
+    /// Example: of `<hI` and the values -1 and 5 it gives `b"\xff\xff\x05\0\0\0"`.
     pub fn pack<L: Lender>(&self, alloc: Global, args: &ScalarList, lender: &L) -> Tried<Vec<u8>>
         ensures { IfOk result (λ o. items_of o ≡ outcome_of (packed_bytes self.now (L.pairs lender.now) args.now)) }
     {
@@ -304,6 +306,8 @@ impl FormatSpec {
     /// `x` too. Takes no memory.
     ///
     /// Refused as `pack` is, before a byte is written.
+    ///
+    /// Example: of `<H` and the value 258 it writes `b"\x02\x01"` into a room of two bytes.
     pub fn pack_into<L: Lender>(
         &self,
         room: &mut [u8],

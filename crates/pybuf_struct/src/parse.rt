@@ -122,6 +122,8 @@ impl FormatSpec {
     /// at a byte that is neither a digit nor a code of the table (white space too), at `n`, `N` or
     /// `u` under another prefix than `@`, and where a count or the offset after a code passes
     /// `isize::MAX`.
+    ///
+    /// Example: of `b"<hI"` it gives a format of the size 6, and of `b"<h 2"` it is refused with `StructError`.
     pub fn parse(alloc: Global, format: &[u8]) -> Tried<FormatSpec>
         ensures { IfOk result (λ o. o ≡ outcome_of (format_of format.now)) }
     {

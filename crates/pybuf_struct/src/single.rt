@@ -56,6 +56,8 @@ fn value_of(code: FormatType, bytes: &[u8]) -> Scalar
 /// Whether a text is the letter alone of a code whose value is a whole number or a truth value, and
 /// values of the code have so many bytes. Then `single_value` and `pack_single` decide what its
 /// items are. Takes no memory.
+///
+/// Example: `is_numeric_letter(b"H", 2)` is `true`, and `is_numeric_letter(b"c", 1)` is `false`.
 pub fn is_numeric_letter(text: &[u8], size: usize) -> bool
     ensures { result ≡ spec.is_as_long (spec.numeric_code text.now) size }
 {
@@ -65,11 +67,13 @@ pub fn is_numeric_letter(text: &[u8], size: usize) -> bool
     }
 }
 
-/// The one value that bytes read as by the format of a text of one code's letter, a whole number or
+/// The one value that bytes are read as by the format of a text of one code's letter: a whole number or
 /// a truth value. Takes no memory.
 ///
 /// None exactly where the text isn't the letter of such a code alone, or the bytes aren't as many as
 /// the code's size.
+///
+/// Example: of `b"H"` and the bytes `b"\x02\x01"` it is `Some(Scalar::Int(258))`, and of `b"<H"` it is `None`.
 #[tactic(auto, using(crate::proofs::Singles::value_of_single))]
 pub fn single_value(text: &[u8], bytes: &[u8]) -> Option<Scalar>
     ensures value { IfSome result (λ value. spec.values_by text.now bytes.now ≡ Ok (value ∷ [])) }
@@ -114,8 +118,10 @@ fn put_value(code: FormatType, room: &mut [u8], value: &Scalar) -> bool
 /// Writes a value by the format of a text of one code's letter, a whole number or a truth value, and
 /// says whether it did. Takes no memory.
 ///
-/// It didn't, and the room is as it was, exactly where the text isn't the letter of such a code
+/// It answers false, and the room is as it was, exactly where the text isn't the letter of such a code
 /// alone, where the room isn't of the code's size, or where the format refuses the value.
+///
+/// Example: of `b"H"`, a room of two bytes and 258 it answers true, and the room is `b"\x02\x01"`; of 65536 it answers false.
 #[tactic(auto, using(crate::proofs::Singles::packed_single, crate::proofs::Singles::refused_single))]
 pub fn pack_single(text: &[u8], room: &mut [u8], value: &Scalar) -> bool
     ensures written { result ≡ true → (pairs : List (ℕ × Snap)) → spec.bytes_by text.now pairs (value.now ∷ []) ≡ Ok room.new }

@@ -3,56 +3,82 @@ ghost use Rattle.std.specs.Prelude.{◌≡◌};
 ghost use Rattle.pybuf_struct.specs.Table.{code_of, is_native, is_big, is_allowed, size_of, alignment_of, is_signed};
 
 /// The byte order, sizes and alignment of a format, which its prefix says.
+///
+/// Example: `<h` has the order `Little`, and reads `b"\x01\0"` as 1.
 #[derive(Clone, Copy, Debug, PartialEq, Eq)]
 pub enum Endianness {
     /// No prefix or `@`: native order, sizes and alignment.
+    /// Example: `bI` has 8 bytes, since its `I` begins at 4.
     Native,
     /// `<`: little-endian, so that the first byte of a number is worth least, with standard sizes.
+    /// Example: `<H` reads `b"\x01\x02"` as 513.
     Little,
     /// `>` or `!`: big-endian, so that the first byte of a number is worth most, with standard sizes.
+    /// Example: `>H` reads `b"\x01\x02"` as 258.
     Big,
     /// `=`: native order with standard sizes.
+    /// Example: `=bI` has 5 bytes, since nothing is aligned.
     Host,
 }
 
 /// A code of a format.
+///
+/// Example: the format `<hI` has the codes `Short` and `UInt`.
 #[derive(Clone, Copy, Debug)]
 pub enum FormatType {
     /// `x`, a byte without a value.
+    /// Example: `<x` has one byte and no value.
     Pad,
-    /// `b`
+    /// `b`, a signed number of one byte.
+    /// Example: `b` reads `b"\xff"` as -1.
     SByte,
-    /// `B`
+    /// `B`, a number of one byte without a sign.
+    /// Example: `B` reads `b"\xff"` as 255.
     UByte,
     /// `c`, bytes of length 1.
+    /// Example: `c` reads `b"a"` as the bytes value `b"a"`.
     Char,
     /// `?`, a truth value.
+    /// Example: `?` reads `b"\x02"` as true.
     Bool,
-    /// `h`
+    /// `h`, a signed number of two bytes.
+    /// Example: `<h` reads `b"\xff\xff"` as -1.
     Short,
-    /// `H`
+    /// `H`, a number of two bytes without a sign.
+    /// Example: `<H` reads `b"\xff\xff"` as 65535.
     UShort,
-    /// `i`
+    /// `i`, a signed number of four bytes.
+    /// Example: `<i` reads four bytes 255 as -1.
     Int,
-    /// `I`
+    /// `I`, a number of four bytes without a sign.
+    /// Example: `<I` reads `b"\x05\0\0\0"` as 5.
     UInt,
-    /// `l`
+    /// `l`, a signed number: of eight bytes in a native format, else of four.
+    /// Example: `l` has 8 bytes, and `<l` has 4.
     Long,
-    /// `L`
+    /// `L`, a number without a sign: of eight bytes in a native format, else of four.
+    /// Example: `L` has 8 bytes, and `<L` has 4.
     ULong,
-    /// `q`
+    /// `q`, a signed number of eight bytes.
+    /// Example: `<q` reads eight bytes 255 as -1.
     LongLong,
-    /// `Q`
+    /// `Q`, a number of eight bytes without a sign.
+    /// Example: `<Q` reads eight bytes 255 as 18446744073709551615.
     ULongLong,
-    /// `n`, native alone.
+    /// `n`, a signed number of eight bytes, in native formats alone.
+    /// Example: `n` reads eight bytes 255 as -1, and there is no format `<n`.
     SSizeT,
-    /// `N`, native alone.
+    /// `N`, a number of eight bytes without a sign, in native formats alone.
+    /// Example: `N` has 8 bytes, and there is no format `<N`.
     SizeT,
-    /// `u`, native alone: a wide character as a signed number of four bytes.
+    /// `u`, a wide character as a signed number of four bytes, in native formats alone.
+    /// Example: `u` has 4 bytes, and there is no format `<u`.
     WideChar,
     /// `s`, one bytes value.
+    /// Example: `3s` reads `b"ab\0"` as the bytes value `b"ab\0"`.
     Str,
     /// `p`, one bytes value after its length in one byte.
+    /// Example: `4p` reads `b"\x02abc"` as the bytes value `b"ab"`.
     Pascal,
 }
 

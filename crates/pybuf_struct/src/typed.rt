@@ -12,14 +12,18 @@ use pybuf_value::{Answer, Fault, Halt, NoHandles, Scalar, ScalarList};
 use std::alloc::Global;
 
 impl FormatSpec {
-    /// The format that a text spells, as `parse` has it.
+    /// The format that a text spells, as `parse` gives and refuses it.
+    ///
+    /// Example: `FormatSpec::from_str(alloc, "<hI")` gives a format of the size 6.
     pub fn from_str(alloc: Global, text: &str) -> Result<FormatSpec, Halt>
         ensures { Gives (format_of text.now) result }
     {
         FormatSpec::parse(alloc, text.as_bytes()).done()
     }
 
-    /// The values of the bytes, one for each field, as `unpack` has them.
+    /// The values of the bytes, one for each field, as `unpack` gives and refuses them.
+    ///
+    /// Example: of `<hI` and `b"\xff\xff\x05\0\0\0"` it gives -1 and 5.
     pub fn unpack_values(&self, alloc: Global, bytes: &[u8]) -> Result<ScalarList, Halt>
         ensures { Gives (unpacked_values self.now bytes.now) result }
     {
@@ -30,6 +34,8 @@ impl FormatSpec {
     /// behind them isn't looked at.
     ///
     /// Refused with `StructError` exactly where there are fewer bytes from the offset on.
+    ///
+    /// Example: of `<H`, the bytes `b"\0\x02\x01\0"` and the offset 1 it gives 258.
     pub fn unpack_from(
         &self,
         alloc: Global,
@@ -45,8 +51,10 @@ impl FormatSpec {
         self.unpack_values(alloc, &bytes[offset..offset + size])
     }
 
-    /// The bytes of the values, one for each field, as `pack` has them where no handle names
-    /// anything.
+    /// The bytes of the values, one for each field, as `pack` gives and refuses them where no handle
+    /// names anything.
+    ///
+    /// Example: of `<hI` and the values -1 and 5 it gives `b"\xff\xff\x05\0\0\0"`.
     pub fn pack_values(&self, alloc: Global, values: &[Scalar]) -> Result<Vec<u8>, Halt>
         ensures { GivesItems (packed_bytes self.now [] values.now) result }
     {
@@ -59,6 +67,8 @@ impl FormatSpec {
     ///
     /// Refused with `StructError` where fewer bytes than the format's size are there, and else as
     /// `pack` is, before a byte is written.
+    ///
+    /// Example: of `<H`, the offset 1 and the value 258 it makes `b"\0\x02\x01\0"` of four zeros.
     pub fn pack_at(&self, room: &mut [u8], offset: usize, values: &[Scalar]) -> Result<(), Fault>
         ensures { MatchResult result
             (λ _. packed_at self.now values.now offset room.old ≡ Ok room.new)

@@ -117,6 +117,8 @@ impl FormatSpec {
     /// not looked at.
     ///
     /// Refused with `StructError` exactly where the number of bytes isn't the format's size.
+    ///
+    /// Example: of `<hI` and `b"\xff\xff\x05\0\0\0"` it gives -1 and 5.
     pub fn unpack(&self, alloc: Global, bytes: &[u8]) -> Tried<ScalarList>
         ensures { IfOk result (λ o. o ≡ outcome_of (unpacked_values self.now bytes.now)) }
     {

@@ -9,6 +9,8 @@ use crate::halt::Halt;
 use pybuf_copy::NoMemory;
 
 /// What may be a refusal, among other things that a call answers.
+///
+/// Example: `Outcome::Refused(Fault::Value)` is a refusal, and `Outcome::Done(5)` is the value 5.
 pub trait Refusable: Sized {
     /// What it is otherwise.
     type Given;
@@ -17,6 +19,8 @@ pub trait Refusable: Sized {
     ghost given: { Self → Result Self.Given faults.Fault };
 
     /// What it is, or why it is refused.
+    ///
+    /// Example: of `Outcome::Done(5)` it is `Ok(5)`, and of `Outcome::Refused(Fault::Value)` it is `Err(Fault::Value)`.
     fn into_result(self) -> Result<Self::Given, Fault>
         ensures { result ≡ given self };
 }
@@ -34,7 +38,9 @@ impl<T> Refusable for Outcome<T> {
     }
 }
 
-/// An answer in whichever shape that may be a refusal, or want of memory.
+/// What a call answers, in whichever shape, where it may be a refusal or want of memory.
+///
+/// Example: `Made<Outcome<T>>`, `Result<T, Fault>` and `Made<LocalReply>` are such answers.
 pub trait Answer: Sized {
     /// What is answered where it is neither.
     type Given;
@@ -42,7 +48,9 @@ pub trait Answer: Sized {
     /// The answer as one result.
     ghost settled: { Self → Result Self.Given halts.Halt };
 
-    /// What is answered, or why not.
+    /// What is answered, or why nothing is: a refusal, or want of memory.
+    ///
+    /// Example: of `Ok(Outcome::Refused(Fault::Value))` it is `Err(Halt::Refused(Fault::Value))`.
     fn done(self) -> Result<Self::Given, Halt>
         ensures { result ≡ settled self };
 }

@@ -19,6 +19,8 @@ use std::alloc::Global;
 /// The text that a value is.
 ///
 /// Refused with `TypeError` for every other value.
+///
+/// Example: of the value of the text `H` it is that text, and of the value 5 it is `Err(Fault::Kind)`.
 pub fn text_in(value: &Value) -> Result<&Text, Fault>
     ensures { MatchResult result (λ text. text_in value.now ≡ Ok text.now) (λ fault. text_in value.now ≡ Err fault) }
 {
@@ -34,6 +36,8 @@ pub fn text_in(value: &Value) -> Result<&Text, Fault>
 /// Refused with `UnknownName` where the lender hasn't the handle, with `ValueError` where the
 /// handle names a released view, and with `TypeError` where it names a view whose items don't lie
 /// one after another or an iterator, and for every other value.
+///
+/// Example: of the bytes value `b"ab"` it is `Ok(b"ab")`, and of the number 5 it is `Err(Fault::Kind)`.
 pub fn bytes_like<'a, L: Lender>(value: &'a Scalar, lender: &'a L) -> Result<&'a [u8], Fault>
     ensures ok { IfOk result (λ bytes. bytes_like (L.pairs lender.now) value.now ≡ Ok bytes.now) }
     ensures err { IfErr result (λ fault. bytes_like (L.pairs lender.now) value.now ≡ Err fault) }
@@ -53,6 +57,8 @@ pub fn bytes_like<'a, L: Lender>(value: &'a Scalar, lender: &'a L) -> Result<&'a
 ///
 /// Refused with `UnknownName` where the lender hasn't the handle, and with `TypeError` where it
 /// names anything else than an exporter of kind bytes, and for every other value.
+///
+/// Example: of the bytes value `b"ab"` it is `Ok(b"ab")`, and of a handle of a bytearray it is `Err(Fault::Kind)`.
 pub fn bytes_alone<'a, L: Lender>(value: &'a Scalar, lender: &'a L) -> Result<&'a [u8], Fault>
     ensures ok { IfOk result (λ bytes. bytes_alone (L.pairs lender.now) value.now ≡ Ok bytes.now) }
     ensures err { IfErr result (λ fault. bytes_alone (L.pairs lender.now) value.now ≡ Err fault) }
@@ -130,6 +136,8 @@ fn bytes_in<L: Lender>(alloc: Global, value: &Value, lender: &L) -> Result<ByteL
 /// names a released view. Of a list or a tuple the first refused part decides: with `TypeError`
 /// where it is no number, else with `ValueError` where it is outside `0..256`. Every other value is
 /// refused with `TypeError`.
+///
+/// Example: of the list 97, 98 it gives `b"ab"`, and of the list 256 it is refused with `ValueError`.
 pub fn bytes_from_object<L: Lender>(alloc: Global, value: &Value, lender: &L) -> Tried<ByteList>
     ensures { IfOk result (λ outcome. outcome ≡ outcome_of (bytes_in (L.pairs lender.now) value.now)) }
 {
@@ -161,6 +169,8 @@ fn string_of(snap: Option<&Snap>) -> Option<&[u8]>
 
 /// The bytes of a bytes value, or of an exporter of kind bytes or bytearray that a handle names, lent.
 /// None exactly for every other value.
+///
+/// Example: of the bytes value `b"ab"` it is `Some(b"ab")`, and of the list 97, 98 it is `None`.
 pub fn try_as_bytes<'a, L: Lender>(value: &'a Value, lender: &'a L) -> Option<&'a [u8]>
     ensures { option_copied result ≡ string_bytes_of (L.pairs lender.now) value.now }
 {

@@ -81,6 +81,8 @@ impl From<PySlice> for Value {
 
 impl Scalar {
     /// A copy of the bytes, as a scalar.
+    ///
+    /// Example: `Scalar::bytes(alloc, b"ab")` gives `Scalar::Bytes` of `b"ab"`.
     pub fn bytes(alloc: Global, bytes: &[u8]) -> Made<Scalar>
         ensures { IfOk result (λ s. s ≡ scalar.Bytes bytes.now) }
     {
@@ -88,6 +90,8 @@ impl Scalar {
     }
 
     /// A copy of the text, as a scalar.
+    ///
+    /// Example: `Scalar::text(alloc, "H")` gives `Scalar::Text` of `H`.
     pub fn text(alloc: Global, text: &str) -> Made<Scalar>
         ensures { IfOk result (λ s. s ≡ scalar.Text text.now) }
     {
@@ -97,6 +101,8 @@ impl Scalar {
 
 impl Value {
     /// A copy of the bytes, as a value.
+    ///
+    /// Example: `Value::bytes(alloc, b"ab")` gives `Value::One(Scalar::Bytes(..))` of `b"ab"`.
     pub fn bytes(alloc: Global, bytes: &[u8]) -> Made<Value>
         ensures { IfOk result (λ v. v ≡ value.One (scalar.Bytes bytes.now)) }
     {
@@ -104,6 +110,8 @@ impl Value {
     }
 
     /// A copy of the text, as a value.
+    ///
+    /// Example: `Value::text(alloc, "H")` gives `Value::One(Scalar::Text(..))` of `H`.
     pub fn text(alloc: Global, text: &str) -> Made<Value>
         ensures { IfOk result (λ v. v ≡ value.One (scalar.Text text.now)) }
     {
@@ -111,6 +119,8 @@ impl Value {
     }
 
     /// A slice, also one that is written as a range of Rust, as a value.
+    ///
+    /// Example: `Value::slice(1..3)` is the slice `1:3`, whose step is `None`.
     pub fn slice<S: Into<PySlice>>(slice: S) -> Value
         ensures { (s : slices.PySlice) × S.converts slice s × (result ≡ value.Slice s) }
     {
@@ -124,6 +134,8 @@ impl ScalarList {
     ///
     /// Refused with `ValueError` where the values are more or fewer, and else with `TypeError` where
     /// one of them is no number.
+    ///
+    /// Example: of the values -1, true it is `Ok([-1, 1])` where two are asked for, and `Err(Fault::Value)` where three are.
     pub fn numbers<const N: usize>(&self) -> Result<[i128; N], Fault>
         ensures { result ≡ so_many_numbers N self.now }
     {
@@ -148,7 +160,9 @@ fn put_numbers(values: &[Scalar], places: &mut [i128]) -> Result<(), Fault>
 }
 
 impl Item {
-    /// The number of an item that is a single whole number.
+    /// The number of an item that is a single whole number. None exactly for every other item.
+    ///
+    /// Example: of `Item::One(Scalar::Int(5))` it is `Some(5)`, and of `Item::One(Scalar::Bool(true))` it is `None`.
     pub fn number(&self) -> Option<i128>
         ensures { result ≡ number_of_item self.now }
     {
@@ -171,6 +185,8 @@ fn bound(number: Option<isize>) -> Scalar
 
 impl PySlice {
     /// The slice `start:stop:step`; None stands for what isn't written.
+    ///
+    /// Example: `PySlice::new(Some(1), None, Some(2))` is the slice `1:None:2`.
     pub fn new(start: Option<isize>, stop: Option<isize>, step: Option<isize>) -> PySlice
         ensures { result ≡ slice_of start stop step }
     {

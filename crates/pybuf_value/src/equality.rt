@@ -18,6 +18,8 @@ fn counts_as(value: &Scalar, number: i128) -> bool
 
 /// Whether two values without parts are equal: of one kind and the same, where a truth value counts
 /// as 0 or 1 (Python's language reference, "Value comparisons"). A handle equals itself alone.
+///
+/// Example: `scalar_eq(&Scalar::Int(1), &Scalar::Bool(true))` is `true`, and of the text `a` and `b"a"` it is `false`.
 pub fn scalar_eq(left: &Scalar, right: &Scalar) -> bool
     ensures { result ≡ same_scalar left.now right.now }
 {
@@ -49,6 +51,8 @@ pub fn scalar_eq(left: &Scalar, right: &Scalar) -> bool
 
 /// Whether two values without parts are identical or equal, as Python compares the elements of its
 /// lists. Identical values are equal here, so this is `scalar_eq`.
+///
+/// Example: of 1 and true it is `true`, and of 1 and 2 it is `false`.
 pub fn identical_or_equal(left: &Scalar, right: &Scalar) -> bool
     ensures { result ≡ same_scalar left.now right.now }
 {
@@ -72,6 +76,8 @@ fn parts_eq(left: &[Scalar], right: &[Scalar]) -> bool
 
 /// Whether two items are equal: both are single or both are tuples of one length, with equal parts.
 /// The first parts that differ end it.
+///
+/// Example: of the item `(1, 2)` and the item `(true, 2)` it is `true`, and of the items 1 and `(1, 2)` it is `false`.
 pub fn item_eq(left: &Item, right: &Item) -> bool
     ensures { result ≡ same_item left.now right.now }
 {

@@ -10,16 +10,25 @@ use pybuf_copy::NoMemory;
 use std::alloc::{AllocError, AllocFailed};
 use thiserror::Error;
 
-/// Why an effect stops, so that its body can use `?` alone. Its `Display` is Python's name of the exception.
+/// Why a call gives nothing, so that a body can use `?` alone. Its `Display` is Python's name of the
+/// exception.
+///
+/// Example: `Halt::Refused(Fault::Value)` is displayed as `ValueError`.
 #[derive(Clone, Copy, Debug, PartialEq, Eq, Error)]
 pub enum Halt {
+    /// The call is refused, and why.
+    /// Example: `Refused(Fault::Value)` is a refusal that is Python's `ValueError`.
     #[error("{0}")]
     Refused(Fault),
+    /// Memory ran out. What the call was lent is as before.
+    /// Example: `NoMemory` is displayed as `MemoryError`.
     #[error("MemoryError")]
     NoMemory,
 }
 
 /// The answer of a public call, by the result of its body, which may stop for either cause.
+///
+/// Example: of `Ok(5)` it is `Ok(Outcome::Done(5))`, and of `Err(Halt::NoMemory)` it is `Err(NoMemory)`.
 pub fn tried<T>(answer: Result<T, Halt>) -> Tried<T>
     ensures { (wanted : Result T faults.Fault) → Gives wanted answer → IfOk result (λ o. o ≡ outcome_of wanted) }
 {
@@ -31,6 +40,8 @@ pub fn tried<T>(answer: Result<T, Halt>) -> Tried<T>
 }
 
 /// The bytes of an answer, as a vector. Takes no memory.
+///
+/// Example: of `Ok(Outcome::Done(..))` of the list `b"ab"` it gives the vector of `b"ab"`.
 pub fn as_vec(answer: Tried<ByteList>) -> Tried<Vec<u8>>
     ensures { IfOk result (λ outcome. answer ≡ Ok (items_of outcome)) }
 {

@@ -7,16 +7,22 @@ use crate::faults::Fault;
 use crate::snaps::{Snap, SnapKind};
 
 /// Bytes of what a value is or names.
+///
+/// Example: the bytes of a value `b"ab"` are `Lent::Lies` of `b"ab"`.
 #[derive(Debug, Drop)]
 pub enum Lent<'a> {
     /// They lie together, and are lent from there.
+    /// Example: a bytes value `b"ab"` is lent as `Lies` of `b"ab"`.
     Lies(&'a [u8]),
-    /// They lay apart, or were the parts of a list.
+    /// They lay apart, or were the parts of a list, and are copied.
+    /// Example: the list 97, 98 is `Gathered` of `b"ab"`.
     Gathered(Vec<u8>),
 }
 
 impl<'a> Lent<'a> {
-    /// The bytes.
+    /// The bytes, lent, whether they lie there or were gathered.
+    ///
+    /// Example: of `Lent::Lies(b"ab")` it is `b"ab"`.
     pub fn as_slice(&self) -> &[u8]
         ensures { result.now ≡ lent_bytes self.now }
     {
@@ -27,9 +33,9 @@ impl<'a> Lent<'a> {
     }
 }
 
-/// The bytes of a snap.
+/// The bytes of a snap, lent; the items of a view may have lain apart.
 ///
-/// Refused with `ValueError` for a released view, and with `TypeError` for an iterator.
+/// Example: of a snap of the bytearray `b"ab"` it is `Ok(b"ab")`, and of a snap of an iterator it is `Err(Fault::Kind)`.
 pub fn content_of_snap(snap: &Snap) -> Result<&[u8], Fault>
     ensures { MatchResult result (λ bytes. content_of_named (Some snap.now) ≡ Ok bytes.now) (λ fault. content_of_named (Some snap.now) ≡ Err fault) }
 {
@@ -45,10 +51,9 @@ pub fn content_of_snap(snap: &Snap) -> Result<&[u8], Fault>
     }
 }
 
-/// The bytes of a snap, where they lay together.
+/// The bytes of a snap, lent, where they lay one after another.
 ///
-/// Refused with `ValueError` for a released view, and with `TypeError` for a view whose items don't lie one
-/// after another and for an iterator.
+/// Example: of a snap of every second item of a view it is `Err(Fault::Kind)`, and of `b"ab"` it is `Ok(b"ab")`.
 pub fn run_of_snap(snap: &Snap) -> Result<&[u8], Fault>
     ensures { MatchResult result (λ bytes. content_of (Some snap.now) ≡ Ok bytes.now) (λ fault. content_of (Some snap.now) ≡ Err fault) }
 {

@@ -9,6 +9,8 @@ use std::marker::Model;
 use std::ops::DerefSlice;
 
 /// A list of items. A clause sees the list of its items, and no capacity.
+///
+/// Example: `Items::from_slice(alloc, &[1, 2, 3])` gives the list 1, 2, 3.
 #[derive(Debug, Drop)]
 pub struct Items<T> {
     items: Vec<T>,
@@ -21,7 +23,9 @@ impl<T> Model for Items<T> {
 }
 
 impl<T> Items<T> {
-    /// No items. Takes no memory.
+    /// A list without items. Takes no memory.
+    ///
+    /// Example: `Items::<u8>::new(alloc).len()` is 0.
     pub fn new(alloc: Global) -> Items<T>
         ensures { result ≡ [] }
     {
@@ -31,6 +35,8 @@ impl<T> Items<T> {
     }
 
     /// The number of items, at most `isize::MAX`.
+    ///
+    /// Example: of the list 1, 2, 3 it is 3.
     pub fn len(&self) -> usize
         ensures value { result ≡ length self.now }
         ensures small { result < 2 ^ 63 }
@@ -39,6 +45,8 @@ impl<T> Items<T> {
     }
 
     /// Whether there are no items.
+    ///
+    /// Example: of the list 1, 2, 3 it is `false`.
     pub fn is_empty(&self) -> bool
         ensures { result ≡ (length self.now == 0) }
     {
@@ -46,6 +54,8 @@ impl<T> Items<T> {
     }
 
     /// The items, lent.
+    ///
+    /// Example: of the list 1, 2, 3 it is `&[1, 2, 3]`.
     pub fn as_slice(&self) -> &[T]
         ensures { result.now ≡ self.now }
     {
@@ -53,6 +63,8 @@ impl<T> Items<T> {
     }
 
     /// Adds an item at the end. Where memory runs out, the list is as before.
+    ///
+    /// Example: with 4 the list 1, 2, 3 becomes 1, 2, 3, 4.
     pub fn push(&mut self, item: T) -> Made<()>
     where
         T: Drop,
@@ -63,14 +75,18 @@ impl<T> Items<T> {
         Ok(())
     }
 
-    /// The same items, in order. Takes no memory.
+    /// The list of the items of a vector, in order. Takes no memory.
+    ///
+    /// Example: of the vector 1, 2, 3 it is the list 1, 2, 3.
     pub fn from_vec(items: Vec<T>) -> Items<T>
         ensures { result ≡ items.items }
     {
         Items { items }
     }
 
-    /// The same items, in order. Takes no memory.
+    /// The vector of the items of the list, in order. Takes no memory.
+    ///
+    /// Example: of the list 1, 2, 3 it is the vector 1, 2, 3.
     pub fn into_vec(self) -> Vec<T>
         ensures { result.items ≡ self }
     {
@@ -80,7 +96,9 @@ impl<T> Items<T> {
 }
 
 impl<T: Exact> Items<T> {
-    /// Copies of the items, in order.
+    /// The list of copies of the items, in order.
+    ///
+    /// Example: `Items::from_slice(alloc, &[1, 2, 3])` gives the list 1, 2, 3.
     pub fn from_slice(alloc: Global, items: &[T]) -> Made<Items<T>>
         ensures { IfOk result (λ list. list ≡ items.now) }
     {
@@ -123,6 +141,8 @@ impl<T: Exact> Exact for Items<T> {
 }
 
 /// Adds an item where room was reserved before. Takes no memory.
+///
+/// Example: with 3 the vector 1, 2 with room for a third item becomes 1, 2, 3.
 pub fn push_reserved<T: Drop>(items: &mut Vec<T>, item: T)
     requires { vec_len items.old < vec_capacity items.old }
     ensures { items.new.items ≡ items.old.items ++ item ∷ [] }
@@ -131,28 +151,46 @@ pub fn push_reserved<T: Drop>(items: &mut Vec<T>, item: T)
 }
 
 /// Bytes: at most `isize::MAX` of them.
+///
+/// Example: the answer of `replace` is a `ByteList`.
 pub type ByteList = Items<u8>;
 
 /// Lists of bytes.
+///
+/// Example: the parts of `b"a,b"` at `b","` are a `ByteLists` of `b"a"` and `b"b"`.
 pub type ByteLists = Items<ByteList>;
 
 /// The parts of a tuple or a list.
+///
+/// Example: the values of `<hI` are a `ScalarList` of two numbers.
 pub type ScalarList = Items<Scalar>;
 
 /// The parts of a tuple of slices.
+///
+/// Example: the key `[1:2, ::2]` has a `SliceList` of two slices.
 pub type SliceList = Items<PySlice>;
 
-/// Lengths, as the entries of a shape.
+/// Numbers of entries, one for each dimension of a shape.
+///
+/// Example: the shape of a view with two rows of three items is the `CountList` 2, 3.
 pub type CountList = Items<usize>;
 
 /// Whole numbers.
+///
+/// Example: the strides of a view with two rows of three bytes are the `NumberList` 3, 1.
 pub type NumberList = Items<i128>;
 
-/// Shape, stride and suboffset of each dimension.
+/// The number of entries, the stride in bytes and the suboffset of each dimension.
+///
+/// Example: that of two rows of three bytes is `(2, 3, 0)`, `(3, 1, 0)`.
 pub type DimList = Items<(usize, isize, isize)>;
 
 /// Items of a view.
+///
+/// Example: `tolist` of a view of `b"ab"` answers the `ItemList` 97, 98.
 pub type ItemList = Items<Item>;
 
 /// Values, as the arguments of a call.
+///
+/// Example: the call `find(b"a", 1)` has the `ValueList` of `b"a"` and 1.
 pub type ValueList = Items<Value>;

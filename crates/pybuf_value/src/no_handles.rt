@@ -4,6 +4,8 @@ ghost use Rattle.std.specs.Prelude.{[]};
 use crate::snaps::{Lender, Snap};
 
 /// A lender that has no handle.
+///
+/// Example: `NoHandles.lend(0)` is `None`.
 #[derive(Clone, Copy, Debug, PartialEq, Eq)]
 pub struct NoHandles;
 

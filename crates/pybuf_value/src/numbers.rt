@@ -11,6 +11,8 @@ use crate::values::{Scalar, Value};
 /// The number of a whole number or of a truth value, which counts as 0 or 1.
 ///
 /// Refused with `TypeError` for every other value without parts.
+///
+/// Example: `number_in(&Scalar::Bool(true))` is `Ok(1)`, and of a text it is `Err(Fault::Kind)`.
 pub fn number_in(value: &Scalar) -> Result<i128, Fault>
     ensures { result ≡ number_in value.now }
 {
@@ -21,9 +23,11 @@ pub fn number_in(value: &Scalar) -> Result<i128, Fault>
     }
 }
 
-/// The same of any value.
+/// The number of a value that is a whole number or a truth value, which counts as 0 or 1.
 ///
-/// Refused with `TypeError` where it is no number.
+/// Refused with `TypeError` where the value is no number.
+///
+/// Example: `index_of(&Value::from(5))` is `Ok(5)`, and of a slice it is `Err(Fault::Kind)`.
 pub fn index_of(value: &Value) -> Result<i128, Fault>
     ensures { result ≡ number_of value.now }
 {
@@ -36,6 +40,8 @@ pub fn index_of(value: &Value) -> Result<i128, Fault>
 /// The number as an index, where it fits.
 ///
 /// Refused with `IndexError` exactly outside `isize::MIN..=isize::MAX`.
+///
+/// Example: `fit_index(-1)` is `Ok(-1)`, and of `2**63` it is `Err(Fault::Index)`.
 pub fn fit_index(number: i128) -> Result<isize, Fault>
     ensures fits { IsOk result ↔ FitsSigned w64 number }
     ensures exact { result ≡ fitted_number Fault.Index number }
@@ -52,6 +58,8 @@ pub fn fit_index(number: i128) -> Result<isize, Fault>
 /// The number as a count, where it fits.
 ///
 /// Refused with `OverflowError` exactly outside `isize::MIN..=isize::MAX`.
+///
+/// Example: `fit_count(5)` is `Ok(5)`, and of `2**63` it is `Err(Fault::Overflow)`.
 pub fn fit_count(number: i128) -> Result<isize, Fault>
     ensures fits { IsOk result ↔ FitsSigned w64 number }
     ensures exact { result ≡ fitted_number Fault.Overflow number }
@@ -69,6 +77,8 @@ pub fn fit_count(number: i128) -> Result<isize, Fault>
 ///
 /// Refused with `TypeError` where the value is no number, and then with `OverflowError` where the number
 /// doesn't fit `isize`.
+///
+/// Example: `count_in(&Value::from(true))` is `Ok(1)`, and of `2**63` it is `Err(Fault::Overflow)`.
 pub fn count_in(value: &Value) -> Result<isize, Fault>
     ensures { result ≡ count_in value.now }
 {
@@ -76,7 +86,11 @@ pub fn count_in(value: &Value) -> Result<isize, Fault>
     fit_count(number)
 }
 
-/// The same, and another number where none is given.
+/// The number of a value as a count, and another number where no value is given.
+///
+/// Refused as `count_in` is.
+///
+/// Example: `count_or(-1, None)` is `Ok(-1)`, and `count_or(-1, Some(&Value::from(5)))` is `Ok(5)`.
 pub fn count_or(absent: isize, value: Option<&Value>) -> Result<isize, Fault>
     ensures { result ≡ count_or absent (option_copied value.entry) }
 {
@@ -87,6 +101,8 @@ pub fn count_or(absent: isize, value: Option<&Value>) -> Result<isize, Fault>
 }
 
 /// The `isize` that is nearest to the number.
+///
+/// Example: of `2**70` it is `isize::MAX`, and `saturate(5)` is 5.
 pub fn saturate(number: i128) -> isize
     ensures { result ≡ saturate_signed w64 number }
 {
@@ -100,10 +116,14 @@ pub fn saturate(number: i128) -> isize
 }
 
 /// A number that stands for a byte.
+///
+/// Example: the number 97 stands for the byte `b'a'`.
 pub trait ByteOr {
     ghost byte_gives: { Self → Result ℕ Fault };
 
     /// The byte. Refused with `ValueError` exactly outside `0..256`.
+    ///
+    /// Example: `97i128.byte_or()` is `Ok(b'a')`, and `256i128.byte_or()` is `Err(Fault::Value)`.
     fn byte_or(&self) -> Result<u8, Fault>
         ensures { result ≡ byte_gives self.now };
 }
@@ -127,6 +147,8 @@ impl ByteOr for i128 {
 ///
 /// Refused with `TypeError` where the value is no number, and then with `ValueError` exactly
 /// outside `0..256`.
+///
+/// Example: `value_from_object(&Value::from(97))` is `Ok(97)`, and of 256 it is `Err(Fault::Value)`.
 pub fn value_from_object(value: &Value) -> Result<u8, Fault>
     ensures { result ≡ byte_in value.now }
 {

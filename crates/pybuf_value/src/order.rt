@@ -9,6 +9,8 @@ use std::cmp::Ordering;
 
 impl CompareOp {
     /// What the operator answers of two values in an order.
+    ///
+    /// Example: `CompareOp::Le.answer(Ordering::Equal)` is `true`.
     pub fn answer(self, order: Ordering) -> bool
         ensures { result ≡ answers self order }
     {
@@ -24,6 +26,8 @@ impl CompareOp {
 }
 
 /// Whether an operator asks for an order: `<`, `<=`, `>` and `>=` do, `==` and `!=` don't.
+///
+/// Example: `is_order(CompareOp::Lt)` is `true`, and `is_order(CompareOp::Ne)` is `false`.
 pub fn is_order(op: CompareOp) -> bool
     ensures { result ≡ is_order op }
 {
@@ -33,6 +37,8 @@ pub fn is_order(op: CompareOp) -> bool
 /// What an operator answers of two lists of bytes. The first bytes that differ decide, and of two
 /// lists that don't differ so far the shorter one is less (Python's language reference, "Value
 /// comparisons").
+///
+/// Example: `compare_bytes(b"ab", b"b", CompareOp::Lt)` is `true`.
 #[tactic(auto, using(crate::proofs::OrderLemmas::bytes_eq_order))]
 pub fn compare_bytes(left: &[u8], right: &[u8], op: CompareOp) -> bool
     ensures { result ≡ answers op (order_of left.now right.now) }
@@ -56,6 +62,8 @@ fn order_bytes(left: &[u8], right: &[u8]) -> Ordering
 /// two bytes values, or of two texts.
 ///
 /// Refused with `TypeError` for any other two.
+///
+/// Example: of 1 and 2 it is `Ok(Ordering::Less)`, and of 1 and a text it is `Err(Fault::Kind)`.
 pub fn scalar_cmp(left: &Scalar, right: &Scalar) -> Result<Ordering, Fault>
     ensures { result ≡ order_of_scalars left.now right.now }
 {

@@ -1,8 +1,7 @@
 //! Bytes between quotes, as Python's `repr` writes them.
-ghost use Rattle.std.specs.Prelude.{◌≡◌, ◌==◌, ◌++◌, ◌∷◌, [], ◌+◌, ◌*◌, ◌≤◌, ◌<◌, OnOk, OnErr, codes, length, take};
+ghost use Rattle.std.specs.Prelude.{◌≡◌, ◌==◌, ◌++◌, ◌∷◌, [], ◌+◌, ◌*◌, ◌≤◌, ◌<◌, OnOk, OnErr, codes, length, take, slice_index};
 ghost use Rattle.std.specs.List.{flat_map, list_any};
-ghost use Rattle.hex.specs.Hex.{encode_lower};
-ghost use Rattle.pybuf_value.specs.Quotes.{quote_of, is_plain, escaped_byte, quoted_text};
+ghost use Rattle.pybuf_value.specs.Quotes.{quote_of, is_plain, digits_of, escaped_byte, quoted_text};
 
 use crate::list::ByteList;
 use crate::plain::place_of_byte;
@@ -19,6 +18,8 @@ fn holds(bytes: &[u8], byte: u8) -> bool
 
 /// The quote that Python's `repr` writes round the bytes: a double one where they hold a single
 /// quote and no double one, and else a single one.
+///
+/// Example: `quote(b"it's")` is `b'"'`, and `quote(b"a")` is `b'\''`.
 pub fn quote(bytes: &[u8]) -> u8
     ensures value { result ≡ quote_of bytes.now }
     ensures ascii { result < 128 }
@@ -31,14 +32,24 @@ pub fn quote(bytes: &[u8]) -> u8
     b'\''
 }
 
-/// Adds a byte as `\x` and two hexadecimal digits.
-fn push_hexadecimal(out: &mut Vec<u8>, byte: u8) -> Made<()>
-    ensures ok { OnOk result (out.new.items ≡ out.old.items ++ codes "\\x" ++ encode_lower (byte ∷ [])) }
-    ensures err { OnErr result (out.new.items ≡ out.old.items) }
+/// The two hexadecimal digits of a byte, the higher one first.
+#[tactic(auto, using(crate::proofs::HexadecimalLemmas::lower_is_ascii), unfolding(hex::specs::Hex::encode_with))]
+pub(crate) fn hexadecimal(byte: u8) -> [u8; 2]
+    ensures value { result ≡ digits_of byte }
+    ensures ascii { (slice_index result 0 < 128) × (slice_index result 1 < 128) }
 {
     let mut digits = [0; 2];
     // the room takes the two digits of a byte, so this is no refusal
     let _ = hex::encode_to_slice([byte], &mut digits);
+    digits
+}
+
+/// Adds a byte as `\x` and two hexadecimal digits.
+fn push_hexadecimal(out: &mut Vec<u8>, byte: u8) -> Made<()>
+    ensures ok { OnOk result (out.new.items ≡ out.old.items ++ codes "\\x" ++ digits_of byte) }
+    ensures err { OnErr result (out.new.items ≡ out.old.items) }
+{
+    let digits = hexadecimal(byte);
     out.extend_from_slice(&[b'\\', b'x', digits[0], digits[1]])?;
     Ok(())
 }
@@ -46,8 +57,10 @@ fn push_hexadecimal(out: &mut Vec<u8>, byte: u8) -> Made<()>
 /// Adds a byte as it stands between such quotes: with a backslash before the quote and before a
 /// backslash, `\t`, `\n` and `\r` for these three, and `\x` with two digits for any other byte that
 /// isn't printed of ASCII.
+///
 /// Where memory runs out, nothing is added.
-#[tactic(auto, unfolding(hex::specs::Hex::encode_with))]
+///
+/// Example: for the quote `b'\''` it adds `a` for `b'a'`, and `\x00` for the byte 0.
 pub fn push_escaped(out: &mut Vec<u8>, quote: u8, byte: u8) -> Made<()>
     ensures ok { OnOk result (out.new.items ≡ out.old.items ++ escaped_byte quote byte) }
     ensures err { OnErr result (out.new.items ≡ out.old.items) }
@@ -120,6 +133,8 @@ fn write_quoted(out: &mut Vec<u8>, bytes: &[u8]) -> Made<()>
 
 /// Adds the bytes between quotes, as Python's `repr` writes them, without the `b`. Where memory runs
 /// out, nothing is added.
+///
+/// Example: of `b"a\0"` it adds `'a\x00'`.
 pub fn push_quoted(out: &mut Vec<u8>, bytes: &[u8]) -> Made<()>
     ensures ok { OnOk result (out.new.items ≡ out.old.items ++ quoted_text bytes.now) }
     ensures err { OnErr result (out.new.items ≡ out.old.items) }
@@ -176,6 +191,8 @@ pub(crate) fn quoted_length(bytes: &[u8]) -> u128
 /// Adds the bytes between quotes, as Python's `repr` writes them, without the `b`: the quote, each
 /// byte as it stands between such quotes, and the quote (Python's library reference, "Bytes
 /// Objects"). The room is taken once. Where memory runs out, `out` is as before.
+///
+/// Example: of `b"it's"` it adds `"it's"`.
 pub fn escaped(alloc: Global, bytes: &[u8], out: &mut ByteList) -> Made<()>
     ensures ok { OnOk result (out.new ≡ out.old ++ quoted_text bytes.now) }
     ensures err { OnErr result (out.new ≡ out.old) }

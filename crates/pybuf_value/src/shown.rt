@@ -1,33 +1,23 @@
 //! Values as they are shown (`Display`): the texts that replies have, and Python's `repr` of slices, tuples and lists.
-ghost use Rattle.std.specs.Prelude.{◌≡◌, ◌<◌, ◌/◌, ◌%◌, ◌++◌, ◌∷◌, [], List, ℕ, Some, codes, slice_index};
+ghost use Rattle.std.specs.Prelude.{◌≡◌, ◌<◌, ◌++◌, ◌∷◌, [], List, ℕ, Some, codes};
 ghost use Rattle.std.specs.Fmt.{WritesOnOk, signed_decimal};
 ghost use Rattle.std.specs.List.{flat_map};
-ghost use Rattle.hex.specs.Hex.{lower_digits};
-ghost use Rattle.pybuf_value.specs.Quotes.{escaped_byte, quoted_text};
+ghost use Rattle.pybuf_value.specs.Quotes.{digits_of, escaped_byte, quoted_text};
 ghost use Rattle.pybuf_value.specs.Spelling.{bytes_text, truth_text, handle_text, scalar_text, next_part_text, tuple_text, list_text, item_text, slice_text, value_text};
 
 use crate::list::ByteList;
-use crate::quotes::quote;
+use crate::quotes::{hexadecimal, quote};
 use crate::values::{Item, PySlice, Scalar, Value};
 use std::fmt;
 
-/// A hexadecimal digit.
-#[tactic(auto, using(crate::proofs::HexadecimalLemmas::lower_is_ascii))]
-fn hexadecimal_digit(digit: u8) -> char
-    requires { digit < 16 }
-    ensures value { result ≡ slice_index lower_digits digit }
-    ensures ascii { result < 128 }
-{
-    char::from(b"0123456789abcdef"[digit as usize])
-}
-
 /// Writes a byte as `\x` and two hexadecimal digits.
 fn write_hexadecimal<W: fmt::Write>(f: &mut fmt::Formatter<W>, byte: u8) -> fmt::Result
-    ensures { WritesOnOk W.write_str_gives f.old result (codes "\\x" ++ slice_index lower_digits (byte / 16) ∷ slice_index lower_digits (byte % 16) ∷ []) f.new }
+    ensures { WritesOnOk W.write_str_gives f.old result (codes "\\x" ++ digits_of byte) f.new }
 {
+    let digits = hexadecimal(byte);
     f.write_str("\\x")?;
-    f.write_char(hexadecimal_digit(byte / 16))?;
-    f.write_char(hexadecimal_digit(byte % 16))
+    f.write_char(char::from(digits[0]))?;
+    f.write_char(char::from(digits[1]))
 }
 
 /// Writes a byte as it stands between such quotes.
@@ -71,6 +61,8 @@ fn write_escaped<W: fmt::Write>(f: &mut fmt::Formatter<W>, quote: u8, bytes: &[u
 }
 
 /// Writes bytes between quotes, as Python's `repr` writes them, without the `b`.
+///
+/// Example: of `b"a\0"` it writes `'a\x00'`.
 pub fn write_quoted<W: fmt::Write>(f: &mut fmt::Formatter<W>, bytes: &[u8]) -> fmt::Result
     ensures { WritesOnOk W.write_str_gives f.old result (quoted_text bytes.now) f.new }
 {
@@ -81,6 +73,8 @@ pub fn write_quoted<W: fmt::Write>(f: &mut fmt::Formatter<W>, bytes: &[u8]) -> f
 }
 
 /// Writes bytes, as Python's `repr` writes them.
+///
+/// Example: of `b"a\0"` it writes `b'a\x00'`.
 pub fn write_bytes<W: fmt::Write>(f: &mut fmt::Formatter<W>, bytes: &[u8]) -> fmt::Result
     ensures { WritesOnOk W.write_str_gives f.old result (bytes_text bytes.now) f.new }
 {
@@ -88,7 +82,9 @@ pub fn write_bytes<W: fmt::Write>(f: &mut fmt::Formatter<W>, bytes: &[u8]) -> fm
     write_quoted(f, bytes)
 }
 
-/// Writes a truth value.
+/// Writes a truth value, `True` or `False`.
+///
+/// Example: of true it writes `True`.
 pub fn write_truth<W: fmt::Write>(f: &mut fmt::Formatter<W>, truth: bool) -> fmt::Result
     ensures { WritesOnOk W.write_str_gives f.old result (truth_text truth) f.new }
 {
@@ -118,11 +114,15 @@ impl fmt::Display for Scalar {
 }
 
 /// What a tuple or a list that is shown may have as its parts.
+///
+/// Example: the number 5 is a part that is written as `5`.
 pub trait Shown {
     // the text of a part
     ghost text: { Self → List ℕ };
 
-    /// Writes the part.
+    /// Writes the part, as it stands in a tuple or a list.
+    ///
+    /// Example: of the bytes `b"ab"` it writes `b'ab'`.
     fn show<W: fmt::Write>(&self, f: &mut fmt::Formatter<W>) -> fmt::Result
         ensures { WritesOnOk W.write_str_gives f.old result (text self.now) f.new };
 }
@@ -179,7 +179,9 @@ fn write_next_parts<T: Shown, W: fmt::Write>(f: &mut fmt::Formatter<W>, parts: &
     Ok(())
 }
 
-/// Writes a tuple.
+/// Writes a tuple, as Python's `repr` does.
+///
+/// Example: of 1, 2 it writes `(1, 2)`, and of 1 alone `(1,)`.
 pub fn write_tuple<T: Shown, W: fmt::Write>(f: &mut fmt::Formatter<W>, parts: &[T]) -> fmt::Result
     ensures { WritesOnOk W.write_str_gives f.old result (tuple_text T.text parts.now) f.new }
 {
@@ -199,7 +201,9 @@ pub fn write_tuple<T: Shown, W: fmt::Write>(f: &mut fmt::Formatter<W>, parts: &[
     }
 }
 
-/// Writes a list.
+/// Writes a list, as Python's `repr` does.
+///
+/// Example: of 1, 2 it writes `[1, 2]`.
 pub fn write_list<T: Shown, W: fmt::Write>(f: &mut fmt::Formatter<W>, parts: &[T]) -> fmt::Result
     ensures { WritesOnOk W.write_str_gives f.old result (list_text T.text parts.now) f.new }
 {

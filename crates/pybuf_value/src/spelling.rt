@@ -49,6 +49,8 @@ fn quoted_between(
 /// `)` (Python's library reference, "Bytes Objects" and "Bytearray Objects"). The room is taken once.
 ///
 /// Refused with `OverflowError` exactly where the text is more than `isize::MAX` bytes.
+///
+/// Example: `repr_text(alloc, b"b", b"a\0", b"")` gives the text `b'a\x00'`.
 pub fn repr_text(alloc: Global, before: &[u8], bytes: &[u8], after: &[u8]) -> Tried<Text>
     requires before { IsTrue (is_ascii before.now) }
     requires after { IsTrue (is_ascii after.now) }
@@ -61,6 +63,8 @@ pub fn repr_text(alloc: Global, before: &[u8], bytes: &[u8], after: &[u8]) -> Tr
 /// `NAME(b'..')` (library reference, "Bytearray Objects").
 ///
 /// Refused with `OverflowError` exactly where the text is more than `isize::MAX` bytes.
+///
+/// Example: `named_repr_text(alloc, "bytearray", b"ab")` gives the text `bytearray(b'ab')`.
 pub fn named_repr_text(alloc: Global, name: &str, bytes: &[u8]) -> Tried<Text>
     ensures { IfOk result (λ outcome. outcome ≡ outcome_of (fitted (repr_of (name.now ++ codes "(b") bytes.now (codes ")")))) }
 {
@@ -68,6 +72,8 @@ pub fn named_repr_text(alloc: Global, name: &str, bytes: &[u8]) -> Tried<Text>
 }
 
 /// Adds a number in decimal digits, with its sign.
+///
+/// Example: of -5 it adds `-5`.
 pub fn push_number(out: &mut Vec<u8>, number: i128) -> Made<()>
     ensures { OnOk result (out.new.items ≡ out.old.items ++ signed_decimal number) }
 {
@@ -77,6 +83,8 @@ pub fn push_number(out: &mut Vec<u8>, number: i128) -> Made<()>
 }
 
 /// Adds bytes as Python's `repr` writes them.
+///
+/// Example: of `b"a\0"` it adds `b'a\x00'`.
 pub fn push_bytes(out: &mut Vec<u8>, bytes: &[u8]) -> Made<()>
     ensures { OnOk result (out.new.items ≡ out.old.items ++ bytes_text bytes.now) }
 {
@@ -84,7 +92,9 @@ pub fn push_bytes(out: &mut Vec<u8>, bytes: &[u8]) -> Made<()>
     push_quoted(out, bytes)
 }
 
-/// Adds a truth value.
+/// Adds a truth value, `True` or `False`.
+///
+/// Example: of true it adds `True`.
 pub fn push_truth(out: &mut Vec<u8>, truth: bool) -> Made<()>
     ensures { OnOk result (out.new.items ≡ out.old.items ++ truth_text truth) }
 {
@@ -97,6 +107,8 @@ pub fn push_truth(out: &mut Vec<u8>, truth: bool) -> Made<()>
 }
 
 /// Adds a handle: `h` and its number.
+///
+/// Example: of 3 it adds `h3`.
 pub fn push_handle(out: &mut Vec<u8>, handle: u64) -> Made<()>
     ensures { OnOk result (out.new.items ≡ out.old.items ++ handle_text handle) }
 {
@@ -109,6 +121,8 @@ pub fn push_handle(out: &mut Vec<u8>, handle: u64) -> Made<()>
 /// Adds a value without parts as a reply spells it: `None`, `True`, `False` and `Ellipsis` by name,
 /// a number in decimal digits, bytes and texts between quotes, bytes with a `b` before them, and a
 /// handle as `h` and its number.
+///
+/// Example: of the text `H` it adds `'H'`, and of `Scalar::None` it adds `None`.
 pub fn push_scalar(out: &mut Vec<u8>, value: &Scalar) -> Made<()>
     ensures { OnOk result (out.new.items ≡ out.old.items ++ scalar_text handle_text value.now) }
 {

@@ -5,6 +5,8 @@ use std::marker::Model;
 use std::sync::ledger::{Blank, Book, Ledger, Share};
 
 /// How many steps were taken. It takes no bytes, and only `tick` and `add` change it.
+///
+/// Example: after `tick` and `add` of 3 a new counter stands at 4.
 #[derive(Drop)]
 pub struct Steps<L: Ledger> {
     book: Book<L>,
@@ -23,6 +25,8 @@ impl<L: Ledger> Model for Steps<L> {
 
 impl<L: Ledger> Steps<L> {
     /// A counter at 0, of a ledger that is given to no one else.
+    ///
+    /// Example: the new counter stands at 0.
     pub fn new(blank: Blank) -> Steps<L>
         requires name { blank.name ≡ L.name }
         requires parts { blank.parts ≡ L.parts }
@@ -33,14 +37,18 @@ impl<L: Ledger> Steps<L> {
         Steps { book, share }
     }
 
-    /// One step more.
+    /// Counts one step more.
+    ///
+    /// Example: a counter at 3 stands at 4 then.
     pub fn tick(&mut self)
         ensures { self.new ≡ self.old + 1 }
     {
         self.book.add(&mut self.share, 1);
     }
 
-    /// So many steps more.
+    /// Counts so many steps more.
+    ///
+    /// Example: a counter at 1 stands at 4 after `add` of 3.
     pub fn add(&mut self, steps: usize)
         ensures { self.new ≡ self.old + steps }
     {

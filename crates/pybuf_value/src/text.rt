@@ -10,6 +10,8 @@ use std::alloc::Global;
 use std::marker::Model;
 
 /// A text. A clause sees the list of its UTF-8 bytes.
+///
+/// Example: `Text::from_str(alloc, "é")` gives a text of two bytes.
 #[derive(Debug, Drop)]
 pub struct Text {
     text: String,
@@ -23,6 +25,8 @@ impl Model for Text {
 
 impl Text {
     /// The empty text. Takes no memory.
+    ///
+    /// Example: `Text::new(alloc).len()` is 0.
     pub fn new(alloc: Global) -> Text
         ensures { result ≡ [] }
     {
@@ -32,6 +36,8 @@ impl Text {
     }
 
     /// A copy of the text.
+    ///
+    /// Example: `Text::from_str(alloc, "H")` gives the text `H`.
     pub fn from_str(alloc: Global, text: &str) -> Made<Text>
         ensures { IfOk result (λ t. t ≡ text.now) }
     {
@@ -41,6 +47,8 @@ impl Text {
     }
 
     /// The number of bytes, at most `isize::MAX`.
+    ///
+    /// Example: of the text `é` it is 2.
     pub fn len(&self) -> usize
         ensures value { result ≡ length self.now }
         ensures small { result < 2 ^ 63 }
@@ -49,6 +57,8 @@ impl Text {
     }
 
     /// Whether the text is empty.
+    ///
+    /// Example: of the text `H` it is `false`.
     pub fn is_empty(&self) -> bool
         ensures { result ≡ (length self.now == 0) }
     {
@@ -56,6 +66,8 @@ impl Text {
     }
 
     /// The UTF-8 bytes, lent.
+    ///
+    /// Example: of the text `é` it is `b"\xc3\xa9"`.
     pub fn as_slice(&self) -> &[u8]
         ensures { result.now ≡ self.now }
     {
@@ -63,6 +75,8 @@ impl Text {
     }
 
     /// The text, lent as a `str`.
+    ///
+    /// Example: of the text `H` it is `"H"`.
     pub fn as_str(&self) -> &str
         ensures { result.now ≡ self.now }
     {
@@ -70,6 +84,8 @@ impl Text {
     }
 
     /// Adds a character at the end. Where memory runs out, the text is as before.
+    ///
+    /// Example: with `'é'` the text `H` becomes `Hé`.
     pub fn push(&mut self, c: char) -> Made<()>
         ensures ok { OnOk result (self.new ≡ self.old ++ encode_utf8 c) }
         ensures err { OnErr result (self.new ≡ self.old) }
@@ -78,7 +94,9 @@ impl Text {
         Ok(())
     }
 
-    /// The same text. Takes no memory.
+    /// The text of a string. Takes no memory.
+    ///
+    /// Example: of the string `H` it is the text `H`.
     pub fn from_string(text: String) -> Text
         ensures { result ≡ string_bytes text }
     {
@@ -86,6 +104,8 @@ impl Text {
     }
 
     /// The text of these bytes of UTF-8. Takes no memory, and reads none of the bytes.
+    ///
+    /// Example: of the vector of 195 and 169 it is the text `é`.
     pub fn from_utf8(bytes: Vec<u8>) -> Text
         requires { IsUtf8 bytes.items }
         ensures { result ≡ bytes.items }
@@ -95,7 +115,9 @@ impl Text {
         }
     }
 
-    /// The same text. Takes no memory.
+    /// The string of the text. Takes no memory.
+    ///
+    /// Example: of the text `H` it is the string `H`.
     pub fn into_string(self) -> String
         ensures { string_bytes result ≡ self }
     {
