@@ -1,7 +1,7 @@
 /* pybuf: Python's bytes, bytearray and memoryview, by a library that is proved.
  *
  * This header is C11 and C++17. What stands behind it is proved but for bindings/c/pybuf.c, which is plain C: it tests what
- * it is passed and calls the proved library. docs/tasks/c.md has a first program.
+ * it is passed and calls the proved library. docs/tasks/install.md has a first program.
  *
  * What a caller owes, and nothing tests:
  *   - A world or a format is used by one call at a time. Another thread may use it once a lock or a join stands between.

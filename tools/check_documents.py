@@ -358,6 +358,8 @@ def check_reference():
     for path in sorted({*written, *API.glob("*")}):
         if not path.exists() or written.get(path) != path.read_text():
             report(path, 1, "tools/write_reference.py writes another page")
+        else:
+            check_links(path, path.read_text().split("\n"))
     for crate in write_reference.crates():
         for item in write_reference.public(crate):
             if not item.docs:
@@ -398,7 +400,7 @@ def check_differences(document, lines):
 
 
 def check_names(document, lines):
-    """Files and folders that are named between backquotes or linked."""
+    """Files and folders that are named between backquotes."""
     tops = ("crates/", "docs/", "examples/", "cases/", "tools/", "bench/", ".ci/")
     made = page_blocks.written(lines).values() if document.parent.name == "learn" else ()
     for number, line in enumerate(lines, 1):
@@ -409,6 +411,15 @@ def check_names(document, lines):
                 path = name.split("::")[0].rstrip("/")
                 if "/out" not in path and path not in made and not (ROOT / path).exists():
                     report(document, number, f"{name} is not there")
+
+
+def check_links(document, lines):
+    """Files and headings that are linked."""
+    inside = False
+    for number, line in enumerate(lines, 1):
+        inside = inside != line.startswith("```")
+        if inside:
+            continue
         for name, heading in re.findall(r"\]\(([^)#\s]*)(?:#([^)]*))?\)", line):
             if "://" in name:
                 continue
@@ -434,6 +445,7 @@ def main():
         check_tasks(document, lines)
         check_edits(document, lines)
         check_names(document, lines)
+        check_links(document, lines)
         check_size(document, lines)
         faults.extend(page_blocks.faults_of(document, lines))
         if document == ROOT / "docs/reference/differences.md":

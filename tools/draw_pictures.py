@@ -3,6 +3,7 @@
 that of the kernels from `bench/figures/kernels.txt`.
 
     python3 tools/draw_pictures.py [PROGRAM]
+    python3 tools/draw_pictures.py --stored      from the replies that are stored beside the examples, where no program was built
 
 PROGRAM is what the gate built, `crates/pybuf_program/out/pybuf_program`, where none is named. It is run on two examples, whose replies
 `tools/run_cases.py` compares with those that are stored beside them. From the stored ones `tools/check_documents.py`
@@ -314,14 +315,14 @@ def stored(name):
 
 
 def main(words):
-    program = pathlib.Path(words[0] if words else PROGRAM).resolve()
+    program = pathlib.Path(words[0] if words and words[0] != "--stored" else PROGRAM).resolve()
 
     def replied(name):
         with (ROOT / "examples" / name).open("rb") as given:
             run = subprocess.run([program], stdin=given, stdout=subprocess.PIPE, check=False)
         return run.stdout.decode(), run.returncode
 
-    for name, text in pictures(replied).items():
+    for name, text in pictures(stored if words == ["--stored"] else replied).items():
         (FOLDER / name).write_text(text)
         print(f"docs/pictures/{name}")
 

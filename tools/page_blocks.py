@@ -8,6 +8,7 @@ A block stands between fences, or is indented by four blanks behind an empty lin
 - commands of a page to learn from, which `tools/run_pages.py` runs;
 - commands that run an example, `rt try < ../../examples/NAME`, or that pipe an input into the program, `pybuf`;
 - commands that run the first programs of the bindings, whose output stands in `bindings/`;
+- the blocks of `docs/tasks/install.md`, which `tools/check_release.py` runs;
 - must-fail edits, which begin with `file: `.
 
 Any other block has the line `<!-- not run: REASON -->` before it, maybe with words between, and no block.
@@ -25,6 +26,8 @@ EXPECTED = [
     (re.compile(r" {4}\$ cargo (run)"), "bindings/rust/first.expected"),
     (re.compile(r" {4}\$ .*python3 (first)\.py"), "bindings/python/{}.expected"),
 ]
+# Pages whose programs and commands a script of their own runs.
+FOLLOWED = {"docs/tasks/install.md": "tools/check_release.py"}
 # What stands behind a command that is checked, in the same block.
 STATUS = re.compile(r" {4}\$ echo \$\?")
 
@@ -85,6 +88,9 @@ def is_checked(document, language, block):
 def faults_of(document, lines):
     """What is wrong with the blocks of a page, a line each."""
     faults, last = [], 0
+    script = FOLLOWED.get(str(document.relative_to(ROOT)))
+    if script is not None and (ROOT / script).exists():
+        return faults
     for number, language, block in blocks(lines):
         marked = [MARK.fullmatch(line.strip()) for line in lines[last : number - 1]]
         if not is_checked(document, language, block) and not any(marked):

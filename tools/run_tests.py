@@ -7,12 +7,15 @@
     ./test --list      the names of the parts
 
 It proves nothing. Its parts are each crate of tests and each program with stored output, which `rt try` builds and runs; the
-cases and examples; what the pages show; the pages to learn from, which are followed in a fresh folder; the sections of programs, as
-`readelf` has them; a release; and the bindings. As many parts run side by side as there are processors, and memory for them. Each has a line when it ends; of one that failed, what it said
+cases and examples; what the pages show; the sections of programs, as `readelf` has them; a release; and the bindings. As many parts
+run side by side as there are processors, and memory for them. Each has a line when it ends; of one that failed, what it said
 stands below, with the command that repeats it alone. What can't be run here is skipped, and the reason said.
 
 The last line is `N passed, M failed`, or `N passed, M failed, K skipped`: of test functions, programs, cases and checks. The
 status is 1 where anything failed, 2 where a word names no part, else 0.
+
+Two parts, `file-reader` and `interpreter`, follow the pages to learn from in a fresh folder. `--built` leaves them out, as they build
+their programs anew.
 """
 import os
 import pathlib

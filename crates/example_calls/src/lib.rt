@@ -1,5 +1,5 @@
-//! The examples of docs/tasks/rattle.md, a module for each of its parts. What is shown there stands here word for word,
-//! and is run as a test.
+//! The examples of docs/tasks/rattle.md and rattle-data.md, a module for each of their parts. What is shown there stands
+//! here word for word, and is run as a test.
 #![tactic(auto)]
 
 #[cfg(test)]
