@@ -41,6 +41,8 @@ fn sought<'a, N: Contents>(alloc: Global, value: &'a Value, names: &'a N) -> Res
 /// truth value as 0 or 1, as one byte, and any other value as the bytes that it is read as.
 ///
 /// Refused with `ValueError` for a number outside `0..256`, and else as `bytes_from_object` refuses.
+///
+/// Example: of `b"Abc"` and the value `b"bc"` it gives true, and the value 256 is refused with `ValueError`.
 pub fn contains_in<N: Contents>(
     alloc: Global,
     bytes: &[u8],

@@ -85,6 +85,8 @@ fn read_all(alloc: Global, input: &[u8]) -> Result<Sessions, Misread>
 /// there is no command.
 ///
 /// Each line is read once, and no list of lines is kept.
+///
+/// Example: of `new bytearray x6162` and `0 len own` it gives a bytearray of `b"ab"`, and one script of one command.
 pub fn read_sessions(alloc: Global, input: &[u8]) -> Result<Sessions, Misread>
     ensures read { ReadsAll result (sessions_in input.now) }
     ensures some { IfOk result (λ s. 0 < length s.scripts) }
