@@ -24,7 +24,7 @@ pub fn entries_are_single_lines()
 /// The lines of the whole text of such a history are those of its entries, in order, one with their number and one with
 /// the bytes that there are in the end.
 ///
-/// Example: the history of `view own` alone has the lines `0: view own -> v0`, `calls 1` and `bytes b'ab'`.
+/// Example: that of `view own` alone, of a bytearray of `b"ab"`, has the lines `0: view own -> v0`, `calls 1` and `bytes b'ab'`.
 pub fn histories_have_a_line_for_each_entry()
     ensures { SharedTextHasItsLines }
 {

@@ -65,7 +65,7 @@ pub fn command_of_line<'a>(
 ///
 /// It answers `NoCommand` where the line spells none, and `NoMemory` where memory runs out.
 ///
-/// Example: of `b"len h0"` it gives `Command::Do` of `Verb::Len` with the subject 0, and of `b"len"` `Err(Unread::NoCommand)`.
+/// Example: of `b"len h0"` it gives `Command::Do` of `Verb::Len` with the subject 0, and `b"len"` is no command.
 pub fn command(alloc: Global, line: &[u8]) -> Result<Command, Unread>
     ensures { Reads result (command_in handle_in line.now) }
 {

@@ -66,7 +66,7 @@ fn selection_of_key(
 /// tuple of as many slices; the word `T` behind them asks for the transposition. None exactly where a word is misspelled,
 /// there are more slices or fewer, one of them is refused, or there are more words or fewer.
 ///
-/// Example: of `[2,3]` and `(None:None:-1,1:3:None)` it gives a selection, and of `[2,3]` and `(1:2:None)` `None`.
+/// Example: of `[2,3]` and `(None:None:-1,1:3:None)` it gives a selection; `(1:2:None)` has too few slices.
 pub fn selection_of_words(alloc: Global, words: &[Text]) -> Made<Option<Selection>>
     ensures { IfOk result (λ selection. selection ≡ selection_in words.now) }
 {

@@ -10,7 +10,7 @@ pub fn numbers_read_back()
 
 /// The bytes of the numbers that bytes spell are these bytes, where none is left over.
 ///
-/// Example: of the code `H` `b"\x02\x01"` spells the number 258, whose bytes are `b"\x02\x01"`.
+/// Example: `b"\x02\x01"` spells by the code `H` the number 258, whose bytes are `b"\x02\x01"`.
 pub fn bytes_read_back()
     ensures { BytesReadBack }
 {}
