@@ -1,7 +1,7 @@
 /* pybuf: Python's bytes, bytearray and memoryview, by a library that is proved.
  *
  * This header is C11 and C++17. What stands behind it is proved but for bindings/c/pybuf.c, which is plain C: it tests what
- * it is passed and calls the proved library. docs/BINDINGS.md has a first program.
+ * it is passed and calls the proved library. docs/tasks/c.md has a first program.
  *
  * What a caller owes, and nothing tests:
  *   - A world or a format is used by one call at a time. Another thread may use it once a lock or a join stands between.
@@ -19,6 +19,12 @@
 #include <stdbool.h>
 #include <stddef.h>
 #include <stdint.h>
+
+/* The version of this header, as the file VERSION has it. The major number is that of the shared library's name. */
+#define PYBUF_VERSION_MAJOR 1
+#define PYBUF_VERSION_MINOR 0
+#define PYBUF_VERSION_PATCH 0
+#define PYBUF_VERSION "1.0.0"
 
 #ifdef __cplusplus
 extern "C" {
@@ -49,6 +55,9 @@ typedef enum pybuf_status {
 /* The name of a status, as "IndexError" or "no memory". It is the library's, and stays. */
 const char *pybuf_status_name(pybuf_status status);
 
+/* The version of the library that is linked or loaded, as "1.0.0". It is the library's, and stays. */
+const char *pybuf_version(void);
+
 /* ---- worlds, by lines ---- */
 
 /* A world of objects: bytes, bytearrays, vectors, and views and iterators of these. */
@@ -60,7 +69,7 @@ pybuf_status pybuf_world_new(pybuf_world **world);
 /* Frees a world with all that is in it. A null pointer is let be. The pointer is not used again. */
 pybuf_status pybuf_world_free(pybuf_world *world);
 
-/* Runs the lines of a text, as the program does (docs/COMMANDS.md), and keeps their replies in place of those before.
+/* Runs the lines of a text, as the program does (docs/reference/commands.md), and keeps their replies in place of those before.
  * *count, where it isn't null, is how many replies are kept. A refusal is a reply, and the call answers PYBUF_OK.
  * PYBUF_BAD_LINE: nothing was run, and *line, where it isn't null, is the number of the first line that is no command,
  * from 1. PYBUF_NO_MEMORY: the lines before the one in which memory ran out were run, and their replies are kept. */

@@ -9,13 +9,18 @@
 - An input of the program has to be an example of `examples/`, with the output that the document shows.
 - A session that stands beside Python has to be an example, with these replies, and Python, run here, has to give what the
   replies say.
+- Lines that stand with their replies have to be a part of an example. Code that stands in four languages has to stand in files that are
+  tested.
 - Each example has to be named in `examples/README.md`.
 - A picture has to be what `tools/draw_pictures.py` draws from the replies of its examples.
-- A line in a table of `docs/COMMANDS.md` has to stand in an example, with the reply of the table. A value in its table of
+- A line in a table of `docs/reference/commands.md` has to stand in an example, with the reply of the table. A value in its table of
   values has to stand in the input of one, and a reply in its table of replies in the output of one.
-- A file or a folder that a document names has to be there, and so has a case or a test that `docs/DIFFERENCES.md` names.
-- `docs/DEFINITIONS.md` has to name each file of definitions but those of laws, and those that the contract of `serve`
-  imports, through others too, under the heading that says so, and no others there.
+- A file or a folder that a document names has to be there, and so has a case or a test that `docs/reference/differences.md` names.
+- A link to a heading has to name one.
+- `docs/reference/api` has to be what `tools/write_reference.py` writes, and every public item has to have a doc comment.
+- A page of `docs/` says in its first line for whom it is, and has at most 400 lines. All pages that people write have at most
+  30,000 words, and README at most 900.
+- What `tools/page_blocks.py` says of the blocks of code: each is run, or compared with a tested file, or says why not.
 """
 
 import pathlib
@@ -26,16 +31,24 @@ import sys
 sys.dont_write_bytecode = True
 
 import draw_pictures
+import page_blocks
+import write_reference
 
 ROOT = pathlib.Path(__file__).resolve().parent.parent
 TOP = [ROOT / "README.md", ROOT / "CONTRIBUTING.md", ROOT / "CHANGELOG.md", ROOT / "examples/README.md"]
 # The name of a crate, as a pattern.
 CRATE = r"(?:pybuf|test|golden|bench|example)_\w+"
-DOCUMENTS = TOP + sorted((ROOT / "docs").glob("*.md"))
-# The heading of the definitions that the contract of `serve` cites.
-CITED = "## Cited by the contract of `serve`"
+API = ROOT / "docs/reference/api"
+DOCUMENTS = TOP + sorted(path for path in (ROOT / "docs").glob("**/*.md") if API not in path.parents)
+# How many lines a page may have, how many words README, and how many all pages that people write, but the list of changes.
+LINES, FIRST_WORDS, WORDS = 400, 900, 30_000
 # The head of a session that is shown beside Python.
 BESIDE_PYTHON = "| Line | Reply | In Python |"
+# The head of a session, or a part of one, that stands with its replies.
+SHOWN = "| You write | It replies |"
+# The head of tasks in four languages, and where the code of each language is tested.
+TASKS = "| Task | Rattle | C | Rust | Python |"
+TESTED = ["crates/example_calls/src/*.rt", "bindings/c/*.c", "bindings/rust/examples/*.rs", "bindings/python/*.py"]
 ENDINGS = {"rust": ".rt", "antt": ".antt"}
 BOUND = {"c": "c/*.c", "rs": "rust/examples/*.rs", "python": "python/*.py"}
 faults = []
@@ -106,7 +119,7 @@ def check_blocks(document, lines, kept):
             block = "".join(part + "\n" for part in lines[start : number - 1])
             if not any(path.read_text() == block for path in (ROOT / "bindings").glob(BOUND[language])):
                 report(document, start, f"the block is no file of bindings/{BOUND[language]}")
-        ending = ENDINGS.get(language)
+        ending = None if document.parent.name == "learn" and start in page_blocks.written(lines) else ENDINGS.get(language)
         if ending is not None:
             block = stripped(lines[start : number - 1])
             if ending not in kept:
@@ -163,11 +176,16 @@ def check_inputs(document, lines, examples):
                 report(document, at + 1, f"there is no example {tried[1]}")
             elif shown and shown != stored.read_text():
                 report(document, at + 1, "the example has another output")
-        piped = re.fullmatch(r" {4}\$ (printf .*) \| pybuf((?: (?:array|table) .*)?)", line)
+        piped = re.fullmatch(r" {4}\$ (printf .*) \| pybuf((?: (?:array .*|table .*|share))?)", line)
         if piped is not None:
             text = shlex.split(piped[1])[1].encode().decode("unicode_escape")
             if shlex.split(piped[2]) not in words_of(text, shown_behind(lines, at + 1)):
                 report(document, at + 1, "no example has this input, these words and this output")
+        alone = re.fullmatch(r" {4}\$ pybuf (make \d+)", line)
+        if alone is not None and alone[1].split() not in [
+            word for given, written in examples if written == shown_behind(lines, at + 1) for word in words_of(given, written)
+        ]:
+            report(document, at + 1, "no example has these words and this output")
         if re.fullmatch(r" {4}\$ cat > \S+ <<'END'", line) is not None:
             end = lines.index("    END", at)
             text = "".join(part[4:] + "\n" for part in lines[at + 1 : end])
@@ -207,6 +225,25 @@ def check_beside_python(document, lines, examples):
         report(document, 1, "no session stands beside Python")
 
 
+def check_shown(document, lines, examples):
+    """Sessions that stand with their replies: each is a run of lines of an example."""
+    runs = [list(zip(given.split("\n"), written.split("\n"))) for given, written in examples]
+    for start, line in enumerate(lines):
+        if line.startswith(SHOWN):
+            shown = [tuple(quoted(cell)[0] for cell in cells[:2]) for _, cells in rows(lines[start:], SHOWN)]
+            if not any(shown == run[at : at + len(shown)] for run in runs for at in range(len(run))):
+                report(document, start + 1, "no example has these lines with these replies")
+
+
+def check_tasks(document, lines):
+    """The code of tasks in four languages: each piece stands in a line of a file that is tested."""
+    for number, cells in rows(lines, TASKS):
+        for cell, pattern in zip(cells[1:], TESTED):
+            for code in quoted(cell):
+                if not any(code in path.read_text() for path in ROOT.glob(pattern)):
+                    report(document, number, f"{code} stands in no file {pattern}")
+
+
 def check_examples(document, lines):
     """Every example is named."""
     named = {name for line in lines for name in quoted(line)}
@@ -217,8 +254,8 @@ def check_examples(document, lines):
 
 def check_pictures():
     """Every picture is there, as it is drawn from what is stored of its examples."""
-    drawn = {ROOT / "docs" / name: text for name, text in draw_pictures.pictures(draw_pictures.stored).items()}
-    for path in sorted({*drawn, *(ROOT / "docs").glob("*.svg")}):
+    drawn = {draw_pictures.FOLDER / name: text for name, text in draw_pictures.pictures(draw_pictures.stored).items()}
+    for path in sorted({*drawn, *(ROOT / "docs").glob("**/*.svg")}):
         if not path.exists() or drawn.get(path) != path.read_text():
             report(path, 1, "tools/draw_pictures.py draws another picture")
 
@@ -291,59 +328,52 @@ def check_tables(document, lines, examples):
             report(document, number, f"no example has the reply {reply}")
 
 
-def named_definitions(lines):
-    """Files of definitions that are named, with the number of the line. A name without a folder lies in that named last."""
-    folder = ""
-    for number, line in enumerate(lines, 1):
-        for name in re.findall(r"`([^`\s]+)`", line):
-            whole = re.fullmatch(rf"({CRATE}/specs/)(\w+\.antt)?", name)
-            if whole is not None:
-                folder = whole[1]
-                name = whole[2] or ""
-            if folder and re.fullmatch(r"[A-Z]\w+(\.antt)?", name):
-                yield number, f"crates/{folder}{name.removesuffix('.antt')}.antt", whole is not None or name.endswith(".antt")
+def words_in(text):
+    """How many words a text has: what stands between blanks and has a letter or a digit, code and tables too."""
+    return sum(1 for word in text.split() if re.search(r"\w", word))
 
 
-def imported_definitions(start):
-    """The files of definitions that one imports, through others too, and that one."""
-    found, waiting = set(), [start]
-    while waiting:
-        path = waiting.pop()
-        if path in found:
-            continue
-        found.add(path)
-        for crate, name in re.findall(rf"^use Rattle\.({CRATE})\.specs\.(\w+)", path.read_text(), re.MULTILINE):
-            other = ROOT / "crates" / crate / "specs" / f"{name}.antt"
-            if other.exists():
-                waiting.append(other)
-    return {str(path.relative_to(ROOT)) for path in found}
-
-
-def check_cited(document, lines):
-    """The section on what the contract of `serve` cites names the files that it imports, and no others."""
-    start = next((at for at, line in enumerate(lines) if line.startswith(CITED)), None)
-    if start is None:
-        report(document, 1, f"there is no heading {CITED}")
+def check_size(document, lines):
+    """How long a page is, and that its first line says for whom it is."""
+    if document == ROOT / "README.md" and words_in("\n".join(lines)) > FIRST_WORDS:
+        report(document, 1, f"it has {words_in(chr(10).join(lines))} words, and may have {FIRST_WORDS}")
+    if ROOT / "docs" not in document.parents:
         return
-    end = next(at for at, line in enumerate([*lines[start + 1 :], "## "], start + 1) if line.startswith("## "))
-    named = {name for _, name, _ in named_definitions(lines[start:end]) if (ROOT / name).exists()}
-    cited = imported_definitions(ROOT / "crates/pybuf_cli/specs/Serving.antt")
-    for name in sorted(cited - named):
-        report(document, start + 1, f"{name} is imported by the contract of `serve`, and is not named in this section")
-    for name in sorted(named - cited):
-        report(document, start + 1, f"{name} is not imported by the contract of `serve`")
+    if len(lines) - 1 > LINES:
+        report(document, 1, f"it has {len(lines) - 1} lines, and may have {LINES}")
+    if len(lines) < 3 or not lines[0].startswith("# ") or not lines[2].startswith("For "):
+        report(document, 3, "its first line doesn't say for whom it is (`For ..`)")
 
 
-def check_definitions(document, lines):
-    """Every file of definitions is named, and every file that is named is there."""
-    named = set()
-    for number, name, is_file in named_definitions(lines):
-        named.add(name)
-        if is_file and not (ROOT / name).exists():
-            report(document, number, f"{name} is not there")
-    for path in sorted((ROOT / "crates").glob("*/specs/*.antt")):
-        if path.name not in ("Lib.antt", "Laws.antt") and str(path.relative_to(ROOT)) not in named:
-            report(document, 1, f"{path.relative_to(ROOT)} is not named")
+def check_words():
+    """How many words all pages have."""
+    count = sum(words_in(path.read_text()) for path in DOCUMENTS if path.name != "CHANGELOG.md" and path.exists())
+    if count > WORDS:
+        faults.append(f"all pages have {count} words, and may have {WORDS}")
+
+
+def check_reference():
+    """The generated reference is what the script writes, and every public item has a doc comment."""
+    written = {API / name: text for name, text in write_reference.pages().items()}
+    for path in sorted({*written, *API.glob("*")}):
+        if not path.exists() or written.get(path) != path.read_text():
+            report(path, 1, "tools/write_reference.py writes another page")
+    for crate in write_reference.crates():
+        for item in write_reference.public(crate):
+            if not item.docs:
+                report(item.file, item.line, f"{item.full()} has no doc comment")
+
+
+def anchors(path, kept={}):
+    """The names by which the headings of a page are linked."""
+    if path not in kept:
+        inside, found = False, set()
+        for line in path.read_text().split("\n"):
+            inside = inside != line.startswith("```")
+            if not inside and re.match(r"#+ ", line):
+                found.add(write_reference.anchor(line.lstrip("#").strip()))
+        kept[path] = found
+    return kept[path]
 
 
 def check_differences(document, lines):
@@ -370,21 +400,27 @@ def check_differences(document, lines):
 def check_names(document, lines):
     """Files and folders that are named between backquotes or linked."""
     tops = ("crates/", "docs/", "examples/", "cases/", "tools/", "bench/", ".ci/")
+    made = page_blocks.written(lines).values() if document.parent.name == "learn" else ()
     for number, line in enumerate(lines, 1):
         for name in re.findall(r"`([^`\s]+)`", line):
             if re.match(rf"{CRATE}/(src|specs|proofs)/", name):
                 name = "crates/" + name
             if name.startswith(tops) and not re.search(r"[A-Z]{3,}/|NAME|[*{<]", name):
                 path = name.split("::")[0].rstrip("/")
-                if "/out" not in path and not (ROOT / path).exists():
+                if "/out" not in path and path not in made and not (ROOT / path).exists():
                     report(document, number, f"{name} is not there")
-        for name in re.findall(r"\]\(([^)#\s]+)(?:#[^)]*)?\)", line):
-            if "://" not in name and not (document.parent / name).exists():
+        for name, heading in re.findall(r"\]\(([^)#\s]*)(?:#([^)]*))?\)", line):
+            if "://" in name:
+                continue
+            path = document.parent / name if name else document
+            if not path.exists():
                 report(document, number, f"{name} is not there")
+            elif heading and path.suffix == ".md" and heading not in anchors(path):
+                report(document, number, f"{name or 'this page'} has no heading #{heading}")
 
 
 def main():
-    kept = {}
+    kept, tables = {}, []
     examples = outputs()
     for document in DOCUMENTS:
         if not document.exists():
@@ -394,18 +430,24 @@ def main():
         check_blocks(document, lines, kept)
         check_inputs(document, lines, examples)
         check_beside_python(document, lines, examples)
+        check_shown(document, lines, examples)
+        check_tasks(document, lines)
         check_edits(document, lines)
         check_names(document, lines)
-        if document.name == "DEFINITIONS.md":
-            check_definitions(document, lines)
-            check_cited(document, lines)
-        if document.name == "DIFFERENCES.md":
+        check_size(document, lines)
+        faults.extend(page_blocks.faults_of(document, lines))
+        if document == ROOT / "docs/reference/differences.md":
             check_differences(document, lines)
-        if document.name == "COMMANDS.md":
-            check_tables(document, lines, examples)
+        if document == ROOT / "docs/reference/commands.md":
+            tables += lines
+        if document == ROOT / "docs/reference/forms.md":
+            tables += lines
         if document == ROOT / "examples/README.md":
             check_examples(document, lines)
+    check_tables(ROOT / "docs/reference/commands.md", tables, examples)
     check_pictures()
+    check_reference()
+    check_words()
     for fault in faults:
         print(fault)
     return 1 if faults else 0

@@ -4,7 +4,7 @@
     python3 tools/compare.py FOLDER [SEED [COUNT]]
     cd crates/pybuf_program && rt try --cases FOLDER
 
-The replies are those of Python's own objects, but for the differences that `docs/DIFFERENCES.md`
+The replies are those of Python's own objects, but for the differences that `docs/reference/differences.md`
 names, each of which `Ours` has in one place. Nothing of this is a part of the tests.
 """
 import operator

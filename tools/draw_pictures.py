@@ -1,5 +1,6 @@
 #!/usr/bin/env python3
-"""Draws the pictures of `docs/`, and writes them: two from the replies of the program, and that of the floors from `crates.txt`.
+"""Draws the pictures of `docs/pictures`, and writes them: two from the replies of the program, that of the floors from `crates.txt`, and
+that of the kernels from `bench/figures/kernels.txt`.
 
     python3 tools/draw_pictures.py [PROGRAM]
 
@@ -18,6 +19,8 @@ import sys
 
 ROOT = pathlib.Path(__file__).resolve().parent.parent
 PROGRAM = ROOT / "crates/pybuf_program/out/pybuf_program"
+FOLDER = ROOT / "docs/pictures"
+FIGURES = ROOT / "bench/figures/kernels.txt"
 SLICES, BAD_LINE = "slices-of-a-cast", "bad-line"
 CODE = "ui-monospace, SFMono-Regular, Menlo, Consolas, 'DejaVu Sans Mono', monospace"
 PLAIN = "system-ui, 'Segoe UI', Roboto, 'DejaVu Sans', Arial, sans-serif"
@@ -248,6 +251,42 @@ def picture_of_floors():
     return picture.svg()
 
 
+def kernels():
+    """The kernels of `bench/figures/kernels.txt`: the name of each, and our time divided by CPython's."""
+    found = {}
+    for line in FIGURES.read_text().splitlines():
+        words = line.split()
+        if not line.startswith("#") and len(words) == 5 and words[0] != "kernel":
+            found[words[0]] = float(words[1]) / float(words[2])
+    return sorted(found.items(), key=lambda it: (it[1], it[0]))
+
+
+def picture_of_kernels():
+    """A bar for each kernel, from the quickest beside CPython to the slowest, with a line at 1.0."""
+    rows = kernels()
+    half = (len(rows) + 1) // 2
+    left, scale, step, top, wide = 178, 150, 14, 66, 500
+    picture = Picture(
+        2 * wide,
+        top + step * half + 14,
+        "Our time for each kernel, divided by CPython's",
+        "A bar for each kernel, sorted. A bar that ends left of the line at 1.0 is of a kernel in which we are quicker than CPython.",
+    )
+    quicker = sum(ratio <= 1 for _, ratio in rows)
+    picture.text(22, 30, f"Our time divided by CPython's: {quicker} of {len(rows)} kernels are as quick or quicker", bold=True, size=15)
+    for column in (0, 1):
+        x = column * wide + left
+        picture.text(x + scale, top - 12, "1.0", anchor="middle", size=11, ink=SOFT)
+        for number, (name, ratio) in enumerate(rows[column * half : (column + 1) * half]):
+            y = top + step * number
+            picture.text(x - 8, y + 10, name, anchor="end", code=True, size=11)
+            picture.box(x, y + 1, max(1, ratio * scale), step - 3, GREEN if ratio <= 1 else ORANGE, round=1)
+            picture.text(x + max(1, ratio * scale) + 5, y + 10, f"{ratio:.2f}", size=10, ink=SOFT)
+        bottom = top + step * len(rows[column * half : (column + 1) * half])
+        picture.parts.append(f'<path d="M{x + scale:g} {top - 6:g}V{bottom:g}" stroke="{INK}" stroke-dasharray="3 3"/>')
+    return picture.svg()
+
+
 def pictures(output_of):
     """The pictures by the names of their files, from what is written for an example and the status that comes."""
     lines = (ROOT / "examples" / SLICES).read_text().splitlines()
@@ -263,6 +302,7 @@ def pictures(output_of):
         "places-of-views.svg": picture_of_places(reply),
         "line-to-reply.svg": picture_of_reply(reply, (bad, told, status)),
         "floors.svg": picture_of_floors(),
+        "kernels.svg": picture_of_kernels(),
     }
 
 
@@ -282,8 +322,8 @@ def main(words):
         return run.stdout.decode(), run.returncode
 
     for name, text in pictures(replied).items():
-        (ROOT / "docs" / name).write_text(text)
-        print(f"docs/{name}")
+        (FOLDER / name).write_text(text)
+        print(f"docs/pictures/{name}")
 
 
 if __name__ == "__main__":

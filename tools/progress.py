@@ -5,7 +5,7 @@
 
 Behind each line that tells that a crate or its tests were proved stands one with how many of how many that makes, and the minutes
 since the start. While nothing comes for two minutes, such a line stands there all the same. It reads the names of the crates from
-`crates.txt`, and the tests and edits from their folders.
+`crates.txt`, and the tests and edits from their folders. The line with how many have passed it keeps in `out/gate-count.txt`.
 """
 import os
 import pathlib
@@ -17,6 +17,8 @@ import time
 
 ROOT = pathlib.Path(__file__).resolve().parent.parent
 QUIET_SECONDS = 120
+COUNT = ROOT / "out/gate-count.txt"
+COUNTED = re.compile(rb"\d+ passed, \d+ failed.*")
 PROVED = re.compile(rb"rt: (\w+)(: its tests are)? (proved|NOT PROVED.*|is kept: .*)")
 TRIES = re.compile(rb"rt: (\w+): trying its must-fail edits \((\d+)\)")
 
@@ -56,6 +58,14 @@ def write(text):
     os.write(1, text) if isinstance(text, bytes) else os.write(1, text.encode())
 
 
+def keep(line):
+    try:
+        COUNT.parent.mkdir(exist_ok=True)
+        COUNT.write_bytes(line + b"\n")
+    except OSError:
+        pass
+
+
 def main():
     # (what rt ci still says when it is stopped is passed on)
     signal.signal(signal.SIGINT, signal.SIG_IGN)
@@ -72,6 +82,8 @@ def main():
         *lines, left = (left + more).split(b"\n")
         for line in lines:
             write(line + b"\n")
+            if COUNTED.fullmatch(line):
+                keep(line)
             if progress.is_told_by(line):
                 write(progress.line())
 

@@ -286,7 +286,7 @@ class World:
 
 
 class AsWritten(World):
-    """Python's objects, but for three differences of what is written, which `docs/DIFFERENCES.md` names: a
+    """Python's objects, but for three differences of what is written, which `docs/reference/differences.md` names: a
     slice of a bytearray, and what a method of one gives, is `bytes`; the parts of a partition are a list of
     such; and a view is shown by its number among those of its exporter."""
 

@@ -7,8 +7,8 @@
     ./test --list      the names of the parts
 
 It proves nothing. Its parts are each crate of tests and each program with stored output, which `rt try` builds and runs; the
-cases and examples; what the pages show; the sections of programs, as `readelf` has them; and the bindings. As many parts
-run side by side as there are processors, and memory for them. Each has a line when it ends; of one that failed, what it said
+cases and examples; what the pages show; the pages to learn from, which are followed in a fresh folder; the sections of programs, as
+`readelf` has them; a release; and the bindings. As many parts run side by side as there are processors, and memory for them. Each has a line when it ends; of one that failed, what it said
 stands below, with the command that repeats it alone. What can't be run here is skipped, and the reason said.
 
 The last line is `N passed, M failed`, or `N passed, M failed, K skipped`: of test functions, programs, cases and checks. The
@@ -179,14 +179,18 @@ def parts(built):
             command_part("sections", "python3", "tools/compare_sections.py"),
             command_part("bindings-build", "bindings/build", "--after-ci"),
             command_part("bindings", "bindings/test"),
+            command_part("release", "python3", "tools/check_release.py"),
         ]
     return [
         command_part("cases", "python3", "tools/run_cases.py", "--unproved"),
         command_part("examples", "python3", "tools/run_cases.py", "--unproved", "examples"),
         *crate_parts(),
+        command_part("file-reader", "python3", "tools/run_pages.py", "file-reader"),
+        command_part("interpreter", "python3", "tools/run_pages.py", "interpreter"),
         *checks,
         command_part("sections", "python3", "tools/compare_sections.py", "--stored"),
         command_part("exports", "python3", "bindings/check_exports.py"),
+        command_part("release", "python3", "tools/check_release.py", "--stand-in"),
         skipped_part("bindings", "bindings/build && bindings/test", "rt builds a static library of a proved crate alone; `.ci/run` runs them"),
     ]
 

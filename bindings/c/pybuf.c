@@ -83,6 +83,11 @@ const char *pybuf_status_name(pybuf_status status)
     return "no status";
 }
 
+const char *pybuf_version(void)
+{
+    return PYBUF_VERSION;
+}
+
 pybuf_status pybuf_world_new(pybuf_world **world)
 {
     NEEDS(world != NULL, PYBUF_NULL_POINTER);

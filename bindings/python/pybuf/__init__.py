@@ -2,12 +2,14 @@
 
 A `ByteArray` behaves as `bytearray` does, a `MemoryView` as `memoryview` and a `Struct` as `struct.Struct`, and they raise
 Python's own exceptions.
-A `World` runs lines, as the program does. The shared object is the one that `bindings/build` makes, or that the
-environment names by PYBUF_LIBRARY.
+A `World` runs lines, as the program does. The shared library is that which the environment names by PYBUF_LIBRARY, or lies in this package,
+in the prefix where `tools/install` put the package, or in bindings/out of the repository. Else the system's loader looks for it.
+`python3 -m pybuf` prints the versions of the package and of the library.
 """
-from ._calls import Status, struct_error
+from ._calls import Status, library_version, struct_error
 from ._formats import Struct
 from ._objects import ByteArray, MemoryView
+from ._version import __version__
 from ._worlds import BadLine, World
 
-__all__ = ['BadLine', 'ByteArray', 'MemoryView', 'Status', 'Struct', 'World', 'struct_error']
+__all__ = ['BadLine', 'ByteArray', 'MemoryView', 'Status', 'Struct', 'World', '__version__', 'library_version', 'struct_error']

@@ -5,6 +5,8 @@ import os
 import pathlib
 import struct
 
+from ._version import __version__
+
 struct_error = struct.error
 
 
@@ -106,12 +108,26 @@ def word_of(value, refusal=IndexError):
     return number
 
 
-def _library():
+def _places():
+    """Where the shared library may lie: beside the modules as in a wheel, in lib/ of a prefix, in bindings/out."""
     here = pathlib.Path(__file__).resolve().parent
-    path = os.environ.get('PYBUF_LIBRARY') or here.parent.parent / 'out' / 'libpybuf.so'
-    return ctypes.CDLL(str(path))
+    yield here / _NAME
+    if here.parts[-4:-1] == ('lib', 'pybuf', 'python'):
+        yield here.parents[2] / _NAME
+    yield here.parents[1] / 'out' / 'libpybuf.so'
 
 
+def _library():
+    path = os.environ.get('PYBUF_LIBRARY') or next((it for it in _places() if it.is_file()), _NAME)
+    try:
+        library = ctypes.CDLL(str(path))
+        library.pybuf_version.restype = ctypes.c_char_p
+    except (OSError, AttributeError) as fault:
+        raise ImportError(f'pybuf: {path} is no library of pybuf {__version__} ({fault}): let PYBUF_LIBRARY name it') from None
+    return library
+
+
+_NAME = f'libpybuf.so.{__version__.partition(".")[0]}'
 _LIB = _library()
 _WORLD = _FORMAT = ctypes.c_void_p
 _OBJECT = ctypes.c_uint64
@@ -170,6 +186,11 @@ for _name, _parameters in _PARAMETERS.items():
     _function = getattr(_LIB, f'pybuf_{_name}')
     _function.restype = ctypes.c_int
     _function.argtypes = _parameters
+
+def library_version():
+    """The version of the shared library that is loaded."""
+    return _LIB.pybuf_version().decode()
+
 
 raw = {name: getattr(_LIB, f'pybuf_{name}') for name in _PARAMETERS}
 

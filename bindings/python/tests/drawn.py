@@ -142,7 +142,7 @@ def array_operation(draw):
 
 
 def whole(k):
-    """A key with a step of 1: of an extended slice that is assigned other lengths we differ (docs/DIFFERENCES.md)."""
+    """A key with a step of 1: of an extended slice that is assigned other lengths we differ (docs/reference/differences.md)."""
     return slice(k.start, k.stop)
 
 
@@ -260,7 +260,7 @@ def compare_arrays(draw, count):
         words, operation = array_operation(draw)
         answers = outcome(operation, theirs), outcome(operation, ours)
         if lent and answers[0] != answers[1] and answers[1] == ('raises', BufferError):
-            continue  # a length that is asked for is refused before what is there: docs/DIFFERENCES.md
+            continue  # a length that is asked for is refused before what is there: docs/reference/differences.md
         if answers[0] != answers[1] or bytes(theirs) != bytes(ours):
             differs(words, content, (answers[0], bytes(theirs)), (answers[1], bytes(ours)))
         for view in views:
@@ -284,7 +284,7 @@ def compare_views(draw, count):
             if answers[0][0] == 'memoryview':  # go on with the view that was made
                 pair = operation(pair[0]), operation(pair[1])
                 if not pair[0].nbytes and not pair[0].contiguous:
-                    break  # a view without bytes is contiguous here: docs/DIFFERENCES.md
+                    break  # a view without bytes is contiguous here: docs/reference/differences.md
 
 
 def compare_formats(draw, count):

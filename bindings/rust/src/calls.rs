@@ -76,6 +76,7 @@ type World = *mut RawWorld;
 type Format = *mut RawFormat;
 
 extern "C" {
+    pub fn pybuf_version() -> *const std::ffi::c_char;
     pub fn pybuf_world_new(world: *mut World) -> i32;
     pub fn pybuf_world_free(world: World) -> i32;
     pub fn pybuf_world_run(world: World, text: *const u8, length: usize, count: *mut usize, line: *mut u64) -> i32;

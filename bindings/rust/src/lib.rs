@@ -24,3 +24,12 @@ pub use error::{Error, Result};
 pub use formats::{Format, Value};
 pub use objects::{ByteArray, Iter, MemoryView, Slice};
 pub use world::{RunError, World};
+
+/// The version of this crate.
+pub const VERSION: &str = env!("CARGO_PKG_VERSION");
+
+/// The version of the library that is linked. It is that of the crate, unless PYBUF_OUT names another library.
+pub fn library_version() -> String {
+    // what is answered ends with a zero, and stays
+    unsafe { std::ffi::CStr::from_ptr(calls::pybuf_version()) }.to_string_lossy().into_owned()
+}

@@ -1,4 +1,4 @@
-//! The examples of docs/LIBRARY.md, a module for each of its parts. What is shown there stands here word for word,
+//! The examples of docs/tasks/rattle.md, a module for each of its parts. What is shown there stands here word for word,
 //! and is run as a test.
 #![tactic(auto)]
 

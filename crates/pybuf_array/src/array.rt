@@ -7,11 +7,12 @@ use pybuf_object::PyByteArray;
 use std::alloc::Global;
 use std::marker::Model;
 
-/// Python's `array` of whole numbers of one code, and the memoryviews of it ("array: Efficient arrays of numeric
-/// values"). While a view is unreleased, no number is added or taken out.
+/// Python's `array` of whole numbers of one code, and the memoryviews of it (Library reference, "array: Efficient
+/// arrays of numeric values"). While a view is unreleased, no number is added or taken out.
 ///
 /// A clause sees the code, the numbers, and of each view that was ever made which numbers it shows and whether it was
 /// released.
+/// Example: with the code of `h` and the numbers 1 and -2 it stands for Python's `array('h', [1, -2])`.
 #[derive(Debug, Drop)]
 pub struct PyArray {
     pub(crate) code: ArrayCode,
@@ -35,6 +36,7 @@ impl Model for PyArray {
 
 impl PyArray {
     /// An array of no numbers, and no view of it. Takes no memory.
+    /// Example: with the code of `h` it is Python's `array('h')`.
     pub fn new(alloc: Global, code: ArrayCode) -> PyArray
         ensures { result ≡ spec.new_array code }
     {
@@ -46,7 +48,8 @@ impl PyArray {
         }
     }
 
-    /// The code.
+    /// The code of its numbers. Takes no memory.
+    /// Example: of Python's `array('h', [1])` it is the code that `ArrayCode::from_byte(b'h')` gives.
     pub fn code(&self) -> ArrayCode
         ensures { result ≡ self.now.code }
     {
@@ -54,6 +57,7 @@ impl PyArray {
     }
 
     /// The number of numbers, as Python's `len(array)`. Takes no memory.
+    /// Example: of `array('h', [1, -2])` it is 2.
     pub fn len(&self) -> usize
         ensures count { result ≡ length self.now.numbers }
         ensures small { result < 2 ^ 63 }
@@ -64,6 +68,7 @@ impl PyArray {
     }
 
     /// The number of unreleased views. Takes no memory.
+    /// Example: it is 1 after `view`, and 0 once that view is released.
     pub fn exports(&self) -> usize
         ensures { result ≡ spec.exports_in self.now }
     {

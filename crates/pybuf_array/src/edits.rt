@@ -87,8 +87,9 @@ impl PyArray {
 
     /// Adds a number at the end, as Python's `array.append(value)`.
     ///
-    /// Refused with `OverflowError` where the code hasn't the number, and then with `BufferError` where a view is
-    /// unreleased. Where memory runs out, nothing is changed.
+    /// Refused with `OverflowError` where the number is out of the code's range, and then with `BufferError` where a
+    /// view is unreleased. Where it is refused, or memory runs out, nothing is changed.
+    /// Example: `array('h', [1])` with 2 is `array('h', [1, 2])`, and 40,000 is refused with `OverflowError`.
     pub fn append(&mut self, value: i128) -> Result<(), Halt>
         ensures { Settles (spec.appended self.old value) self.old result self.new }
     {
@@ -112,8 +113,9 @@ impl PyArray {
 
     /// Adds numbers at the end, as Python's `array.extend(values)`. The array grows once.
     ///
-    /// Refused with `OverflowError` where the code hasn't one of them, and then with `BufferError` where a view is
-    /// unreleased. Where memory runs out, nothing is changed.
+    /// Refused with `OverflowError` where one of them is out of the code's range, and then with `BufferError` where a
+    /// view is unreleased. Where it is refused, or memory runs out, nothing is changed.
+    /// Example: `array('h')` with `[1, -2, 3]` is `array('h', [1, -2, 3])`.
     pub fn extend(&mut self, values: &[i128]) -> Result<(), Halt>
         ensures { Settles (spec.extended self.old values.now) self.old result self.new }
     {
@@ -127,8 +129,10 @@ impl PyArray {
     /// Puts a number before the place that is nearest to an index, as Python's `array.insert(index, value)`. A
     /// negative index counts from the end.
     ///
-    /// Refused with `OverflowError` where the index doesn't fit `isize`, and where the code hasn't the number; then
-    /// with `BufferError` where a view is unreleased. Where memory runs out, nothing is changed.
+    /// Refused with `OverflowError` where the index doesn't fit `isize`, and where the number is out of the code's
+    /// range; then with `BufferError` where a view is unreleased. Where it is refused, or memory runs out, nothing is
+    /// changed.
+    /// Example: `array('h', [1, 3])` with the index 1 and the number 2 is `array('h', [1, 2, 3])`.
     pub fn insert(&mut self, index: i128, value: i128) -> Result<(), Halt>
         ensures { Settles (spec.inserted self.old index value) self.old result self.new }
     {
@@ -140,10 +144,11 @@ impl PyArray {
         Ok(())
     }
 
-    /// Takes the number at an index out, as Python's `array.pop(index)`; the last where none is given.
+    /// Takes the number at an index out, as Python's `array.pop(index)`, or the last where none is given.
     ///
-    /// Refused with `OverflowError` where the index doesn't fit `isize`, with `IndexError` out of range, and then with
-    /// `BufferError` where a view is unreleased. Takes no memory.
+    /// Refused with `OverflowError` where the index doesn't fit `isize`, with `IndexError` out of range, and then
+    /// with `BufferError` where a view is unreleased. Nothing is changed then. Takes no memory.
+    /// Example: of `array('h', [1, 20, 3])` `pop(None)` is `Ok(3)`, and leaves `array('h', [1, 20])`.
     pub fn pop(&mut self, index: Option<i128>) -> Result<i128, Fault>
         ensures { SettlesAtOnce (spec.popped self.old index) self.old result self.new }
     {
@@ -155,9 +160,11 @@ impl PyArray {
         Ok(number)
     }
 
-    /// Takes the first number that is this one out, as Python's `array.remove(value)`.
+    /// Takes out the first number that is this one, as Python's `array.remove(value)`.
     ///
-    /// Refused with `ValueError` where none is, and then with `BufferError` where a view is unreleased. Takes no memory.
+    /// Refused with `ValueError` where no number is this one, and then with `BufferError` where a view is unreleased.
+    /// Nothing is changed then. Takes no memory.
+    /// Example: `array('h', [1, 2, 1])` without 1 is `array('h', [2, 1])`.
     pub fn remove(&mut self, value: i128) -> Result<(), Fault>
         ensures { SettlesAtOnce (spec.removed self.old value) self.old result self.new }
     {
@@ -169,8 +176,9 @@ impl PyArray {
 
     /// Adds the numbers of bytes at the end, as Python's `array.frombytes(bytes)`. The array grows once.
     ///
-    /// Refused with `ValueError` where the bytes aren't those of whole numbers, and then with `BufferError` where a view
-    /// is unreleased. Where memory runs out, nothing is changed.
+    /// Refused with `ValueError` where the bytes aren't those of whole numbers, and then with `BufferError` where a
+    /// view is unreleased. Where it is refused, or memory runs out, nothing is changed.
+    /// Example: `array('h')` with `b"\x01\x00\x02\x00"` is `array('h', [1, 2])`; `b"\x01"` is refused with `ValueError`.
     pub fn frombytes(&mut self, bytes: &[u8]) -> Result<(), Halt>
         ensures { Settles (spec.read_from self.old bytes.now) self.old result self.new }
     {

@@ -49,14 +49,16 @@ impl PyArray {
     }
 
     /// All numbers, in order, as Python's `array.tolist()`. It is one pass.
+    /// Example: of `array('h', [1, -2])` it has the numbers 1 and -2.
     pub fn numbers(&self) -> Made<IntList>
         ensures { IfOk result (λ list. list ≡ self.now.numbers) }
     {
         numbers(self.alloc, self.code, self.bytes.as_slice())
     }
 
-    /// Reverses the bytes of each number, as Python's `array.byteswap()`. It is one pass, and takes no memory. Views
-    /// don't matter: they show it.
+    /// Reverses the bytes of each number, as Python's `array.byteswap()`. It is one pass, and takes no memory. It is
+    /// done also while a view is unreleased, and the views show it.
+    /// Example: `array('h', [1])` is `array('h', [256])` then.
     pub fn byteswap(&mut self)
         ensures { self.new ≡ spec.with_swapped self.old }
     {
@@ -85,6 +87,7 @@ impl PyArray {
     /// The number at an index, as Python's `array[index]`, where a negative index counts from the end. Takes no memory.
     ///
     /// Refused with `IndexError` out of range.
+    /// Example: of `array('h', [1, -2])` the index -1 gives `Ok(-2)`, and the index 2 `Err(Fault::Index)`.
     pub fn get(&self, index: i128) -> Result<i128, Fault>
         ensures { result ≡ spec.number_named self.now index }
     {
@@ -92,10 +95,12 @@ impl PyArray {
         Ok(self.at(place))
     }
 
-    /// Puts a number in place of the one at an index, as Python's `array[index] = value`. Views don't matter: they show
-    /// it. Takes no memory.
+    /// Puts a number in place of the one at an index, as Python's `array[index] = value`. It is done also while a
+    /// view is unreleased, and the views show it. Takes no memory.
     ///
-    /// Refused with `IndexError` out of range, and then with `OverflowError` where the code hasn't the number.
+    /// Refused with `IndexError` out of range, and then with `OverflowError` where the number is out of the code's
+    /// range. Nothing is changed then.
+    /// Example: `array('h', [1, -2])` with the index 0 and the number 5 is `array('h', [5, -2])`.
     pub fn set(&mut self, index: i128, value: i128) -> Result<(), Fault>
         ensures { SettlesAtOnce (spec.put_at self.old index value) self.old result self.new }
     {
@@ -106,6 +111,7 @@ impl PyArray {
     }
 
     /// The bytes of all numbers, in native order, as Python's `array.tobytes()`. It is one copy.
+    /// Example: of `array('h', [1, -2])` it has the bytes `b"\x01\x00\xfe\xff"`.
     pub fn tobytes(&self) -> Made<ByteList>
         ensures { IfOk result (λ bytes. bytes ≡ bytes_of self.now.code self.now.numbers) }
     {

@@ -93,6 +93,7 @@ impl PyArray {
     }
 
     /// Carries out an operation. A refusal is a reply, and changes nothing. Where memory runs out, nothing is changed.
+    /// Example: `ArrayOp::Len` of `array('h', [1, -2])` replies `ArrayReply::Number(2)`.
     pub fn step(&mut self, op: &ArrayOp) -> Made<ArrayReply>
         ensures ok { IfOk result (λ r. spec.astep self.old op.now ≡ (self.new, r)) }
         ensures err { OnErr result (self.new ≡ self.old) }
@@ -114,11 +115,12 @@ impl PyArray {
         Ok(())
     }
 
-    /// Carries out the operations in order, and adds a reply for each; refusals are replies.
+    /// Carries out the operations in order, and adds a reply for each. A refusal is a reply too.
     ///
     /// Where memory runs out, array and replies are those of the operations that were answered before. However the
     /// operations are cut in two, the number of numbers doesn't change in the second part where a view that was made
     /// in the first is unreleased at its end.
+    /// Example: `append 1` and `len` on a new array add the replies `Ok` and `Number(1)`.
     pub fn run(&mut self, ops: &[ArrayOp], replies: &mut ArrayReplyList) -> Result<(), NoMemory>
         ensures array { OnOk result (self.new ≡ spec.array_after_all self.old ops.now) }
         ensures replies { OnOk result (replies.new ≡ replies.old ++ spec.replies_of self.old ops.now) }

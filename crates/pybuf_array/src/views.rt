@@ -40,7 +40,8 @@ impl PyArray {
     /// A view of all numbers, as Python's `memoryview(array)`. The answer is its number. While it is unreleased, no
     /// number is added or taken out.
     ///
-    /// Never refused. Where memory runs out, nothing is changed.
+    /// This is never refused. Where memory runs out, nothing is changed.
+    /// Example: of a new array it is 0.
     pub fn view(&mut self) -> Result<usize, Halt>
         ensures { Settles (Ok (spec.viewed self.old)) self.old result self.new }
     {
@@ -73,8 +74,10 @@ impl PyArray {
     /// A view of those numbers of a view that a slice picks, as Python's `view[slice]`. The answer is its number. It
     /// takes as long whatever the numbers are.
     ///
-    /// Refused with `UnknownName` where the view was never given, with `ValueError` where it was released, and then as
-    /// `SaturatedSlice::with_slice` refuses the slice. Where memory runs out, nothing is changed.
+    /// Refused with `UnknownName` where the view was never given, with `ValueError` where it was released, and then
+    /// as `SaturatedSlice::with_slice` refuses the slice. Where it is refused, or memory runs out, nothing is
+    /// changed.
+    /// Example: of a view of `array('h', [1, -2, 3])` the slice `PySlice::from(1..)` gives the number of a view of -2 and 3.
     pub fn vslice(&mut self, view: usize, slice: &PySlice) -> Result<usize, Halt>
         ensures { Settles (spec.view_sliced self.old view slice.now) self.old result self.new }
     {
@@ -100,6 +103,7 @@ impl PyArray {
     ///
     /// Refused with `UnknownName` where the view was never given, with `ValueError` where it was released, and with
     /// `IndexError` out of range.
+    /// Example: of a view of `array('h', [1, -2])` the index -1 gives `Ok(-2)`.
     pub fn vget(&self, view: usize, index: i128) -> Result<i128, Fault>
         ensures { result ≡ spec.number_in_view self.now view index }
     {
@@ -109,7 +113,9 @@ impl PyArray {
 
     /// Puts a number in place of the one at an index of a view, as Python's `view[index] = value`. Takes no memory.
     ///
-    /// Refused as `vget` refuses it, and then with `OverflowError` where the code hasn't the number.
+    /// Refused as `vget` refuses it, and then with `OverflowError` where the number is out of the code's range.
+    /// Nothing is changed then.
+    /// Example: through the view `1:` of `array('h', [1, -2, 3])` the index 0 and the number 20 make `array('h', [1, 20, 3])`.
     pub fn vset(&mut self, view: usize, index: i128, value: i128) -> Result<(), Fault>
         ensures { SettlesAtOnce (spec.put_in_view self.old view index value) self.old result self.new }
     {
@@ -121,7 +127,8 @@ impl PyArray {
 
     /// Releases a view, as Python's `view.release()`. One that was released before stays so. Takes no memory.
     ///
-    /// Refused with `UnknownName` exactly where it was never given.
+    /// Refused with `UnknownName` exactly where it was never given. Nothing is changed then.
+    /// Example: `array.release(0)` is `Ok(())` after one `view`, and `Err(Fault::UnknownName)` before.
     pub fn release(&mut self, view: usize) -> Result<(), Fault>
         ensures { SettlesAtOnce (spec.released_in self.old view) self.old result self.new }
     {

@@ -7,9 +7,10 @@ ghost use Rattle.pybuf_borrow.specs.Arguments.{argument_of};
 use pybuf_value::{Fault, Lender, Value, bytes_like};
 use std::marker::Model;
 
-/// An argument that is borrowed as bytes, where Python's documents ask for a bytes-like object (Glossary,
-/// "bytes-like object"): a bytes value, or a handle of an exporter or of a view whose items lie one after the
-/// other. Its bytes are lent by the value or by the lender, and aren't copied.
+/// An argument that is borrowed as bytes, where Python's documents ask for a bytes-like object (Glossary, "bytes-like
+/// object"). It is a bytes value, or a handle of an exporter or of a view whose items lie one after the other. Its
+/// bytes are lent by the value or by the lender, and aren't copied.
+/// Example: of the value `x616263` it lends `b"abc"`.
 #[derive(Debug, Drop)]
 pub struct ArgBytesLike<'a> {
     object: &'a Value,
@@ -36,11 +37,12 @@ fn like_in<'a, L: Lender>(value: &'a Value, lender: &'a L) -> Result<&'a [u8], F
 }
 
 impl<'a> ArgBytesLike<'a> {
-    /// The bytes of a value, borrowed.
+    /// The bytes of a value, borrowed. Takes no memory.
     ///
-    /// Refused with `UnknownName` where the lender hasn't the handle, with `ValueError` where it names a
-    /// released view, and with `TypeError` where it names a view whose items don't lie one after the other or
-    /// an iterator, and for every other value.
+    /// Refused with `UnknownName` where the lender hasn't the handle, with `ValueError` where it names a released
+    /// view, and with `TypeError` where it names a view whose items don't lie one after the other or an iterator, and
+    /// for every other value.
+    /// Example: of the value `x616263` it lends `b"abc"`, and the value 5 is refused with `TypeError`.
     pub fn try_from_value<L: Lender>(
         value: &'a Value,
         lender: &'a L,
@@ -57,7 +59,8 @@ impl<'a> ArgBytesLike<'a> {
         }
     }
 
-    /// The bytes, lent.
+    /// The bytes, lent without a copy. Takes no memory.
+    /// Example: of the value `x616263` it is `b"abc"`.
     pub fn borrow_buf(&self) -> &[u8]
         ensures { result.now ≡ self.now.bytes }
     {
@@ -65,6 +68,7 @@ impl<'a> ArgBytesLike<'a> {
     }
 
     /// What a function makes of the bytes.
+    /// Example: of `b"abc"` and the function `|bytes| bytes.len()` it is 3.
     pub fn with_ref<R, F: FnOnce(&[u8]) -> R>(&self, f: F) -> R
         requires { F.IsAlwaysCallable f }
         ensures { FnOnceReturnsAt F.FnOnce f self.now.bytes result }
@@ -72,21 +76,24 @@ impl<'a> ArgBytesLike<'a> {
         f(self.bytes)
     }
 
-    /// The number of bytes.
+    /// The number of bytes. Takes no memory.
+    /// Example: of `b"abc"` it is 3.
     pub fn len(&self) -> usize
         ensures { result ≡ length self.now.bytes }
     {
         self.bytes.len()
     }
 
-    /// Whether there is no byte.
+    /// Whether there is no byte. Takes no memory.
+    /// Example: of `b""` it is true.
     pub fn is_empty(&self) -> bool
         ensures { result ≡ (length self.now.bytes == 0) }
     {
         self.bytes.is_empty()
     }
 
-    /// The value whose bytes they are.
+    /// The value whose bytes they are, lent. Takes no memory.
+    /// Example: of an argument that is a handle it is that handle.
     pub fn as_object(&self) -> &Value
         ensures { result.now ≡ self.now.object }
     {
@@ -96,7 +103,8 @@ impl<'a> ArgBytesLike<'a> {
 
 /// What a function makes of the bytes of a value, which are borrowed for the call.
 ///
-/// Refused as `ArgBytesLike::try_from_value` refuses the value; the function isn't called then.
+/// Refused as `ArgBytesLike::try_from_value` refuses the value. The function isn't called then.
+/// Example: of the value `x616263` and the function `|bytes| bytes.len()` it is `Ok(3)`.
 pub fn try_bytes_like<L: Lender, R, F: FnOnce(&[u8]) -> R>(
     value: &Value,
     lender: &L,

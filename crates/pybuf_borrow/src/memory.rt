@@ -7,10 +7,11 @@ use pybuf_command::Subject;
 use pybuf_exporter::ExporterState;
 use pybuf_value::Fault;
 
-/// The bytes of an exporter, or of one of its views, borrowed to be written where they lie: what Python's
-/// documents call a writable bytes-like object (Glossary, "bytes-like object"; C API, "Parsing arguments",
-/// `w*`). It holds the exporter until it ends. What is written through it takes the place of the bytes that it
-/// lends, and nothing else of the exporter changes.
+/// The bytes of an exporter, or of one of its views, borrowed to be written where they lie. Python's documents call
+/// that a writable bytes-like object (Glossary, "bytes-like object"; C API, "Parsing arguments", `w*`). It holds the
+/// exporter until it ends. What is written through it takes the place of the bytes that it lends, and nothing else of
+/// the exporter changes.
+/// Example: of the subject `Subject::Own` of `bytearray(b"abc")` it lends three bytes to be written.
 #[derive(Drop)]
 pub struct ArgMemoryBuffer<'a> {
     state: &'a mut ExporterState,
@@ -64,12 +65,13 @@ impl<'a> ArgMemoryBuffer<'a> {
         ArgMemoryBuffer { state, subject }
     }
 
-    /// The bytes of a subject, borrowed to be written: all bytes of an exporter, or those of a view whose
-    /// items lie one after the other.
+    /// The bytes of a subject, borrowed to be written: all bytes of an exporter, or those of a view whose items lie
+    /// one after the other.
     ///
-    /// Refused with `UnknownName` exactly where the subject was never given, then with `ValueError` exactly
-    /// for a released view, and then with `TypeError` exactly where the items don't lie one after the other,
-    /// or may only be read. The exporter stays then.
+    /// Refused with `UnknownName` exactly where the subject was never given, then with `ValueError` exactly for a
+    /// released view, and then with `TypeError` exactly where the items don't lie one after the other, or may only be
+    /// read. Nothing is changed then. Takes no memory.
+    /// Example: of `Subject::View(1)` of an exporter with one view it is `Err(Fault::UnknownName)`.
     pub fn try_from_subject(
         state: &'a mut ExporterState,
         subject: Subject,
@@ -84,8 +86,9 @@ impl<'a> ArgMemoryBuffer<'a> {
         Ok(ArgMemoryBuffer::of_subject(state, subject))
     }
 
-    /// The bytes, lent to be written. What is written there takes the place of the bytes of the subject, and
-    /// of no others.
+    /// The bytes, lent to be written. What is written there takes the place of the bytes of the subject, and of no
+    /// others. Takes no memory.
+    /// Example: after `argument.borrow_buf_mut()[0] = b'A'` what was `b"abc"` is `b"Abc"`.
     pub fn borrow_buf_mut(&mut self) -> &mut [u8]
         ensures* writes_back { sem 𝓛 (LendsWritable self.entry result) }
         ensures value { result.now ≡ lent_bytes self.old.state.now.exporter self.old.subject }
@@ -98,6 +101,7 @@ impl<'a> ArgMemoryBuffer<'a> {
     }
 
     /// What a function makes of the bytes, which it may write.
+    /// Example: with the function `|bytes| bytes.reverse()` what was `b"abc"` is `b"cba"`.
     pub fn with_ref<R, F: FnOnce(&mut [u8]) -> R>(&mut self, f: F) -> R
         requires { F.IsAlwaysCallable f }
         ensures { (last : List ℕ) × FnOnceReturnsAtMut F.FnOnce f (lent_bytes self.old.state.now.exporter self.old.subject) result last × (self.new ≡ after_writes self.old last) }
@@ -105,7 +109,8 @@ impl<'a> ArgMemoryBuffer<'a> {
         f(self.borrow_buf_mut())
     }
 
-    /// The number of bytes that are lent.
+    /// The number of bytes that are lent. Takes no memory.
+    /// Example: of a view `1:4` of `b"abcdef"` it is 3.
     pub fn len(&self) -> usize
         ensures { result ≡ length (lent_bytes self.now.state.now.exporter self.now.subject) }
     {
@@ -119,7 +124,8 @@ impl<'a> ArgMemoryBuffer<'a> {
         }
     }
 
-    /// Whether no byte is lent.
+    /// Whether no byte is lent. Takes no memory.
+    /// Example: of a view `1:4` of `b"abcdef"` it is false.
     pub fn is_empty(&self) -> bool
         ensures { result ≡ (length (lent_bytes self.now.state.now.exporter self.now.subject) == 0) }
     {
@@ -129,8 +135,9 @@ impl<'a> ArgMemoryBuffer<'a> {
 
 /// What a function makes of the bytes of a subject, which are borrowed for the call and may be written.
 ///
-/// Refused as `ArgMemoryBuffer::try_from_subject` refuses the subject; the function isn't called then, and
-/// the exporter stays.
+/// Refused as `ArgMemoryBuffer::try_from_subject` refuses the subject. The function isn't called then, and nothing is
+/// changed.
+/// Example: of a view `1:4` of `b"abcdef"` and the function `|bytes| bytes.reverse()` the bytes are `b"adcbef"` then.
 pub fn try_rw_bytes_like<R, F: FnOnce(&mut [u8]) -> R>(
     state: &mut ExporterState,
     subject: Subject,

@@ -8,11 +8,14 @@ use pybuf_value::{Fault, Lender, Made, Outcome, Scalar, Text, Tried, Twin, Value
 use std::alloc::Global;
 
 /// An argument that is a text, or is borrowed as bytes.
+/// Example: the value `'ab'` stands for `Str` of the text `ab`, and `x6162` for `Buf` of the bytes `b"ab"`.
 #[derive(Debug, Drop)]
 pub enum ArgStrOrBytesLike<'a> {
-    /// What is borrowed as bytes.
+    /// Bytes that are borrowed.
+    /// Example: the value `x6162` gives it, with the bytes `b"ab"`.
     Buf(ArgBytesLike<'a>),
-    /// A text.
+    /// A copy of a text.
+    /// Example: the value `'ab'` gives it, with the text `ab`.
     Str(Text),
 }
 
@@ -22,6 +25,7 @@ impl<'a> ArgStrOrBytesLike<'a> {
     /// A copy of a text, or the bytes of any other value, borrowed.
     ///
     /// Refused as `ArgBytesLike::try_from_value` refuses what is no text.
+    /// Example: the value `'ab'` is done as `Str`, and the value 5 is refused with `TypeError`.
     pub fn try_from_value<L: Lender>(
         alloc: Global,
         value: &'a Value,
@@ -40,6 +44,7 @@ impl<'a> ArgStrOrBytesLike<'a> {
     }
 
     /// A copy of the value that the argument is of.
+    /// Example: of the argument that is made of `'ab'` it is the value `'ab'`.
     pub fn as_object(&self, alloc: Global) -> Made<Value>
         ensures { IfOk result (λ value. value ≡ object_of self.now) }
     {
@@ -52,7 +57,8 @@ impl<'a> ArgStrOrBytesLike<'a> {
         }
     }
 
-    /// The bytes, lent: those of a text are its UTF-8.
+    /// The bytes, lent without a copy. Those of a text are its UTF-8. Takes no memory.
+    /// Example: of the text `é` it is `b"\xc3\xa9"`.
     pub fn borrow_bytes(&self) -> &[u8]
         ensures { result.now ≡ bytes_of self.now }
     {
@@ -64,11 +70,14 @@ impl<'a> ArgStrOrBytesLike<'a> {
 }
 
 /// An argument that is a text of ASCII, or is borrowed as bytes.
+/// Example: the value `'ab'` stands for `Text` of the text `ab`, and `x6162` for `Buffer` of the bytes `b"ab"`.
 #[derive(Debug, Drop)]
 pub enum ArgAsciiBuffer<'a> {
-    /// A text of ASCII.
+    /// A copy of a text of ASCII.
+    /// Example: the value `'ab'` gives it, with the text `ab`.
     Text(Text),
-    /// What is borrowed as bytes.
+    /// Bytes that are borrowed.
+    /// Example: the value `xff` gives it, with the byte 255.
     Buffer(ArgBytesLike<'a>),
 }
 
@@ -79,6 +88,7 @@ impl<'a> ArgAsciiBuffer<'a> {
     ///
     /// Refused with `ValueError` for a text with a character past ASCII, and as
     /// `ArgBytesLike::try_from_value` refuses what is no text.
+    /// Example: the value `'ab'` is done as `Text`, and the text `é` is refused with `ValueError`.
     pub fn try_from_value<L: Lender>(
         alloc: Global,
         value: &'a Value,
@@ -109,14 +119,16 @@ impl<'a> ArgAsciiBuffer<'a> {
         }
     }
 
-    /// The number of bytes.
+    /// The number of bytes. Takes no memory.
+    /// Example: of the text `ab` it is 2.
     pub fn len(&self) -> usize
         ensures { result ≡ length (ascii_bytes_of self.now) }
     {
         self.borrow_bytes().len()
     }
 
-    /// Whether there is no byte.
+    /// Whether there is no byte. Takes no memory.
+    /// Example: of the value `x`, which is no bytes, it is true.
     pub fn is_empty(&self) -> bool
         ensures { result ≡ (length (ascii_bytes_of self.now) == 0) }
     {
@@ -124,6 +136,7 @@ impl<'a> ArgAsciiBuffer<'a> {
     }
 
     /// What a function makes of the bytes.
+    /// Example: of the text `ab` and the function `|bytes| bytes.len()` it is 2.
     pub fn with_ref<R, F: FnOnce(&[u8]) -> R>(&self, f: F) -> R
         requires { F.IsAlwaysCallable f }
         ensures { FnOnceReturnsAt F.FnOnce f (ascii_bytes_of self.now) result }

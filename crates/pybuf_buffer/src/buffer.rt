@@ -29,8 +29,9 @@ use std::marker::{Brand, Model};
 use std::ops::Range;
 use std::sync::ledger::{Blank, Ledger};
 
-/// A buffer: the number of a view of an exporter, whose bytes it lends. Each call takes the exporter
-/// that gave it; the bytes are lent until the buffer is released.
+/// A buffer is the number of a view of an exporter, whose bytes it lends. Each call takes the exporter that gave it.
+/// The bytes are lent until the buffer is released.
+/// Example: `PyBuffer::of(0)` stands for the first view that was made of an exporter.
 #[derive(Debug, Drop)]
 pub struct PyBuffer {
     view: usize,
@@ -92,12 +93,14 @@ impl PyBuffer {
     ghost use Rattle.pybuf_exporter.specs.Lending.{LendsBytes};
     ghost use Rattle.pybuf_buffer.specs.Lending.{LendsRunIf};
 
-    /// A buffer by a descriptor and the place of its first item: one more view of the exporter.
+    /// A buffer by a descriptor and the place of its first item, counted in bytes from 0. It is one more view of the
+    /// exporter.
     ///
-    /// Refused with `ValueError` exactly where the descriptor isn't valid for the exporter's bytes;
-    /// then with `StructError` exactly where its format is outside the grammar; then with `TypeError`
-    /// exactly where the format's size isn't the item size, or the buffer could be written and the
-    /// exporter can't. Where it is refused, or memory runs out, the exporter is as before.
+    /// Refused with `ValueError` exactly where the descriptor isn't valid for the exporter's bytes; then with
+    /// `StructError` exactly where its format is outside the grammar; then with `TypeError` exactly where the
+    /// format's size isn't the item size, or the buffer could be written and the exporter can't. Where it is refused,
+    /// or memory runs out, the exporter is as before.
+    /// Example: `raw(4, false, 2, format, dims)` with the format `<H` and the dimension `(2, 3, 0)`, at 3, has items at 3 and 6.
     pub fn new(
         alloc: Global,
         state: &mut ExporterState,
@@ -122,13 +125,15 @@ impl PyBuffer {
     }
 
     /// The buffer of the view of this number. It changes no count, and takes no memory.
+    /// Example: `PyBuffer::of(0)` is the buffer that the reply `View(0)` names.
     pub fn of(view: usize) -> PyBuffer
         ensures { result ≡ view }
     {
         PyBuffer { view }
     }
 
-    /// The number of its view.
+    /// The number of its view. Takes no memory.
+    /// Example: `PyBuffer::of(3).number()` is 3.
     pub fn number(&self) -> usize
         ensures { result ≡ self.now }
     {
@@ -136,14 +141,16 @@ impl PyBuffer {
     }
 
     /// Whether the view was given and is unreleased. Takes no memory.
+    /// Example: `PyBuffer::of(0).is_live(state)` is true after the first view was made, and false once it was released.
     pub fn is_live(&self, state: &ExporterState) -> bool
         ensures { result ≡ is_live state.now.exporter self.now }
     {
         state.is_live(self.view)
     }
 
-    /// The bytes of the buffer, lent without a copy. None exactly where its items don't lie one after
-    /// the other: Python's C API has it under "Buffer Protocol", "Contiguity requests".
+    /// The bytes of the buffer, lent without a copy. It is None exactly where its items don't lie one after the other
+    /// (C API, "Buffer Protocol", "Contiguity requests"). Takes no memory.
+    /// Example: of a buffer of all bytes of `b"abc"` it is `Some(b"abc")`, and of the view `memoryview(b"abc")[::2]` None.
     pub fn as_contiguous<'a>(&self, state: &'a ExporterState) -> Option<&'a [u8]>
         requires { is_live state.now.exporter self.now ≡ true }
         ensures { MatchOption result (is_contiguous_layout (layout_of state.now.exporter self.now) ≡ false) (λ bytes. (is_contiguous_layout (layout_of state.now.exporter self.now) ≡ true) × (bytes.now ≡ content_of_layout state.now.exporter.bytes (layout_of state.now.exporter self.now))) }
@@ -151,13 +158,13 @@ impl PyBuffer {
         state.contiguous_bytes(self.view)
     }
 
-    /// The bytes of the buffer, lent to be written without a copy. None exactly where it is read-only or
-    /// its items don't lie one after the other: Python's C API has it under "Buffer Protocol",
-    /// "Contiguity requests". What is written there takes the place of the bytes of the buffer, and of no
-    /// others. Takes no memory.
+    /// The bytes of the buffer, lent to be written without a copy. It is None exactly where it is read-only or its
+    /// items don't lie one after the other (C API, "Buffer Protocol", "Contiguity requests"). What is written there
+    /// takes the place of the bytes of the buffer, and of no others. Takes no memory.
     ///
     /// A caller whose own proof speaks of the bytes afterwards asks `is_contiguous_mut`, and calls
     /// `ExporterState::contiguous_bytes_mut`.
+    /// Example: of a buffer of `bytes` it is None, and of a view of all bytes of the bytearray `b"abc"` it lends `b"abc"`.
     pub fn as_contiguous_mut<'a>(&self, state: &'a mut ExporterState) -> Option<&'a mut [u8]>
         requires { is_live state.old.exporter self.now ≡ true }
         ensures* writes_back { sem 𝓛 (LendsRunIf state.entry self.now result) }
@@ -170,8 +177,9 @@ impl PyBuffer {
         None
     }
 
-    /// Whether the items lie one after the other and may be written. Then
-    /// `ExporterState::contiguous_bytes_mut` of the buffer's number lends its bytes to be written.
+    /// Whether the items lie one after the other and may be written. Then `ExporterState::contiguous_bytes_mut` of
+    /// the buffer's number lends its bytes to be written. Takes no memory.
+    /// Example: of a view of all bytes of a bytearray it is true, and of one of `bytes` false.
     pub fn is_contiguous_mut(&self, state: &ExporterState) -> bool
         requires { is_live state.now.exporter self.now ≡ true }
         ensures { result ≡ is_writable_run (layout_of state.now.exporter self.now) }
@@ -179,8 +187,9 @@ impl PyBuffer {
         state.is_writable_run(self.view)
     }
 
-    /// Whether a range lies in the first dimension, of which there is one. Then
-    /// `PyMemoryView::from_buffer_range` makes a memoryview of its entries.
+    /// Whether there is a first dimension, and a range of its entries lies inside it. Then
+    /// `PyMemoryView::from_buffer_range` makes a memoryview of its entries. Takes no memory.
+    /// Example: of a buffer of six bytes in one dimension it is true for `1..4`, and false for `4..7`.
     pub fn has_entries(&self, state: &ExporterState, range: &Range<usize>) -> bool
         requires { is_live state.now.exporter self.now ≡ true }
         ensures { IsTrue result ↔ LiesInFirst range.now (layout_of state.now.exporter self.now).shape }
@@ -190,6 +199,7 @@ impl PyBuffer {
     }
 
     /// A read-only vector of these bytes, and the buffer of all of them.
+    /// Example: of the bytes `b"abc"` the second part is `PyBuffer::of(0)`, which lends `b"abc"`.
     pub fn from_byte_vector(alloc: Global, bytes: Vec<u8>) -> Made<(ExporterState, PyBuffer)>
         ensures state { IfOk result (λ made. made.0.exporter ≡ (with_view (new_exporter (kinds.Vector true) bytes.items) (bytes_layout (length bytes.items) true)).0) }
         ensures room { IfOk result (λ made. made.0.room ≡ 0) }
@@ -204,9 +214,9 @@ impl PyBuffer {
         Ok((state, PyBuffer { view }))
     }
 
-    /// Appends the bytes of the buffer's items, in order. A block of items that lie one after the other
-    /// is one step, as the walk with `join` has it. Where memory runs out, nothing is appended, and no
-    /// step taken.
+    /// Appends the bytes of the buffer's items, in order. A block of items that lie one after the other is one step.
+    /// Where memory runs out, nothing is appended, and no step taken.
+    /// Example: of the view `memoryview(b"abcdef")[::-2]` it appends `b"fdb"`, in three steps.
     pub fn append_to<L: Ledger>(
         &self,
         state: &ExporterState,
@@ -230,7 +240,9 @@ impl PyBuffer {
         Ok(())
     }
 
-    /// The same, without a counter.
+    /// Appends the bytes of the buffer's items, in order, as `append_to` without a counter. Where memory runs out,
+    /// nothing is appended.
+    /// Example: of a buffer of all bytes of `b"abc"` it appends `b"abc"`.
     pub fn append_uncounted(&self, state: &ExporterState, buf: &mut Vec<u8>) -> Made<()>
         requires { is_live state.now.exporter self.now ≡ true }
         ensures bytes { OnOk result (buf.new.items ≡ buf.old.items ++ content_of_layout state.now.exporter.bytes (layout_of state.now.exporter self.now)) }
@@ -241,6 +253,7 @@ impl PyBuffer {
 
     /// What a function makes of the bytes of the buffer's items, in order. They are copied only where
     /// the items don't lie one after the other.
+    /// Example: of a view of `b"abc"` and the function `|bytes| bytes.len()` it is 3.
     pub fn contiguous_or_collect<R, F: FnOnce(&[u8]) -> R>(
         &self,
         alloc: Global,
@@ -260,7 +273,8 @@ impl PyBuffer {
         }
     }
 
-    /// All bytes of the exporter.
+    /// All bytes of the exporter, lent without a copy, also those that are of no item of the buffer. Takes no memory.
+    /// Example: of a buffer of the second byte of `b"abc"` it is `b"abc"`.
     pub fn obj_bytes<'a>(&self, state: &'a ExporterState) -> &'a [u8]
         requires { is_live state.now.exporter self.now ≡ true }
         ensures { result.now ≡ state.now.exporter.bytes }
@@ -268,10 +282,11 @@ impl PyBuffer {
         state.bytes()
     }
 
-    /// All bytes of the exporter of a buffer that isn't read-only, lent to be written: their number and
-    /// all else of the exporter stay. Takes no memory.
+    /// All bytes of the exporter of a buffer that isn't read-only, lent to be written. Their number and all else of
+    /// the exporter stay. Takes no memory.
     ///
     /// A caller whose own proof speaks of the bytes afterwards calls `ExporterState::bytes_mut`.
+    /// Example: after `buffer.obj_bytes_mut(state)[0] = b'A'` what was `b"abc"` is `b"Abc"`.
     pub fn obj_bytes_mut<'a>(&self, state: &'a mut ExporterState) -> &'a mut [u8]
         requires live { is_live state.old.exporter self.now ≡ true }
         requires writable { (layout_of state.old.exporter self.now).readonly ≡ false }
@@ -282,6 +297,7 @@ impl PyBuffer {
     }
 
     /// Releases the view. Releasing it again changes nothing. Takes no memory.
+    /// Example: after `buffer.release(state)`, `buffer.is_live(state)` is false.
     pub fn release(&self, state: &mut ExporterState)
         requires { self.now < length state.old.exporter.views }
         ensures released { released_in state.old.exporter self.now ≡ Ok state.new.exporter }
@@ -295,6 +311,7 @@ impl PyBuffer {
 
     /// One more view of the same items, which is counted and released by itself. Where memory runs
     /// out, the exporter is as before.
+    /// Example: of `PyBuffer::of(0)`, the only view of its exporter, it is `PyBuffer::of(1)`, and `exports` is 2 then.
     pub fn retain(&self, alloc: Global, state: &mut ExporterState) -> Made<PyBuffer>
         requires { is_live state.old.exporter self.now ≡ true }
         ensures ok { IfOk result (λ made. with_view state.old.exporter (layout_of state.old.exporter self.now) ≡ (state.new.exporter, replies.View made)) }

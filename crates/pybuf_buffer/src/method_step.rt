@@ -9,8 +9,9 @@ use pybuf_exporter::ExporterState;
 use pybuf_value::Made;
 use std::alloc::Global;
 
-/// One command on an exporter, whose verb and loans are handed over. Every method of an object that takes
-/// loans is this, with its own verb.
+/// One command on an exporter, whose verb and loans are handed over. Every method of an object that takes loans is
+/// this, with its own verb. A refusal is a reply, and changes nothing. Where memory runs out, nothing is changed.
+/// Example: `step_of(state, Subject::Own, Verb::Len, loans)` of three bytes replies the item 3.
 pub fn step_of(
     state: &mut ExporterState,
     subject: Subject,
@@ -28,7 +29,9 @@ pub fn step_of(
     answer
 }
 
-/// The same of a verb without values, to which nothing is lent.
+/// One command on an exporter, whose verb has no values, so that nothing is lent to it. A refusal is a reply, and
+/// changes nothing. Where memory runs out, nothing is changed.
+/// Example: `step_without_loans(alloc, state, Subject::Iter(0), Verb::Next)` over `b"a"` replies the item 97.
 pub fn step_without_loans(
     alloc: Global,
     state: &mut ExporterState,

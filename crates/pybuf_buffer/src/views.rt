@@ -31,6 +31,7 @@ pub(crate) fn described(state: &ExporterState, view: usize) -> (&BufferDescripto
 
 /// The descriptor of an unreleased view, and the place of its first item. They stand for the view, and
 /// its items lie inside the bytes of the exporter.
+/// Example: of a view of all bytes of `b"abc"` it is a descriptor of three items of one byte, and the place 0.
 pub fn live_descriptor(state: &ExporterState, view: usize) -> (&BufferDescriptor, usize)
     requires { is_live state.now.exporter view ≡ true }
     ensures stands { Stands result.0.now result.1 (layout_of state.now.exporter view) }

@@ -76,8 +76,9 @@ fn column_major_list(alloc: Global, itemsize: usize, shape: &[usize]) -> Made<Di
 impl BufferDescriptor {
     /// One dimension of items of another format and size over the same bytes, from the same start.
     ///
-    /// The items must lie one after the other without a gap, as `is_contiguous` tells, and the new
-    /// ones must make up their bytes: Python's reference has it under `memoryview.cast`.
+    /// The items must lie one after the other without a gap, as `is_contiguous` tells, and the new ones must make up
+    /// their bytes, as in Python's `view.cast(format)` (Library reference, "Memory Views").
+    /// Example: of six bytes the format `H` and the item size 2 give three items of two bytes.
     pub fn cast_flat(&self, _alloc: Global, format: Text, itemsize: usize) -> Made<BufferDescriptor>
         requires valid { IsPlaceable self.now }
         requires contiguous { (start : ℕ) (view : Layout) → Stands self.now start view → is_contiguous_layout view ≡ true }
@@ -91,7 +92,9 @@ impl BufferDescriptor {
         Ok(self.cast_flat_as(KeptFormat::from_text(format), itemsize))
     }
 
-    /// The same of a format as it is kept. Takes no memory.
+    /// One dimension of items of another format and size over the same bytes, as `cast_flat`, of a format as it is
+    /// kept. Takes no memory.
+    /// Example: of six bytes the format `H` and the item size 2 give three items of two bytes.
     #[inline(always)]
     pub fn cast_flat_as(&self, format: KeptFormat, itemsize: usize) -> BufferDescriptor
         requires valid { IsPlaceable self.now }
@@ -106,12 +109,13 @@ impl BufferDescriptor {
         BufferDescriptor::flat(self.len(), self.readonly(), itemsize, format)
     }
 
-    /// Items of another format and size over the same bytes, from the same start, in dimensions of
-    /// these entries, row-major. Without dimensions there is one item.
+    /// Items of another format and size over the same bytes, from the same start, in dimensions of these entries,
+    /// row-major. Without dimensions there is one item.
     ///
-    /// The items must lie one after the other without a gap, as `is_contiguous` tells, and the new
-    /// ones must make up their bytes: Python's reference has it under `memoryview.cast`. There are
-    /// at most 64 dimensions, each with an entry.
+    /// The items must lie one after the other without a gap, as `is_contiguous` tells, and the new ones must make up
+    /// their bytes, as in Python's `view.cast(format, shape)` (Library reference, "Memory Views"). There are at most
+    /// 64 dimensions, each with an entry.
+    /// Example: of six bytes the format `B`, the item size 1 and the shape `[2, 3]` give the strides 3 and 1.
     pub fn cast_shape(
         &self,
         alloc: Global,
@@ -133,7 +137,9 @@ impl BufferDescriptor {
         self.cast_shape_as(alloc, KeptFormat::from_text(format), itemsize, shape)
     }
 
-    /// The same of a format as it is kept. It takes memory for more dimensions than two.
+    /// Items of another format and size over the same bytes in dimensions of these entries, as `cast_shape`, of a
+    /// format as it is kept. It takes memory for more dimensions than two.
+    /// Example: of six bytes the format `B`, the item size 1 and the shape `[2, 3]` give the strides 3 and 1.
     pub fn cast_shape_as(
         &self,
         alloc: Global,
@@ -156,13 +162,12 @@ impl BufferDescriptor {
         Ok(BufferDescriptor::from_dims(self.len(), self.readonly(), itemsize, format, dims))
     }
 
-    /// Items of another format and size over the same bytes, from the same start, in dimensions of
-    /// these entries, in column order: item k in that order lies k item sizes after the first.
-    /// Without dimensions there is one item.
+    /// Items of another format and size over the same bytes, from the same start, in dimensions of these entries, in
+    /// column order. Item k in that order lies k item sizes after the first. Without dimensions there is one item.
     ///
-    /// The items of this one must lie one after the other without a gap, as `is_contiguous` tells,
-    /// and the new ones must make up their bytes. There are at most 64 dimensions, each with an
-    /// entry.
+    /// The items of this one must lie one after the other without a gap, as `is_contiguous` tells, and the new ones
+    /// must make up their bytes. There are at most 64 dimensions, each with an entry.
+    /// Example: of six bytes the format `B`, the item size 1 and the shape `[2, 3]` give the strides 1 and 2.
     pub fn cast_shape_f(
         &self,
         alloc: Global,

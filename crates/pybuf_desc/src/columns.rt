@@ -34,6 +34,7 @@ fn last_first(dims: &[(usize, isize, isize)]) -> [(usize, isize, isize); 64]
 ///
 /// Column order is the row-major order of the dimensions taken the last first, so the step from an item
 /// to the next is that of `Segments` from a row to the next.
+/// Example: of `[[97, 98, 99], [100, 101, 102]]` at 0 it stands for the ranges `0..1`, `3..4`, `1..2`, `4..5`, `2..3` and `5..6`.
 #[derive(Debug, Drop)]
 pub struct ColumnSegments {
     dims: [(usize, isize, isize); 64],
@@ -79,6 +80,7 @@ impl Iterator for ColumnSegments {
 impl BufferDescriptor {
     /// The bytes of the items that start at `start`, as ranges, one for each item in column order.
     /// There is none where a dimension has no entry. Takes no memory.
+    /// Example: of bytes in the shape `[2, 2]`, row by row from 0, the ranges are `0..1`, `2..3`, `1..2` and `3..4`.
     pub fn column_segments(&self, start: usize) -> ColumnSegments
         requires { IsPlaced self.now start }
         ensures ranges { result ≡ column_ranges_of self.now (pos start) }

@@ -95,9 +95,9 @@ impl BufferDescriptor {
         dims.len() - dims_before_tail(dims, self.itemsize())
     }
 
-    /// Whether the items lie one after the other, row-major, without a gap: C-contiguous, as
-    /// Python's C API has it under "Buffer Protocol", "Contiguity requests". Without items this is
-    /// so. Takes no memory.
+    /// Whether the items lie one after the other, row-major, without a gap. That is C-contiguous (C API, "Buffer
+    /// Protocol", "Contiguity requests"). Without items this is so. Takes no memory.
+    /// Example: of bytes in the shape `[2, 3]` it is true with the strides 3 and 1, and false with 1 and 2.
     pub fn is_contiguous(&self) -> bool
         requires { IsPlaceable self.now }
         ensures view { (start : ℕ) (view : Layout) → Stands self.now start view → result ≡ is_contiguous_layout view }
@@ -110,9 +110,9 @@ impl BufferDescriptor {
         has_row_major_strides(self.dim_desc(), self.itemsize())
     }
 
-    /// Whether the items lie one after the other, in column order, without a gap: F-contiguous, as
-    /// Python's C API has it under "Buffer Protocol", "Contiguity requests". Without items this is
-    /// so. Takes no memory.
+    /// Whether the items lie one after the other, in column order, without a gap. That is F-contiguous (C API,
+    /// "Buffer Protocol", "Contiguity requests"). Without items this is so. Takes no memory.
+    /// Example: of bytes in the shape `[2, 3]` it is true with the strides 1 and 2, and false with 3 and 1.
     pub fn is_f_contiguous(&self) -> bool
         requires { IsPlaceable self.now }
         ensures view { (start : ℕ) (view : Layout) → Stands self.now start view → result ≡ is_f_contiguous_layout view }
@@ -125,7 +125,8 @@ impl BufferDescriptor {
         has_column_major_strides(self.dim_desc(), self.itemsize())
     }
 
-    /// Whether the items of a row, which differ in the last index alone, lie one after the other.
+    /// Whether the items of a row, which differ in the last index alone, lie one after the other. Takes no memory.
+    /// Example: of bytes in the shape `[2, 3]` it is true with the strides 4 and 1, and false with 1 and 2.
     pub fn is_last_dim_contiguous(&self) -> bool
         requires { 0 < length self.now.dims }
         ensures last { IsTrue result ↔ IsSomeAnd (slice_get self.now.dims (length self.now.dims - 1)) (λ dim. (dim.1 ≡ pos self.now.itemsize) × (dim.2 ≡ pos 0)) }

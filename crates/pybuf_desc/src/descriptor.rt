@@ -10,12 +10,12 @@ use pybuf_value::{DimList, Fault, Made, Text, Twin};
 use std::alloc::Global;
 use std::marker::Model;
 
-/// What the items of a buffer are and how far apart they lie, as Python's C API has it under
-/// "Buffer Protocol", "Buffer structure" and "NumPy-style: shape and strides". Where the items
-/// start is no part of it.
+/// What the items of a buffer are and how far apart they lie (C API, "Buffer Protocol", "Buffer structure" and
+/// "NumPy-style: shape and strides"). Where the items start is no part of it.
 ///
-/// Lengths, sizes and strides are in bytes. Each dimension has its number of entries, its stride,
-/// and its suboffset, which is 0 in a valid descriptor.
+/// Lengths, sizes and strides are in bytes. Each dimension has its number of entries, its stride, and its suboffset,
+/// which is 0 in a valid descriptor.
+/// Example: `BufferDescriptor::simple(alloc, 3, false)?` stands for three items of one byte that may be written.
 #[derive(Debug, Drop)]
 pub struct BufferDescriptor {
     pub len: usize,
@@ -56,56 +56,65 @@ impl BufferDescriptor {
     ghost use Rattle.pybuf_desc.specs.Places.{Stands};
     ghost use Rattle.pybuf_desc.specs.Valid.{IsValid};
 
-    /// The number of bytes of all items.
+    /// The number of bytes of all items. Takes no memory.
+    /// Example: of three items of two bytes it is 6.
     pub fn len(&self) -> usize
         ensures { result ≡ self.now.len }
     {
         self.len
     }
 
-    /// Whether there are no bytes.
+    /// Whether the items have no bytes. Takes no memory.
+    /// Example: of `BufferDescriptor::simple(alloc, 0, false)?` it is true.
     pub fn is_empty(&self) -> bool
         ensures { result ≡ (self.now.len == 0) }
     {
         self.len == 0
     }
 
-    /// Whether the items can only be read.
+    /// Whether the items may only be read. Takes no memory.
+    /// Example: of `BufferDescriptor::simple(alloc, 3, true)?` it is true.
     pub fn readonly(&self) -> bool
         ensures { result ≡ self.now.readonly }
     {
         self.readonly
     }
 
-    /// The number of bytes of one item.
+    /// The number of bytes of one item. Takes no memory.
+    /// Example: of items of the format `H` it is 2.
     pub fn itemsize(&self) -> usize
         ensures { result ≡ self.now.itemsize }
     {
         self.itemsize
     }
 
-    /// The format of one item, in the syntax of Python's `struct` module.
+    /// The format of one item, in the syntax of Python's `struct` module, lent. Takes no memory.
+    /// Example: of `BufferDescriptor::simple(alloc, 3, false)?` it is the text `B`.
     pub fn format_text(&self) -> &KeptFormat
         ensures { result.now ≡ self.now.format }
     {
         &self.format
     }
 
-    /// The number of entries, the stride and the suboffset of each dimension, from the outermost.
+    /// The number of entries, the stride and the suboffset of each dimension, from the outermost, lent. Takes no
+    /// memory.
+    /// Example: of bytes in the shape `[2, 3]`, row by row, it is `[(2, 3, 0), (3, 1, 0)]`.
     pub fn dim_desc(&self) -> &[(usize, isize, isize)]
         ensures { result.now ≡ self.now.dims }
     {
         self.dim_desc.as_slice()
     }
 
-    /// The number of dimensions.
+    /// The number of dimensions. Takes no memory.
+    /// Example: of bytes in the shape `[2, 3]` it is 2.
     pub fn ndim(&self) -> usize
         ensures { result ≡ length self.now.dims }
     {
         self.dim_desc.as_slice().len()
     }
 
-    /// Whether a dimension has no entry.
+    /// Whether a dimension has no entry. Takes no memory.
+    /// Example: of `BufferDescriptor::simple(alloc, 0, false)?` it is true.
     pub fn is_zero_in_shape(&self) -> bool
         ensures { IsTrue result ↔ Any (λ dim. dim.0 ≡ 0) self.now.dims }
     {
@@ -120,6 +129,7 @@ impl BufferDescriptor {
     /// item size times the entries that aren't 0 passes `isize::MAX`; the item size times all
     /// entries isn't `len`; or a byte of an item would lie outside `0..room`. Whatever the numbers
     /// are, none of this overflows.
+    /// Example: `BufferDescriptor::simple(alloc, 3, false)?.validate(1, 4)` is `Ok(())`, and `validate(2, 4)` is refused.
     pub fn validate(&self, start: usize, room: usize) -> Result<(), Fault>
         ensures valid { IsOk result ↔ IsValid self.now start room }
         ensures refused { IfErr result (λ fault. fault ≡ Fault.Value) }
@@ -163,7 +173,9 @@ impl BufferDescriptor {
         }
     }
 
-    /// One dimension of bytes: format `B`, and as many items as bytes, wherever the first lies. Takes no memory.
+    /// One dimension of bytes, wherever the first lies. The format is `B`, and there are as many items as bytes.
+    /// Takes no memory.
+    /// Example: `BufferDescriptor::simple(alloc, 3, false)?.dim_desc()` is `[(3, 1, 0)]`.
     pub fn simple(alloc: Global, bytes_len: usize, readonly: bool) -> Made<BufferDescriptor>
         requires { bytes_len < 2 ^ 63 }
         ensures made { IfOk result (λ d. d ≡ flat_descriptor (codes "B") 1 bytes_len readonly) }
@@ -175,7 +187,8 @@ impl BufferDescriptor {
         Ok(BufferDescriptor::flat(bytes_len, readonly, 1, KeptFormat::of_bytes(alloc)))
     }
 
-    /// One dimension of items, one after the other. Takes no memory.
+    /// One dimension of items, one after the other, that make up so many bytes. Takes no memory.
+    /// Example: of 6 bytes, the item size 2 and the format `H` the dimensions are `[(3, 2, 0)]`.
     pub fn format(
         _alloc: Global,
         bytes_len: usize,
@@ -195,7 +208,8 @@ impl BufferDescriptor {
         Ok(BufferDescriptor::flat(bytes_len, readonly, itemsize, format))
     }
 
-    /// The same of a format as it is kept.
+    /// One dimension of items, one after the other, as `format`, of a format as it is kept. Takes no memory.
+    /// Example: of 6 bytes, the item size 2 and the format `H` the dimensions are `[(3, 2, 0)]`.
     #[inline(always)]
     pub fn flat(
         bytes_len: usize,
@@ -243,9 +257,10 @@ impl BufferDescriptor {
         })
     }
 
-    /// The same items over the same bytes, which may only be read: Python's reference has it under
-    /// `memoryview.toreadonly`. It takes memory for a format of more than a letter, and for
-    /// more dimensions than three.
+    /// The same items over the same bytes, which may only be read, as Python's `view.toreadonly()` (Library
+    /// reference, "Memory Views"). It takes memory for a format of more than a letter, and for more dimensions than
+    /// three.
+    /// Example: `descriptor.to_readonly(alloc)?.readonly()` is true.
     pub fn to_readonly(&self, alloc: Global) -> Made<BufferDescriptor>
         ensures made { IfOk result (λ d. d ≡ record self.now { readonly = true }) }
         ensures valid { IfOk result (λ d. (start room : ℕ) → IsValid self.now start room → IsValid d start room) }
@@ -262,7 +277,9 @@ impl BufferDescriptor {
         })
     }
 
-    /// The record as given. Takes no memory.
+    /// The descriptor of these parts, as they are given. Nothing is checked of them here; `validate` checks them.
+    /// Takes no memory.
+    /// Example: `raw(4, false, 2, format, dims)` with the dimension `(2, 3, 0)` describes two items of two bytes, at 0 and at 3.
     pub fn raw(
         len: usize,
         readonly: bool,

@@ -9,6 +9,7 @@ use std::alloc::Global;
 use std::marker::Model;
 
 /// The format of an item, in the syntax of Python's `struct` module. A clause sees the list of its UTF-8 bytes.
+/// Example: `KeptFormat::of(alloc, "<H")?` stands for a little-endian number of two bytes without a sign.
 // A letter stands beside an empty text, and not in its place, so that there is one way to let go of both.
 #[derive(Debug, Drop)]
 pub struct KeptFormat {
@@ -38,6 +39,7 @@ fn single_letter(format: &[u8]) -> Option<FormatLetter>
 
 impl KeptFormat {
     /// The format `B`, of bytes. Takes no memory.
+    /// Example: `KeptFormat::of_bytes(alloc).as_str()` is `"B"`.
     #[inline(always)]
     pub fn of_bytes(alloc: Global) -> KeptFormat
         ensures { result ≡ codes "B" }
@@ -49,6 +51,7 @@ impl KeptFormat {
     }
 
     /// The format of this text, which is copied. A known letter takes no memory.
+    /// Example: `KeptFormat::of(alloc, "H")?.as_str()` is `"H"`.
     pub fn of(alloc: Global, text: &str) -> Made<KeptFormat>
         ensures { IfOk result (λ format. format ≡ text.now) }
     {
@@ -63,6 +66,7 @@ impl KeptFormat {
     }
 
     /// The format of this text. Takes no memory.
+    /// Example: of the text `<H` its `as_str()` is `"<H"`.
     #[inline(always)]
     pub fn from_text(text: Text) -> KeptFormat
         ensures { result ≡ text }
@@ -70,7 +74,8 @@ impl KeptFormat {
         KeptFormat { letter: None, text }
     }
 
-    /// The text, lent as a `str`.
+    /// The text, lent as a `str`. Takes no memory.
+    /// Example: of `KeptFormat::of(alloc, "<H")?` it is `"<H"`.
     pub fn as_str(&self) -> &str
         ensures { result.now ≡ self.now }
     {
@@ -80,7 +85,8 @@ impl KeptFormat {
         }
     }
 
-    /// The UTF-8 bytes of the text, lent.
+    /// The UTF-8 bytes of the text, lent. Takes no memory.
+    /// Example: of `KeptFormat::of(alloc, "<H")?` it is `b"<H"`.
     pub fn as_slice(&self) -> &[u8]
         ensures { result.now ≡ self.now }
     {
@@ -91,6 +97,7 @@ impl KeptFormat {
     }
 
     /// A copy of the text.
+    /// Example: of `KeptFormat::of(alloc, "<H")?` it is the text `<H`.
     pub fn to_text(&self, alloc: Global) -> Made<Text>
         ensures { IfOk result (λ text. text ≡ self.now) }
     {

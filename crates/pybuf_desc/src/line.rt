@@ -8,6 +8,7 @@ ghost use Rattle.pybuf_desc.specs.SegmentLines.{ranges_of_line, IsLine};
 use pybuf_strided::Track;
 
 /// Ranges of `size` bytes each, `count` of them, whose starts lie in equal steps.
+/// Example: the ranges `0..2`, `5..7` and `10..12` are a line of size 2 and count 3.
 #[derive(Clone, Copy, Debug)]
 pub struct SegmentLine {
     pub track: Track,

@@ -85,8 +85,9 @@ fn packed_dims(
 }
 
 impl BufferDescriptor {
-    /// The same items one after the other without a gap, row-major: as they lie in a copy of their
-    /// bytes, from its start.
+    /// The same items one after the other without a gap, row-major, as they lie in a copy of their bytes from its
+    /// start on.
+    /// Example: of three bytes with the stride -2 it has the dimensions `[(3, 1, 0)]`.
     pub fn to_row_major(&self, alloc: Global) -> Made<BufferDescriptor>
         requires { IsPlaceable self.now }
         ensures made { IfOk result (λ d. d ≡ row_major_descriptor self.now) }

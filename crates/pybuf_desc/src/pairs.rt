@@ -17,6 +17,7 @@ use std::marker::Model;
 use std::ops::Range;
 
 /// The pairs of ranges of bytes that two walks have left. A clause sees the list of them.
+/// Example: of two views of two bytes each, from 0 and from 4 on, it stands for the pairs `(0..1, 4..5)` and `(1..2, 5..6)`.
 #[derive(Debug, Drop)]
 pub struct ZipSegments<'a> {
     one: Segments<'a>,
@@ -48,8 +49,10 @@ impl<'a> Iterator for ZipSegments<'a> {
 }
 
 impl<'a> ZipSegments<'a> {
-    /// Takes the next row of both walks, where both are at the start of a row and these rows have as many
-    /// ranges, as they are where no pair was taken by itself. Takes no memory.
+    /// Takes the next row of both walks. It is None where nothing is left, and also where one walk isn't at the start
+    /// of a row or the rows have other numbers of ranges, which is never so where no pair was taken by itself. Takes
+    /// no memory.
+    /// Example: of two views of three bytes, item by item, the first call takes two lines of three ranges.
     pub fn next_lines(&mut self) -> Option<(SegmentLine, SegmentLine)>
         ensures pairs { MatchOption result (self.new ≡ self.old) (λ lines. self.old ≡ zip (ranges_of_line lines.0) (ranges_of_line lines.1) ++ self.new) }
         ensures first_line { IfSome result (λ lines. IsLine lines.0) }
@@ -81,12 +84,12 @@ fn joined_of_both(one: &BufferDescriptor, other: &BufferDescriptor, join: bool) 
 }
 
 impl BufferDescriptor {
-    /// The bytes of the items that start at `start` beside those of another descriptor of the same
-    /// shape, whose items start at `other_start`: pairs of ranges, row-major. Takes no memory.
+    /// The bytes of the items that start at `start` beside those of another descriptor of the same shape, whose items
+    /// start at `other_start`. They are pairs of ranges, row-major. Takes no memory.
     ///
-    /// Each pair is one item of each, by its own strides. With `join`, and where the items of both have
-    /// one size, it is a block of each: that of an index of the dimensions before the lesser of the two
-    /// tails.
+    /// Each pair is one item of each, by its own strides. With `join`, and where the items of both have one size, it
+    /// is a block of each, which is that of an index of the dimensions before the lesser of the two tails.
+    /// Example: of two descriptors of two bytes, from 0 and 4 on, without `join`: `(0..1, 4..5)` and `(1..2, 5..6)`.
     pub fn zip_segments<'a>(
         &'a self,
         start: usize,

@@ -9,8 +9,9 @@ use pybuf_index::entry_in;
 use pybuf_value::Fault;
 
 impl BufferDescriptor {
-    /// The place of an item less the start: the sum of index times stride. One index for each
-    /// dimension, each in range. Takes no memory.
+    /// The place of an item less the start, in bytes, which is the sum of index times stride. There is one index for
+    /// each dimension, each in range. Takes no memory.
+    /// Example: with the strides 3 and 1 the indices `[1, 2]` give 5.
     pub fn fast_position(&self, indices: &[usize]) -> isize
         requires valid { IsPlaceable self.now }
         requires in_range { AreIndices indices.now self.now.dims }
@@ -25,10 +26,11 @@ impl BufferDescriptor {
         offset
     }
 
-    /// The place of an item less the start, where a negative index counts from the end. One index
+    /// The place of an item less the start, in bytes, where a negative index counts from the end. There is one index
     /// for each dimension. Takes no memory.
     ///
     /// Refused with `IndexError` exactly where an index is out of bounds.
+    /// Example: of the shape `[2, 3]` with the strides 3 and 1, `[-1, -1]` gives `Ok(5)`, and `[2, 0]` `Err(Fault::Index)`.
     pub fn position(&self, indices: &[isize]) -> Result<isize, Fault>
         requires valid { IsPlaceable self.now }
         requires one_each { length indices.now ≡ length self.now.dims }

@@ -78,6 +78,7 @@ fn next_place(place: usize, stride: isize, left: usize) -> usize
 /// Rows of ranges, which differ in their last index alone, are walked one after the other, by an index
 /// for each of the dimensions before, and each row in equal steps. A range costs one addition. The
 /// next row costs one more, and a step back for each index that returns to 0.
+/// Example: of three bytes with the stride -2 from 5 on it stands for the ranges `5..6`, `3..4` and `1..2`.
 #[derive(Debug, Drop)]
 pub struct Segments<'a> {
     rows: &'a [(usize, isize, isize)],
@@ -154,7 +155,9 @@ fn row_line(
 }
 
 impl<'a> Segments<'a> {
-    /// Takes what is left of a row of ranges, or the next row where nothing is. Takes no memory.
+    /// Takes what is left of a row of ranges, or the next row where nothing of one is left. It is None where no row
+    /// is left. Takes no memory.
+    /// Example: of bytes in the shape `[2, 3]`, item by item, the first call takes a line of three ranges.
     pub fn next_line(&mut self) -> Option<SegmentLine>
         ensures takes { MatchOption result (self.old ≡ []) (λ line. self.old ≡ ranges_of_line line ++ self.new) }
         ensures line { IfSome result IsLine }
@@ -259,6 +262,7 @@ impl BufferDescriptor {
     ///
     /// Each range is one item, or, with `join`, the whole block of an index of the dimensions before
     /// the tail. There is no range where a dimension has no entry.
+    /// Example: of six bytes in one dimension from 0 on the only range with `join` is `0..6`.
     pub fn segments(&self, start: usize, join: bool) -> Segments<'_>
         requires { IsPlaced self.now start }
         ensures ranges { result ≡ ranges_of self.now (pos start) (joined_count self.now join) }

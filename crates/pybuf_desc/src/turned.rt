@@ -25,8 +25,9 @@ fn turned_dims(alloc: Global, dims: &[(usize, isize, isize)]) -> Made<Dims>
 }
 
 impl BufferDescriptor {
-    /// The same items with their dimensions the last first: the row-major order of what is made is the column order
-    /// of this one.
+    /// The same items with their dimensions in reversed order. The row-major order of what is made is the column
+    /// order of this one.
+    /// Example: of the dimensions `[(2, 3, 0), (3, 1, 0)]` it has `[(3, 1, 0), (2, 3, 0)]`.
     pub fn turned(&self, alloc: Global) -> Made<BufferDescriptor>
         requires placeable { IsPlaceable self.now }
         requires entries { All (λ dim. 0 < dim.0) self.now.dims }

@@ -12,14 +12,14 @@ use std::alloc::Global;
 
 /// Whether two views over bytes, which may be the same, are equal.
 ///
-/// They are exactly if they have as many dimensions, their shapes agree, and items of the same
-/// number are equal, each read by the format of its own view: Python's reference has it under
-/// `memoryview`, "`__eq__`". Shapes agree if they have the same entries, from the first dimension
-/// on; where both have an entry of 0, the rest is ignored. An item of `?` is a truth value, and so
-/// equal to any other that is as true.
+/// They are exactly if they have as many dimensions, their shapes agree, and items of the same number are equal, each
+/// read by the format of its own view, as Python's `view == other` (Library reference, "Memory Views", `__eq__`).
+/// Shapes agree if they have the same entries, from the first dimension on; where both have an entry of 0, the rest
+/// is ignored. An item of `?` is a truth value, and so equal to any other that is as true.
 ///
-/// Nothing is copied. Two contiguous views of one simple format are compared as two slices, and the
-/// first difference ends it. Memory is taken for the formats and for an item at a time.
+/// Nothing is copied. Two contiguous views of one simple format are compared as two slices, and the first difference
+/// ends it. Memory is taken for the formats and for an item at a time.
+/// Example: a view of `b"\x01\x00"` cast to `H` is equal to a view of `b"\x01"`, and not to one of `b"\x01\x00"`.
 pub fn equal_views(
     alloc: Global,
     bytes: &[u8],

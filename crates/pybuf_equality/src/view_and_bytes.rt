@@ -34,8 +34,9 @@ fn packed_layout(
     whole.cast_shape(alloc, format, itemsize, shape)
 }
 
-/// Whether a view is equal to what is lent with the bytes of all its items, one after the other.
-/// Those are compared where they are; memory is taken for the dimensions alone.
+/// Whether a view is equal to what is lent with the bytes of all its items, one after the other. Those are compared
+/// where they are, and memory is taken for the dimensions alone.
+/// Example: a view of `b"abc"` is equal to a `Snap` of bytes with the content `b"abc"`.
 pub fn equal_to_content(alloc: Global, bytes: &[u8], layout: &KeptLayout, snap: &Snap) -> Made<bool>
     requires inside { LiesInside (length bytes.now) layout.now }
     requires whole { HasAllItems snap.now }
@@ -63,6 +64,7 @@ pub fn equal_to_content(alloc: Global, bytes: &[u8], layout: &KeptLayout, snap: 
 }
 
 /// Whether a view is equal to bytes, which count as one dimension of items of the format `B`.
+/// Example: a view of `b"abc"` is equal to `b"abc"`, and one in the shape `[3, 1]` is not.
 pub fn equal_to_bytes(alloc: Global, bytes: &[u8], layout: &KeptLayout, other: &[u8]) -> Made<bool>
     requires { LiesInside (length bytes.now) layout.now }
     ensures { IfOk result (λ answer. answer ≡ same_view (snap_of_layout bytes.now layout.now false) (snap_of_bytes other.now)) }

@@ -34,7 +34,8 @@ pub(crate) fn step_of_parts<L: Ledger>(
 }
 
 impl ExporterState {
-    /// How many bytes of free room lie before the first.
+    /// How many bytes of free room lie before the first byte. Takes no memory.
+    /// Example: after `del a[:2]` of a bytearray `b"abcd"` without room it is 2.
     pub fn front_room(&self) -> usize
         ensures { result ≡ self.now.room }
     {
@@ -46,6 +47,7 @@ impl ExporterState {
     /// Taking the first bytes out moves nothing, and leaves them as room; adding bytes at the end moves the bytes to
     /// the start only where there is as much room as there are bytes. Where memory runs out, exporter, room and
     /// counter are as before.
+    /// Example: `pop 0` of a bytearray leaves the counter as it is, and makes the room one byte greater.
     pub fn step_counted<L: Ledger>(
         &mut self,
         command: &LocalCommand,

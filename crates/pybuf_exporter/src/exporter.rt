@@ -24,6 +24,7 @@ use std::marker::Model;
 /// A clause sees as `exporter` its kind, its bytes, its views, each as a list of places, and its iterators, and beside
 /// these as `room` how many bytes of free room lie before its bytes. In every exporter, each byte of each item of an
 /// unreleased view lies inside, and the exporter is as long as when that view was made.
+/// Example: `ExporterState::new(alloc, ExporterKind::ByteArray, bytes)` stands for one bytearray, of which no view was made.
 #[derive(Debug, Drop)]
 pub struct ExporterState {
     pub(crate) parts: Parts,
@@ -76,6 +77,7 @@ impl ExporterState {
     ghost use Rattle.pybuf_state.specs.Fresh.{IsCopyOf, is_readonly_subject, made_of};
 
     /// An exporter of these bytes, with no views and no iterators. Takes no memory.
+    /// Example: of the kind `ExporterKind::Bytes` and `b"abc"` its `bytes()` is `b"abc"`, and its `exports()` is 0.
     pub fn new(alloc: Global, kind: ExporterKind, bytes: ByteList) -> ExporterState
         ensures { result ≡ new_stored kind bytes }
     {
@@ -91,7 +93,8 @@ impl ExporterState {
         }
     }
 
-    /// An exporter of no bytes. Takes no memory.
+    /// An exporter of the kind `ExporterKind::Bytes` without bytes. Takes no memory.
+    /// Example: `ExporterState::empty(alloc).bytes()` is `b""`.
     pub fn empty(alloc: Global) -> ExporterState
         ensures { result ≡ new_stored kinds.Bytes [] }
     {
@@ -107,11 +110,12 @@ impl ExporterState {
         }
     }
 
-    /// Carries out a command, as its effect says: `step_counted` with a counter that nobody reads.
+    /// Carries out a command, as its effect says. It is `step_counted` with a counter that nobody reads.
     ///
-    /// A refusal is a reply, and changes nothing. A subject number that was never given is refused
-    /// with `UnknownName`, and so is, before all else, a handle among the command's values that its
-    /// loans do not name. Where memory runs out, nothing is changed. Only an edit changes the room.
+    /// A refusal is a reply, and changes nothing. A subject number that was never given is refused with
+    /// `UnknownName`, and so is, before all else, a handle among the command's values that its loans do not name.
+    /// Where memory runs out, nothing is changed. Only an edit changes the room.
+    /// Example: the subject `Subject::Own` and the verb `Verb::Len` of three bytes reply the item 3.
     pub fn step(&mut self, command: &LocalCommand) -> Made<LocalReply>
         requires { LoansFit command.now.loans }
         ensures ok { IfOk result (λ r. estep self.old.exporter command.now.subject command.now.verb command.now.loans ≡ (self.new.exporter, r)) }
@@ -121,8 +125,10 @@ impl ExporterState {
         step_uncounted(&mut self.parts, command)
     }
 
-    /// The same, of a verb by itself and of what its handles name, which is asked of any names: a list of loans, or a
-    /// world that lends the exporters beside this one.
+    /// Carries out a verb on a subject. What the handles of the verb name is asked of any names: a list of loans, or
+    /// a world that lends the exporters beside this one. A refusal is a reply, and changes nothing. Where memory runs
+    /// out, nothing is changed. Only an edit changes the room.
+    /// Example: `state.carry_out(Subject::Own, &Verb::Len, &loans)` of three bytes replies the item 3.
     pub fn carry_out<N: Names>(
         &mut self,
         subject: Subject,
@@ -142,8 +148,9 @@ impl ExporterState {
     /// Carries out a command, as `step`, and gives its reply twice. Where memory runs out, also for the second reply,
     /// nothing of the exporter is changed. Only an edit changes the room.
     ///
-    /// A second exporter is never made: what owns memory is replied by commands that change nothing, but for `take`,
-    /// whose bytes are copied before, and `next`, whose iterator is put back.
+    /// A second exporter is never made: what owns memory is replied by commands that change nothing, but for two. The
+    /// bytes of `take` are copied before, and the iterator of `next` is put back.
+    /// Example: `Verb::Len` of three bytes gives the item 3 twice.
     pub fn step_copied(&mut self, command: &LocalCommand) -> Made<(LocalReply, LocalReply)>
         requires { LoansFit command.now.loans }
         ensures ok { IfOk result (λ r. estep self.old.exporter command.now.subject command.now.verb command.now.loans ≡ (self.new.exporter, r.0)) }
@@ -225,7 +232,9 @@ impl ExporterState {
     // The commands that are called very often follow, each with its values lent by themselves: no verb is made for
     // it.
 
-    /// A new view of all bytes, as `Verb::View` of the exporter itself. The reply is its number. Never refused.
+    /// A new view of all bytes, as `Verb::View` of the exporter itself. The reply is its number. This is never
+    /// refused. Where memory runs out, nothing is changed.
+    /// Example: of a new exporter it replies `View(0)`.
     pub fn view_of_own(&mut self, loans: &LoanList) -> Made<LocalReply>
         ensures ok { IfOk result (λ r. estep self.old.exporter subjects.Own verbs.View loans.now ≡ (self.new.exporter, r)) }
         ensures err { OnErr result (self.new ≡ self.old) }
@@ -237,7 +246,9 @@ impl ExporterState {
 
     /// A new view of the items of a view, as `Verb::View` of it. The reply is its number.
     ///
-    /// Refused with `UnknownName` where the view was never given, and with `ValueError` where it is released.
+    /// Refused with `UnknownName` where the view was never given, and with `ValueError` where it is released. Nothing
+    /// is changed then, nor where memory runs out.
+    /// Example: of the view 0, the only one, it replies `View(1)`.
     pub fn view_of_view(&mut self, view: usize, loans: &LoanList) -> Made<LocalReply>
         ensures ok { IfOk result (λ r. estep self.old.exporter (subjects.View view) verbs.View loans.now ≡ (self.new.exporter, r)) }
         ensures err { OnErr result (self.new ≡ self.old) }
@@ -249,7 +260,8 @@ impl ExporterState {
 
     /// Releases a view, as `Verb::Exit`. The second time changes nothing, and isn't refused.
     ///
-    /// Refused with `UnknownName` where the view was never given.
+    /// Refused with `UnknownName` where the view was never given. Nothing is changed then.
+    /// Example: `state.exit_of_view(0, &loans)` replies `Ok`, and `state.is_live(0)` is false then.
     pub fn exit_of_view(&mut self, view: usize, loans: &LoanList) -> Made<LocalReply>
         ensures ok { IfOk result (λ r. estep self.old.exporter (subjects.View view) verbs.Exit loans.now ≡ (self.new.exporter, r)) }
         ensures err { OnErr result (self.new ≡ self.old) }
@@ -265,6 +277,7 @@ impl ExporterState {
     /// name, before all else; with `TypeError` where the key is neither a number nor a slice, and where a part of the
     /// slice is neither a number nor `None`; with `ValueError` for a step of 0; with `IndexError` for an index out of
     /// range.
+    /// Example: of `b"abc"` the key `-1` gets the item 99, and the key `0:2` gets `b"ab"`.
     pub fn get_of_own(&mut self, key: &Value, loans: &LoanList) -> Made<LocalReply>
         ensures ok { IfOk result (λ r. estep self.old.exporter subjects.Own (verbs.Get key.now) loans.now ≡ (self.new.exporter, r)) }
         ensures err { OnErr result (self.new ≡ self.old) }
@@ -278,6 +291,7 @@ impl ExporterState {
     ///
     /// Refused with `UnknownName` for a handle in the key that the loans don't name, before all else, and where the
     /// view was never given; with `ValueError` where it is released; then as `PyMemoryView::getitem` refuses the key.
+    /// Example: of a view of `b"abcdef"` the key 0 gets the item 97, and the key `::-2` the number of a view of `b"fdb"`.
     pub fn get_of_view(&mut self, view: usize, key: &Value, loans: &LoanList) -> Made<LocalReply>
         ensures ok { IfOk result (λ r. estep self.old.exporter (subjects.View view) (verbs.Get key.now) loans.now ≡ (self.new.exporter, r)) }
         ensures err { OnErr result (self.new ≡ self.old) }
@@ -291,7 +305,8 @@ impl ExporterState {
     ///
     /// Refused with `UnknownName` for a handle in the key or the value that the loans don't name, before all else,
     /// and where the view was never given; with `ValueError` where it is released; then as `PyMemoryView::setitem`
-    /// refuses the key and the value.
+    /// refuses the key and the value. Nothing is changed then, nor where memory runs out.
+    /// Example: through a view of all bytes of `b"abc"` the key 0 and the value 65 make `b"Abc"`.
     pub fn set_through_view(
         &mut self,
         view: usize,
@@ -312,7 +327,8 @@ impl ExporterState {
     ///
     /// Refused with `UnknownName` for a handle in the values that the loans don't name, before all else, and where
     /// the view was never given; with `ValueError` where it is released; then as `PyMemoryView::cast` refuses the
-    /// format and the shape.
+    /// format and the shape. Nothing is changed then, nor where memory runs out.
+    /// Example: of a view of `b"\x01\x00\x02\x00"` the format `'H'` gives the number of a view with the items 1 and 2.
     pub fn cast_of_view(
         &mut self,
         view: usize,
@@ -332,7 +348,8 @@ impl ExporterState {
     ///
     /// Refused with `UnknownName` where the exporter is no bytearray, and for a handle that the loans don't name,
     /// before all else; with `TypeError` where the value is no number, with `ValueError` outside `0..256`, and then
-    /// with `BufferError` where a view is unreleased.
+    /// with `BufferError` where a view is unreleased. Nothing is changed then, nor where memory runs out.
+    /// Example: to the bytearray `b"abc"` the value 100 makes `b"abcd"`.
     pub fn append(&mut self, value: &Value, loans: &LoanList) -> Made<LocalReply>
         ensures ok { IfOk result (λ r. estep self.old.exporter subjects.Own (verbs.Append value.now) loans.now ≡ (self.new.exporter, r)) }
         ensures err { OnErr result (self.new ≡ self.old) }
@@ -348,7 +365,9 @@ impl ExporterState {
     ///
     /// Refused with `UnknownName` where the exporter is no bytearray, and for a handle that the loans don't name,
     /// before all else; with `TypeError` where the index is no number, with `OverflowError` where it doesn't fit
-    /// `isize`, with `BufferError` where a view is unreleased, and then with `IndexError` out of range.
+    /// `isize`, with `BufferError` where a view is unreleased, and then with `IndexError` out of range. Nothing is
+    /// changed then, nor where memory runs out.
+    /// Example: of the bytearray `b"abc"` without an index it replies the item 99, and leaves `b"ab"`.
     pub fn pop(&mut self, index: &Option<Value>, loans: &LoanList) -> Made<LocalReply>
         ensures ok { IfOk result (λ r. estep self.old.exporter subjects.Own (verbs.Pop index.now) loans.now ≡ (self.new.exporter, r)) }
         ensures err { OnErr result (self.new ≡ self.old) }
@@ -357,11 +376,12 @@ impl ExporterState {
         closed(direct::pop(&mut self.parts, index, loans))
     }
 
-    /// The exporter that is made of a copy: of this bytearray, another one of its bytes, with no view;
-    /// of one of its views, a vector of the view's content with one view of all of it, with items of
-    /// the same format in the same shape, which can be read alone where that view can.
+    /// The exporter that is made of a copy. A copy of this bytearray makes another one of its bytes, with no view. A
+    /// copy of one of its views makes a vector of the view's content with one view of all of it. That view has items
+    /// of the same format in the same shape, and may only be read where the view that was copied may only be read.
     ///
     /// Such a copy is what a step replies as `LocalReply::Fresh`.
+    /// Example: of `Subject::Own` and the `Snap` that `Verb::Copy` replies for `bytearray(b"abc")` it is a bytearray of `b"abc"`.
     pub fn exporter_of_copy(
         &self,
         alloc: Global,
@@ -376,7 +396,8 @@ impl ExporterState {
         Ok(ExporterState { parts })
     }
 
-    /// A subject of this exporter, as what another exporter's command is lent, from where it lies.
+    /// A subject of this exporter, as what another exporter's command is lent, from where it lies. Takes no memory.
+    /// Example: `other.lent(Subject::Own)` lends all bytes of `other` to a command of this one.
     pub fn lent(&self, subject: Subject) -> Other<'_>
         ensures value { snap_of_other result ≡ snap_of_subject self.now.exporter subject }
         ensures sound { IsSoundOther result }
@@ -387,7 +408,8 @@ impl ExporterState {
         }
     }
 
-    /// What kind of thing a subject is; `None` exactly where it was never given.
+    /// What kind of thing a subject is. It is `None` exactly where the subject was never given. Takes no memory.
+    /// Example: of `Subject::View(0)` of an exporter without views it is `None`.
     pub fn kind_of(&self, subject: Subject) -> Option<SnapKind>
         ensures { result ≡ kind_of_named (snap_of_subject self.now.exporter subject) }
     {
@@ -398,6 +420,7 @@ impl ExporterState {
     ///
     /// Refused with `UnknownName` where it was never given, with `ValueError` for a released view, and with
     /// `TypeError` for a view whose items don't lie one after another and for an iterator.
+    /// Example: of `Subject::Own` of `b"abc"` it is `Ok(b"abc")`, and of the view `memoryview(b"abc")[::2]` `Err(Fault::Kind)`.
     pub fn run_of(&self, subject: Subject) -> Result<&[u8], Fault>
         ensures { MatchResult result (λ bytes. content_of (snap_of_subject self.now.exporter subject) ≡ Ok bytes.now) (λ fault. content_of (snap_of_subject self.now.exporter subject) ≡ Err fault) }
     {
@@ -408,15 +431,17 @@ impl ExporterState {
     ///
     /// Refused with `UnknownName` where it was never given, with `ValueError` for a released view, and with
     /// `TypeError` for an iterator.
+    /// Example: of the view `memoryview(b"abcdef")[::-2]` it lends `b"fdb"`, which is a copy.
     pub fn content_of(&self, alloc: Global, subject: Subject) -> Result<Lent<'_>, Halt>
         ensures { Lends (content_of_named (snap_of_subject self.now.exporter subject)) result }
     {
         content_of_subject(alloc, &self.parts, subject)
     }
 
-    /// Releases a view; releasing it again changes nothing. Takes no memory.
+    /// Releases a view. Releasing it again changes nothing. Takes no memory.
     ///
-    /// Refused with `UnknownName` exactly where the view was never given.
+    /// Refused with `UnknownName` exactly where the view was never given. Nothing is changed then.
+    /// Example: `state.release_view(0)` is `Ok(())` after one view was made, and `Err(Fault::UnknownName)` before.
     pub fn release_view(&mut self, view: usize) -> Result<(), Fault>
         ensures exact { MatchResult result (λ _. released_in self.old.exporter view ≡ Ok self.new.exporter) (λ f. released_in self.old.exporter view ≡ Err f) }
         ensures given { IsOk result ↔ (view < length self.old.exporter.views) }
@@ -427,9 +452,10 @@ impl ExporterState {
         release::release(&mut self.parts, view)
     }
 
-    /// What a handle of the exporter, of one of its views or of an iterator names, as it stands; the
-    /// content of a released view is empty, and so is that of an iterator. None exactly where there is
-    /// no such view or iterator.
+    /// What a handle of the exporter, of one of its views or of an iterator names, as it stands. The content of a
+    /// released view is empty, and so is that of an iterator. It is None exactly where there is no such view or
+    /// iterator.
+    /// Example: of `Subject::Own` of the bytearray `b"abc"` it is a `Snap` with the content `b"abc"`.
     pub fn snap(&self, alloc: Global, subject: Subject) -> Made<Option<Snap>>
         ensures value { IfOk result (λ snap. snap ≡ snap_of_subject self.now.exporter subject) }
         ensures fits { IfOk result (λ snap. IfSome snap (λ s. fits_snap s ≡ true)) }
@@ -437,22 +463,25 @@ impl ExporterState {
         snap_of_subject(&self.parts, alloc, subject)
     }
 
-    /// The kind.
+    /// What kind of exporter it is. Takes no memory.
+    /// Example: of the exporter of a `PyByteArray` it is `ExporterKind::ByteArray`.
     pub fn kind(&self) -> ExporterKind
         ensures { result ≡ self.now.exporter.kind }
     {
         self.parts.kind
     }
 
-    /// The bytes, lent.
+    /// The bytes, lent without a copy. Takes no memory.
+    /// Example: of the exporter of `bytearray(b"abc")` it is `b"abc"`.
     pub fn bytes(&self) -> &[u8]
         ensures { result.now ≡ self.now.exporter.bytes }
     {
         self.parts.bytes.as_slice()
     }
 
-    /// The bytes, lent to be written: their number and all else of the exporter stay. All views of
+    /// The bytes, lent to be written. Their number and all else of the exporter stay. Takes no memory. All views of
     /// these bytes see the writes.
+    /// Example: after `state.bytes_mut()[0] = b'A'` what was `b"abc"` is `b"Abc"`.
     pub fn bytes_mut(&mut self) -> &mut [u8]
         requires { holds_readonly self.old.exporter.kind ≡ false }
         ensures* writes_back { sem 𝓛 (LendsBytes self.entry result) }
@@ -461,11 +490,11 @@ impl ExporterState {
         self.parts.bytes.as_mut_slice()
     }
 
-    /// The bytes, lent to be changed in any way, in number too; views and iterators stay. Takes no
-    /// memory.
+    /// The bytes, lent to be changed in any way, in number too. Views and iterators stay. Takes no memory.
     ///
-    /// Refused with `BufferError` exactly where a view is unreleased: Python's C API has it under
-    /// "Buffer Protocol", `PyBuffer_Release`.
+    /// Refused with `BufferError` exactly where a view is unreleased (C API, "Buffer Protocol", `PyBuffer_Release`).
+    /// Nothing is changed then.
+    /// Example: `state.resizable()` with one unreleased view is `Err(Fault::Buffer)`.
     pub fn resizable(&mut self) -> Result<&mut Vec<u8>, Fault>
         requires { holds_readonly self.old.exporter.kind ≡ false }
         ensures* writes_back { sem 𝓛 (LendsAll self.entry result) }
@@ -479,7 +508,8 @@ impl ExporterState {
         Ok(self.parts.bytes.as_vec_mut())
     }
 
-    /// Whether a view of this number was given and is unreleased.
+    /// Whether a view of this number was given and is unreleased. Takes no memory.
+    /// Example: `state.is_live(0)` is true after the first view was made, and false once it was released.
     pub fn is_live(&self, view: usize) -> bool
         ensures { result ≡ is_live self.now.exporter view }
     {
@@ -489,8 +519,9 @@ impl ExporterState {
         false
     }
 
-    /// The bytes of an unreleased view, lent without a copy. None exactly where its items don't lie
-    /// one after the other.
+    /// The bytes of an unreleased view, lent without a copy. It is None exactly where its items don't lie one after
+    /// the other. Takes no memory.
+    /// Example: of a view of all bytes of `b"abc"` it is `Some(b"abc")`, and of its slice `::2` None.
     pub fn contiguous_bytes(&self, view: usize) -> Option<&[u8]>
         requires { is_live self.now.exporter view ≡ true }
         ensures { MatchOption result (is_contiguous_layout (layout_of self.now.exporter view) ≡ false) (λ bytes. (is_contiguous_layout (layout_of self.now.exporter view) ≡ true) × (bytes.now ≡ content_of_layout self.now.exporter.bytes (layout_of self.now.exporter view))) }
@@ -498,7 +529,8 @@ impl ExporterState {
         self.parts.contiguous_bytes(view)
     }
 
-    /// Whether the items of an unreleased view lie one after the other and may be written.
+    /// Whether the items of an unreleased view lie one after the other and may be written. Takes no memory.
+    /// Example: of a view of all bytes of a bytearray it is true, and of one of `bytes` false.
     pub fn is_writable_run(&self, view: usize) -> bool
         requires { is_live self.now.exporter view ≡ true }
         ensures { result ≡ is_writable_run (layout_of self.now.exporter view) }
@@ -506,8 +538,9 @@ impl ExporterState {
         self.parts.is_writable_run(view)
     }
 
-    /// The bytes of an unreleased view whose items lie one after the other, lent to be written. What
-    /// is written there takes the place of the bytes of the view, and of no others.
+    /// The bytes of an unreleased view whose items lie one after the other, lent to be written. What is written there
+    /// takes the place of the bytes of the view, and of no others. Takes no memory.
+    /// Example: of a view of the slice `1:3` of `b"abcd"`, whose first byte is then written with 66, the bytes are `b"aBcd"`.
     pub fn contiguous_bytes_mut(&mut self, view: usize) -> &mut [u8]
         requires live { is_live self.old.exporter view ≡ true }
         requires writable { is_writable_run (layout_of self.old.exporter view) ≡ true }
@@ -517,7 +550,9 @@ impl ExporterState {
         self.parts.contiguous_bytes_mut(view)
     }
 
-    /// One more view, by a descriptor and the place of its first item. The answer is its number.
+    /// One more view, by a descriptor and the place of its first item. The answer is its number. Where memory runs
+    /// out, nothing is changed.
+    /// Example: by `BufferDescriptor::simple(alloc, 3, false)?` and the start 0 of a new bytearray `b"abc"` it is 0.
     pub fn add_view(&mut self, descriptor: BufferDescriptor, start: usize) -> Made<usize>
         requires placed { IsPlaced descriptor start }
         requires sound { IsSoundLayout self.old.exporter (layout_at descriptor start) }
@@ -536,7 +571,8 @@ impl ExporterState {
         }
     }
 
-    /// The number of unreleased views.
+    /// The number of unreleased views. Takes no memory.
+    /// Example: it is 1 after one view was made, and 0 once that is released.
     pub fn exports(&self) -> usize
         ensures count { result ≡ exports_of self.now.exporter }
         ensures sound { IsSoundExporter self.now.exporter }
@@ -544,11 +580,12 @@ impl ExporterState {
         self.parts.exports
     }
 
-    /// A view's descriptor, and the place of its first item. None exactly where no view of this
-    /// number was given.
+    /// A view's descriptor, and the place of its first item, counted in bytes from 0. It is None exactly where no
+    /// view of this number was given. Takes no memory.
     ///
-    /// They stand for the view, and describe items that lie inside the bytes while it is unreleased.
-    /// Wherever they lie, walks over them are safe.
+    /// They stand for the view, and describe items that lie inside the bytes while it is unreleased. Wherever they
+    /// lie, walks over them are safe.
+    /// Example: of the view `1:3` of `b"abcd"` it is a descriptor of two items of one byte, and the place 1.
     pub fn view_desc(&self, view: usize) -> Option<(&BufferDescriptor, usize)>
         ensures given { IsSome result ↔ (view < length self.now.exporter.views) }
         ensures stands { IfSome result (λ r. IsSomeAnd (slice_get self.now.exporter.views view) (λ v. Stands r.0.now r.1 v.layout)) }
@@ -562,14 +599,16 @@ impl ExporterState {
         }
     }
 
-    /// The number of views that were given, released ones too.
+    /// The number of views that were given, released ones too. Takes no memory.
+    /// Example: it is 1 after one view was made, and stays 1 once that is released.
     pub fn view_count(&self) -> usize
         ensures { result ≡ length self.now.exporter.views }
     {
         self.parts.views.len()
     }
 
-    /// The number of iterators that were made of the exporter and of its views, exhausted ones too.
+    /// The number of iterators that were made of the exporter and of its views, exhausted ones too. Takes no memory.
+    /// Example: it is 1 after `Verb::Iter` of a new exporter.
     pub fn iter_count(&self) -> usize
         ensures { result ≡ length self.now.exporter.iterators }
     {

@@ -49,6 +49,7 @@ pub(crate) fn steps_keep_sound()
 }
 
 /// Every command leaves a sound exporter sound.
+/// Example: after `pop` of a bytearray, and after `set` of a view, each unreleased view lies inside the bytes as before.
 pub fn commands_keep_sound()
     ensures { CommandsKeepSound }
 {
@@ -58,6 +59,7 @@ pub fn commands_keep_sound()
 
 /// Under every command views are only added or become released, each keeps the length that it was
 /// made at, and an exporter with an unreleased view has afterwards the length that it had.
+/// Example: while a view of `bytearray(b"abc")` is unreleased, no command makes the length another than 3.
 pub fn lengths_stay()
     ensures { LengthsStayUnderCommands }
 {
@@ -66,6 +68,7 @@ pub fn lengths_stay()
 }
 
 /// No command changes the bytes of an exporter that is only read.
+/// Example: no command on `bytes` `b"abc"`, or on a view of it, makes its bytes others than `b"abc"`.
 pub fn readonly_bytes_stay()
     ensures { ReadOnlyBytesStayUnderCommands }
 {
@@ -73,8 +76,9 @@ pub fn readonly_bytes_stay()
     pybuf_state::reading_keeps();
 }
 
-/// Under every command each iterator keeps its number and what it goes over, and an exhausted one stays
-/// as it is: nothing brings it to life again.
+/// Under every command each iterator keeps its number and what it goes over, and an exhausted one stays as it is.
+/// Nothing brings it to life again.
+/// Example: an iterator over `b"a"` that replied `stop` replies `stop` after `append` too.
 pub fn iterators_stay()
     ensures { IteratorsStayUnderCommands }
 {
@@ -82,12 +86,14 @@ pub fn iterators_stay()
     pybuf_state::reading_keeps();
 }
 
-/// A method, a search and the digits of a view leave the exporter as it is, whatever they reply.
+/// The commands `call`, `contains` and `hex` leave the exporter as it is, whatever they reply.
+/// Example: `call upper` of `bytearray(b"Abc")` replies `b"ABC"`, and the bytes are still `b"Abc"`.
 pub fn reading_in_place_changes_nothing()
     ensures { ReadingInPlaceChangesNothing }
 {}
 
-/// No command changes an iterator but those that are asked of one: an edit leaves each where it is.
+/// No command changes an iterator but those that are asked of one. So an edit leaves each where it is.
+/// Example: an iterator that stands at place 1 stands there after `append` too.
 pub fn others_leave_iterators()
     ensures { OthersLeaveIterators }
 {
@@ -96,6 +102,7 @@ pub fn others_leave_iterators()
 }
 
 /// A command that makes an iterator, or is asked of one, changes iterators alone.
+/// Example: `next` moves its iterator, and leaves bytes and views as they are.
 pub fn iteration_changes_nothing_else()
     ensures { IterationChangesNothingElse }
 {
@@ -105,11 +112,13 @@ pub fn iteration_changes_nothing_else()
 
 /// An iterator over bytes gives each of them once, in order, from where it stands, and then it stops
 /// for ever.
+/// Example: over `b"ab"` `next` replies 97, 98 and then `stop`, each time that it is asked again.
 pub fn iterators_give_the_bytes()
     ensures { IteratorsGiveTheBytes }
 {}
 
 /// A refused command changes nothing of its exporter.
+/// Example: `append 256` of `bytearray(b"abc")` is refused with `ValueError`, and the bytes are still `b"abc"`.
 pub fn refused_commands_change_nothing()
     ensures { RefusedCommandsChangeNothing }
 {
@@ -119,6 +128,7 @@ pub fn refused_commands_change_nothing()
 
 /// No command is refused with `StructError`: a cast takes native codes alone, and an item is read and written by the
 /// format of its view.
+/// Example: `cast 'BH'` is refused with `ValueError`.
 pub fn struct_error_is_never_replied()
     ensures { StructErrorIsNeverReplied }
 {
@@ -128,6 +138,7 @@ pub fn struct_error_is_never_replied()
 
 /// A command that replies something fresh changes nothing of its exporter, and replies the copy of
 /// the view or the bytearray that it is asked of.
+/// Example: `copy` of `bytearray(b"abc")` replies a `Snap` of `b"abc"`, and the bytearray is as before.
 pub fn fresh_replies_are_copies()
     ensures { FreshRepliesAreCopies }
 {
@@ -136,6 +147,7 @@ pub fn fresh_replies_are_copies()
 }
 
 /// A text that a command shows of its subject holds no line feed, whatever its bytes are.
+/// Example: `repr` of the byte 10 alone replies `b'\n'` with a backslash and the letter n.
 pub fn shown_texts_are_one_line()
     ensures { ShownTextsAreOneLine }
 {
@@ -143,14 +155,16 @@ pub fn shown_texts_are_one_line()
     pybuf_state::reading_keeps();
 }
 
-/// Of what its handles name a command asks which of them are known, and what is lent for those whose bytes it
-/// reads.
+/// What a command does depends on what its handles name by two facts alone: which of them are known, and what is lent
+/// for those whose bytes it reads.
+/// Example: `extend h1` does the same whether `h1` is lent from a list of loans or from a world, where both lend `b"ab"`.
 pub fn names_alike_do_the_same()
     ensures { NamesAlikeDoTheSame }
 {}
 
-/// Every item of an unreleased view of a sound exporter is read as the values of its format's fields:
-/// its format is in the grammar and has its size, and all its bytes are there.
+/// Every item of an unreleased view of a sound exporter is read as the values of its format's fields. Its format is
+/// in the grammar and has its size, and all its bytes are there.
+/// Example: an item of the format `H` at the bytes 1 and 0 is read as the number 1.
 pub fn items_are_read()
     ensures { ItemsAreRead }
 {
@@ -161,6 +175,7 @@ pub fn items_are_read()
 /// Where a check of an edit refuses before it asks for another length, that is the reply, whether a view is unreleased
 /// or not. An edit that asks for another length, once its earlier checks are passed, is refused with `BufferError`
 /// exactly while a view is unreleased. No other edit is, but that which adds a bytearray to itself.
+/// Example: while a view is unreleased, `append 256` is refused with `ValueError`, and `append 1` with `BufferError`.
 pub fn resizing_is_refused_while_exported()
     ensures { ResizingIsRefusedWhileExported }
 {
@@ -172,6 +187,7 @@ pub fn resizing_is_refused_while_exported()
 
 /// A bytearray that is added to itself by `iadd` is refused with `BufferError`, whether a view is unreleased or not, and
 /// nothing changes. An exporter that is no bytearray has no `iadd`, and is refused with `UnknownName`.
+/// Example: `a += a` of a bytearray `a` is refused with `BufferError`, also where it has no view.
 pub fn adding_itself_is_refused()
     ensures itself { AddingItselfIsRefused }
     ensures others { OnlyByteArraysAreAddedTo }
@@ -179,14 +195,17 @@ pub fn adding_itself_is_refused()
 
 /// An iterator over a view of one dimension gives its items from where it stands, as the bytes are now, in order and
 /// each once, and then it stops for ever.
+/// Example: over a view of `b"\x01\x00\x02\x00"` cast to `H` `next` replies 1, 2 and then `stop`.
 pub fn iterators_give_the_items()
     ensures { IteratorsGiveTheItems }
 {
     pybuf_state::live_layouts_are_sound();
 }
 
-/// An iterator over a released view is refused, and so is one over a view of no dimension or of several while there is
-/// an entry for it; neither moves. Past the last entry it stops for ever, and so it does once it is exhausted.
+/// An iterator over a released view is refused, and so is one over a view of no dimension or of several while there
+/// is an entry for it; then neither moves. Past the last entry it stops for ever, and so it does once it is
+/// exhausted.
+/// Example: `next` over a released view is refused with `ValueError`, and over two dimensions with `NotImplementedError`.
 pub fn iterators_stop_or_stay()
     ensures released { ReleasedViewsAreNotIterated }
     ensures shaped { OtherShapesAreNotIterated }
@@ -195,6 +214,7 @@ pub fn iterators_stop_or_stay()
 {}
 
 /// What is lent of an exporter, of a view or of an iterator holds the items of that, one after the other.
+/// Example: what is lent of the view `memoryview(b"abcdef")[::-2]` holds `b"fdb"`.
 pub fn snaps_hold_the_items()
     ensures { SnapsHoldTheItems }
 {
@@ -207,6 +227,7 @@ pub fn snaps_hold_the_items()
 /// j of the target is afterwards item j of the source as it was before the command, be the source bytes that are given,
 /// the exporter itself, a view of it, or what another lends. Every byte that is of no item of the target stays, and so
 /// do the length, the kind, the views and the iterators.
+/// Example: in `bytearray(b"abc")` `m[::-1] = m` of a view `m` of all bytes makes `b"cba"`.
 pub fn steps_assign_by_value()
     ensures { StepsAssignByValue }
 {
@@ -219,6 +240,7 @@ pub fn steps_assign_by_value()
 
 /// `castf` of a view, where it isn't refused, makes one whose bytes in column order, as `bytes 'F'` and `bytes 'A'` reply
 /// them, are those that `bytes` of the view replied.
+/// Example: of a view of `b"abcdef"`, `castf 'B' (2,3)` makes a view of which `bytes 'F'` replies `b"abcdef"`.
 pub fn column_casts_give_the_bytes_back()
     ensures { ColumnCastsGiveTheBytesBack }
 {
@@ -230,6 +252,7 @@ pub fn column_casts_give_the_bytes_back()
 
 /// The bytes of an unreleased view of a sound exporter in column order are those row by row in another order: there are
 /// as many, and the item at any indices stands in each at its number there.
+/// Example: of the items `[[97, 98, 99], [100, 101, 102]]` `bytes` replies `b"abcdef"`, and `bytes 'F'` `b"adbecf"`.
 pub fn orders_hold_the_same_items()
     ensures { OrdersHoldTheSameItems }
 {
@@ -240,6 +263,7 @@ pub fn orders_hold_the_same_items()
 }
 
 /// Where no two items of any view of an exporter share a byte, that is so after every command.
+/// Example: a slice `::2` of a view of bytes has items at 0, 2 and so on, and no two of them share a byte.
 pub fn commands_keep_items_apart()
     ensures { CommandsKeepItemsApart }
 {
@@ -248,6 +272,7 @@ pub fn commands_keep_items_apart()
 }
 
 /// A view or an iterator that a command replies is one that its exporter then has.
+/// Example: after a command that replied `View(0)`, `view_count()` is at least 1.
 pub fn replied_names_are_there()
     ensures { RepliedNamesAreThere }
 {
@@ -256,6 +281,7 @@ pub fn replied_names_are_there()
 }
 
 /// Every view and every iterator that an exporter has it has after every command, by the same number.
+/// Example: the view 0 is still the view 0 after `release`, and after each command that follows.
 pub fn subjects_stay()
     ensures { SubjectsStay }
 {
@@ -264,6 +290,7 @@ pub fn subjects_stay()
 }
 
 /// A command whose reply owns memory changes nothing, but for `take` of a vector and `next`.
+/// Example: `bytes` of `bytearray(b"abc")` replies `b"abc"`, which owns memory, and the bytearray is as before.
 pub fn owning_replies_change_nothing()
     ensures { OwningRepliesChangeNothing }
 {}
@@ -281,6 +308,7 @@ pub(crate) fn next_is_undone()
 
 /// Over any list of commands each of which takes the first bytes out or adds bytes at the end, the counter of moved bytes
 /// rises by at most the first room and the number of bytes that are taken out together.
+/// Example: from no room, ten commands `pop 0` and any appends between them move at most ten bytes.
 pub fn queues_move_few_bytes()
     ensures { QueuesMoveFewBytes }
 {}

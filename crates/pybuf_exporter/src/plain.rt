@@ -28,7 +28,9 @@ use pybuf_verbs_views::{cast, slice, view};
 use pybuf_verbs_writes::assign;
 
 impl ExporterState {
-    /// One more view, of all bytes. The answer is its number. Never refused.
+    /// One more view, of all bytes. The answer is its number. This is never refused. Where memory runs out, nothing
+    /// is changed.
+    /// Example: of a new exporter it is 0.
     pub fn add_whole(&mut self) -> Result<usize, Halt>
         ensures answer { Answers (view_of_own self.old.exporter) self.old.exporter (result_map_both replies.View (λ halt. halt) result) self.new.exporter }
         ensures room { self.new.room ≡ self.old.room }
@@ -37,7 +39,10 @@ impl ExporterState {
         view::add_whole(&mut self.parts)
     }
 
-    /// One more view, of the items of a view that a slice picks. The answer is its number.
+    /// One more view, of the items of a view that a slice picks. The answer is its number. It is refused as
+    /// `PyMemoryView::slice` is, and with `UnknownName` for a view that was never given. Nothing is changed then, nor
+    /// where memory runs out.
+    /// Example: of the view 0 of all bytes of `b"abcdef"` the slice `1:4` gives the number of a view of `b"bcd"`.
     pub fn add_slice(&mut self, view: usize, slice: &PySlice) -> Result<usize, Halt>
         ensures answer { Answers (slice_of_view self.old.exporter view slice.now) self.old.exporter (result_map_both replies.View (λ halt. halt) result) self.new.exporter }
         ensures room { self.new.room ≡ self.old.room }
@@ -46,7 +51,10 @@ impl ExporterState {
         slice::add(&mut self.parts, view, slice)
     }
 
-    /// One more view, of the bytes of a view as items of another format. The answer is its number.
+    /// One more view, of the bytes of a view as items of another format. The answer is its number. It is refused as
+    /// `PyMemoryView::cast` is, and with `UnknownName` for a view that was never given. Nothing is changed then, nor
+    /// where memory runs out.
+    /// Example: of a view of `b"\x01\x00\x02\x00"` the format `"H"` gives the number of a view with the items 1 and 2.
     pub fn add_cast(&mut self, view: usize, format: &str) -> Result<usize, Halt>
         ensures answer { Answers (cast_of_view self.old.exporter view (values.One (scalars.Text format.now)) None) self.old.exporter (result_map_both replies.View (λ halt. halt) result) self.new.exporter }
         ensures room { self.new.room ≡ self.old.room }
@@ -55,7 +63,9 @@ impl ExporterState {
         cast::add_flat(&mut self.parts, view, format)
     }
 
-    /// The same in the dimensions of a shape.
+    /// One more view, of the bytes of a view as items of another format, in the dimensions of a shape. The answer is
+    /// its number. It is refused as `add_cast` is. Nothing is changed then, nor where memory runs out.
+    /// Example: of a view of six bytes, `"B"` and the shape `[2, 3]` give the number of a view with two rows of three items.
     pub fn add_shaped_cast(
         &mut self,
         view: usize,
@@ -69,14 +79,19 @@ impl ExporterState {
         cast::add_shaped(&mut self.parts, view, format, shape)
     }
 
-    /// The item of a view at an index.
+    /// The item of a view at an index, where a negative index counts from the end. It is refused as
+    /// `PyMemoryView::index` is, and with `UnknownName` for a view that was never given.
+    /// Example: of a view of `b"abc"` the index -1 gives `Item::One(Scalar::Int(99))`.
     pub fn item(&self, view: usize, index: isize) -> Result<Item, Halt>
         ensures { Reads (item_of_view self.now.exporter view (values.One (scalars.Int index))) self.now.exporter (result_map_both replies.Item (λ halt. halt) result) }
     {
         get::item(&self.parts, view, index)
     }
 
-    /// Writes a number as the item of a view at an index. It is the command `set` with the two as values.
+    /// Writes a number as the item of a view at an index. It is the command `set` with the two as values. It is
+    /// refused as `PyMemoryView::set` is, and with `UnknownName` for a view that was never given. Nothing is changed
+    /// then, nor where memory runs out.
+    /// Example: through a view of all bytes of `bytearray(b"abc")` the index 0 and the number 65 make `b"Abc"`.
     pub fn put_number(&mut self, view: usize, index: isize, number: i128) -> Result<(), Halt>
         ensures answer { TellsRefusal (estep self.old.exporter (subjects.View view) (verbs.Set (values.One (scalars.Int index)) (values.One (scalars.Int number))) []) self.old.exporter result self.new.exporter }
         ensures room { self.new.room ≡ self.old.room }
@@ -90,28 +105,36 @@ impl ExporterState {
         }
     }
 
-    /// The bytes of a view's items, in order.
+    /// The bytes of a view's items, with the last index changing fastest. Refused with `UnknownName` for a view that
+    /// was never given, and with `ValueError` for a released one.
+    /// Example: of the view `memoryview(b"abcdef")[::-2]` it has the bytes `b"fdb"`.
     pub fn content(&self, view: usize) -> Result<Vec<u8>, Halt>
         ensures { Reads (bytes_of_view self.now.exporter view None) self.now.exporter (result_map_both (λ bytes. replies.Bytes bytes.items) (λ halt. halt) result) }
     {
         to_bytes::content(&self.parts, view)
     }
 
-    /// The number of entries of each dimension of a view.
+    /// The number of entries of each dimension of a view. Refused with `UnknownName` for a view that was never given,
+    /// and with `ValueError` for a released one.
+    /// Example: of a view of three bytes it has the entry 3 alone.
     pub fn shape(&self, view: usize) -> Result<Vec<usize>, Halt>
         ensures { Reads (property_of_view self.now.exporter view names.Shape) self.now.exporter (result_map_both (λ shape. replies.Numbers (map (λ n. pos n) shape.items)) (λ halt. halt) result) }
     {
         property::shape(&self.parts, view)
     }
 
-    /// The stride of each dimension of a view.
+    /// The stride of each dimension of a view, in bytes. Refused with `UnknownName` for a view that was never given,
+    /// and with `ValueError` for a released one.
+    /// Example: of the view `memoryview(b"abcdef")[::-2]` it has the stride -2 alone.
     pub fn strides(&self, view: usize) -> Result<Vec<isize>, Halt>
         ensures { Reads (property_of_view self.now.exporter view names.Strides) self.now.exporter (result_map_both (λ strides. replies.Numbers strides.items) (λ halt. halt) result) }
     {
         property::strides(&self.parts, view)
     }
 
-    /// Copies bytes over the items that a slice of a view picks.
+    /// Copies bytes over the items that a slice of a view picks. It is refused as `PyMemoryView::assign` is, and with
+    /// `UnknownName` for a view that was never given. Nothing is changed then, nor where memory runs out.
+    /// Example: over the slice `0:2` of a view of all bytes of `b"abc"` the bytes `b"12"` make `b"12c"`.
     pub fn assign_bytes(&mut self, view: usize, slice: &PySlice, bytes: &[u8]) -> Result<(), Halt>
         ensures answer { Answers (assign_of_view self.old.exporter view slice.now (values.One (scalars.Bytes bytes.now)) []) self.old.exporter (result_map_both (λ _. replies.Ok) (λ halt. halt) result) self.new.exporter }
         ensures room { self.new.room ≡ self.old.room }
@@ -120,8 +143,10 @@ impl ExporterState {
         assign::put_bytes(&mut self.parts, view, slice, bytes)
     }
 
-    /// Copies the items of a view of another exporter over those that a slice of a view picks. No byte is copied
-    /// between.
+    /// Copies the items of a view of another exporter over those that a slice of a view picks. They are copied from
+    /// where they lie. It is refused as `PyMemoryView::assign_from` is, and with `UnknownName` for a view that was
+    /// never given. Nothing is changed then.
+    /// Example: over the slice `3:` of a view of `b"abcdef"` a view of `b"XYZ"` of another exporter makes `b"abcXYZ"`.
     pub fn assign_across(
         &mut self,
         view: usize,
@@ -136,7 +161,10 @@ impl ExporterState {
         assign::put_from(&mut self.parts, view, slice, &lender.parts, source)
     }
 
-    /// The same of a view of this exporter: its items are as they were before the first is written.
+    /// Copies the items of a view of this exporter over those that a slice of a view picks. They count as they were
+    /// before the first is written. It is refused as `assign_across` is. Nothing is changed then, nor where memory
+    /// runs out.
+    /// Example: over the slice `::-1` of a view of `b"abc"` the view itself makes `b"cba"`.
     pub fn assign_within(&mut self, view: usize, slice: &PySlice, source: usize) -> Result<(), Halt>
         ensures answer { Answers (assign_of_lent self.old.exporter view slice.now (snap_of_subject self.old.exporter (subjects.View source))) self.old.exporter (result_map_both (λ _. replies.Ok) (λ halt. halt) result) self.new.exporter }
         ensures room { self.new.room ≡ self.old.room }

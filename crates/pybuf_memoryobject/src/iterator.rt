@@ -12,6 +12,7 @@ use std::alloc::Global;
 use std::marker::Model;
 
 /// Python's iterator over a memoryview. It names an iterator by its number in one exporter, and keeps nothing else.
+/// Example: `PyMemoryViewIterator::of(0)` stands for the first iterator that was made of an exporter or of its views.
 #[derive(Clone, Copy, Debug)]
 pub struct PyMemoryViewIterator {
     number: usize,
@@ -30,6 +31,7 @@ impl Model for PyMemoryViewIterator {
 impl PyMemoryViewIterator {
     /// The iterator of this number, counted from 0 in the order in which they were made. Takes no
     /// memory.
+    /// Example: `PyMemoryViewIterator::of(0)` is the iterator that the reply `Iter(0)` names.
     pub fn of(iterator: usize) -> PyMemoryViewIterator
         ensures { result ≡ iterator }
     {
@@ -37,18 +39,20 @@ impl PyMemoryViewIterator {
     }
 
     /// The number of the iterator that it names. Takes no memory.
+    /// Example: `PyMemoryViewIterator::of(3).number()` is 3.
     pub fn number(&self) -> usize
         ensures { result ≡ self.now }
     {
         self.number
     }
 
-    /// The next item, or `Stop` where there is none, from when on there is none for ever, as Python's
-    /// `next(iterator)` (Library reference, "Iterator Types").
+    /// The next item, or `Stop` where there is none, as Python's `next(iterator)` (Library reference, "Iterator
+    /// Types"). After one `Stop` it replies `Stop` for ever.
     ///
-    /// Refused with `UnknownName` where no iterator of this number was given; unless it is exhausted,
-    /// with `ValueError` where its view was released, and with `NotImplementedError` where that hasn't
-    /// one dimension and an entry is left. A refusal leaves it where it is.
+    /// Refused with `UnknownName` where no iterator of this number was given; unless it is exhausted, with
+    /// `ValueError` where its view was released, and with `NotImplementedError` where that hasn't one dimension and
+    /// an entry is left. A refusal leaves it where it is.
+    /// Example: over a view of `b"a"` it replies the item 97, and then `Stop`.
     pub fn next(&self, alloc: Global, state: &mut ExporterState) -> Made<LocalReply>
         ensures ok { IfOk result (λ r. estep state.old.exporter (subjects.Iter self.now) verbs.Next [] ≡ (state.new.exporter, r)) }
         ensures err { OnErr result (state.new ≡ state.old) }

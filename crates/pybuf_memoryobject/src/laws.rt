@@ -3,6 +3,7 @@ ghost use Rattle.pybuf_memoryobject.specs.Laws.{AllIsViewed, SlicesAreMade, Cast
 
 /// The calls of a memoryview with plain arguments that make and release views do what the commands `view`, `get`, `cast`
 /// and `release` do, and answer what those reply.
+/// Example: what `view.slice(state, 1..4)` changes and answers is what `get 1:4:None` of the view changes and replies.
 pub fn plain_views_are_commands()
     ensures all { AllIsViewed }
     ensures slice { SlicesAreMade }
@@ -11,6 +12,7 @@ pub fn plain_views_are_commands()
 {}
 
 /// The calls of a memoryview with plain arguments that read answer what the commands `get`, `bytes` and `prop` reply.
+/// Example: `view.index(state, -1)` of the items 1, 2, 3 is the item 3, and the command `get -1` replies 3.
 pub fn plain_items_are_commands()
     ensures index { IndicesGet }
     ensures bytes { VectorsAreBytes }
@@ -18,7 +20,9 @@ pub fn plain_items_are_commands()
     ensures strides { StridesAreShown }
 {}
 
-/// Items are written by plain arguments as the command `set` writes them.
+/// The calls of a memoryview with plain arguments that write items of a slice do what the command `set` does, and
+/// answer what it replies.
+/// Example: what `view.assign(state, 0..2, b"12")` changes is what the command `set 0:2:None x3132` of the view changes.
 pub fn plain_assignments_are_commands()
     ensures bytes { BytesAreAssigned }
     ensures lent { LentIsAssigned }

@@ -17,14 +17,15 @@ use std::alloc::Global;
 use std::marker::Model;
 use std::ops::Range;
 
-/// A memoryview, as Python's `memoryview` (Library reference, "Memory Views"): the number of a view of an
-/// exporter. Each call takes the exporter that gave it.
+/// A memoryview, as Python's `memoryview` (Library reference, "Memory Views"). It is the number of a view of an
+/// exporter, from 0 on in the order in which they were made. Each call takes the exporter that gave it.
 ///
 /// A method that takes loans is one command on the view, and answers its reply. What is refused is replied as
 /// `LocalReply::Refused`, and changes nothing. Before all that a method names, a view that was never given and a
-/// handle among the values that the loans don't name are refused with `UnknownName`, and then a released view
-/// with `ValueError`, but by `exit`. Where memory runs out, nothing is changed. The loans have to fit, as
-/// `FitLoans::fit` tells.
+/// handle among the values that the loans don't name are refused with `UnknownName`, and then a released view with
+/// `ValueError`, but by `exit`. Where memory runs out, nothing is changed. The loans have to fit, as `FitLoans::fit`
+/// tells.
+/// Example: `PyMemoryView::of_all(array.state_mut())?` stands for Python's `memoryview(array)`.
 #[derive(Debug, Drop)]
 pub struct PyMemoryView {
     view: usize,
@@ -56,6 +57,7 @@ impl PyMemoryView {
     ghost use Rattle.pybuf_memoryobject.specs.Viewing.{IsViewOf};
 
     /// The memoryview of the view of this number. It changes no count, and takes no memory.
+    /// Example: `PyMemoryView::of(0)` is the memoryview that the reply `View(0)` names.
     pub fn of(view: usize) -> PyMemoryView
         ensures { result ≡ view }
     {
@@ -63,18 +65,19 @@ impl PyMemoryView {
     }
 
     /// The number of its view. Takes no memory.
+    /// Example: `PyMemoryView::of(3).number()` is 3.
     pub fn number(&self) -> usize
         ensures { result ≡ self.now }
     {
         self.view
     }
 
-    /// A memoryview of an exporter, over all its bytes, or of a view, over the same items: one more
-    /// view, as Python's reference has it under "Memory Views", `memoryview(object)`.
+    /// A memoryview of an exporter, over all its bytes, or of a view, over the same items. It is one more view, as
+    /// Python's `memoryview(object)` (Library reference, "Memory Views").
     ///
-    /// Refused with `UnknownName` exactly where the view was never given, and for an iterator, and
-    /// with `ValueError` exactly where the view was released. Where it is refused, or memory runs
-    /// out, the exporter is as before.
+    /// Refused with `UnknownName` exactly where the view was never given, and for an iterator, and with `ValueError`
+    /// exactly where the view was released. Where it is refused, or memory runs out, the exporter is as before.
+    /// Example: of `Subject::Own` of a new bytearray `b"abc"` it is `PyMemoryView::of(0)`, with the items 97, 98 and 99.
     pub fn from_object(
         alloc: Global,
         state: &mut ExporterState,
@@ -92,8 +95,9 @@ impl PyMemoryView {
         }
     }
 
-    /// A memoryview of the items of a buffer: one more view, which is counted and released by itself.
-    /// Where memory runs out, the exporter is as before.
+    /// A memoryview of the items of a buffer. It is one more view, which is counted and released by itself. Where
+    /// memory runs out, the exporter is as before.
+    /// Example: of `PyBuffer::of(0)`, the only view of its exporter, it is `PyMemoryView::of(1)`, and `exports` is 2 then.
     pub fn from_buffer(
         alloc: Global,
         state: &mut ExporterState,
@@ -108,8 +112,10 @@ impl PyMemoryView {
         Ok(PyMemoryView::of(kept.number()))
     }
 
-    /// A memoryview of the entries of a buffer's first dimension from one up to another: one more view,
-    /// as a slice of a memoryview is in Python. Where memory runs out, the exporter is as before.
+    /// A memoryview of the entries of a buffer's first dimension from one up to another, which
+    /// `PyBuffer::has_entries` tests. It is one more view, as a slice of a memoryview is in Python. Where memory runs
+    /// out, the exporter is as before.
+    /// Example: of a buffer of all bytes `b"abcdef"` and the range `1..4` its bytes are `b"bcd"`.
     pub fn from_buffer_range(
         alloc: Global,
         state: &mut ExporterState,
@@ -128,6 +134,7 @@ impl PyMemoryView {
 
     /// One more memoryview of the same items, which is counted and released by itself. Where memory
     /// runs out, the exporter is as before.
+    /// Example: of `PyMemoryView::of(0)`, the only view of its exporter, it is `PyMemoryView::of(1)`, and `exports` is 2 then.
     pub fn new_view(&self, alloc: Global, state: &mut ExporterState) -> Made<PyMemoryView>
         requires { is_live state.old.exporter self.now ≡ true }
         ensures ok { IfOk result (λ made. with_view state.old.exporter (layout_of state.old.exporter self.now) ≡ (state.new.exporter, replies.View made)) }
@@ -138,9 +145,10 @@ impl PyMemoryView {
         Ok(PyMemoryView::of(kept.number()))
     }
 
-    /// A new vector of the bytes of the items, in order, and the buffer of all of it, with items of the
-    /// same format in the same shape, which lie one after the other. It can be read alone where this
-    /// view can.
+    /// A new vector of the bytes of the items, in order, and the buffer of all of it. Its items have the same format
+    /// and the same shape, and lie one after the other. It may only be read where this view may only be read. (C API,
+    /// "MemoryView objects", `PyMemoryView_GetContiguous`.)
+    /// Example: of the view `memoryview(b"abcdef")[::-2]` the vector has the bytes `b"fdb"`.
     pub fn to_contiguous(
         &self,
         alloc: Global,
@@ -156,6 +164,7 @@ impl PyMemoryView {
     }
 
     /// Releases the view. Releasing it again changes nothing. Takes no memory.
+    /// Example: after `view.release(state)`, `state.is_live(view.number())` is false.
     pub fn release(&self, state: &mut ExporterState)
         requires { self.now < length state.old.exporter.views }
         ensures released { released_in state.old.exporter self.now ≡ Ok state.new.exporter }

@@ -26,7 +26,9 @@ use pybuf_exporter::ExporterState;
 use pybuf_value::{Halt, Item, PySlice};
 
 impl PyMemoryView {
-    /// A memoryview of all bytes of an exporter, as Python's `memoryview(object)`. Never refused.
+    /// A memoryview of all bytes of an exporter, as Python's `memoryview(object)`. This is never refused. Where
+    /// memory runs out, nothing is changed.
+    /// Example: of a bytearray `b"abcdef"` it is a view of these six bytes.
     pub fn of_all(state: &mut ExporterState) -> Result<PyMemoryView, Halt>
         ensures answer { Answers (view_of_own state.old.exporter) state.old.exporter (result_map_both replies.View (λ halt. halt) result) state.new.exporter }
         ensures room { state.new.room ≡ state.old.room }
@@ -35,11 +37,12 @@ impl PyMemoryView {
         Ok(PyMemoryView::of(number))
     }
 
-    /// A memoryview of the items that a slice picks along the first dimension, as Python's `view[1:4]`: a range of
-    /// Rust, or `PySlice::new(start, stop, step)`. It shares the bytes.
+    /// A memoryview of the items that a slice picks along the first dimension, as Python's `view[1:4]`. The slice is
+    /// a range of Rust, or `PySlice::new(start, stop, step)`. The view shares the bytes.
     ///
     /// Refused with `ValueError` for a released view, then with `TypeError` where it has no dimension, and then with
-    /// `ValueError` for a step of 0.
+    /// `ValueError` for a step of 0. Nothing is changed then, nor where memory runs out.
+    /// Example: of a view of `b"abcdef"` the slice `1..4` gives a view of `b"bcd"`.
     pub fn slice<S: Into<PySlice>>(
         &self,
         state: &mut ExporterState,
@@ -56,6 +59,7 @@ impl PyMemoryView {
     ///
     /// Refused with `ValueError` for a released view, then with `TypeError` where it has no dimension and with
     /// `NotImplementedError` where it has several, and then with `IndexError` out of range.
+    /// Example: of the items 1, 2, 3 in the format `H` the index -1 gives `Item::One(Scalar::Int(3))`.
     pub fn index(&self, state: &ExporterState, index: isize) -> Result<Item, Halt>
         ensures { Reads (item_of_view state.now.exporter self.now (values.One (scalars.Int index))) state.now.exporter (result_map_both replies.Item (λ halt. halt) result) }
     {
@@ -64,8 +68,10 @@ impl PyMemoryView {
 
     /// Writes a number as the item at an index, as Python's `view[index] = number`. All views of these bytes see it.
     ///
-    /// Refused with `ValueError` for a released view, then with `TypeError` where it may only be read, then as `index`
-    /// refuses the index, and then with `TypeError` where the format of the items doesn't take the number.
+    /// Refused with `ValueError` for a released view, then with `TypeError` where it may only be read, then as
+    /// `index` refuses the index, and then with `TypeError` where the format of the items doesn't take the number.
+    /// Nothing is changed then.
+    /// Example: in the format `H` the index 0 and the number 513 write `b"\x01\x02"`, and 65,536 is refused with `TypeError`.
     pub fn set(&self, state: &mut ExporterState, index: isize, number: i128) -> Result<(), Halt>
         ensures answer { TellsRefusal (estep state.old.exporter (subjects.View self.now) (verbs.Set (values.One (scalars.Int index)) (values.One (scalars.Int number))) []) state.old.exporter result state.new.exporter }
         ensures room { state.new.room ≡ state.old.room }
@@ -76,6 +82,7 @@ impl PyMemoryView {
     /// The bytes of the items, with the last dimension running fastest, as Python's `view.tobytes()`.
     ///
     /// Refused with `ValueError` for a released view.
+    /// Example: of the view `memoryview(b"abcdef")[::-2]` it has the bytes `b"fdb"`.
     pub fn to_vec(&self, state: &ExporterState) -> Result<Vec<u8>, Halt>
         ensures { Reads (bytes_of_view state.now.exporter self.now None) state.now.exporter (result_map_both (λ bytes. replies.Bytes bytes.items) (λ halt. halt) result) }
     {
@@ -83,7 +90,8 @@ impl PyMemoryView {
     }
 
     /// A memoryview of the same bytes, with items of another format in one dimension, as Python's
-    /// `view.cast(format)`. It is refused as `cast` is.
+    /// `view.cast(format)`. It is refused as `cast` is, and nothing is changed then.
+    /// Example: of a view of `b"\x01\x00\x02\x00"` the format `"H"` gives a view with the items 1 and 2.
     pub fn cast_to(&self, state: &mut ExporterState, format: &str) -> Result<PyMemoryView, Halt>
         ensures answer { Answers (cast_of_view state.old.exporter self.now (values.One (scalars.Text format.now)) None) state.old.exporter (result_map_both replies.View (λ halt. halt) result) state.new.exporter }
         ensures room { state.new.room ≡ state.old.room }
@@ -92,7 +100,9 @@ impl PyMemoryView {
         Ok(PyMemoryView::of(number))
     }
 
-    /// The same in the dimensions of a shape, as Python's `view.cast(format, shape)`. It is refused as `cast` is.
+    /// A memoryview of the same bytes, with items of another format in the dimensions of a shape, as Python's
+    /// `view.cast(format, shape)`. It is refused as `cast` is, and nothing is changed then.
+    /// Example: of a view of `b"abcdef"` the format `"B"` and the shape `[2, 3]` give `[[97, 98, 99], [100, 101, 102]]`.
     pub fn cast_shape(
         &self,
         state: &mut ExporterState,
@@ -109,6 +119,7 @@ impl PyMemoryView {
     /// The number of entries of each dimension, as Python's `view.shape`.
     ///
     /// Refused with `ValueError` for a released view.
+    /// Example: of a view of six bytes that was cast to `"B"` in the shape `[2, 3]` it has the entries 2 and 3.
     pub fn shape_vec(&self, state: &ExporterState) -> Result<Vec<usize>, Halt>
         ensures { Reads (property_of_view state.now.exporter self.now names.Shape) state.now.exporter (result_map_both (λ shape. replies.Numbers (map (λ n. pos n) shape.items)) (λ halt. halt) result) }
     {
@@ -118,6 +129,7 @@ impl PyMemoryView {
     /// How many bytes it is from one entry to the next, for each dimension, as Python's `view.strides`.
     ///
     /// Refused with `ValueError` for a released view.
+    /// Example: of a view of six bytes that was cast to `"B"` in the shape `[2, 3]` it has the strides 3 and 1.
     pub fn strides_vec(&self, state: &ExporterState) -> Result<Vec<isize>, Halt>
         ensures { Reads (property_of_view state.now.exporter self.now names.Strides) state.now.exporter (result_map_both (λ strides. replies.Numbers strides.items) (λ halt. halt) result) }
     {
@@ -127,8 +139,9 @@ impl PyMemoryView {
     /// Writes bytes over the items that a slice picks, as Python's `view[1:4] = bytes`.
     ///
     /// Refused with `ValueError` for a released view, then with `TypeError` where it may only be read or has no
-    /// dimension, with `NotImplementedError` where it has several, and with `ValueError` for a step of 0, for items of
-    /// another format than `B` and where the bytes are not as many as the items.
+    /// dimension, with `NotImplementedError` where it has several, and with `ValueError` for a step of 0, for items
+    /// of another format than `B` and where the bytes are not as many as the items. Nothing is changed then.
+    /// Example: over a view of `b"abcdef"` the slice `0..2` and the bytes `b"12"` make `b"12cdef"`.
     pub fn assign<S: Into<PySlice>>(
         &self,
         state: &mut ExporterState,
@@ -142,11 +155,12 @@ impl PyMemoryView {
     }
 
     /// Writes the items of a view of another exporter over those that a slice picks, as Python's `view[1:4] = other`.
-    /// They are copied from where they lie: no byte is copied between, and no memory is taken for them.
+    /// They are copied from where they lie, and no memory is taken for them.
     ///
     /// Refused with `UnknownName` where the other view was never given; then as `assign` refuses the view and the
-    /// slice; and then with `ValueError` where the other view was released, or has items of another format or size, or
-    /// another shape than the items that the slice picks.
+    /// slice; and then with `ValueError` where the other view was released, or has items of another format or size,
+    /// or another shape than the items that the slice picks. Nothing is changed then.
+    /// Example: over a view of `b"abcdef"` the slice `3..` and a view of `b"XYZ"` make `b"abcXYZ"`.
     pub fn assign_from<S: Into<PySlice>>(
         &self,
         state: &mut ExporterState,
@@ -160,8 +174,9 @@ impl PyMemoryView {
         state.assign_across(self.number(), &slice.into(), other_state, other.number())
     }
 
-    /// The same of a view of the same exporter, also where the two overlap: its items count as they were before the
-    /// first is written.
+    /// Writes the items of a view of the same exporter over those that a slice picks, also where the two overlap. The
+    /// items count as they were before the first is written. It is refused as `assign_from` is.
+    /// Example: over a view of `b"abc"` the slice `::-1` and the view itself make `b"cba"`.
     pub fn assign_within<S: Into<PySlice>>(
         &self,
         state: &mut ExporterState,
@@ -177,6 +192,7 @@ impl PyMemoryView {
     /// Releases the view, as Python's `view.release()`. Releasing it again changes nothing. Takes no memory.
     ///
     /// Refused with `UnknownName` where no such view was given.
+    /// Example: after `view.try_release(state)?`, `view.to_vec(state)` is refused with `ValueError`.
     pub fn try_release(&self, state: &mut ExporterState) -> Result<(), Halt>
         ensures answer { Answers (release_of_view state.old.exporter self.now) state.old.exporter (result_map_both (λ _. replies.Ok) (λ halt. halt) result) state.new.exporter }
         ensures room { state.new.room ≡ state.old.room }

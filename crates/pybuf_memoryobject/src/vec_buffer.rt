@@ -22,6 +22,7 @@ use std::mem;
 ///
 /// A clause sees its exporter. Any other exporter can be put in through `state_mut`, so the calls that
 /// take the bytes or lend them have the condition that it is a vector which may be written.
+/// Example: `VecBuffer::from(alloc, bytes)` of the bytes `b"abc"` stands for a vector of three bytes, of which none is lent.
 #[derive(Debug, Drop)]
 pub struct VecBuffer {
     exporter: ExporterState,
@@ -41,6 +42,7 @@ impl VecBuffer {
     ghost use Rattle.pybuf_memoryobject.specs.Lending.{LendsStateOfVector, emptied};
 
     /// A vector of these bytes, which may be written, and no buffer of it. Takes no memory.
+    /// Example: of a vector of the bytes `b"abc"` its `state().bytes()` is `b"abc"`.
     pub fn from(alloc: Global, bytes: Vec<u8>) -> VecBuffer
         ensures { result ≡ new_exporter (kinds.Vector false) bytes.items }
     {
@@ -49,14 +51,16 @@ impl VecBuffer {
         VecBuffer { exporter, alloc }
     }
 
-    /// Its exporter.
+    /// Its exporter, lent to be read. Takes no memory.
+    /// Example: `vector.state().kind()` of a new one is `ExporterKind::Vector { readonly: false }`.
     pub fn state(&self) -> &ExporterState
         ensures { result.now.exporter ≡ self.now }
     {
         &self.exporter
     }
 
-    /// Its exporter, lent to be changed.
+    /// Its exporter, lent to be changed: through it a buffer is released. Takes no memory.
+    /// Example: `lent.release(vector.state_mut())` releases a buffer that `into_pybuffer` made.
     pub fn state_mut(&mut self) -> &mut ExporterState
         ensures* writes_back { sem 𝓛 (LendsStateOfVector self.entry result) }
         ensures value { result.now.exporter ≡ self.old }
@@ -64,9 +68,10 @@ impl VecBuffer {
         &mut self.exporter
     }
 
-    /// Takes out the bytes: the vector is empty then, and its views stay released. Takes no memory.
+    /// Takes out the bytes. The vector is empty then, and its views stay released. Takes no memory.
     ///
-    /// Refused with `BufferError` exactly where a view is unreleased; nothing is changed then.
+    /// Refused with `BufferError` exactly where a view is unreleased. Nothing is changed then.
+    /// Example: of `b"abc"` it gives these bytes once the only buffer is released, and is `Err(Fault::Buffer)` before.
     pub fn take(&mut self) -> Result<Vec<u8>, Fault>
         requires { self.old.kind ≡ kinds.Vector false }
         ensures free { MatchResult result (λ _. exports_of self.old ≡ 0) (λ _. has_exports self.old ≡ true) }
@@ -81,8 +86,9 @@ impl VecBuffer {
         }
     }
 
-    /// A buffer of all the bytes, as items of one byte in one dimension: one more view. Where memory
-    /// runs out, nothing is changed.
+    /// A buffer of all the bytes, as items of one byte in one dimension. It is one more view, which may be written
+    /// unless `readonly` is true. Where memory runs out, nothing is changed.
+    /// Example: of a new vector it is `PyBuffer::of(0)`.
     pub fn into_pybuffer(&mut self, readonly: bool) -> Made<PyBuffer>
         requires { self.old.kind ≡ kinds.Vector false }
         ensures ok { IfOk result (λ made. with_view self.old (bytes_layout (length self.old.bytes) readonly) ≡ (self.new, replies.View made)) }
@@ -92,10 +98,10 @@ impl VecBuffer {
         Ok(PyBuffer::of(view))
     }
 
-    /// A buffer by a descriptor whose first item lies at place 0: one more view.
+    /// A buffer by a descriptor whose first item lies at place 0. It is one more view.
     ///
-    /// Refused as `PyBuffer::new` refuses it. Where it is refused, or memory runs out, nothing is
-    /// changed.
+    /// Refused as `PyBuffer::new` refuses it. Where it is refused, or memory runs out, nothing is changed.
+    /// Example: `raw(3, false, 1, format, dims)` with the format `B` and the dimension `(3, 1, 0)` lends three bytes.
     pub fn into_pybuffer_with_descriptor(&mut self, desc: BufferDescriptor) -> Tried<PyBuffer>
         requires { self.old.kind ≡ kinds.Vector false }
         ensures ok { IfOk result (λ made. IsBufferBy self.old desc 0 self.new made) }

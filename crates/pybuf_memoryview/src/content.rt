@@ -40,8 +40,9 @@ fn gather(alloc: Global, bytes: &[u8], len: usize, mut ranges: Segments<'_>) -> 
     Ok(gathered)
 }
 
-/// The bytes of a view's items, in order. Items that lie one after the other are copied as one, and a
-/// row of items that lie apart by one loop.
+/// The bytes of a view's items, with the last index changing fastest. Items that lie one after the other are copied
+/// as one, and a row of items that lie apart by one loop.
+/// Example: of the view `memoryview(b"abcdef")[::-2]` it has the bytes `b"fdb"`.
 pub fn content_of(alloc: Global, bytes: &[u8], layout: &KeptLayout) -> Made<Vec<u8>>
     requires { LiesInside (length bytes.now) layout.now }
     ensures { IfOk result (λ list. list.items ≡ content_of_layout bytes.now layout.now) }
@@ -55,8 +56,9 @@ pub fn content_of(alloc: Global, bytes: &[u8], layout: &KeptLayout) -> Made<Vec<
     )
 }
 
-/// The bytes of a view's items, in column order. The rows of the view with its dimensions the last first are copied
-/// as those of any other.
+/// The bytes of a view's items, in column order, with the first index changing fastest. The rows of the view with its
+/// dimensions the last first are copied as those of any other.
+/// Example: of the items `[[97, 98, 99], [100, 101, 102]]` in the format `B` it has the bytes `b"adbecf"`.
 pub fn column_content_of(alloc: Global, bytes: &[u8], layout: &KeptLayout) -> Made<Vec<u8>>
     requires { LiesInside (length bytes.now) layout.now }
     ensures { IfOk result (λ list. list.items ≡ column_content bytes.now layout.now) }
@@ -72,8 +74,9 @@ pub fn column_content_of(alloc: Global, bytes: &[u8], layout: &KeptLayout) -> Ma
     content_of(alloc, bytes, &columns)
 }
 
-/// The place of the first byte of a view whose items lie one after the other, 0 where it has none.
-/// From there on lie the bytes of its items.
+/// The place of the first byte of a view whose items lie one after the other, or 0 where it has none. From there on
+/// lie the bytes of its items.
+/// Example: of the view `1:3` of `b"abcd"` it is 1.
 pub fn first_place(layout: &KeptLayout) -> usize
     requires { is_contiguous_layout layout.now ≡ true }
     ensures value { result ≡ slice_index layout.now.starts 0 }

@@ -16,10 +16,11 @@ use pybuf_value::{
 };
 use std::alloc::Global;
 
-/// The number of a key.
+/// The number of a key, as an index. Takes no memory.
 ///
-/// Refused with `TypeError` where the key is no number, and then with `IndexError` where the number
-/// doesn't fit `isize`.
+/// Refused with `TypeError` where the key is no number, and then with `IndexError` where the number doesn't fit
+/// `isize`.
+/// Example: of the key -1 it is `Ok(-1)`, and of a text `Err(Fault::Kind)`.
 pub fn index_in(key: &Value) -> Result<isize, Fault>
     ensures { result ≡ spec.index_in key.now }
 {
@@ -28,6 +29,7 @@ pub fn index_in(key: &Value) -> Result<isize, Fault>
 }
 
 /// A byte as an item.
+/// Example: `byte_item(97)` is `Item::One(Scalar::Int(97))`.
 pub fn byte_item(byte: u8) -> Item
     ensures { result ≡ spec.byte_item byte }
 {
@@ -60,6 +62,7 @@ fn single_byte(format: &[u8], bytes: &[u8]) -> Option<u8>
 
 /// What an item's bytes read as by the text of its format. Bytes of the format `B`, which most views
 /// have, and numbers of a format of one letter are read without parsing it.
+/// Example: by the format `H` the bytes `b"\x01\x00"` read as the number 1.
 pub fn item_by(alloc: Global, format: &KeptFormat, bytes: &[u8]) -> Made<Item>
     ensures { IfOk result (λ item. item ≡ spec.item_by format.now bytes.now) }
 {
@@ -78,7 +81,8 @@ pub fn item_by(alloc: Global, format: &KeptFormat, bytes: &[u8]) -> Made<Item>
     }
 }
 
-/// Whether a value is `None`.
+/// Whether a value is `None`. Takes no memory.
+/// Example: of `Value::One(Scalar::None)` it is true.
 pub fn is_none(value: &Value) -> bool
     ensures { result ≡ spec.is_none value.now }
 {
@@ -89,6 +93,7 @@ pub fn is_none(value: &Value) -> bool
 }
 
 /// The one value that an item is written as, as the values of its format.
+/// Example: of the value 5 it is a list of `Scalar::Int(5)` alone.
 pub fn args_of(alloc: Global, value: &Value) -> Made<ScalarList>
     ensures { IfOk result (λ list. list ≡ spec.scalar_in value.now ∷ []) }
 {
@@ -101,7 +106,10 @@ pub fn args_of(alloc: Global, value: &Value) -> Made<ScalarList>
     Ok(list)
 }
 
-/// The byte that an item of the format `B` is written as.
+/// The byte that a value is written as where it is an item of the format `B`. Takes no memory.
+///
+/// Refused with `TypeError` where the value is no number from 0 to 255.
+/// Example: of the value 65 it is `Ok(65)`, and of 256 `Err(Fault::Kind)`.
 pub fn byte_for_item(value: &Value) -> Result<u8, Fault>
     ensures { result ≡ byte_for_item value.now }
 {
@@ -111,7 +119,10 @@ pub fn byte_for_item(value: &Value) -> Result<u8, Fault>
     }
 }
 
-/// The format of a view's items.
+/// The format of a view's items, as it is parsed.
+///
+/// Refused with `TypeError` where the text is no format.
+/// Example: of a view with the format `<H` it is a format of the size 2.
 pub fn format_of(alloc: Global, layout: &KeptLayout) -> Result<FormatSpec, Halt>
     ensures parsed { Gives (spec.kind_fault (format_of layout.now.format)) result }
     ensures size { IfOk result (λ format. is_sized layout.now.format layout.now.itemsize ≡ true → format.size ≡ layout.now.itemsize) }
@@ -122,7 +133,8 @@ pub fn format_of(alloc: Global, layout: &KeptLayout) -> Result<FormatSpec, Halt>
     }
 }
 
-/// Whether a value is a slice.
+/// Whether a value is a slice. Takes no memory.
+/// Example: of the value `1:3:None` it is true, and of 5 false.
 pub fn is_slice(value: &Value) -> bool
     ensures { result ≡ spec.is_slice value.now }
 {

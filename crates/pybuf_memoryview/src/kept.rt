@@ -10,6 +10,7 @@ use std::marker::Model;
 
 /// The layout of a view. It costs a few words, whatever it spans. A clause sees the whole layout,
 /// with the place of each item.
+/// Example: `KeptLayout::whole(alloc, 3, false)?` stands for three items of one byte, at 0, 1 and 2, that may be written.
 #[derive(Debug, Drop)]
 pub struct KeptLayout {
     descriptor: BufferDescriptor,
@@ -107,6 +108,7 @@ impl KeptLayout {
 
     /// The layout that a descriptor stands for where the first item starts at this place. Takes no
     /// memory.
+    /// Example: of `BufferDescriptor::simple(alloc, 3, false)?` and the start 1 the items start at 1, 2 and 3.
     pub fn of_descriptor(descriptor: BufferDescriptor, start: usize) -> KeptLayout
         requires { IsPlaced descriptor start }
         ensures { result ≡ layout_at descriptor start }
@@ -114,7 +116,8 @@ impl KeptLayout {
         KeptLayout { descriptor, start }
     }
 
-    /// The layout of all of so many bytes: items of one byte, in one dimension.
+    /// The layout of all of so many bytes, as items of one byte in one dimension.
+    /// Example: of the length 3 the items start at 0, 1 and 2.
     #[inline(always)]
     pub fn whole(alloc: Global, len: usize, readonly: bool) -> Made<KeptLayout>
         requires { len < 2 ^ 63 }
@@ -128,7 +131,8 @@ impl KeptLayout {
         })
     }
 
-    /// The layout of so many bytes from a place on: items of one byte, in one dimension.
+    /// The layout of so many bytes from a place on, as items of one byte in one dimension.
+    /// Example: of the start 1 and the count 2 the items start at 1 and 2.
     pub fn range(alloc: Global, start: usize, count: usize, readonly: bool) -> Made<KeptLayout>
         requires { start + count < 2 ^ 63 }
         ensures { IfOk result (λ v. v ≡ bytes_layout_from start count readonly) }
@@ -139,6 +143,7 @@ impl KeptLayout {
     }
 
     /// The layout of the items that a slice picks, along the first dimension.
+    /// Example: of six bytes the slice `::-2` has items that start at 5, 3 and 1.
     #[inline(always)]
     pub fn sliced(&self, alloc: Global, slice: SaturatedSlice) -> Made<KeptLayout>
         requires { 0 < length self.now.shape }
@@ -151,6 +156,7 @@ impl KeptLayout {
     }
 
     /// The layout of the same bytes as items of another format and size, in one dimension. Takes no memory.
+    /// Example: of six bytes the format `H` and the item size 2 give items that start at 0, 2 and 4.
     #[inline(always)]
     pub fn cast(&self, format: KeptFormat, itemsize: usize) -> KeptLayout
         requires contiguous { is_contiguous_layout self.now ≡ true }
@@ -169,8 +175,8 @@ impl KeptLayout {
         }
     }
 
-    /// The layout of the same bytes as items of another format and size, in dimensions of these
-    /// entries.
+    /// The layout of the same bytes as items of another format and size, in dimensions of these entries, row by row.
+    /// Example: of six bytes the format `B`, the item size 1 and the shape `[2, 3]` give the strides 3 and 1.
     pub fn cast_shape(
         &self,
         alloc: Global,
@@ -198,7 +204,9 @@ impl KeptLayout {
         })
     }
 
-    /// The same in column order.
+    /// The layout of the same bytes as items of another format and size, in dimensions of these entries, in column
+    /// order.
+    /// Example: of six bytes the format `B`, the item size 1 and the shape `[2, 3]` give the strides 1 and 2.
     pub fn cast_shape_f(
         &self,
         alloc: Global,
@@ -226,8 +234,9 @@ impl KeptLayout {
         })
     }
 
-    /// The layout of the same items with the dimensions the last first: its row-major order is the column order of
+    /// The layout of the same items with the dimensions in reversed order. Its row-major order is the column order of
     /// this one.
+    /// Example: of the shape `[2, 3]` it has the shape `[3, 2]`.
     pub fn columns(&self, alloc: Global) -> Made<KeptLayout>
         requires { has_zero_entry self.now.shape ≡ false }
         ensures { IfOk result (λ v. v ≡ columns_of self.now) }
@@ -242,6 +251,7 @@ impl KeptLayout {
     }
 
     /// The layout of the same items one after the other, as they lie in a copy of their bytes.
+    /// Example: of three items that start at 5, 3 and 1 it has items that start at 0, 1 and 2.
     pub fn to_row_major(&self, alloc: Global) -> Made<KeptLayout>
         ensures { IfOk result (λ v. v ≡ row_major_of self.now) }
     {
@@ -255,6 +265,7 @@ impl KeptLayout {
     }
 
     /// The layout of the same items, which may only be read.
+    /// Example: `layout.to_readonly(alloc)?.is_readonly()` is true.
     pub fn to_readonly(&self, alloc: Global) -> Made<KeptLayout>
         ensures { IfOk result (λ v. v ≡ record self.now { readonly = true }) }
     {
@@ -263,7 +274,8 @@ impl KeptLayout {
         Ok(KeptLayout { descriptor, start })
     }
 
-    /// The descriptor and where the first item starts.
+    /// The descriptor, lent, and where the first item starts, counted in bytes from 0. Takes no memory.
+    /// Example: of `KeptLayout::range(alloc, 1, 2, false)?` it is a descriptor of two items, and 1.
     pub fn placed(&self) -> (&BufferDescriptor, usize)
         ensures stands { Stands result.0.now result.1 self.now }
         ensures placed { IsPlaced result.0.now result.1 }
@@ -274,7 +286,8 @@ impl KeptLayout {
         (&self.descriptor, self.start)
     }
 
-    /// The number of entries of the first dimension, 0 where there is no dimension.
+    /// The number of entries of the first dimension, or 0 where there is no dimension. Takes no memory.
+    /// Example: of the shape `[2, 3]` it is 2.
     pub fn first_entry(&self) -> usize
         ensures value { result ≡ slice_index self.now.shape 0 }
         ensures small { result < 2 ^ 63 }
@@ -285,7 +298,8 @@ impl KeptLayout {
         }
     }
 
-    /// The first place of an item, in one dimension.
+    /// The place of the first byte of an item, in a view of one dimension. Takes no memory.
+    /// Example: of `KeptLayout::range(alloc, 1, 2, false)?` the item 1 has the place 2.
     pub fn place(&self, item: usize) -> usize
         requires one_dimension { length self.now.shape ≡ 1 }
         requires inside { item < slice_index self.now.shape 0 }
@@ -320,21 +334,24 @@ impl KeptLayout {
         self.start
     }
 
-    /// The number of bytes of an item.
+    /// The number of bytes of an item. Takes no memory.
+    /// Example: of the format `H` it is 2.
     pub fn itemsize(&self) -> usize
         ensures { result ≡ self.now.itemsize }
     {
         self.descriptor.itemsize
     }
 
-    /// Whether the items may only be read.
+    /// Whether the items may only be read. Takes no memory.
+    /// Example: of `KeptLayout::whole(alloc, 3, true)?` it is true.
     pub fn is_readonly(&self) -> bool
         ensures { result ≡ self.now.readonly }
     {
         self.descriptor.readonly
     }
 
-    /// Whether the items lie one after the other.
+    /// Whether the items lie one after the other, row by row. Takes no memory.
+    /// Example: of `KeptLayout::whole(alloc, 3, false)?` it is true, and of its slice `::2` false.
     pub fn is_contiguous(&self) -> bool
         ensures { result ≡ is_contiguous_layout self.now }
     {
@@ -342,14 +359,16 @@ impl KeptLayout {
         self.descriptor.is_contiguous()
     }
 
-    /// The number of bytes of all items.
+    /// The number of bytes of all items. Takes no memory.
+    /// Example: of three items of two bytes it is 6.
     pub fn nbytes(&self) -> usize
         ensures { result ≡ nbytes_of self.now }
     {
         self.descriptor.len
     }
 
-    /// The number of dimensions.
+    /// The number of dimensions. Takes no memory.
+    /// Example: of the shape `[2, 3]` it is 2.
     pub fn ndim(&self) -> usize
         ensures value { result ≡ length self.now.shape }
         ensures few { result ≤ 64 }
@@ -357,28 +376,32 @@ impl KeptLayout {
         self.descriptor.dim_desc().len()
     }
 
-    /// Whether a dimension has no entry.
+    /// Whether a dimension has no entry. Takes no memory.
+    /// Example: of `KeptLayout::whole(alloc, 0, false)?` it is true.
     pub fn has_zero(&self) -> bool
         ensures { result ≡ has_zero_entry self.now.shape }
     {
         is_zero_among(self.descriptor.dim_desc())
     }
 
-    /// The number of entries of each dimension.
+    /// The number of entries of each dimension, as whole numbers.
+    /// Example: of six bytes that were cast in the shape `[2, 3]` it has 2 and 3.
     pub fn shape(&self, alloc: Global) -> Made<NumberList>
         ensures { IfOk result (λ list. list ≡ map (λ n. pos n) self.now.shape) }
     {
         entries_of(alloc, self.descriptor.dim_desc())
     }
 
-    /// The same, as they are counted.
+    /// The number of entries of each dimension, as counts.
+    /// Example: of six bytes that were cast in the shape `[2, 3]` it has 2 and 3.
     pub fn counts(&self, alloc: Global) -> Made<CountList>
         ensures { IfOk result (λ list. list ≡ self.now.shape) }
     {
         counts_of(alloc, self.descriptor.dim_desc())
     }
 
-    /// The stride of each dimension.
+    /// The stride of each dimension, in bytes.
+    /// Example: of six bytes that were cast in the shape `[2, 3]` it has 3 and 1.
     pub fn strides(&self, alloc: Global) -> Made<NumberList>
         ensures { IfOk result (λ list. list ≡ self.now.strides) }
     {
@@ -386,20 +409,23 @@ impl KeptLayout {
     }
 
     /// The suboffset of each dimension, which is 0.
+    /// Example: of the shape `[2, 3]` it has 0 and 0.
     pub fn suboffsets(&self, alloc: Global) -> Made<NumberList>
         ensures { IfOk result (λ list. list ≡ replicate (length self.now.shape) (pos 0)) }
     {
         zeros(alloc, self.descriptor.ndim())
     }
 
-    /// The format of an item.
+    /// The format of an item, lent. Takes no memory.
+    /// Example: of `KeptLayout::whole(alloc, 3, false)?` it is the text `B`.
     pub fn format_text(&self) -> &KeptFormat
         ensures { result.now ≡ self.now.format }
     {
         &self.descriptor.format
     }
 
-    /// Whether the items lie one after the other in column order.
+    /// Whether the items lie one after the other in column order. Takes no memory.
+    /// Example: of six bytes it is true for `cast_shape_f` in the shape `[2, 3]`, and false for `cast_shape`.
     pub fn is_f_contiguous(&self) -> bool
         ensures { result ≡ is_f_contiguous_layout self.now }
     {

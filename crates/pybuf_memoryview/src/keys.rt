@@ -60,7 +60,8 @@ fn indices_of(parts: &[Scalar]) -> [isize; 64]
     indices
 }
 
-/// Whether a key names the view itself: so does `...` of a view without dimensions.
+/// Whether a key names the view itself, as `...` does for a view without dimensions. Takes no memory.
+/// Example: the key `...` names a view without dimensions itself, and no view of one dimension.
 pub fn names_itself(layout: &KeptLayout, key: &Value) -> bool
     ensures { result ≡ spec.names_itself layout.now.shape key.now }
 {
@@ -145,16 +146,16 @@ fn place_among(layout: &KeptLayout, key: &Value) -> Result<usize, Fault>
     }
 }
 
-/// Where the item starts that a key of a view names: an index in a view of one dimension, a tuple of
-/// an index for each dimension, or `()` and `...` in a view without dimensions. Takes no memory.
+/// Where the item starts that a key of a view names. A key is an index in a view of one dimension, a tuple of an
+/// index for each dimension, or `()` and `...` in a view without dimensions. Takes no memory.
 ///
-/// In a view without dimensions every other key is refused with `TypeError`. Else an index is refused
-/// with `IndexError` where it doesn't fit `isize`, with `NotImplementedError` where the view has more
-/// than one dimension, and with `IndexError` where there is no such item. A tuple is refused with
-/// `TypeError` where a part is no number, with `IndexError` where one doesn't fit `isize`, with
-/// `NotImplementedError` where it has fewer parts than there are dimensions, with `TypeError` where it
-/// has more, and with `IndexError` where an index is out of bounds; one of slices with
-/// `NotImplementedError`; and every other key with `TypeError`.
+/// In a view without dimensions every other key is refused with `TypeError`. Else an index is refused with
+/// `IndexError` where it doesn't fit `isize`, with `NotImplementedError` where the view has more than one dimension,
+/// and with `IndexError` where there is no such item. A tuple is refused with `TypeError` where a part is no number,
+/// with `IndexError` where one doesn't fit `isize`, with `NotImplementedError` where it has fewer parts than there
+/// are dimensions, with `TypeError` where it has more, and with `IndexError` where an index is out of bounds; one of
+/// slices with `NotImplementedError`; and every other key with `TypeError`.
+/// Example: of items in the shape `[2, 3]`, one byte each from 0 on, the key `(1, 2)` gives 5.
 pub fn place_of_key(layout: &KeptLayout, key: &Value) -> Result<usize, Fault>
     ensures { MatchResult result (λ place. places.IsStartOf layout.now (spec.item_of_key layout.now.shape key.now) place) (λ fault. spec.item_of_key layout.now.shape key.now ≡ Err fault) }
 {

@@ -11,17 +11,22 @@ use pybuf_value::{Item, Made, Outcome, ScalarList};
 use std::alloc::Global;
 
 /// How items are read whose format was read once.
+/// Example: `ItemReader::Byte` reads the byte 97 as the number 97.
 #[derive(Debug, Drop)]
 pub enum ItemReader {
-    /// As the one byte that an item of the format `B` has.
+    /// Each item is read as the one byte that it has by the format `B`.
+    /// Example: `reader_of` gives it for the format `B` and the size 1.
     Byte,
-    /// As the values of the fields.
+    /// Each item is read as the values of the fields of a format.
+    /// Example: `reader_of` gives it for the format `<BH`, by which an item is a tuple of two numbers.
     Fields(FormatSpec),
-    /// As no value, where a text is no format.
+    /// Each item is read as no value, since the text is no format.
+    /// Example: `reader_of` gives it for the text `?!`.
     Nothing,
 }
 
 /// How items of a size are read by the text of their format.
+/// Example: of the format `H` it reads the bytes `b"\x01\x00"` as the number 1.
 pub fn reader_of(alloc: Global, format: &KeptFormat, size: usize) -> Made<ItemReader>
     ensures reads { IfOk result (λ reader. (bytes : _) → length bytes ≡ size → reading.read_by reader bytes ≡ item_by format.now bytes) }
     ensures spelled { IfOk result (λ reader. reading.IsSpelledBy format.now reader) }
@@ -36,6 +41,7 @@ pub fn reader_of(alloc: Global, format: &KeptFormat, size: usize) -> Made<ItemRe
 }
 
 /// The item of these bytes. Bytes of another number than the format's size read as no values.
+/// Example: by `ItemReader::Byte` the byte 97 is the number 97, and two bytes are no values.
 pub fn read_by(alloc: Global, reader: &ItemReader, bytes: &[u8]) -> Made<Item>
     ensures { IfOk result (λ item. item ≡ reading.read_by reader.now bytes.now) }
 {

@@ -22,7 +22,8 @@ fn bytes_lent(alloc: Global, bytes: &[u8], layout: &KeptLayout, released: bool) 
     Ok(ByteList::from_vec(content))
 }
 
-/// A view as it stands, with the bytes of its items, none of a released one.
+/// What a view is lent as: a copy of it as it stands, with the bytes of its items. A released one has no bytes.
+/// Example: of the slice `::-2` of `b"abcdef"` the content is `b"fdb"`.
 pub fn snap_of_layout(
     alloc: Global,
     bytes: &[u8],
@@ -47,6 +48,7 @@ pub fn snap_of_layout(
 }
 
 /// An unreleased view as a copy of its bytes has it, where its items lie one after the other.
+/// Example: of the slice `::-2` of `b"abcdef"` the content is `b"fdb"`, and the items count as contiguous.
 pub fn snap_of_copy(alloc: Global, bytes: &[u8], layout: &KeptLayout) -> Made<Snap>
     requires { LiesInside (length bytes.now) layout.now }
     ensures { IfOk result (λ snap. snap ≡ spec.snap_of_copy bytes.now layout.now) }
@@ -68,7 +70,9 @@ fn is_bytes_code(code: &FormatCode) -> bool
     }
 }
 
-/// Whether a format looks at the bytes that a handle names.
+/// Whether a format looks at the bytes that a handle names. It does exactly where it has a code for bytes. Takes no
+/// memory.
+/// Example: of the format `4s` it is true, and of `H` false.
 pub fn reads_bytes(format: &FormatSpec) -> bool
     ensures { result ≡ reading.reads_bytes format.now }
 {

@@ -44,11 +44,12 @@ fn keep_dims(kept: &mut [(usize, isize, isize); 64], dims: &[(usize, isize, isiz
     count
 }
 
-/// Lays bytes over the items of a view, row by row: `items[...] = ..` of NumPy with bytes for the items, in any number of
-/// dimensions. Every byte that is of none of the items stays, and so do all views. Takes no memory.
+/// Lays bytes over the items of a view, row by row, as NumPy's `items[...] = ..` with bytes for the items, in any
+/// number of dimensions. Every byte that is of none of the items stays, and so do all views. Takes no memory.
 ///
 /// Refused with `TypeError` exactly where the view can only be read; then with `ValueError` exactly where its items
-/// have another number of bytes.
+/// have another number of bytes. Nothing is changed then.
+/// Example: over the slice `::2` of a view of `b"abcd"` the bytes `b"12"` make `b"1b2d"`.
 pub fn assign(state: &mut ExporterState, target: &PyBuffer, bytes: &[u8]) -> Result<(), Fault>
     requires { is_live state.old.exporter target.now ≡ true }
     ensures answer { MatchResult result (λ _. bytes_assigned state.old.exporter (layout_of state.old.exporter target.now) bytes.now ≡ Ok state.new.exporter) (λ fault. bytes_assigned state.old.exporter (layout_of state.old.exporter target.now) bytes.now ≡ Err fault) }

@@ -43,11 +43,12 @@ fn has_zero_of_several(dims: &[(usize, isize, isize)]) -> bool
     has_zero_entry(dims) && 1 < dims.len()
 }
 
-/// The same items with their axes in another order: dimension `d` is the one of axis `axes[d]`, as the NumPy manual
-/// has it under "numpy.transpose". Format, item size and what may be written stay. It takes one block of memory, and
-/// one for the format where that is more than a letter.
+/// The same items with their axes in another order. Dimension `d` is the one of axis `axes[d]`, as in NumPy's
+/// `items.transpose(axes)` (NumPy manual, "numpy.transpose"). Format, item size and what may be written stay. It
+/// takes one block of memory, and one for the format where that is more than a letter.
 ///
 /// Refused with `ValueError` exactly where there is more than one dimension and one of them has no entry.
+/// Example: of the shape `(2, 3, 4)` the axes `[2, 0, 1]` give the shape `(4, 2, 3)`.
 pub fn permute(alloc: Global, desc: &BufferDescriptor, axes: &[usize]) -> Tried<BufferDescriptor>
     requires valid { IsPlaceable desc.now }
     requires each_once { AreAxes (length desc.now.dims) axes.now }
@@ -64,10 +65,11 @@ pub fn permute(alloc: Global, desc: &BufferDescriptor, axes: &[usize]) -> Tried<
     Ok(Outcome::Done(made))
 }
 
-/// The same items with their axes in the reversed order: `items.T`, as the NumPy manual has it under
-/// "numpy.ndarray.T". It takes memory as `permute` does.
+/// The same items with their axes in the reversed order, as NumPy's `items.T` (NumPy manual, "numpy.ndarray.T"). It
+/// takes memory as `permute` does.
 ///
 /// Refused with `ValueError` exactly where there is more than one dimension and one of them has no entry.
+/// Example: of the items `[[1, 2, 3], [4, 5, 6]]` it gives `[[1, 4], [2, 5], [3, 6]]`.
 pub fn transpose(alloc: Global, desc: &BufferDescriptor) -> Tried<BufferDescriptor>
     requires { IsPlaceable desc.now }
     ensures refused { IfOk result (λ answer. refusal_of (given_by answer) ≡ refusal_of (order_check (shape_of desc.now.dims))) }

@@ -85,6 +85,7 @@ fn merged_dims(alloc: Global, dims: &[(usize, isize, isize)]) -> Made<DimList>
 /// The same items in the same order, with each two neighbouring dimensions made one wherever they lie together, so that
 /// a copy goes by runs that are as long as they can be. Format, item size and what may be written stay. It takes one
 /// block of memory, and one for the format where that is more than a letter.
+/// Example: the shape `(2, 3)` with the strides `(3, 1)` of items of one byte becomes the shape `(6,)` with the stride 1.
 pub fn merged(alloc: Global, desc: &BufferDescriptor) -> Made<BufferDescriptor>
     requires { IsPlaceable desc.now }
     ensures fewest { IfOk result (λ made. HasNoneTogether made.dims) }

@@ -24,12 +24,14 @@ fn dims_without(alloc: Global, dims: &[(usize, isize, isize)], axis: usize) -> M
     Ok(DimList::from_vec(rest))
 }
 
-/// The items at one place of an axis, which is left out, and where the first of them lies: `items.take(PLACE, AXIS)`,
-/// as the NumPy manual has it under "numpy.take". A negative place counts from the end. Format, item size and what
-/// may be written stay. It takes one block of memory, and one for the format where that is more than a letter.
+/// The items at one place of an axis, which is left out, and where the first of them lies, as NumPy's
+/// `items.take(PLACE, AXIS)` (NumPy manual, "numpy.take"). A negative place counts from the end. Format, item size
+/// and what may be written stay. It takes one block of memory, and one for the format where that is more than a
+/// letter.
 ///
 /// Refused with `IndexError` exactly where the place is out of bounds; then with `ValueError` exactly where a
 /// dimension has no entry.
+/// Example: of `[[1, 2, 3], [4, 5, 6]]` the axis 1 and the place -1 give `[3, 6]`.
 pub fn pick(
     alloc: Global,
     desc: &BufferDescriptor,

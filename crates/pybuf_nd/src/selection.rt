@@ -93,13 +93,14 @@ fn start_of_selection(desc: &BufferDescriptor, start: usize, slices: &[Saturated
     place_at(desc, start, &firsts[..dims.len()])
 }
 
-/// The items at the indices that slices pick, one slice for each dimension, and where the first of them lies:
-/// `items[SLICE, SLICE, ..]`, as the NumPy manual has it under "Indexing on ndarrays", "Slicing and striding". Each
-/// dimension has as many entries as its slice has indices, in their order, and its stride is the old one times the
-/// step, clamped to `isize`. Format, item size and what may be written stay. It takes one block of memory, and one for
-/// the format where that is more than a letter.
+/// The items at the indices that slices pick, one slice for each dimension, and where the first of them lies, as
+/// NumPy's `items[SLICE, SLICE, ..]` (NumPy manual, "Indexing on ndarrays", "Slicing and striding"). Each dimension
+/// has as many entries as its slice has indices, in their order, and its stride is the old one times the step,
+/// clamped to `isize`. Format, item size and what may be written stay. It takes one block of memory, and one for the
+/// format where that is more than a letter.
 ///
 /// Refused with `ValueError` exactly where a slice has no index in a dimension after the first.
+/// Example: of `[[1, 2, 3], [4, 5, 6]]` the slices `::-1` and `1:` give `[[5, 6], [2, 3]]`.
 pub fn slice_all(
     alloc: Global,
     desc: &BufferDescriptor,

@@ -23,6 +23,7 @@ use std::marker::Model;
 /// replied as `LocalReply::Refused`, and changes nothing; before all that a method names, a handle among the
 /// values that the loans don't name is refused with `UnknownName`. Where memory runs out, nothing is changed.
 /// The loans have to fit, as `FitLoans::fit` tells.
+/// Example: `PyBytes::new_ref(alloc, bytes)` of a vector of the bytes 97 and 98 stands for Python's `b"ab"`.
 #[derive(Debug, Drop)]
 pub struct PyBytes {
     pub(crate) exporter: ExporterState,
@@ -40,6 +41,7 @@ impl PyBytes {
     ghost use Rattle.pybuf_object.specs.Lending.{LendsStateOfBytes};
 
     /// The `bytes` of these bytes, and no view of it. Takes no memory.
+    /// Example: of a vector of the bytes 97 and 98 it is `b"ab"`.
     pub fn new_ref(alloc: Global, bytes: Vec<u8>) -> PyBytes
         ensures { result ≡ new_exporter kinds.Bytes bytes.items }
     {
@@ -49,15 +51,17 @@ impl PyBytes {
         }
     }
 
-    /// Its exporter.
+    /// Its exporter, lent to be read. Takes no memory.
+    /// Example: `object.state().kind()` is `ExporterKind::Bytes`.
     pub fn state(&self) -> &ExporterState
         ensures { result.now.exporter ≡ self.now }
     {
         &self.exporter
     }
 
-    /// Its exporter, lent to be changed: views of it are made and released so. Another exporter can be put
-    /// in through it, of any kind.
+    /// Its exporter, lent to be changed: through it views are made and released. Takes no memory. Another exporter
+    /// can be put in through it, of any kind.
+    /// Example: `PyMemoryView::of_all(object.state_mut())?` is a view of all bytes of `object`.
     pub fn state_mut(&mut self) -> &mut ExporterState
         ensures* writes_back { sem 𝓛 (LendsStateOfBytes self.entry result) }
         ensures value { result.now.exporter ≡ self.old }
@@ -67,30 +71,33 @@ impl PyBytes {
 
     /// The number of bytes, as Python's `len(bytes)` (Library reference, "Common Sequence Operations").
     /// Takes no memory.
+    /// Example: of `b"it's"` it is 4.
     pub fn len(&self) -> usize
         ensures { result ≡ length self.now.bytes }
     {
         self.exporter.bytes().len()
     }
 
-    /// Whether there is no byte: so where Python's `bool(bytes)` is false (Library reference, "Truth Value
-    /// Testing"). Takes no memory.
+    /// Whether there is no byte. It is true exactly where Python's `bool(bytes)` is false (Library reference, "Truth
+    /// Value Testing"). Takes no memory.
+    /// Example: of `b""` it is true, and of `b"\x00"` false.
     pub fn is_empty(&self) -> bool
         ensures { result ≡ (length self.now.bytes == 0) }
     {
         self.exporter.bytes().is_empty()
     }
 
-    /// The bytes, lent without a copy.
+    /// The bytes, lent without a copy. Takes no memory.
+    /// Example: of `b"abc"` it is `b"abc"`.
     pub fn as_bytes(&self) -> &[u8]
         ensures { result.now ≡ self.now.bytes }
     {
         self.exporter.bytes()
     }
 
-    /// A memoryview of all bytes, as Python's `memoryview(object)` (Library reference, "Memory Views"):
-    /// the reply is the number of one more view, with items of one byte in one dimension, which may
-    /// only be read.
+    /// A memoryview of all bytes, as Python's `memoryview(object)` (Library reference, "Memory Views"): the reply is
+    /// the number of one more view. Its items have one byte each, in one dimension, and may only be read.
+    /// Example: of new bytes it replies `View(0)`, and a second time `View(1)`.
     pub fn as_buffer(&mut self, loans: LoanList) -> Made<LocalReply>
         requires { LoansFit loans }
         ensures ok { IfOk result (λ r. estep self.old subjects.Own verbs.View loans ≡ (self.new, r)) }
@@ -104,6 +111,7 @@ impl PyBytes {
     ///
     /// Refused with `TypeError` where `from`, and then `to`, is no number, and with `IndexError` where
     /// `from` is below 0 or past `to`, or `to` is past the length.
+    /// Example: of `b"abcdef"` from 1 up to 4 it replies the number of a view of `b"bcd"`.
     pub fn range(&mut self, from: Value, to: Value, loans: LoanList) -> Made<LocalReply>
         requires { LoansFit loans }
         ensures ok { IfOk result (λ r. estep self.old subjects.Own (verbs.Range from to) loans ≡ (self.new, r)) }
@@ -123,6 +131,7 @@ impl PyBytes {
     /// Refused with `TypeError` where the key is neither a number nor a slice, and where a part of the
     /// slice is neither a number nor `None`; with `ValueError` for a step of 0; with `IndexError` for
     /// an index out of range.
+    /// Example: of `b"it's"` the key `-1` gets the item 115, and the key `1:3` gets `b"t'"`.
     pub fn getitem(&mut self, key: Value, loans: LoanList) -> Made<LocalReply>
         requires { LoansFit loans }
         ensures ok { IfOk result (λ r. estep self.old subjects.Own (verbs.Get key) loans ≡ (self.new, r)) }
@@ -132,6 +141,7 @@ impl PyBytes {
     }
 
     /// A copy of the bytes, as Python's `bytes(object)` (Library reference, "Bytes Objects").
+    /// Example: of `b"abc"` it replies the bytes `b"abc"`.
     pub fn tobytes(&mut self, loans: LoanList) -> Made<LocalReply>
         requires { LoansFit loans }
         ensures ok { IfOk result (λ r. estep self.old subjects.Own (verbs.ToBytes None) loans ≡ (self.new, r)) }
@@ -151,6 +161,7 @@ impl PyBytes {
     /// `NotImplementedReply`, as Python's `NotImplemented`.
     ///
     /// Refused with `TypeError` for an order with a view.
+    /// Example: `b"it's"` with `CompareOp::Lt` and `b"its"` replies `Truth(true)`.
     pub fn cmp(&mut self, op: CompareOp, other: Value, loans: LoanList) -> Made<LocalReply>
         requires { LoansFit loans }
         ensures ok { IfOk result (λ r. estep self.old subjects.Own (verbs.Compare op other) loans ≡ (self.new, r)) }
@@ -164,8 +175,9 @@ impl PyBytes {
         )
     }
 
-    /// The bytes that are fed to a hasher, as in Python's `hash(bytes)` (Library reference, "Built-in
-    /// Functions"): they are all bytes.
+    /// The bytes that are fed to a hasher, as in Python's `hash(bytes)` (Library reference, "Built-in Functions").
+    /// They are all bytes.
+    /// Example: of `b"it's"` it replies the bytes `b"it's"`.
     pub fn hash(&mut self, loans: LoanList) -> Made<LocalReply>
         requires { LoansFit loans }
         ensures ok { IfOk result (λ r. estep self.old subjects.Own verbs.Hash loans ≡ (self.new, r)) }
@@ -174,10 +186,10 @@ impl PyBytes {
         step_of(&mut self.exporter, Subject::Own, Verb::Hash, loans)
     }
 
-    /// The text that the bytes are shown as, as Python's `repr(bytes)`: `b'..'` (Library reference, "Bytes
-    /// Objects").
+    /// The text that shows the bytes, as Python's `repr(bytes)` (Library reference, "Bytes Objects").
     ///
     /// Refused with `OverflowError` where the text has more than `isize::MAX` bytes.
+    /// Example: of `b"it's"` it replies the text `b"it's"`, and of `b"a\x00"` the text `b'a\x00'`.
     pub fn repr_str(&mut self, loans: LoanList) -> Made<LocalReply>
         requires { LoansFit loans }
         ensures ok { IfOk result (λ r. estep self.old subjects.Own verbs.Repr loans ≡ (self.new, r)) }
@@ -186,8 +198,9 @@ impl PyBytes {
         step_of(&mut self.exporter, Subject::Own, Verb::Repr, loans)
     }
 
-    /// Whether a value stands in the bytes, as Python's `value in bytes`: a number as one byte, and any other
-    /// value as the bytes that it is read as (Library reference, "Common Sequence Operations").
+    /// Whether a value stands in the bytes, as Python's `value in bytes` (Library reference, "Common Sequence
+    /// Operations"). A number is one byte, and any other value is read as bytes.
+    /// Example: in `b"Abc"` the value `b"bc"` replies `Truth(true)`.
     pub fn contains(&mut self, value: Value, loans: LoanList) -> Made<LocalReply>
         requires { LoansFit loans }
         ensures ok { IfOk result (λ r. estep self.old subjects.Own (verbs.Contains value) loans ≡ (self.new, r)) }
@@ -203,6 +216,7 @@ impl PyBytes {
 
     /// Calls a method by its name, as Python's `bytes.find(value)` and the others (Library reference, "Bytes and
     /// Bytearray Operations").
+    /// Example: on `b"a,b,c"` the method `MethodName::RemovePrefix` with `b"a,"` replies the bytes `b"b,c"`.
     pub fn call(&mut self, method: MethodCall, loans: LoanList) -> Made<LocalReply>
         requires { LoansFit loans }
         ensures ok { IfOk result (λ r. estep self.old subjects.Own (verbs.Call method) loans ≡ (self.new, r)) }
@@ -218,6 +232,7 @@ impl PyBytes {
 
     /// A new iterator over the bytes from the first on, as Python's `iter(bytes)` (Library reference,
     /// "Built-in Functions", `iter`): the reply is its number.
+    /// Example: of new bytes it replies `Iter(0)`, which `PyBytesIterator::of(0)` names.
     pub fn iter(&mut self, loans: LoanList) -> Made<LocalReply>
         requires { LoansFit loans }
         ensures ok { IfOk result (λ r. estep self.old subjects.Own verbs.Iter loans ≡ (self.new, r)) }
@@ -228,6 +243,7 @@ impl PyBytes {
 
     /// How many views of it are unreleased. Python keeps this number and doesn't show it: while it
     /// isn't 0, nothing is resized (C API, "Buffer Protocol").
+    /// Example: it replies the item 1 after one `as_buffer`, and 0 again once that view is released.
     pub fn exports(&mut self, loans: LoanList) -> Made<LocalReply>
         requires { LoansFit loans }
         ensures ok { IfOk result (λ r. estep self.old subjects.Own (verbs.Property names.Exports) loans ≡ (self.new, r)) }

@@ -6,19 +6,24 @@ ghost use Rattle.pybuf_state.specs.Exporter.{Exporter, exports_of};
 
 use pybuf_value::Fault;
 
-/// Bytes that may be resized while no view of them is unreleased.
+/// Bytes that may be resized while no view of them is unreleased. A bytearray has this trait.
+/// Example: a function that takes a `G: BufferResizeGuard` adds a byte by `guard.try_resizable()?.push(b'\n')?`.
 pub trait BufferResizeGuard {
     /// Its exporter.
     ghost exporter: { Self → Exporter };
 
-    /// The bytes, lent to be changed in any way, in number too; views and iterators stay. None exactly where
-    /// a view is unreleased. Takes no memory.
+    /// The bytes, lent to be changed in any way, in number too. Views and iterators stay. It is None exactly where a
+    /// view is unreleased, and nothing is changed then. Takes no memory.
+    /// Example: of `bytearray(b"abc")` with an unreleased view it is None.
     fn try_resizable_opt(&mut self) -> Option<&mut Vec<u8>>
         requires { (exporter self.old).kind ≡ kinds.ByteArray }
         ensures value { IfSome result (λ bytes. bytes.now.items ≡ (exporter self.old).bytes) }
         ensures exact { IsSome result ↔ (exports_of (exporter self.old) ≡ 0) };
 
-    /// The same. Refused with `BufferError` exactly where a view is unreleased.
+    /// The bytes, lent as by `try_resizable_opt`, for a caller that hands on a `Fault`.
+    ///
+    /// Refused with `BufferError` exactly where a view is unreleased. Nothing is changed then.
+    /// Example: of `bytearray(b"abc")` with an unreleased view it is `Err(Fault::Buffer)`.
     fn try_resizable(&mut self) -> Result<&mut Vec<u8>, Fault>
         requires { (exporter self.old).kind ≡ kinds.ByteArray }
         ensures value { IfOk result (λ bytes. bytes.now.items ≡ (exporter self.old).bytes) }

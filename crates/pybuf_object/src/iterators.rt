@@ -13,6 +13,7 @@ use std::alloc::Global;
 use std::marker::Model;
 
 /// Python's iterator over bytes. It names an iterator by its number in one exporter, and keeps nothing else.
+/// Example: `PyBytesIterator::of(0)` stands for the first iterator that was made of the bytes of an exporter.
 #[derive(Clone, Copy, Debug)]
 pub struct PyBytesIterator {
     number: usize,
@@ -31,6 +32,7 @@ impl Model for PyBytesIterator {
 impl PyBytesIterator {
     /// The iterator of this number, counted from 0 in the order in which they were made. Takes no
     /// memory.
+    /// Example: `PyBytesIterator::of(0)` is the iterator that the reply `Iter(0)` names.
     pub fn of(iterator: usize) -> PyBytesIterator
         ensures { result ≡ iterator }
     {
@@ -38,16 +40,18 @@ impl PyBytesIterator {
     }
 
     /// The number of the iterator that it names. Takes no memory.
+    /// Example: `PyBytesIterator::of(3).number()` is 3.
     pub fn number(&self) -> usize
         ensures { result ≡ self.now }
     {
         self.number
     }
 
-    /// The next byte, or `Stop` where there is none, from when on there is none for ever, as Python's
-    /// `next(iterator)` (Library reference, "Iterator Types").
+    /// The next byte, or `Stop` where there is none, as Python's `next(iterator)` (Library reference, "Iterator
+    /// Types"). After one `Stop` it replies `Stop` for ever.
     ///
     /// Refused with `UnknownName` where no iterator of this number was given.
+    /// Example: over `b"a"` it replies the item 97, and then `Stop`.
     pub fn next(&self, alloc: Global, state: &mut ExporterState) -> Made<LocalReply>
         ensures ok { IfOk result (λ r. estep state.old.exporter (subjects.Iter self.now) verbs.Next [] ≡ (state.new.exporter, r)) }
         ensures err { OnErr result (state.new ≡ state.old) }
@@ -60,6 +64,7 @@ impl PyBytesIterator {
     /// reference, "operator.length_hint").
     ///
     /// Refused with `UnknownName` where it isn't an iterator over bytes.
+    /// Example: after one `next` over `b"abc"` it replies the item 2.
     pub fn length_hint(&self, alloc: Global, state: &mut ExporterState) -> Made<LocalReply>
         ensures ok { IfOk result (λ r. estep state.old.exporter (subjects.Iter self.now) verbs.LengthHint [] ≡ (state.new.exporter, r)) }
         ensures err { OnErr result (state.new ≡ state.old) }
@@ -73,6 +78,7 @@ impl PyBytesIterator {
     ///
     /// Refused with `UnknownName` where a handle of the place has no loan or it isn't an iterator over
     /// bytes, and with `TypeError` where the place is no number.
+    /// Example: over `b"abc"` the place 2 makes the next item 99, and the place -1 makes it 97.
     pub fn setstate(
         &self,
         state: &mut ExporterState,
@@ -94,6 +100,7 @@ impl PyBytesIterator {
 }
 
 /// Python's iterator over a bytearray. It names an iterator by its number in one exporter, and keeps nothing else.
+/// Example: `PyByteArrayIterator::of(0)` stands for the first iterator that was made of a bytearray.
 #[derive(Clone, Copy, Debug)]
 pub struct PyByteArrayIterator {
     number: usize,
@@ -112,6 +119,7 @@ impl Model for PyByteArrayIterator {
 impl PyByteArrayIterator {
     /// The iterator of this number, counted from 0 in the order in which they were made. Takes no
     /// memory.
+    /// Example: `PyByteArrayIterator::of(0)` is the iterator that the reply `Iter(0)` names.
     pub fn of(iterator: usize) -> PyByteArrayIterator
         ensures { result ≡ iterator }
     {
@@ -119,16 +127,18 @@ impl PyByteArrayIterator {
     }
 
     /// The number of the iterator that it names. Takes no memory.
+    /// Example: `PyByteArrayIterator::of(3).number()` is 3.
     pub fn number(&self) -> usize
         ensures { result ≡ self.now }
     {
         self.number
     }
 
-    /// The next byte, or `Stop` where there is none, from when on there is none for ever, as Python's
-    /// `next(iterator)` (Library reference, "Iterator Types").
+    /// The next byte, or `Stop` where there is none, as Python's `next(iterator)` (Library reference, "Iterator
+    /// Types"). After one `Stop` it replies `Stop` for ever.
     ///
     /// Refused with `UnknownName` where no iterator of this number was given.
+    /// Example: over `bytearray(b"a")` it replies the item 97; once 98 was appended the item 98; and then `Stop`.
     pub fn next(&self, alloc: Global, state: &mut ExporterState) -> Made<LocalReply>
         ensures ok { IfOk result (λ r. estep state.old.exporter (subjects.Iter self.now) verbs.Next [] ≡ (state.new.exporter, r)) }
         ensures err { OnErr result (state.new ≡ state.old) }
@@ -141,6 +151,7 @@ impl PyByteArrayIterator {
     /// reference, "operator.length_hint").
     ///
     /// Refused with `UnknownName` where it isn't an iterator over bytes.
+    /// Example: after one `next` over `bytearray(b"abc")` it replies the item 2.
     pub fn length_hint(&self, alloc: Global, state: &mut ExporterState) -> Made<LocalReply>
         ensures ok { IfOk result (λ r. estep state.old.exporter (subjects.Iter self.now) verbs.LengthHint [] ≡ (state.new.exporter, r)) }
         ensures err { OnErr result (state.new ≡ state.old) }
@@ -154,6 +165,7 @@ impl PyByteArrayIterator {
     ///
     /// Refused with `UnknownName` where a handle of the place has no loan or it isn't an iterator over
     /// bytes, and with `TypeError` where the place is no number.
+    /// Example: over `bytearray(b"abc")` the place 2 makes the next item 99, and the place -1 makes it 97.
     pub fn setstate(
         &self,
         state: &mut ExporterState,

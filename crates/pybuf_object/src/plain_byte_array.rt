@@ -81,6 +81,7 @@ impl PyByteArray {
     ghost use Rattle.pybuf_object.specs.Lending.{LendsAllIfOk};
 
     /// The `bytearray` without bytes, and no view of it. Takes no memory.
+    /// Example: `PyByteArray::new(alloc).as_slice()` is `b""`.
     pub fn new(alloc: Global) -> PyByteArray
         ensures { result ≡ new_exporter kinds.ByteArray [] }
     {
@@ -88,6 +89,7 @@ impl PyByteArray {
     }
 
     /// The `bytearray` of a vector, and no view of it. Takes no memory.
+    /// Example: of a vector of the bytes 97 and 98 it is `bytearray(b"ab")`.
     pub fn from_vec(alloc: Global, bytes: Vec<u8>) -> PyByteArray
         ensures { result ≡ new_exporter kinds.ByteArray bytes.items }
     {
@@ -95,6 +97,7 @@ impl PyByteArray {
     }
 
     /// The `bytearray` of a copy of bytes, and no view of it.
+    /// Example: `PyByteArray::from_slice(alloc, b"abc")?` is `bytearray(b"abc")`.
     pub fn from_slice(alloc: Global, bytes: &[u8]) -> Made<PyByteArray>
         ensures { IfOk result (λ made. made ≡ new_exporter kinds.ByteArray bytes.now) }
     {
@@ -102,20 +105,24 @@ impl PyByteArray {
     }
 
     /// The `bytearray` of a copy of these bytes, and no view of it.
+    /// Example: the copy of `bytearray(b"abc")` stays `bytearray(b"abc")` where the first is then written.
     pub fn try_clone(&self, alloc: Global) -> Made<PyByteArray>
         ensures { IfOk result (λ made. made ≡ new_exporter kinds.ByteArray self.now.bytes) }
     {
         PyByteArray::from_slice(alloc, self.as_slice())
     }
 
-    /// The bytes, lent without a copy.
+    /// The bytes, lent without a copy. Takes no memory.
+    /// Example: of `bytearray(b"!XYZ")` it is `b"!XYZ"`.
     pub fn as_slice(&self) -> &[u8]
         ensures { result.now ≡ self.now.bytes }
     {
         self.exporter.bytes()
     }
 
-    /// The number of bytes: `len` is the command of that name. Takes no memory.
+    /// The number of bytes, as Python's `len(bytearray)`. The method `len` is the command of that name. Takes no
+    /// memory.
+    /// Example: of `bytearray(b"abc")` it is 3.
     pub fn byte_count(&self) -> usize
         ensures { result ≡ length self.now.bytes }
     {
@@ -123,14 +130,16 @@ impl PyByteArray {
     }
 
     /// Whether there is no byte. Takes no memory.
+    /// Example: of `PyByteArray::new(alloc)` it is true.
     pub fn is_empty(&self) -> bool
         ensures { result ≡ (length self.now.bytes == 0) }
     {
         self.exporter.bytes().is_empty()
     }
 
-    /// The byte that an index names, where a negative one counts from the end; None exactly where there is none.
-    /// Takes no memory.
+    /// The byte that an index names, where a negative one counts from the end; It is None exactly where there is no
+    /// such byte. Takes no memory.
+    /// Example: of `bytearray(b"abc")` the index -1 gets `Some(99)`, and the index 3 gets None.
     pub fn get(&self, index: isize) -> Option<u8>
         ensures { result ≡ spec.byte_at self.now.bytes index }
     {
@@ -140,6 +149,7 @@ impl PyByteArray {
     /// The bytes that the slice `start:stop:step` picks, where None stands for what isn't written.
     ///
     /// Refused with `ValueError` exactly where the step is 0.
+    /// Example: of `bytearray(b"abcdef")`, `slice(alloc, None, None, Some(-2))?` has the bytes `b"fdb"`.
     pub fn slice(
         &self,
         alloc: Global,
@@ -169,7 +179,8 @@ impl PyByteArray {
 
     /// Adds a byte at the end.
     ///
-    /// Refused with `BufferError` where a view is unreleased.
+    /// Refused with `BufferError` where a view is unreleased. Nothing is changed then, nor where memory runs out.
+    /// Example: to `bytearray(b"Abc")` the byte 100 makes `bytearray(b"Abcd")`.
     pub fn push(&mut self, byte: u8) -> Result<(), Halt>
         ensures { spec.Settles (spec.pushed self.old byte) self.old result self.new }
     {
@@ -177,9 +188,11 @@ impl PyByteArray {
         Ok(())
     }
 
-    /// Adds bytes at the end.
+    /// Adds bytes at the end, as Python's `bytearray.extend(bytes)`.
     ///
-    /// Refused with `BufferError` where a view is unreleased.
+    /// Refused with `BufferError` where a view is unreleased, also for no bytes. Nothing is changed then, nor where
+    /// memory runs out.
+    /// Example: to `bytearray(b"ab")` the bytes `b"cd"` make `bytearray(b"abcd")`.
     pub fn extend_from_slice(&mut self, bytes: &[u8]) -> Result<(), Halt>
         ensures { spec.Settles (spec.extended_by self.old bytes.now) self.old result self.new }
     {
@@ -189,7 +202,8 @@ impl PyByteArray {
 
     /// Puts a byte before the place that is nearest to an index, where a negative one counts from the end.
     ///
-    /// Refused with `BufferError` where a view is unreleased.
+    /// Refused with `BufferError` where a view is unreleased. Nothing is changed then, nor where memory runs out.
+    /// Example: in `bytearray(b"abc")` the index -1 and the byte 90 make `bytearray(b"abZc")`.
     pub fn insert_at(&mut self, index: isize, byte: u8) -> Result<(), Halt>
         ensures { spec.Settles (spec.inserted_at self.old index byte) self.old result self.new }
     {
@@ -198,25 +212,30 @@ impl PyByteArray {
 
     /// Takes the byte that an index names out, where a negative one counts from the end. Takes no memory.
     ///
-    /// Refused with `BufferError` where a view is unreleased, and then with `IndexError` out of range.
+    /// Refused with `BufferError` where a view is unreleased, and then with `IndexError` out of range. Nothing is
+    /// changed then.
+    /// Example: of `bytearray(b"abc")` the index 0 gives 97, and leaves `bytearray(b"bc")`.
     pub fn remove_at(&mut self, index: isize) -> Result<u8, Halt>
         ensures { spec.SettlesAtOnce (spec.removed_at self.old index) self.old result self.new }
     {
         Ok(take_named(self.resizable()?, index)?)
     }
 
-    /// Takes the last byte out; None where there is none. Takes no memory.
+    /// Takes the last byte out. It is None where there is none. Takes no memory.
     ///
-    /// Refused with `BufferError` where a view is unreleased.
+    /// Refused with `BufferError` where a view is unreleased. Nothing is changed then.
+    /// Example: of `bytearray(b"Abcd")` it gives `Some(100)`, and leaves `bytearray(b"Abc")`.
     pub fn pop_last(&mut self) -> Result<Option<u8>, Halt>
         ensures { spec.SettlesAtOnce (spec.popped_last self.old) self.old result self.new }
     {
         Ok(take_last(self.resizable()?))
     }
 
-    /// Leaves so many bytes from the first on, and all where there are no more. Takes no memory.
+    /// Leaves so many bytes from the first on, and all where there are no more, as Python's `del a[count:]`. Takes no
+    /// memory.
     ///
-    /// Refused with `BufferError` where a view is unreleased.
+    /// Refused with `BufferError` where a view is unreleased, also where no byte would go. Nothing is changed then.
+    /// Example: `bytearray(b"abcdef")` by 2 is `bytearray(b"ab")`.
     pub fn truncate(&mut self, count: usize) -> Result<(), Halt>
         ensures { spec.SettlesAtOnce (spec.truncated self.old count) self.old result self.new }
     {
@@ -224,10 +243,11 @@ impl PyByteArray {
         Ok(())
     }
 
-    /// Takes so many bytes from the first on out, and all where there are no more. Takes no memory: the bytes behind
-    /// move once.
+    /// Takes so many bytes from the first on out, and all where there are no more, as Python's `del a[:count]`. Takes
+    /// no memory: the bytes behind move once.
     ///
-    /// Refused with `BufferError` where a view is unreleased.
+    /// Refused with `BufferError` where a view is unreleased, also where no byte would go. Nothing is changed then.
+    /// Example: `bytearray(b"abcdef")` by 2 is `bytearray(b"cdef")`.
     pub fn drain_front(&mut self, count: usize) -> Result<(), Halt>
         ensures { spec.SettlesAtOnce (spec.drained_front self.old count) self.old result self.new }
     {
@@ -264,7 +284,8 @@ impl PyByteArray {
 
     /// Takes all bytes out. Takes no memory.
     ///
-    /// Refused with `BufferError` where a view is unreleased.
+    /// Refused with `BufferError` where a view is unreleased, also where there is no byte. Nothing is changed then.
+    /// Example: `bytearray(b"abc")` is `bytearray(b"")` then.
     pub fn clear_all(&mut self) -> Result<(), Halt>
         ensures { spec.SettlesAtOnce (spec.emptied self.old) self.old result self.new }
     {
@@ -272,10 +293,11 @@ impl PyByteArray {
         Ok(())
     }
 
-    /// Puts a byte in place of the one that an index names, where a negative one counts from the end. Views don't
-    /// matter: those of the byte show it. Takes no memory.
+    /// Puts a byte in place of the one that an index names, where a negative one counts from the end. The length
+    /// stays, so this is done also while a view is unreleased, and the views of the byte show it. Takes no memory.
     ///
-    /// Refused with `IndexError` out of range.
+    /// Refused with `IndexError` out of range. Nothing is changed then.
+    /// Example: in `bytearray(b"abc")` the index 0 and the byte 65 make `bytearray(b"Abc")`.
     pub fn set(&mut self, index: isize, byte: u8) -> Result<(), Halt>
         ensures { spec.SettlesAtOnce (spec.put_at self.old index byte) self.old result self.new }
     {
@@ -285,9 +307,10 @@ impl PyByteArray {
         }
     }
 
-    /// The bytes as a vector: nothing is copied, and no memory is taken.
+    /// The bytes as a vector. No byte is copied, and no memory is taken.
     ///
-    /// Refused with `BufferError` where a view is unreleased.
+    /// Refused with `BufferError` where a view is unreleased. The bytearray is let go of then too.
+    /// Example: of `bytearray(b"abc")` it is a vector of the bytes `b"abc"`.
     pub fn into_vec(mut self, alloc: Global) -> Result<Vec<u8>, Halt>
         ensures { MatchResult result (λ bytes. (spec.may_resize self ≡ Ok true) × (bytes.items ≡ self.bytes)) (λ halt. spec.IsRefusal (spec.may_resize self) halt) }
     {

@@ -74,6 +74,7 @@ impl<L: Ledger> SharedExporter<L> {
     /// the other is asked for. Nothing is said of what others do between the two.
     ///
     /// Where memory runs out, `session` is as before, and `giver` too, or it has the receipt of the first call.
+    /// Example: with `extend h7`, the handle 7 and `Subject::Own` of `from` it adds all bytes of `from` at the end.
     pub fn carry<M: Ledger, R: Wait>(
         &self,
         rt: &R,

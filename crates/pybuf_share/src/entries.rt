@@ -4,7 +4,8 @@ use pybuf_command::{LocalCommand, LocalReply};
 use pybuf_value::{Items, Made, NoMemory, Twin};
 use std::alloc::Global;
 
-/// A command of a session, and its reply.
+/// A command of a session, and its reply, as the history keeps them.
+/// Example: session 2, `append 65` and the reply `Ok` stand for one byte that session 2 added.
 #[derive(Debug, Drop)]
 pub struct Entry {
     pub session: u64,
@@ -32,6 +33,7 @@ impl Twin for Entry {
 }
 
 /// What a session has to show for a command: the number of its entry in the history, and that entry.
+/// Example: `at: 0` stands for the first entry of the history.
 #[derive(Debug, Drop)]
 pub struct Receipt {
     pub at: u64,
@@ -39,14 +41,18 @@ pub struct Receipt {
 }
 
 /// Entries, in the order in which their commands were carried out.
+/// Example: the history of a new exporter is an `EntryList` of length 0.
 pub type EntryList = Items<Entry>;
 
 /// Receipts, in the order in which they were given.
+/// Example: a session that called twice has a `ReceiptList` of length 2.
 pub type ReceiptList = Items<Receipt>;
 
 /// The commands of a session, in order. The number of a view or of an iterator, as a subject and as a loan, is the
 /// session's own count: the first view that it is given is 0, and so is the first iterator.
+/// Example: `view` and then `get 0` of `Subject::View(0)` read the first byte by the session's own first view.
 pub type LocalCommandList = Items<LocalCommand>;
 
 /// A script for each session.
+/// Example: of three scripts `run_sessions` makes three sessions.
 pub type ScriptList = Items<LocalCommandList>;

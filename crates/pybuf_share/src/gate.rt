@@ -2,15 +2,19 @@
 
 /// What a call does before it asks for the lock, and while it holds it. `turn` is the number of receipts that the
 /// session had before the call.
+/// Example: `OpenGate` is one; a gate of a test may wait in `before` until another session has called.
 pub trait Gate {
     /// Called without the lock.
+    /// Example: at the first call of session 2 it is `gate.before(2, 0)`.
     fn before(&self, session: u64, turn: u64);
 
     /// Called with the lock held.
+    /// Example: at the first call of session 2 it is `gate.inside(2, 0)`, after `gate.before(2, 0)`.
     fn inside(&self, session: u64, turn: u64);
 }
 
 /// The gate that does nothing.
+/// Example: `shared.call_gated(rt, session, command, &OpenGate)` does what `shared.call(rt, session, command)` does.
 pub struct OpenGate;
 
 impl Gate for OpenGate {

@@ -7,6 +7,7 @@ use pybuf_value::{ByteList, NoMemory};
 
 /// A whole history: the kind and the bytes that the exporter began with, all entries in their order, and the exporter
 /// as it is afterwards.
+/// Example: the kind bytearray, the bytes `b""`, one entry `append 65` and an exporter with `b"A"` are a whole history.
 #[derive(Drop)]
 pub struct Joined {
     pub opening: ByteList,
@@ -16,22 +17,26 @@ pub struct Joined {
 }
 
 /// Why sessions don't agree with a history.
+/// Example: `FinishFault::NoMemory` stands for memory that ran out in a thread.
 #[derive(Debug, Drop)]
 pub enum FinishFault {
-    /// The entry `got` of a receipt of number `at` isn't the one that the history has there: that is `kept`, which is
-    /// `None` where the history is too short.
+    /// The entry `got` of a receipt of number `at` isn't the one that the history has there. That one is `kept`,
+    /// which is `None` where the history is too short.
+    /// Example: a receipt of number 5 in a history of three entries has `kept: None`.
     Disagree {
         at: u64,
         kept: Option<Entry>,
         got: Entry,
     },
     /// The numbers of two receipts of a session, one after the other, don't rise.
+    /// Example: a session whose receipts have the numbers 4 and then 2 is answered so.
     Order {
         session: u64,
         before: u64,
         after: u64,
     },
     /// The kind or the bytes that were given are others than those that are kept.
+    /// Example: an exporter that was started with `b"a"` and is joined with `b"b"` is answered so.
     Opening {
         given_kind: ExporterKind,
         given: ByteList,
@@ -39,6 +44,7 @@ pub enum FinishFault {
         kept: ByteList,
     },
     /// Memory ran out.
+    /// Example: `run_sessions` answers it where the memory of one thread ran out.
     NoMemory,
 }
 

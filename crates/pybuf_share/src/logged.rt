@@ -19,6 +19,7 @@ use std::sync::ledger::{Blank, Book, Ledger, Share};
 /// A clause sees its kind and its bytes at the beginning, and all entries since. The exporter is what one thread
 /// gets by carrying out the commands of the entries in their order (`replay`), each entry holds the reply that the
 /// exporter gives there (`IsLegal`), and the ledger has counted as many calls as there are entries.
+/// Example: `Logged::start(alloc, blank, kind, bytes, 2)?` stands for an exporter with no entry, and two sessions.
 #[derive(Drop)]
 pub struct Logged<L: Ledger> {
     kind: ExporterKind,
@@ -63,8 +64,9 @@ impl<L: Ledger> Logged<L> {
     ghost use Rattle.pybuf_share.specs.Sessions.{sessions_from, received};
     ghost use Rattle.pybuf_share.specs.Finishing.{AreAll, Agree, Refuses, IsJoined, ArePlain, AreTheirs};
 
-    /// An exporter of a kind and of these bytes with no entry, and so many sessions, numbered from 0, each of which has
-    /// one part of the ledger.
+    /// An exporter of a kind and of these bytes with no entry, and so many sessions, numbered from 0, each of which
+    /// has one part of the ledger. The number of sessions is from 1 to 1,024.
+    /// Example: with 2 sessions these have the numbers 0 and 1, and `entries()` is empty.
     pub fn start(
         alloc: Global,
         blank: Blank,
@@ -101,21 +103,24 @@ impl<L: Ledger> Logged<L> {
         Ok((logged, made))
     }
 
-    /// The kind of the exporter.
+    /// The kind that the exporter had at the beginning. Takes no memory.
+    /// Example: after a start with `ExporterKind::ByteArray` it is `ExporterKind::ByteArray`.
     pub fn kind(&self) -> ExporterKind
         ensures { result ≡ self.now.kind }
     {
         self.kind
     }
 
-    /// The bytes that the exporter had at the beginning.
+    /// The bytes that the exporter had at the beginning, lent. Takes no memory.
+    /// Example: after a start with `b"a"` and an `append 98` it is still `b"a"`.
     pub fn opening(&self) -> &[u8]
         ensures { result.now ≡ self.now.opening }
     {
         self.opening.as_slice()
     }
 
-    /// All entries, in order: a history that one thread could have made.
+    /// All entries, in order, lent. They are a history that one thread could have made. Takes no memory.
+    /// Example: after one call its length is 1.
     pub fn entries(&self) -> &[Entry]
         ensures value { result.now ≡ self.now.entries }
         ensures legal { IsLegalLog self.now }
@@ -123,15 +128,19 @@ impl<L: Ledger> Logged<L> {
         self.history.as_slice()
     }
 
-    /// The exporter as it is: what one thread gets by carrying out the commands of the entries.
+    /// The exporter as it is, lent. It is what one thread gets by carrying out the commands of the entries. Takes no
+    /// memory.
+    /// Example: after a start with `b"a"` and an `append 98` its `bytes()` is `b"ab"`.
     pub fn state(&self) -> &ExporterState
         ensures { result.now.exporter ≡ state_of self.now }
     {
         &self.state
     }
 
-    /// Carries out a command of a session, and notes it: one more entry, and one more on the book and on the share.
-    /// The receipt has the number that the entry has in the history. Where memory runs out, nothing is changed.
+    /// Carries out a command of a session, and notes it. There is one more entry then, and one more call on the book
+    /// and on the share. The receipt has the number that the entry has in the history. Where memory runs out, nothing
+    /// is changed.
+    /// Example: the first one of an exporter gives a receipt of number 0.
     pub fn note_step(
         &mut self,
         session: u64,
@@ -196,6 +205,7 @@ impl<L: Ledger> Logged<L> {
 
     /// Carries out a command of a session and notes it, with the number and the share of the session, whose last
     /// receipt it becomes. Where memory runs out, nothing is changed.
+    /// Example: after it `session.last()` is the reply to the command.
     pub fn note_call(&mut self, session: &mut Session<L>, command: LocalCommand) -> Made<()>
         requires { LoansFit command.loans }
         ensures noted { OnOk result (self.new ≡ noted self.old session.old.number command) }
@@ -219,6 +229,7 @@ impl<L: Ledger> Logged<L> {
     /// `Opening` is answered where the kind or the bytes are others. Else `Order`, where the receipt numbers of a
     /// session don't rise, of the first such session. Else `Disagree`, where the entry at the number of a receipt is
     /// another or none, at the first such receipt, session by session.
+    /// Example: of a start with `b"a"` and no call it gives the opening `b"a"` and no entries.
     pub fn join(
         self,
         kind: ExporterKind,

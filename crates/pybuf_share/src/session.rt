@@ -13,10 +13,12 @@ use std::alloc::Global;
 use std::marker::Model;
 use std::sync::ledger::{Ledger, Share};
 
-/// A session: its number, and its receipts. It belongs to the exporter that its ledger names.
+/// A session is one who asks commands of a shared exporter. It has a number, and receipts of its calls. It belongs to
+/// the exporter that its ledger names.
 ///
 /// A clause sees its number, its receipts, its parts of the ledger and how many calls that has counted for it, and
 /// whether each receipt came from a call.
+/// Example: the first session of `SharedExporter::start` has the number 0 and no receipt.
 #[derive(Drop)]
 pub struct Session<L: Ledger> {
     number: u64,
@@ -59,21 +61,25 @@ impl<L: Ledger> Session<L> {
         }
     }
 
-    /// The number of the session.
+    /// The number of the session, counted from 0. Takes no memory.
+    /// Example: of the first session it is 0.
     pub fn number(&self) -> u64
         ensures { result ≡ self.now.number }
     {
         self.number
     }
 
-    /// What it has to show for its calls, in order.
+    /// What it has to show for its calls, in order, lent. Takes no memory.
+    /// Example: after two calls its length is 2.
     pub fn receipts(&self) -> &[Receipt]
         ensures { result.now ≡ self.now.receipts }
     {
         self.receipts.as_slice()
     }
 
-    /// The number of the view that it was given as its k-th, counted from 0. None exactly where it was given fewer.
+    /// The number of the view that it was given as its k-th, counted from 0. It is None exactly where the session was
+    /// given fewer.
+    /// Example: after one `view`, to which the exporter replied `View(4)`, `mine(0)` is `Some(4)`.
     pub fn mine(&self, k: usize) -> Option<usize>
         ensures { result ≡ slice_get (views_given self.now.receipts) k }
     {
@@ -83,7 +89,9 @@ impl<L: Ledger> Session<L> {
         }
     }
 
-    /// The number of the iterator that it was given as its k-th, counted from 0. None exactly where it was given fewer.
+    /// The number of the iterator that it was given as its k-th, counted from 0. It is None exactly where the session
+    /// was given fewer.
+    /// Example: after one `iter`, to which the exporter replied `Iter(2)`, `my_iter(0)` is `Some(2)`.
     pub fn my_iter(&self, k: usize) -> Option<usize>
         ensures { result ≡ slice_get (iterators_given self.now.receipts) k }
     {
@@ -95,6 +103,7 @@ impl<L: Ledger> Session<L> {
 
     /// Whether each of its receipts came from a call. Then they are as many as the ledger has counted for the session,
     /// and each is of an entry of its own.
+    /// Example: of a new session it is true, and after `add_receipt` false.
     pub fn is_plain(&self) -> bool
         ensures value { result ≡ self.now.is_plain }
         ensures counted { result ≡ true → self.now.calls ≡ length self.now.receipts }
@@ -103,7 +112,8 @@ impl<L: Ledger> Session<L> {
         self.is_plain
     }
 
-    /// The reply of its last receipt. None exactly where it has none.
+    /// The reply of its last receipt. It is None exactly where the session has none. Takes no memory.
+    /// Example: of a new session it is None.
     pub fn last(&self) -> Option<&LocalReply>
         ensures { option_copied result ≡ last_reply self.now.receipts }
     {
@@ -133,6 +143,7 @@ impl<L: Ledger> Session<L> {
     /// Adds a receipt that no call gave, by which the session is no longer plain. It makes no call, and leaves the
     /// ledger as it is. It is there so that a test can hand in a receipt that the history doesn't have. Where memory
     /// runs out, nothing is changed.
+    /// Example: after it `is_plain()` is false.
     pub fn add_receipt(&mut self, receipt: Receipt) -> Made<()>
         ensures ok { OnOk result (self.new ≡ added self.old receipt) }
         ensures err { OnErr result (self.new ≡ self.old) }

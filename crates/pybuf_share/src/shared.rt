@@ -12,11 +12,12 @@ use std::marker::Model;
 use std::sync::ledger::{Blank, Ledger};
 use std::sync::{Mutex, Wait};
 
-/// An exporter that threads share: it lies under a lock with its history (`Logged`). One call is one step, with the
+/// An exporter that threads share. It lies under a lock with its history (`Logged`). One call is one step, with the
 /// lock held.
 ///
 /// A clause sees the kind and the bytes that it was made with. Of what lies under the lock no clause of a call can
 /// speak, since other threads may ask for it at any time; a receipt tells what was replied.
+/// Example: `SharedExporter::start(alloc, blank, kind, bytes, 2)?` stands for one that two sessions share.
 #[derive(Drop)]
 pub struct SharedExporter<L: Ledger> {
     kind: ExporterKind,
@@ -39,7 +40,8 @@ impl<L: Ledger> SharedExporter<L> {
     ghost use Rattle.pybuf_share.specs.Finishing.{AreAll, IsJoined, ArePlain, AreTheirs, RefusesAtLast};
 
     /// An exporter of a kind and of these bytes, and so many sessions, numbered from 0, each of which has one part of
-    /// the ledger.
+    /// the ledger. The number of sessions is from 1 to 1,024.
+    /// Example: with 2 sessions these have the numbers 0 and 1.
     pub fn start(
         alloc: Global,
         blank: Blank,
@@ -68,9 +70,10 @@ impl<L: Ledger> SharedExporter<L> {
     }
 
     /// Carries out a command of a session, with the lock held, and gives the session a receipt with its number, the
-    /// command, and the reply. It waits while another call holds the lock.
+    /// command, and the reply. A refusal is a reply. It waits while another call holds the lock.
     ///
     /// Where memory runs out, the session is as before, and the exporter and its history too.
+    /// Example: after a call with `len` of three bytes `session.last()` is the item 3.
     pub fn call<R: Wait>(&self, rt: &R, session: &mut Session<L>, command: LocalCommand) -> Made<()>
         requires { LoansFit command.loans }
         ensures ok { OnOk result (IsAnswered session.old command session.new) }
@@ -81,8 +84,10 @@ impl<L: Ledger> SharedExporter<L> {
         self.call_gated(rt, session, command, &OpenGate)
     }
 
-    /// The same, by a gate: `before` is called without the lock, and `inside` with it held, each with the session's
-    /// number and the number of its receipts so far.
+    /// Carries out a command of a session as `call` does, by a gate. The gate's `before` is called without the lock,
+    /// and its `inside` with the lock held, each with the session's number and the number of its receipts so far.
+    /// Where memory runs out, the session is as before, and the exporter and its history too.
+    /// Example: with `&OpenGate` it does what `call` does.
     pub fn call_gated<R: Wait, G: Gate>(
         &self,
         rt: &R,
@@ -130,8 +135,9 @@ impl<L: Ledger> SharedExporter<L> {
         session.ask(&mut logged, kept, own)
     }
 
-    /// What all sessions did, put together (`Logged::join`), by the kind and the bytes that it was made with. It waits
-    /// for nobody.
+    /// What all sessions did, put together (`Logged::join`), by the kind and the bytes that it was made with. It
+    /// waits for nobody, and answers a `FinishFault` as `Logged::join` does.
+    /// Example: of two sessions that appended a byte each to `b""`, the exporter has two bytes, and there are two entries.
     pub fn finish(self, sessions: Vec<Session<L>>) -> Result<Joined, FinishFault>
         requires all { AreAll L.parts sessions.items }
         ensures joined { IfOk result (λ j. IsJoined self.kind self.bytes sessions.items j) }

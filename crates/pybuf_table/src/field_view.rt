@@ -11,13 +11,14 @@ use std::alloc::Global;
 impl Records {
     ghost use Rattle.pybuf_table.specs.FieldViews.{IsFieldView};
 
-    /// The view of a field of each record of the exporter's bytes: one more view, which is counted, and whose item k is
-    /// the field of record k. Its format is the prefix of the records' format, if there is one, and the field's code,
-    /// for `s` and `p` behind the field's length. It may only be read exactly where the exporter may.
+    /// The view of a field of each record of the exporter's bytes. It is one more view, which is counted, and its
+    /// item k is the field of record k. Its format is the prefix of the records' format, if there is one, and the
+    /// field's code, for `s` and `p` behind the field's length. It may only be read exactly where the exporter may.
     ///
-    /// Refused with `IndexError` exactly where there is no such field; then with `StructError` exactly where the number of
-    /// bytes is no multiple of a record's size; then with `ValueError` exactly where the field has length 0. Where it is
-    /// refused, or memory runs out, the exporter is as before.
+    /// Refused with `IndexError` exactly where there is no such field; then with `StructError` exactly where the
+    /// number of bytes is no multiple of a record's size; then with `ValueError` exactly where the field has length
+    /// 0. Where it is refused, or memory runs out, the exporter is as before.
+    /// Example: of `<4sH` and the bytes `b"ada\0\x05\0bob\0\x07\0"` the view of the field 1 has the items 5 and 7.
     pub fn field_view(
         &self,
         alloc: Global,

@@ -34,6 +34,7 @@ impl Records {
     /// before and behind the record isn't looked at.
     ///
     /// Refused with `StructError` exactly where the offset is then negative, or fewer bytes than a record follow it.
+    /// Example: by `<4sH` the record of `b"ada\0\x05\0bob\0\x07\0"` at -6 has the values `b"bob\0"` and 7.
     pub fn unpack_from(&self, alloc: Global, bytes: &[u8], offset: isize) -> Tried<ScalarList>
         ensures { IfOk result (λ o. o ≡ outcome_of (row_from self.now.format offset bytes.now)) }
     {
@@ -43,8 +44,9 @@ impl Records {
     /// Writes the record of the values at an offset, to which the number of bytes is added where it is negative. The
     /// bytes before and after it stay. Takes no memory.
     ///
-    /// Refused with `StructError` exactly where the offset is then negative, or fewer bytes than a record follow it, and
-    /// then as `FormatSpec::pack_into` is; in either case before a byte is written.
+    /// Refused with `StructError` exactly where the offset is then negative, or fewer bytes than a record follow it,
+    /// and then as `FormatSpec::pack_into` is. No byte is written then.
+    /// Example: by `<4sH` the values `b"bob\0"` and 7 at the offset 0 write `b"bob\0\x07\0"`.
     pub fn pack_into<L: Lender>(
         &self,
         room: &mut [u8],

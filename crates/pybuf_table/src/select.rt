@@ -14,7 +14,8 @@ use pybuf_struct::{FormatSpec, FormatType};
 use pybuf_value::{CompareOp, Fault, Items, Made, Outcome, Scalar, ScalarList, Tried, is_order};
 use std::alloc::Global;
 
-/// Records, each its number and its values.
+/// Records, each with its number, counted from 0, and its values.
+/// Example: `records.select(..)` gives one, in which `(1, values)` stands for the second record.
 pub type RowList = Items<(usize, ScalarList)>;
 
 /// Whether the values of a code are bytes.
@@ -124,6 +125,7 @@ impl Records {
     /// exactly where there is no such field; then with `StructError` exactly where the number of bytes is no multiple of
     /// a record's size; then with `TypeError` exactly where the operator asks for an order and the value and the field's
     /// values aren't both numbers or truth values, or both bytes, also where there is no record.
+    /// Example: by `<4sH`, field 0 and `CompareOp::Eq` with `b"bob\0"` it gives the record 1 of `b"ada\0\x05\0bob\0\x07\0"`.
     pub fn select(
         &self,
         alloc: Global,

@@ -12,6 +12,10 @@ quote_of bytes = if list_any (λ b. b == byte "'") bytes && not (list_any (λ b.
 abbrev pub is_plain : ℕ → ℕ → Bool
 is_plain quote b = nat_le 32 b && nat_le b 126 && not (b == quote) && not (b == byte "\\")
 
+-- the two hexadecimal digits of a byte
+abbrev pub digits_of : ℕ → List ℕ
+digits_of b = slice_index lower_digits (b / 16) ∷ slice_index lower_digits (b % 16) ∷ []
+
 -- a byte between such quotes
 abbrev pub escaped_byte : ℕ → ℕ → List ℕ
 escaped_byte quote b =
@@ -21,7 +25,7 @@ escaped_byte quote b =
     else if b == byte "\n" then codes "\\n"
     else if b == byte "\r" then codes "\\r"
     else if nat_le 32 b && nat_le b 126 then b ∷ []
-    else codes "\\x" ++ slice_index lower_digits (b / 16) ∷ slice_index lower_digits (b % 16) ∷ []
+    else codes "\\x" ++ digits_of b
 
 -- bytes between quotes, as Python's `repr` writes them, without the `b`
 abbrev pub quoted_text : List ℕ → List ℕ

@@ -1,8 +1,7 @@
 //! Bytes between quotes, as Python's `repr` writes them.
-ghost use Rattle.std.specs.Prelude.{◌≡◌, ◌==◌, ◌++◌, ◌∷◌, [], ◌+◌, ◌*◌, ◌≤◌, ◌<◌, OnOk, OnErr, codes, length, take};
+ghost use Rattle.std.specs.Prelude.{◌≡◌, ◌==◌, ◌++◌, ◌∷◌, [], ◌+◌, ◌*◌, ◌≤◌, ◌<◌, OnOk, OnErr, codes, length, take, slice_index};
 ghost use Rattle.std.specs.List.{flat_map, list_any};
-ghost use Rattle.hex.specs.Hex.{encode_lower};
-ghost use Rattle.pybuf_value.specs.Quotes.{quote_of, is_plain, escaped_byte, quoted_text};
+ghost use Rattle.pybuf_value.specs.Quotes.{quote_of, is_plain, digits_of, escaped_byte, quoted_text};
 
 use crate::list::ByteList;
 use crate::plain::place_of_byte;
@@ -33,14 +32,24 @@ pub fn quote(bytes: &[u8]) -> u8
     b'\''
 }
 
-/// Adds a byte as `\x` and two hexadecimal digits.
-fn push_hexadecimal(out: &mut Vec<u8>, byte: u8) -> Made<()>
-    ensures ok { OnOk result (out.new.items ≡ out.old.items ++ codes "\\x" ++ encode_lower (byte ∷ [])) }
-    ensures err { OnErr result (out.new.items ≡ out.old.items) }
+/// The two hexadecimal digits of a byte, the higher one first.
+#[tactic(auto, using(crate::proofs::HexadecimalLemmas::lower_is_ascii), unfolding(hex::specs::Hex::encode_with))]
+pub(crate) fn hexadecimal(byte: u8) -> [u8; 2]
+    ensures value { result ≡ digits_of byte }
+    ensures ascii { (slice_index result 0 < 128) × (slice_index result 1 < 128) }
 {
     let mut digits = [0; 2];
     // the room takes the two digits of a byte, so this is no refusal
     let _ = hex::encode_to_slice([byte], &mut digits);
+    digits
+}
+
+/// Adds a byte as `\x` and two hexadecimal digits.
+fn push_hexadecimal(out: &mut Vec<u8>, byte: u8) -> Made<()>
+    ensures ok { OnOk result (out.new.items ≡ out.old.items ++ codes "\\x" ++ digits_of byte) }
+    ensures err { OnErr result (out.new.items ≡ out.old.items) }
+{
+    let digits = hexadecimal(byte);
     out.extend_from_slice(&[b'\\', b'x', digits[0], digits[1]])?;
     Ok(())
 }
@@ -52,7 +61,6 @@ fn push_hexadecimal(out: &mut Vec<u8>, byte: u8) -> Made<()>
 /// Where memory runs out, nothing is added.
 ///
 /// Example: for the quote `b'\''` it adds `a` for `b'a'`, and `\x00` for the byte 0.
-#[tactic(auto, unfolding(hex::specs::Hex::encode_with))]
 pub fn push_escaped(out: &mut Vec<u8>, quote: u8, byte: u8) -> Made<()>
     ensures ok { OnOk result (out.new.items ≡ out.old.items ++ escaped_byte quote byte) }
     ensures err { OnErr result (out.new.items ≡ out.old.items) }

@@ -1,33 +1,23 @@
 //! Values as they are shown (`Display`): the texts that replies have, and Python's `repr` of slices, tuples and lists.
-ghost use Rattle.std.specs.Prelude.{◌≡◌, ◌<◌, ◌/◌, ◌%◌, ◌++◌, ◌∷◌, [], List, ℕ, Some, codes, slice_index};
+ghost use Rattle.std.specs.Prelude.{◌≡◌, ◌<◌, ◌++◌, ◌∷◌, [], List, ℕ, Some, codes};
 ghost use Rattle.std.specs.Fmt.{WritesOnOk, signed_decimal};
 ghost use Rattle.std.specs.List.{flat_map};
-ghost use Rattle.hex.specs.Hex.{lower_digits};
-ghost use Rattle.pybuf_value.specs.Quotes.{escaped_byte, quoted_text};
+ghost use Rattle.pybuf_value.specs.Quotes.{digits_of, escaped_byte, quoted_text};
 ghost use Rattle.pybuf_value.specs.Spelling.{bytes_text, truth_text, handle_text, scalar_text, next_part_text, tuple_text, list_text, item_text, slice_text, value_text};
 
 use crate::list::ByteList;
-use crate::quotes::quote;
+use crate::quotes::{hexadecimal, quote};
 use crate::values::{Item, PySlice, Scalar, Value};
 use std::fmt;
 
-/// A hexadecimal digit.
-#[tactic(auto, using(crate::proofs::HexadecimalLemmas::lower_is_ascii))]
-fn hexadecimal_digit(digit: u8) -> char
-    requires { digit < 16 }
-    ensures value { result ≡ slice_index lower_digits digit }
-    ensures ascii { result < 128 }
-{
-    char::from(b"0123456789abcdef"[digit as usize])
-}
-
 /// Writes a byte as `\x` and two hexadecimal digits.
 fn write_hexadecimal<W: fmt::Write>(f: &mut fmt::Formatter<W>, byte: u8) -> fmt::Result
-    ensures { WritesOnOk W.write_str_gives f.old result (codes "\\x" ++ slice_index lower_digits (byte / 16) ∷ slice_index lower_digits (byte % 16) ∷ []) f.new }
+    ensures { WritesOnOk W.write_str_gives f.old result (codes "\\x" ++ digits_of byte) f.new }
 {
+    let digits = hexadecimal(byte);
     f.write_str("\\x")?;
-    f.write_char(hexadecimal_digit(byte / 16))?;
-    f.write_char(hexadecimal_digit(byte % 16))
+    f.write_char(char::from(digits[0]))?;
+    f.write_char(char::from(digits[1]))
 }
 
 /// Writes a byte as it stands between such quotes.

@@ -6,6 +6,7 @@ ghost use Rattle.pybuf_world.specs.Laws.{RunsKeepItemsApart, ReleasesAreRefusedB
 ghost use Rattle.pybuf_world.specs.Assigning.{LoansOfWorldsFit, WorldStepsAssignByValue};
 
 /// A refused command leaves the whole world as it was, so no handle is used up.
+/// Example: after `append h0 256`, which is refused with `ValueError`, the next handle is the one that it was before.
 pub fn refusals_change_nothing()
     ensures { RefusalsChangeNothing }
 {
@@ -13,6 +14,7 @@ pub fn refusals_change_nothing()
 }
 
 /// No command of a world is refused with `StructError`: it is the answer of calls of the library that are given a format.
+/// Example: `cast h1 'BH'` is refused with `ValueError`.
 pub fn no_reply_is_a_struct_error()
     ensures { NoReplyIsAStructError }
 {
@@ -20,11 +22,13 @@ pub fn no_reply_is_a_struct_error()
 }
 
 /// A handle names after a command what it named before.
+/// Example: `h0` names the first exporter after every command that follows.
 pub fn handles_stay()
     ensures { HandlesStay }
 {}
 
 /// Releasing a view twice is releasing it once, by its number and by its handle.
+/// Example: `release h1` after `release h1` replies `ok`, and changes nothing.
 pub fn releasing_twice_is_once()
     ensures by_number { ReleasingTwiceIsOnce }
     ensures by_handle { ReleasingByHandleTwiceIsOnce }
@@ -35,6 +39,7 @@ pub fn releasing_twice_is_once()
 /// Under every command on a sound world the views of each exporter are only added or become released,
 /// each keeps the length that it was made at, and an exporter with an unreleased view has afterwards
 /// the length that it had.
+/// Example: while the view `h1` of `h0` is unreleased, no command makes the length of `h0` another.
 pub fn world_lengths_stay()
     ensures { WorldLengthsStay }
 {
@@ -43,6 +48,7 @@ pub fn world_lengths_stay()
 
 /// Under every command each iterator keeps its number and what it goes over, and an exhausted one stays
 /// as it is.
+/// Example: an iterator `h1` over `h0` that replied `stop` replies `stop` after `append h0 1` too.
 pub fn world_iterators_stay()
     ensures { WorldIteratorsStay }
 {
@@ -50,6 +56,7 @@ pub fn world_iterators_stay()
 }
 
 /// No command on a sound world changes the bytes of an exporter that is only read.
+/// Example: after `new bytes x616263` no command makes the bytes of `h0` others than `b"abc"`.
 pub fn world_readonly_bytes_stay()
     ensures { WorldReadOnlyBytesStay }
 {
@@ -57,18 +64,20 @@ pub fn world_readonly_bytes_stay()
 }
 
 /// A text that a command shows of its subject holds no line feed, whatever the bytes are.
+/// Example: `repr` of the byte 10 alone replies `b'\n'` with a backslash and the letter n.
 pub fn world_shown_texts_are_one_line()
     ensures { WorldShownTextsAreOneLine }
 {
     pybuf_exporter::shown_texts_are_one_line();
 }
 
-/// A command that replies two handles has made an exporter of its own, behind those that there were,
-/// which stay as they are; its one view has the bytes of the view that was copied, in the same format
-/// and shape, without a gap. So a write to one isn't seen by the other.
+/// A command that replies two handles has made an exporter of its own, behind those that there were, which stay as
+/// they are; its one view has the bytes of the view that was copied, in the same format and shape, without a gap. So
+/// the other doesn't show what is written to one.
 ///
-/// A command on a handle that replies one handle and has made an exporter has made a bytearray of its
-/// own: it has the bytes of the bytearray that was copied, and no view.
+/// A command on a handle that replies one handle and has made an exporter has made a bytearray of its own: it has the
+/// bytes of the bytearray that was copied, and no view.
+/// Example: `contig h1` replies `h2 h3`, and a `set h3 0 65` leaves the bytes of `h0` as they are.
 pub fn copies_are_exporters_of_their_own()
     ensures viewed { CopiesAreExportersOfTheirOwn }
     ensures unviewed { UnviewedCopiesAreExportersOfTheirOwn }
@@ -80,12 +89,14 @@ pub fn copies_are_exporters_of_their_own()
 /// A command for a new exporter that isn't refused has made one of the kind that was asked, with the
 /// bytes that its options were read as before it was there, and with no view. It stands behind those
 /// that there were, which stay as they are, and its handle is the next one.
+/// Example: `new bytearray x6162` in an empty world replies `h0`, and the first exporter has the bytes `b"ab"`.
 pub fn new_exporters_stand_behind()
     ensures { NewExportersStandBehind }
 {}
 
 /// A command for a new exporter with a handle among its options that was never given is refused with
 /// `UnknownName`, whatever its options are otherwise, and changes nothing.
+/// Example: `new bytes h5` in an empty world is refused with `UnknownName`.
 pub fn unknown_sources_are_refused()
     ensures { UnknownSourcesAreRefused }
 {}
@@ -106,6 +117,7 @@ pub(crate) fn exporter_laws()
 /// A world that begins empty is sound after each of the commands of every list: each byte of each item
 /// of an unreleased view lies inside its exporter, and that exporter is as long as when the view was
 /// made; no two items of a view share a byte; and each handle names something that is there.
+/// Example: after `new bytearray x616263`, `view h0` and `append h0 1` the view `h1` still lies inside the three bytes of `h0`.
 pub fn runs_stay_sound()
     ensures { RunsStaySound }
 {
@@ -114,6 +126,7 @@ pub fn runs_stay_sound()
 
 /// Whatever commands a world that begins empty carries out, no two items of an unreleased view of any of its
 /// exporters share a byte.
+/// Example: the items of a slice `::2` of a view of `h0` lie at 0, 2 and so on, and no two of them share a byte.
 pub fn runs_keep_items_apart()
     ensures { RunsKeepItemsApart }
 {
@@ -123,11 +136,13 @@ pub fn runs_keep_items_apart()
 
 /// In a sound world releasing by a handle is refused exactly where the handle was never given or names no view,
 /// and with nothing but `UnknownName`.
+/// Example: `world.release(0)` is `Err(Fault::UnknownName)` where `h0` names a bytearray.
 pub fn releases_are_refused_by_name()
     ensures { ReleasesAreRefusedByName }
 {}
 
 /// What the other exporters of a sound world lend to one for a command fits.
+/// Example: what `h0` of a world lends to `extend h1 h0` is all its bytes, and it fits.
 pub fn loans_of_worlds_fit()
     ensures { LoansOfWorldsFit }
 {
@@ -139,6 +154,7 @@ pub fn loans_of_worlds_fit()
 /// that are given, the same exporter or a view of it, or another exporter or a view of that. Every byte that is
 /// of no item of the target stays, and so do the length, the kind, the views and the iterators; and nothing
 /// else of the world changes.
+/// Example: after `view h0` of `bytearray(b"abc")`, `set h1 None:None:-1 h1` makes the bytes `b"cba"`.
 pub fn world_steps_assign_by_value()
     ensures { WorldStepsAssignByValue }
 {

@@ -10,6 +10,7 @@ use std::mem;
 
 /// Exporters, in the order in which they were made. A clause sees each without the room before its bytes: nothing is
 /// said of the room of what a world keeps.
+/// Example: the list that `World` keeps after `new bytearray x6162` stands for one exporter, with the bytes `b"ab"`.
 #[derive(Debug, Drop)]
 pub struct ExporterList {
     exporters: Vec<ExporterState>,
@@ -36,6 +37,7 @@ impl ExporterList {
     ghost use Rattle.pybuf_world.specs.Listing.{exporters_of, lent_exporter, released_among};
 
     /// No exporters. Takes no memory.
+    /// Example: `ExporterList::new(alloc).len()` is 0.
     pub fn new(alloc: Global) -> ExporterList
         ensures { result ≡ [] }
     {
@@ -45,6 +47,7 @@ impl ExporterList {
     }
 
     /// The number of exporters.
+    /// Example: after one `push` onto an empty list it is 1.
     pub fn len(&self) -> usize
         ensures { result ≡ length self.now }
     {
@@ -52,13 +55,15 @@ impl ExporterList {
     }
 
     /// The exporters, in order.
+    /// Example: of an empty list it is an empty slice.
     pub fn as_slice(&self) -> &[ExporterState]
         ensures { exporters_of result.now ≡ self.now }
     {
         self.exporters.as_slice()
     }
 
-    /// The exporter of a number; None exactly where there is none.
+    /// The exporter of a number. It is None exactly where there is none.
+    /// Example: of an empty list `get(0)` is None.
     pub fn get(&self, number: usize) -> Option<&ExporterState>
         ensures { lent_exporter result ≡ slice_get self.now number }
     {
@@ -66,6 +71,7 @@ impl ExporterList {
     }
 
     /// Adds an exporter behind all others. Where memory runs out, nothing is changed.
+    /// Example: the first exporter that is pushed has the number 0.
     pub fn push(&mut self, exporter: ExporterState) -> Made<()>
         ensures ok { OnOk result (self.new ≡ self.old ++ exporter.exporter ∷ []) }
         ensures err { OnErr result (self.new ≡ self.old) }
@@ -75,6 +81,7 @@ impl ExporterList {
     }
 
     /// Puts another exporter in place of the one of a number, which is handed out.
+    /// Example: `list.replace(0, ExporterState::empty(alloc))` hands out the exporter 0, and leaves one without bytes there.
     pub fn replace(&mut self, number: usize, exporter: ExporterState) -> ExporterState
         requires { number < length self.old }
         ensures value { slice_get self.old number ≡ Some result.exporter }
@@ -84,6 +91,7 @@ impl ExporterList {
     }
 
     /// Puts an exporter in place of the one of a number.
+    /// Example: after `list.put(0, exporter)` `list.get(0)` lends that exporter.
     pub fn put(&mut self, number: usize, exporter: ExporterState)
         requires { number < length self.old }
         ensures { self.new ≡ set self.old number exporter.exporter }
@@ -91,9 +99,10 @@ impl ExporterList {
         self.exporters[number] = exporter;
     }
 
-    /// Releases a view of the exporter of a number; releasing it again changes nothing. Takes no memory.
+    /// Releases a view of the exporter of a number. Releasing it again changes nothing. Takes no memory.
     ///
-    /// Refused with `UnknownName` exactly where the view was never given.
+    /// Refused with `UnknownName` exactly where the view was never given. Nothing is changed then.
+    /// Example: `list.release_view(0, 0)` is `Err(Fault::UnknownName)` where the exporter 0 has no view.
     pub fn release_view(&mut self, number: usize, view: usize) -> Result<(), Fault>
         requires { number < length self.old }
         ensures exact { MatchResult result (λ _. released_among self.old number view (slice_get self.old number) ≡ Ok self.new) (λ f. released_among self.old number view (slice_get self.old number) ≡ Err f) }

@@ -9,7 +9,8 @@ use pybuf_value::{Fault, Made, NoMemory};
 use std::alloc::Global;
 use std::marker::Model;
 
-/// A world of exporters. Handles count up from 0, and name exporters and their views.
+/// A world of exporters. Handles count up from 0, and name exporters, their views and their iterators.
+/// Example: `World::new(alloc)` stands for what the program has before its first line.
 #[derive(Debug, Drop)]
 pub struct World {
     tables: Tables,
@@ -33,6 +34,7 @@ impl World {
     ghost use Rattle.pybuf_world.specs.Listing.{exporters_of};
 
     /// A world with nothing in it. Takes no memory.
+    /// Example: `World::new(alloc).handle_count()` is 0.
     pub fn new(alloc: Global) -> World
         ensures { result ≡ empty_world }
     {
@@ -41,14 +43,16 @@ impl World {
         }
     }
 
-    /// The number of handles that were given.
+    /// The number of handles that were given, which is the next one. Takes no memory.
+    /// Example: it is 2 after a bytearray and a view of it were made.
     pub fn handle_count(&self) -> u64
         ensures { result ≡ length self.now.handles }
     {
         self.tables.next_handle()
     }
 
-    /// The exporters, in the order in which they were made. Nothing is said of their room.
+    /// The exporters, in the order in which they were made. Nothing is said of their room. Takes no memory.
+    /// Example: `world.exporters()[0].bytes()` is `b"abc"` after `new bytearray x616263`.
     pub fn exporters(&self) -> &[ExporterState]
         ensures value { exporters_of result.now ≡ self.now.exporters }
         ensures sound { IsSoundWorld self.now }
@@ -58,6 +62,7 @@ impl World {
 
     /// Carries out a command. A refusal is a reply, changes nothing and uses up no handle. Where
     /// memory runs out, nothing is changed.
+    /// Example: `Command::New` of a bytearray in an empty world replies `Reply::Handle(0)`.
     pub fn step(&mut self, command: &Command) -> Made<Reply>
         ensures ok { IfOk result (λ r. wstep self.old command.now ≡ (self.new, r)) }
         ensures err { OnErr result (self.new ≡ self.old) }
@@ -71,6 +76,7 @@ impl World {
     /// In every case the world is sound after each command: each byte of each item of an unreleased
     /// view lies inside its exporter, and that exporter is as long as when the view was made; no two items of a
     /// view share a byte; and each handle names an exporter, a view or an iterator that is there.
+    /// Example: `new bytearray x0102`, `view h0`, `get h1 -1` and `append h0 3` reply `h0`, `h1`, `2` and `! BufferError`.
     pub fn run(&mut self, commands: &[Command], replies: &mut ReplyList) -> Result<(), NoMemory>
         ensures world { OnOk result (self.new ≡ world_after_all self.old commands.now) }
         ensures replies { OnOk result (replies.new ≡ replies.old ++ replies_of self.old commands.now) }
@@ -81,9 +87,11 @@ impl World {
         self.tables.run(commands, replies)
     }
 
-    /// Releases the view that a handle names; releasing it again changes nothing. Takes no memory.
+    /// Releases the view that a handle names. Releasing it again changes nothing. Takes no memory.
     ///
-    /// Refused with `UnknownName` exactly where the handle was never given, or names no view.
+    /// Refused with `UnknownName` exactly where the handle was never given, or names no view. Nothing is changed
+    /// then.
+    /// Example: `world.release(1)` is `Ok(())` where `h1` names a view, and `Err(Fault::UnknownName)` where it was never given.
     pub fn release(&mut self, handle: u64) -> Result<(), Fault>
         ensures exact { MatchResult result (λ _. released_by self.old handle ≡ Ok self.new) (λ f. released_by self.old handle ≡ Err f) }
         ensures named { IsOk result ↔ (names_view self.old handle ≡ true) }
