@@ -26,7 +26,7 @@ pub fn next_line<'a>(rest: &'a [u8]) -> Option<(&'a [u8], &'a [u8])>
 /// Fills a list with the words of a line, which have one blank between them. What the list held before
 /// goes.
 ///
-/// It fails only where memory runs out.
+/// It fails only where memory runs out, and then the list may hold a part of the words.
 ///
 /// Example: of `b"get h0 1"` the list is then `b"get"`, `b"h0"`, `b"1"`.
 pub fn fill_words<'a>(found: &mut Vec<&'a [u8]>, line: &'a [u8]) -> Result<(), AllocError>

@@ -160,8 +160,8 @@ impl FrontBytes {
         Ok(())
     }
 
-    /// Puts other bytes in place of those of a range, as many as there are. Those behind the range move
-    /// once, where the number of bytes changes. Where memory runs out, bytes, room and counter are as before.
+    /// Puts other bytes, of any number, in place of those of a range. Those behind the range move once,
+    /// where the number of bytes changes. Where memory runs out, bytes, room and counter are as before.
     ///
     /// Example: with the range `1..2` and `b"xyz"` the bytes `b"abc"` become `b"axyzc"`.
     pub fn splice<L: Ledger>(

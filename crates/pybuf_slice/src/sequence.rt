@@ -106,8 +106,10 @@ pub trait SliceableSequenceOp: Sized {
         requires { length (elements self.now) < 2 ^ 63 }
         ensures { IfOk result (λ list. AllZip Self.Item.same (elements_at (elements self.now) (picks_of (length (elements self.now)) slice)) list.items) };
 
-    /// The element that a number names. Refused with `IndexError` exactly where there is none,
-    /// and memory is taken only where there is one.
+    /// A copy of the element that a number names; a negative number counts from the end.
+    ///
+    /// Refused with `IndexError` exactly where there is no such element, and memory is taken only where
+    /// there is one.
     ///
     /// Example: of 1, 2, 3 and -1 it gives 3, and 3 is refused with `IndexError`.
     fn getitem_by_index(&self, alloc: Global, index: isize) -> Tried<Self::Item>

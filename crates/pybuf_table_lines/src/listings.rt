@@ -167,6 +167,8 @@ impl Listing {
     /// Adds the line of the first record, where it is listed, and gives the bytes behind it: the text of a table is that
     /// line and then the text of these. No other record is read. There have to be records and nothing else.
     ///
+    /// Where memory runs out, a part of the line may have been added.
+    ///
     /// Example: of `<BH` and `b"\x01\x02\0\x05\x06\x01"` it adds the line `(1, 2)` and gives `b"\x05\x06\x01"`.
     pub fn push_first<'a>(
         &self,
