@@ -28,8 +28,9 @@ pub fn commands_are_of_lines()
     ensures first { BadLineIsFirst }
 {}
 
-/// The text of a reply is one line, where what it shows as it is, if it does, is one: with handles as
-/// they are written and with every other names that are one line each.
+/// The text of a reply is one line, provided that a text which it shows as it is (`Reply::Shown`) is
+/// one line. That holds where handles are written as `h0`, and for all other names of handles that are
+/// one line each.
 ///
 /// Example: the reply `b"a\n"` is written as `b'a\n'`, with a backslash and an `n` in place of the line feed.
 pub fn replies_are_single_lines()

@@ -16,8 +16,8 @@ use pybuf_value::{
 };
 use std::alloc::Global;
 
-/// What handles name, and their bytes from where they lie: pairs of a handle and a snap, of which none need
-/// be made.
+/// What handles name, with their bytes read from where they lie. It stands for pairs of a handle and a
+/// snap, of which none need be made.
 ///
 /// Example: with the pair of 7 and a snap of the bytearray `b"ab"` the handle 7 names the bytes `b"ab"`.
 pub trait Contents {

@@ -39,7 +39,7 @@ pub fn adjust_indices(start: Option<i128>, end: Option<i128>, len: usize) -> Ran
     first..last
 }
 
-/// A range of bytes.
+/// A range of bytes, from a start up to an end.
 ///
 /// Example: `3..5` is a range with its start at most its end, and `9..5` is none.
 pub trait StringRange {

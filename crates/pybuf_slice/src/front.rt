@@ -131,8 +131,8 @@ impl FrontBytes {
         self.room += n;
     }
 
-    /// Adds bytes at the end. Where there was as much room as bytes, they are first moved to the start, so
-    /// that afterwards there is no room, or less than there are bytes.
+    /// Adds bytes at the end. Where there was as much room as bytes, they are first moved to the start,
+    /// so that afterwards there is no room, or less room than bytes.
     ///
     /// Where memory runs out, bytes, room and counter are as before.
     ///

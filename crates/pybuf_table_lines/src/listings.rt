@@ -62,9 +62,12 @@ fn may_be_asked(alloc: Global, records: &Records, query: Query) -> Made<bool>
     }
 }
 
-/// What words ask to be listed: a format alone each record of it, and with the number of a field, an operator and a whole
-/// number behind it those whose field compares so. None exactly where the first word spells no format or one of size 0,
-/// there is no such field, another word is misspelled, an order is asked of bytes, or there are more words or fewer.
+/// What words ask to be listed. A format alone asks for each of its records. With the number of a
+/// field, an operator and a whole number behind the format, the words ask for the records whose field
+/// compares so.
+///
+/// None exactly where the first word spells no format or one of size 0, there is no such field, another
+/// word is misspelled, an order is asked of bytes, or there are more words or fewer.
 ///
 /// Example: of `<BH`, `1`, `>` and `100` it gives a listing, and of `<BH`, `9`, `>` and `100` it gives `None`.
 pub fn listing_of_words(alloc: Global, words: &[Text]) -> Made<Option<Listing>>
