@@ -18,7 +18,7 @@ import sys
 ROOT = pathlib.Path(__file__).resolve().parent.parent
 FOLDER = ROOT / "docs/reference/api"
 COMMON = 8
-ITEM = re.compile(r"( *)(pub )?((?:const |unsafe )*fn|struct|enum|trait|type|const) (\w+)")
+ITEM = re.compile(r'( *)(pub )?((?:const |unsafe |extern "C" )*fn|struct|enum|trait|type|const) (\w+)')
 WORD = re.compile(r"[^\W\d]\w*")
 # A name of a definition in a clause: no field, and no module before a name.
 CITED = re.compile(r"(?<![.\w])[^\W\d]\w*(?![.\w])")
