@@ -75,15 +75,16 @@ pub fn releasing_keeps()
     ensures { ReleasingKeeps }
 {}
 
-/// Every iterator stays as it is where another is made.
-/// Example: after a second `iter` the first iterator stands where it stood.
+/// Every iterator keeps its number and what it goes over, and an exhausted one stays as it is, where another iterator
+/// is made.
+/// Example: after a second `iter` the first iterator is still the one of number 0, over the same subject.
 pub fn new_iterators_stay()
     ensures { NewIteratorsStay }
 {}
 
-/// Where one iterator moves that isn't exhausted, every other stays as it is, and the one that moves goes over the
-/// same subject.
-/// Example: `next` of the iterator 0 leaves the iterator 1 where it stands.
+/// Every iterator keeps its number and what it goes over, and an exhausted one stays as it is, where one of them
+/// moves that isn't exhausted.
+/// Example: after `next` of the iterator 0 the iterator 1 goes over the same subject as before.
 pub fn moved_iterators_stay()
     ensures { MovedIteratorsStay }
 {}

@@ -98,7 +98,7 @@ pub trait FitLoans {
     /// and where an exporter has the format `B`, the item size 1 and the number of its bytes as the one entry of its
     /// shape.
     ///
-    /// Memory is taken to read the formats, and for nothing else. Where it runs out, nothing is changed.
+    /// Memory is taken to read the formats, and for nothing else.
     /// Example: of `LoanList::new(alloc)` it is true.
     fn fit(&self, alloc: Global) -> Made<bool>
         ensures { IfOk result (λ fit. fit ≡ spec.all_fit (loans self.now)) };
