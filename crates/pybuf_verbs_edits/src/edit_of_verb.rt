@@ -18,8 +18,8 @@ use std::sync::ledger::Ledger;
 
 /// The edit of a verb on the exporter itself, such as `append`, `set` by a slice or `clear`.
 ///
-/// Refused with `UnknownName` where the verb is no edit, and where the kind of the exporter hasn't it. Then it is
-/// refused as the method of `PyByteArray` of the same name is. Nothing is changed then, nor where memory runs out.
+/// Refused with `UnknownName` where the verb is no edit, and where the kind of the exporter hasn't it. Else it is
+/// refused as the method of `PyByteArray` for the verb is. Nothing is changed then, nor where memory runs out.
 /// Example: `Verb::Reverse` of `bytearray(b"abc")` makes `bytearray(b"cba")`.
 pub fn edit_of_own<N: Names, L: Ledger>(
     parts: &mut Parts,
