@@ -12,11 +12,17 @@ use std::alloc::Global;
 #[repr(C)]
 #[derive(Clone, Copy)]
 pub struct SliceWords {
+    /// The start, where there is one.
     pub start: i64,
+    /// The stop, where there is one.
     pub stop: i64,
+    /// The step, where there is one.
     pub step: i64,
+    /// Whether there is a start; else it is `None`.
     pub has_start: bool,
+    /// Whether there is a stop; else it is `None`.
     pub has_stop: bool,
+    /// Whether there is a step; else it is `None`.
     pub has_step: bool,
 }
 

@@ -8,7 +8,9 @@ use std::marker::Model;
 /// A value on the heap, by its address and the allocator that frees it. It owns what a box owns.
 /// Example: `Block::of(Box::new(alloc, 5)?)` stands for the box of 5, held by its address.
 pub struct Block<T, A: Allocator> {
+    /// The address of the value.
     pub at: *mut T,
+    /// The allocator that frees it.
     pub alloc: A,
     pub ghost value: { T },
 }

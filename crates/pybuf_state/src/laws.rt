@@ -45,7 +45,7 @@ pub fn new_views_keep()
 {}
 
 /// An exporter that gets one more view is sound, also where the items of that view share bytes.
-/// Example: a view of three items that all start at 0 leaves a sound exporter sound.
+/// Example: a view of items of two bytes with the stride 1 leaves a sound exporter sound.
 pub fn new_views_are_sound()
     ensures { NewViewsAreSound }
 {}

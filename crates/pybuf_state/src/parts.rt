@@ -15,11 +15,17 @@ use std::sync::ledger::Ledger;
 /// Example: the kind `bytes`, the bytes `b"abc"`, and no views and no iterators are the parts of new `bytes`.
 #[derive(Debug, Drop)]
 pub struct Parts {
+    /// What kind of exporter it is.
     pub kind: ExporterKind,
+    /// The bytes.
     pub bytes: Store,
+    /// Each view that was made, released ones too, by its number.
     pub views: Vec<StoredView>,
+    /// Each iterator that was made, exhausted ones too, by its number.
     pub iterators: Vec<StoredIterator>,
+    /// The number of unreleased views.
     pub exports: usize,
+    /// The allocator of what is added.
     pub alloc: Global,
 }
 
@@ -79,8 +85,8 @@ impl Parts {
         Ok(&view.layout)
     }
 
-    /// One more view, which is unreleased and made now. The answer is its number. Where memory runs out, nothing is
-    /// changed.
+    /// One more view, which is unreleased and made now. The answer is its number. It is never refused. Where memory
+    /// runs out, nothing is changed.
     /// Example: the first view of an exporter has the number 0.
     #[inline(always)]
     pub fn push_view(&mut self, layout: KeptLayout) -> Result<usize, Halt>
@@ -95,7 +101,8 @@ impl Parts {
         Ok(number)
     }
 
-    /// One more view, as by `push_view`, with its number as a reply.
+    /// One more view, as by `push_view`, with its number as a reply. It is never refused. Where memory runs out,
+    /// nothing is changed.
     /// Example: the first view of an exporter is replied as `LocalReply::View(0)`.
     pub fn add_view(&mut self, layout: KeptLayout) -> Result<LocalReply, Halt>
         requires { IsWhole self.old }
@@ -121,8 +128,8 @@ impl Parts {
         Err(Fault::UnknownName)
     }
 
-    /// One more iterator over a subject, at its first item. The reply is its number. Where memory runs out, nothing
-    /// is changed.
+    /// One more iterator over a subject, at its first item. The reply is its number. It is never refused. Where
+    /// memory runs out, nothing is changed.
     /// Example: the first iterator of an exporter is replied as `LocalReply::Iter(0)`.
     pub fn add_iterator(&mut self, subject: Subject) -> Result<LocalReply, Halt>
         requires { IsWhole self.old }

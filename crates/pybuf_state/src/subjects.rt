@@ -65,7 +65,8 @@ pub fn run_of_subject(parts: &Parts, subject: Subject) -> Result<&[u8], Fault>
     }
 }
 
-/// The bytes of items that lie inside, row by row. They are copied only where they lie apart.
+/// The bytes of items that lie inside, row by row. They are copied only where they lie apart. It is never refused,
+/// and fails only where memory runs out.
 /// Example: of the layout `::-2` over `b"abcdef"` it has `b"fdb"`, which is a copy.
 pub fn content_lent<'a>(
     alloc: Global,

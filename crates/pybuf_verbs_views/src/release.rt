@@ -27,7 +27,8 @@ pub fn release(parts: &mut Parts, view: usize) -> Result<(), Fault>
     }
 }
 
-/// Releases a view that was given, and replies that it is done. It is refused as `release` is.
+/// Releases a view that was given, and replies that it is done. It is refused as `release` is. Nothing is changed
+/// then.
 /// Example: of a view of number 0 it replies `Ok`, also the second time.
 pub fn of_view(parts: &mut Parts, view: usize) -> Result<LocalReply, Halt>
     requires { IsWhole parts.old }

@@ -12,7 +12,7 @@ use pybuf_state::Parts;
 use pybuf_value::{Fault, Halt, PySlice};
 
 /// A view of the items that a slice picks, along the first dimension. The answer is its number. It is refused as
-/// `of_view` is.
+/// `of_view` is. Nothing is changed then, nor where memory runs out.
 /// Example: of a view of `b"abcdef"` the slice `1:4` gives the number of a view of `b"bcd"`.
 pub fn add(parts: &mut Parts, view: usize, slice: &PySlice) -> Result<usize, Halt>
     requires { IsWhole parts.old }
