@@ -1,8 +1,8 @@
 #!/usr/bin/env python3
 """Lists the public items of the library that have no doc comment, or none with a line of example. `./test items` calls this.
 
-    python3 tools/check_items.py            the library crates, but those that are still to be looked at
-    python3 tools/check_items.py CRATE..    these crates, whether they are still to be looked at or not
+    python3 tools/check_items.py            all library crates
+    python3 tools/check_items.py CRATE..    these crates
 
 An item is what a user can reach, as `tools/write_reference.py` finds it: each function, type, trait, constant and law that a crate
 exports, each method of such a type or trait, and each variant of such an enum. What a crate hands on of another crate is that crate's.
@@ -16,23 +16,6 @@ import sys
 sys.dont_write_bytecode = True
 
 from write_reference import ROOT, crates, public
-
-# Crates that are still to be looked at.
-LATER = [
-    "pybuf_c",
-    "pybuf_console",
-    "pybuf_crossing",
-    "pybuf_packer",
-    "pybuf_slot",
-    "pybuf_state",
-    "pybuf_verbs_compare",
-    "pybuf_verbs_edits",
-    "pybuf_verbs_iters",
-    "pybuf_verbs_methods",
-    "pybuf_verbs_reads",
-    "pybuf_verbs_views",
-    "pybuf_verbs_writes",
-]
 
 
 def commented(crate):
@@ -58,7 +41,7 @@ def main(words):
         if word not in every:
             print(f"check_items: there is no library crate {word!r}", file=sys.stderr)
             return 2
-    chosen = words or [it for it in every if it not in LATER]
+    chosen = words or every
     items = [it for crate in chosen for it in commented(crate)]
     lacking = [(file, name, docs) for file, name, docs in items if not any(line.startswith("Example") for line in docs)]
     for file, name, docs in lacking:
