@@ -12,7 +12,8 @@ use pybuf_value::{Made, Tried, Twin};
 use std::alloc::Global;
 use std::ops::Range;
 
-/// A sequence whose elements are read by numbers and slices. An element that is read is a copy. Only want of memory makes a call fail.
+/// A sequence whose elements are read by numbers and slices. An element that is read is a copy. Only
+/// want of memory makes a call fail, and `getitem_by_index` alone refuses.
 ///
 /// Example: the vector 1, 2, 3 by the number -1 gives 3, and by the slice `::-1` it gives 3, 2, 1.
 pub trait SliceableSequenceOp: Sized {
