@@ -88,8 +88,9 @@ impl PyBytesInner {
     }
 
     /// The table of 256 bytes that maps each byte of `from` to the one at the same place of `to`, and
-    /// every other byte to itself; of repeated bytes the first counts (library reference, "Bytes and
-    /// Bytearray Operations", `bytes.maketrans`).
+    /// every other byte to itself (library reference, "Bytes and Bytearray Operations",
+    /// `bytes.maketrans`). Of a byte that stands in `from` more than once the first place counts, where
+    /// Python takes the last.
     ///
     /// Refused with `ValueError` exactly where the lengths differ.
     ///
