@@ -16,6 +16,8 @@ use std::ops::Range;
 use std::str;
 
 /// A string whose elements are bytes. A clause sees the list of its bytes.
+///
+/// Example: the `Bytes` of `b"ab"` has the elements 97 and 98.
 #[derive(Debug, Drop)]
 pub struct Bytes {
     bytes: Vec<u8>,
@@ -29,6 +31,8 @@ impl Model for Bytes {
 
 impl Bytes {
     /// The string of these bytes. Takes no memory.
+    ///
+    /// Example: of the vector of 97 and 98 it is the string `b"ab"`.
     pub fn from(bytes: Vec<u8>) -> Bytes
         ensures { result ≡ bytes.items }
     {

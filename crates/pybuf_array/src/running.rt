@@ -115,7 +115,7 @@ impl PyArray {
         Ok(())
     }
 
-    /// Carries out the operations in order, and adds a reply for each. A refusal is a reply too.
+    /// Carries out the operations in order, and adds a reply for each. A refusal is a reply too, and changes nothing.
     ///
     /// Where memory runs out, array and replies are those of the operations that were answered before. However the
     /// operations are cut in two, the number of numbers doesn't change in the second part where a view that was made

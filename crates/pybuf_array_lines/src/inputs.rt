@@ -5,7 +5,12 @@ use crate::operations::operation_of_line;
 use pybuf_line::{Misread, Unread, next_line};
 use std::alloc::Global;
 
-/// That each line of an input is an operation, or the first line that is none.
+/// Checks that each line of an input is an operation.
+///
+/// It answers `BadLine` with the number of the first line that is none, counted from 1, and `NoMemory`
+/// where memory ran out before.
+///
+/// Example: of `b"append 3\nlen\n"` it is `Ok(())`, and of `b"len\nappend\n"` it is `Err(Misread::BadLine(2))`.
 pub fn check_operations(alloc: Global, input: &[u8]) -> Result<(), Misread>
     ensures { ChecksAll result (operations_in input.now) }
 {

@@ -124,8 +124,12 @@ fn operation_of(alloc: Global, word: Word, arguments: &[&[u8]]) -> Result<ArrayO
     }
 }
 
-/// The one operation that a line spells. The list of words is filled for the line, so that the lines of an input share its
-/// memory.
+/// The one operation that a line spells. The list of words is filled for the line, so that the lines of
+/// an input share its memory.
+///
+/// It answers `NoCommand` where the line spells none, and `NoMemory` where memory runs out.
+///
+/// Example: of `b"append 3"` it gives `ArrayOp::Append` of 3.
 #[tactic(auto, unfolding(crate::specs::Operations::operation_in))]
 pub fn operation_of_line<'a>(
     alloc: Global,

@@ -14,7 +14,11 @@ fn push_view(out: &mut Vec<u8>, view: usize) -> Made<()>
     push_decimal(out, view as u64)
 }
 
-/// Adds a reply.
+/// Adds the text of a reply.
+///
+/// Where memory runs out, a part of it may have been added.
+///
+/// Example: of `ArrayReply::View(0)` it adds `v0`, and of `ArrayReply::Refused(Fault::Buffer)` it adds `! BufferError`.
 pub fn push_array_reply(out: &mut Vec<u8>, reply: &ArrayReply) -> Made<()>
     ensures { OnOk result (out.new.items ≡ out.old.items ++ array_reply_text reply.now) }
 {
@@ -33,6 +37,10 @@ pub fn push_array_reply(out: &mut Vec<u8>, reply: &ArrayReply) -> Made<()>
 }
 
 /// Adds a reply and its line feed.
+///
+/// Where memory runs out, a part of it may have been added.
+///
+/// Example: of `ArrayReply::Ok` it adds `ok` and a line feed.
 pub fn push_array_reply_line(out: &mut Vec<u8>, reply: &ArrayReply) -> Made<()>
     ensures { OnOk result (out.new.items ≡ out.old.items ++ array_reply_line reply.now) }
 {

@@ -110,6 +110,8 @@ fn least_index(start: usize, end: usize, step: isize, count: usize) -> usize
 /// Moves the bytes between the indices of a slice to the place of the least of them, in order, each at most
 /// once. The answer is the range that is left: without its bytes, the rest are those that the slice doesn't
 /// pick. Takes no memory.
+///
+/// Example: by the slice `0:3:2` of `b"abcd"` the bytes off the range that it answers are then `b"bd"`.
 pub fn close_up(bytes: &mut [u8], slice: SaturatedSlice) -> Range<usize>
     requires { length bytes.old < 2 ^ 63 }
     ensures list { replaced_range bytes.new result.start result.end [] ≡ elements_off bytes.old (picks_of (length bytes.old) slice) }

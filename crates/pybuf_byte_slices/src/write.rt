@@ -19,6 +19,8 @@ fn first_place(span: Range<usize>, falls: bool) -> usize
 }
 
 /// Writes as many bytes over those that a slice picks, each at its index. Takes no memory.
+///
+/// Example: with `::2` and `b"xy"` it makes `b"xbyd"` of `b"abcd"`.
 pub fn write_slice(bytes: &mut [u8], slice: SaturatedSlice, others: &[u8])
     requires in_memory { length bytes.old < 2 ^ 63 }
     requires as_many { length (picks_of (length bytes.old) slice) ≡ length others.now }

@@ -154,7 +154,7 @@ impl PyBytesInner {
     /// The bytes without those at both ends that are among `chars`, or are blanks where no `chars` are
     /// given.
     ///
-    /// Example: of `b" ab "` without `chars` it gives `b"ab"`, and of `b"xaby"` with the `chars` `b"yx"` too.
+    /// Example: of `b" ab "` without `chars` it gives `b"ab"`, and so it does of `b"xaby"` where they are `b"yx"`.
     pub fn strip(&self, alloc: Global, chars: Option<&PyBytesInner>) -> Made<Vec<u8>>
         ensures { IfOk result (λ made. made.items ≡ stripped (goes (option_copied chars.entry)) self.now) }
     {

@@ -160,16 +160,16 @@ fn bytes_answered<L: Lender>(
 pub trait NewOptions {
     ghost options: { Self → ByteInnerNewOptions };
 
-    /// The bytes that the options ask for, for Python's `bytes`: none without arguments; of a number
-    /// alone so many zeros; of any other source alone the bytes that it is read as; of a text with its
-    /// encoding, `utf-8`, `utf8` or `ascii`, the bytes of the text.
+    /// The bytes that the options ask for, for Python's `bytes`. Without arguments there are none. A
+    /// number alone asks for so many zeros, and any other source alone for the bytes that it is read
+    /// as. A text with its encoding, `utf-8`, `utf8` or `ascii`, asks for the bytes of the text.
     ///
-    /// Refused, in this order, with `TypeError` where an encoding or a handler of errors is no text,
-    /// or is given without a source; where the source is alone, with `OverflowError` for a number
-    /// that doesn't fit `isize`, with `ValueError` for a negative one, with `TypeError` for a text,
-    /// and else as `bytes_from_object` refuses it; with `TypeError` for a handler of errors without
-    /// an encoding, and for a source with an encoding that is no text; with `ValueError` for another
-    /// encoding, for another handler of errors than `strict`, and for a character past ASCII.
+    /// Refused, in this order, with `TypeError` where an encoding or a handler of errors is no text, or
+    /// is given without a source; where the source is alone, with `OverflowError` for a number that
+    /// doesn't fit `isize`, with `ValueError` for a negative one, with `TypeError` for a text, and else
+    /// as `bytes_from_object` refuses it; with `TypeError` for a handler of errors without an encoding,
+    /// and for a source with an encoding that is no text; with `ValueError` for another encoding, for
+    /// another handler of errors than `strict`, and for a character past ASCII.
     ///
     /// Example: of the text `é` with the encoding `utf-8` it gives `b"\xc3\xa9"`.
     fn get_bytes<L: Lender>(&self, alloc: Global, lender: &L) -> Tried<PyBytesInner>

@@ -15,14 +15,15 @@ use pybuf_shaping::{ByteInnerPaddingOptions, ByteInnerTranslateOptions, ExpandTa
 use pybuf_value::{Lender, Made, Text, Tried, as_vec};
 use std::alloc::Global;
 
-/// The bytes as pairs of lower-case hexadecimal digits, with a separator, where one is given, between
-/// each two groups of so many bytes: of one where no size is given, counted from the right for a positive
-/// size and from the left for a negative one, none for 0. No bytes give no text (Python's library
-/// reference, "Bytes Objects", `bytes.hex`).
+/// The bytes as pairs of lower-case hexadecimal digits (Python's library reference, "Bytes Objects",
+/// `bytes.hex`). A separator, where one is given, stands between each two groups of bytes. The size is
+/// the number of bytes of a group, and 1 where none is given. Groups are counted from the right for a
+/// positive size and from the left for a negative one, and for 0 there is no separator. No bytes give
+/// the empty text.
 ///
-/// Refused, where there are bytes, a separator and a size other than 0, with `ValueError` exactly for a
-/// separator that isn't one byte below 128, and then with `OverflowError` exactly where the text is more
-/// than `isize::MAX` bytes.
+/// Refused with `ValueError` exactly where there are bytes, the size isn't 0, and a separator is given
+/// that isn't one byte below 128; and then with `OverflowError` exactly where the text is more than
+/// `isize::MAX` bytes.
 ///
 /// Example: of `b"\x01\xab\xff"`, the separator `b":"` and the size 2 it gives the text `01:abff`.
 pub fn bytes_to_hex(
@@ -87,8 +88,9 @@ impl PyBytesInner {
     }
 
     /// The table of 256 bytes that maps each byte of `from` to the one at the same place of `to`, and
-    /// every other byte to itself; of repeated bytes the first counts (library reference, "Bytes and
-    /// Bytearray Operations", `bytes.maketrans`).
+    /// every other byte to itself (library reference, "Bytes and Bytearray Operations",
+    /// `bytes.maketrans`). Of a byte that stands in `from` more than once the first place counts, where
+    /// Python takes the last.
     ///
     /// Refused with `ValueError` exactly where the lengths differ.
     ///

@@ -17,7 +17,8 @@ use pybuf_crossing::signed;
 use pybuf_value::{NoMemory, Value};
 use std::alloc::Global;
 
-/// Adds a byte at the end of a bytearray.
+/// Adds a byte, by its size and its sign, at the end of a bytearray.
+/// Example: on `bytearray(b"abc")` 100 answers 0 and makes `bytearray(b"abcd")`, and 256 answers 17 (`ValueError`).
 #[unsafe(no_mangle)]
 pub extern "C" fn pybuf_proved_append(
     handle: &mut WorldHandle,
@@ -43,6 +44,7 @@ pub extern "C" fn pybuf_proved_append(
 }
 
 /// Adds bytes at the end of a bytearray.
+/// Example: on `bytearray(b"ab")` the bytes `b"cd"` answer 0, and make `bytearray(b"abcd")`.
 #[unsafe(no_mangle)]
 pub extern "C" fn pybuf_proved_extend(
     handle: &mut WorldHandle,
@@ -67,7 +69,8 @@ pub extern "C" fn pybuf_proved_extend(
     }
 }
 
-/// Adds the bytes of another object at the end of a bytearray.
+/// Adds the bytes of another object, by its handle, at the end of a bytearray.
+/// Example: on `bytearray(b"ab")` an object `b"cd"` answers 0, and makes `bytearray(b"abcd")`.
 #[unsafe(no_mangle)]
 pub extern "C" fn pybuf_proved_extend_by(
     handle: &mut WorldHandle,
@@ -91,7 +94,8 @@ pub extern "C" fn pybuf_proved_extend_by(
     )
 }
 
-/// Puts a byte before the item at an index.
+/// Puts a byte, by its size and its sign, before the place that is nearest to an index.
+/// Example: on `bytearray(b"abc")` the index -1 and the byte 90 answer 0, and make `bytearray(b"abZc")`.
 #[unsafe(no_mangle)]
 pub extern "C" fn pybuf_proved_insert(
     handle: &mut WorldHandle,
@@ -118,7 +122,8 @@ pub extern "C" fn pybuf_proved_insert(
     )
 }
 
-/// Takes out the byte at an index.
+/// Takes out the byte at an index, which is the last reply then.
+/// Example: on `bytearray(b"abc")` the index 0 answers 0, `pybuf_proved_last_number` tells 97; the index 3 answers 16.
 #[unsafe(no_mangle)]
 pub extern "C" fn pybuf_proved_pop(
     handle: &mut WorldHandle,
@@ -142,7 +147,8 @@ pub extern "C" fn pybuf_proved_pop(
     )
 }
 
-/// Takes out the last byte.
+/// Takes out the last byte, which is the last reply then.
+/// Example: on `bytearray(b"abc")` it answers 0, and `pybuf_proved_last_number` tells 99.
 #[unsafe(no_mangle)]
 pub extern "C" fn pybuf_proved_pop_last(
     handle: &mut WorldHandle,
@@ -163,7 +169,8 @@ pub extern "C" fn pybuf_proved_pop_last(
     )
 }
 
-/// Takes out the first byte of a value.
+/// Takes out the first byte of a value, by its size and its sign.
+/// Example: on `bytearray(b"abab")` 98 answers 0 and leaves `bytearray(b"aab")`, and 99 answers 17 (`ValueError`).
 #[unsafe(no_mangle)]
 pub extern "C" fn pybuf_proved_remove(
     handle: &mut WorldHandle,
@@ -189,6 +196,7 @@ pub extern "C" fn pybuf_proved_remove(
 }
 
 /// Takes out all bytes.
+/// Example: on `bytearray(b"abc")` it answers 0 and leaves none; with an unreleased view it answers 19 (`BufferError`).
 #[unsafe(no_mangle)]
 pub extern "C" fn pybuf_proved_clear(handle: &mut WorldHandle, alloc: Global, subject: u64) -> u32
     ensures memory { result ≡ 1 → held handle.new ≡ held handle.old }
@@ -206,6 +214,7 @@ pub extern "C" fn pybuf_proved_clear(handle: &mut WorldHandle, alloc: Global, su
 }
 
 /// Turns the order of the bytes round.
+/// Example: `bytearray(b"abc")` is `bytearray(b"cba")` then, and the answer is 0.
 #[unsafe(no_mangle)]
 pub extern "C" fn pybuf_proved_reverse(handle: &mut WorldHandle, alloc: Global, subject: u64) -> u32
     ensures memory { result ≡ 1 → held handle.new ≡ held handle.old }
@@ -222,7 +231,8 @@ pub extern "C" fn pybuf_proved_reverse(handle: &mut WorldHandle, alloc: Global, 
     )
 }
 
-/// Takes out the byte at an index, and reads nothing.
+/// Takes out the byte at an index, as `pybuf_proved_pop` does, but the last reply is no byte.
+/// Example: on `bytearray(b"abc")` the index -1 answers 0, and leaves `bytearray(b"ab")`.
 #[unsafe(no_mangle)]
 pub extern "C" fn pybuf_proved_delete(
     handle: &mut WorldHandle,
@@ -247,6 +257,7 @@ pub extern "C" fn pybuf_proved_delete(
 }
 
 /// Takes out the bytes of a slice.
+/// Example: on `bytearray(b"abcdef")` the slice `::2` answers 0, and leaves `bytearray(b"bdf")`.
 #[unsafe(no_mangle)]
 pub extern "C" fn pybuf_proved_delete_slice(
     handle: &mut WorldHandle,
@@ -270,7 +281,8 @@ pub extern "C" fn pybuf_proved_delete_slice(
     )
 }
 
-/// Repeats the bytes.
+/// Puts the bytes repeated so many times in their place, and no byte for a negative number.
+/// Example: on `bytearray(b"ab")` the count 2 answers 0, and makes `bytearray(b"abab")`.
 #[unsafe(no_mangle)]
 pub extern "C" fn pybuf_proved_repeat(
     handle: &mut WorldHandle,
@@ -294,7 +306,8 @@ pub extern "C" fn pybuf_proved_repeat(
     )
 }
 
-/// Makes a bytearray of the same bytes.
+/// Makes a bytearray of the same bytes, whose handle is the last reply then.
+/// Example: on `bytearray(b"abc")` it answers 0, and the new object is `bytearray(b"abc")`, with no view.
 #[unsafe(no_mangle)]
 pub extern "C" fn pybuf_proved_copy(handle: &mut WorldHandle, alloc: Global, subject: u64) -> u32
     ensures memory { result ≡ 1 → held handle.new ≡ held handle.old }
@@ -311,7 +324,8 @@ pub extern "C" fn pybuf_proved_copy(handle: &mut WorldHandle, alloc: Global, sub
     )
 }
 
-/// Takes the bytes out of a vector.
+/// Takes the bytes out of a vector, which is empty then. They are the last reply.
+/// Example: on a vector of `b"abc"` it answers 0, and `pybuf_proved_last_bytes` copies `b"abc"`.
 #[unsafe(no_mangle)]
 pub extern "C" fn pybuf_proved_take(handle: &mut WorldHandle, alloc: Global, subject: u64) -> u32
     ensures memory { result ≡ 1 → held handle.new ≡ held handle.old }

@@ -19,7 +19,9 @@ use pybuf_packer::{FormatHandle, Packed, Packer};
 use pybuf_value::{Halt, NoMemory};
 use std::alloc::Global;
 
-/// Makes the format that a text spells in the handle. One that it held is freed.
+/// Makes the format that a text spells in the handle. One that it held is freed. On any other answer than 0 the
+/// handle is as before.
+/// Example: the text `<4sH` answers 0, and `<n` answers 20 (`StructError`).
 #[unsafe(no_mangle)]
 pub extern "C" fn pybuf_proved_format_parse(
     handle: &mut FormatHandle,
@@ -44,6 +46,7 @@ pub extern "C" fn pybuf_proved_format_parse(
 }
 
 /// Frees the format of the handle, which holds none then.
+/// Example: after it `pybuf_proved_format_layout` of the handle answers 9.
 #[unsafe(no_mangle)]
 pub extern "C" fn pybuf_proved_format_free(handle: &mut FormatHandle, alloc: Global)
     ensures { held handle.new ≡ None }
@@ -51,7 +54,8 @@ pub extern "C" fn pybuf_proved_format_free(handle: &mut FormatHandle, alloc: Glo
     *handle = FormatHandle::empty(alloc);
 }
 
-/// Tells the number of bytes of the format, and of the values that it reads or writes.
+/// Tells the number of bytes of the format, and how many values it reads or writes.
+/// Example: of `<4sH` it answers 0, and tells the size 6 and the count 2.
 #[unsafe(no_mangle)]
 pub extern "C" fn pybuf_proved_format_layout(
     handle: &mut FormatHandle,
@@ -75,6 +79,7 @@ pub extern "C" fn pybuf_proved_format_layout(
 }
 
 /// Lets go of the values that were put for the format, or that it unpacked.
+/// Example: it answers 0, and the format stays.
 #[unsafe(no_mangle)]
 pub extern "C" fn pybuf_proved_format_clear(handle: &mut FormatHandle, alloc: Global) -> u32
     ensures none { result ≡ 9 → NoneHold (held handle.old) (held handle.new) }
@@ -89,6 +94,7 @@ pub extern "C" fn pybuf_proved_format_clear(handle: &mut FormatHandle, alloc: Gl
 }
 
 /// Puts a number behind the values of the format, by its size and its sign.
+/// Example: the size 2 and the sign true put -2 behind the values, and answer 0.
 #[unsafe(no_mangle)]
 pub extern "C" fn pybuf_proved_format_put_number(
     handle: &mut FormatHandle,
@@ -112,6 +118,7 @@ pub extern "C" fn pybuf_proved_format_put_number(
 }
 
 /// Puts a copy of bytes behind the values of the format.
+/// Example: the bytes `b"ada"` are a value for the code `4s`, and the answer is 0.
 #[unsafe(no_mangle)]
 pub extern "C" fn pybuf_proved_format_put_bytes(
     handle: &mut FormatHandle,
@@ -133,7 +140,9 @@ pub extern "C" fn pybuf_proved_format_put_bytes(
     }
 }
 
-/// Writes the bytes of the values to the front of the room, and tells how many they are, also where it is too small. Takes no memory.
+/// Writes the bytes of the values to the front of the room, and tells how many they are, also where it is too small,
+/// which answers 3. On any other answer than 0 the room is as before. Takes no memory.
+/// Example: of `<hI` with the values -2 and 258 it answers 0, and writes `b"\xfe\xff\x02\x01\x00\x00"`.
 #[unsafe(no_mangle)]
 pub extern "C" fn pybuf_proved_format_pack(
     handle: &mut FormatHandle,
@@ -162,7 +171,9 @@ pub extern "C" fn pybuf_proved_format_pack(
     }
 }
 
-/// Reads the values of the bytes by the format, which keeps them in place of those before.
+/// Reads the values of the bytes by the format, which keeps them in place of those before. Bytes of another number
+/// than the format's size answer 20 (`StructError`), and nothing is changed then.
+/// Example: of `<4sH` the bytes `b"ada\0\x05\0"` answer 0, and the values are `b"ada\0"` and 5.
 #[unsafe(no_mangle)]
 pub extern "C" fn pybuf_proved_format_unpack(
     handle: &mut FormatHandle,
@@ -186,8 +197,9 @@ pub extern "C" fn pybuf_proved_format_unpack(
     }
 }
 
-/// Tells which kind the value at a place is of, and its number as a size and a sign: 0 or 1 of a truth value, and of bytes how
-/// many they are.
+/// Tells which kind the value at a place is of, and its number as a size and a sign. That is 0 or 1 of a truth value,
+/// and of bytes how many they are. It answers 5 where there is no such value, or none that a size of 64 bits tells.
+/// Example: after `b"ada\0\x05\0"` was unpacked by `<4sH`, the place 1 has the kind 0 and the number 5.
 #[unsafe(no_mangle)]
 pub extern "C" fn pybuf_proved_format_value(
     handle: &mut FormatHandle,
@@ -220,7 +232,9 @@ pub extern "C" fn pybuf_proved_format_value(
     }
 }
 
-/// Copies the bytes of the value at a place to the room, and tells how many they are.
+/// Copies the bytes of the value at a place to the room, and tells how many they are. It answers 3 where the room is
+/// too small, and 5 where there is no such value or it isn't bytes. The room is as before then.
+/// Example: after `b"ada\0\x05\0"` was unpacked by `<4sH`, the place 0 copies `b"ada\0"`, and tells 4.
 #[unsafe(no_mangle)]
 pub extern "C" fn pybuf_proved_format_value_bytes(
     handle: &mut FormatHandle,

@@ -1,4 +1,10 @@
 //! The calls of a program in C on worlds and on formats, each over a call that is proved.
+//!
+//! A call answers a status, by the numbers of `include/pybuf.h`. It is 0 where the call is done; 1 where memory ran out; 2 where
+//! the handle holds no world, and 9 where it holds no format; and from 16 on where it is refused: 16 `IndexError`, 17
+//! `ValueError`, 18 `TypeError`, 19 `BufferError`, 20 `StructError`, 21 `OverflowError`, 22 `NotImplementedError`, and 23 for a
+//! handle that was never given, or an object of a kind that has no such call. A refusal changes nothing but the last reply of the
+//! world, which is that refusal. Where memory runs out, or the handle holds nothing, nothing is changed, unless the call says so.
 #![tactic(auto)]
 
 mod asking;

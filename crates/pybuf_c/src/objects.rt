@@ -29,7 +29,9 @@ use pybuf_value::{Item, NoMemory, Scalar, Value};
 use std::alloc::Global;
 use std::mem;
 
-/// Makes an exporter of a kind, of these bytes.
+/// Makes an exporter of a kind, by its number from 0 to 3, of a copy of these bytes. Its handle is the last reply
+/// then. Another kind answers 6.
+/// Example: the kind 1 and the bytes `b"abc"` in an empty world make the object 0, which is `bytearray(b"abc")`.
 #[unsafe(no_mangle)]
 pub extern "C" fn pybuf_proved_new(
     handle: &mut WorldHandle,
@@ -52,7 +54,8 @@ pub extern "C" fn pybuf_proved_new(
     }
 }
 
-/// Makes a view of an object.
+/// Makes a view of an object, as Python's `memoryview(object)`. Its handle is the last reply then.
+/// Example: of the object 0 in a world of one object it makes the object 1.
 #[unsafe(no_mangle)]
 pub extern "C" fn pybuf_proved_view(handle: &mut WorldHandle, alloc: Global, subject: u64) -> u32
     ensures memory { result ≡ 1 → held handle.new ≡ held handle.old }
@@ -69,7 +72,8 @@ pub extern "C" fn pybuf_proved_view(handle: &mut WorldHandle, alloc: Global, sub
     )
 }
 
-/// Makes a view of the same items that may only be read.
+/// Makes a view of the same items that may only be read. Its handle is the last reply then.
+/// Example: of a view of a bytearray it answers 0, and `pybuf_proved_set` of the new view answers 18 (`TypeError`).
 #[unsafe(no_mangle)]
 pub extern "C" fn pybuf_proved_to_readonly(
     handle: &mut WorldHandle,
@@ -90,7 +94,8 @@ pub extern "C" fn pybuf_proved_to_readonly(
     )
 }
 
-/// Makes a vector of the bytes of a view, and a view of it.
+/// Makes a vector of the bytes of a view, and a view of it. Their handles are the last reply then.
+/// Example: of the slice `::-2` of a view of `b"abcdef"` it makes a vector of `b"fdb"`.
 #[unsafe(no_mangle)]
 pub extern "C" fn pybuf_proved_to_contiguous(
     handle: &mut WorldHandle,
@@ -111,7 +116,9 @@ pub extern "C" fn pybuf_proved_to_contiguous(
     )
 }
 
-/// Makes a view of the bytes of a view as items of a format.
+/// Makes a view of the bytes of a view as items of a format, whose handle is the last reply then. A format that is no
+/// UTF-8 answers 6.
+/// Example: of a view of `b"\x01\x00\x02\x00"` the format `H` makes a view of the items 1 and 2.
 #[unsafe(no_mangle)]
 pub extern "C" fn pybuf_proved_cast(
     handle: &mut WorldHandle,
@@ -142,7 +149,9 @@ pub extern "C" fn pybuf_proved_cast(
     }
 }
 
-/// Makes a view of the bytes of a view as items of a format, in a shape.
+/// Makes a view of the bytes of a view as items of a format, in a shape, whose handle is the last reply then. A
+/// format that is no UTF-8 answers 6.
+/// Example: of a view of six bytes the format `B` and the shape `[2, 3]` make a view of two rows of three items.
 #[unsafe(no_mangle)]
 pub extern "C" fn pybuf_proved_cast_to_shape(
     handle: &mut WorldHandle,
@@ -177,7 +186,8 @@ pub extern "C" fn pybuf_proved_cast_to_shape(
     }
 }
 
-/// Reads the item at an index.
+/// Reads the item at an index, which is the last reply then.
+/// Example: of `bytearray(b"abc")` the index -1 answers 0, and `pybuf_proved_last_number` tells 99.
 #[unsafe(no_mangle)]
 pub extern "C" fn pybuf_proved_get(
     handle: &mut WorldHandle,
@@ -237,7 +247,9 @@ fn tell_reply(reply: &Reply, magnitude: &mut u64, negative: &mut bool) -> u32
     }
 }
 
-/// Reads the item at an index, and tells it as a size and a sign where it is a number.
+/// Reads the item at an index, and tells it as a size and a sign where it is a number. It answers 5 where the item is
+/// none, or none that a size of 64 bits tells.
+/// Example: of `bytearray(b"abc")` the index -1 answers 0, and tells the size 99 and the sign false.
 #[unsafe(no_mangle)]
 pub extern "C" fn pybuf_proved_get_number(
     handle: &mut WorldHandle,
@@ -273,7 +285,8 @@ pub extern "C" fn pybuf_proved_get_number(
     }
 }
 
-/// Reads the item at an index for each dimension.
+/// Reads the item at an index for each dimension, which is the last reply then.
+/// Example: of a view of `b"abcdef"` cast in the shape `[2, 3]` the indices `[1, 2]` read 102.
 #[unsafe(no_mangle)]
 pub extern "C" fn pybuf_proved_get_at(
     handle: &mut WorldHandle,
@@ -298,7 +311,9 @@ pub extern "C" fn pybuf_proved_get_at(
     }
 }
 
-/// Reads a slice: bytes of an exporter, a new view of a view.
+/// Reads a slice. The last reply is bytes where the object is an exporter, and the handle of a new view where it is a
+/// view.
+/// Example: of `bytearray(b"abcdef")` the slice `1:4` answers 0, and `pybuf_proved_last_bytes` copies `b"bcd"`.
 #[unsafe(no_mangle)]
 pub extern "C" fn pybuf_proved_get_slice(
     handle: &mut WorldHandle,
@@ -322,7 +337,8 @@ pub extern "C" fn pybuf_proved_get_slice(
     )
 }
 
-/// Writes the item at an index.
+/// Writes a number, by its size and its sign, as the item at an index.
+/// Example: of `bytearray(b"abc")` the index 0 and 65 answer 0, and make `bytearray(b"Abc")`.
 #[unsafe(no_mangle)]
 pub extern "C" fn pybuf_proved_set(
     handle: &mut WorldHandle,
@@ -349,7 +365,8 @@ pub extern "C" fn pybuf_proved_set(
     )
 }
 
-/// Writes the item at an index for each dimension.
+/// Writes a number, by its size and its sign, as the item at an index for each dimension.
+/// Example: of a view of `b"abcdef"` cast in the shape `[2, 3]` the indices `[0, 1]` and 66 make `b"aBcdef"`.
 #[unsafe(no_mangle)]
 pub extern "C" fn pybuf_proved_set_at(
     handle: &mut WorldHandle,
@@ -380,6 +397,7 @@ pub extern "C" fn pybuf_proved_set_at(
 }
 
 /// Puts bytes in place of a slice.
+/// Example: of `bytearray(b"abc")` the slice `0:2` and the bytes `b"XYZ"` answer 0, and make `bytearray(b"XYZc")`.
 #[unsafe(no_mangle)]
 pub extern "C" fn pybuf_proved_set_slice(
     handle: &mut WorldHandle,
@@ -408,7 +426,8 @@ pub extern "C" fn pybuf_proved_set_slice(
     }
 }
 
-/// Puts what another object holds in place of a slice.
+/// Puts what another object holds, by its handle, in place of a slice.
+/// Example: of a view of `bytearray(b"abc")` the slice `::-1` and the view itself make `bytearray(b"cba")`.
 #[unsafe(no_mangle)]
 pub extern "C" fn pybuf_proved_set_slice_of(
     handle: &mut WorldHandle,
@@ -434,7 +453,8 @@ pub extern "C" fn pybuf_proved_set_slice_of(
     )
 }
 
-/// Releases a view.
+/// Releases a view. A second time changes nothing, and answers 0 too.
+/// Example: after it `pybuf_proved_length` of the view answers 17 (`ValueError`).
 #[unsafe(no_mangle)]
 pub extern "C" fn pybuf_proved_release(handle: &mut WorldHandle, alloc: Global, subject: u64) -> u32
     ensures memory { result ≡ 1 → held handle.new ≡ held handle.old }
@@ -451,7 +471,8 @@ pub extern "C" fn pybuf_proved_release(handle: &mut WorldHandle, alloc: Global, 
     )
 }
 
-/// Reads the length.
+/// Reads the length, as Python's `len(object)`. It is the last reply then.
+/// Example: of `bytearray(b"abc")` it answers 0, and `pybuf_proved_last_number` tells 3.
 #[unsafe(no_mangle)]
 pub extern "C" fn pybuf_proved_length(handle: &mut WorldHandle, alloc: Global, subject: u64) -> u32
     ensures memory { result ≡ 1 → held handle.new ≡ held handle.old }
@@ -468,7 +489,8 @@ pub extern "C" fn pybuf_proved_length(handle: &mut WorldHandle, alloc: Global, s
     )
 }
 
-/// Reads the bytes.
+/// Reads the bytes, of a view row by row. They are the last reply then.
+/// Example: of `bytearray(b"abc")` it answers 0, and `pybuf_proved_last_bytes` copies `b"abc"`.
 #[unsafe(no_mangle)]
 pub extern "C" fn pybuf_proved_bytes(handle: &mut WorldHandle, alloc: Global, subject: u64) -> u32
     ensures memory { result ≡ 1 → held handle.new ≡ held handle.old }
@@ -485,7 +507,8 @@ pub extern "C" fn pybuf_proved_bytes(handle: &mut WorldHandle, alloc: Global, su
     )
 }
 
-/// Reads the items of a view, row by row.
+/// Reads the items of a view, row by row. They are the last reply then.
+/// Example: of a view of `b"Abc"` it answers 0, and `pybuf_proved_last_part` tells 65, 98 and 99 at 0, 1 and 2.
 #[unsafe(no_mangle)]
 pub extern "C" fn pybuf_proved_items(handle: &mut WorldHandle, alloc: Global, subject: u64) -> u32
     ensures memory { result ≡ 1 → held handle.new ≡ held handle.old }
@@ -502,7 +525,8 @@ pub extern "C" fn pybuf_proved_items(handle: &mut WorldHandle, alloc: Global, su
     )
 }
 
-/// Reads a property.
+/// Reads a property, by its number from 0 to 12. It is the last reply then. Another number answers 6.
+/// Example: of a view of three bytes the property 2, `nbytes`, answers 0, and `pybuf_proved_last_number` tells 3.
 #[unsafe(no_mangle)]
 pub extern "C" fn pybuf_proved_property(
     handle: &mut WorldHandle,
@@ -529,7 +553,9 @@ pub extern "C" fn pybuf_proved_property(
     }
 }
 
-/// Compares an object with bytes.
+/// Compares an object with bytes, by the number of an operator from 0 to 5. The answer is the last reply then.
+/// Another number answers 6.
+/// Example: of `bytearray(b"ab")` the operator 2, `<`, and `b"b"` answer 0, and `pybuf_proved_last_number` tells 1.
 #[unsafe(no_mangle)]
 pub extern "C" fn pybuf_proved_compare(
     handle: &mut WorldHandle,
@@ -560,7 +586,9 @@ pub extern "C" fn pybuf_proved_compare(
     }
 }
 
-/// Compares an object with another.
+/// Compares an object with another, by the number of an operator from 0 to 5. The answer is the last reply then.
+/// Another number answers 6.
+/// Example: of two views of `b"abc"` the operator 0, `==`, answers 0, and `pybuf_proved_last_number` tells 1.
 #[unsafe(no_mangle)]
 pub extern "C" fn pybuf_proved_compare_with(
     handle: &mut WorldHandle,
@@ -591,7 +619,8 @@ pub extern "C" fn pybuf_proved_compare_with(
     }
 }
 
-/// Asks whether bytes stand in bytes or a bytearray.
+/// Asks whether bytes stand in bytes or a bytearray. The last reply is a truth value then.
+/// Example: of `bytearray(b"Abc")` the bytes `b"bc"` answer 0, and `pybuf_proved_last_number` tells 1.
 #[unsafe(no_mangle)]
 pub extern "C" fn pybuf_proved_contains(
     handle: &mut WorldHandle,
@@ -616,7 +645,9 @@ pub extern "C" fn pybuf_proved_contains(
     }
 }
 
-/// Asks whether a byte stands in bytes or a bytearray.
+/// Asks whether a byte stands in bytes or a bytearray, by its size and its sign. The last reply is a truth value
+/// then.
+/// Example: of `bytearray(b"Abc")` 98 answers 0, and `pybuf_proved_last_number` tells 1.
 #[unsafe(no_mangle)]
 pub extern "C" fn pybuf_proved_contains_byte(
     handle: &mut WorldHandle,
@@ -641,7 +672,8 @@ pub extern "C" fn pybuf_proved_contains_byte(
     )
 }
 
-/// Makes an iterator.
+/// Makes an iterator, as Python's `iter(object)`. Its handle is the last reply then.
+/// Example: of the object 0 in a world of one object it makes the object 1.
 #[unsafe(no_mangle)]
 pub extern "C" fn pybuf_proved_iterate(handle: &mut WorldHandle, alloc: Global, subject: u64) -> u32
     ensures memory { result ≡ 1 → held handle.new ≡ held handle.old }
@@ -658,7 +690,8 @@ pub extern "C" fn pybuf_proved_iterate(handle: &mut WorldHandle, alloc: Global, 
     )
 }
 
-/// Reads the next item of an iterator.
+/// Reads the next item of an iterator, which is the last reply then. At the end the last reply is `stop`.
+/// Example: over `b"a"` it answers 0 and reads 97, and after that the kind of the last reply is 12.
 #[unsafe(no_mangle)]
 pub extern "C" fn pybuf_proved_next(handle: &mut WorldHandle, alloc: Global, subject: u64) -> u32
     ensures memory { result ≡ 1 → held handle.new ≡ held handle.old }
@@ -675,7 +708,8 @@ pub extern "C" fn pybuf_proved_next(handle: &mut WorldHandle, alloc: Global, sub
     )
 }
 
-/// Reads how an object is shown.
+/// Reads how an object is shown, as Python's `repr(object)`. It is the last reply then.
+/// Example: of the bytearray of the bytes 97 and 0 `pybuf_proved_last_bytes` copies `bytearray(b'a\x00')`.
 #[unsafe(no_mangle)]
 pub extern "C" fn pybuf_proved_shown(handle: &mut WorldHandle, alloc: Global, subject: u64) -> u32
     ensures memory { result ≡ 1 → held handle.new ≡ held handle.old }

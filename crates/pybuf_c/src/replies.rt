@@ -11,7 +11,8 @@ use pybuf_console::{WorldHandle, kind_of, number_of, objects_of, part_at, part_c
 use pybuf_crossing::word_of;
 use std::alloc::Global;
 
-/// Tells which kind the last reply is of.
+/// Tells which kind the last reply is of, by the numbers that `kind_of` of `pybuf_console` lists.
+/// Example: after `pybuf_proved_length` it tells 3, an item.
 #[unsafe(no_mangle)]
 pub extern "C" fn pybuf_proved_last_kind(
     handle: &mut WorldHandle,
@@ -30,7 +31,9 @@ pub extern "C" fn pybuf_proved_last_kind(
     OK
 }
 
-/// Tells the objects that were made: one twice, or an exporter and its view.
+/// Tells the handles that the last reply is, one twice, or that of an exporter and that of its view. It answers 5
+/// where it is none.
+/// Example: after `pybuf_proved_new` in an empty world it tells 0 and 0.
 #[unsafe(no_mangle)]
 pub extern "C" fn pybuf_proved_last_objects(
     handle: &mut WorldHandle,
@@ -59,7 +62,9 @@ pub extern "C" fn pybuf_proved_last_objects(
     }
 }
 
-/// Tells the number that the last reply is, as a size and a sign.
+/// Tells the number that the last reply is, as a size and a sign, or 0 or 1 of a truth value. It answers 5 where it
+/// is none, or none that a size of 64 bits tells.
+/// Example: after `pybuf_proved_length` of three bytes it tells the size 3 and the sign false.
 #[unsafe(no_mangle)]
 pub extern "C" fn pybuf_proved_last_number(
     handle: &mut WorldHandle,
@@ -88,7 +93,8 @@ pub extern "C" fn pybuf_proved_last_number(
     }
 }
 
-/// Tells how many parts the last reply has.
+/// Tells how many parts the last reply has, which are numbers or items, and 0 of a reply without parts.
+/// Example: after `pybuf_proved_items` of a view of three bytes it tells 3.
 #[unsafe(no_mangle)]
 pub extern "C" fn pybuf_proved_last_part_count(
     handle: &mut WorldHandle,
@@ -107,7 +113,9 @@ pub extern "C" fn pybuf_proved_last_part_count(
     OK
 }
 
-/// Tells the number at a place of the last reply, as a size and a sign.
+/// Tells the number at a place of the last reply, counted from 0, as a size and a sign. It answers 5 where there is
+/// none, or none that a size of 64 bits tells.
+/// Example: after `pybuf_proved_items` of a view of `b"Abc"` the place 0 has the size 65 and the sign false.
 #[unsafe(no_mangle)]
 pub extern "C" fn pybuf_proved_last_part(
     handle: &mut WorldHandle,
@@ -137,7 +145,9 @@ pub extern "C" fn pybuf_proved_last_part(
     }
 }
 
-/// Copies the bytes that the last reply is, or those of its text, into the room, and tells their number.
+/// Copies the bytes that the last reply is, or those of its text, into the room, and tells their number. It answers 3
+/// where the room is too small, and 5 where the reply has no bytes. The room is as before then.
+/// Example: after `pybuf_proved_bytes` of `b"abc"` it copies `b"abc"`, and tells 3.
 #[unsafe(no_mangle)]
 pub extern "C" fn pybuf_proved_last_bytes(
     handle: &mut WorldHandle,

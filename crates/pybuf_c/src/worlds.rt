@@ -13,7 +13,9 @@ use pybuf_console::{Console, WorldHandle};
 use pybuf_line::Misread;
 use std::alloc::Global;
 
-/// Makes an empty world in the handle. One that it held is freed.
+/// Makes an empty world in the handle. One that it held is freed. Where memory runs out, the answer is 1, and the
+/// handle is as before.
+/// Example: of a handle of zeros it answers 0, and `pybuf_proved_world_run` may follow.
 #[unsafe(no_mangle)]
 pub extern "C" fn pybuf_proved_world_new(handle: &mut WorldHandle, alloc: Global) -> u32
     ensures status { result ≤ 1 }
@@ -30,6 +32,7 @@ pub extern "C" fn pybuf_proved_world_new(handle: &mut WorldHandle, alloc: Global
 }
 
 /// Frees the world of the handle, which holds none then.
+/// Example: after it `pybuf_proved_world_run` of the handle answers 2.
 #[unsafe(no_mangle)]
 pub extern "C" fn pybuf_proved_world_free(handle: &mut WorldHandle, alloc: Global)
     ensures { held handle.new ≡ None }
@@ -37,8 +40,10 @@ pub extern "C" fn pybuf_proved_world_free(handle: &mut WorldHandle, alloc: Globa
     *handle = WorldHandle::empty(alloc);
 }
 
-/// Runs the lines of a text in the world, and keeps their replies. Tells how many are kept, and of a text that isn't run
-/// the number of its first line that is no command.
+/// Runs the lines of a text in the world, and keeps their replies. Tells how many are kept, and of a text that isn't
+/// run the number of its first line that is no command, counted from 1. Then it answers 4, and nothing is changed.
+/// Where memory runs out, it answers 1, and the lines before were run or none was.
+/// Example: the text `new bytearray x61\nlen h0\n` in an empty world answers 0, and tells that 2 replies are kept.
 #[unsafe(no_mangle)]
 pub extern "C" fn pybuf_proved_world_run(
     handle: &mut WorldHandle,
@@ -73,7 +78,9 @@ pub extern "C" fn pybuf_proved_world_run(
     }
 }
 
-/// Copies the text of a kept reply into the room, without a line feed, and tells its length.
+/// Copies the text of a kept reply, by its number from 0, into the room, without a line feed, and tells its length.
+/// It answers 3 where the room is too small, and 5 where no such reply is kept. The room is as before then.
+/// Example: after the line `new bytes x61` in an empty world the reply 0 copies `h0`, and tells 2.
 #[unsafe(no_mangle)]
 pub extern "C" fn pybuf_proved_world_reply(
     handle: &mut WorldHandle,

@@ -15,6 +15,8 @@ fn one_more(faults: u64) -> u64
 }
 
 /// A reader as a source. It tells no bytes. A clause sees the count of its faults.
+///
+/// Example: that of the standard input gives what the program reads.
 #[derive(Drop)]
 pub struct ReaderSource<R: Read> {
     reader: R,
@@ -29,6 +31,8 @@ impl<R: Read> Model for ReaderSource<R> {
 
 impl<R: Read> ReaderSource<R> {
     /// A source of what the reader reads, with no fault so far. Takes no memory.
+    ///
+    /// Example: the source of a reader that was never read has failed 0 times.
     pub fn new(reader: R) -> ReaderSource<R>
         ensures { result ≡ 0 }
     {
@@ -36,6 +40,8 @@ impl<R: Read> ReaderSource<R> {
     }
 
     /// How often the reader failed so far. The count stands still at `u64::MAX`.
+    ///
+    /// Example: of a source whose reader failed twice it is 2.
     pub fn faults(&self) -> u64
         ensures { result ≡ self.now }
     {
@@ -62,6 +68,8 @@ impl<R: Read> Source for ReaderSource<R> {
 }
 
 /// A writer as a sink. It tells no bytes. A clause sees the count of its faults.
+///
+/// Example: that of the standard output takes what the program writes.
 #[derive(Drop)]
 pub struct WriterSink<W: Write> {
     writer: W,
@@ -76,6 +84,8 @@ impl<W: Write> Model for WriterSink<W> {
 
 impl<W: Write> WriterSink<W> {
     /// A sink into the writer, with no fault so far. Takes no memory.
+    ///
+    /// Example: the sink into a writer to which nothing was written has failed 0 times.
     pub fn new(writer: W) -> WriterSink<W>
         ensures { result ≡ 0 }
     {
@@ -83,6 +93,8 @@ impl<W: Write> WriterSink<W> {
     }
 
     /// How often the writer failed so far. The count stands still at `u64::MAX`.
+    ///
+    /// Example: of a sink whose writer failed twice it is 2.
     pub fn faults(&self) -> u64
         ensures { result ≡ self.now }
     {

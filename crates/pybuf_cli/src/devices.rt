@@ -6,16 +6,22 @@ ghost use Rattle.pybuf_cli.specs.Devices.{Took, AtEnd, Put, Rose, Counts};
 use pybuf_value::NoMemory;
 use std::alloc::AllocError;
 
-/// A device failed.
+/// A device failed, and why isn't told.
+///
+/// Example: a reader that answers an error makes `ReaderSource` answer `Err(Failed)`.
 #[derive(Clone, Copy, Debug, PartialEq, Eq)]
 pub struct Failed;
 
 /// Why a sink put nothing.
+///
+/// Example: a writer that answers an error makes `WriterSink` answer `Err(PutFault::Failed)`.
 #[derive(Clone, Copy, Debug, PartialEq, Eq)]
 pub enum PutFault {
     /// The sink failed.
+    /// Example: a writer that answers an error makes `WriterSink` answer this.
     Failed,
     /// The sink found no memory for the bytes.
+    /// Example: a `QuietSink` for whose bytes no block is left answers this.
     NoMemory,
 }
 
@@ -36,6 +42,8 @@ impl From<NoMemory> for PutFault {
 }
 
 /// Where bytes come from.
+///
+/// Example: a `QuietSource` of `b"abcd"` gives `b"abcd"`, and then nothing.
 pub trait Source {
     // The bytes that are left, where the source tells them.
     ghost bytes_left: { Self → Option (List ℕ) };
@@ -47,6 +55,8 @@ pub trait Source {
     /// or where there is no room.
     ///
     /// `Failed` only where the count of faults rose. The bytes that are left are as before then.
+    ///
+    /// Example: of a source that has `b"abcd"` left, into a room of 8 bytes, a `QuietSource` moves at most 4.
     fn take(&mut self, room: &mut [u8]) -> Result<usize, Failed>
         ensures within { IfOk result (λ count. count ≤ length room.old) }
         ensures took { IfOk result (λ count. Took (bytes_left self.old) (take count room.new) (bytes_left self.new)) }
@@ -57,6 +67,8 @@ pub trait Source {
 }
 
 /// Where bytes go.
+///
+/// Example: a `QuietSink` into which `b"ab"` and `b"cd"` were put whole holds `b"abcd"`.
 pub trait Sink {
     // The bytes that were put so far, where the sink tells them.
     ghost bytes_held: { Self → Option (List ℕ) };
@@ -68,6 +80,8 @@ pub trait Sink {
     ///
     /// `Failed` only where the count of faults rose. Where it failed or found no memory, nothing
     /// was put.
+    ///
+    /// Example: of `b"abcd"` into a `ListSink` that takes at most two bytes a call it is at most `Ok(2)`.
     fn put(&mut self, piece: &[u8]) -> Result<usize, PutFault>
         ensures within { IfOk result (λ count. count ≤ length piece.now) }
         ensures some { IfOk result (λ count. 0 < length piece.now → 0 < count) }

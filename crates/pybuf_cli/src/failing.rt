@@ -55,6 +55,8 @@ impl Calls {
 
 /// A source of bytes in memory that fails where it is told to. A clause sees the bytes that are left
 /// and the counts.
+///
+/// Example: that of `b"abcd"` whose call 1 fails gives its bytes in the calls 0, 2 and so on.
 #[derive(Debug, Drop)]
 pub struct ListSource {
     source: QuietSource,
@@ -73,6 +75,8 @@ impl Model for ListSource {
 impl ListSource {
     /// A source of these bytes. The calls whose numbers stand in the list fail, counted from 0, and any
     /// other moves at most so many bytes, of which there has to be one. Takes no memory.
+    ///
+    /// Example: of `b"abcd"`, 2 and the list of 1, the second call fails, and any other moves at most two bytes.
     pub fn new(bytes: ByteList, most: usize, failing: CountList) -> ListSource
         requires { 0 < most }
         ensures { result ≡ record { bytes = bytes; most = most; failing = failing; calls = 0; faults = 0 } }
@@ -84,7 +88,9 @@ impl ListSource {
         }
     }
 
-    /// The bytes that are left.
+    /// The bytes that are left, lent.
+    ///
+    /// Example: of a source of `b"abcd"` from which nothing was taken it is `b"abcd"`.
     pub fn left(&self) -> &[u8]
         ensures { result.now ≡ self.now.bytes }
     {
@@ -92,6 +98,8 @@ impl ListSource {
     }
 
     /// How many calls failed so far. The count stands still at `u64::MAX`.
+    ///
+    /// Example: of a source whose call 1 fails it is 1 after two calls.
     pub fn faults(&self) -> u64
         ensures { result ≡ self.now.faults }
     {
@@ -127,6 +135,8 @@ impl Source for ListSource {
 
 /// A sink that keeps its bytes in memory and fails where it is told to. A clause sees the bytes that
 /// were put and the counts.
+///
+/// Example: one whose call 1 fails takes bytes in the calls 0, 2 and so on.
 #[derive(Debug, Drop)]
 pub struct ListSink {
     sink: QuietSink,
@@ -145,6 +155,8 @@ impl Model for ListSink {
 impl ListSink {
     /// A sink that holds nothing. The calls whose numbers stand in the list fail, counted from 0, and
     /// any other puts at most so many bytes, of which there has to be one. Takes no memory.
+    ///
+    /// Example: of 2 and the list of 1, the second call fails, and any other puts at most two bytes.
     pub fn new(alloc: Global, most: usize, failing: CountList) -> ListSink
         requires { 0 < most }
         ensures { result ≡ record { bytes = []; most = most; failing = failing; calls = 0; faults = 0 } }
@@ -156,7 +168,9 @@ impl ListSink {
         }
     }
 
-    /// The bytes that were put.
+    /// The bytes that were put, lent.
+    ///
+    /// Example: of a new sink it is `b""`.
     pub fn bytes(&self) -> &[u8]
         ensures { result.now ≡ self.now.bytes }
     {
@@ -164,6 +178,8 @@ impl ListSink {
     }
 
     /// How many calls failed so far. The count stands still at `u64::MAX`.
+    ///
+    /// Example: of a sink whose call 1 fails it is 1 after two calls.
     pub fn faults(&self) -> u64
         ensures { result ≡ self.now.faults }
     {

@@ -14,19 +14,27 @@ use pybuf_value::{Made, Text};
 use std::alloc::Global;
 
 /// What the program is asked to do.
+///
+/// Example: the words `make` and `16` ask for `Form::Make(16)`.
 #[derive(Debug, Drop)]
 pub enum Form {
     /// To run the commands of its input, a line each.
+    /// Example: no word asks for it, and the one word `run` does too.
     Run,
     /// To let sessions carry out the lines of its input on one exporter.
+    /// Example: the one word `share` asks for it.
     Share,
     /// To run the script of a number, from 1 to 4,096, and to tell of its run.
+    /// Example: the words `make` and `16` ask for `Make(16)`.
     Make(u16),
     /// To carry out the operations of its input, a line each, on an array of a code.
+    /// Example: the words `array` and `H` ask for `Array(ArrayCode::UShort)`.
     Array(ArrayCode),
     /// To write records of its input, a line each.
+    /// Example: the words `table` and `<BH` ask for the records of the format `<BH`.
     Table(Listing),
     /// To write bytes of its input, which has a shape.
+    /// Example: the words `nd`, `[2,3]` and `(None:None:-1,1:3:None)` ask for four bytes of six.
     Nd(Selection),
 }
 
@@ -87,6 +95,8 @@ fn nd_named(alloc: Global, words: &[Text]) -> Made<Option<Form>>
 
 /// What the words ask for: `None` exactly where they are none that the program knows. Memory is taken for the words behind
 /// `table` and `nd` alone.
+///
+/// Example: of `make` and `16` it gives `Some(Form::Make(16))`, and of `make` and `0` it gives `None`.
 pub fn form_named(alloc: Global, words: &[Text]) -> Made<Option<Form>>
     ensures form { IfOk result (λ form. form ≡ form_of words.now) }
     ensures memory { OnErr result (take_memory words.now ≡ true) }

@@ -7,6 +7,8 @@ use std::alloc::Global;
 use std::marker::Model;
 
 /// A source of bytes in memory. It never fails. A clause sees the list of the bytes that are left.
+///
+/// Example: that of `b"abcd"` has `b"abcd"` left.
 #[derive(Debug, Drop)]
 pub struct QuietSource {
     bytes: Vec<u8>,
@@ -23,6 +25,8 @@ impl Model for QuietSource {
 
 impl QuietSource {
     /// A source of these bytes. Takes no memory.
+    ///
+    /// Example: of `b"abcd"` it is a source that has `b"abcd"` left.
     pub fn new(bytes: ByteList) -> QuietSource
         ensures { result ≡ bytes }
     {
@@ -32,7 +36,9 @@ impl QuietSource {
         }
     }
 
-    /// The bytes that are left.
+    /// The bytes that are left, lent.
+    ///
+    /// Example: of a source of `b"abcd"` from which nothing was taken it is `b"abcd"`.
     pub fn left(&self) -> &[u8]
         ensures { result.now ≡ self.now }
     {
@@ -75,6 +81,8 @@ fn move_front(from: &[u8], room: &mut [u8], most: usize) -> usize
 }
 
 /// A sink that keeps its bytes in memory. It never fails. A clause sees the list of the bytes.
+///
+/// Example: one into which `b"ab"` was put whole holds `b"ab"`.
 #[derive(Debug, Drop)]
 pub struct QuietSink {
     bytes: Vec<u8>,
@@ -88,6 +96,8 @@ impl Model for QuietSink {
 
 impl QuietSink {
     /// A sink that holds nothing. Takes no memory.
+    ///
+    /// Example: a new sink holds `b""`.
     pub fn new(alloc: Global) -> QuietSink
         ensures { result ≡ [] }
     {
@@ -96,7 +106,9 @@ impl QuietSink {
         }
     }
 
-    /// The bytes that were put.
+    /// The bytes that were put, lent.
+    ///
+    /// Example: of a sink into which `b"ab"` was put whole it is `b"ab"`.
     pub fn bytes(&self) -> &[u8]
         ensures { result.now ≡ self.now }
     {
@@ -104,6 +116,8 @@ impl QuietSink {
     }
 
     /// The bytes that were put. Takes no memory.
+    ///
+    /// Example: of a sink into which `b"ab"` was put whole it is the list of `b"ab"`.
     pub fn into_bytes(self) -> ByteList
         ensures { result ≡ self }
     {

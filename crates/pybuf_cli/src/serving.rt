@@ -151,6 +151,8 @@ fn make<K: Sink>(alloc: Global, sink: &mut K, number: u16) -> Status
 /// Other words are refused with `Usage`. Memory to read the words is taken for those behind `table` and `nd` alone.
 ///
 /// It ends where each call of the source and of the sink does.
+///
+/// Example: without words, of the input `b"new bytes x6162\nlen h0\n"`, it puts `b"h0\n2\n"` and answers `Status::Done`.
 pub fn serve_alone<S: Source, K: Sink>(
     alloc: Global,
     words: &[Text],
@@ -175,6 +177,8 @@ pub fn serve_alone<S: Source, K: Sink>(
 
 /// Does what `serve_alone` does with bytes in memory: gives the bytes that it puts, and its status.
 /// Nothing can fail but memory.
+///
+/// Example: without words, of the input `b"new bytes x6162\nlen h0\n"`, it gives `b"h0\n2\n"` and `Status::Done`.
 pub fn serve_bytes(alloc: Global, words: &[Text], input: ByteList) -> (ByteList, Status)
     ensures usage { result.1 ≡ Status.Usage → alone (form_of words.now) ≡ None }
     ensures refused { alone (form_of words.now) ≡ None → (result.1 ≡ Status.Usage) ⊎ ((take_memory words.now ≡ true) × (result.1 ≡ Status.NoMemory)) }
@@ -220,6 +224,8 @@ pub fn serve_bytes(alloc: Global, words: &[Text], input: ByteList) -> (ByteList,
 ///
 /// Other words are served as by `serve_alone`. With `share` it ends where each call of the source, the sink and the gate does
 /// and each thread gets its turn: no proof says that these do.
+///
+/// Example: with `share`, of `b"new bytearray x6162\n0 len own\n"`, it puts `0: len own -> 2`, `calls 1` and `bytes b'ab'`.
 pub fn serve_gated<R: Threads + Wait + Sync, S: Source, K: Sink, G: Gate + Sync>(
     rt: &R,
     alloc: Global,
@@ -238,6 +244,8 @@ pub fn serve_gated<R: Threads + Wait + Sync, S: Source, K: Sink, G: Gate + Sync>
 
 /// Does all that the program `pybuf` does: what `serve_gated` does with a gate that does nothing. Other threads are started
 /// for the word `share` alone.
+///
+/// Example: with `share`, of `b"new bytearray x6162\n0 len own\n"`, it puts `0: len own -> 2`, `calls 1` and `bytes b'ab'`.
 pub fn serve<R: Threads + Wait + Sync, S: Source, K: Sink>(
     rt: &R,
     alloc: Global,

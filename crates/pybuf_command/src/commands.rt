@@ -296,7 +296,7 @@ pub enum LocalReply {
     /// of its content with a view of it in this format and shape.
     /// Example: `Verb::Copy` of a bytearray of `b"ab"` replies `Fresh` of a snap of `b"ab"`.
     Fresh(Snap),
-    /// Refused: nothing was changed.
+    /// The command was refused, and nothing was changed.
     /// Example: `Verb::Get` of `b"ab"` at 2 replies `Refused(Fault::Index)`.
     Refused(Fault),
 }

@@ -238,8 +238,8 @@ pub fn handles_of_options(alloc: Global, options: &ByteInnerNewOptions) -> Made<
     Ok(handles)
 }
 
-/// The handle that a source alone is, where neither an encoding nor a rule for errors is given. Of no other
-/// options are the bytes of a handle read.
+/// The handle that a source alone is, where neither an encoding nor a rule for errors is given. The
+/// bytes of a handle are read of no other options.
 ///
 /// Example: of the source `h1` alone it is `Some(1)`, and with an encoding besides it is `None`.
 pub fn handle_alone(options: &ByteInnerNewOptions) -> Option<u64>

@@ -5,7 +5,7 @@
 /// Example: `ExporterKind::Bytes` is the kind of Python's `b'ab'`.
 #[derive(Clone, Copy, Debug, PartialEq, Eq)]
 pub enum ExporterKind {
-    /// Python's `bytes`: never written.
+    /// Python's `bytes`, whose bytes are never written.
     /// Example: `Verb::Set` of such an exporter is refused with `TypeError`.
     Bytes,
     /// Python's `bytearray`: its bytes are written, and resized while no view of it is unreleased.

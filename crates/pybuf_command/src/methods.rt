@@ -2,8 +2,9 @@
 use pybuf_value::{Exact, Made, Twin, ValueList};
 use std::alloc::Global;
 
-/// The name of a method that bytes and bytearrays have (Python's library reference, "Bytes and Bytearray
-/// Operations"). `Add`, `Concat` and `Mul` stand for the operators, and `Concat` takes views too.
+/// The name of a method that bytes and bytearrays have (Python's library reference, "Bytes and
+/// Bytearray Operations"). `Add`, `Concat` and `Mul` stand for the operators `+` and `*`. `Concat`
+/// takes also views whose items lie apart, and `Add` doesn't.
 ///
 /// Example: `MethodName::Find` with `b"c"` asks `b"Abc"` for the place of `b"c"`, which is 2.
 #[derive(Clone, Copy, Debug, PartialEq, Eq)]

@@ -45,7 +45,7 @@ impl LocalReply {
         }
     }
 
-    /// Why it was refused. None exactly where it wasn't.
+    /// Why the command was refused. None exactly where it wasn't.
     ///
     /// Example: `LocalReply::Refused(Fault::Index).refusal()` is `Some(Fault::Index)`, and `LocalReply::Ok.refusal()` is `None`.
     pub fn refusal(&self) -> Option<Fault>

@@ -111,7 +111,7 @@ pub enum Reply {
     /// An iterator has no further item.
     /// Example: the fourth `next h1` of an iterator over `b"Abc"` replies `Stop`.
     Stop,
-    /// Refused: nothing was changed, and no handle was used up.
+    /// The command was refused. Nothing was changed, and no handle was used up.
     /// Example: `get h0 3` of `b"Abc"` replies `Refused(Fault::Index)`.
     Refused(Fault),
 }

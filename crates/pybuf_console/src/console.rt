@@ -14,6 +14,7 @@ use std::alloc::Global;
 use std::marker::Model;
 
 /// A world, the replies of the lines that were run in it last, and the reply of the one command that was asked last.
+/// Example: `Console::new(alloc)` stands for an empty world, of which nothing was asked.
 #[derive(Debug, Drop)]
 pub struct Console {
     world: World,
@@ -45,6 +46,7 @@ impl Console {
     ghost use Rattle.pybuf_console.specs.Console.{empty_console, Runs, HasAsked, refusal_of};
 
     /// An empty world and no replies. Takes no memory.
+    /// Example: of `Console::new(alloc)` `reply_count()` is 0, and the last reply is `Ok`.
     pub fn new(alloc: Global) -> Console
         ensures { result ≡ empty_console }
     {
@@ -55,8 +57,11 @@ impl Console {
         }
     }
 
-    /// Runs the lines of a text, and keeps their replies in place of those that were kept. Nothing is run where a
-    /// line is no command. Where memory runs out in a command, those before it were run.
+    /// Runs the lines of a text, and keeps their replies in place of those that were kept. The last reply of `ask`
+    /// stays. Where a line is no command, nothing is run and changed, and the answer is `Misread::BadLine` with the
+    /// number of the first such line, counted from 1. Where memory runs out, the answer is `Misread::NoMemory`, and
+    /// either nothing is changed, or some commands from the first on were run, and their replies are kept.
+    /// Example: the text `new bytearray x61\nlen h0\n` in an empty world keeps the replies `h0` and `1`.
     pub fn run(&mut self, alloc: Global, text: &[u8]) -> Result<(), Misread>
         ensures { Runs result text.now self.old self.new }
     {
@@ -70,14 +75,19 @@ impl Console {
         }
     }
 
-    /// How many replies are kept.
+    /// How many replies of lines are kept. Takes no memory.
+    /// Example: after `run` of two lines it is 2.
     pub fn reply_count(&self) -> usize
         ensures { result ≡ length self.now.replies }
     {
         self.replies.len()
     }
 
-    /// Copies the text of a kept reply into a room, without a line feed, and tells its length.
+    /// Copies the text of a kept reply, by its number from 0, to the front of a room, without a line feed, and tells
+    /// its length in `count`. It is `Handed::TooSmall` where the room is shorter, `Handed::Nothing` where no such
+    /// reply is kept, and `Handed::NoMemory` where memory runs out. In these cases the room is as before, and in the
+    /// last two `count` is too.
+    /// Example: after the line `new bytes x61` the reply 0 writes `h0`, and makes `count` 2.
     pub fn reply(&self, alloc: Global, index: usize, room: &mut [u8], count: &mut usize) -> Handed
         ensures { Hands result (shown_reply (slice_get self.now.replies index)) room.old room.new count.old count.new }
     {
@@ -87,7 +97,9 @@ impl Console {
         }
     }
 
-    /// Carries out one command, whose reply is the last one then.
+    /// Carries out one command, whose reply is the last one then. A refusal is a reply. The replies of lines stay.
+    /// Where memory runs out, nothing is changed.
+    /// Example: after `len` of three bytes `console.last()` is the item 3.
     #[inline(always)]
     pub fn ask(&mut self, command: &Command) -> Made<()>
         ensures ok { OnOk result (HasAsked command.now self.old self.new) }
@@ -97,7 +109,8 @@ impl Console {
         Ok(())
     }
 
-    /// Why the last command was refused, where it was.
+    /// Why the last command was refused. It is None where it wasn't. Takes no memory.
+    /// Example: after `append 256` it is `Some(Fault::Value)`.
     #[inline(always)]
     pub fn refusal(&self) -> Option<Fault>
         ensures { result ≡ refusal_of self.now.last }
@@ -108,7 +121,8 @@ impl Console {
         }
     }
 
-    /// The reply of the last command.
+    /// The reply of the last command of `ask`, lent. Takes no memory.
+    /// Example: of a new console it is `Reply::Ok`.
     #[inline(always)]
     pub fn last(&self) -> &Reply
         ensures { result.now ≡ self.now.last }
@@ -116,7 +130,10 @@ impl Console {
         &self.last
     }
 
-    /// Copies the bytes that the last reply is, or those of its text, into a room, and tells their number.
+    /// Copies the bytes that the last reply is, or those of its text, to the front of a room, and tells their number
+    /// in `count`. It is `Handed::TooSmall` where the room is shorter, and `Handed::Nothing` where the reply has no
+    /// bytes. The room is as before then.
+    /// Example: after `bytes` of `b"abc"` it writes `b"abc"`, and makes `count` 3.
     pub fn hand_last(&self, room: &mut [u8], count: &mut usize) -> Handed
         ensures { Hands result (replies.bytes_of self.now.last) room.old room.new count.old count.new }
     {

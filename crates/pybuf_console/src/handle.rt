@@ -7,7 +7,8 @@ use pybuf_slot::Block;
 use std::alloc::Global;
 use std::mem;
 
-/// A console, or none. All zeros are a handle that holds none.
+/// The handle by which a program in C holds a console, or none. All zeros are a handle that holds none.
+/// Example: `WorldHandle::empty(alloc)` stands for a handle before a world was made.
 #[repr(C)]
 pub struct WorldHandle {
     pub address: ConsoleAddress,
@@ -24,7 +25,8 @@ impl Drop for WorldHandle {
 impl WorldHandle {
     ghost use Rattle.pybuf_console.specs.Held.{held};
 
-    /// A handle that holds no console.
+    /// A handle that holds no console. Takes no memory.
+    /// Example: `WorldHandle::empty(alloc).take(alloc)` is None.
     #[inline(always)]
     pub fn empty(alloc: Global) -> WorldHandle
         ensures { held result ≡ None }
@@ -35,7 +37,8 @@ impl WorldHandle {
         }
     }
 
-    /// The handle of a console.
+    /// The handle of a console. Takes no memory.
+    /// Example: `WorldHandle::of(console).take(alloc)` is `Some(console)`.
     #[inline(always)]
     pub fn of(console: Box<Console, Global>) -> WorldHandle
         ensures { held result ≡ Some console.value }
@@ -59,7 +62,8 @@ impl WorldHandle {
         }
     }
 
-    /// Takes the console out of the handle, which holds none then.
+    /// Takes the console out of the handle, which holds none then. It is None where it held none. Takes no memory.
+    /// Example: a second `take` is None.
     #[inline(always)]
     pub fn take(&mut self, alloc: Global) -> Option<Box<Console, Global>>
         ensures empty { held self.new ≡ None }
@@ -68,7 +72,8 @@ impl WorldHandle {
         mem::replace(self, WorldHandle::empty(alloc)).into_console()
     }
 
-    /// Puts a console into the handle. One that it held is freed.
+    /// Puts a console into the handle. One that it held is freed. Takes no memory.
+    /// Example: after `handle.put(console)` `handle.take(alloc)` is `Some(console)`.
     #[inline(always)]
     pub fn put(&mut self, console: Box<Console, Global>)
         ensures { held self.new ≡ Some console.value }

@@ -6,7 +6,9 @@ ghost use Rattle.pybuf_console.specs.Replies as spec;
 use pybuf_command::Reply;
 use pybuf_value::{Item, Scalar};
 
-/// The objects that were made: one, which stands for both, or an exporter and its view.
+/// The handles of the objects that a reply names. It is one handle twice, or that of an exporter and that of its
+/// view, and None where a reply names none. Takes no memory.
+/// Example: of `Reply::Handle(3)` it is `Some((3, 3))`, and of `Reply::Pair { exporter: 4, view: 5 }` `Some((4, 5))`.
 pub fn objects_of(reply: &Reply) -> Option<(u64, u64)>
     ensures { result ≡ spec.objects_of reply.now }
 {
@@ -47,7 +49,8 @@ fn number_of_item(item: &Item) -> Option<i128>
     }
 }
 
-/// The number that a reply is.
+/// The number that a reply is, or 0 or 1 for a truth value. It is None where a reply is neither. Takes no memory.
+/// Example: of the item 3 it is `Some(3)`, and of `Reply::Truth(true)` `Some(1)`.
 #[inline(always)]
 pub fn number_of(reply: &Reply) -> Option<i128>
     ensures { result ≡ spec.number_of reply.now }
@@ -82,7 +85,8 @@ pub fn bytes_of(reply: &Reply) -> Option<&[u8]>
     }
 }
 
-/// How many parts a reply has.
+/// How many parts a reply of several numbers or items has, and 0 of every other reply. Takes no memory.
+/// Example: of the numbers of `shape` in two dimensions it is 2.
 pub fn part_count(reply: &Reply) -> usize
     ensures { result ≡ spec.part_count reply.now }
 {
@@ -102,7 +106,9 @@ fn number_at_item(item: Option<&Item>) -> Option<i128>
     }
 }
 
-/// The number at a place of a reply that has several.
+/// The number at a place of a reply that has several, counted from 0. It is None where there is none. Takes no
+/// memory.
+/// Example: of the numbers 2 and 3 the place 1 has `Some(3)`.
 pub fn part_at(reply: &Reply, index: usize) -> Option<i128>
     ensures { result ≡ spec.part_at reply.now index }
 {
@@ -113,7 +119,10 @@ pub fn part_at(reply: &Reply, index: usize) -> Option<i128>
     }
 }
 
-/// Which kind a reply is of.
+/// Which kind a reply is of, as a number: 0 `Ok`, 1 a handle, 2 a pair, 3 an item, 4 items, 5 bytes, 6 a text, 7 a
+/// shown text, 8 a truth value, 9 `NotImplemented`, 10 numbers, 11 lists of bytes, 12 `stop`, 13 a refusal. Takes no
+/// memory.
+/// Example: of `Reply::Stop` it is 12.
 pub fn kind_of(reply: &Reply) -> u32
     ensures { result ≡ spec.kind_of reply.now }
 {

@@ -7,19 +7,27 @@ use pybuf_command::ByteInnerNewOptions;
 use pybuf_value::{ByteList, Made, PySlice, Scalar, ScalarList, Text, Value};
 use std::alloc::Global;
 
-/// A slice whose parts may be absent.
+/// A slice whose parts may be absent, as a program in C passes it.
+/// Example: `has_step: false` with a start of 1 and a stop of 3 stands for `1:3`.
 #[repr(C)]
 #[derive(Clone, Copy)]
 pub struct SliceWords {
+    /// The start, where there is one.
     pub start: i64,
+    /// The stop, where there is one.
     pub stop: i64,
+    /// The step, where there is one.
     pub step: i64,
+    /// Whether there is a start; else it is `None`.
     pub has_start: bool,
+    /// Whether there is a stop; else it is `None`.
     pub has_stop: bool,
+    /// Whether there is a step; else it is `None`.
     pub has_step: bool,
 }
 
-/// A number as a value.
+/// A number as a value. Takes no memory.
+/// Example: `number_value(5)` is `Value::One(Scalar::Int(5))`.
 #[inline(always)]
 pub fn number_value(number: i128) -> Value
     ensures { result ≡ spec.number_value number }
@@ -27,7 +35,8 @@ pub fn number_value(number: i128) -> Value
     Value::One(Scalar::Int(number))
 }
 
-/// What an object names, as a value.
+/// A handle as a value. Takes no memory.
+/// Example: `object_value(3)` is `Value::One(Scalar::Handle(3))`.
 #[inline(always)]
 pub fn object_value(handle: u64) -> Value
     ensures { result ≡ spec.object_value handle }
@@ -36,6 +45,7 @@ pub fn object_value(handle: u64) -> Value
 }
 
 /// A copy of bytes as a value.
+/// Example: `bytes_value(alloc, b"ab")?` is the value `x6162`.
 pub fn bytes_value(alloc: Global, bytes: &[u8]) -> Made<Value>
     ensures { IfOk result (λ value. value ≡ spec.bytes_value bytes.now) }
 {
@@ -53,7 +63,8 @@ fn part_of(there: bool, number: i64) -> Scalar
     }
 }
 
-/// A slice as a value.
+/// A slice, with `None` for each part that is absent. Takes no memory.
+/// Example: the start 1, the stop 3 and no step give `1:3:None`.
 pub fn slice_of(words: &SliceWords) -> PySlice
     ensures { result ≡ spec.slice_of words.now }
 {
@@ -64,7 +75,8 @@ pub fn slice_of(words: &SliceWords) -> PySlice
     }
 }
 
-/// What an exporter is made of, where it is bytes.
+/// The options by which an exporter of these bytes is made.
+/// Example: of `b"ab"` they are the source `x6162` alone.
 pub fn source_of(alloc: Global, bytes: &[u8]) -> Made<ByteInnerNewOptions>
     ensures { IfOk result (λ options. options ≡ spec.source_of bytes.now) }
 {
@@ -76,7 +88,8 @@ pub fn source_of(alloc: Global, bytes: &[u8]) -> Made<ByteInnerNewOptions>
     })
 }
 
-/// A copy of a text as a value, where its bytes are UTF-8.
+/// A copy of a text as a value. It is None exactly where the bytes are no UTF-8.
+/// Example: of `b"H"` it is the value `'H'`, and of the byte 255 None.
 pub fn text_value(alloc: Global, bytes: &[u8]) -> Made<Option<Value>>
     ensures { IfOk result (λ made. MatchOption made (IsUtf8 bytes.now → ⊥) (λ value. value ≡ spec.text_value bytes.now)) }
 {
@@ -90,6 +103,7 @@ pub fn text_value(alloc: Global, bytes: &[u8]) -> Made<Option<Value>>
 }
 
 /// Numbers as a tuple.
+/// Example: of `&[2, 3]` it is the value `(2,3)`.
 pub fn tuple_of(alloc: Global, numbers: &[i64]) -> Made<Value>
     ensures { IfOk result (λ value. value ≡ spec.tuple_of numbers.now) }
 {

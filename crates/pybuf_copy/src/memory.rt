@@ -1,7 +1,7 @@
 //! The one answer that is no refusal: that memory ran out.
 use std::alloc::{AllocError, AllocFailed};
 
-/// Memory ran out. What the call was lent is as before.
+/// Memory ran out. What the call was lent is as before, if the call doesn't say otherwise.
 ///
 /// Example: where no block is left for a copy of `b"ab"`, `Twin::copy` answers `Err(NoMemory)`.
 #[derive(Clone, Copy, Debug, PartialEq, Eq)]

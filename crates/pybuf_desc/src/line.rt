@@ -11,8 +11,11 @@ use pybuf_strided::Track;
 /// Example: the ranges `0..2`, `5..7` and `10..12` are a line of size 2 and count 3.
 #[derive(Clone, Copy, Debug)]
 pub struct SegmentLine {
+    /// Where the ranges start: the start of the first, and the step from one to the next.
     pub track: Track,
+    /// The number of bytes of each range.
     pub size: usize,
+    /// The number of ranges.
     pub count: usize,
 }
 

@@ -276,7 +276,7 @@ impl ExporterState {
     /// Refused with `UnknownName` where the exporter is a vector, and for a handle in the key that the loans don't
     /// name, before all else; with `TypeError` where the key is neither a number nor a slice, and where a part of the
     /// slice is neither a number nor `None`; with `ValueError` for a step of 0; with `IndexError` for an index out of
-    /// range.
+    /// range. Nothing is changed, whatever it replies.
     /// Example: of `b"abc"` the key `-1` gets the item 99, and the key `0:2` gets `b"ab"`.
     pub fn get_of_own(&mut self, key: &Value, loans: &LoanList) -> Made<LocalReply>
         ensures ok { IfOk result (λ r. estep self.old.exporter subjects.Own (verbs.Get key.now) loans.now ≡ (self.new.exporter, r)) }
@@ -291,6 +291,7 @@ impl ExporterState {
     ///
     /// Refused with `UnknownName` for a handle in the key that the loans don't name, before all else, and where the
     /// view was never given; with `ValueError` where it is released; then as `PyMemoryView::getitem` refuses the key.
+    /// Nothing is changed then, nor where memory runs out.
     /// Example: of a view of `b"abcdef"` the key 0 gets the item 97, and the key `::-2` the number of a view of `b"fdb"`.
     pub fn get_of_view(&mut self, view: usize, key: &Value, loans: &LoanList) -> Made<LocalReply>
         ensures ok { IfOk result (λ r. estep self.old.exporter (subjects.View view) (verbs.Get key.now) loans.now ≡ (self.new.exporter, r)) }

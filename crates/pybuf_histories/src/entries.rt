@@ -24,6 +24,10 @@ pub(crate) fn push_entry(out: &mut Vec<u8>, entry: &Entry) -> Made<()>
 /// views are `v0`, `v1` and so on by their numbers, its iterators `j0`, `j1` and so on, and what wasn't given is `none`;
 /// the bytes that another exporter lends are spelled as bytes, and what a new exporter is to be made of is `fresh` and
 /// its bytes.
+///
+/// Where memory runs out, a part of it may have been added.
+///
+/// Example: of session 0, which made the first view of the exporter, it adds `0: view own -> v0` and a line feed.
 pub fn push_entry_line(out: &mut Vec<u8>, entry: &Entry) -> Made<()>
     ensures { OnOk result (out.new.items ≡ out.old.items ++ entry_line entry.now) }
 {
@@ -33,6 +37,10 @@ pub fn push_entry_line(out: &mut Vec<u8>, entry: &Entry) -> Made<()>
 }
 
 /// Adds what stands behind the last entry: how many there are, and the bytes of the exporter, a line each.
+///
+/// Where memory runs out, a part of it may have been added.
+///
+/// Example: of 6 and `b"ab"` it adds the lines `calls 6` and `bytes b'ab'`.
 pub fn push_last_lines(out: &mut Vec<u8>, calls: usize, bytes: &[u8]) -> Made<()>
     ensures { OnOk result (out.new.items ≡ out.old.items ++ last_lines calls bytes.now) }
 {

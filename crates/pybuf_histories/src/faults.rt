@@ -81,6 +81,10 @@ fn push_openings(
 /// Adds why sessions don't agree with a history, in one line, each entry spelled as on its own line:
 /// `disagree AT: KEPT | GOT`, where KEPT may be `none`; `order S: BEFORE AFTER`; `opening KIND BYTES | KIND BYTES`, what was
 /// given first. Want of memory is no text.
+///
+/// Where memory runs out, a part of it may have been added.
+///
+/// Example: of `FinishFault::Order` of session 0, whose receipts 2 and 1 don't rise, it adds the line `order 0: 2 1`.
 pub fn push_fault(out: &mut Vec<u8>, fault: &FinishFault) -> Made<()>
     ensures { OnOk result (out.new.items ≡ out.old.items ++ spec.fault_text fault.now) }
 {

@@ -10,13 +10,20 @@ use pybuf_command::Command;
 use std::alloc::Global;
 
 /// Lets go of a command that was read.
+///
+/// Example: of a command that appends `b"ab"` it gives the memory of `b"ab"` back.
 pub fn let_go(read: Result<Command, Unread>) {
     if let Ok(command) = read {
         command.let_go();
     }
 }
 
-/// That each line of an input is a command, or the first line that is none.
+/// Checks that each line of an input is a command.
+///
+/// It answers `BadLine` with the number of the first line that is none, counted from 1, and `NoMemory`
+/// where memory ran out before.
+///
+/// Example: of `b"new bytes x61\nlen h0\n"` it is `Ok(())`, and of `b"new bytes x61\nlen\n"` it is `Err(Misread::BadLine(2))`.
 pub fn check_lines(alloc: Global, input: &[u8]) -> Result<(), Misread>
     ensures { ChecksAll result (commands_in handle_in input.now) }
 {

@@ -30,8 +30,12 @@ fn new_of(alloc: Global, rest: &[&[u8]]) -> Result<Command, Unread>
     }
 }
 
-/// The one command that a line spells. The list of words is filled for the line, so that the lines
-/// of an input share its memory.
+/// The one command that a line spells. The list of words is filled for the line, so that the lines of
+/// an input share its memory.
+///
+/// It answers `NoCommand` where the line spells none, and `NoMemory` where memory runs out.
+///
+/// Example: of `b"len h0"` it gives `Command::Do` of `Verb::Len` with the subject 0.
 #[tactic(auto, unfolding(crate::specs::Commands::command_in))]
 pub fn command_of_line<'a>(
     alloc: Global,
@@ -58,6 +62,10 @@ pub fn command_of_line<'a>(
 }
 
 /// The one command that a line spells.
+///
+/// It answers `NoCommand` where the line spells none, and `NoMemory` where memory runs out.
+///
+/// Example: of `b"len h0"` it gives `Command::Do` of `Verb::Len` with the subject 0, and `b"len"` is no command.
 pub fn command(alloc: Global, line: &[u8]) -> Result<Command, Unread>
     ensures { Reads result (command_in handle_in line.now) }
 {

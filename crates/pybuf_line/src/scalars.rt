@@ -29,7 +29,10 @@ fn name(text: &[u8]) -> Result<Scalar, Unread>
     Err(Unread::NoCommand)
 }
 
-/// The number that a text spells in decimal digits, where a machine word holds it.
+/// The number that a text spells in decimal digits, where it is below 2^64. None exactly for every
+/// other text.
+///
+/// Example: `word_number(b"12")` is `Some(12)`, and `word_number(b"-1")` is `None`.
 pub fn word_number(text: &[u8]) -> Option<u64>
     ensures { result ≡ number_below (2 ^ 64) text.now }
 {
@@ -237,6 +240,10 @@ pub fn plain(alloc: Global, text: &[u8]) -> Result<Scalar, Unread>
 }
 
 /// The scalar that a text spells, which is a text where it begins with a quote.
+///
+/// It answers `NoCommand` where the text spells none, and `NoMemory` where memory runs out.
+///
+/// Example: of `b"x6162"` it gives `Scalar::Bytes` of `b"ab"`, and of `b"'H'"` it gives `Scalar::Text` of `H`.
 pub fn scalar(alloc: Global, spelled: &[u8]) -> Result<Scalar, Unread>
     ensures { Reads result (scalar_in handle_in spelled.now) }
 {

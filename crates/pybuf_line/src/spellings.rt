@@ -155,6 +155,10 @@ fn other_value(alloc: Global, text: &[u8]) -> Result<Value, Unread>
 }
 
 /// The one value that a word of a line spells.
+///
+/// It answers `NoCommand` where the word spells none, and `NoMemory` where memory runs out.
+///
+/// Example: of `b"(1,2)"` it gives `Value::Tuple` of 1 and 2, and of `b"1:3:None"` the slice `1:3:None`.
 #[inline(never)]
 #[tactic(auto, using(crate::proofs::Shorts::short_value))]
 pub fn value(alloc: Global, text: &[u8]) -> Result<Value, Unread>

@@ -9,6 +9,8 @@ use bstr::ByteSlice;
 use std::alloc::{AllocError, Global};
 
 /// The first line of an input, and what is left behind it. An input that is empty has none.
+///
+/// Example: of `b"len h0\nview h0\n"` it is `Some((b"len h0", b"view h0\n"))`.
 pub fn next_line<'a>(rest: &'a [u8]) -> Option<(&'a [u8], &'a [u8])>
     ensures { MatchOption result (lines rest.now ≡ []) (λ cut. lines rest.now ≡ cut.0.now ∷ lines cut.1.now) }
 {
@@ -21,7 +23,12 @@ pub fn next_line<'a>(rest: &'a [u8]) -> Option<(&'a [u8], &'a [u8])>
     }
 }
 
-/// Fills a list with the words of a line, which have one blank between them. What it held goes.
+/// Fills a list with the words of a line, which have one blank between them. What the list held before
+/// goes.
+///
+/// It fails only where memory runs out, and then the list may hold a part of the words.
+///
+/// Example: of `b"get h0 1"` the list is then `b"get"`, `b"h0"`, `b"1"`.
 pub fn fill_words<'a>(found: &mut Vec<&'a [u8]>, line: &'a [u8]) -> Result<(), AllocError>
     ensures { OnOk result (map (λ word. word.now) found.new.items ≡ words line.now) }
 {

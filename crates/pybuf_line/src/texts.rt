@@ -14,7 +14,11 @@ use pybuf_value::{
     push_scalar, push_truth,
 };
 
-/// Adds a decimal number.
+/// Adds a number in decimal digits.
+///
+/// Where memory runs out, a part of it may have been added.
+///
+/// Example: of 12 it adds `12`.
 pub fn push_decimal(out: &mut Vec<u8>, number: u64) -> Made<()>
     ensures { OnOk result (out.new.items ≡ out.old.items ++ decimal number) }
 {
@@ -32,11 +36,17 @@ fn push_text(out: &mut Vec<u8>, text: &[u8]) -> Made<()>
 }
 
 /// What a tuple or a list of a reply may have as its parts.
+///
+/// Example: a number, bytes, a scalar and an item are such parts.
 pub trait Part {
     // the text of a part
     ghost text: { Self → List ℕ };
 
-    /// Adds the part.
+    /// Adds the part, as it stands in a tuple or a list.
+    ///
+    /// Where memory runs out, a part of it may have been added.
+    ///
+    /// Example: of the number 5 it adds `5`.
     fn push_part(&self, out: &mut Vec<u8>) -> Made<()>
         ensures { OnOk result (out.new.items ≡ out.old.items ++ text self.now) };
 }
@@ -76,7 +86,11 @@ fn push_next_parts<T: Part>(out: &mut Vec<u8>, parts: &[T]) -> Made<()>
     Ok(())
 }
 
-/// Adds a tuple.
+/// Adds a tuple, as Python's `repr` writes it.
+///
+/// Where memory runs out, a part of it may have been added.
+///
+/// Example: of 3 alone it adds `(3,)`.
 pub fn push_tuple<T: Part>(out: &mut Vec<u8>, parts: &[T]) -> Made<()>
     ensures { OnOk result (out.new.items ≡ out.old.items ++ tuple_text T.text parts.now) }
 {
@@ -108,7 +122,11 @@ impl Part for Item {
     }
 }
 
-/// Adds a list.
+/// Adds a list, as Python's `repr` writes it.
+///
+/// Where memory runs out, a part of it may have been added.
+///
+/// Example: of `b"a"` and `b"b"` it adds `[b'a', b'b']`.
 pub fn push_list<T: Part>(out: &mut Vec<u8>, parts: &[T]) -> Made<()>
     ensures { OnOk result (out.new.items ≡ out.old.items ++ list_text T.text parts.now) }
 {
@@ -125,6 +143,10 @@ pub fn push_list<T: Part>(out: &mut Vec<u8>, parts: &[T]) -> Made<()>
 }
 
 /// Adds items nested by a shape. Each block is lent, and none is copied.
+///
+/// Where memory runs out, a part of it may have been added.
+///
+/// Example: of the shape 2, 3 and the items 0 to 5 it adds `[[0, 1, 2], [3, 4, 5]]`.
 pub fn push_nested(out: &mut Vec<u8>, shape: &[usize], items: &[Item]) -> Made<()>
     ensures { OnOk result (out.new.items ≡ out.old.items ++ nested_text (item_text handle_text) shape.now items.now) }
 {
@@ -165,7 +187,12 @@ fn push_refusal(out: &mut Vec<u8>, fault: Fault) -> Made<()>
     push_text(out, fault.python_name().as_bytes())
 }
 
-/// Adds a reply. It ends in each arm, since one way out for all arms would be too much for the prover.
+/// Adds the text of a reply.
+///
+/// Where memory runs out, a part of it may have been added. It ends in each arm, since one way out for
+/// all arms would be too much for the prover.
+///
+/// Example: of `Reply::Truth(true)` it adds `True`, and of `Reply::Refused(Fault::Index)` it adds `! IndexError`.
 pub fn push_reply(out: &mut Vec<u8>, reply: &Reply) -> Made<()>
     ensures { OnOk result (out.new.items ≡ out.old.items ++ reply_text handle_text reply.now) }
 {
@@ -188,6 +215,10 @@ pub fn push_reply(out: &mut Vec<u8>, reply: &Reply) -> Made<()>
 }
 
 /// Adds a reply and its line feed.
+///
+/// Where memory runs out, a part of it may have been added.
+///
+/// Example: of `Reply::Handle(0)` it adds `h0` and a line feed.
 pub fn push_reply_line(out: &mut Vec<u8>, reply: &Reply) -> Made<()>
     ensures { OnOk result (out.new.items ≡ out.old.items ++ reply_line handle_text reply.now) }
 {
@@ -197,6 +228,10 @@ pub fn push_reply_line(out: &mut Vec<u8>, reply: &Reply) -> Made<()>
 }
 
 /// Adds what is written of an input whose line of this number is no command.
+///
+/// Where memory runs out, a part of it may have been added.
+///
+/// Example: of 2 it adds `line 2 is not a command` and a line feed.
 pub fn push_bad_line(out: &mut Vec<u8>, number: u64) -> Made<()>
     ensures { OnOk result (out.new.items ≡ out.old.items ++ bad_line_text number) }
 {

@@ -52,6 +52,8 @@ pub enum Word {
 }
 
 /// Whether a text is a word, byte by byte.
+///
+/// Example: `is_word(b"len", "len")` is `true`, and `is_word(b"lens", "len")` is `false`.
 pub fn is_word(text: &[u8], word: &str) -> bool
     ensures { result ≡ bytes_eq text.now word.now }
 {
@@ -266,7 +268,9 @@ pub fn kind_named(text: &[u8]) -> Option<ExporterKind>
     None
 }
 
-/// The operator of a comparison that a text spells.
+/// The operator of a comparison that a text spells. None exactly for every other text.
+///
+/// Example: `operator_named(b"<=")` is `Some(CompareOp::Le)`, and `operator_named(b"=")` is `None`.
 pub fn operator_named(text: &[u8]) -> Option<CompareOp>
     ensures { result ≡ operator_in text.now }
 {

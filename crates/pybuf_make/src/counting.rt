@@ -124,6 +124,8 @@ fn rounds(run: &mut Counted, n: u16) -> Made<()>
 /// Makes the script of a number, runs it in a new world, and tells of its run: how many commands it
 /// has, how many of them were refused, how many handles were given, how long the bytearray is at the
 /// end, and the sum of its bytes. Each command is made where it is carried out, and let go.
+///
+/// Example: of 1 it gives the lines `lines 3`, `refused 0`, `handles 1`, `length 1` and `sum 3`.
 pub fn make_summary(alloc: Global, n: u16) -> Made<Vec<u8>>
     ensures { IfOk result (λ text. text.items ≡ summary n) }
 {

@@ -51,7 +51,7 @@ impl PyMemoryViewIterator {
     ///
     /// Refused with `UnknownName` where no iterator of this number was given; unless it is exhausted, with
     /// `ValueError` where its view was released, and with `NotImplementedError` where that hasn't one dimension and
-    /// an entry is left. A refusal leaves it where it is.
+    /// an entry is left. Where it is refused, or memory runs out, it stays where it is.
     /// Example: over a view of `b"a"` it replies the item 97, and then `Stop`.
     pub fn next(&self, alloc: Global, state: &mut ExporterState) -> Made<LocalReply>
         ensures ok { IfOk result (λ r. estep state.old.exporter (subjects.Iter self.now) verbs.Next [] ≡ (state.new.exporter, r)) }

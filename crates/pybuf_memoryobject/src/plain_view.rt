@@ -175,7 +175,8 @@ impl PyMemoryView {
     }
 
     /// Writes the items of a view of the same exporter over those that a slice picks, also where the two overlap. The
-    /// items count as they were before the first is written. It is refused as `assign_from` is.
+    /// items count as they were before the first is written. It is refused as `assign_from` is. Nothing is changed
+    /// then, nor where memory runs out.
     /// Example: over a view of `b"abc"` the slice `::-1` and the view itself make `b"cba"`.
     pub fn assign_within<S: Into<PySlice>>(
         &self,

@@ -130,7 +130,11 @@ impl PyMemoryView {
     }
 
     /// The bytes of the items as hexadecimal digits, of which the last dimension runs fastest, as Python's
-    /// `view.hex(sep, bytes_per_sep)` (Library reference, "Memory Views").
+    /// `view.hex(sep, bytes_per_sep)` (Library reference, "Memory Views"). Refused with `TypeError` where the
+    /// separator is neither a text nor bytes; then with `TypeError` where the size of a group is no number, and with
+    /// `OverflowError` where it doesn't fit; then, where there are bytes and the size isn't 0, with `ValueError` for
+    /// a separator that isn't one byte below 128, and with `OverflowError` where the text is longer than
+    /// `isize::MAX`.
     /// Example: of a view of `b"Abc"` with the separator `':'` it replies the text `41:62:63`.
     pub fn hex(
         &self,

@@ -16,12 +16,16 @@ use pybuf_value::{
 };
 use std::alloc::Global;
 
-/// What handles name, and their bytes from where they lie: pairs of a handle and a snap, of which none need
-/// be made.
+/// What handles name, with their bytes read from where they lie. It stands for pairs of a handle and a
+/// snap, of which none need be made.
+///
+/// Example: with the pair of 7 and a snap of the bytearray `b"ab"` the handle 7 names the bytes `b"ab"`.
 pub trait Contents {
     ghost pairs: { Self → List (ℕ × Snap) };
 
     /// What kind of thing a handle names; `None` exactly where it names nothing.
+    ///
+    /// Example: of a handle of a bytearray it is `Some(SnapKind::ByteArray)`.
     fn kind(&self, handle: u64) -> Option<SnapKind>
         ensures { result ≡ kind_of_named (snap_of (pairs self.now) handle) };
 
@@ -29,6 +33,8 @@ pub trait Contents {
     ///
     /// Refused with `UnknownName` where it names nothing, with `ValueError` for a released view, and with
     /// `TypeError` for a view whose items don't lie one after another and for an iterator.
+    ///
+    /// Example: of a handle of the bytearray `b"ab"` it is `Ok(b"ab")`, and of one of an iterator it is `Err(Fault::Kind)`.
     fn run(&self, handle: u64) -> Result<&[u8], Fault>
         ensures { MatchResult result (λ bytes. content_of (snap_of (pairs self.now) handle) ≡ Ok bytes.now) (λ fault. content_of (snap_of (pairs self.now) handle) ≡ Err fault) };
 
@@ -36,11 +42,15 @@ pub trait Contents {
     ///
     /// Refused with `UnknownName` where it names nothing, with `ValueError` for a released view, and with
     /// `TypeError` for an iterator.
+    ///
+    /// Example: of a handle of every second item of a view of `b"abcd"` it gives `b"ac"`.
     fn content(&self, alloc: Global, handle: u64) -> Result<Lent<'_>, Halt>
         ensures { Lends (content_of_named (snap_of (pairs self.now) handle)) result };
 }
 
 /// The names that a lender has.
+///
+/// Example: by a `SnapList` with the pair of 7 and a snap of `b"ab"` the handle 7 names `b"ab"`.
 #[derive(Debug, Drop)]
 pub struct ByLender<'a, L> {
     pub lender: &'a L,

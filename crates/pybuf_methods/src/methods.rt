@@ -11,8 +11,12 @@ use pybuf_letters::{is_alnum, is_alpha, is_digit, is_lower, is_space, is_title, 
 use pybuf_value::{Halt, Lender, Tried, Value, is_ascii, tried};
 use std::alloc::Global;
 
-/// What a method of the bytes answers, by its name and arguments, as `apply_method` says it, where what
-/// handles name is read from where it lies.
+/// What a method of the bytes answers, by its name and arguments. What handles name is read from where
+/// it lies.
+///
+/// Refused as `apply_method` is.
+///
+/// Example: of `b"Abc"`, `MethodName::Find` and the argument `b"c"` it gives `MethodReply::Number(2)`.
 pub fn reply_of<N: Contents>(
     alloc: Global,
     bytes: &[u8],
@@ -78,6 +82,8 @@ pub fn reply_of<N: Contents>(
 ///
 /// Refused with `TypeError` for a wrong number of arguments, then as the first argument from left to right
 /// that is refused, and then by the method's own rule.
+///
+/// Example: of `b"Abc"` and the call of `MethodName::Find` with `b"c"` it gives `MethodReply::Number(2)`.
 pub fn apply_method<L: Lender>(
     alloc: Global,
     bytes: &[u8],

@@ -106,13 +106,15 @@ fn text_of(
     done(decode_text(alloc, bytes, encoding, errors))
 }
 
-/// Hexadecimal digits of bytes, with a separator between groups where one is given, as an argument of
-/// Python's `bytes.hex`; in groups of one byte where no size is given.
+/// The hexadecimal digits of bytes, with a separator between groups where one is given, as an argument
+/// of Python's `bytes.hex`. The groups are of one byte where no size is given.
 ///
-/// Refused with `UnknownName` where the separator is a handle that names nothing, and with `TypeError` where
-/// it is neither a text nor bytes; then with `TypeError` and `OverflowError` by the size; then, where there
-/// are bytes and the size isn't 0, with `ValueError` for a separator that isn't one byte below 128, and with
-/// `OverflowError` where the text is longer than `isize::MAX`.
+/// Refused with `UnknownName` where the separator is a handle that names nothing, and with `TypeError`
+/// where it is neither a text nor bytes; then with `TypeError` and `OverflowError` by the size; then,
+/// where there are bytes and the size isn't 0, with `ValueError` for a separator that isn't one byte
+/// below 128, and with `OverflowError` where the text is longer than `isize::MAX`.
+///
+/// Example: of `b"Abc"`, the separator `':'` and the size 2 it gives the text `41:6263`.
 pub fn hex_of<N: Contents>(
     alloc: Global,
     bytes: &[u8],

@@ -37,10 +37,12 @@ fn sought<'a, N: Contents>(alloc: Global, value: &'a Value, names: &'a N) -> Res
     }
 }
 
-/// Whether what a value is searched as stands in bytes, as Python's `value in bytes`: a whole number, or a
-/// truth value as 0 or 1, as one byte, and any other value as the bytes that it is read as.
+/// Whether a value stands in bytes, as Python's `value in bytes` asks. A whole number, or a truth value
+/// as 0 or 1, is searched as one byte, and any other value as the bytes that it is read as.
 ///
 /// Refused with `ValueError` for a number outside `0..256`, and else as `bytes_from_object` refuses.
+///
+/// Example: of `b"Abc"` and the value `b"bc"` it gives true, and the value 256 is refused with `ValueError`.
 pub fn contains_in<N: Contents>(
     alloc: Global,
     bytes: &[u8],

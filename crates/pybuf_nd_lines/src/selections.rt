@@ -16,7 +16,10 @@ use pybuf_value::{CountList, Items, Made, Outcome, Text};
 use std::alloc::Global;
 use std::marker::Model;
 
-/// Of bytes in a shape those that slices pick, one slice for each dimension, or the transposition of these.
+/// The bytes that slices pick of bytes in a shape, with one slice for each dimension, or the
+/// transposition of what they pick.
+///
+/// Example: of the shape `[2,3]` and the slices `::-1` and `1:3` it picks, of the bytes 0 to 5, 4, 5, 1, 2.
 #[derive(Debug, Drop)]
 pub struct Selection {
     shape: CountList,
@@ -60,9 +63,14 @@ fn selection_of_key(
     }
 }
 
-/// What words ask for: a shape, which is a list of one to 64 numbers from 1 on with a product of at most 1,048,576, and a
-/// tuple of as many slices; the word `T` behind them asks for the transposition. None exactly where a word is misspelled,
-/// there are more slices or fewer, one of them is refused, or there are more words or fewer.
+/// What words ask for: a shape, and a tuple of as many slices as it has dimensions. The shape is a list
+/// of one to 64 numbers from 1 on, with a product of at most 1,048,576. The word `T` behind both asks
+/// for the transposition.
+///
+/// None exactly where a word is misspelled, there are more slices or fewer, one of them is refused, or
+/// there are more words or fewer.
+///
+/// Example: of `[2,3]` and `(None:None:-1,1:3:None)` it gives a selection; `(1:2:None)` has too few slices.
 pub fn selection_of_words(alloc: Global, words: &[Text]) -> Made<Option<Selection>>
     ensures { IfOk result (λ selection. selection ≡ selection_in words.now) }
 {
@@ -96,6 +104,8 @@ fn bytes_turned(alloc: Global, input: &[u8], view: &KeptLayout, transposed: bool
 
 impl Selection {
     /// How many bytes the shape has.
+    ///
+    /// Example: of the shape `[2,3]` it is 6.
     pub fn bytes_due(&self) -> usize
         ensures value { result ≡ bytes_due self.now }
         ensures small { result < 2 ^ 63 }
@@ -108,6 +118,8 @@ impl Selection {
     }
 
     /// The bytes of an input that are asked for, row-major, where it has as many bytes as the shape.
+    ///
+    /// Example: of the shape `[2,3]`, the slices `::-1` and `1:3`, and the bytes 0 to 5 it gives 4, 5, 1, 2.
     pub fn bytes_of(&self, alloc: Global, input: &[u8]) -> Made<Vec<u8>>
         requires { length input.now ≡ bytes_due self.now }
         ensures { IfOk result (λ bytes. bytes.items ≡ selection_text self.now input.now) }

@@ -4,32 +4,46 @@ ghost use Rattle.std.specs.List.{list_all};
 ghost use Rattle.pybuf_numbers.specs.Codes as spec;
 
 /// Which numbers an array holds: the native types of C that a letter stands for.
+///
+/// Example: `ArrayCode::UShort` is the code `H`, whose numbers have two bytes and go from 0 to 65535.
 #[derive(Clone, Copy, Debug, PartialEq, Eq)]
 pub enum ArrayCode {
-    /// `b`, one byte, signed.
+    /// `b`, signed numbers of one byte.
+    /// Example: the byte 255 is the number -1.
     SByte,
-    /// `B`, one byte.
+    /// `B`, numbers of one byte without a sign.
+    /// Example: the byte 255 is the number 255.
     UByte,
-    /// `h`, two bytes, signed.
+    /// `h`, signed numbers of two bytes.
+    /// Example: `b"\xff\xff"` is the number -1.
     Short,
-    /// `H`, two bytes.
+    /// `H`, numbers of two bytes without a sign.
+    /// Example: `b"\x02\x01"` is the number 258.
     UShort,
-    /// `i`, four bytes, signed.
+    /// `i`, signed numbers of four bytes.
+    /// Example: four bytes 255 are the number -1.
     Int,
-    /// `I`, four bytes.
+    /// `I`, numbers of four bytes without a sign.
+    /// Example: `b"\x05\0\0\0"` is the number 5.
     UInt,
-    /// `l`, eight bytes, signed.
+    /// `l`, signed numbers of eight bytes.
+    /// Example: eight bytes 255 are the number -1.
     Long,
-    /// `L`, eight bytes.
+    /// `L`, numbers of eight bytes without a sign.
+    /// Example: eight bytes 255 are the number 18446744073709551615.
     ULong,
-    /// `q`, eight bytes, signed.
+    /// `q`, signed numbers of eight bytes.
+    /// Example: eight bytes 255 are the number -1.
     LongLong,
-    /// `Q`, eight bytes.
+    /// `Q`, numbers of eight bytes without a sign.
+    /// Example: eight bytes 255 are the number 18446744073709551615.
     ULongLong,
 }
 
 impl ArrayCode {
     /// The code that a letter stands for; None exactly for every other byte. Takes no memory.
+    ///
+    /// Example: `ArrayCode::from_byte(b'H')` is `Some(ArrayCode::UShort)`, and `ArrayCode::from_byte(b'x')` is `None`.
     pub fn from_byte(code: u8) -> Option<ArrayCode>
         ensures { result ≡ spec.code_of code }
     {
@@ -48,7 +62,9 @@ impl ArrayCode {
         }
     }
 
-    /// The letter.
+    /// The letter that stands for the code.
+    ///
+    /// Example: `ArrayCode::UShort.letter()` is `b'H'`.
     pub fn letter(self) -> u8
         ensures { result ≡ spec.letter_of self }
     {
@@ -66,7 +82,9 @@ impl ArrayCode {
         }
     }
 
-    /// The bytes of one number.
+    /// The number of bytes of one number.
+    ///
+    /// Example: `ArrayCode::UShort.size()` is 2.
     pub fn size(self) -> usize
         ensures { result ≡ spec.size_of self }
     {
@@ -78,7 +96,9 @@ impl ArrayCode {
         }
     }
 
-    /// Whether numbers below 0 are among them.
+    /// Whether numbers below 0 are among the numbers of the code.
+    ///
+    /// Example: `ArrayCode::UShort.is_signed()` is `false`.
     pub fn is_signed(self) -> bool
         ensures { result ≡ spec.is_signed self }
     {
@@ -108,7 +128,9 @@ impl ArrayCode {
         }
     }
 
-    /// Whether a number is among them.
+    /// Whether a number is among the numbers of the code.
+    ///
+    /// Example: `ArrayCode::UShort.holds(65535)` is `true`, and `ArrayCode::UShort.holds(65536)` is `false`.
     pub fn holds(self, number: i128) -> bool
         ensures { result ≡ spec.holds self number }
     {
@@ -120,7 +142,9 @@ impl ArrayCode {
         -half <= number && number < half
     }
 
-    /// Whether all these numbers are among them.
+    /// Whether all these numbers are among the numbers of the code.
+    ///
+    /// Example: `ArrayCode::UByte.holds_all(&[0, 255])` is `true`, and of `&[0, 256]` it is `false`.
     pub fn holds_all(self, numbers: &[i128]) -> bool
         ensures all { result ≡ list_all (spec.holds self) numbers.now }
         ensures each { result ≡ true → All (λ n. spec.holds self n ≡ true) numbers.now }

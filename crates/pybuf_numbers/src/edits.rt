@@ -13,6 +13,8 @@ use pybuf_value::Made;
 use std::alloc::Global;
 
 /// Adds a number at the end. Where memory runs out, the bytes are as before.
+///
+/// Example: of `ArrayCode::UShort` with 258 it makes `b"\x05\0\x02\x01"` of `b"\x05\0"`.
 #[inline]
 pub fn push_number(code: ArrayCode, bytes: &mut Vec<u8>, number: i128) -> Made<()>
     requires whole { spec.is_whole code bytes.old.items ≡ true }
@@ -27,6 +29,8 @@ pub fn push_number(code: ArrayCode, bytes: &mut Vec<u8>, number: i128) -> Made<(
 }
 
 /// Adds the numbers of other bytes at the end. Where memory runs out, the bytes are as before.
+///
+/// Example: of `ArrayCode::UShort` with `b"\x02\x01"` it makes `b"\x05\0\x02\x01"` of `b"\x05\0"`.
 pub fn push_bytes(code: ArrayCode, bytes: &mut Vec<u8>, others: &[u8]) -> Made<()>
     requires whole { spec.is_whole code bytes.old.items ≡ true }
     requires others { spec.is_whole code others.now ≡ true }
@@ -39,6 +43,8 @@ pub fn push_bytes(code: ArrayCode, bytes: &mut Vec<u8>, others: &[u8]) -> Made<(
 }
 
 /// The bytes of numbers, one after the other. Memory is taken once.
+///
+/// Example: of `ArrayCode::UShort` and the numbers 5 and 258 it gives `b"\x05\0\x02\x01"`.
 pub fn bytes_of(alloc: Global, code: ArrayCode, numbers: &[i128]) -> Made<Vec<u8>>
     requires { All (λ n. holds code n ≡ true) numbers.now }
     ensures bytes { IfOk result (λ bytes. bytes.items ≡ spec.bytes_of code numbers.now) }
@@ -57,7 +63,10 @@ pub fn bytes_of(alloc: Global, code: ArrayCode, numbers: &[i128]) -> Made<Vec<u8
     Ok(bytes)
 }
 
-/// Puts a number before the one at a place, or behind all. Where memory runs out, the bytes are as before.
+/// Puts a number before the one at a place, or behind all where the place is their number. Where memory
+/// runs out, the bytes are as before.
+///
+/// Example: of `ArrayCode::UShort` at 0 with 258 it makes `b"\x02\x01\x05\0"` of `b"\x05\0"`.
 pub fn insert_number(
     alloc: Global,
     code: ArrayCode,
@@ -80,6 +89,8 @@ pub fn insert_number(
 }
 
 /// Takes the number at a place out. Takes no memory.
+///
+/// Example: of `ArrayCode::UShort` at 0 it makes `b"\x02\x01"` of `b"\x05\0\x02\x01"`.
 pub fn remove_number(code: ArrayCode, bytes: &mut Vec<u8>, place: usize)
     requires whole { spec.is_whole code bytes.old.items ≡ true }
     requires there { place < length (spec.numbers_of code bytes.old.items) }

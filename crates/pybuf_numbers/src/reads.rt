@@ -22,6 +22,8 @@ pub(crate) fn start_of(code: ArrayCode, bytes: &[u8], place: usize) -> usize
 }
 
 /// The number at a place.
+///
+/// Example: of `ArrayCode::UShort` and `b"\x05\0\x02\x01"` at 1 it is 258.
 #[inline]
 pub fn number_at(code: ArrayCode, bytes: &[u8], place: usize) -> i128
     requires { place < length (spec.numbers_of code bytes.now) }
@@ -33,6 +35,8 @@ pub fn number_at(code: ArrayCode, bytes: &[u8], place: usize) -> i128
 }
 
 /// Whether no byte is left over behind the numbers.
+///
+/// Example: of `ArrayCode::UShort` and `b"\x05\0"` it is `true`, and of `b"\x05\0\x02"` it is `false`.
 pub fn is_whole(code: ArrayCode, bytes: &[u8]) -> bool
     ensures { result ≡ spec.is_whole code bytes.now }
 {
@@ -40,6 +44,8 @@ pub fn is_whole(code: ArrayCode, bytes: &[u8]) -> bool
 }
 
 /// How many numbers bytes spell. Takes no memory.
+///
+/// Example: of `ArrayCode::UShort` and `b"\x05\0\x02\x01"` it is 2.
 #[inline]
 pub fn count_of_numbers(code: ArrayCode, bytes: &[u8]) -> usize
     ensures { result ≡ length (spec.numbers_of code bytes.now) }
@@ -48,6 +54,8 @@ pub fn count_of_numbers(code: ArrayCode, bytes: &[u8]) -> usize
 }
 
 /// The place of the first number that is this one; None exactly where none is.
+///
+/// Example: of `ArrayCode::UShort`, `b"\x05\0\x02\x01"` and 258 it is `Some(1)`, and of 7 it is `None`.
 pub fn place_of_number(code: ArrayCode, bytes: &[u8], number: i128) -> Option<usize>
     ensures { result ≡ position (int_eq number) (spec.numbers_of code bytes.now) }
 {
@@ -59,7 +67,9 @@ pub fn place_of_number(code: ArrayCode, bytes: &[u8], number: i128) -> Option<us
     None
 }
 
-/// All numbers, in order. It is one pass, and memory is taken once.
+/// All numbers that the bytes spell, in order. It is one pass, and memory is taken once.
+///
+/// Example: of `ArrayCode::UShort` and `b"\x05\0\x02\x01"` it gives 5, 258.
 pub fn numbers(alloc: Global, code: ArrayCode, bytes: &[u8]) -> Made<NumberList>
     ensures { IfOk result (λ list. list ≡ spec.numbers_of code bytes.now) }
 {

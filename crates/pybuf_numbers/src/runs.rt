@@ -8,6 +8,8 @@ ghost use Rattle.pybuf_numbers.specs.Walks as spec;
 use pybuf_index::{SaturatedSlice, indices_of_a_span};
 
 /// Indices one stride apart, upwards or downwards. A clause sees the list of them (`indices_of`).
+///
+/// Example: the start 4, the stride 2, the count 3 and `falls` are the indices 4, 2, 0.
 #[derive(Clone, Copy, Debug)]
 pub struct IndexRun {
     /// The first index.
@@ -40,7 +42,9 @@ impl IndexRun {
         }
     }
 
-    /// The indices of so many items.
+    /// The indices of so many items, from 0 up.
+    ///
+    /// Example: `IndexRun::all(3)` is 0, 1, 2.
     pub fn all(count: usize) -> IndexRun
         ensures indices { spec.indices_of result ≡ range_with_len 0 count }
         ensures count { result.count ≡ count }
@@ -55,6 +59,8 @@ impl IndexRun {
     }
 
     /// How many indices there are.
+    ///
+    /// Example: `IndexRun::all(3).len()` is 3.
     pub fn len(&self) -> usize
         ensures indices { result ≡ length (spec.indices_of self.now) }
         ensures count { result ≡ self.now.count }
@@ -63,6 +69,8 @@ impl IndexRun {
     }
 
     /// The index at a place.
+    ///
+    /// Example: of the indices 4, 2, 0 at 1 it is 2.
     pub fn at(&self, place: usize) -> usize
         requires there { place < self.now.count }
         requires inside { spec.LiesBelow (2 ^ 63) self.now }
@@ -136,6 +144,8 @@ impl IndexRun {
     }
 
     /// Those of the indices that a slice picks. It takes as long whatever their number.
+    ///
+    /// Example: of the indices 0, 1, 2, 3, 4 by the slice `::2` it is 0, 2, 4.
     pub fn picked(&self, slice: &SaturatedSlice) -> IndexRun
         requires few { self.now.count < 2 ^ 63 }
         requires inside { spec.LiesBelow (2 ^ 63) self.now }

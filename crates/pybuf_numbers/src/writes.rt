@@ -10,6 +10,8 @@ use crate::reads::start_of;
 use crate::words::word_of;
 
 /// Puts a number in place of the one at a place.
+///
+/// Example: of `ArrayCode::UShort` at 0 with 258 it makes `b"\x02\x01"` of `b"\x05\0"`.
 #[inline]
 pub fn put_number(code: ArrayCode, bytes: &mut [u8], place: usize, number: i128)
     requires whole { spec.is_whole code bytes.old ≡ true }
@@ -49,6 +51,8 @@ fn turn_pieces<const SIZE: usize>(bytes: &mut [u8], count: usize)
 }
 
 /// Reverses the bytes of each number. It is one pass, and takes no memory.
+///
+/// Example: of `ArrayCode::UShort` it makes `b"\x01\x02"` of `b"\x02\x01"`.
 pub fn swap_numbers(code: ArrayCode, bytes: &mut [u8])
     requires { spec.is_whole code bytes.old ≡ true }
     ensures numbers { spec.numbers_of code bytes.new ≡ map (spec.swapped code) (spec.numbers_of code bytes.old) }

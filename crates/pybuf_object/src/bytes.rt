@@ -199,7 +199,8 @@ impl PyBytes {
     }
 
     /// Whether a value stands in the bytes, as Python's `value in bytes` (Library reference, "Common Sequence
-    /// Operations"). A number is one byte, and any other value is read as bytes.
+    /// Operations"). A number is one byte, and any other value is read as bytes. Refused with `ValueError` for a
+    /// number outside `0..256`, and as `bytes_from_object` refuses any other value.
     /// Example: in `b"Abc"` the value `b"bc"` replies `Truth(true)`.
     pub fn contains(&mut self, value: Value, loans: LoanList) -> Made<LocalReply>
         requires { LoansFit loans }
@@ -215,7 +216,8 @@ impl PyBytes {
     }
 
     /// Calls a method by its name, as Python's `bytes.find(value)` and the others (Library reference, "Bytes and
-    /// Bytearray Operations").
+    /// Bytearray Operations"). Refused with `TypeError` for a wrong number of arguments, then as the first argument
+    /// from left to right that is refused, and then by the method's own rule.
     /// Example: on `b"a,b,c"` the method `MethodName::RemovePrefix` with `b"a,"` replies the bytes `b"b,c"`.
     pub fn call(&mut self, method: MethodCall, loans: LoanList) -> Made<LocalReply>
         requires { LoansFit loans }

@@ -48,7 +48,7 @@ impl PyBytesIterator {
     }
 
     /// The next byte, or `Stop` where there is none, as Python's `next(iterator)` (Library reference, "Iterator
-    /// Types"). After one `Stop` it replies `Stop` for ever.
+    /// Types"). After one `Stop` it replies `Stop` for ever. Where memory runs out, nothing is changed.
     ///
     /// Refused with `UnknownName` where no iterator of this number was given.
     /// Example: over `b"a"` it replies the item 97, and then `Stop`.
@@ -60,10 +60,10 @@ impl PyBytesIterator {
         step_without_loans(alloc, state, Subject::Iter(self.number), Verb::Next)
     }
 
-    /// How many items are still to come, at least 0, as Python's `iterator.__length_hint__()` (Library
-    /// reference, "operator.length_hint").
+    /// How many items are still to come, at least 0, as Python's `iterator.__length_hint__()` (Library reference,
+    /// "operator.length_hint").
     ///
-    /// Refused with `UnknownName` where it isn't an iterator over bytes.
+    /// Refused with `UnknownName` where no iterator over bytes has this number. Nothing of the exporter is changed.
     /// Example: after one `next` over `b"abc"` it replies the item 2.
     pub fn length_hint(&self, alloc: Global, state: &mut ExporterState) -> Made<LocalReply>
         ensures ok { IfOk result (λ r. estep state.old.exporter (subjects.Iter self.now) verbs.LengthHint [] ≡ (state.new.exporter, r)) }
@@ -135,7 +135,7 @@ impl PyByteArrayIterator {
     }
 
     /// The next byte, or `Stop` where there is none, as Python's `next(iterator)` (Library reference, "Iterator
-    /// Types"). After one `Stop` it replies `Stop` for ever.
+    /// Types"). After one `Stop` it replies `Stop` for ever. Where memory runs out, nothing is changed.
     ///
     /// Refused with `UnknownName` where no iterator of this number was given.
     /// Example: over `bytearray(b"a")` it replies the item 97; once 98 was appended the item 98; and then `Stop`.
@@ -147,10 +147,10 @@ impl PyByteArrayIterator {
         step_without_loans(alloc, state, Subject::Iter(self.number), Verb::Next)
     }
 
-    /// How many items are still to come, at least 0, as Python's `iterator.__length_hint__()` (Library
-    /// reference, "operator.length_hint").
+    /// How many items are still to come, at least 0, as Python's `iterator.__length_hint__()` (Library reference,
+    /// "operator.length_hint").
     ///
-    /// Refused with `UnknownName` where it isn't an iterator over bytes.
+    /// Refused with `UnknownName` where no iterator over bytes has this number. Nothing of the exporter is changed.
     /// Example: after one `next` over `bytearray(b"abc")` it replies the item 2.
     pub fn length_hint(&self, alloc: Global, state: &mut ExporterState) -> Made<LocalReply>
         ensures ok { IfOk result (λ r. estep state.old.exporter (subjects.Iter self.now) verbs.LengthHint [] ≡ (state.new.exporter, r)) }

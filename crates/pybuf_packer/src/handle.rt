@@ -7,7 +7,8 @@ use pybuf_slot::Block;
 use std::alloc::Global;
 use std::mem;
 
-/// A packer, or none. All zeros are a handle that holds none.
+/// The handle by which a program in C holds a packer, or none. All zeros are a handle that holds none.
+/// Example: `FormatHandle::empty(alloc)` stands for a handle before a format was parsed.
 #[repr(C)]
 pub struct FormatHandle {
     pub address: PackerAddress,
@@ -24,7 +25,8 @@ impl Drop for FormatHandle {
 impl FormatHandle {
     ghost use Rattle.pybuf_packer.specs.Held.{held};
 
-    /// A handle that holds no packer.
+    /// A handle that holds no packer. Takes no memory.
+    /// Example: `FormatHandle::empty(alloc).take(alloc)` is None.
     #[inline(always)]
     pub fn empty(alloc: Global) -> FormatHandle
         ensures { held result ≡ None }
@@ -35,7 +37,8 @@ impl FormatHandle {
         }
     }
 
-    /// The handle of a packer.
+    /// The handle of a packer. Takes no memory.
+    /// Example: `FormatHandle::of(packer).take(alloc)` is `Some(packer)`.
     #[inline(always)]
     pub fn of(packer: Box<Packer, Global>) -> FormatHandle
         ensures { held result ≡ Some packer.value }
@@ -59,7 +62,8 @@ impl FormatHandle {
         }
     }
 
-    /// Takes the packer out of the handle, which holds none then.
+    /// Takes the packer out of the handle, which holds none then. It is None where it held none. Takes no memory.
+    /// Example: a second `take` is None.
     #[inline(always)]
     pub fn take(&mut self, alloc: Global) -> Option<Box<Packer, Global>>
         ensures empty { held self.new ≡ None }
@@ -68,7 +72,8 @@ impl FormatHandle {
         mem::replace(self, FormatHandle::empty(alloc)).into_packer()
     }
 
-    /// Puts a packer into the handle. One that it held is freed.
+    /// Puts a packer into the handle. One that it held is freed. Takes no memory.
+    /// Example: after `handle.put(packer)` `handle.take(alloc)` is `Some(packer)`.
     #[inline(always)]
     pub fn put(&mut self, packer: Box<Packer, Global>)
         ensures { held self.new ≡ Some packer.value }

@@ -39,9 +39,9 @@ pub fn adjust_indices(start: Option<i128>, end: Option<i128>, len: usize) -> Ran
     first..last
 }
 
-/// A range of bytes.
+/// A range of bytes, from a start up to an end.
 ///
-/// Example: of the ranges `3..5` and `9..5` it tells the first as one with its start at most its end.
+/// Example: `3..5` is a range with its start at most its end, and `9..5` is none.
 pub trait StringRange {
     // Whether the start is at most the end.
     ghost is_ordered: { Self → Bool };

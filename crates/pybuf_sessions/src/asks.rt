@@ -16,7 +16,9 @@ use pybuf_line::{Unread, command};
 use pybuf_value::{Made, push_handle};
 use std::alloc::Global;
 
-/// What a line asks: a command, of the session of a number.
+/// A command that a line asks of a session, with the number of that session.
+///
+/// Example: the line `0 append own 99` asks session 0 for `Verb::Append` of `Subject::Own`.
 #[derive(Debug, Drop)]
 pub struct Ask {
     pub session: usize,

@@ -75,16 +75,20 @@ fn read_all(alloc: Global, input: &[u8]) -> Result<Sessions, Misread>
     }
 }
 
-/// The sessions of an input, or its first line that is wrong.
+/// The sessions of an input.
 ///
 /// The first line is `new KIND xHEX`: the kind of the exporter, and its bytes. Each line behind it is
-/// `S WORD NAME ARGS`: the number of a session, one or two decimal digits of a number below 16, and a command, in which
-/// names stand where other lines have handles. `own` names the exporter, `mK` the K-th view and `iK` the K-th iterator that the
-/// session was given, counted from 0. The names among the values of a command become the handles 0, 1 and so on, from
-/// the left, and are lent as what they name. There is a script for each session up to the greatest number, and one where
-/// there is no command.
+/// `S WORD NAME ARGS`: the number of a session, one or two decimal digits of a number below 16, and a
+/// command, in which names stand where other lines have handles. `own` names the exporter, `mK` the
+/// K-th view and `iK` the K-th iterator that the session was given, counted from 0. The names among the
+/// values of a command become the handles 0, 1 and so on, from the left, and are lent as what they
+/// name. There is a script for each session up to the greatest number, also where a session has no
+/// command.
 ///
-/// Each line is read once, and no list of lines is kept.
+/// It answers `BadLine` with the number of the first line that is wrong, counted from 1, and `NoMemory`
+/// where memory ran out before. Each line is read once, and no list of lines is kept.
+///
+/// Example: of `new bytearray x6162` and `0 len own` it gives a bytearray of `b"ab"`, and one script of one command.
 pub fn read_sessions(alloc: Global, input: &[u8]) -> Result<Sessions, Misread>
     ensures read { ReadsAll result (sessions_in input.now) }
     ensures some { IfOk result (λ s. 0 < length s.scripts) }

@@ -231,9 +231,9 @@ fn tables_of<L: Lender>(
 impl ByteInnerTranslateOptions {
     /// The table of 256 bytes, and the bytes to be dropped.
     ///
-    /// Refused with `UnknownName` where the lender hasn't a handle. A table that is no bytes, or not 256
-    /// of them, is refused with `ValueError`, and then what is no bytes to be dropped as
-    /// `bytes_from_object` refuses it.
+    /// Refused with `UnknownName` where the lender hasn't a handle. A table that isn't read as 256
+    /// bytes is refused with `ValueError`. Then the bytes to be dropped are refused as
+    /// `bytes_from_object` refuses them.
     ///
     /// Example: without a table and with `b"b"` to be dropped it gives the bytes from 0 to 255, and `b"b"`.
     pub fn get_value<L: Lender>(&self, alloc: Global, lender: &L) -> Tried<(Vec<u8>, Vec<u8>)>

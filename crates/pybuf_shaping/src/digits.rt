@@ -134,14 +134,14 @@ fn text_of(alloc: Global, separator: Option<&[u8]>, size: isize, bytes: &[u8]) -
     text_by_groups(alloc, separator, size, bytes)
 }
 
-/// The bytes as pairs of lower-case hexadecimal digits, with a separator, where one is given, between
-/// each two groups of `size` bytes: counted from the right for a positive number, from the left for a
-/// negative one, none for 0. No bytes give no text (Python's library reference, "Bytes Objects",
-/// `bytes.hex`).
+/// The bytes as pairs of lower-case hexadecimal digits (Python's library reference, "Bytes Objects",
+/// `bytes.hex`). A separator, where one is given, stands between each two groups of `size` bytes.
+/// Groups are counted from the right for a positive size and from the left for a negative one, and for
+/// 0 there is no separator. No bytes give the empty text.
 ///
-/// Refused, where there are bytes, a separator and a size other than 0, with `ValueError` exactly for a
-/// separator that isn't one byte below 128, and then with `OverflowError` exactly where the text is more
-/// than `isize::MAX` bytes.
+/// Refused with `ValueError` exactly where there are bytes, the size isn't 0, and a separator is given
+/// that isn't one byte below 128; and then with `OverflowError` exactly where the text is more than
+/// `isize::MAX` bytes.
 ///
 /// Example: `hex_text(alloc, b"\x01\xab\xff", Some(b":"), 2)` gives the text `01:abff`, and for -2 the text `01ab:ff`.
 pub fn hex_text(alloc: Global, bytes: &[u8], separator: Option<&[u8]>, size: isize) -> Tried<Text>

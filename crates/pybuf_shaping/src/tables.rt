@@ -47,8 +47,9 @@ fn table_of(alloc: Global, from: &[u8], to: &[u8]) -> Result<ByteList, Halt>
 }
 
 /// The table of 256 bytes that maps each byte of `from` to the one at the same place of `to`, and every
-/// other byte to itself; of bytes that stand in `from` more than once the first counts (Python's library
-/// reference, "Bytes and Bytearray Operations", `bytes.maketrans`).
+/// other byte to itself (Python's library reference, "Bytes and Bytearray Operations",
+/// `bytes.maketrans`). Of a byte that stands in `from` more than once the first place counts, where
+/// Python takes the last.
 ///
 /// Refused with `ValueError` exactly where the lengths differ.
 ///

@@ -8,8 +8,11 @@ use std::alloc::Global;
 /// Example: session 2, `append 65` and the reply `Ok` stand for one byte that session 2 added.
 #[derive(Debug, Drop)]
 pub struct Entry {
+    /// The number of the session that asked.
     pub session: u64,
+    /// What it asked.
     pub command: LocalCommand,
+    /// What the exporter replied.
     pub reply: LocalReply,
 }
 
@@ -36,7 +39,9 @@ impl Twin for Entry {
 /// Example: `at: 0` stands for the first entry of the history.
 #[derive(Debug, Drop)]
 pub struct Receipt {
+    /// The number of the entry in the history, counted from 0.
     pub at: u64,
+    /// The entry, as the session was answered.
     pub entry: Entry,
 }
 

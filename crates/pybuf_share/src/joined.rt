@@ -10,9 +10,13 @@ use pybuf_value::{ByteList, NoMemory};
 /// Example: the kind bytearray, the bytes `b""`, one entry `append 65` and an exporter with `b"A"` are a whole history.
 #[derive(Drop)]
 pub struct Joined {
+    /// The bytes that the exporter began with.
     pub opening: ByteList,
+    /// The kind that the exporter began with.
     pub kind: ExporterKind,
+    /// All entries, in their order.
     pub entries: EntryList,
+    /// The exporter as it is after the last entry.
     pub state: ExporterState,
 }
 

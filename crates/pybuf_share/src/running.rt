@@ -23,16 +23,16 @@ use std::thread::Threads;
 
 /// Carries out scripts on a new exporter of this kind and of these bytes. There are a session and a thread for each
 /// script, which asks its commands in order, by the gate (`SharedExporter::call_gated`). Then all that they did is
-/// put together (`SharedExporter::finish`).
+/// put together, and it answers as `SharedExporter::finish` does.
 ///
 /// The number of a view or of an iterator in a script, as a subject and as a loan, is the session's own count: the
 /// first view that it is given is 0, and so is the first iterator. Before each call the exporter's number is put in
 /// its place. A loan that the session wasn't given yet is missing, and a subject that it wasn't given yet is one that
 /// no exporter has.
 ///
-/// There are 1 to 1,024 scripts, whose loans fit. Where the memory of one thread runs out it stops, and the answer is
-/// that. It waits until all threads have ended; where the system makes no thread, the scripts are carried out one
-/// after the other.
+/// There are 1 to 1,024 scripts, whose loans fit. Where the memory of one thread runs out, that thread stops, and the
+/// answer is `FinishFault::NoMemory`. It waits until all threads have ended; where the system makes no thread, the
+/// scripts are carried out one after the other.
 /// Example: of two scripts with one `append` each, on `b""`, the exporter has two bytes at the end.
 pub fn run_sessions<R: Threads + Wait + Sync, G: Gate + Sync>(
     rt: &R,

@@ -37,6 +37,8 @@ pub trait SliceableSequenceMutOp: SliceableSequenceOp {
 
     /// Puts copies of the items in place of the elements of a range.
     ///
+    /// Where memory runs out, the sequence is as before.
+    ///
     /// Example: with the range `1..3` and the items 8, 9, 10 the elements 1, 2, 3, 4 become 1, 8, 9, 10, 4.
     fn do_set_range(&mut self, alloc: Global, range: Range<usize>, items: &[Self::Item]) -> Made<()>
         requires ordered { range.start ≤ range.end }
@@ -53,6 +55,8 @@ pub trait SliceableSequenceMutOp: SliceableSequenceOp {
         ensures { Self.elements self.new ≡ replaced_range (Self.elements self.old) range.start range.end [] };
 
     /// Puts copies of the items at as many indices.
+    ///
+    /// Where memory runs out, the sequence is as before.
     ///
     /// Example: with the indices 2 and 0 and the items 8 and 9 the elements 1, 2, 3 become 9, 2, 8.
     fn do_set_indexes(
@@ -76,8 +80,11 @@ pub trait SliceableSequenceMutOp: SliceableSequenceOp {
         requires within { All (λ i. (range.start ≤ i) × (i < range.end)) indexes }
         ensures { Self.elements self.new ≡ elements_off (Self.elements self.old) indexes };
 
-    /// Puts a value in the place of the element that a number names. Refused with `IndexError`
-    /// exactly where there is none.
+    /// Puts a value in the place of the element that a number names; a negative number counts from the
+    /// end.
+    ///
+    /// Refused with `IndexError` exactly where there is no such element. After a refusal the sequence
+    /// is as before.
     ///
     /// Example: with the number -1 and the value 9 the elements 1, 2, 3 become 1, 2, 9; the number 3 is refused.
     fn setitem_by_index(&mut self, index: isize, value: Self::Item) -> Result<(), Fault>
@@ -85,8 +92,10 @@ pub trait SliceableSequenceMutOp: SliceableSequenceOp {
         ensures answer { result ≡ named_or_index_error (item_place (length (Self.elements self.old)) index) }
         ensures list { Self.elements self.new ≡ set_if_named (Self.elements self.old) (item_place (length (Self.elements self.old)) index) value };
 
-    /// Takes the element that a number names out. Refused with `IndexError` exactly where there is
-    /// none.
+    /// Takes the element that a number names out; a negative number counts from the end.
+    ///
+    /// Refused with `IndexError` exactly where there is no such element. After a refusal the sequence
+    /// is as before.
     ///
     /// Example: with the number -1 the elements 1, 2, 3 become 1, 2; the number 3 is refused.
     fn delitem_by_index(&mut self, index: isize) -> Result<(), Fault>
@@ -98,7 +107,7 @@ pub trait SliceableSequenceMutOp: SliceableSequenceOp {
     /// and then the length may change.
     ///
     /// Refused with `ValueError` exactly where the step isn't 1 and there are not as many items as
-    /// indices.
+    /// indices. After a refusal, or where memory runs out, the sequence is as before.
     ///
     /// Example: with the slice `1:2` and the items 8, 9 the elements 1, 2, 3 become 1, 8, 9, 3.
     fn setitem_by_slice(
@@ -112,8 +121,10 @@ pub trait SliceableSequenceMutOp: SliceableSequenceOp {
         ensures change { IfOk result (λ outcome. MatchOutcome outcome ((copies : List Self.Item) × AllZip Self.Item.same items.now copies × (Self.elements self.new ≡ assigned_list (Self.elements self.old) slice copies)) (Self.elements self.new ≡ Self.elements self.old)) }
         ensures memory { OnErr result (Self.elements self.new ≡ Self.elements self.old) };
 
-    /// Puts copies of the items in place of as many elements of a slice. Refused with `BufferError`
-    /// exactly where there are not as many items as indices.
+    /// Puts copies of the items in place of as many elements of a slice.
+    ///
+    /// Refused with `BufferError` exactly where there are not as many items as indices. After a
+    /// refusal, or where memory runs out, the sequence is as before.
     ///
     /// Example: with the slice `::2` and the items 8, 9 the elements 1, 2, 3 become 8, 2, 9; one item is refused.
     fn setitem_by_slice_no_resize(

@@ -121,7 +121,7 @@ impl FrontBytes {
 
     /// Takes the first bytes away, so many, and leaves them as room. Nothing moves, and no memory is taken.
     ///
-    /// Example: with 1 `b"abcd"` becomes `b"bcd"`, and the room rises from 0 to 1.
+    /// Example: with 1 the bytes `b"abcd"` become `b"bcd"`, and the room rises from 0 to 1.
     pub fn drop_front<L: Ledger>(&mut self, n: usize, moved: &mut Steps<L>)
         requires { n ≤ length self.old.items }
         ensures items { self.new.items ≡ drop n self.old.items }
@@ -131,12 +131,12 @@ impl FrontBytes {
         self.room += n;
     }
 
-    /// Adds bytes at the end. Where there was as much room as bytes, they are first moved to the start, so
-    /// that afterwards there is no room, or less than there are bytes.
+    /// Adds bytes at the end. Where there was as much room as bytes, they are first moved to the start,
+    /// so that afterwards there is no room, or less room than bytes.
     ///
     /// Where memory runs out, bytes, room and counter are as before.
     ///
-    /// Example: with `b"cd"` `b"ab"` becomes `b"abcd"`.
+    /// Example: with `b"cd"` the bytes `b"ab"` become `b"abcd"`.
     pub fn push_all<L: Ledger>(&mut self, items: &[u8], moved: &mut Steps<L>) -> Made<()>
         ensures items { OnOk result (self.new.items ≡ self.old.items ++ items.now) }
         ensures counter { OnOk result (moved.new + self.new.room ≤ moved.old + self.old.room) }
@@ -160,10 +160,10 @@ impl FrontBytes {
         Ok(())
     }
 
-    /// Puts other bytes in place of those of a range, as many as there are. Those behind the range move
-    /// once, where the number of bytes changes. Where memory runs out, bytes, room and counter are as before.
+    /// Puts other bytes, of any number, in place of those of a range. Those behind the range move once,
+    /// where the number of bytes changes. Where memory runs out, bytes, room and counter are as before.
     ///
-    /// Example: with the range `1..2` and `b"xyz"` `b"abc"` becomes `b"axyzc"`.
+    /// Example: with the range `1..2` and `b"xyz"` the bytes `b"abc"` become `b"axyzc"`.
     pub fn splice<L: Ledger>(
         &mut self,
         range: Range<usize>,
@@ -191,7 +191,7 @@ impl FrontBytes {
 
     /// Takes the bytes of a range out. Those behind it move once, where it has any. Takes no memory.
     ///
-    /// Example: with the range `1..2` `b"abc"` becomes `b"ac"`.
+    /// Example: with the range `1..2` the bytes `b"abc"` become `b"ac"`.
     pub fn remove<L: Ledger>(&mut self, range: Range<usize>, moved: &mut Steps<L>)
         requires ordered { range.start ≤ range.end }
         requires inside { range.end ≤ length self.old.items }

@@ -12,7 +12,8 @@ use pybuf_value::{Made, Tried, Twin};
 use std::alloc::Global;
 use std::ops::Range;
 
-/// A sequence whose elements are read by numbers and slices. An element that is read is a copy. Only want of memory makes a call fail.
+/// A sequence whose elements are read by numbers and slices. An element that is read is a copy. Only
+/// want of memory makes a call fail, and `getitem_by_index` alone refuses.
 ///
 /// Example: the vector 1, 2, 3 by the number -1 gives 3, and by the slice `::-1` it gives 3, 2, 1.
 pub trait SliceableSequenceOp: Sized {
@@ -106,8 +107,10 @@ pub trait SliceableSequenceOp: Sized {
         requires { length (elements self.now) < 2 ^ 63 }
         ensures { IfOk result (λ list. AllZip Self.Item.same (elements_at (elements self.now) (picks_of (length (elements self.now)) slice)) list.items) };
 
-    /// The element that a number names. Refused with `IndexError` exactly where there is none,
-    /// and memory is taken only where there is one.
+    /// A copy of the element that a number names; a negative number counts from the end.
+    ///
+    /// Refused with `IndexError` exactly where there is no such element, and memory is taken only where
+    /// there is one.
     ///
     /// Example: of 1, 2, 3 and -1 it gives 3, and 3 is refused with `IndexError`.
     fn getitem_by_index(&self, alloc: Global, index: isize) -> Tried<Self::Item>

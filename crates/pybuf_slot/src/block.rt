@@ -6,8 +6,11 @@ use std::alloc::Allocator;
 use std::marker::Model;
 
 /// A value on the heap, by its address and the allocator that frees it. It owns what a box owns.
+/// Example: `Block::of(Box::new(alloc, 5)?)` stands for the box of 5, held by its address.
 pub struct Block<T, A: Allocator> {
+    /// The address of the value.
     pub at: *mut T,
+    /// The allocator that frees it.
     pub alloc: A,
     pub ghost value: { T },
 }
@@ -17,7 +20,8 @@ impl<T, A: Allocator> Model for Block<T, A> {
 }
 
 impl<T, A: Allocator> Block<T, A> {
-    /// The box, taken apart.
+    /// The box, taken apart into the address of its value and its allocator. Takes no memory.
+    /// Example: `Block::of(owned).into_box()` is the box `owned` again.
     #[inline(always)]
     pub fn of(owned: Box<T, A>) -> Block<T, A>
     where
@@ -28,7 +32,8 @@ impl<T, A: Allocator> Block<T, A> {
         Block { at, alloc }
     }
 
-    /// The box again.
+    /// The box that the block was taken from, again. Takes no memory.
+    /// Example: `Block::of(owned).into_box()` is the box `owned` again.
     #[inline(always)]
     pub fn into_box(self) -> Box<T, A>
         ensures { result.value ≡ self.value }

@@ -70,8 +70,9 @@ fn vector_of_view(parts: &Parts, alloc: Global, view: usize, snap: Snap) -> Made
     }
 }
 
-/// The exporter that is made of a copy: of a bytearray's another bytearray, with no view, and of a
-/// view's a vector with one view of all of it, with items of the same format in the same shape.
+/// The exporter that is made of a copy. A copy of a bytearray makes another bytearray, with no view. A copy of a view
+/// makes a vector with one view of all of it, with items of the same format in the same shape.
+/// Example: of the `Snap` that `copy` replies for `bytearray(b"abc")` it is a bytearray with the bytes `b"abc"`.
 pub fn exporter_of_copy(parts: &Parts, alloc: Global, subject: Subject, snap: Snap) -> Made<Parts>
     requires whole { IsWhole parts.now }
     requires copy { IsCopyOf (exporter_of parts.now) subject snap }

@@ -44,6 +44,7 @@ impl Parts {
     }
 
     /// Whether the items of an unreleased view lie one after the other and may be written.
+    /// Example: of a view of all bytes of a bytearray it is true, and of one of `bytes` false.
     pub fn is_writable_run(&self, view: usize) -> bool
         requires whole { IsWhole self.now }
         requires live { is_live (exporter_of self.now) view ≡ true }
@@ -55,8 +56,9 @@ impl Parts {
         }
     }
 
-    /// The bytes of an unreleased view, lent. None exactly where its items don't lie one after the
-    /// other.
+    /// The bytes of an unreleased view, lent without a copy. It is None exactly where its items don't lie one after
+    /// the other.
+    /// Example: of a view of all bytes of `b"abc"` it is `Some(b"abc")`, and of its slice `::2` None.
     pub fn contiguous_bytes(&self, view: usize) -> Option<&[u8]>
         requires whole { IsWhole self.now }
         requires live { is_live (exporter_of self.now) view ≡ true }
@@ -67,6 +69,7 @@ impl Parts {
     }
 
     /// The bytes of an unreleased view whose items lie one after the other, lent to be written.
+    /// Example: of a view `1:3` of `b"abcd"` it lends `b"bc"`.
     pub fn contiguous_bytes_mut(&mut self, view: usize) -> &mut [u8]
         requires whole { IsWhole self.old }
         requires live { is_live (exporter_of self.old) view ≡ true }

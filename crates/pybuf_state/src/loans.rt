@@ -87,17 +87,19 @@ fn all_fit(alloc: Global, loans: &[(u64, Loan)]) -> Made<bool>
     Ok(true)
 }
 
-/// Whether loans fit. They are words of commands and stand below formats, so that this call is that of a
-/// trait.
+/// Loans that are tested whether they fit. They are words of commands and stand below formats, so this call is that
+/// of a trait. A `LoanList` has it.
+/// Example: `loans.fit(alloc)?` tests a `LoanList` before a command takes it.
 pub trait FitLoans {
     ghost loans: { Self → List (ℕ × Loan) };
 
-    /// Whether the loans fit. They do exactly where each `Other` has a format in the grammar whose
-    /// size is its item size and at least 1, where as many bytes as all items of its shape have are
-    /// the content of an unreleased view, and where an exporter has the format `B`, the item size 1
-    /// and the number of its bytes as the one entry of its shape.
+    /// Whether the loans fit. They do exactly where each `Other` has a format in the grammar whose size is its item
+    /// size and at least 1, where as many bytes as all items of its shape have are the content of an unreleased view,
+    /// and where an exporter has the format `B`, the item size 1 and the number of its bytes as the one entry of its
+    /// shape.
     ///
     /// Memory is taken to read the formats, and for nothing else.
+    /// Example: of `LoanList::new(alloc)` it is true.
     fn fit(&self, alloc: Global) -> Made<bool>
         ensures { IfOk result (λ fit. fit ≡ spec.all_fit (loans self.now)) };
 }

@@ -13,27 +13,35 @@ use crate::parts::Parts;
 use pybuf_command::{Loan, LoanList, Subject};
 use pybuf_value::{PySlice, Scalar, Snap, Value};
 
-/// Something of another exporter.
+/// Something of another exporter: an exporter, a view or an iterator.
+/// Example: `Other::Lies { lender, subject: Subject::Own }` stands for the exporter with the parts `lender`.
 #[derive(Debug, Drop)]
 pub enum Other<'a> {
-    /// As it stood when it was lent.
+    /// It is lent as it stood at one moment, as a copy.
+    /// Example: a `Loan::Other(snap)` of a `LoanList` is asked for as `Other::Snap(&snap)`.
     Snap(&'a Snap),
-    /// From where it lies: a subject of an exporter with these parts.
+    /// It is lent from where it lies, as a subject of an exporter with these parts.
+    /// Example: a world lends `h0` to a command on `h1` so.
     Lies { lender: &'a Parts, subject: Subject },
 }
 
 /// What a handle names.
+/// Example: `Meaning::Own(Subject::View(0))` stands for the first view of the exporter that the command works on.
 #[derive(Debug, Drop)]
 pub enum Meaning<'a> {
-    /// The exporter that the command works on, or a view or an iterator of it.
+    /// The handle names the exporter that the command works on, or a view or an iterator of it.
+    /// Example: in `extend h0 h0` the second `h0` means `Meaning::Own(Subject::Own)`.
     Own(Subject),
-    /// Another exporter, or a view or an iterator of one.
+    /// The handle names another exporter, or a view or an iterator of one.
+    /// Example: in `extend h0 h1`, where `h1` is another bytearray, `h1` means it.
     Other(Other<'a>),
-    /// Nothing: the handle was never given.
+    /// The handle names nothing, since it was never given.
+    /// Example: in `extend h0 h9` in a world of two handles `h9` means it.
     Nothing,
 }
 
-/// What handles name. A clause sees what each is lent as.
+/// What knows what handles name, such as a list of loans or a world. A clause sees what each handle is lent as.
+/// Example: a function that takes an `N: Names` asks `names.meaning(7)` for what `h7` names.
 pub trait Names {
     ghost named: { Self → ℕ → Option Loan };
 
@@ -41,6 +49,7 @@ pub trait Names {
     ghost fit: { Self → Type 0 };
 
     /// What a handle names.
+    /// Example: of an empty `LoanList` and any handle it is `Meaning::Nothing`.
     fn meaning(&self, handle: u64) -> Meaning<'_>
         ensures meant { spec.meant result ≡ named self.now handle }
         ensures sound { fit self.now → spec.IsSoundMeaning result };
@@ -108,7 +117,8 @@ fn is_known<N: Names>(parts: &Parts, names: &N, handle: u64) -> bool
     }
 }
 
-/// Whether each of these handles names something that is there.
+/// Whether each of these handles names something that is there. Takes no memory.
+/// Example: of no handles it is true.
 pub fn are_known<N: Names>(parts: &Parts, names: &N, handles: &[u64]) -> bool
     ensures { result ≡ are_named (exporter_of parts.now) (N.named names.now) handles.now }
 {
@@ -154,6 +164,7 @@ fn are_slices_known<N: Names>(parts: &Parts, names: &N, slices: &[PySlice]) -> b
 }
 
 /// Whether each handle in a value names something that is there. No list of them is made.
+/// Example: the value 5 has no handle, so it is true of it.
 #[tactic(auto, using(crate::proofs::Parted::scalars_named, crate::proofs::Parted::slices_named))]
 pub fn is_value_known<N: Names>(parts: &Parts, names: &N, value: &Value) -> bool
     ensures { result ≡ are_named (exporter_of parts.now) (N.named names.now) (handles_in value.now) }
@@ -168,7 +179,8 @@ pub fn is_value_known<N: Names>(parts: &Parts, names: &N, value: &Value) -> bool
     }
 }
 
-/// The same of a value that may not be given.
+/// Whether each handle in a value names something that is there, or no value is given. No list of them is made.
+/// Example: of None it is true.
 pub fn is_option_known<N: Names>(parts: &Parts, names: &N, value: &Option<Value>) -> bool
     ensures { result ≡ are_named (exporter_of parts.now) (N.named names.now) (handles_in_option value.now) }
 {

@@ -10,15 +10,22 @@ use pybuf_value::{Fault, Halt, Made, Steps};
 use std::alloc::Global;
 use std::sync::ledger::Ledger;
 
-/// The parts of an exporter: the number of unreleased views is kept beside the views, so that
-/// nothing goes through all views ever made.
+/// The parts of an exporter. The number of unreleased views is kept beside the views, so that nothing goes through
+/// all views ever made.
+/// Example: the kind `bytes`, the bytes `b"abc"`, and no views and no iterators are the parts of new `bytes`.
 #[derive(Debug, Drop)]
 pub struct Parts {
+    /// What kind of exporter it is.
     pub kind: ExporterKind,
+    /// The bytes.
     pub bytes: Store,
+    /// Each view that was made, released ones too, by its number.
     pub views: Vec<StoredView>,
+    /// Each iterator that was made, exhausted ones too, by its number.
     pub iterators: Vec<StoredIterator>,
+    /// The number of unreleased views.
     pub exports: usize,
+    /// The allocator of what is added.
     pub alloc: Global,
 }
 
@@ -34,7 +41,9 @@ impl Parts {
     ghost use Rattle.pybuf_state.specs.Laws.{IsSoundLayout};
     ghost use Rattle.pybuf_state.specs.Resizing.{has_exports, resizable};
 
-    /// Refuses a vector, which is no string of bytes, with `UnknownName`.
+    /// Whether the exporter is a string of bytes, as `bytes` and bytearrays are. Refused with `UnknownName` exactly
+    /// where it is a vector. Takes no memory.
+    /// Example: of a bytearray it is `Ok(())`.
     pub fn check_string(&self) -> Result<(), Fault>
         ensures { MatchResult result (λ _. unless (keeps.is_vector self.now.kind) faults.UnknownName ≡ Ok true) (λ f. unless (keeps.is_vector self.now.kind) faults.UnknownName ≡ Err f) }
     {
@@ -46,7 +55,8 @@ impl Parts {
 
     /// The view of a number that was given, released or not.
     ///
-    /// Refused with `UnknownName` exactly where none was.
+    /// Refused with `UnknownName` exactly where none was given.
+    /// Example: `parts.view(0)` of an exporter without views is `Err(Fault::UnknownName)`.
     #[inline(always)]
     pub fn view(&self, view: usize) -> Result<&StoredView, Fault>
         ensures { MatchResult result (λ v. view_at (exporter_of self.now) view ≡ Ok v.now) (λ f. view_at (exporter_of self.now) view ≡ Err f) }
@@ -61,6 +71,7 @@ impl Parts {
     ///
     /// Refused with `UnknownName` where no such view was given, and with `ValueError` where it was
     /// released.
+    /// Example: of a new view of all bytes `b"abc"` it is a layout of items at 0, 1 and 2.
     #[inline(always)]
     pub fn live_layout(&self, view: usize) -> Result<&KeptLayout, Fault>
         requires { IsWhole self.now }
@@ -74,7 +85,9 @@ impl Parts {
         Ok(&view.layout)
     }
 
-    /// One more view, which is unreleased and made now. The answer is its number.
+    /// One more view, which is unreleased and made now. The answer is its number. It is never refused. Where memory
+    /// runs out, nothing is changed.
+    /// Example: the first view of an exporter has the number 0.
     #[inline(always)]
     pub fn push_view(&mut self, layout: KeptLayout) -> Result<usize, Halt>
         requires { IsWhole self.old }
@@ -88,7 +101,9 @@ impl Parts {
         Ok(number)
     }
 
-    /// The same, with the number as a reply.
+    /// One more view, as by `push_view`, with its number as a reply. It is never refused. Where memory runs out,
+    /// nothing is changed.
+    /// Example: the first view of an exporter is replied as `LocalReply::View(0)`.
     pub fn add_view(&mut self, layout: KeptLayout) -> Result<LocalReply, Halt>
         requires { IsWhole self.old }
         ensures answer { Answers (Ok (with_view (exporter_of self.old) layout)) (exporter_of self.old) result (exporter_of self.new) }
@@ -101,7 +116,8 @@ impl Parts {
 
     /// The iterator of a number that was given.
     ///
-    /// Refused with `UnknownName` exactly where none was.
+    /// Refused with `UnknownName` exactly where none was given.
+    /// Example: `parts.iterator(0)` of an exporter without iterators is `Err(Fault::UnknownName)`.
     pub fn iterator(&self, iterator: usize) -> Result<StoredIterator, Fault>
         ensures value { result ≡ iterator_at (exporter_of self.now) iterator }
         ensures given { IsOk result → iterator < length self.now.iterators.items }
@@ -112,7 +128,9 @@ impl Parts {
         Err(Fault::UnknownName)
     }
 
-    /// One more iterator over a subject, at its first item. The reply is its number.
+    /// One more iterator over a subject, at its first item. The reply is its number. It is never refused. Where
+    /// memory runs out, nothing is changed.
+    /// Example: the first iterator of an exporter is replied as `LocalReply::Iter(0)`.
     pub fn add_iterator(&mut self, subject: Subject) -> Result<LocalReply, Halt>
         requires { IsWhole self.old }
         ensures answer { Answers (Ok (with_iterator (exporter_of self.old) subject)) (exporter_of self.old) result (exporter_of self.new) }
@@ -125,6 +143,7 @@ impl Parts {
     }
 
     /// Puts an iterator that was given in another state. Takes no memory.
+    /// Example: after `parts.put_iterator(0, it.ended())` the iterator 0 is exhausted.
     pub fn put_iterator(&mut self, iterator: usize, put: StoredIterator)
         requires whole { IsWhole self.old }
         requires given { iterator < length self.old.iterators.items }
@@ -138,6 +157,7 @@ impl Parts {
     /// Whether the length may change.
     ///
     /// Refused with `BufferError` exactly where a view is unreleased.
+    /// Example: of an exporter without views it is `Ok(())`.
     pub fn resizable(&self) -> Result<(), Fault>
         requires { IsWhole self.now }
         ensures { MatchResult result (λ _. resizable (exporter_of self.now) ≡ Ok true) (λ f. resizable (exporter_of self.now) ≡ Err f) }
@@ -150,6 +170,7 @@ impl Parts {
 
     /// Adds bytes at the end. Where there was as much room before the bytes as there are bytes, they are first
     /// moved to the start; else none moves. Where memory runs out, all is as before.
+    /// Example: to `b"ab"` the bytes `b"cd"` make `b"abcd"`.
     pub fn append<L: Ledger>(&mut self, bytes: &[u8], moved: &mut Steps<L>) -> Made<()>
         requires free { has_exports (exporter_of self.old) ≡ false }
         ensures ok { OnOk result (exporter_of self.new ≡ resized (exporter_of self.old) (length self.old.bytes.items) (length self.old.bytes.items) bytes.now) }
@@ -167,6 +188,7 @@ impl Parts {
     /// Puts other bytes in place of those from one place up to another, as many as there are. With `append`
     /// and `replace_bytes` it is the call by which the length of an exporter changes. The bytes behind move
     /// once, and none where bytes are taken from the front. Where memory runs out, all is as before.
+    /// Example: in `b"abcdef"` the bytes `b"XY"` in place of those from 1 up to 4 make `b"aXYef"`.
     pub fn replace_range<L: Ledger>(
         &mut self,
         start: usize,
@@ -194,8 +216,9 @@ impl Parts {
         self.bytes.replace_range(start, end, bytes, moved)
     }
 
-    /// `replace_range` by no bytes, which takes no memory. Bytes at the front become room, and none moves;
-    /// else the bytes behind move once.
+    /// Takes out the bytes from one place up to another, as `replace_range` by no bytes does, but without memory.
+    /// Bytes at the front become room, and none moves; else the bytes behind move once.
+    /// Example: from `b"abcdef"` those from 1 up to 4 leave `b"aef"`.
     pub fn remove_range<L: Ledger>(&mut self, start: usize, end: usize, moved: &mut Steps<L>)
         requires free { has_exports (exporter_of self.old) ≡ false }
         requires ordered { start ≤ end }
@@ -213,7 +236,8 @@ impl Parts {
         }
     }
 
-    /// Puts a vector in place of all bytes, as it is, without room: nothing is copied, and no memory is taken.
+    /// Puts a vector in place of all bytes, as it is, without room. No byte is copied, and no memory is taken.
+    /// Example: the vector of `b"xy"` in place of `b"abc"` makes `b"xy"`.
     pub fn replace_bytes(&mut self, bytes: Vec<u8>)
         requires free { has_exports (exporter_of self.old) ≡ false }
         ensures same { exporter_of self.new ≡ record (exporter_of self.old) { bytes = bytes.items } }
@@ -225,7 +249,9 @@ impl Parts {
 
     /// Releases a view that was given. The second time changes nothing.
     ///
-    /// Refused with `UnknownName` exactly where none of this number was given.
+    /// Refused with `UnknownName` exactly where none of this number was given. Nothing is changed then. Takes no
+    /// memory.
+    /// Example: `parts.release_view(0)` is `Ok(())` after one view was made, also the second time.
     pub fn release_view(&mut self, view: usize) -> Result<(), Fault>
         requires { IsWhole self.old }
         ensures exact { MatchResult result (λ _. released_in (exporter_of self.old) view ≡ Ok (exporter_of self.new)) (λ f. released_in (exporter_of self.old) view ≡ Err f) }

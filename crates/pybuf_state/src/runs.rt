@@ -15,6 +15,7 @@ use pybuf_memoryview::{KeptLayout, first_place};
 use pybuf_value::Fault;
 
 /// The bytes of items that lie one after the other and inside, from where they lie.
+/// Example: of a layout `1:3` over `b"abcd"` it is `b"bc"`.
 pub fn run_of<'a>(bytes: &'a [u8], layout: &KeptLayout) -> &'a [u8]
     requires contiguous { is_contiguous_layout layout.now ≡ true }
     requires inside { LiesInside (length bytes.now) layout.now }
@@ -27,6 +28,7 @@ pub fn run_of<'a>(bytes: &'a [u8], layout: &KeptLayout) -> &'a [u8]
 /// The bytes of a view whose items lie one after the other, from where they lie.
 ///
 /// Refused with `ValueError` for a released view, and then with `TypeError` where the items lie apart.
+/// Example: of a view of all bytes of `b"abc"` it is `Ok(b"abc")`, and of its slice `::2` `Err(Fault::Kind)`.
 pub fn bytes_in_a_row<'a>(bytes: &'a [u8], view: &StoredView) -> Result<&'a [u8], Fault>
     requires inside { view.now.released ≡ false → LiesInside (length bytes.now) view.now.layout }
     ensures { MatchResult result (λ row. content_of (Some (snap_of_view bytes.now view.now)) ≡ Ok row.now) (λ fault. content_of (Some (snap_of_view bytes.now view.now)) ≡ Err fault) }
@@ -41,7 +43,9 @@ pub fn bytes_in_a_row<'a>(bytes: &'a [u8], view: &StoredView) -> Result<&'a [u8]
     Ok(run_of(bytes, layout))
 }
 
-/// A view that was given; the items of one that is unreleased lie inside.
+/// The view of a number that was given. The items of one that is unreleased lie inside. Refused with `UnknownName`
+/// exactly where none was given.
+/// Example: `given(parts, 0)` of an exporter without views is `Err(Fault::UnknownName)`.
 pub fn given(parts: &Parts, view: usize) -> Result<&StoredView, Fault>
     requires { IsWhole parts.now }
     ensures exact { MatchResult result (λ v. view_at (exporter_of parts.now) view ≡ Ok v.now) (λ f. view_at (exporter_of parts.now) view ≡ Err f) }

@@ -111,9 +111,9 @@ fn snap_of_iterator(parts: &Parts, alloc: Global, iterator: usize) -> Made<Optio
     }
 }
 
-/// What a handle of the exporter, of one of its views or of an iterator names, as it stands; the
-/// content of a released view is empty, and so is that of an iterator. None exactly where there is no
-/// such view or iterator.
+/// What a handle of the exporter, of one of its views or of an iterator names, as it stands. The content of a
+/// released view is empty, and so is that of an iterator. It is None exactly where there is no such view or iterator.
+/// Example: of `Subject::Own` of the bytearray `b"abc"` it is a `Snap` with the content `b"abc"`.
 pub fn snap_of_subject(parts: &Parts, alloc: Global, subject: Subject) -> Made<Option<Snap>>
     requires { IsWhole parts.now }
     ensures value { IfOk result (λ snap. snap ≡ spec.snap_of_subject (exporter_of parts.now) subject) }
@@ -188,8 +188,9 @@ fn lent_for_value<N: Names>(
     }
 }
 
-/// What is lent to a format for the handle that a value is: nothing where the format looks at no
-/// bytes, so that none are copied. The format writes the same as if all were lent.
+/// What is lent to a format for the handle that a value is. It is nothing where the format looks at no bytes, so that
+/// none are copied. The format writes the same as if all were lent.
+/// Example: to the format `H` nothing is lent for `h1`, and to `4s` a copy of what `h1` names.
 pub fn lent_to<N: Names>(
     parts: &Parts,
     alloc: Global,

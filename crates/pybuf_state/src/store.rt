@@ -7,6 +7,7 @@ use std::marker::Model;
 use std::sync::ledger::Ledger;
 
 /// The bytes of an exporter, behind free room. A clause sees them as a list, with the number of bytes of room.
+/// Example: `Store::from_vec(bytes)` of a vector of `b"abc"` stands for these three bytes, without room.
 #[derive(Debug, Drop)]
 pub struct Store {
     bytes: FrontBytes,
@@ -27,6 +28,7 @@ impl Store {
     ghost use Rattle.pybuf_state.specs.Store.{LendsItems, LendsItemsFrom, LendsVector};
 
     /// The bytes of a vector, without room. Takes no memory.
+    /// Example: of a vector of `b"abc"` its `front_room()` is 0.
     pub fn from_vec(bytes: Vec<u8>) -> Store
         ensures items { result.items ≡ bytes.items }
         ensures room { result.room ≡ 0 }
@@ -36,7 +38,8 @@ impl Store {
         }
     }
 
-    /// The number of bytes, at most `isize::MAX`.
+    /// The number of bytes, at most `isize::MAX`. Takes no memory.
+    /// Example: of `b"abc"` it is 3.
     pub fn len(&self) -> usize
         ensures value { result ≡ length self.now.items }
         ensures small { result < 2 ^ 63 }
@@ -45,20 +48,23 @@ impl Store {
     }
 
     /// Whether there are no bytes.
+    /// Example: of `b""` it is true.
     pub fn is_empty(&self) -> bool
         ensures { result ≡ (length self.now.items == 0) }
     {
         self.bytes.len() == 0
     }
 
-    /// How many bytes of free room lie before the first.
+    /// How many bytes of free room lie before the first byte.
+    /// Example: after the first two of four bytes were taken out it is 2.
     pub fn front_room(&self) -> usize
         ensures { result ≡ self.now.room }
     {
         self.bytes.front_room()
     }
 
-    /// The bytes, lent.
+    /// The bytes, lent without a copy.
+    /// Example: of a vector of `b"abc"` it is `b"abc"`.
     pub fn as_slice(&self) -> &[u8]
         ensures { result.now ≡ self.now.items }
     {
@@ -66,6 +72,7 @@ impl Store {
     }
 
     /// The bytes, lent to be written in place. Their number and the room stay.
+    /// Example: after `store.as_mut_slice()[0] = b'A'` what was `b"abc"` is `b"Abc"`.
     pub fn as_mut_slice(&mut self) -> &mut [u8]
         ensures* writes_back { sem 𝓛 (LendsItems self.entry result) }
         ensures value { result.now ≡ self.old.items }
@@ -74,6 +81,7 @@ impl Store {
     }
 
     /// The bytes from one place up to another, lent to be written in place.
+    /// Example: `store.run_mut(1, 3)` of `b"abcd"` lends `b"bc"`.
     pub fn run_mut(&mut self, start: usize, end: usize) -> &mut [u8]
         requires ordered { start ≤ end }
         requires inside { end ≤ length self.old.items }
@@ -84,6 +92,7 @@ impl Store {
     }
 
     /// The bytes, lent as a vector without room, to be changed in any way, in number too. Takes no memory.
+    /// Example: after `store.as_vec_mut().push(b'd')?` what was `b"abc"` is `b"abcd"`.
     pub fn as_vec_mut(&mut self) -> &mut Vec<u8>
         ensures* writes_back { sem 𝓛 (LendsVector self.entry result) }
         ensures value { result.now.items ≡ self.old.items }
@@ -91,7 +100,8 @@ impl Store {
         self.bytes.make_flat()
     }
 
-    /// The byte at a place, none past the end.
+    /// The byte at a place. It is None past the end.
+    /// Example: of `b"abc"` the place 2 has `Some(99)`, and the place 3 None.
     pub fn get(&self, place: usize) -> Option<u8>
         ensures value { result ≡ slice_get self.now.items place }
         ensures small { IfSome result (λ _. place < 2 ^ 63) }
@@ -103,6 +113,7 @@ impl Store {
     }
 
     /// Writes a byte at a place.
+    /// Example: in `b"abc"` the place 0 and the byte 65 make `b"Abc"`.
     pub fn put(&mut self, place: usize, byte: u8)
         requires { place < length self.old.items }
         ensures items { self.new.items ≡ set self.old.items place byte }
@@ -112,6 +123,7 @@ impl Store {
     }
 
     /// Puts the bytes in the other order, from the last to the first.
+    /// Example: `b"abc"` is `b"cba"` then.
     pub fn reverse(&mut self)
         ensures items { self.new.items ≡ reverse self.old.items }
         ensures room { self.new.room ≡ self.old.room }

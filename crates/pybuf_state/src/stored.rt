@@ -8,6 +8,7 @@ use std::marker::Model;
 
 /// A view of an exporter. It costs a few words, whatever it spans. A clause sees the whole view, with
 /// the place of each item.
+/// Example: `StoredView::new(3, layout)` stands for an unreleased view of an exporter of three bytes.
 #[derive(Debug, Drop)]
 pub struct StoredView {
     made_at: usize,
@@ -24,7 +25,8 @@ impl Model for StoredView {
 }
 
 impl StoredView {
-    /// An unreleased view that is made at this length of its exporter.
+    /// An unreleased view with this layout, which was made when its exporter had this length. Takes no memory.
+    /// Example: of `StoredView::new(3, layout)` `is_released()` is false.
     #[inline(always)]
     pub fn new(made_at: usize, layout: KeptLayout) -> StoredView
         ensures { result ≡ record { made_at = made_at; layout = layout; released = false } }
@@ -36,7 +38,8 @@ impl StoredView {
         }
     }
 
-    /// Where the items lie, and how they read.
+    /// Where the items lie, and how they read, lent.
+    /// Example: of `StoredView::new(3, layout)` it is `layout`.
     pub fn layout(&self) -> &KeptLayout
         ensures { result.now ≡ self.now.layout }
     {
@@ -44,6 +47,7 @@ impl StoredView {
     }
 
     /// Whether the view was released.
+    /// Example: after `view.release()` it is true.
     pub fn is_released(&self) -> bool
         ensures { result ≡ self.now.released }
     {
@@ -51,6 +55,7 @@ impl StoredView {
     }
 
     /// Releases the view, and changes nothing else of it.
+    /// Example: after it `is_released()` is true, and `layout()` is as before.
     pub fn release(&mut self)
         ensures { self.new ≡ record self.old { released = true } }
     {

@@ -19,7 +19,8 @@ use pybuf_memoryview::{KeptLayout, content_of};
 use pybuf_value::{Fault, Halt, Lent, SnapKind, content_of_snap, run_of_snap};
 use std::alloc::Global;
 
-/// What kind of thing a subject is; `None` exactly where it was never given.
+/// What kind of thing a subject is. It is `None` exactly where the subject was never given. Takes no memory.
+/// Example: of `Subject::View(0)` of an exporter without views it is `None`.
 pub fn kind_of_subject(parts: &Parts, subject: Subject) -> Option<SnapKind>
     ensures { result ≡ kind_of_named (spec.snap_of_subject (exporter_of parts.now) subject) }
 {
@@ -49,6 +50,7 @@ fn run_of_given(parts: &Parts, view: usize) -> Result<&[u8], Fault>
 ///
 /// Refused with `UnknownName` where it was never given, with `ValueError` for a released view, and with
 /// `TypeError` for a view whose items don't lie one after another and for an iterator.
+/// Example: of `Subject::Own` of `b"abc"` it is `Ok(b"abc")`, and of the slice `::2` of a view `Err(Fault::Kind)`.
 pub fn run_of_subject(parts: &Parts, subject: Subject) -> Result<&[u8], Fault>
     requires { IsWhole parts.now }
     ensures { MatchResult result (λ bytes. content_of (spec.snap_of_subject (exporter_of parts.now) subject) ≡ Ok bytes.now) (λ fault. content_of (spec.snap_of_subject (exporter_of parts.now) subject) ≡ Err fault) }
@@ -63,7 +65,9 @@ pub fn run_of_subject(parts: &Parts, subject: Subject) -> Result<&[u8], Fault>
     }
 }
 
-/// The bytes of items that lie inside. They are copied only where they lie apart.
+/// The bytes of items that lie inside, row by row. They are copied only where they lie apart. It is never refused,
+/// and fails only where memory runs out.
+/// Example: of the layout `::-2` over `b"abcdef"` it has `b"fdb"`, which is a copy.
 pub fn content_lent<'a>(
     alloc: Global,
     bytes: &'a [u8],
@@ -94,6 +98,7 @@ fn content_of_given(alloc: Global, parts: &Parts, view: usize) -> Result<Lent<'_
 ///
 /// Refused with `UnknownName` where it was never given, with `ValueError` for a released view, and with
 /// `TypeError` for an iterator.
+/// Example: of the view `memoryview(b"abcdef")[::-2]` it has `b"fdb"`, which is a copy.
 pub fn content_of_subject(alloc: Global, parts: &Parts, subject: Subject) -> Result<Lent<'_>, Halt>
     requires { IsWhole parts.now }
     ensures { Lends (content_of_named (spec.snap_of_subject (exporter_of parts.now) subject)) result }
@@ -108,7 +113,8 @@ pub fn content_of_subject(alloc: Global, parts: &Parts, subject: Subject) -> Res
     }
 }
 
-/// What kind of thing something of another exporter is.
+/// What kind of thing something of another exporter is. It is `None` exactly where it was never given.
+/// Example: of `Other::Lies { lender, subject: Subject::View(0) }` it is `None` where `lender` has no view.
 pub fn kind_of_other(other: Other<'_>) -> Option<SnapKind>
     ensures { result ≡ kind_of_named (names_spec.snap_of_other other.entry) }
 {
@@ -121,6 +127,7 @@ pub fn kind_of_other(other: Other<'_>) -> Option<SnapKind>
 /// The bytes of something of another exporter, where they lie together.
 ///
 /// Refused as those of a subject are.
+/// Example: of `Other::Lies { lender, subject: Subject::Own }` it is all bytes of `lender`.
 pub fn run_of_other<'a>(other: Other<'a>) -> Result<&'a [u8], Fault>
     requires sound { names_spec.IsSoundOther other }
     ensures { MatchResult result (λ bytes. content_of (names_spec.snap_of_other other.entry) ≡ Ok bytes.now) (λ fault. content_of (names_spec.snap_of_other other.entry) ≡ Err fault) }
@@ -134,6 +141,7 @@ pub fn run_of_other<'a>(other: Other<'a>) -> Result<&'a [u8], Fault>
 /// The bytes of something of another exporter. They are copied only where they lie apart.
 ///
 /// Refused as those of a subject are.
+/// Example: of `Other::Lies { lender, subject: Subject::Own }` it lends all bytes of `lender`.
 pub fn content_of_other<'a>(alloc: Global, other: Other<'a>) -> Result<Lent<'a>, Halt>
     requires sound { names_spec.IsSoundOther other }
     ensures { Lends (content_of_named (names_spec.snap_of_other other.entry)) result }
@@ -144,7 +152,8 @@ pub fn content_of_other<'a>(alloc: Global, other: Other<'a>) -> Result<Lent<'a>,
     }
 }
 
-/// What kind of thing a handle names.
+/// What kind of thing a handle names. It is `None` exactly where the handle names nothing that is there.
+/// Example: of `Meaning::Nothing` it is `None`.
 #[tactic(auto, using(crate::proofs::Meanings::own_snap, crate::proofs::Meanings::other_snap))]
 pub fn kind_of_meaning(parts: &Parts, meaning: Meaning<'_>) -> Option<SnapKind>
     ensures { result ≡ kind_of_named (snap_in (exporter_of parts.now) (names_spec.meant meaning.entry)) }
@@ -159,6 +168,7 @@ pub fn kind_of_meaning(parts: &Parts, meaning: Meaning<'_>) -> Option<SnapKind>
 /// The bytes of what a handle names, where they lie together.
 ///
 /// Refused with `UnknownName` where it names nothing, else as those of a subject are.
+/// Example: of `Meaning::Own(Subject::Own)` it is all bytes of `parts`, and of `Meaning::Nothing` `Err(Fault::UnknownName)`.
 #[tactic(auto, using(crate::proofs::Meanings::own_snap, crate::proofs::Meanings::other_snap))]
 pub fn run_of_meaning<'a>(parts: &'a Parts, meaning: Meaning<'a>) -> Result<&'a [u8], Fault>
     requires whole { IsWhole parts.now }
@@ -175,6 +185,7 @@ pub fn run_of_meaning<'a>(parts: &'a Parts, meaning: Meaning<'a>) -> Result<&'a 
 /// The bytes of what a handle names. They are copied only where they lie apart.
 ///
 /// Refused with `UnknownName` where it names nothing, else as those of a subject are.
+/// Example: of `Meaning::Own(Subject::Own)` it lends all bytes of `parts`.
 #[tactic(auto, using(crate::proofs::Meanings::own_snap, crate::proofs::Meanings::other_snap))]
 pub fn content_of_meaning<'a>(
     alloc: Global,

@@ -43,6 +43,8 @@ fn length_with(len: usize, size: usize, count: usize) -> Option<usize>
 ///
 /// It fails only where memory runs out, which it doesn't where there is room for them, and then nothing is
 /// appended.
+///
+/// Example: of `b"abcdef"`, two items of one byte from 0, each 3 above the one before, it appends `b"ad"`.
 pub fn append_items(
     out: &mut Vec<u8>,
     source: &[u8],

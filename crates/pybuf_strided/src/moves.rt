@@ -4,6 +4,8 @@ ghost use Rattle.pybuf_strided.specs.Apart.{place_of, AreInside, with_piece, mov
 
 /// Where items lie: the place of the first, and how far each is from the one before it, above it or
 /// below.
+///
+/// Example: the start 4, the step 2 and `falls` are the places 4, 2, 0.
 #[derive(Clone, Copy, Debug)]
 pub struct Track {
     pub start: usize,
@@ -210,6 +212,8 @@ fn copy_some(bytes: &mut [u8], to: Track, source: &[u8], from: Track, size: usiz
 
 /// Copies so many items of a size from where they lie in a source over others, one after the other.
 /// Takes no memory.
+///
+/// Example: of two items of one byte from `b"xy"`, to 2 and 0 of `b"abcd"`, it makes `b"ybxd"`.
 pub fn copy_items(
     bytes: &mut [u8],
     to: Track,

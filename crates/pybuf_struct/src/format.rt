@@ -45,7 +45,7 @@ impl FormatCode {
         self.repeat
     }
 
-    /// The code.
+    /// The code that the text writes.
     ///
     /// Example: of `3h` it is `FormatType::Short`.
     pub fn code(&self) -> FormatType

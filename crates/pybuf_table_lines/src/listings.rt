@@ -17,6 +17,8 @@ use std::marker::Model;
 
 /// The records of a format, all of them or those that a query chooses. A clause sees the format and the query, which may
 /// be asked of it.
+///
+/// Example: that of `<BH` with `1 > 100` lists of `(1, 2)` and `(5, 262)` the second alone.
 #[derive(Debug, Drop)]
 pub struct Listing {
     records: Records,
@@ -60,9 +62,14 @@ fn may_be_asked(alloc: Global, records: &Records, query: Query) -> Made<bool>
     }
 }
 
-/// What words ask to be listed: a format alone each record of it, and with the number of a field, an operator and a whole
-/// number behind it those whose field compares so. None exactly where the first word spells no format or one of size 0,
-/// there is no such field, another word is misspelled, an order is asked of bytes, or there are more words or fewer.
+/// What words ask to be listed. A format alone asks for each of its records. With the number of a
+/// field, an operator and a whole number behind the format, the words ask for the records whose field
+/// compares so.
+///
+/// None exactly where the first word spells no format or one of size 0, there is no such field, another
+/// word is misspelled, an order is asked of bytes, or there are more words or fewer.
+///
+/// Example: of `<BH`, `1`, `>` and `100` it gives a listing, and of `<BH`, `9`, `>` and `100` it gives `None`.
 pub fn listing_of_words(alloc: Global, words: &[Text]) -> Made<Option<Listing>>
     ensures { IfOk result (λ listing. listing ≡ listing_in words.now) }
 {
@@ -135,6 +142,8 @@ fn push_rows(out: &mut Vec<u8>, rows: &[(usize, ScalarList)]) -> Made<()>
 
 impl Listing {
     /// How many bytes are left over behind the last whole record.
+    ///
+    /// Example: of the format `<BH`, whose records have three bytes, and four bytes it is 1.
     pub fn left_over(&self, bytes: &[u8]) -> usize
         ensures { result ≡ left_over self.now bytes.now }
     {
@@ -160,6 +169,10 @@ impl Listing {
 
     /// Adds the line of the first record, where it is listed, and gives the bytes behind it: the text of a table is that
     /// line and then the text of these. No other record is read. There have to be records and nothing else.
+    ///
+    /// Where memory runs out, a part of the line may have been added.
+    ///
+    /// Example: of `<BH` and `b"\x01\x02\0\x05\x06\x01"` it adds the line `(1, 2)` and gives `b"\x05\x06\x01"`.
     pub fn push_first<'a>(
         &self,
         alloc: Global,

@@ -7,6 +7,8 @@ use pybuf_value::{CompareOp, Made, NoMemory, Scalar, Text};
 use std::alloc::Global;
 
 /// A field of each record, by its number, and how it has to compare with a whole number.
+///
+/// Example: the field 1, `CompareOp::Gt` and 100 choose the record `(5, 262)`, and don't choose `(1, 2)`.
 #[derive(Clone, Copy, Debug)]
 pub struct Query {
     pub field: usize,

@@ -15,6 +15,10 @@ pub(crate) fn push_row_line(out: &mut Vec<u8>, row: &ScalarList) -> Made<()>
 }
 
 /// Adds the line that tells how many bytes are left over.
+///
+/// Where memory runs out, a part of it may have been added.
+///
+/// Example: of 1 it adds `1 bytes left over` and a line feed.
 pub fn push_left_over(out: &mut Vec<u8>, count: u64) -> Made<()>
     ensures { OnOk result (out.new.items ≡ out.old.items ++ left_over_text count) }
 {

@@ -38,7 +38,8 @@ pub enum Fault {
     /// Example: one item of a view with two dimensions at one index is refused with `NotImplemented`.
     #[error("NotImplementedError")]
     NotImplemented,
-    /// A handle, or a subject of a kind that the command hasn't. Python has no such exception.
+    /// There is no such handle, or the command has no subject of such a kind. Python has no such
+    /// exception.
     /// Example: a command for a view that was never made is refused with `UnknownName`.
     #[error("UnknownName")]
     UnknownName,

@@ -20,7 +20,7 @@ pub enum Halt {
     /// Example: `Refused(Fault::Value)` is a refusal that is Python's `ValueError`.
     #[error("{0}")]
     Refused(Fault),
-    /// Memory ran out. What the call was lent is as before.
+    /// Memory ran out. What the call was lent is as before, if the call doesn't say otherwise.
     /// Example: `NoMemory` is displayed as `MemoryError`.
     #[error("MemoryError")]
     NoMemory,

@@ -6,15 +6,15 @@ ghost use Rattle.pybuf_value.specs.Lent.{lent_bytes};
 use crate::faults::Fault;
 use crate::snaps::{Snap, SnapKind};
 
-/// Bytes of what a value is or names.
+/// The bytes of what a value is or names. They are copied only where they don't lie together.
 ///
 /// Example: the bytes of a value `b"ab"` are `Lent::Lies` of `b"ab"`.
 #[derive(Debug, Drop)]
 pub enum Lent<'a> {
-    /// They lie together, and are lent from there.
+    /// The bytes lie together, and are lent from there.
     /// Example: a bytes value `b"ab"` is lent as `Lies` of `b"ab"`.
     Lies(&'a [u8]),
-    /// They lay apart, or were the parts of a list, and are copied.
+    /// The bytes lay apart, or were the parts of a list, and are copied.
     /// Example: the list 97, 98 is `Gathered` of `b"ab"`.
     Gathered(Vec<u8>),
 }

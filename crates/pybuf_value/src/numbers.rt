@@ -121,7 +121,9 @@ pub fn saturate(number: i128) -> isize
 pub trait ByteOr {
     ghost byte_gives: { Self → Result ℕ Fault };
 
-    /// The byte. Refused with `ValueError` exactly outside `0..256`.
+    /// The byte that the number stands for.
+    ///
+    /// Refused with `ValueError` exactly outside `0..256`.
     ///
     /// Example: `97i128.byte_or()` is `Ok(b'a')`, and `256i128.byte_or()` is `Err(Fault::Value)`.
     fn byte_or(&self) -> Result<u8, Fault>

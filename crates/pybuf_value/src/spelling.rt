@@ -73,6 +73,8 @@ pub fn named_repr_text(alloc: Global, name: &str, bytes: &[u8]) -> Tried<Text>
 
 /// Adds a number in decimal digits, with its sign.
 ///
+/// Where memory runs out, a part of it may have been added.
+///
 /// Example: of -5 it adds `-5`.
 pub fn push_number(out: &mut Vec<u8>, number: i128) -> Made<()>
     ensures { OnOk result (out.new.items ≡ out.old.items ++ signed_decimal number) }
@@ -84,6 +86,8 @@ pub fn push_number(out: &mut Vec<u8>, number: i128) -> Made<()>
 
 /// Adds bytes as Python's `repr` writes them.
 ///
+/// Where memory runs out, a part of it may have been added.
+///
 /// Example: of `b"a\0"` it adds `b'a\x00'`.
 pub fn push_bytes(out: &mut Vec<u8>, bytes: &[u8]) -> Made<()>
     ensures { OnOk result (out.new.items ≡ out.old.items ++ bytes_text bytes.now) }
@@ -93,6 +97,8 @@ pub fn push_bytes(out: &mut Vec<u8>, bytes: &[u8]) -> Made<()>
 }
 
 /// Adds a truth value, `True` or `False`.
+///
+/// Where memory runs out, a part of it may have been added.
 ///
 /// Example: of true it adds `True`.
 pub fn push_truth(out: &mut Vec<u8>, truth: bool) -> Made<()>
@@ -108,6 +114,8 @@ pub fn push_truth(out: &mut Vec<u8>, truth: bool) -> Made<()>
 
 /// Adds a handle: `h` and its number.
 ///
+/// Where memory runs out, a part of it may have been added.
+///
 /// Example: of 3 it adds `h3`.
 pub fn push_handle(out: &mut Vec<u8>, handle: u64) -> Made<()>
     ensures { OnOk result (out.new.items ≡ out.old.items ++ handle_text handle) }
@@ -121,6 +129,8 @@ pub fn push_handle(out: &mut Vec<u8>, handle: u64) -> Made<()>
 /// Adds a value without parts as a reply spells it: `None`, `True`, `False` and `Ellipsis` by name,
 /// a number in decimal digits, bytes and texts between quotes, bytes with a `b` before them, and a
 /// handle as `h` and its number.
+///
+/// Where memory runs out, a part of it may have been added.
 ///
 /// Example: of the text `H` it adds `'H'`, and of `Scalar::None` it adds `None`.
 pub fn push_scalar(out: &mut Vec<u8>, value: &Scalar) -> Made<()>

@@ -109,6 +109,7 @@ fn string_and_value<N: Names>(
 ///
 /// Refused with `UnknownName` for a vector, and with `TypeError` for an order of Python's `bytes` with
 /// a view.
+/// Example: `bytearray(b"ab")` with `CompareOp::Lt` and `b"b"` replies `Truth(true)`.
 pub fn of_own<N: Names>(
     parts: &Parts,
     op: CompareOp,
@@ -272,11 +273,12 @@ fn equality_answer(op: CompareOp, equal: bool) -> bool
     }
 }
 
-/// Compares a view with a value, by their items, each read by its own format (`memoryview.__eq__` in
-/// Python's "Binary Sequence Types"). Bytes and exporters count as one dimension of the format `B`. A
-/// view is equal to itself, also where it was released; a released one is equal to nothing else.
+/// Compares a view with a value, by their items, each read by its own format (`memoryview.__eq__` in Python's "Binary
+/// Sequence Types"). Bytes and exporters count as one dimension of the format `B`. A view is equal to itself, also
+/// where it was released. A released one is equal to nothing else.
 ///
 /// Refused with `UnknownName` where no such view was given, and with `TypeError` for an order.
+/// Example: a view of `b"abc"` with `CompareOp::Eq` and `b"abc"` replies `Truth(true)`.
 pub fn of_view<N: Names>(
     parts: &Parts,
     view: usize,

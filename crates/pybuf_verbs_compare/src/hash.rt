@@ -9,7 +9,9 @@ use pybuf_value::{ByteList, Fault, Halt};
 
 /// The bytes of Python's `bytes`.
 ///
-/// A bytearray may change, so its hash is refused with `TypeError`; a vector has none.
+/// A bytearray may change, so its hash is refused with `TypeError`. A vector has none, and is refused with
+/// `UnknownName`.
+/// Example: of `bytes` `b"abc"` it replies the bytes `b"abc"`.
 pub fn of_own(parts: &Parts) -> Result<LocalReply, Halt>
     ensures { Reads (spec.hash_of_own (exporter_of parts.now)) (exporter_of parts.now) result }
 {
@@ -25,8 +27,9 @@ pub fn of_own(parts: &Parts) -> Result<LocalReply, Halt>
 
 /// The bytes of a view's items, in order, whatever its format.
 ///
-/// Refused with `ValueError` for a released view, and for one that may be written (Python's
-/// "Binary Sequence Types", on hashes of a memoryview).
+/// Refused with `UnknownName` for a view that was never given, and with `ValueError` for a released one, and for one
+/// that may be written (Python's "Binary Sequence Types", on hashes of a memoryview).
+/// Example: of a view of `bytes` `b"abc"` it replies the bytes `b"abc"`.
 pub fn of_view(parts: &Parts, view: usize) -> Result<LocalReply, Halt>
     requires { IsWhole parts.now }
     ensures { Reads (spec.hash_of_view (exporter_of parts.now) view) (exporter_of parts.now) result }

@@ -1,21 +1,24 @@
 //! Laws of the definitions that the contracts cite.
 ghost use Rattle.pybuf_verbs_compare.specs.Laws.{CompareIsSafe, HashIsSafe, ReprIsSafe, EqualViewsHashAlike};
 
-/// `compare` keeps a sound exporter.
+/// Where `compare` isn't refused, it leaves a sound exporter sound, and its reply is no refusal.
+/// Example: `compare < x62` of `bytearray(b"ab")` replies `True`.
 pub fn compare_is_safe()
     ensures { CompareIsSafe }
 {
     pybuf_state::reading_keeps();
 }
 
-/// `hash` keeps a sound exporter.
+/// Where `hash` isn't refused, it leaves a sound exporter sound, and its reply is no refusal.
+/// Example: `hash` of `bytes` `b"abc"` replies `b"abc"`.
 pub fn hash_is_safe()
     ensures { HashIsSafe }
 {
     pybuf_state::reading_keeps();
 }
 
-/// `repr` keeps a sound exporter, and what it shows is one line.
+/// Where `repr` isn't refused, it leaves a sound exporter sound, and what it shows is one line.
+/// Example: `repr` of the byte 10 alone replies `b'\n'` with a backslash and the letter n.
 pub fn repr_is_safe()
     ensures { ReprIsSafe }
 {
@@ -24,6 +27,7 @@ pub fn repr_is_safe()
 
 /// Two unreleased views that are equal reply the same bytes to `hash`, where each has the format `b`,
 /// `B` or `c` (Python's glossary: "Hashable objects which compare equal must have the same hash value").
+/// Example: a view of `bytes` and its cast to `c` are equal, and reply the same bytes to `hash`.
 pub fn equal_views_hash_alike()
     ensures { EqualViewsHashAlike }
 {

@@ -21,10 +21,10 @@ fn shown_between(parts: &Parts, before: &[u8], after: &[u8]) -> Result<LocalRepl
     Ok(LocalReply::Shown(text))
 }
 
-/// The bytes between quotes, as they are written in Python: `b'..'` or `bytearray(b'..')`.
+/// The bytes between quotes, as Python writes them, with `b` before them or within `bytearray(b` and `)`.
 ///
-/// Refused with `UnknownName` for a vector, and with `OverflowError` where the text has more than
-/// `isize::MAX` bytes.
+/// Refused with `UnknownName` for a vector, and with `OverflowError` where the text has more than `isize::MAX` bytes.
+/// Example: of the bytearray of the bytes 97 and 0 it shows `bytearray(b'a\x00')`.
 pub fn of_own(parts: &Parts) -> Result<LocalReply, Halt>
     ensures { Reads (spec.repr_of_own (exporter_of parts.now)) (exporter_of parts.now) result }
 {
@@ -49,6 +49,7 @@ fn numbered(alloc: Global, before: &str, number: usize, after: &str) -> Made<Tex
 /// The number of a view in its exporter, counted from 0, and whether it was released.
 ///
 /// Refused with `UnknownName` where no such view was given.
+/// Example: of the view 0 it shows `<memory 0>`, and `<released memory 0>` once it is released.
 pub fn of_view(parts: &Parts, view: usize) -> Result<LocalReply, Halt>
     ensures { Reads (spec.repr_of_view (exporter_of parts.now) view) (exporter_of parts.now) result }
 {

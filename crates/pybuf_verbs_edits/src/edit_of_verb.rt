@@ -16,9 +16,11 @@ use pybuf_state::{Names, Parts};
 use pybuf_value::{Fault, Halt, Steps, Value};
 use std::sync::ledger::Ledger;
 
-/// The edit of a verb on the exporter itself.
+/// The edit of a verb on the exporter itself, such as `append`, `set` by a slice or `clear`.
 ///
-/// Refused with `UnknownName` where the verb is no edit, and where the kind of the exporter hasn't it.
+/// Refused with `UnknownName` where the verb is no edit, and where the kind of the exporter hasn't it. Else it is
+/// refused as the method of `PyByteArray` for the verb is. Nothing is changed then, nor where memory runs out.
+/// Example: `Verb::Reverse` of `bytearray(b"abc")` makes `bytearray(b"cba")`.
 pub fn edit_of_own<N: Names, L: Ledger>(
     parts: &mut Parts,
     verb: &Verb,
@@ -61,8 +63,9 @@ pub fn edit_of_own<N: Names, L: Ledger>(
     }
 }
 
-/// `del` of a view, which is always refused: with `UnknownName` where it was never given, with
+/// What `del` of a view replies. It is always refused, with `UnknownName` where the view was never given, with
 /// `ValueError` where it was released, and else with `TypeError`.
+/// Example: of an unreleased view it is `Err(Halt::Refused(Fault::Kind))`.
 pub fn delete_of_view(parts: &Parts, view: usize) -> Result<LocalReply, Halt>
     requires { IsWhole parts.now }
     ensures { Reads (shrinking_spec.delete_of_view (exporter_of parts.now) view) (exporter_of parts.now) result }

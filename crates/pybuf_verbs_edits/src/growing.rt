@@ -24,7 +24,10 @@ use pybuf_value::{
 use std::alloc::Global;
 use std::sync::ledger::Ledger;
 
-/// Adds a byte at the end of a bytearray.
+/// Adds a byte at the end of a bytearray. Refused with `UnknownName` where the exporter is no bytearray; then with
+/// `TypeError` where the value is no number, and with `ValueError` outside `0..256`; and then with `BufferError`
+/// where a view is unreleased. Nothing is changed then, nor where memory runs out.
+/// Example: to `bytearray(b"abc")` the value 100 makes `bytearray(b"abcd")`.
 pub fn append<L: Ledger>(
     parts: &mut Parts,
     value: &Value,

@@ -46,8 +46,11 @@ fn pop_byte<L: Ledger>(
     Ok(LocalReply::Item(byte_item(byte)))
 }
 
-/// Takes the byte of a bytearray at an index out, the last one where no index is given. The reply is that
-/// byte.
+/// Takes out the byte of a bytearray at an index, or the last one where no index is given. The reply is that byte.
+/// Refused with `UnknownName` where the exporter is no bytearray; then with `TypeError` where the index is no number,
+/// and with `OverflowError` where it doesn't fit `isize`; then with `BufferError` where a view is unreleased; and
+/// then with `IndexError` out of range. Nothing is changed then.
+/// Example: of `bytearray(b"abc")` without an index it replies the item 99, and leaves `bytearray(b"ab")`.
 pub fn pop<L: Ledger>(
     parts: &mut Parts,
     index: &Option<Value>,

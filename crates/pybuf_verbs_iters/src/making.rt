@@ -8,9 +8,11 @@ use pybuf_command::{ExporterKind, LocalReply, Subject};
 use pybuf_state::Parts;
 use pybuf_value::{Fault, Halt};
 
-/// An iterator over the bytes of an exporter.
+/// An iterator over the bytes of an exporter, at the first. The reply is its number.
 ///
-/// A vector has no items of its own.
+/// A vector has no items of its own, and is refused with `UnknownName`. Where it is refused, or memory runs out,
+/// nothing is changed.
+/// Example: of an exporter without iterators it replies `Iter(0)`.
 pub fn of_own(parts: &mut Parts) -> Result<LocalReply, Halt>
     requires { IsWhole parts.old }
     ensures answer { Answers (spec.iter_of_own (exporter_of parts.old)) (exporter_of parts.old) result (exporter_of parts.new) }
@@ -23,9 +25,11 @@ pub fn of_own(parts: &mut Parts) -> Result<LocalReply, Halt>
     }
 }
 
-/// An iterator over the items of a view.
+/// An iterator over the items of a view, at the first. The reply is its number.
 ///
-/// Refused with `ValueError` for a released view.
+/// Refused with `UnknownName` for a view that was never given, and with `ValueError` for a released one. Where it is
+/// refused, or memory runs out, nothing is changed.
+/// Example: of the view 0 of an exporter without iterators it replies `Iter(0)`.
 pub fn of_view(parts: &mut Parts, view: usize) -> Result<LocalReply, Halt>
     requires { IsWhole parts.old }
     ensures answer { Answers (spec.iter_of_view (exporter_of parts.old) view) (exporter_of parts.old) result (exporter_of parts.new) }

@@ -172,7 +172,15 @@ fn set_state(parts: &mut Parts, k: usize, state: &Value) -> Result<LocalReply, H
 
 // ---- the effect of a verb
 
-/// The effect of a verb on an iterator.
+/// The effect of a verb on an iterator: `iter` replies the iterator itself, `next` its next item or `Stop`, `hint`
+/// how many bytes are left, and `setstate` moves it to the nearest place.
+///
+/// Refused with `UnknownName` for an iterator that was never given, for every other verb, and for `hint` and
+/// `setstate` of an iterator over a view; for `setstate` with `TypeError` where the place is no number, unless the
+/// iterator is exhausted; and for `next`, unless it is exhausted, with `ValueError` where its view was released, and
+/// with `NotImplementedError` where an entry is left and the view hasn't one dimension. Nothing is changed then, nor
+/// where memory runs out.
+/// Example: over `b"ab"` `Verb::Next` replies the item 97, the item 98, and then `Stop`.
 pub fn of_iterator(parts: &mut Parts, k: usize, verb: &Verb) -> Result<LocalReply, Halt>
     requires { IsWhole parts.old }
     ensures answer { Answers (spec.effect_on_iterator (exporter_of parts.old) k verb.now) (exporter_of parts.old) result (exporter_of parts.new) }

@@ -14,6 +14,7 @@ use pybuf_value::{Halt, Item, Scalar};
 ///
 /// Refused with `UnknownName` for a vector, with `TypeError` for a wrong number of arguments, then as the
 /// first argument from left to right that is refused, and then by the method's own rule.
+/// Example: the method `MethodName::RFind` with `b","` on `b"a,b,c"` replies the item 3.
 pub fn of_own<C: Contents>(
     parts: &Parts,
     method: &MethodCall,

@@ -7,11 +7,12 @@ use pybuf_methods::{Contents, contains_in};
 use pybuf_state::Parts;
 use pybuf_value::{Halt, Value};
 
-/// Whether a value stands in the bytes: a number as one byte, and any other value as the bytes that it is
-/// read as (Python's library reference, "Common Sequence Operations", `x in s`).
+/// Whether a value stands in the bytes (Python's library reference, "Common Sequence Operations", `x in s`). A number
+/// is one byte, and any other value is read as bytes.
 ///
 /// Refused with `UnknownName` for a vector, with `ValueError` for a number outside `0..256`, and else as
 /// `bytes_from_object` refuses.
+/// Example: in `b"Abc"` the value `b"bc"` replies `Truth(true)`.
 pub fn of_own<C: Contents>(parts: &Parts, value: &Value, contents: &C) -> Result<LocalReply, Halt>
     ensures { Reads (spec.contains_of_own (exporter_of parts.now) value.now (C.pairs contents.now)) (exporter_of parts.now) result }
 {

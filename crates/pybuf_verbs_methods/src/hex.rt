@@ -14,6 +14,7 @@ use pybuf_value::{Halt, Value};
 ///
 /// Refused with `UnknownName` for a view that was never given, with `ValueError` for a released one, and then
 /// as `hex_of` refuses the separator and the size of a group.
+/// Example: of a view of `b"Abc"` with the separator `':'` it replies the text `41:62:63`.
 pub fn of_view<C: Contents>(
     parts: &Parts,
     view: usize,

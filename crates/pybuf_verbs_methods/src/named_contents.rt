@@ -51,7 +51,8 @@ fn meaning_among<'a, N: Names>(names: &'a N, handles: &[u64], handle: u64) -> Me
     names.meaning(handle)
 }
 
-/// What some handles of a command name. A clause sees the pairs.
+/// What some handles of a command name. A clause sees the pairs of each handle and what it is lent as.
+/// Example: `Reading::new(parts, names, &[1])` stands for what `h1` names.
 #[derive(Drop)]
 pub struct Reading<'a, N: Names> {
     parts: &'a Parts,
@@ -74,6 +75,7 @@ impl<'a, N: Names> Model for Reading<'a, N> {
 
 impl<'a, N: Names> Reading<'a, N> {
     /// What these handles name. Takes no memory.
+    /// Example: of no handles there is no pair.
     pub fn new(parts: &'a Parts, names: &'a N, handles: &'a [u64]) -> Reading<'a, N>
         requires whole { IsWhole parts.now }
         requires fit { N.fit names.now }

@@ -38,7 +38,10 @@ fn part_of_own(parts: &Parts, key: &Value) -> Result<LocalReply, Halt>
     Ok(LocalReply::Item(byte_item(parts.bytes.as_slice()[place])))
 }
 
-/// The byte of an exporter at an index, or the bytes that a slice picks.
+/// The byte of an exporter at an index, or the bytes that a slice picks. Refused with `UnknownName` for a vector;
+/// then with `TypeError` where the key is neither a number nor a slice, and with `IndexError` for an index out of
+/// range; and as `SaturatedSlice::with_slice` refuses a slice.
+/// Example: of `b"abc"` the key `-1` gets the item 99, and the key `0:2` gets `b"ab"`.
 pub fn of_own(parts: &Parts, key: &Value) -> Result<LocalReply, Halt>
     ensures { Reads (get_of_own (exporter_of parts.now) key.now) (exporter_of parts.now) result }
 {
@@ -71,7 +74,8 @@ fn item_at(parts: &Parts, layout: &KeptLayout, place: usize) -> Made<Item>
     item_by(parts.alloc, layout.format_text(), bytes)
 }
 
-/// The item of a view at an index.
+/// The item of a view at an index, where a negative index counts from the end. It is refused as `of_view` is.
+/// Example: of a view of `b"abc"` the index -1 gives `Item::One(Scalar::Int(99))`.
 pub fn item(parts: &Parts, view: usize, index: isize) -> Result<Item, Halt>
     requires { IsWhole parts.now }
     ensures { Reads (item_of_view (exporter_of parts.now) view (values.One (scalars.Int index))) (exporter_of parts.now) (result_map_both replies.Item (λ halt. halt) result) }
@@ -81,7 +85,9 @@ pub fn item(parts: &Parts, view: usize, index: isize) -> Result<Item, Halt>
     Ok(item_at(parts, layout, place)?)
 }
 
-/// The item of a view at a key, or the view itself.
+/// The item of a view at a key, or the view itself by `...` where it has no dimension. Refused with `UnknownName` for
+/// a view that was never given, and with `ValueError` for a released one; then as `place_of_key` refuses the key.
+/// Example: of a view of `b"abc"` the key -1 gets the item 99.
 pub fn of_view(parts: &Parts, view: usize, key: &Value) -> Result<LocalReply, Halt>
     requires { IsWhole parts.now }
     ensures { Reads (item_of_view (exporter_of parts.now) view key.now) (exporter_of parts.now) result }

@@ -7,21 +7,25 @@ use pybuf_command::LocalReply;
 use pybuf_state::Parts;
 use pybuf_value::{Fault, Halt, Item, Scalar};
 
-/// A count as an item.
+/// A count as an item. Takes no memory.
+/// Example: `count_item(3)` is `Item::One(Scalar::Int(3))`.
 pub fn count_item(count: usize) -> Item
     ensures { result ≡ spec.count_item count }
 {
     Item::One(Scalar::Int(count as i128))
 }
 
-/// The number of bytes.
+/// The number of bytes. It is never refused.
+/// Example: of `b"abc"` it replies the item 3.
 pub fn of_own(parts: &Parts) -> Result<LocalReply, Halt>
     ensures { Reads (spec.len_of_own (exporter_of parts.now)) (exporter_of parts.now) result }
 {
     Ok(LocalReply::Item(count_item(parts.bytes.len())))
 }
 
-/// The first entry of a view's shape.
+/// The first entry of a view's shape. Refused with `UnknownName` for a view that was never given, with `ValueError`
+/// for a released one, and then with `TypeError` where it has no dimension.
+/// Example: of a view in the shape `(2, 3)` it replies the item 2.
 pub fn of_view(parts: &Parts, view: usize) -> Result<LocalReply, Halt>
     requires { IsWhole parts.now }
     ensures { Reads (spec.len_of_view (exporter_of parts.now) view) (exporter_of parts.now) result }

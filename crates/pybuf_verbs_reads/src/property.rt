@@ -14,7 +14,9 @@ use pybuf_state::Parts;
 use pybuf_value::{Fault, Halt, Made};
 use std::alloc::Global;
 
-/// The number of unreleased views.
+/// The number of unreleased views, which is the property `exports`. Refused with `UnknownName` for every other
+/// property.
+/// Example: of an exporter with one unreleased view `PropertyName::Exports` replies the item 1.
 pub fn of_own(parts: &Parts, name: PropertyName) -> Result<LocalReply, Halt>
     requires { IsWhole parts.now }
     ensures { Reads (property_of_own (exporter_of parts.now) name) (exporter_of parts.now) result }
@@ -69,7 +71,9 @@ fn strides_of(alloc: Global, dims: &[(usize, isize, isize)]) -> Made<Vec<isize>>
     Ok(strides)
 }
 
-/// The number of entries of each dimension of a view.
+/// The number of entries of each dimension of a view. Refused with `UnknownName` for a view that was never given, and
+/// with `ValueError` for a released one.
+/// Example: of a view of six bytes that was cast in the shape `(2, 3)` it has 2 and 3.
 pub fn shape(parts: &Parts, view: usize) -> Result<Vec<usize>, Halt>
     requires { IsWhole parts.now }
     ensures { Reads (property_of_view (exporter_of parts.now) view names.Shape) (exporter_of parts.now) (result_map_both (λ shape. replies.Numbers (map (λ n. pos n) shape.items)) (λ halt. halt) result) }
@@ -78,7 +82,9 @@ pub fn shape(parts: &Parts, view: usize) -> Result<Vec<usize>, Halt>
     Ok(layout.counts(parts.alloc)?.into_vec())
 }
 
-/// The stride of each dimension of a view.
+/// The stride of each dimension of a view, in bytes. Refused with `UnknownName` for a view that was never given, and
+/// with `ValueError` for a released one.
+/// Example: of a view of six bytes that was cast in the shape `(2, 3)` it has 3 and 1.
 pub fn strides(parts: &Parts, view: usize) -> Result<Vec<isize>, Halt>
     requires { IsWhole parts.now }
     ensures { Reads (property_of_view (exporter_of parts.now) view names.Strides) (exporter_of parts.now) (result_map_both (λ strides. replies.Numbers strides.items) (λ halt. halt) result) }
@@ -88,7 +94,9 @@ pub fn strides(parts: &Parts, view: usize) -> Result<Vec<isize>, Halt>
     Ok(strides_of(parts.alloc, descriptor.dim_desc())?)
 }
 
-/// A property of a view.
+/// A property of a view. Refused with `UnknownName` for `exports`, which is no property of a view, and for a view
+/// that was never given, and with `ValueError` for a released one.
+/// Example: of a view of three bytes `PropertyName::Nbytes` replies the item 3.
 pub fn of_view(parts: &Parts, view: usize, name: PropertyName) -> Result<LocalReply, Halt>
     requires { IsWhole parts.now }
     ensures { Reads (property_of_view (exporter_of parts.now) view name) (exporter_of parts.now) result }

@@ -13,7 +13,8 @@ use pybuf_state::Parts;
 use pybuf_value::{ByteList, Fault, Halt, Made, Scalar, Value, text_in};
 use std::alloc::Global;
 
-/// All the bytes. An order that is given is refused.
+/// All the bytes. An order that is given is refused with `TypeError`.
+/// Example: of `bytearray(b"abc")` without an order it replies `b"abc"`.
 pub fn of_own(parts: &Parts, order: &Option<Value>) -> Result<LocalReply, Halt>
     ensures { Reads (bytes_of_own (exporter_of parts.now) order.now) (exporter_of parts.now) result }
 {
@@ -72,7 +73,9 @@ fn content_in(alloc: Global, columns: bool, bytes: &[u8], layout: &KeptLayout) -
     }
 }
 
-/// The bytes of a view's items, row-major, as a vector.
+/// The bytes of a view's items, row-major, as a vector. Refused with `UnknownName` for a view that was never given,
+/// and with `ValueError` for a released one.
+/// Example: of the view `memoryview(b"abcdef")[::-2]` it has the bytes `b"fdb"`.
 pub fn content(parts: &Parts, view: usize) -> Result<Vec<u8>, Halt>
     requires { IsWhole parts.now }
     ensures { Reads (bytes_of_view (exporter_of parts.now) view None) (exporter_of parts.now) (result_map_both (λ bytes. replies.Bytes bytes.items) (λ halt. halt) result) }
@@ -81,7 +84,11 @@ pub fn content(parts: &Parts, view: usize) -> Result<Vec<u8>, Halt>
     Ok(content_of(parts.alloc, parts.bytes.as_slice(), layout)?)
 }
 
-/// The bytes of a view's items, in an order.
+/// The bytes of a view's items, in an order: row by row by `C`, by None and without one, in column order by `F`, and
+/// by `A` in column order only where the items lie one after the other in it and not row by row. Refused with
+/// `UnknownName` for a view that was never given, and with `ValueError` for a released one; then with `TypeError` for
+/// an order that is no text, and with `ValueError` for another text.
+/// Example: of the items `[[97, 98, 99], [100, 101, 102]]` in the format `B` the order `'F'` gives `b"adbecf"`.
 pub fn of_view(parts: &Parts, view: usize, order: &Option<Value>) -> Result<LocalReply, Halt>
     requires { IsWhole parts.now }
     ensures { Reads (bytes_of_view (exporter_of parts.now) view order.now) (exporter_of parts.now) result }

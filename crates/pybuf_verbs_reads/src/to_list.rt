@@ -7,8 +7,10 @@ use pybuf_command::LocalReply;
 use pybuf_state::{Parts, content_lent};
 use pybuf_value::Halt;
 
-/// The items of a view, in order, with the shape that they are nested by. Items that lie apart are gathered before,
-/// by the loops of `bytes`.
+/// The items of a view, in order, with the shape that they are nested by, which is one entry where the view has no
+/// dimension. Refused with `UnknownName` for a view that was never given, and with `ValueError` for a released one.
+/// Items that lie apart are gathered before, by the loops of `bytes`.
+/// Example: of a view of `b"Abc"` it replies the shape 3 and the items 65, 98 and 99.
 pub fn of_view(parts: &Parts, view: usize) -> Result<LocalReply, Halt>
     requires { IsWhole parts.now }
     ensures { Reads (list_of_view (exporter_of parts.now) view) (exporter_of parts.now) result }

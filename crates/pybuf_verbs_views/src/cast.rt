@@ -285,7 +285,9 @@ fn column_layout_in(
     }
 }
 
-/// A view of the bytes of a view, with items of another format in one dimension. The answer is its number.
+/// A view of the bytes of a view, with items of another format in one dimension. The answer is its number. It is
+/// refused as `of_view` without a shape is. Nothing is changed then, nor where memory runs out.
+/// Example: of a view of `b"\x01\x00\x02\x00"` the format `"H"` gives the number of a view with the items 1 and 2.
 pub fn add_flat(parts: &mut Parts, view: usize, format: &str) -> Result<usize, Halt>
     requires { IsWhole parts.old }
     ensures answer { Answers (spec.cast_of_view (exporter_of parts.old) view (values.One (scalars.Text format.now)) None) (exporter_of parts.old) (result_map_both replies.View (λ halt. halt) result) (exporter_of parts.new) }
@@ -301,7 +303,8 @@ pub fn add_flat(parts: &mut Parts, view: usize, format: &str) -> Result<usize, H
 }
 
 /// A view of the bytes of a view, with items of another format in the dimensions of a shape. The answer is its
-/// number.
+/// number. It is refused as `of_view` with this shape is. Nothing is changed then, nor where memory runs out.
+/// Example: of a view of six bytes the format `"B"` and the shape `[2, 3]` give a view with two rows of three items.
 pub fn add_shaped(
     parts: &mut Parts,
     view: usize,
@@ -321,8 +324,13 @@ pub fn add_shaped(
     parts.push_view(layout)
 }
 
-/// A view of the bytes of a view, with items of another format, in one dimension or in those of a
-/// shape.
+/// A view of the bytes of a view, with items of another format, in one dimension or in those of a shape. The reply is
+/// its number.
+///
+/// Refused with `UnknownName` for a view that was never given, and with `ValueError` for a released one; then as
+/// Python's `view.cast(format, shape)` (`PyMemoryView::cast` lists how). Nothing is changed then, nor where memory
+/// runs out.
+/// Example: of a view of `b"\x01\x00\x02\x00"` the format `'H'` gives a view with the items 1 and 2.
 pub fn of_view(
     parts: &mut Parts,
     view: usize,
@@ -343,7 +351,10 @@ pub fn of_view(
     parts.add_view(layout)
 }
 
-/// A view of the bytes of a view, with items of another format in the dimensions of a shape and in column order.
+/// A view of the bytes of a view, with items of another format in the dimensions of a shape and in column order. The
+/// reply is its number. It is refused as `of_view` with this shape is. Nothing is changed then, nor where memory runs
+/// out.
+/// Example: of a view of `b"abcdef"`, `'B'` and `(2, 3)` give the items `[[97, 99, 101], [98, 100, 102]]`.
 pub fn column_of_view(
     parts: &mut Parts,
     view: usize,

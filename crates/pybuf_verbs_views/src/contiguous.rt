@@ -7,7 +7,9 @@ use pybuf_memoryview::snap_of_copy;
 use pybuf_state::Parts;
 use pybuf_value::Halt;
 
-/// A copy of a view's items, one after the other.
+/// A copy of a view's items, one after the other. Refused with `UnknownName` for a view that was never given, and
+/// with `ValueError` for a released one.
+/// Example: of the view `memoryview(b"abcdef")[::-2]` it replies a `Snap` with the content `b"fdb"`.
 pub fn of_view(parts: &Parts, view: usize) -> Result<LocalReply, Halt>
     requires { IsWhole parts.now }
     ensures { Reads (contiguous_of_view (exporter_of parts.now) view) (exporter_of parts.now) result }

@@ -6,7 +6,9 @@ use pybuf_command::LocalReply;
 use pybuf_state::Parts;
 use pybuf_value::Halt;
 
-/// The view itself.
+/// The view itself, as Python's `with view` begins. Refused with `UnknownName` for a view that was never given, and
+/// with `ValueError` for a released one.
+/// Example: of an unreleased view it replies `Itself`.
 pub fn of_view(parts: &Parts, view: usize) -> Result<LocalReply, Halt>
     requires { IsWhole parts.now }
     ensures { Reads (enter_of_view (exporter_of parts.now) view) (exporter_of parts.now) result }

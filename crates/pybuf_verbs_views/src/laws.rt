@@ -2,7 +2,8 @@
 //! one that cites laws of the crates below.
 ghost use Rattle.pybuf_verbs_views.specs.Laws.{ViewIsSafe, RangeIsSafe, SliceIsSafe, CastIsSafe, ColumnCastIsSafe, ColumnCastsHoldTheBytes, CastsAreOfBytes, ReleaseIsSafe, EnterIsSafe, ContiguousIsCopied, ToReadonlyIsSafe, ReleasingTwiceIsOnce};
 
-/// `view` keeps a sound exporter.
+/// Where `view` isn't refused, it leaves a sound exporter sound, and its reply is no refusal.
+/// Example: after `view` of `bytearray(b"abc")` all items of the new view lie inside the three bytes.
 pub fn view_is_safe()
     ensures { ViewIsSafe }
 {
@@ -13,7 +14,8 @@ pub fn view_is_safe()
     pybuf_desc::whole_layouts_lie_apart();
 }
 
-/// `range` keeps a sound exporter.
+/// Where `range` isn't refused, it leaves a sound exporter sound, and its reply is no refusal.
+/// Example: after `range 1 4` of `b"abcdef"` the items of the new view lie at 1, 2 and 3.
 pub fn range_is_safe()
     ensures { RangeIsSafe }
 {
@@ -22,7 +24,8 @@ pub fn range_is_safe()
     pybuf_desc::whole_layouts_lie_apart();
 }
 
-/// `get` of a view by a slice keeps a sound exporter.
+/// Where `get` of a view by a slice isn't refused, it leaves a sound exporter sound, and its reply is no refusal.
+/// Example: after `get ::-2` of a view of `b"abcdef"` the items of the new view lie at 5, 3 and 1.
 pub fn slice_is_safe()
     ensures { SliceIsSafe }
 {
@@ -34,7 +37,8 @@ pub fn slice_is_safe()
     pybuf_desc::slices_lie_apart();
 }
 
-/// `cast` keeps a sound exporter.
+/// Where `cast` isn't refused, it leaves a sound exporter sound, and its reply is no refusal.
+/// Example: after `cast 'H'` of a view of four bytes the items of the new view lie at 0 and 2.
 pub fn cast_is_safe()
     ensures { CastIsSafe }
 {
@@ -51,7 +55,8 @@ pub fn cast_is_safe()
     pybuf_struct::native_codes_have_their_size();
 }
 
-/// `castf` keeps a sound exporter.
+/// Where `castf` isn't refused, it leaves a sound exporter sound, and its reply is no refusal.
+/// Example: after `castf 'B' (2,3)` of a view of six bytes the items of the new view lie inside them.
 pub fn column_cast_is_safe()
     ensures { ColumnCastIsSafe }
 {
@@ -70,11 +75,13 @@ pub fn column_cast_is_safe()
 
 /// A cast that is carried out is one to a format of one native code, and that format or the view's has single bytes as
 /// items.
+/// Example: `cast 'H'` of a view of the format `B` is carried out, and `cast 'I'` of one of the format `H` is refused.
 pub fn casts_are_of_bytes()
     ensures { CastsAreOfBytes }
 {}
 
 /// What `castf` makes of a view has, in column order, the bytes of that view.
+/// Example: of a view of `b"abcdef"`, `castf 'B' (2,3)` makes a view of which `bytes 'F'` replies `b"abcdef"`.
 pub fn column_casts_hold_the_bytes()
     ensures { ColumnCastsHoldTheBytes }
 {
@@ -84,26 +91,30 @@ pub fn column_casts_hold_the_bytes()
     pybuf_struct::native_codes_have_their_size();
 }
 
-/// `release` keeps a sound exporter.
+/// Where `release` isn't refused, it leaves a sound exporter sound, and its reply is no refusal.
+/// Example: after `release` of the only view `exports` is 0.
 pub fn release_is_safe()
     ensures { ReleaseIsSafe }
 {
     pybuf_state::releasing_keeps();
 }
 
-/// `enter` keeps a sound exporter.
+/// Where `enter` isn't refused, it leaves a sound exporter sound, and its reply is no refusal.
+/// Example: `enter` of an unreleased view replies the view itself.
 pub fn enter_is_safe()
     ensures { EnterIsSafe }
 {
     pybuf_state::reading_keeps();
 }
 
-/// `contig` leaves the exporter as it is, and replies a copy of the view.
+/// Where `contig` isn't refused, it leaves the exporter as it is, and replies a copy of the view.
+/// Example: of the view `memoryview(b"abcdef")[::-2]` the copy has the bytes `b"fdb"`.
 pub fn contiguous_is_copied()
     ensures { ContiguousIsCopied }
 {}
 
-/// `toreadonly` keeps a sound exporter.
+/// Where `toreadonly` isn't refused, it leaves a sound exporter sound, and its reply is no refusal.
+/// Example: after `toreadonly` the new view has its items where the view has them.
 pub fn toreadonly_is_safe()
     ensures { ToReadonlyIsSafe }
 {
@@ -113,6 +124,7 @@ pub fn toreadonly_is_safe()
 }
 
 /// Releasing a view twice is releasing it once.
+/// Example: after `release` of a view a second `release` replies `ok`, and changes nothing.
 pub fn releasing_twice_is_once()
     ensures { ReleasingTwiceIsOnce }
 {}

@@ -26,7 +26,10 @@ fn part_between(count: usize, from: i128, to: i128) -> Result<(usize, usize), Fa
     Ok((from as usize, (to - from) as usize))
 }
 
-/// A view of the bytes from one place up to another.
+/// A view of the bytes from one place up to another. The reply is its number. Refused with `TypeError` where the
+/// first place, and then the other, is no number, and with `IndexError` where the first is below 0 or past the other,
+/// or the other is past the length. Nothing is changed then, nor where memory runs out.
+/// Example: of `b"abcdef"` from 1 up to 4 it replies the number of a view of `b"bcd"`.
 pub fn of_own(parts: &mut Parts, from: &Value, to: &Value) -> Result<LocalReply, Halt>
     requires { IsWhole parts.old }
     ensures answer { Answers (spec.range_of_own (exporter_of parts.old) from.now to.now) (exporter_of parts.old) result (exporter_of parts.new) }

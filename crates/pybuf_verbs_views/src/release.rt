@@ -11,7 +11,8 @@ use pybuf_value::{Fault, Halt};
 
 /// Releases a view that was given. The second time changes nothing.
 ///
-/// Refused with `UnknownName` exactly where the view was never given.
+/// Refused with `UnknownName` exactly where the view was never given. Nothing is changed then.
+/// Example: `release(parts, 0)` is `Ok(())` after one view was made, also the second time.
 pub fn release(parts: &mut Parts, view: usize) -> Result<(), Fault>
     requires { IsWhole parts.old }
     ensures exact { MatchResult result (λ _. released_in (exporter_of parts.old) view ≡ Ok (exporter_of parts.new)) (λ f. released_in (exporter_of parts.old) view ≡ Err f) }
@@ -26,7 +27,9 @@ pub fn release(parts: &mut Parts, view: usize) -> Result<(), Fault>
     }
 }
 
-/// Releases a view that was given.
+/// Releases a view that was given, and replies that it is done. It is refused as `release` is. Nothing is changed
+/// then.
+/// Example: of a view of number 0 it replies `Ok`, also the second time.
 pub fn of_view(parts: &mut Parts, view: usize) -> Result<LocalReply, Halt>
     requires { IsWhole parts.old }
     ensures answer { Answers (release_of_view (exporter_of parts.old) view) (exporter_of parts.old) result (exporter_of parts.new) }

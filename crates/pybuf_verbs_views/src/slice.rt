@@ -11,7 +11,9 @@ use pybuf_index::SaturatedSlice;
 use pybuf_state::Parts;
 use pybuf_value::{Fault, Halt, PySlice};
 
-/// A view of the items that a slice picks, along the first dimension. The answer is its number.
+/// A view of the items that a slice picks, along the first dimension. The answer is its number. It is refused as
+/// `of_view` is. Nothing is changed then, nor where memory runs out.
+/// Example: of a view of `b"abcdef"` the slice `1:4` gives the number of a view of `b"bcd"`.
 pub fn add(parts: &mut Parts, view: usize, slice: &PySlice) -> Result<usize, Halt>
     requires { IsWhole parts.old }
     ensures answer { Answers (slice_of_view (exporter_of parts.old) view slice.now) (exporter_of parts.old) (result_map_both replies.View (λ halt. halt) result) (exporter_of parts.new) }
@@ -27,7 +29,12 @@ pub fn add(parts: &mut Parts, view: usize, slice: &PySlice) -> Result<usize, Hal
     parts.push_view(layout)
 }
 
-/// A view of the items that a slice picks, along the first dimension.
+/// A view of the items that a slice picks, along the first dimension. The reply is its number.
+///
+/// Refused with `UnknownName` for a view that was never given, and with `ValueError` for a released one; then with
+/// `TypeError` where it has no dimension; and then as `SaturatedSlice::with_slice` refuses the slice. Nothing is
+/// changed then, nor where memory runs out.
+/// Example: of a view of `b"abcdef"` the slice `::-2` gives a view of `b"fdb"`.
 pub fn of_view(parts: &mut Parts, view: usize, slice: &PySlice) -> Result<LocalReply, Halt>
     requires { IsWhole parts.old }
     ensures answer { Answers (slice_of_view (exporter_of parts.old) view slice.now) (exporter_of parts.old) result (exporter_of parts.new) }

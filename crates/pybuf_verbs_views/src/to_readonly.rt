@@ -8,7 +8,10 @@ use pybuf_command::LocalReply;
 use pybuf_state::Parts;
 use pybuf_value::Halt;
 
-/// A view of the items of a view, which may only be read.
+/// A view of the items of a view, which may only be read. The reply is its number. Refused with `UnknownName` for a
+/// view that was never given, and with `ValueError` for a released one. Nothing is changed then, nor where memory
+/// runs out.
+/// Example: of the view 0, the only one, it replies `View(1)`.
 pub fn of_view(parts: &mut Parts, view: usize) -> Result<LocalReply, Halt>
     requires { IsWhole parts.old }
     ensures answer { Answers (toreadonly_of_view (exporter_of parts.old) view) (exporter_of parts.old) result (exporter_of parts.new) }

@@ -11,7 +11,8 @@ use pybuf_memoryview::KeptLayout;
 use pybuf_state::Parts;
 use pybuf_value::{Halt, Twin};
 
-/// A view of all the bytes. The answer is its number.
+/// A view of all the bytes. The answer is its number. It is never refused. Where memory runs out, nothing is changed.
+/// Example: of an exporter without views it is 0.
 pub fn add_whole(parts: &mut Parts) -> Result<usize, Halt>
     requires { IsWhole parts.old }
     ensures answer { Answers (view_of_own (exporter_of parts.old)) (exporter_of parts.old) (result_map_both replies.View (λ halt. halt) result) (exporter_of parts.new) }
@@ -22,7 +23,9 @@ pub fn add_whole(parts: &mut Parts) -> Result<usize, Halt>
     parts.push_view(layout)
 }
 
-/// A view of all the bytes.
+/// A view of all the bytes, read-only where they are only read. The reply is its number. It is never refused. Where
+/// memory runs out, nothing is changed.
+/// Example: of an exporter without views it replies `View(0)`.
 pub fn of_own(parts: &mut Parts) -> Result<LocalReply, Halt>
     requires { IsWhole parts.old }
     ensures answer { Answers (view_of_own (exporter_of parts.old)) (exporter_of parts.old) result (exporter_of parts.new) }
@@ -33,7 +36,9 @@ pub fn of_own(parts: &mut Parts) -> Result<LocalReply, Halt>
     Ok(LocalReply::View(number))
 }
 
-/// A view of the items of a view.
+/// A view of the items of a view. The reply is its number. Refused with `UnknownName` for a view that was never
+/// given, and with `ValueError` for a released one. Nothing is changed then, nor where memory runs out.
+/// Example: of the view 0, the only one, it replies `View(1)`.
 pub fn of_view(parts: &mut Parts, view: usize) -> Result<LocalReply, Halt>
     requires { IsWhole parts.old }
     ensures answer { Answers (view_of_view (exporter_of parts.old) view) (exporter_of parts.old) result (exporter_of parts.new) }

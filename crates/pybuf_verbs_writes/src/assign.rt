@@ -312,8 +312,15 @@ fn from_value<N: Names>(
     }
 }
 
-/// Copies over the items that a slice of a view picks. From another exporter that is lent itself, or from
-/// a view of it, no byte is copied between.
+/// Copies over the items that a slice of a view picks. From another exporter that is lent itself, or from a view of
+/// it, they are copied from where they lie.
+///
+/// Refused with `UnknownName` for a view that was never given, and with `ValueError` for a released one; with
+/// `TypeError` where it may only be read, for `None`, and where it has no dimension; with `NotImplementedError` where
+/// it has several; and as `SaturatedSlice::with_slice` refuses the slice. Then a source that is neither bytes nor a
+/// handle of an exporter or a view is refused with `TypeError`, and with `ValueError` a released one and one of
+/// another format, item size or shape. Nothing is changed then, nor where memory runs out.
+/// Example: over the slice `0:2` of a view of `b"abc"` the value `b"12"` makes `b"12c"`.
 pub fn of_view<N: Names>(
     parts: &mut Parts,
     view: usize,
@@ -331,7 +338,8 @@ pub fn of_view<N: Names>(
     from_value(parts, &target, value, names)
 }
 
-/// Copies bytes over the items that a slice of a view picks.
+/// Copies bytes over the items that a slice of a view picks. It is refused as `of_view` is. Nothing is changed then.
+/// Example: over the slice `0:2` of a view of `b"abc"` the bytes `b"12"` make `b"12c"`.
 pub fn put_bytes(parts: &mut Parts, view: usize, slice: &PySlice, bytes: &[u8]) -> Result<(), Halt>
     requires { IsWhole parts.old }
     ensures answer { Answers (spec.assign_of_view (exporter_of parts.old) view slice.now (values.One (scalars.Bytes bytes.now)) []) (exporter_of parts.old) (result_map_both (λ _. replies.Ok) (λ halt. halt) result) (exporter_of parts.new) }
@@ -361,7 +369,9 @@ fn told(answer: Result<LocalReply, Halt>) -> Result<(), Halt>
 }
 
 /// Copies the items of a view of another exporter, from where they lie, over those that a slice of a view picks. No
-/// byte is copied between, and no memory is taken for them.
+/// memory is taken for them. Refused with `UnknownName` where the other view was never given, and then as `of_view`
+/// is. Nothing is changed then.
+/// Example: over the slice `3:` of a view of `b"abcdef"` a view of `b"XYZ"` makes `b"abcXYZ"`.
 pub fn put_from(
     parts: &mut Parts,
     view: usize,
@@ -383,7 +393,9 @@ pub fn put_from(
     told(answer)
 }
 
-/// The same of a view of the exporter itself: the items are as they were before the first is written.
+/// Copies the items of a view of the exporter itself over those that a slice of a view picks. They count as they were
+/// before the first is written. It is refused as `put_from` is. Nothing is changed then.
+/// Example: over the slice `::-1` of a view of `b"abc"` the view itself makes `b"cba"`.
 pub fn put_within(
     parts: &mut Parts,
     view: usize,

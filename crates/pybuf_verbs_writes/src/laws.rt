@@ -1,7 +1,8 @@
 //! Laws of the definitions that the contracts cite.
 ghost use Rattle.pybuf_verbs_writes.specs.Laws.{SetIsSafe, AssignIsSafe, WritesAreSeen, AssignmentsAreByValue, ContentsHoldTheItems};
 
-/// `set` keeps a sound exporter.
+/// Where `set` isn't refused, it leaves a sound exporter sound, and its reply is no refusal.
+/// Example: `set 0 65` of `bytearray(b"abc")` leaves three bytes.
 pub fn set_is_safe()
     ensures { SetIsSafe }
 {
@@ -11,7 +12,8 @@ pub fn set_is_safe()
     pybuf_memoryview::keys_name_items();
 }
 
-/// `set` of a view by a slice keeps a sound exporter.
+/// Where `set` of a view by a slice isn't refused, it leaves a sound exporter sound, and its reply is no refusal.
+/// Example: `set 0:2:None x3132` of a view of `b"abc"` leaves three bytes.
 pub fn assign_is_safe()
     ensures { AssignIsSafe }
 {
@@ -20,8 +22,9 @@ pub fn assign_is_safe()
     pybuf_desc::slices_stay_inside();
 }
 
-/// What is written through one view is read through every view of the same bytes, and no other byte
-/// changes: a number as the whole number, a truth value for `?`, and bytes cut or filled with zeros.
+/// What is written through one view is read through every view of the same format that has an item there, and no
+/// other byte changes. A number is read back whole, a truth value for `?`, and bytes cut or filled with zeros.
+/// Example: after `set 0 258` through a view of the format `H` another view of that format at 0 reads 258.
 pub fn writes_are_seen()
     ensures { WritesAreSeen }
 {
@@ -30,10 +33,10 @@ pub fn writes_are_seen()
     pybuf_struct::reads_what_was_written();
 }
 
-/// `set` of a view by a slice is by value: where no two items of the target share a byte, item k of
-/// the target is afterwards item k of the source as it was before, for all strides of both, also
-/// where they overlap or are one. Every byte that is of no item of the target stays, and so do the
-/// length and the views.
+/// Where `set` of a view by a slice isn't refused, it is by value: where no two items of the target share a byte,
+/// item k of the target is afterwards item k of the source as it was before, for all strides of both, also where they
+/// overlap or are one. Every byte that is of no item of the target stays, and so do the length and the views.
+/// Example: over the slice `::-1` of a view of `b"abc"` the view itself makes `b"cba"`.
 pub fn assignments_are_by_value()
     ensures { AssignmentsAreByValue }
 {
@@ -43,6 +46,7 @@ pub fn assignments_are_by_value()
 }
 
 /// The bytes of a view whose items lie inside are those of its items, one item after the other.
+/// Example: the items at 5, 3 and 1 of `b"abcdef"` have the bytes `b"fdb"`.
 pub fn contents_hold_the_items()
     ensures { ContentsHoldTheItems }
 {}

@@ -36,7 +36,11 @@ fn set_byte(parts: &mut Parts, key: &Value, value: &Value) -> Result<LocalReply,
     Ok(LocalReply::Ok)
 }
 
-/// Writes the byte of a bytearray at a key.
+/// Writes the byte of a bytearray at a key. Refused with `UnknownName` where the exporter is no bytearray; then with
+/// `TypeError` where the key is no number, and with `IndexError` where it doesn't fit `isize`; then with `TypeError`
+/// where the value is no number, and with `ValueError` outside `0..256`; and then with `IndexError` out of range.
+/// Nothing is changed then.
+/// Example: in `bytearray(b"abc")` the key 0 and the value 65 make `bytearray(b"Abc")`.
 pub fn of_own(parts: &mut Parts, key: &Value, value: &Value) -> Result<LocalReply, Halt>
     requires { IsWhole parts.old }
     ensures answer { Answers (set_of_own (exporter_of parts.old) key.now value.now) (exporter_of parts.old) result (exporter_of parts.new) }
@@ -164,8 +168,12 @@ fn write_number(
     }
 }
 
-/// Writes the item of a view at a key. A byte of the format `B`, which most views have, and numbers of
-/// a format of one letter are written without parsing it.
+/// Writes the item of a view at a key. A byte of the format `B`, which most views have, and numbers of a format of
+/// one letter are written without parsing it. Refused with `UnknownName` for a view that was never given, and with
+/// `ValueError` for a released one; with `TypeError` where it may only be read, and for `None`; then as
+/// `place_of_key` refuses the key; and then with `TypeError` where the format doesn't take the value. Nothing is
+/// changed then, nor where memory runs out.
+/// Example: through a view of all bytes of `b"abc"` the key 0 and the value 65 make `b"Abc"`.
 pub fn of_view<N: Names>(
     parts: &mut Parts,
     view: usize,

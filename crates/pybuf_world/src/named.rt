@@ -23,6 +23,7 @@ pub enum Named {
 /// Example: for `len h1` after `view h0` it is the handle 1, the exporter 0 and the subject `Subject::View(0)`.
 #[derive(Clone, Copy, Debug, PartialEq, Eq)]
 pub struct Target {
+    /// The handle that the command says.
     pub handle: u64,
     /// The number of the exporter that is named, or of which a view or an iterator is.
     pub exporter: usize,

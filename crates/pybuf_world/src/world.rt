@@ -70,12 +70,13 @@ impl World {
         self.tables.step(command)
     }
 
-    /// Carries out the commands in order, and appends one reply for each; refusals are replies.
+    /// Carries out the commands in order, and appends one reply for each. A refusal is a reply, changes nothing and
+    /// uses up no handle.
     ///
-    /// Where memory runs out, world and replies are those of the commands that were answered before.
-    /// In every case the world is sound after each command: each byte of each item of an unreleased
-    /// view lies inside its exporter, and that exporter is as long as when the view was made; no two items of a
-    /// view share a byte; and each handle names an exporter, a view or an iterator that is there.
+    /// Where memory runs out, world and replies are those of the commands that were answered before. In every case
+    /// the world is sound after each command: each byte of each item of an unreleased view lies inside its exporter,
+    /// and that exporter is as long as when the view was made; no two items of a view share a byte; and each handle
+    /// names an exporter, a view or an iterator that is there.
     /// Example: `new bytearray x0102`, `view h0`, `get h1 -1` and `append h0 3` reply `h0`, `h1`, `2` and `! BufferError`.
     pub fn run(&mut self, commands: &[Command], replies: &mut ReplyList) -> Result<(), NoMemory>
         ensures world { OnOk result (self.new ≡ world_after_all self.old commands.now) }
