@@ -21,7 +21,7 @@ pub fn live_layouts_are_sound()
     ensures { LiveLayoutsAreSound }
 {}
 
-/// What is lent of a sound exporter fits, be it the exporter itself, a view or an iterator.
+/// What is lent of a sound exporter fits, whether it is the exporter itself, a view or an iterator.
 /// Example: what a view in the shape `[2, 3]` with items of one byte is lent as has six bytes.
 pub fn subjects_fit()
     ensures { SubjectsFit }
