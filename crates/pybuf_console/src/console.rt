@@ -58,7 +58,7 @@ impl Console {
     }
 
     /// Runs the lines of a text, and keeps their replies in place of those that were kept. The last reply of `ask`
-    /// stays. Where a line is no command, nothing is run and changed, and the answer is `Misread::BadLine` with the
+    /// stays. Where a line is no command, nothing is run or changed, and the answer is `Misread::BadLine` with the
     /// number of the first such line, counted from 1. Where memory runs out, the answer is `Misread::NoMemory`, and
     /// either nothing is changed, or some commands from the first on were run, and their replies are kept.
     /// Example: the text `new bytearray x61\nlen h0\n` in an empty world keeps the replies `h0` and `1`.

@@ -110,7 +110,7 @@ impl BufferDescriptor {
     }
 
     /// Items of another format and size over the same bytes, from the same start, in dimensions of these entries,
-    /// row-major. Without dimensions there is one item.
+    /// row-major. Where there is no dimension, there is one item.
     ///
     /// The items must lie one after the other without a gap, as `is_contiguous` tells, and the new ones must make up
     /// their bytes, as in Python's `view.cast(format, shape)` (Library reference, "Memory Views"). There are at most
@@ -163,7 +163,8 @@ impl BufferDescriptor {
     }
 
     /// Items of another format and size over the same bytes, from the same start, in dimensions of these entries, in
-    /// column order. Item k in that order lies k item sizes after the first. Without dimensions there is one item.
+    /// column order. Item k in that order lies k item sizes after the first. Where there is no dimension, there is
+    /// one item.
     ///
     /// The items of this one must lie one after the other without a gap, as `is_contiguous` tells, and the new ones
     /// must make up their bytes. There are at most 64 dimensions, each with an entry.

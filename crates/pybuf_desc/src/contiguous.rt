@@ -96,7 +96,7 @@ impl BufferDescriptor {
     }
 
     /// Whether the items lie one after the other, row-major, without a gap. That is C-contiguous (C API, "Buffer
-    /// Protocol", "Contiguity requests"). Without items this is so. Takes no memory.
+    /// Protocol", "Contiguity requests"). It is true where there is no item. Takes no memory.
     /// Example: of bytes in the shape `[2, 3]` it is true with the strides 3 and 1, and false with 1 and 2.
     pub fn is_contiguous(&self) -> bool
         requires { IsPlaceable self.now }
@@ -111,7 +111,7 @@ impl BufferDescriptor {
     }
 
     /// Whether the items lie one after the other, in column order, without a gap. That is F-contiguous (C API,
-    /// "Buffer Protocol", "Contiguity requests"). Without items this is so. Takes no memory.
+    /// "Buffer Protocol", "Contiguity requests"). It is true where there is no item. Takes no memory.
     /// Example: of bytes in the shape `[2, 3]` it is true with the strides 1 and 2, and false with 3 and 1.
     pub fn is_f_contiguous(&self) -> bool
         requires { IsPlaceable self.now }

@@ -1,14 +1,14 @@
 //! Laws of the definitions that the contracts cite. Each stands on a function with an empty body.
 ghost use Rattle.pybuf_desc.specs.Laws.{CastsShareTheirBytes, CastsStayInside, CastsHaveTheirShape, CastsAreContiguous, FlatCastsHaveOneDimension, ShapedCastsShareTheirBytes, ShapedCastsStayInside, ShapedCastsHaveTheirShape, ColumnCastsFollowColumnOrder, ColumnCastsAreFContiguous, ColumnCastsHaveTheirShape, ColumnCastsGiveTheBytesBack, ColumnCastsStayInside, ColumnCastsLieApart, CopiesHaveTheirBytes, SlicesStayInside, SlicesHaveTheirShape, SlicingBackTwiceIsNothing, WholeLayoutsLieApart, SlicesLieApart, CastsLieApart, RowMajorLayoutsLieApart, PlacedDescriptorsStand, DescriptorsStandForOneView, DescribedViewsHaveTheirShape, ValidWhereItemsLieInside, ContiguityIsOfStrides, FContiguityIsOfStrides, ContiguityIsTheSameAnywhere, PositionsArePlaces, TailsAreGreatest, RangesHaveTheContent, RangesStayInside, ColumnRangesHaveTheContent, ColumnRangesStayInside, ColumnsStayInside, NoItemsAreNoColumns, LinesLieInside, LinesHaveTheirPieces};
 
-/// The items of a cast of a contiguous view have the view's bytes in their order: its items lie one
-/// new item size apart from the view's first place on, and make up all its bytes.
+/// The items of a cast of a contiguous view have the view's bytes in their order. They lie one new item size apart
+/// from the view's first place on, and make up all its bytes.
 /// Example: the items 1 and 2 of `b"\x01\x00\x02\x00"` cast to `H` have the bytes `b"\x01\x00\x02\x00"`.
 pub fn casts_share_their_bytes()
     ensures { CastsShareTheirBytes }
 {}
 
-/// Where the items of a contiguous view lie inside, so do those of each of its casts.
+/// Where the items of a contiguous view lie inside the bytes, those of each of its casts do too.
 /// Example: a view of the bytes 0 to 3 of six lies inside, and so does its cast to two items of two bytes.
 pub fn casts_stay_inside()
     ensures { CastsStayInside }
@@ -38,7 +38,7 @@ pub fn shaped_casts_share_their_bytes()
     ensures { ShapedCastsShareTheirBytes }
 {}
 
-/// Where the items of a contiguous view lie inside, so do those of each of its casts to a shape.
+/// Where the items of a contiguous view lie inside the bytes, those of each of its casts to a shape do too.
 /// Example: a view of the bytes 1 to 6 of eight lies inside, and so does its cast in the shape `[2, 3]`.
 pub fn shaped_casts_stay_inside()
     ensures { ShapedCastsStayInside }
@@ -69,7 +69,7 @@ pub fn column_casts_give_the_bytes_back()
     ensures { ColumnCastsGiveTheBytesBack }
 {}
 
-/// Where the items of a contiguous view lie inside, so do those of its casts in column order.
+/// Where the items of a contiguous view lie inside the bytes, those of its casts in column order do too.
 /// Example: a view of the bytes 1 to 6 of eight lies inside, and so does its cast in column order in the shape `[2, 3]`.
 pub fn column_casts_stay_inside()
     ensures { ColumnCastsStayInside }
@@ -94,7 +94,7 @@ pub fn copies_have_their_bytes()
     ensures { CopiesHaveTheirBytes }
 {}
 
-/// Where the items of a view lie inside, so do those of each of its slices.
+/// Where the items of a view lie inside the bytes, those of each of its slices do too.
 /// Example: the items of `[::-2]` of a view of six bytes start at 5, 3 and 1, which are places of the view.
 pub fn slices_stay_inside()
     ensures { SlicesStayInside }
@@ -207,8 +207,8 @@ pub fn ranges_have_the_content()
     ensures { RangesHaveTheContent }
 {}
 
-/// Where the items of a view lie inside, so do the ranges of a walk over them, however many dimensions
-/// of the tail are joined.
+/// Where the items of a view lie inside the bytes, the ranges of a walk over them do too, however many dimensions of
+/// the tail are joined.
 /// Example: the ranges of a view of the bytes 1 to 3 of six end at 4 at most.
 pub fn ranges_stay_inside()
     ensures { RangesStayInside }

@@ -59,7 +59,7 @@ fn stride_after(stride: isize, step: isize) -> isize
 impl BufferDescriptor {
     /// The slice along the first dimension of the items that start at `start`, and where its own items start.
     ///
-    /// The first dimension has the entries at the indices of the slice, in that order: its number of entries is
+    /// The first dimension has the entries at the indices of the slice, in that order. Its number of entries is
     /// theirs, and its stride is the old one times the step, clamped to `isize`. Two items or more show that stride,
     /// and then it is exact; elsewhere no place depends on it. A slice without indices leaves the start where it was.
     /// All else stays, as in Python, where a slice of a view is a subview (Library reference, "Memory Views").

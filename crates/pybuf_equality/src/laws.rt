@@ -16,8 +16,8 @@ pub fn layouts_have_their_items()
     ensures { LayoutsHaveTheirItems }
 {}
 
-/// Views of formats `b`, `B` or `c` that are equal hold the same bytes. So where both can be hashed,
-/// they reply the same bytes to `hash`.
+/// Views of formats `b`, `B` or `c` that are equal hold the same bytes. Where both can be hashed, they therefore
+/// reply the same bytes to `hash`.
 /// Example: two equal views of the formats `B` and `b` both hold `b"abc"`.
 pub fn equal_byte_views_hold_the_same_bytes()
     ensures { EqualByteViewsHoldTheSameBytes }

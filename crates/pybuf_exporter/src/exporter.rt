@@ -148,8 +148,8 @@ impl ExporterState {
     /// Carries out a command, as `step`, and gives its reply twice. Where memory runs out, also for the second reply,
     /// nothing of the exporter is changed. Only an edit changes the room.
     ///
-    /// A second exporter is never made: what owns memory is replied by commands that change nothing, but for two. The
-    /// bytes of `take` are copied before, and the iterator of `next` is put back.
+    /// A second exporter is never made. Only commands that change nothing reply what owns memory, with two
+    /// exceptions: the bytes of `take` are copied before, and the iterator of `next` is put back.
     /// Example: `Verb::Len` of three bytes gives the item 3 twice.
     pub fn step_copied(&mut self, command: &LocalCommand) -> Made<(LocalReply, LocalReply)>
         requires { LoansFit command.now.loans }

@@ -172,9 +172,10 @@ pub fn items_are_read()
     pybuf_struct::bytes_of_the_size_are_read();
 }
 
-/// Where a check of an edit refuses before it asks for another length, that is the reply, whether a view is unreleased
-/// or not. An edit that asks for another length, once its earlier checks are passed, is refused with `BufferError`
-/// exactly while a view is unreleased. No other edit is, but that which adds a bytearray to itself.
+/// Where a check of an edit refuses before it asks for another length, that is the reply, whether a view is
+/// unreleased or not. An edit that asks for another length, once its earlier checks are passed, is refused with
+/// `BufferError` exactly while a view is unreleased. No other edit is refused with `BufferError`, except one that
+/// adds a bytearray to itself.
 /// Example: while a view is unreleased, `append 256` is refused with `ValueError`, and `append 1` with `BufferError`.
 pub fn resizing_is_refused_while_exported()
     ensures { ResizingIsRefusedWhileExported }
@@ -202,9 +203,9 @@ pub fn iterators_give_the_items()
     pybuf_state::live_layouts_are_sound();
 }
 
-/// An iterator over a released view is refused, and so is one over a view of no dimension or of several while there
-/// is an entry for it; then neither moves. Past the last entry it stops for ever, and so it does once it is
-/// exhausted.
+/// An iterator over a released view is refused, and an iterator over a view of no dimension or of several is refused
+/// while there is an entry for it. A refused iterator doesn't move. Past the last entry it stops for ever, and so it
+/// does once it is exhausted.
 /// Example: `next` over a released view is refused with `ValueError`, and over two dimensions with `NotImplementedError`.
 pub fn iterators_stop_or_stay()
     ensures released { ReleasedViewsAreNotIterated }
@@ -223,10 +224,10 @@ pub fn snaps_hold_the_items()
     pybuf_verbs_writes::contents_hold_the_items();
 }
 
-/// `set` of a view by a slice, where it isn't refused, is by value: where no two items of the target share a byte, item
-/// j of the target is afterwards item j of the source as it was before the command, be the source bytes that are given,
-/// the exporter itself, a view of it, or what another lends. Every byte that is of no item of the target stays, and so
-/// do the length, the kind, the views and the iterators.
+/// `set` of a view by a slice, where it isn't refused, is by value: where no two items of the target share a byte,
+/// item j of the target is afterwards item j of the source as it was before the command, whether the source is bytes
+/// that are given, the exporter itself, a view of it, or what another exporter lends. Every byte that is of no item
+/// of the target stays, and so do the length, the kind, the views and the iterators.
 /// Example: in `bytearray(b"abc")` `m[::-1] = m` of a view `m` of all bytes makes `b"cba"`.
 pub fn steps_assign_by_value()
     ensures { StepsAssignByValue }
@@ -250,8 +251,8 @@ pub fn column_casts_give_the_bytes_back()
     pybuf_verbs_views::column_casts_hold_the_bytes();
 }
 
-/// The bytes of an unreleased view of a sound exporter in column order are those row by row in another order: there are
-/// as many, and the item at any indices stands in each at its number there.
+/// The bytes of an unreleased view of a sound exporter in column order are those row by row in another order. There
+/// are as many, and the item at any indices stands in both, in each at its number in that order.
 /// Example: of the items `[[97, 98, 99], [100, 101, 102]]` `bytes` replies `b"abcdef"`, and `bytes 'F'` `b"adbecf"`.
 pub fn orders_hold_the_same_items()
     ensures { OrdersHoldTheSameItems }
@@ -289,7 +290,7 @@ pub fn subjects_stay()
     pybuf_state::reading_keeps();
 }
 
-/// A command whose reply owns memory changes nothing, but for `take` of a vector and `next`.
+/// A command whose reply owns memory changes nothing, unless it is `take` of a vector or `next`.
 /// Example: `bytes` of `bytearray(b"abc")` replies `b"abc"`, which owns memory, and the bytearray is as before.
 pub fn owning_replies_change_nothing()
     ensures { OwningRepliesChangeNothing }

@@ -23,8 +23,8 @@ use std::ops::Range;
 /// A method that takes loans is one command on the view, and answers its reply. What is refused is replied as
 /// `LocalReply::Refused`, and changes nothing. Before all that a method names, a view that was never given and a
 /// handle among the values that the loans don't name are refused with `UnknownName`, and then a released view with
-/// `ValueError`, but by `exit`. Where memory runs out, nothing is changed. The loans have to fit, as `FitLoans::fit`
-/// tells.
+/// `ValueError`, except by `exit`, `cmp` and `repr_str`. Where memory runs out, nothing is changed. The loans have to
+/// fit, as `FitLoans::fit` tells.
 /// Example: `PyMemoryView::of_all(array.state_mut())?` stands for Python's `memoryview(array)`.
 #[derive(Debug, Drop)]
 pub struct PyMemoryView {

@@ -27,7 +27,7 @@ impl PyMemoryView {
 
     /// The item at a key, or one more view of the items that a slice picks, as Python's `view[key]` (Library
     /// reference, "Memory Views"). An index is a key where there is one dimension, and a tuple of one index for each
-    /// dimension anywhere. Without dimensions `()` names the item, and `...` the view itself.
+    /// dimension anywhere. Where there is no dimension, `()` names the one item, and `...` the view itself.
     ///
     /// Where there is a dimension, it is refused with `NotImplementedError` for a tuple of slices, and with
     /// `TypeError` for what is no key; for an index with `IndexError` where it doesn't fit `isize`, then with
@@ -35,8 +35,8 @@ impl PyMemoryView {
     /// with `TypeError` where its step is neither a number nor `None`, with `ValueError` for a step of 0, and with
     /// `TypeError` for another part; for a tuple with `TypeError` where a part is no number, then with `IndexError`
     /// where one doesn't fit `isize`, with `NotImplementedError` where it has too few indices, with `TypeError` where
-    /// it has too many, and then with `IndexError` out of range. Without dimensions every other key is refused with
-    /// `TypeError`.
+    /// it has too many, and then with `IndexError` out of range. Where there is no dimension, every other key is
+    /// refused with `TypeError`.
     /// Example: of a view of `b"abcdef"` the key 0 gets the item 97, and the key `::-2` the number of a view of `b"fdb"`.
     pub fn getitem(
         &self,
@@ -77,9 +77,9 @@ impl PyMemoryView {
     }
 
     /// Whether the view is equal to another value, as Python's `view == other` and `view != other` (Library
-    /// reference, "Memory Views"): to a view with as many dimensions, shapes that agree and equal items, each read by
-    /// its own format. Bytes and exporters count as one dimension of the format `B`. A released view is equal to
-    /// itself alone.
+    /// reference, "Memory Views"). It is equal to a view with as many dimensions, a shape that agrees and equal
+    /// items, each read by its own format. Bytes and exporters count as one dimension of the format `B`. A released
+    /// view is equal to itself alone.
     ///
     /// Refused with `TypeError` for an order, since views have none.
     /// Example: a view of the bytes 1 and 0 cast to `H` is equal to a view of the byte 1: `CompareOp::Eq` replies `Truth(true)`.
@@ -188,10 +188,11 @@ impl PyMemoryView {
     /// shape is neither a tuple nor a list, where there is no byte and a shape or another number of dimensions than
     /// one, and where neither side has one dimension; with `ValueError` for more than 64 dimensions, and for a text
     /// that isn't one native code; with `TypeError` where neither format has single bytes as items, for bytes that
-    /// aren't a whole number of items, and for bytes other than those of one item where the shape is empty. Of the
-    /// numbers of the shape, in order, with `TypeError` for what is no number, with `OverflowError` for one that
-    /// doesn't fit `isize`, with `ValueError` for one below 1, and for one with which the bytes would pass
-    /// `isize::MAX`; and at last with `TypeError` where the items of the shape haven't as many bytes as the view.
+    /// aren't a whole number of items, and for bytes other than those of one item where the shape is empty. Then it
+    /// is refused by the numbers of the shape, in order, with `TypeError` for what is no number, with `OverflowError`
+    /// for one that doesn't fit `isize`, with `ValueError` for one below 1, and for one with which the bytes would
+    /// pass `isize::MAX`; and at last with `TypeError` where the items of the shape haven't as many bytes as the
+    /// view.
     /// Example: of a view of `b"abcdef"`, `'B'` and `(2, 3)` give the items `[[97, 98, 99], [100, 101, 102]]`.
     pub fn cast(
         &self,
@@ -208,9 +209,9 @@ impl PyMemoryView {
         state.cast_of_view(self.number(), &format, &shape, &loans)
     }
 
-    /// One more view of the same bytes, with items of another format in the dimensions of a shape, in column order: of
-    /// the items taken with the first index changing fastest, item k lies k item sizes from the first. The reply is its
-    /// number. Python's views have no such method; arrays in other languages lie so.
+    /// One more view of the same bytes, with items of another format in the dimensions of a shape, in column order.
+    /// If the items are taken with the first index changing fastest, item k lies k item sizes from the first. The
+    /// reply is its number. Python's views have no such method; arrays in other languages lie so.
     ///
     /// Refused as `cast` with a shape is.
     /// Example: of a view of `b"abcdef"`, `'B'` and `(2, 3)` give the items `[[97, 99, 101], [98, 100, 102]]`.
@@ -446,8 +447,8 @@ impl PyMemoryView {
         )
     }
 
-    /// How many bytes it is from one entry to the next, for each dimension, as Python's `view.strides`
-    /// (Library reference, "Memory Views"); the nearest `isize` where a slice passes it.
+    /// How many bytes it is from one entry to the next, for each dimension, as Python's `view.strides` (Library
+    /// reference, "Memory Views"). Where a slice would pass `isize`, it is the nearest `isize`.
     /// Example: of six bytes that are cast to `B` in the shape `(2, 3)` it replies `Numbers` with 3 and 1.
     pub fn strides(&self, state: &mut ExporterState, loans: LoanList) -> Made<LocalReply>
         requires { LoansFit loans }
@@ -522,7 +523,7 @@ impl PyMemoryView {
     }
 
     /// Whether the items lie one after the other in the order of C, in which the last index changes fastest, as
-    /// Python's `view.c_contiguous` (Library reference, "Memory Views"). So it is of a view without items.
+    /// Python's `view.c_contiguous` (Library reference, "Memory Views"). It is true of a view without items.
     /// Example: of six bytes that are cast in the shape `(2, 3)` it replies `Truth(true)`.
     pub fn c_contiguous(&self, state: &mut ExporterState, loans: LoanList) -> Made<LocalReply>
         requires { LoansFit loans }
@@ -541,7 +542,7 @@ impl PyMemoryView {
     }
 
     /// Whether the items lie one after the other in the order of Fortran, in which the first index changes fastest,
-    /// as Python's `view.f_contiguous` (Library reference, "Memory Views"). So it is of a view without items, of a
+    /// as Python's `view.f_contiguous` (Library reference, "Memory Views"). It is true of a view without items, of a
     /// contiguous one of at most one dimension, and of what `cast_f` makes.
     /// Example: of six bytes by `cast_f` in the shape `(2, 3)` it replies `Truth(true)`, and by `cast` `Truth(false)`.
     pub fn f_contiguous(&self, state: &mut ExporterState, loans: LoanList) -> Made<LocalReply>

@@ -19,7 +19,7 @@ pub fn contents_are_whole()
     ensures { ContentsAreWhole }
 {}
 
-/// Where the items of a view lie inside, so does the place of each of their bytes.
+/// Where the items of a view lie inside the bytes, the place of each of their bytes does too.
 /// Example: items of two bytes that start at 0 and 2 of four bytes have their bytes at 0, 1, 2 and 3.
 pub fn item_bytes_lie_inside()
     ensures { ItemBytesLieInside }

@@ -137,11 +137,11 @@ impl PyByteArray {
         self.exporter.view_of_own(&loans)
     }
 
-    /// A view of the bytes from the place `from` up to `to`, as `memoryview(object)[from:to]` where
-    /// both places are there (Library reference, "Memory Views"): the reply is its number.
+    /// A view of the bytes from the place `from` up to `to`, as `memoryview(object)[from:to]` where both places are
+    /// there (Library reference, "Memory Views"). The reply is its number.
     ///
-    /// Refused with `TypeError` where `from`, and then `to`, is no number, and with `IndexError` where
-    /// `from` is below 0 or past `to`, or `to` is past the length.
+    /// Refused with `TypeError` where `from`, and then `to`, is no number, and with `IndexError` where `from` is
+    /// below 0 or past `to`, or `to` is past the length.
     /// Example: of `bytearray(b"abcdef")` from 1 up to 4 it replies the number of a view of `b"bcd"`.
     pub fn range(&mut self, from: Value, to: Value, loans: LoanList) -> Made<LocalReply>
         requires { LoansFit loans }
@@ -279,12 +279,12 @@ impl PyByteArray {
         self.exporter.append(&value, &loans)
     }
 
-    /// Adds bytes at the end, as Python's `bytearray.extend(value)` (Library reference, "Mutable
-    /// Sequence Types"). One that is extended by itself is doubled.
+    /// Adds bytes at the end, as Python's `bytearray.extend(value)` (Library reference, "Mutable Sequence Types").
+    /// One that is extended by itself is doubled.
     ///
-    /// Refused as `bytes_from_object` refuses the value, and then with `BufferError` where a view is
-    /// unreleased. By itself, an empty one stays; else it is refused with `BufferError` where a view is
-    /// unreleased, and with `OverflowError` where twice the length passes `isize::MAX`.
+    /// Refused as `bytes_from_object` refuses the value, and then with `BufferError` where a view is unreleased.
+    /// Where it is extended by itself, an empty one stays as it is, and any other is refused with `BufferError` where
+    /// a view is unreleased, and with `OverflowError` where twice the length passes `isize::MAX`.
     /// Example: to `bytearray(b"ab")` the value `b"cd"` makes `bytearray(b"abcd")`.
     pub fn extend(&mut self, value: Value, loans: LoanList) -> Made<LocalReply>
         requires { LoansFit loans }
@@ -416,9 +416,9 @@ impl PyByteArray {
         )
     }
 
-    /// Compares the bytes with another value by an operator, as Python's `bytearray == other`, `bytearray <
-    /// other` and so on (Language reference, "Value comparisons"): byte by byte with bytes, an exporter, or
-    /// an unreleased view whose items lie one after the other. Beside any other value the reply is
+    /// Compares the bytes with another value by an operator, as Python's `bytearray == other`, `bytearray < other`
+    /// and so on (Language reference, "Value comparisons"). They are compared byte by byte with bytes, an exporter,
+    /// or an unreleased view whose items lie one after the other. For any other value the reply is
     /// `NotImplementedReply`, as Python's `NotImplemented`.
     /// Example: `bytearray(b"ab")` with `CompareOp::Lt` and `b"b"` replies `Truth(true)`.
     pub fn cmp(&mut self, op: CompareOp, other: Value, loans: LoanList) -> Made<LocalReply>

@@ -106,11 +106,11 @@ impl PyBytes {
         self.exporter.view_of_own(&loans)
     }
 
-    /// A view of the bytes from the place `from` up to `to`, as `memoryview(object)[from:to]` where
-    /// both places are there (Library reference, "Memory Views"): the reply is its number.
+    /// A view of the bytes from the place `from` up to `to`, as `memoryview(object)[from:to]` where both places are
+    /// there (Library reference, "Memory Views"). The reply is its number.
     ///
-    /// Refused with `TypeError` where `from`, and then `to`, is no number, and with `IndexError` where
-    /// `from` is below 0 or past `to`, or `to` is past the length.
+    /// Refused with `TypeError` where `from`, and then `to`, is no number, and with `IndexError` where `from` is
+    /// below 0 or past `to`, or `to` is past the length.
     /// Example: of `b"abcdef"` from 1 up to 4 it replies the number of a view of `b"bcd"`.
     pub fn range(&mut self, from: Value, to: Value, loans: LoanList) -> Made<LocalReply>
         requires { LoansFit loans }
@@ -155,10 +155,10 @@ impl PyBytes {
         )
     }
 
-    /// Compares the bytes with another value by an operator, as Python's `bytes == other`, `bytes < other`
-    /// and so on (Language reference, "Value comparisons"): byte by byte with bytes, an exporter, or an
-    /// unreleased view whose items lie one after the other. Beside any other value the reply is
-    /// `NotImplementedReply`, as Python's `NotImplemented`.
+    /// Compares the bytes with another value by an operator, as Python's `bytes == other`, `bytes < other` and so on
+    /// (Language reference, "Value comparisons"). They are compared byte by byte with bytes, an exporter, or an
+    /// unreleased view whose items lie one after the other. For any other value the reply is `NotImplementedReply`,
+    /// as Python's `NotImplemented`.
     ///
     /// Refused with `TypeError` for an order with a view.
     /// Example: `b"it's"` with `CompareOp::Lt` and `b"its"` replies `Truth(true)`.

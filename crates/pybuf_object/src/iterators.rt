@@ -50,7 +50,8 @@ impl PyBytesIterator {
     /// The next byte, or `Stop` where there is none, as Python's `next(iterator)` (Library reference, "Iterator
     /// Types"). After one `Stop` it replies `Stop` for ever. Where memory runs out, nothing is changed.
     ///
-    /// Refused with `UnknownName` where no iterator of this number was given.
+    /// Refused with `UnknownName` where no iterator of this number was given. One over a view is refused as
+    /// `PyMemoryViewIterator::next` is.
     /// Example: over `b"a"` it replies the item 97, and then `Stop`.
     pub fn next(&self, alloc: Global, state: &mut ExporterState) -> Made<LocalReply>
         ensures ok { IfOk result (λ r. estep state.old.exporter (subjects.Iter self.now) verbs.Next [] ≡ (state.new.exporter, r)) }
@@ -137,7 +138,8 @@ impl PyByteArrayIterator {
     /// The next byte, or `Stop` where there is none, as Python's `next(iterator)` (Library reference, "Iterator
     /// Types"). After one `Stop` it replies `Stop` for ever. Where memory runs out, nothing is changed.
     ///
-    /// Refused with `UnknownName` where no iterator of this number was given.
+    /// Refused with `UnknownName` where no iterator of this number was given. One over a view is refused as
+    /// `PyMemoryViewIterator::next` is.
     /// Example: over `bytearray(b"a")` it replies the item 97; once 98 was appended the item 98; and then `Stop`.
     pub fn next(&self, alloc: Global, state: &mut ExporterState) -> Made<LocalReply>
         ensures ok { IfOk result (λ r. estep state.old.exporter (subjects.Iter self.now) verbs.Next [] ≡ (state.new.exporter, r)) }

@@ -66,7 +66,7 @@ fn lend(alloc: Global, loans: &mut LoanList, handle: u64, bytes: &[u8]) -> Made<
 
 impl<L: Ledger> SharedExporter<L> {
     /// Asks for the bytes of a subject of another exporter, by a session of that one (`giver`), and where bytes are
-    /// replied, carries out a command of a session of this one, to which they are lent for a handle: as an exporter
+    /// replied, carries out a command of a session of this one, to which they are lent for a handle, as an exporter
     /// of kind bytes lends itself. The answer is whether bytes were replied. Where they weren't, as of a view that
     /// was released, the command isn't carried out, and `session` is as before.
     ///

@@ -1,8 +1,8 @@
 //! What holds of histories, and of entries that join scripts.
 ghost use Rattle.pybuf_share.specs.Laws.{LegalHistoriesAreOfOneThread, JoinedEntriesAreTheScripts, ReceiptsAreTheEntries};
 
-/// A legal history is what one thread gets by stepping a new exporter through the commands of its entries: the replay
-/// is the exporter that it has at the end, and the replies of the entries are what it is replied.
+/// A legal history is what one thread gets by stepping a new exporter through the commands of its entries. The replay
+/// is the exporter that the thread has at the end, and the replies of the entries are what the thread is replied.
 /// Example: the entries `append 65` with `Ok` and `len` with 1 are what one thread gets of a new bytearray without bytes.
 pub fn legal_histories_are_of_one_thread()
     ensures { LegalHistoriesAreOfOneThread }
@@ -15,9 +15,9 @@ pub fn joined_entries_are_the_scripts()
     ensures { JoinedEntriesAreTheScripts }
 {}
 
-/// Where all receipts of an exporter's sessions stand in a history, at rising numbers, each came from a call, and the
-/// ledger has counted as many calls for them as there are entries, the receipts of each session are, in order, exactly
-/// its entries: each once, and none beside.
+/// Suppose that all receipts of an exporter's sessions stand in a history at rising numbers, that each came from a
+/// call, and that the ledger has counted as many calls for them as there are entries. Then the receipts of each
+/// session are, in order, exactly its entries, each once, and no others.
 /// Example: of the history `a, c, b` session 0, which asked `a` and `b`, has the receipts 0 and 2.
 pub fn receipts_are_the_entries()
     ensures { ReceiptsAreTheEntries }

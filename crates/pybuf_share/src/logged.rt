@@ -223,12 +223,12 @@ impl<L: Ledger> Logged<L> {
         }
     }
 
-    /// The whole history, where all sessions agree with it: the kind and the bytes are those that it begins with, the
-    /// receipt numbers of each session rise, and the entry of each receipt stands at its number.
+    /// The whole history, where all sessions agree with it. They agree if the kind and the bytes are those that it
+    /// begins with, the receipt numbers of each session rise, and the entry of each receipt stands at its number.
     ///
-    /// `Opening` is answered where the kind or the bytes are others. Else `Order`, where the receipt numbers of a
-    /// session don't rise, of the first such session. Else `Disagree`, where the entry at the number of a receipt is
-    /// another or none, at the first such receipt, session by session.
+    /// `Opening` is answered where the kind or the bytes are others. Else `Order` is answered where the receipt
+    /// numbers of a session don't rise, and tells the first such session. Else `Disagree` is answered where the entry
+    /// at the number of a receipt is another or none, and tells the first such receipt, session by session.
     /// Example: of a start with `b"a"` and no call it gives the opening `b"a"` and no entries.
     pub fn join(
         self,

@@ -15,8 +15,8 @@ use std::sync::{Mutex, Wait};
 /// An exporter that threads share. It lies under a lock with its history (`Logged`). One call is one step, with the
 /// lock held.
 ///
-/// A clause sees the kind and the bytes that it was made with. Of what lies under the lock no clause of a call can
-/// speak, since other threads may ask for it at any time; a receipt tells what was replied.
+/// A clause sees the kind and the bytes that it was made with. No clause of a call can speak of what lies under the
+/// lock, since other threads may ask for it at any time. A receipt tells what was replied.
 /// Example: `SharedExporter::start(alloc, blank, kind, bytes, 2)?` stands for one that two sessions share.
 #[derive(Drop)]
 pub struct SharedExporter<L: Ledger> {

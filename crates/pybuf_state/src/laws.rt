@@ -21,7 +21,7 @@ pub fn live_layouts_are_sound()
     ensures { LiveLayoutsAreSound }
 {}
 
-/// What is lent of a sound exporter fits, be it the exporter itself, a view or an iterator.
+/// What is lent of a sound exporter fits, whether it is the exporter itself, a view or an iterator.
 /// Example: what a view in the shape `[2, 3]` with items of one byte is lent as has six bytes.
 pub fn subjects_fit()
     ensures { SubjectsFit }
@@ -29,9 +29,10 @@ pub fn subjects_fit()
     pybuf_memoryview::contents_are_whole();
 }
 
-/// A command that only reads an exporter keeps it. (That a command keeps a sound exporter means that it is sound
-/// afterwards, with the same kind and iterators, its views only added or released, and its length the same while a
-/// view is unreleased: `Keeps`.)
+/// A command that only reads an exporter keeps it. `Keeps` says what that means. The exporter is sound afterwards,
+/// with the same kind and iterators. Its views are only added or released, and its length stays while a view is
+/// unreleased. Bytes that are only read stay, unless they are taken out of a vector as a whole. Where no two items of
+/// a view shared a byte, none do.
 /// Example: `len` keeps `bytearray(b"abc")`.
 pub fn reading_keeps()
     ensures { ReadingKeeps }

@@ -103,12 +103,11 @@ fn string_and_value<N: Names>(
     }
 }
 
-/// Compares bytes or a bytearray with a value, byte by byte (Python's language reference, "Value
-/// comparisons"): with bytes, an exporter, or an unreleased view whose items lie one after the other.
-/// Beside anything else the reply is `NotImplemented`.
+/// Compares bytes or a bytearray with a value, byte by byte (Python's language reference, "Value comparisons"). The
+/// value is bytes, an exporter, or an unreleased view whose items lie one after the other. For anything else the
+/// reply is `NotImplemented`.
 ///
-/// Refused with `UnknownName` for a vector, and with `TypeError` for an order of Python's `bytes` with
-/// a view.
+/// Refused with `UnknownName` for a vector, and with `TypeError` for an order of Python's `bytes` with a view.
 /// Example: `bytearray(b"ab")` with `CompareOp::Lt` and `b"b"` replies `Truth(true)`.
 pub fn of_own<N: Names>(
     parts: &Parts,

@@ -27,7 +27,7 @@ pub fn repr_is_safe()
 
 /// Two unreleased views that are equal reply the same bytes to `hash`, where each has the format `b`,
 /// `B` or `c` (Python's glossary: "Hashable objects which compare equal must have the same hash value").
-/// Example: a view of `bytes` and its cast to `c` are equal, and reply the same bytes to `hash`.
+/// Example: a view of `bytes` `b"abc"` and its cast to `b` are equal, and both reply `b"abc"` to `hash`.
 pub fn equal_views_hash_alike()
     ensures { EqualViewsHashAlike }
 {

@@ -28,7 +28,7 @@ pub fn edits_ask_before_they_resize()
     ensures { EditsAskBeforeTheyResize }
 {}
 
-/// No earlier check gives `BufferError`, but that of `iadd`, where a bytearray is added to itself.
+/// No earlier check gives `BufferError`, except that of `iadd`, where a bytearray is added to itself.
 /// Example: `a += a` of a bytearray `a` is refused with `BufferError`, also where it has no view.
 pub fn only_adding_itself_is_refused_earlier()
     ensures { OnlyAddingItselfIsRefusedEarlier }

@@ -33,9 +33,10 @@ pub fn writes_are_seen()
     pybuf_struct::reads_what_was_written();
 }
 
-/// Where `set` of a view by a slice isn't refused, it is by value: where no two items of the target share a byte,
-/// item k of the target is afterwards item k of the source as it was before, for all strides of both, also where they
-/// overlap or are one. Every byte that is of no item of the target stays, and so do the length and the views.
+/// Where `set` of a view by a slice isn't refused, it is by value. That means: where no two items of the target share
+/// a byte, item k of the target is afterwards item k of the source as it was before, for all strides of both, also
+/// where they overlap or are one. Every byte that is of no item of the target stays, and so do the length and the
+/// views.
 /// Example: over the slice `::-1` of a view of `b"abc"` the view itself makes `b"cba"`.
 pub fn assignments_are_by_value()
     ensures { AssignmentsAreByValue }

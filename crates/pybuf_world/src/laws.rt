@@ -114,9 +114,9 @@ pub(crate) fn exporter_laws()
     pybuf_state::copies_are_spaced();
 }
 
-/// A world that begins empty is sound after each of the commands of every list: each byte of each item
-/// of an unreleased view lies inside its exporter, and that exporter is as long as when the view was
-/// made; no two items of a view share a byte; and each handle names something that is there.
+/// A world that begins empty is sound after each of the commands of every list. That means three things. Each byte of
+/// each item of an unreleased view lies inside its exporter, which is as long as when the view was made. No two items
+/// of a view share a byte. And each handle names something that is there.
 /// Example: after `new bytearray x616263`, `view h0` and `append h0 1` the view `h1` still lies inside the three bytes of `h0`.
 pub fn runs_stay_sound()
     ensures { RunsStaySound }
@@ -150,10 +150,10 @@ pub fn loans_of_worlds_fit()
 }
 
 /// `set` of a view by a slice, where it isn't refused, is by value on a sound world: item j of the target is
-/// afterwards item j of the source as it was before the command, for all strides of both, be the source bytes
-/// that are given, the same exporter or a view of it, or another exporter or a view of that. Every byte that is
-/// of no item of the target stays, and so do the length, the kind, the views and the iterators; and nothing
-/// else of the world changes.
+/// afterwards item j of the source as it was before the command, for all strides of both, whether the source is bytes
+/// that are given, the same exporter or a view of it, or another exporter or a view of that. Every byte that is of no
+/// item of the target stays, and so do the length, the kind, the views and the iterators; and nothing else of the
+/// world changes.
 /// Example: after `view h0` of `bytearray(b"abc")`, `set h1 None:None:-1 h1` makes the bytes `b"cba"`.
 pub fn world_steps_assign_by_value()
     ensures { WorldStepsAssignByValue }
