@@ -81,7 +81,7 @@ placed (Some place) g is = absurd (cc)
 
 -- ---- only a bytearray has edits
 
-of_kind : (k : ExporterKind) (e : Exporter) (a : Result Bool Fault) (effect : Effect) → IsAsked e an effect → IsAsked e (of_byte_array k a) (of_byte_array k effect)
+of_kind : (k : ExporterKind) (e : Exporter) (a : Result Bool Fault) (effect : Effect) → IsAsked e a effect → IsAsked e (of_byte_array k a) (of_byte_array k effect)
 of_kind kind.ByteArray e a effect asked = asked
 of_kind kind.Bytes e a effect asked = refused_so e fault.UnknownName
 of_kind (kind.Vector readonly) e a effect asked = refused_so e fault.UnknownName
@@ -119,7 +119,7 @@ multiplying e count lents = checked e (count_in count) _ _ (λ number. unless_on
 extending_by : (e : Exporter) (v : Value) (lents : List Lent) → IsAsked e (passed (bytes_in (snaps_of lents) v)) (extended e v lents)
 extending_by e v lents = passing e (bytes_in (snaps_of lents) v) _ (λ bytes. asking e _ (λ u. done_so _))
 
-either : (e : Exporter) (b : Bool) (a c : Result Bool Fault) (effect other : Effect) → IsAsked e an effect → IsAsked e c other → IsAsked e (if b then a else c) (if b then effect else other)
+either : (e : Exporter) (b : Bool) (a c : Result Bool Fault) (effect other : Effect) → IsAsked e a effect → IsAsked e c other → IsAsked e (if b then a else c) (if b then effect else other)
 either e true a c effect other first second = first
 either e false a c effect other first second = second
 
