@@ -47,6 +47,7 @@ pub use pybuf_command::takes;
 pub use pybuf_desc::BufferDescriptor;
 pub use pybuf_desc::KeptFormat;
 pub use pybuf_desc::casts_lie_apart;
+pub use pybuf_desc::chains_of_casts_are_the_last;
 pub use pybuf_desc::column_casts_are_f_contiguous;
 pub use pybuf_desc::column_casts_follow_column_order;
 pub use pybuf_desc::column_casts_lie_apart;
