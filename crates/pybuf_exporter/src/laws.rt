@@ -69,7 +69,7 @@ pub fn lengths_stay()
     pybuf_state::reading_keeps();
 }
 
-/// No command changes the bytes of an exporter that is only read.
+/// No command changes the bytes of an exporter that is only read, unless it takes all of them out of a vector.
 /// Example: no command on `bytes` `b"abc"`, or on a view of it, makes its bytes others than `b"abc"`.
 pub fn readonly_bytes_stay()
     ensures { ReadOnlyBytesStayUnderCommands }
