@@ -10,6 +10,7 @@ pub use pybuf_borrow::ArgStrOrBytesLike;
 pub use pybuf_borrow::borrows_change_the_lent_bytes_alone;
 pub use pybuf_borrow::try_bytes_like;
 pub use pybuf_borrow::try_rw_bytes_like;
+pub use pybuf_borrow::unknown_arguments_are_refused;
 pub use pybuf_buffer::PyBuffer;
 pub use pybuf_buffer::Steps;
 pub use pybuf_buffer::range_counts_are_bounded;
