@@ -14,7 +14,8 @@ pub fn borrows_change_the_lent_bytes_alone()
 
 /// A handle of which the lender has no snap is refused with `UnknownName` by each `try_from_value` and by
 /// `try_bytes_like`, and so is a view or an iterator that was never given by `try_from_subject` and by
-/// `try_rw_bytes_like`: with the lender `NoHandles` every handle is.
+/// `try_rw_bytes_like`.
+/// Example: with the lender `NoHandles` every handle is refused so.
 pub fn unknown_arguments_are_refused()
     ensures { UnknownArgumentsAreRefused }
 {}

@@ -52,8 +52,8 @@ pub fn shaped_casts_have_their_shape()
 {}
 
 /// Casts one after another, each of which can be done of what the one before it made, make what the last of
-/// them makes of the first view alone: bytes that are cast to `"H"`, then back to `"B"` in a shape, are the
-/// bytes in that shape. Casts in column order may stand among them.
+/// them makes of the first view alone. Casts in column order may stand among them.
+/// Example: bytes that are cast to `"H"`, and then back to `"B"` in the shape `[2, 3]`, are the bytes in that shape.
 pub fn chains_of_casts_are_the_last()
     ensures { ChainsOfCastsAreTheLast }
 {}

@@ -266,15 +266,15 @@ pub fn orders_hold_the_same_items()
 }
 
 /// An exporter has exports exactly while one of its views is unreleased. A view that was released doesn't count, and
-/// neither does an iterator: a bytearray of which three views were made and all three released replies 0 to
-/// `prop exports`, also where an iterator goes over one of them.
+/// neither does an iterator.
+/// Example: a bytearray whose three views were all released replies 0 to `prop exports`.
 pub fn released_views_dont_count()
     ensures { ReleasedViewsDontCount }
 {}
 
 /// While every view of an exporter is released, no edit of it is refused with `BufferError`, but that which adds a
-/// bytearray to itself: `append 1` of a bytearray that had two views, which are released, adds a byte, and `iadd` of
-/// its own handle is refused so even where no view was ever made.
+/// bytearray to itself.
+/// Example: `append 1` of a bytearray whose two views were released adds a byte; `iadd` of its own handle is refused.
 pub fn released_views_stop_no_edit()
     ensures { ReleasedViewsStopNoEdit }
 {
@@ -283,8 +283,9 @@ pub fn released_views_stop_no_edit()
 }
 
 /// `view` of an exporter is never refused, and neither is that of an unreleased view: each makes one more view, which
-/// is unreleased, and replies its number. Of a bytearray with two views the next `view` replies view 2. Of a view that
-/// is released or was never given it is refused, and changes nothing.
+/// is unreleased, and replies its number. Of a view that is released or was never given it is refused, and changes
+/// nothing.
+/// Example: of a bytearray with two views the next `view` replies view 2.
 pub fn views_are_replied()
     ensures { ViewsAreReplied }
 {}
@@ -295,7 +296,8 @@ pub fn views_are_replied()
 ///
 /// A call without an exporter has a lender in place of loans. A handle that the lender has no snap of is refused so as the
 /// source of new bytes, as bytes that are borrowed, read, packed, searched for or added, as a prefix or suffix, as a fill
-/// byte and as a table: `concat` of handle 7 is, with the lender `NoHandles`.
+/// byte and as a table.
+/// Example: `concat` of handle 7 is refused so with the lender `NoHandles`.
 pub fn unknown_handles_are_refused()
     ensures commands { UnknownHandlesAreRefused }
     ensures lenders { UnlentHandlesAreRefused }

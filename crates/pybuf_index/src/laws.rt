@@ -47,6 +47,8 @@ pub fn slices_have_spans()
 /// Slices whose parts have the same hashes but for one have other hashes, unless theirs is 1546275796, the
 /// number that is given in place of -1. No step of mixing a lane loses anything: neither the lane nor the
 /// number that was there before. And a slice has no hash exactly where one of its parts has none.
+///
+/// Example: the slices `0:1:2` and `0:1:3`, whose parts have the hashes 0, 1, 2 and 0, 1, 3, have different hashes.
 pub fn each_lane_counts()
     ensures lanes { (lane other : ℕ) → IsLane lane → IsLane other → lane ≢ other → EachLaneCounts lane other }
     ensures steps { MixingLosesNothing }

@@ -34,7 +34,9 @@ pub fn titles_stay()
 {}
 
 /// A title has as many bytes as what it is made of. A byte that is no letter stays, a letter after a letter
-/// is in lower case, and every other letter is in upper case: `b"it's 3RD"` becomes `b"It'S 3Rd"`.
+/// is in lower case, and every other letter is in upper case.
+///
+/// Example: `b"it's 3RD"` becomes `b"It'S 3Rd"`.
 pub fn titles_change_letters()
     ensures { (bytes : List ℕ) → law.TitlesChangeLetters bytes }
 {}
@@ -110,7 +112,9 @@ pub fn lines_are_the_bytes()
 
 /// Each line has a text, in which no line feed and no carriage return stands, and an ending: a line feed,
 /// a carriage return that no line feed follows, or the two one after the other. Only the last line may
-/// lack the ending. So `b"a\r\nb\n\rc"` has the lines `a`, `b`, an empty one and `c`.
+/// lack the ending.
+///
+/// Example: `b"a\r\nb\n\rc"` has the lines `a`, `b`, an empty one and `c`.
 pub fn lines_end_where_ends_stand()
     ensures { (bytes : List ℕ) → law.LinesEndWhereEndsStand bytes }
 {}

@@ -14,9 +14,11 @@ pub fn hex_reads_back()
 {}
 
 /// A text is read as bytes where it is pairs of digits with blanks before, between and behind them, and is
-/// then the bytes of the pairs in order: `b"0a FF "` gives 10 and 255. It is refused exactly where, behind
+/// then the bytes of the pairs in order. It is refused exactly where, behind
 /// such a front, a byte stands that is neither a blank nor a digit, or a digit with no digit right behind
-/// it, as in `b"0a F F"`.
+/// it.
+///
+/// Example: `b"0a FF "` gives the bytes 10 and 255, and `b"0a F F"` is refused.
 pub fn hex_is_read_in_pairs()
     ensures { (text : List ℕ) → HexIsReadInPairs text }
 {
