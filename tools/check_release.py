@@ -492,6 +492,11 @@ def tried(room, real):
         return
     if lacks("the release", "tar", "sha256sum"):
         return
+    try:
+        tree.tree()
+    except tree.NoTree as fault:
+        skip("the release", fault)
+        return
     if not real:
         if lacks("the release", "gcc", "ar"):
             return

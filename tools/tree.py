@@ -29,7 +29,8 @@ class NoTree(Exception):
 
 
 def git(*words):
-    return subprocess.run(["git", "-C", ROOT, *words], capture_output=True, text=True, check=True).stdout
+    # (a gate may run as somebody else than the owner of the checkout)
+    return subprocess.run(["git", "-C", ROOT, "-c", "safe.directory=*", *words], capture_output=True, text=True, check=True).stdout
 
 
 def sum_of(path):

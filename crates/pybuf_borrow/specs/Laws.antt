@@ -1,11 +1,18 @@
--- What is written through a borrow.
-use Rattle.std.specs.Prelude.{◌≡◌, ℕ, ◌+◌, List, length, take, drop, slice_index, true}
+-- What is written through a borrow, and what is lent of nothing.
+use Rattle.std.specs.Prelude.{◌≡◌, ℕ, ◌+◌, List, length, take, drop, slice_index, true, false, None, Err}
+use Rattle.pybuf_value.specs.declared.faults.Fault.TheVariants as fault
+use Rattle.pybuf_value.specs.declared.snaps.Snap.{Snap}
+use Rattle.pybuf_value.specs.declared.values.Scalar.TheVariants as scalar
+use Rattle.pybuf_value.specs.declared.values.Value.TheVariants as value
+use Rattle.pybuf_value.specs.Snaps.{snap_of}
 use Rattle.pybuf_command.specs.declared.kinds.Subject.{Subject}
 use Rattle.pybuf_command.specs.declared.kinds.Subject.TheVariants as subject
-use Rattle.pybuf_state.specs.Exporter.{Exporter}
+use Rattle.pybuf_state.specs.Exporter.{Exporter, has_subject}
 use Rattle.pybuf_state.specs.Sound.{IsSoundExporter}
 use Rattle.pybuf_state.specs.Live.{layout_of}
-use Rattle.pybuf_borrow.specs.Writable.{is_writable, lent_bytes, written_through}
+use Rattle.pybuf_borrow.specs.Arguments.{argument_of}
+use Rattle.pybuf_borrow.specs.Texts.{text_or_bytes, ascii_or_bytes}
+use Rattle.pybuf_borrow.specs.Writable.{asked_to_write, is_writable, lent_bytes, written_through}
 
 -- where the bytes that are lent begin in the exporter
 abbrev pub first_lent : Exporter → Subject → ℕ
@@ -25,3 +32,11 @@ pub record ChangesTheLentBytesAlone (e : Exporter) (s : Subject) (bytes : List �
 abbrev pub BorrowsChangeTheLentBytesAlone : Type 0
 BorrowsChangeTheLentBytesAlone =
     (e : Exporter) (s : Subject) (bytes : List ℕ) → IsSoundExporter e → is_writable e s ≡ true → length bytes ≡ length (lent_bytes e s) → ChangesTheLentBytesAlone e s bytes
+
+-- A handle of which the lender has no snap is refused with `UnknownName`, as bytes (`bytes`), as a text or bytes (`text`)
+-- and as a text of ASCII or bytes (`ascii`), and so is a view or an iterator that was never given, to be written (`subjects`).
+pub record UnknownArgumentsAreRefused : Type 0 where
+  pub bytes : (pairs : List (ℕ × Snap)) (handle : ℕ) → snap_of pairs handle ≡ None → argument_of pairs (value.One (scalar.Handle handle)) ≡ Err fault.UnknownName
+  pub text : (pairs : List (ℕ × Snap)) (handle : ℕ) → snap_of pairs handle ≡ None → text_or_bytes pairs (value.One (scalar.Handle handle)) ≡ Err fault.UnknownName
+  pub ascii : (pairs : List (ℕ × Snap)) (handle : ℕ) → snap_of pairs handle ≡ None → ascii_or_bytes pairs (value.One (scalar.Handle handle)) ≡ Err fault.UnknownName
+  pub subjects : (e : Exporter) (s : Subject) → has_subject e s ≡ false → asked_to_write e s ≡ Err fault.UnknownName

@@ -8,6 +8,6 @@ mod memory;
 mod texts;
 
 pub use bytes::{ArgBytesLike, try_bytes_like};
-pub use laws::borrows_change_the_lent_bytes_alone;
+pub use laws::{borrows_change_the_lent_bytes_alone, unknown_arguments_are_refused};
 pub use memory::{ArgMemoryBuffer, try_rw_bytes_like};
 pub use texts::{ArgAsciiBuffer, ArgStrOrBytesLike};

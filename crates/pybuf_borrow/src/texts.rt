@@ -128,7 +128,7 @@ impl<'a> ArgAsciiBuffer<'a> {
     }
 
     /// Whether there is no byte. Takes no memory.
-    /// Example: of the value `x`, which is no bytes, it is true.
+    /// Example: of the value `x`, which has no byte, it is true.
     pub fn is_empty(&self) -> bool
         ensures { result ≡ (length (ascii_bytes_of self.now) == 0) }
     {

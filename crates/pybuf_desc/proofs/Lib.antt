@@ -44,3 +44,4 @@ pub mod ColumnSteps
 pub mod ColumnCasts
 pub mod ColumnWalks
 pub mod ColumnRanges
+mod ChainLemmas

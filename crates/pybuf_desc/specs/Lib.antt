@@ -24,3 +24,4 @@ pub mod ColumnOrder
 pub mod ColumnMajor
 pub mod ColumnCasts
 pub mod ColumnSegments
+pub mod CastChains

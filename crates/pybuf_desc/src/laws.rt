@@ -1,5 +1,6 @@
 //! Laws of the definitions that the contracts cite. Each stands on a function with an empty body.
 ghost use Rattle.pybuf_desc.specs.Laws.{CastsShareTheirBytes, CastsStayInside, CastsHaveTheirShape, CastsAreContiguous, FlatCastsHaveOneDimension, ShapedCastsShareTheirBytes, ShapedCastsStayInside, ShapedCastsHaveTheirShape, ColumnCastsFollowColumnOrder, ColumnCastsAreFContiguous, ColumnCastsHaveTheirShape, ColumnCastsGiveTheBytesBack, ColumnCastsStayInside, ColumnCastsLieApart, CopiesHaveTheirBytes, SlicesStayInside, SlicesHaveTheirShape, SlicingBackTwiceIsNothing, WholeLayoutsLieApart, SlicesLieApart, CastsLieApart, RowMajorLayoutsLieApart, PlacedDescriptorsStand, DescriptorsStandForOneView, DescribedViewsHaveTheirShape, ValidWhereItemsLieInside, ContiguityIsOfStrides, FContiguityIsOfStrides, ContiguityIsTheSameAnywhere, PositionsArePlaces, TailsAreGreatest, RangesHaveTheContent, RangesStayInside, ColumnRangesHaveTheContent, ColumnRangesStayInside, ColumnsStayInside, NoItemsAreNoColumns, LinesLieInside, LinesHaveTheirPieces};
+ghost use Rattle.pybuf_desc.specs.CastChains.{ChainsOfCastsAreTheLast};
 
 /// The items of a cast of a contiguous view have the view's bytes in their order. They lie one new item size apart
 /// from the view's first place on, and make up all its bytes.
@@ -48,6 +49,13 @@ pub fn shaped_casts_stay_inside()
 /// Example: a view of six bytes that is cast in the shape `[2, 3]` has six items.
 pub fn shaped_casts_have_their_shape()
     ensures { ShapedCastsHaveTheirShape }
+{}
+
+/// Casts one after another, each of which can be done of what the one before it made, make what the last of
+/// them makes of the first view alone: bytes that are cast to `"H"`, then back to `"B"` in a shape, are the
+/// bytes in that shape. Casts in column order may stand among them.
+pub fn chains_of_casts_are_the_last()
+    ensures { ChainsOfCastsAreTheLast }
 {}
 
 /// The items of a cast in column order, taken in that order, lie one new item size apart from the

@@ -2,3 +2,4 @@ pub mod StepLemmas
 pub mod SpanLemmas
 pub mod LawLemmas
 pub mod PartLemmas
+mod LaneLemmas

@@ -6,3 +6,4 @@ pub mod Indices
 pub mod Laws
 pub mod Compared
 pub mod Lanes
+pub mod LaneLaws

@@ -1,7 +1,8 @@
 //! What holds of the indices of every slice, and of every span.
-ghost use Rattle.std.specs.Prelude.{ℕ};
+ghost use Rattle.std.specs.Prelude.{◌≢◌, ℕ};
 ghost use Rattle.pybuf_value.specs.declared.values.PySlice.{PySlice};
 ghost use Rattle.pybuf_index.specs.Laws.{EachSlice, PicksAre, SameWhenClamped, IndicesAgree, EachSpan, SpanPicksAre, SlicesHaveSpans};
+ghost use Rattle.pybuf_index.specs.LaneLaws.{IsLane, EachLaneCounts, MixingLosesNothing, NoHashWhereALaneIsNone};
 
 /// The indices of a slice are exactly the numbers that lie so many steps from its start and before
 /// its stop, each is the place of an item, and they rise or fall strictly with the step.
@@ -41,4 +42,13 @@ pub fn indices_of_a_span()
 /// Example: the span of `5:0:-2` in six items is `1..6`, and its indices with the step -2 are 5, 3 and 1.
 pub fn slices_have_spans()
     ensures { SlicesHaveSpans }
+{}
+
+/// Slices whose parts have the same hashes but for one have other hashes, unless theirs is 1546275796, the
+/// number that is given in place of -1. No step of mixing a lane loses anything: neither the lane nor the
+/// number that was there before. And a slice has no hash exactly where one of its parts has none.
+pub fn each_lane_counts()
+    ensures lanes { (lane other : ℕ) → IsLane lane → IsLane other → lane ≢ other → EachLaneCounts lane other }
+    ensures steps { MixingLosesNothing }
+    ensures none { NoHashWhereALaneIsNone }
 {}

@@ -10,3 +10,5 @@ mod GapLaws
 mod TurnedRuns
 mod CutLaws
 mod LineLaws
+mod LineParts
+mod TitleLaws

@@ -21,10 +21,10 @@ size bytes = bare bytes + end_length (drop (bare bytes) bytes)
 
 -- ---- one byte more
 
-bare-break : (b : ℕ) (rest : List ℕ) → is_line_break b ≡ true → bare (b ∷ rest) ≡ 0
+pub bare-break : (b : ℕ) (rest : List ℕ) → is_line_break b ≡ true → bare (b ∷ rest) ≡ 0
 bare-break b rest h = ap (λ (t : Bool). cond (not t) (1 + bare rest) 0) h
 
-bare-other : (b : ℕ) (rest : List ℕ) → is_line_break b ≡ false → bare (b ∷ rest) ≡ suc (bare rest)
+pub bare-other : (b : ℕ) (rest : List ℕ) → is_line_break b ≡ false → bare (b ∷ rest) ≡ suc (bare rest)
 bare-other b rest h = ap (λ (t : Bool). cond (not t) (1 + bare rest) 0) h ∙ omega arith
 
 size-break : (b : ℕ) (rest : List ℕ) → is_line_break b ≡ true → size (b ∷ rest) ≡ end_length (b ∷ rest)

@@ -1,11 +1,11 @@
 -- What holds of cases, of bytes without those at their ends, of runs between blanks and of lines.
-use Rattle.std.specs.Prelude.{◌≡◌, ◌↔◌, ◌<◌, ◌≤◌, ◌+◌, ◌-◌, ℕ, Bool, false, not, IsTrue, List, [], ◌∷◌, ◌++◌, length, slice_index, slice_index_or, filter}
-use Rattle.std.specs.Char.{is_ascii_alphabetic}
+use Rattle.std.specs.Prelude.{◌≡◌, ◌↔◌, ◌<◌, ◌≤◌, ◌+◌, ◌-◌, ℕ, zero, suc, Bool, true, false, not, IsTrue, List, [], ◌∷◌, ◌++◌, length, take, drop, slice_index, slice_index_or, filter, ◌⊎◌}
+use Rattle.std.specs.Char.{is_ascii_alphabetic, to_ascii_lowercase, to_ascii_uppercase}
 use Rattle.std.specs.List.{All, AllPass, concat, join_with_byte, list_any}
 use Rattle.pybuf_letters.specs.Classes.{is_blank, is_title}
 use Rattle.pybuf_letters.specs.Cases.{lower, title}
 use Rattle.pybuf_letters.specs.Blanks.{runs, runs_up_to}
-use Rattle.pybuf_letters.specs.Lines.{whole_lines}
+use Rattle.pybuf_letters.specs.Lines.{is_line_break, begins_with_feed, whole_lines, split_lines}
 
 -- ---- cases
 
@@ -24,6 +24,23 @@ TurnsBack change = (bytes : List ℕ) → change (change bytes) ≡ bytes
 -- bytes are a title where they have a letter and stay as they are once they are made a title
 abbrev pub TitlesStay : Type 0
 TitlesStay = (bytes : List ℕ) → IsTrue (is_title bytes) ↔ (IsTrue (list_any is_ascii_alphabetic bytes) × (title bytes ≡ bytes))
+
+-- the byte before a place is a letter; before the first place there is none
+abbrev pub stands_after_letter : List ℕ → ℕ → Bool
+stands_after_letter bytes zero = false
+stands_after_letter bytes (suc place) = is_ascii_alphabetic (slice_index bytes place)
+
+-- A byte that is no letter stays. A letter after a letter is in lower case, and every other letter in upper
+-- case.
+pub record IsTitled (bytes titled : List ℕ) (place : ℕ) : Type 0 where
+  pub other : is_ascii_alphabetic (slice_index bytes place) ≡ false → slice_index titled place ≡ slice_index bytes place
+  pub first : is_ascii_alphabetic (slice_index bytes place) ≡ true → stands_after_letter bytes place ≡ false → slice_index titled place ≡ to_ascii_uppercase (slice_index bytes place)
+  pub later : is_ascii_alphabetic (slice_index bytes place) ≡ true → stands_after_letter bytes place ≡ true → slice_index titled place ≡ to_ascii_lowercase (slice_index bytes place)
+
+-- a title has as many bytes, and each of them is so
+pub record TitlesChangeLetters (bytes : List ℕ) : Type 0 where
+  pub count : length (title bytes) ≡ length bytes
+  pub each : (place : ℕ) → place < length bytes → IsTitled bytes (title bytes) place
 
 -- ---- strips
 
@@ -131,3 +148,28 @@ pub record LosesBlanksAlone (n : ℕ) (bytes : List ℕ) : Type 0 where
 pub record LinesAreTheBytes (bytes : List ℕ) : Type 0 where
   pub joined : concat (whole_lines bytes) ≡ bytes
   pub some : All (λ line. 0 < length line) (whole_lines bytes)
+
+-- What ends a line before the bytes behind it: a line feed, a carriage return that no line feed follows, or a
+-- carriage return and a line feed. At the end of the bytes a line that has a byte may end without one.
+abbrev pub EndsLine : List ℕ → List ℕ → List ℕ → Type 0
+EndsLine text ending behind =
+    (ending ≡ 10 ∷ [])
+    ⊎ ((ending ≡ 13 ∷ []) × (begins_with_feed behind ≡ false))
+    ⊎ (ending ≡ 13 ∷ 10 ∷ [])
+    ⊎ ((ending ≡ []) × (behind ≡ []) × (0 < length text))
+
+-- A line stands between other bytes as its text and its ending, and no byte of its text is a line feed or a
+-- carriage return.
+pub record StandsAsLine (bytes before line text behind : List ℕ) : Type 0 where
+  pub ending : List ℕ
+  pub place : before ++ (line ++ behind) ≡ bytes
+  pub whole : line ≡ text ++ ending
+  pub bare : list_any is_line_break text ≡ false
+  pub ends : EndsLine text ending behind
+
+-- With their ends and without, there are as many lines. Each stands behind the lines before it and before
+-- those after it.
+pub record LinesEndWhereEndsStand (bytes : List ℕ) : Type 0 where
+  pub count : length (split_lines false bytes) ≡ length (split_lines true bytes)
+  pub each : (k : ℕ) → k < length (split_lines true bytes)
+      → StandsAsLine bytes (concat (take k (split_lines true bytes))) (slice_index_or (split_lines true bytes) k []) (slice_index_or (split_lines false bytes) k []) (concat (drop (k + 1) (split_lines true bytes)))

@@ -33,6 +33,12 @@ pub fn titles_stay()
     ensures { law.TitlesStay }
 {}
 
+/// A title has as many bytes as what it is made of. A byte that is no letter stays, a letter after a letter
+/// is in lower case, and every other letter is in upper case: `b"it's 3RD"` becomes `b"It'S 3Rd"`.
+pub fn titles_change_letters()
+    ensures { (bytes : List ℕ) → law.TitlesChangeLetters bytes }
+{}
+
 /// Bytes without those at their ends that a test passes are a part of the bytes: all that stands before
 /// it and behind it passes the test, and neither its first byte nor its last one does. Where one end
 /// alone is looked at, the part reaches up to the other.
@@ -100,4 +106,11 @@ pub fn cuts_lose_blanks_alone()
 /// Example: `b"a\nb"` gives the lines `b"a\n"` and `b"b"`, which together are `b"a\nb"`.
 pub fn lines_are_the_bytes()
     ensures { (bytes : List ℕ) → law.LinesAreTheBytes bytes }
+{}
+
+/// Each line has a text, in which no line feed and no carriage return stands, and an ending: a line feed,
+/// a carriage return that no line feed follows, or the two one after the other. Only the last line may
+/// lack the ending. So `b"a\r\nb\n\rc"` has the lines `a`, `b`, an empty one and `c`.
+pub fn lines_end_where_ends_stand()
+    ensures { (bytes : List ℕ) → law.LinesEndWhereEndsStand bytes }
 {}

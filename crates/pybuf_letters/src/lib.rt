@@ -16,8 +16,9 @@ pub use classes::{
 };
 pub use laws::{
     cases_alone_are_changed, cases_settle, cuts_lose_blanks_alone, cuts_take_the_nearest_runs,
-    cuts_without_bound_are_the_runs, lines_are_the_bytes, runs_come_back,
-    runs_stand_between_blanks, strips_take_named_bytes, strips_take_the_ends_alone, titles_stay,
+    cuts_without_bound_are_the_runs, lines_are_the_bytes, lines_end_where_ends_stand,
+    runs_come_back, runs_stand_between_blanks, strips_take_named_bytes, strips_take_the_ends_alone,
+    titles_change_letters, titles_stay,
 };
 pub use lines::split_lines;
 pub use strips::{strip, strip_left, strip_right};

@@ -5,6 +5,7 @@ use Rattle.pybuf_desc.specs.Layouts.{Layout}
 use Rattle.pybuf_desc.specs.Slices.{slice_of}
 use Rattle.pybuf_desc.specs.Casts.{cast_of}
 use Rattle.pybuf_desc.specs.ShapedCasts.{cast_to}
+use Rattle.pybuf_desc.specs.ColumnCasts.{column_cast_to}
 use Rattle.pybuf_desc.specs.Descriptor.{Descriptor}
 use Rattle.pybuf_desc.specs.Places.{Stands}
 use Rattle.pybuf_desc.specs.Valid.{IsValid}
@@ -21,6 +22,7 @@ pub data Step : Type 0 where
   Pick : ℕ → ℕ → Step
   CastFlat : List ℕ → ℕ → Step
   CastShape : List ℕ → ℕ → List ℕ → Step
+  CastColumns : List ℕ → ℕ → List ℕ → Step
 
 abbrev pub view_after : Step → Layout → Layout
 view_after (Slice parts) view = slice_of view parts
@@ -30,6 +32,7 @@ view_after Transpose view = transposition_of view
 view_after (Pick axis entry) view = plane_of view axis entry
 view_after (CastFlat format size) view = cast_of view format size
 view_after (CastShape format size shape) view = cast_to view format size shape
+view_after (CastColumns format size shape) view = column_cast_to view format size shape
 
 abbrev pub view_after_all : List Step → Layout → Layout
 view_after_all [] view = view

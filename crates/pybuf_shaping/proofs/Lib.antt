@@ -6,3 +6,4 @@ pub mod PadLemmas
 pub mod TabLemmas
 pub mod StopLemmas
 pub mod ReplaceLemmas
+mod PairLemmas

@@ -32,19 +32,19 @@ one_more bytes byte (Ok rest) = ap Ok (sym (append_assoc bytes (byte ∷ []) res
 one_more bytes byte (Err f) = refl
 
 -- a blank in front
-skip : (c : ℕ) (text : List ℕ) → is_blank c ≡ true → bytes_of_hex (c ∷ text) ≡ bytes_of_hex text
+pub skip : (c : ℕ) (text : List ℕ) → is_blank c ≡ true → bytes_of_hex (c ∷ text) ≡ bytes_of_hex text
 skip c [] blank = ap (λ t. cond t (Ok []) (Err fault.Value)) blank
 skip c (d ∷ text) blank = ap (λ t. cond t (bytes_of_hex (d ∷ text)) (byte_of_digits (hex_digit_value c) (hex_digit_value d) >>= (λ byte. bytes_of_hex text >>= (λ bytes. Ok (byte ∷ bytes))))) blank
 
 -- a pair in front
-pair : (c d byte : ℕ) (text : List ℕ) → is_blank c ≡ false → byte_of_digits (hex_digit_value c) (hex_digit_value d) ≡ Ok byte →
+pub pair : (c d byte : ℕ) (text : List ℕ) → is_blank c ≡ false → byte_of_digits (hex_digit_value c) (hex_digit_value d) ≡ Ok byte →
     bytes_of_hex (c ∷ d ∷ text) ≡ (bytes_of_hex text >>= (λ bytes. Ok (byte ∷ bytes)))
 pair c d byte text printed digits =
     ap (λ t. cond t (bytes_of_hex (d ∷ text)) (byte_of_digits (hex_digit_value c) (hex_digit_value d) >>= (λ byte. bytes_of_hex text >>= (λ bytes. Ok (byte ∷ bytes))))) printed
     ∙ ap (λ r. r >>= (λ byte. bytes_of_hex text >>= (λ bytes. Ok (byte ∷ bytes)))) digits
 
 -- no pair in front
-bad : (c : ℕ) (text : List ℕ) → is_blank c ≡ false → hex_digit_value c ≡ None → bytes_of_hex (c ∷ text) ≡ Err fault.Value
+pub bad : (c : ℕ) (text : List ℕ) → is_blank c ≡ false → hex_digit_value c ≡ None → bytes_of_hex (c ∷ text) ≡ Err fault.Value
 bad c [] printed none = ap (λ t. cond t (Ok []) (Err fault.Value)) printed
 bad c (d ∷ text) printed none =
     ap (λ t. cond t (bytes_of_hex (d ∷ text)) (byte_of_digits (hex_digit_value c) (hex_digit_value d) >>= (λ byte. bytes_of_hex text >>= (λ bytes. Ok (byte ∷ bytes))))) printed

@@ -5,3 +5,4 @@ pub mod Tables
 pub mod Replacing
 pub mod Arguments
 pub mod Laws
+pub mod HexPairs

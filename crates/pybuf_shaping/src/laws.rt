@@ -1,7 +1,9 @@
 //! Laws of the definitions that the contracts cite. Each stands on a function that does nothing.
 ghost use Rattle.std.specs.Prelude.{◌<◌, ℕ, ℤ, List, length};
 ghost use Rattle.pybuf_shaping.specs.Laws.{DigitsReadBack, GroupsAreCounted, SeparatorsLeftOut, ByIdentity, EachOnce, AreWideOrSame, PaddingKeepsBytes, TabsAreSpaces, TabsLeadToStops, BySame};
+ghost use Rattle.pybuf_shaping.specs.HexPairs.{HexIsReadInPairs};
 
+use pybuf_letters::strips_take_named_bytes;
 use pybuf_search::split_joins_back;
 
 /// Reading the digits of bytes gives the bytes.
@@ -10,6 +12,16 @@ use pybuf_search::split_joins_back;
 pub fn hex_reads_back()
     ensures { (bytes : List ℕ) → DigitsReadBack bytes }
 {}
+
+/// A text is read as bytes where it is pairs of digits with blanks before, between and behind them, and is
+/// then the bytes of the pairs in order: `b"0a FF "` gives 10 and 255. It is refused exactly where, behind
+/// such a front, a byte stands that is neither a blank nor a digit, or a digit with no digit right behind
+/// it, as in `b"0a F F"`.
+pub fn hex_is_read_in_pairs()
+    ensures { (text : List ℕ) → HexIsReadInPairs text }
+{
+    strips_take_named_bytes();
+}
 
 /// The groups of bytes are the bytes, cut from the side that groups are counted from.
 ///

@@ -18,9 +18,9 @@ pub use arguments::{
 pub use digit_pairs::bytes_of_hex;
 pub use digits::hex_text;
 pub use laws::{
-    groups_are_counted, hex_reads_back, identity_table_changes_nothing, padding_keeps_the_bytes,
-    replacing_by_the_same, separators_left_out, tables_map_each_byte_once, tabs_are_spaces,
-    tabs_lead_to_stops, wide_or_the_same,
+    groups_are_counted, hex_is_read_in_pairs, hex_reads_back, identity_table_changes_nothing,
+    padding_keeps_the_bytes, replacing_by_the_same, separators_left_out, tables_map_each_byte_once,
+    tabs_are_spaces, tabs_lead_to_stops, wide_or_the_same,
 };
 pub use padding::{center, justify_left, justify_right, pad, zero_fill};
 pub use replacing::{replace, replace_in_place};

@@ -19,7 +19,7 @@ pub use laws::{
 };
 pub use pybuf_index::{
     OptionalRangeArgs, SaturatedSlice, SaturatedSliceIter, SequenceIndex, SequenceIndexOp,
-    SliceIndices, clamping_changes_no_index, entry_in, hash_of_lanes,
+    SliceIndices, clamping_changes_no_index, each_lane_counts, entry_in, hash_of_lanes,
     indices_and_adjust_indices_agree, indices_of_a_slice, indices_of_a_span, slices_have_spans,
 };
 pub use sequence::SliceableSequenceOp;

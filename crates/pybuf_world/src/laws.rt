@@ -55,7 +55,8 @@ pub fn world_iterators_stay()
     pybuf_exporter::iterators_stay();
 }
 
-/// No command on a sound world changes the bytes of an exporter that is only read.
+/// No command on a sound world changes the bytes of an exporter that is only read, unless it takes all of them out of
+/// a vector.
 /// Example: after `new bytes x616263` no command makes the bytes of `h0` others than `b"abc"`.
 pub fn world_readonly_bytes_stay()
     ensures { WorldReadOnlyBytesStay }
