@@ -36,6 +36,7 @@ from concurrent.futures import ThreadPoolExecutor
 sys.dont_write_bytecode = True
 
 import check_sessions
+import complaints
 
 ROOT = pathlib.Path(__file__).resolve().parent.parent
 WORKED, SESSIONS, ARRAYS, TABLES = (ROOT / "cases" / name for name in ("worked", "sessions", "arrays", "tables"))
@@ -291,8 +292,8 @@ def fault_of_mutated(program, lines, number, words=()):
             fault = f"{ended.written!r} came, and line {number} was changed"
     else:
         fault = f"it ended with status {ended.status}"
-    if ended.complaint:
-        fault = f"on standard error came {ended.complaint!r}"
+    given = b"".join(line + b"\n" for line in lines)
+    fault = fault or complaints.fault_of(ended.status, (), given, ended.written, ended.complaint)
     return ended.status, fault and f"{lines[number - 1]!r}, line {number} of {lines!r}: {fault}"
 
 
@@ -302,8 +303,10 @@ def fault_of_mutated_sessions(program, lines, number):
         ended = run(program, b"".join(line + b"\n" for line in lines), words=["share"])
         fault = None
         if ended.status == BAD_LINE:
-            if ended.written != b"line %d is not a command\n" % number or ended.complaint:
+            if ended.written != b"line %d is not a command\n" % number:
                 fault = f"{ended.written!r} came, and line {number} was changed"
+            given = b"".join(line + b"\n" for line in lines)
+            fault = fault or complaints.fault_of(ended.status, [b"share"], given, ended.written, ended.complaint)
         elif ended.status == DONE:
             fault = check_sessions.fault_of(program, lines, lines_of(ended.written))
         else:

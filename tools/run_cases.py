@@ -12,7 +12,7 @@ that are made here are run too. Without proof the examples run on the program it
 
 A case is a file NAME, which is the input, with what has to be written for it beside it, NAME.stdout. NAME.args has the
 words behind the program's name, a word a line, none where it isn't there, and NAME.status the status that has to come,
-0 where it isn't there. On standard error has to come the line of that status, and nothing where it has none. Each line of
+0 where it isn't there. NAME.stderr has what has to come on standard error; where it isn't there, `tools/complaints.py` says it. Each line of
 `cases/no-commands.txt` is an input of its own, and so is each of `cases/no-operations.txt`, of the words `array H`.
 
 Of `share` the order of the sessions among each other is open. So where an input has lines of more than one, what is written
@@ -37,6 +37,7 @@ from concurrent.futures import ThreadPoolExecutor
 sys.dont_write_bytecode = True
 
 import check_sessions
+import complaints
 import unproved
 from unproved import Ran
 
@@ -51,21 +52,14 @@ LIMIT = 1_048_576
 # Many times what the program needs for any input here, and less than three dozen lists of a million places.
 ADDRESS_SPACE = 256 * 1024 * 1024
 DONE, BAD_LINE, NO_MEMORY, USAGE, TOO_LONG, BAD_DATA = 0, 2, 3, 6, 7, 9
-# What is said on standard error of a status that the output doesn't tell.
-COMPLAINTS = {
-    NO_MEMORY: b"pybuf: no memory\n",
-    USAGE: b"pybuf: usage: pybuf [run | share | make N | array CODE | table FORMAT [K OP N] | nd SHAPE KEY [T]] < input\n",
-    TOO_LONG: b"pybuf: more than 1,048,576 bytes\n",
-    BAD_DATA: b"pybuf: the length of the input doesn't fit\n",
-}
-
 # Commands of which the third finds no memory, and such of which the reply to the third finds none, and no others.
 GREATER = b"new bytearray x61\nget h0 0\ncall h0 mul 60000000000\nget h0 0\n"
 LONGER = b"new bytearray 15000000\nget h0 0\nbytes h0\nget h0 0\n"
 
 # `address_space` is how many bytes the process may map, or None for no such limit.
 # `written` is None where only the checker of sessions says what may come.
-Case = collections.namedtuple("Case", "name given written status words address_space", defaults=((), None))
+# `complaint` is what has to come on standard error, or None where tools/complaints.py says it.
+Case = collections.namedtuple("Case", "name given written status words address_space complaint", defaults=((), None, None))
 # `faults` are what is wrong with the folder itself.
 Folder = collections.namedtuple("Folder", "name cases faults")
 
@@ -132,9 +126,11 @@ def differences(program, case, ran):
         found.append(f"signal {-ran.status} ended it")
     elif ran.status != case.status:
         found.append(f"the status has to be {case.status}, and is {ran.status}")
-    expected = COMPLAINTS.get(case.status, b"")
-    if ran.complaint is not None and ran.complaint != expected:
-        found.append(f"on standard error has to come {shown(expected)}, and came {shown(ran.complaint)}")
+    if ran.complaint is not None:
+        written = case.written if ran.written is None else ran.written
+        found.append(complaints.fault_of(case.status, case.words, case.given, written or b"", ran.complaint))
+        if case.complaint is not None and ran.complaint != case.complaint:
+            found.append(f"on standard error has to come {case.complaint!r}, and came {ran.complaint!r}")
     return [it for it in found if it is not None]
 
 
@@ -145,7 +141,7 @@ def folder_of(path):
         return Folder(label, [], ["it is not there"])
     files = {it.name for it in path.iterdir() if it.is_file()}
     inputs = sorted(name for name in files if f"{name}.stdout" in files)
-    belonging = {name + ending for name in inputs for ending in ("", ".stdout", ".args", ".status")}
+    belonging = {name + ending for name in inputs for ending in ("", ".stdout", ".args", ".status", ".stderr")}
     strays = sorted(it.name for it in path.iterdir() if it.name not in {*(files & belonging), PAGE})
     faults = [f"{name} neither is a case nor belongs to one" for name in strays]
     cases = []
@@ -159,9 +155,10 @@ def folder_of(path):
             faults.append(f"{name}.status holds no status")
             continue
         given, written = ((path / it).read_bytes() for it in (name, f"{name}.stdout"))
+        told = (path / f"{name}.stderr").read_bytes() if f"{name}.stderr" in files else None
         # (the last line feed ends a word, and begins none)
         lines = words.split(b"\n")
-        cases.append(Case(name, given, written, int(status), lines if lines[-1] else lines[:-1]))
+        cases.append(Case(name, given, written, int(status), lines if lines[-1] else lines[:-1], None, told))
     return Folder(label, cases, faults)
 
 

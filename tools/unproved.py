@@ -21,9 +21,9 @@ SECONDS = "300"
 TRY = ["rt", "try", "--steps", "0", "--seconds", SECONDS]
 # How many bytes of cases one run of the program serves, or one case: what ends one run ends no other.
 BATCH = 262_144
-# A case of which all is told counts so often: what it writes is told in digits, four times as long as what it reads or more, and
-# `rt try` ends a run that writes more than a mebibyte.
-TOLD = 8
+# A case of which all is told counts so often: what it writes is told in digits, and `rt try` ends a run that writes more than a mebibyte. One
+# that reads a few thousand bytes is run alone, since what sessions write may be many times as long, and depends on their order.
+TOLD = 64
 
 # What came of a case. `written` is None where it is known to be what has to be written, and `complaint`, what came on standard error,
 # where `rt try --cases` doesn't tell it; `fault` says why nothing came.
@@ -42,10 +42,17 @@ MAIN = """fn main(rt: HostRuntime) -> ExitCode {
 }
 """
 
+# What stands in the program's `src/main.rt`, and what stands there instead where all cases are served by one call.
+INSTEAD = {
+    "mod data;\n": "mod data;\nmod each;\n",
+    "use crate::kept::KeptSource;\n": "",
+    "use pybuf_cli::{ReaderSource, Status, WriterSink, serve};\n": "use pybuf_cli::Status;\n",
+}
+
 # Behind four bytes with how many follow comes each piece: how many words, the words, the input, a byte that is 1 where what is written
 # has to be the last piece. The line of a case is its status, the complaint, and `same` or what was written.
 EACH = """//! Serves each case of the input, and writes a line of what came.
-use crate::complaint;
+use crate::told::complaint;
 use pybuf_cli::{QuietSink, QuietSource, serve};
 use pybuf_line::push_decimal;
 use pybuf_value::{ByteList, Made, Text};
@@ -56,6 +63,8 @@ use std::sync::Wait;
 use std::thread::Threads;
 
 const PIECE: usize = 65_536;
+/// So many bytes of what was written are told at most: in digits they are less than a mebibyte.
+const TOLD: usize = 400_000;
 
 /// All bytes of the input.
 fn read_all<R: Read>(alloc: Global, reader: &mut R) -> Made<Vec<u8>> {
@@ -130,16 +139,15 @@ fn serve_one<R: Threads + Wait + Sync>(
     let status = serve(rt, alloc, words.as_slice(), &mut source, &mut sink);
     push_decimal(out, u64::from(status.number()))?;
     out.extend_from_slice(b" x")?;
-    if let Some(text) = complaint(status) {
-        push_digits(out, text.as_bytes())?;
-    }
+    let told = complaint(alloc, words.as_slice(), status, Some(given))?;
+    push_digits(out, told.as_slice())?;
     if is_compared && sink.bytes() == wanted {
         out.extend_from_slice(b" same\\n")?;
         return Ok(at);
     }
     out.extend_from_slice(b" x")?;
     let shown = sink.bytes();
-    push_digits(out, &shown[..shown.len().min(PIECE)])?;
+    push_digits(out, &shown[..shown.len().min(TOLD)])?;
     out.extend_from_slice(b"\\n")?;
     Ok(at)
 }
@@ -196,10 +204,11 @@ def copy_sources(to):
     (to / ".git").mkdir()
     main = (ROOT / "crates/pybuf_program/src/main.rt").read_text()
     head, found, _ = main.partition("fn main(")
-    if not found or "use pybuf_cli::{ReaderSource, Status, WriterSink, serve};" not in head:
-        raise OSError("tools/unproved.py no longer knows crates/pybuf_program/src/main.rt: it needs its imports of pybuf_cli, words and complaint")
-    head = head.replace("use pybuf_cli::{ReaderSource, Status, WriterSink, serve};", "mod each;\n\nuse pybuf_cli::Status;")
-    (to / "crates" / NAME / "src").mkdir(parents=True)
+    for line, instead in INSTEAD.items():
+        if not found or line not in head:
+            raise OSError(f"tools/unproved.py no longer knows crates/pybuf_program/src/main.rt: it needs the line {line.strip()!r}")
+        head = head.replace(line, instead)
+    shutil.copytree(ROOT / "crates/pybuf_program/src", to / "crates" / NAME / "src")
     (to / "crates" / NAME / "src/main.rt").write_text(head + MAIN)
     (to / "crates" / NAME / "src/each.rt").write_text(EACH)
 
@@ -277,7 +286,7 @@ def answer_of(line):
     """What came of a case, by its line."""
     status, complaint, written = line.split(b" ")
     complaint = bytes.fromhex(complaint[1:].decode())
-    return Ran(int(status), None if written == b"same" else bytes.fromhex(written[1:].decode()), b"pybuf: " + complaint + b"\n" if complaint else b"")
+    return Ran(int(status), None if written == b"same" else bytes.fromhex(written[1:].decode()), complaint)
 
 
 def served(cases, is_told):

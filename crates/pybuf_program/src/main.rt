@@ -1,13 +1,23 @@
 //! The program `pybuf`: it hands the words after its name, its input and its output to the top
-//! call. Where that returns, its status is the status of the process, and one line on standard error
-//! says what a status means that the output doesn't tell.
+//! call. Where that returns, its status is the status of the process. Where not all was done, standard error
+//! says which word of the command line, line of the input or byte of the data is at fault, and what would be right.
 #![tactic(auto)]
 
+mod data;
+mod kept;
+mod lines;
+mod names;
+mod nearest;
+mod told;
+mod usage;
+
+use crate::kept::KeptSource;
+use crate::told::{complaint, meaning};
 use pybuf_cli::{ReaderSource, Status, WriterSink, serve};
-use pybuf_value::Text;
+use pybuf_value::{Made, Text};
 use std::env;
 use std::env::Env;
-use std::io::ErrorKind;
+use std::io::{ErrorKind, Write};
 use std::process::ExitCode;
 
 /// The words after the program's name. A word that isn't UTF-8 is a wrong command line.
@@ -31,34 +41,36 @@ fn words<R: Env + AllocGlobal>(rt: &R) -> Result<Vec<Text>, Status> {
     }
 }
 
-/// What a status means that the output doesn't tell.
-fn complaint(status: Status) -> Option<&'static str> {
-    match status {
-        Status::Done | Status::BadLine => None,
-        Status::NoMemory => Some("no memory"),
-        Status::ReadFault => Some("the input could not be read"),
-        Status::WriteFault => Some("the output could not be written"),
-        Status::Usage => Some(
-            "usage: pybuf [run | share | make N | array CODE | table FORMAT [K OP N] | nd SHAPE KEY [T]] < input",
-        ),
-        Status::TooLong => Some("more than 1,048,576 bytes"),
-        Status::Disagree => Some("the sessions disagree with their history"),
-        Status::BadData => Some("the length of the input doesn't fit"),
-    }
+/// Writes what is told. Where there was no memory for it, only the meaning of the status is written, and where it can't be written,
+/// the status still tells it.
+fn tell<W: Write>(writer: &mut W, status: Status, told: Made<Vec<u8>>) {
+    let _written = match told {
+        Ok(text) => writer.write_all(text.as_slice()),
+        Err(_) => match meaning(status) {
+            Some(text) => writer
+                .write_all(b"pybuf: ")
+                .and_then(|()| writer.write_all(text.as_bytes()))
+                .and_then(|()| writer.write_all(b"\n")),
+            None => Ok(()),
+        },
+    };
 }
 
 fn main(rt: HostRuntime) -> ExitCode {
-    let status = match words(&rt) {
+    let alloc = rt.alloc();
+    match words(&rt) {
         Ok(words) => {
-            let mut source = ReaderSource::new(rt.stdin());
+            let mut source = KeptSource::new(alloc, ReaderSource::new(rt.stdin()));
             let mut sink = WriterSink::new(rt.stdout());
-            serve(&rt, rt.alloc(), words.as_slice(), &mut source, &mut sink)
+            let status = serve(&rt, alloc, words.as_slice(), &mut source, &mut sink);
+            let told = complaint(alloc, words.as_slice(), status, source.taken());
+            tell(&mut rt.stderr(), status, told);
+            ExitCode::from(status.number())
         }
-        Err(status) => status,
-    };
-    if let Some(complaint) = complaint(status) {
-        // where it can't be told, the status still tells it
-        let _ = eprintln!(rt; "pybuf: {complaint}");
+        Err(status) => {
+            let told = complaint(alloc, &[], status, None);
+            tell(&mut rt.stderr(), status, told);
+            ExitCode::from(status.number())
+        }
     }
-    ExitCode::from(status.number())
 }

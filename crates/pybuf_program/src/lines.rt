@@ -1,0 +1,319 @@
+//! Which line of the input is at fault, and which word of it.
+use crate::names::{commands, kinds, methods, operations, operators, properties};
+use crate::nearest::nearest;
+use crate::told::{push_near, push_shown};
+use pybuf_array_lines::check_operations;
+use pybuf_line::{
+    Misread, Unread, check_lines, fill_words, is_word, next_line, push_decimal, value, word_number,
+};
+use pybuf_sessions::read_sessions;
+use pybuf_value::{Made, NoMemory, Text};
+use std::alloc::Global;
+
+/// The line of a number, counted from 1. Behind the last line it is empty.
+fn line_at(input: &[u8], number: u64) -> &[u8] {
+    let mut rest = input;
+    for _line in 1..number {
+        if let Some((_, after)) = next_line(rest) {
+            rest = after;
+        }
+    }
+    match next_line(rest) {
+        Some((line, _)) => line,
+        None => b"",
+    }
+}
+
+/// The number of the line that stopped a reading.
+fn number_of(stopped: Result<(), Misread>) -> Made<Option<u64>> {
+    match stopped {
+        Ok(()) => Ok(None),
+        Err(Misread::BadLine(number)) => Ok(Some(number)),
+        Err(Misread::NoMemory) => Err(NoMemory),
+    }
+}
+
+/// Whether a word spells a value.
+fn is_value(alloc: Global, word: &[u8]) -> Made<bool> {
+    match value(alloc, word) {
+        Ok(_) => Ok(true),
+        Err(Unread::NoCommand) => Ok(false),
+        Err(Unread::NoMemory) => Err(NoMemory),
+    }
+}
+
+/// Whether a text is one of some names.
+fn is_one_of(text: &[u8], names: &[&'static str]) -> bool {
+    for name in names {
+        if is_word(text, name) {
+            return true;
+        }
+    }
+    false
+}
+
+/// Adds that a word isn't what it should be, with the nearest name.
+fn push_wrong(
+    alloc: Global,
+    out: &mut Vec<u8>,
+    word: &[u8],
+    what: &[u8],
+    names: &[&'static str],
+) -> Made<()> {
+    push_shown(out, word)?;
+    out.extend_from_slice(b" is no ")?;
+    out.extend_from_slice(what)?;
+    push_near(out, nearest(alloc, word, names)?)?;
+    Ok(())
+}
+
+/// Adds how a line of a first word is written.
+fn push_written(out: &mut Vec<u8>, written: &'static str) -> Made<()> {
+    out.extend_from_slice(b"it is written `")?;
+    out.extend_from_slice(written.as_bytes())?;
+    out.push(b'`')?;
+    Ok(())
+}
+
+/// Adds the first of some words that is no value, or how the line is written where each is one.
+fn push_wrong_value(
+    alloc: Global,
+    out: &mut Vec<u8>,
+    words: &[&[u8]],
+    written: &'static str,
+) -> Made<()> {
+    for word in words {
+        if !is_value(alloc, word)? {
+            push_shown(out, word)?;
+            out.extend_from_slice(b" is no value; ")?;
+            return push_written(out, written);
+        }
+    }
+    push_written(out, written)
+}
+
+/// Adds what is wrong behind the subject of a command.
+fn push_wrong_argument(
+    alloc: Global,
+    out: &mut Vec<u8>,
+    command: &[u8],
+    arguments: &[&[u8]],
+    written: &'static str,
+) -> Made<()> {
+    match arguments {
+        [] => push_written(out, written),
+        [first, rest @ ..] => {
+            if is_word(command, "call") {
+                if is_one_of(first, &methods()) {
+                    return push_wrong_value(alloc, out, rest, written);
+                }
+                return push_wrong(alloc, out, first, b"method", &methods());
+            }
+            if is_word(command, "prop") {
+                if is_one_of(first, &properties()) {
+                    return push_written(out, written);
+                }
+                return push_wrong(alloc, out, first, b"property", &properties());
+            }
+            if is_word(command, "compare") {
+                if is_one_of(first, &operators()) {
+                    return push_wrong_value(alloc, out, rest, written);
+                }
+                return push_wrong(alloc, out, first, b"operator", &operators());
+            }
+            if is_word(command, "new") {
+                if is_one_of(first, &kinds()) {
+                    return push_wrong_value(alloc, out, rest, written);
+                }
+                return push_wrong(alloc, out, first, b"kind", &kinds());
+            }
+            push_wrong_value(alloc, out, arguments, written)
+        }
+    }
+}
+
+/// The names of some pairs.
+fn first_names<const N: usize>(pairs: [(&'static str, &'static str); N]) -> [&'static str; N] {
+    pairs.map(|pair| pair.0)
+}
+
+/// How a line is written whose first word is one of some names.
+fn written_of(word: &[u8], pairs: &[(&'static str, &'static str)]) -> Option<&'static str> {
+    for (name, written) in pairs {
+        if is_word(word, name) {
+            return Some(*written);
+        }
+    }
+    None
+}
+
+/// Whether a word names what a command may be told to: by lines `h` and a number, and by sessions `own`, or `m` or `i` and a number.
+fn is_subject(word: &[u8], in_session: bool) -> bool {
+    match word {
+        [b'h', digits @ ..] => !in_session && word_number(digits).is_some(),
+        [b'm', digits @ ..] => in_session && word_number(digits).is_some(),
+        [b'i', digits @ ..] => in_session && word_number(digits).is_some(),
+        _ => in_session && is_word(word, "own"),
+    }
+}
+
+/// Adds what is wrong with the words of a command.
+fn push_command_fault(
+    alloc: Global,
+    out: &mut Vec<u8>,
+    words: &[&[u8]],
+    in_session: bool,
+) -> Made<()> {
+    let [first, rest @ ..] = words else {
+        out.extend_from_slice(b"a command is missing")?;
+        return Ok(());
+    };
+    let Some(written) = written_of(first, &commands()) else {
+        return push_wrong(alloc, out, first, b"command", &first_names(commands()));
+    };
+    if is_word(first, "new") {
+        if in_session {
+            out.extend_from_slice(b"`new` stands on the first line alone")?;
+            return Ok(());
+        }
+        return push_wrong_argument(alloc, out, first, rest, written);
+    }
+    match rest {
+        [] => push_written(out, written),
+        [subject, arguments @ ..] => {
+            if is_subject(subject, in_session) {
+                return push_wrong_argument(alloc, out, first, arguments, written);
+            }
+            push_shown(out, subject)?;
+            if in_session {
+                out.extend_from_slice(
+                    b" is no name of a session, which are `own`, `m0`, `i0` and so on",
+                )?;
+            } else {
+                out.extend_from_slice(b" is no handle, which are `h0`, `h1` and so on")?;
+            }
+            Ok(())
+        }
+    }
+}
+
+/// Adds what is wrong with the words of an operation on a typed array.
+fn push_operation_fault(alloc: Global, out: &mut Vec<u8>, words: &[&[u8]]) -> Made<()> {
+    let [first, rest @ ..] = words else {
+        out.extend_from_slice(b"an operation is missing")?;
+        return Ok(());
+    };
+    match written_of(first, &operations()) {
+        Some(written) => push_wrong_value(alloc, out, rest, written),
+        None => push_wrong(alloc, out, first, b"operation", &first_names(operations())),
+    }
+}
+
+/// Adds what is wrong with the words of a line of a session. The first line opens the exporter.
+fn push_session_fault(alloc: Global, out: &mut Vec<u8>, words: &[&[u8]], number: u64) -> Made<()> {
+    if number == 1 {
+        out.extend_from_slice(b"the first line is written `new KIND xHEX`")?;
+        return Ok(());
+    }
+    let [session, command @ ..] = words else {
+        out.extend_from_slice(b"a session is missing")?;
+        return Ok(());
+    };
+    match word_number(session) {
+        Some(number) => {
+            if number < 16 {
+                return push_command_fault(alloc, out, command, true);
+            }
+            push_shown(out, session)?;
+            out.extend_from_slice(b" is no session, which have numbers below 16")?;
+            Ok(())
+        }
+        None => {
+            push_shown(out, session)?;
+            out.extend_from_slice(b" is no session, which have numbers below 16")?;
+            Ok(())
+        }
+    }
+}
+
+/// What the lines of an input are.
+#[derive(Clone, Copy, PartialEq, Eq)]
+enum Lines {
+    Commands,
+    Operations,
+    Sessions,
+}
+
+/// What the lines are that the words of the program ask for.
+fn lines_of(words: &[Text]) -> Lines {
+    match words {
+        [form, ..] => {
+            if is_word(form.as_slice(), "array") {
+                return Lines::Operations;
+            }
+            if is_word(form.as_slice(), "share") {
+                return Lines::Sessions;
+            }
+            Lines::Commands
+        }
+        [] => Lines::Commands,
+    }
+}
+
+/// The number of the first line that is wrong.
+fn first_wrong(alloc: Global, lines: Lines, input: &[u8]) -> Made<Option<u64>> {
+    match lines {
+        Lines::Commands => number_of(check_lines(alloc, input)),
+        Lines::Operations => number_of(check_operations(alloc, input)),
+        Lines::Sessions => match read_sessions(alloc, input) {
+            Ok(_) => Ok(None),
+            Err(misread) => number_of(Err(misread)),
+        },
+    }
+}
+
+/// Adds what is wrong with a line.
+fn push_line_fault(
+    alloc: Global,
+    out: &mut Vec<u8>,
+    lines: Lines,
+    line: &[u8],
+    number: u64,
+) -> Made<()> {
+    if line.is_empty() {
+        out.extend_from_slice(b"it is empty")?;
+        return Ok(());
+    }
+    let mut words = Vec::new(alloc);
+    fill_words(&mut words, line)?;
+    for word in words.as_slice() {
+        if word.is_empty() {
+            out.extend_from_slice(
+                b"one blank stands between words, and none before the first or behind the last",
+            )?;
+            return Ok(());
+        }
+    }
+    match lines {
+        Lines::Commands => push_command_fault(alloc, out, words.as_slice(), false),
+        Lines::Operations => push_operation_fault(alloc, out, words.as_slice()),
+        Lines::Sessions => push_session_fault(alloc, out, words.as_slice(), number),
+    }
+}
+
+/// Adds the first line that is wrong and what is wrong with it, and says whether there is one.
+pub fn push_fault(alloc: Global, out: &mut Vec<u8>, words: &[Text], input: &[u8]) -> Made<bool> {
+    let lines = lines_of(words);
+    let Some(number) = first_wrong(alloc, lines, input)? else {
+        return Ok(false);
+    };
+    let line = line_at(input, number);
+    out.extend_from_slice(b"line ")?;
+    push_decimal(out, number)?;
+    out.extend_from_slice(b" is ")?;
+    push_shown(out, line)?;
+    out.extend_from_slice(b": ")?;
+    push_line_fault(alloc, out, lines, line, number)?;
+    out.push(b'\n')?;
+    Ok(true)
+}
