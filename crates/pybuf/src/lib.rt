@@ -61,6 +61,7 @@ pub use pybuf_desc::whole_layouts_lie_apart;
 pub use pybuf_exporter::ExporterState;
 pub use pybuf_exporter::adding_itself_is_refused;
 pub use pybuf_exporter::assignments_are_by_value;
+pub use pybuf_exporter::buffer_error_is_of_edits;
 pub use pybuf_exporter::casts_are_of_bytes;
 pub use pybuf_exporter::casts_share_their_bytes;
 pub use pybuf_exporter::column_casts_give_the_bytes_back;

@@ -1,5 +1,5 @@
 -- What was never given is refused.
-use Rattle.std.proofs.Common.{◌≡◌, ℕ, List, length, true, false, true≢false, ap, arith}
+use Rattle.std.proofs.Common.{◌≡◌, ℕ, List, length, false, true≢false, ap, arith}
 use Rattle.std.specs.Prelude.{nat_lt, Option, None, Result, Err, slice_get}
 use Rattle.std.specs.Option.{ok_or}
 use Rattle.std.proofs.lemmas.Option.{slice_get_past}

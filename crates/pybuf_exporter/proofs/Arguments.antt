@@ -1,5 +1,5 @@
--- What reads arguments never refuses them with `StructError`.
-use Rattle.std.proofs.Common.{◌≡◌, ℕ, zero, suc, ◌+◌, ◌*◌, ◌^◌, ◌++◌, List, [], ◌∷◌, Bool, true, false, refl, length}
+-- What reads arguments never refuses them with `StructError` or `BufferError`.
+use Rattle.std.proofs.Common.{◌≡◌, ℕ, zero, suc, ◌^◌, ◌++◌, List, [], ◌∷◌, Bool, true, false, refl, length}
 use Rattle.std.specs.Prelude.{◌==◌, ◌&&◌, ◌||◌, not, ℤ, pos, negsuc, Option, Some, None, Result, Ok, Err, nat_lt, if◌then◌else◌}
 use Rattle.std.specs.Option.{ok_or}
 use Rattle.std.specs.Str.{is_utf8}
@@ -38,7 +38,6 @@ use Rattle.pybuf_bytes.specs.Needles as needles
 use Rattle.pybuf_bytes.specs.Options as options
 use Rattle.pybuf_bytes.specs.Searching as searching
 use Rattle.pybuf_bytes.specs.Shaping as shaping
-use Rattle.pybuf_bytes.specs.declared.methods.MethodReply.{MethodReply}
 use Rattle.pybuf_command.specs.declared.methods.MethodName.{MethodName}
 use Rattle.pybuf_command.specs.declared.methods.MethodName.TheVariants as name
 use Rattle.pybuf_methods.specs.Given as given
@@ -52,16 +51,47 @@ abbrev pub is_struct : Fault → Bool
 is_struct fault.Struct = true
 is_struct _ = false
 
--- a result that isn't refused with `StructError`
+-- the faults that no effect but an edit is refused with
+abbrev pub is_of_edits : Fault → Bool
+is_of_edits fault.Struct = true
+is_of_edits fault.Buffer = true
+is_of_edits _ = false
+
+-- a result that is refused with neither
 abbrev pub Known : {A : Type 0} → Result A Fault → Type 0
 Known (Ok x) = Unit {0}
-Known (Err f) = is_struct f ≡ false
+Known (Err f) = is_of_edits f ≡ false
+
+-- a result of an edit, which isn't refused with `StructError`
+abbrev pub Edited : {A : Type 0} → Result A Fault → Type 0
+Edited (Ok x) = Unit {0}
+Edited (Err f) = is_struct f ≡ false
+
+not_struct : (f : Fault) → is_of_edits f ≡ false → is_struct f ≡ false
+not_struct fault.Struct is = is
+not_struct _ is = refl
+
+pub also : {A : Type 0} (r : Result A Fault) → Known r → Edited r
+also (Ok x) known = tt
+also (Err f) known = not_struct f known
+
+pub edit_bind : {A B : Type 0} (r : Result A Fault) (f : A → Result B Fault) → Edited r → ((a : A) → Edited (f a)) → Edited (r >>= f)
+edit_bind (Ok a) f first after = after a
+edit_bind (Err g) f first after = first
+
+pub edit_checked : (b : Bool) (f : Fault) → is_struct f ≡ false → Edited (unless b f)
+edit_checked true f is = is
+edit_checked false f is = tt
+
+pub edit_either : {A : Type 0} (b : Bool) (r s : Result A Fault) → Edited r → Edited s → Edited (if b then r else s)
+edit_either true r s this that = this
+edit_either false r s this that = that
 
 pub bind : {A B : Type 0} (r : Result A Fault) (f : A → Result B Fault) → Known r → ((a : A) → Known (f a)) → Known (r >>= f)
 bind (Ok a) f first after = after a
 bind (Err g) f first after = first
 
-pub checked : (b : Bool) (f : Fault) → is_struct f ≡ false → Known (unless b f)
+pub checked : (b : Bool) (f : Fault) → is_of_edits f ≡ false → Known (unless b f)
 checked true f is = is
 checked false f is = tt
 
@@ -69,7 +99,7 @@ pub either : {A : Type 0} (b : Bool) (r s : Result A Fault) → Known r → Know
 either true r s this that = this
 either false r s this that = that
 
-pub some_or : {A : Type 0} (o : Option A) (f : Fault) → is_struct f ≡ false → Known (ok_or o f)
+pub some_or : {A : Type 0} (o : Option A) (f : Fault) → is_of_edits f ≡ false → Known (ok_or o f)
 some_or (Some x) f is = tt
 some_or None f is = is
 
@@ -88,7 +118,7 @@ pub number_of : (v : Value) → Known (numbers.number_of v)
 number_of (value.One s) = number_in s
 number_of _ = refl
 
-pub fitted_number : (f : Fault) (n : ℤ) → is_struct f ≡ false → Known (numbers.fitted_number f n)
+pub fitted_number : (f : Fault) (n : ℤ) → is_of_edits f ≡ false → Known (numbers.fitted_number f n)
 fitted_number f n is = either (numbers.is_word n) (Ok n) (Err f) tt is
 
 pub count_in : (v : Value) → Known (numbers.count_in v)

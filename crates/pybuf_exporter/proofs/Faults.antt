@@ -1,6 +1,6 @@
--- No effect is refused with `StructError`, effect by effect.
-use Rattle.std.proofs.Common.{◌≡◌, ℕ, zero, suc, ◌+◌, ◌*◌, ◌/◌, ◌%◌, ◌^◌, ◌++◌, List, [], ◌∷◌, Bool, true, false, true≢false, refl, ap, ◌∙◌, sym, subst, length, map}
-use Rattle.std.specs.Prelude.{◌≢◌, ◌==◌, ◌&&◌, ◌||◌, not, reverse, ◌-◌, ℤ, pos, negsuc, Option, Some, None, Result, Ok, Err, nat_lt, nat_le, slice_get, slice_index, if◌then◌else◌}
+-- No effect is refused with `StructError`, and none but an edit with `BufferError`, effect by effect.
+use Rattle.std.proofs.Common.{◌≡◌, ℕ, zero, suc, ◌*◌, ◌/◌, ◌%◌, ◌^◌, List, [], ◌∷◌, Bool, true, false, true≢false, refl, ap, ◌∙◌, sym, subst, length, map}
+use Rattle.std.specs.Prelude.{◌≢◌, ◌==◌, ◌&&◌, ◌||◌, not, reverse, ◌-◌, ℤ, pos, negsuc, Option, Some, None, Result, Ok, Err, nat_lt, nat_le, slice_get, slice_index}
 use Rattle.std.specs.List.{list_all, position_or_len}
 use Rattle.std.specs.Option.{ok_or}
 use Rattle.pybuf_value.specs.declared.faults.Fault.{Fault}
@@ -19,12 +19,11 @@ use Rattle.pybuf_value.specs.Texts as texts
 use Rattle.pybuf_index.specs.Parts as parts
 use Rattle.pybuf_index.specs.Places as places
 use Rattle.pybuf_slice.specs.Edits.{is_one}
-use Rattle.pybuf_struct.specs.declared.table.FormatType.{FormatType}
 use Rattle.pybuf_struct.specs.declared.table.Endianness.TheVariants as order
 use Rattle.pybuf_struct.specs.Table.{size_of}
 use Rattle.pybuf_struct.specs.Packing.{packed_bytes}
 use Rattle.pybuf_struct.specs.Natives as natives
-use Rattle.pybuf_struct.specs.Formats.{Format, format_of}
+use Rattle.pybuf_struct.specs.Formats.{format_of}
 use Rattle.pybuf_desc.specs.Layouts.{Layout, product}
 use Rattle.pybuf_desc.specs.Slices.{first_entry}
 use Rattle.pybuf_desc.specs.Contiguous.{is_contiguous_layout}
@@ -60,14 +59,10 @@ use Rattle.pybuf_verbs_views.specs.Range as ranges
 use Rattle.pybuf_verbs_views.specs.View as views
 use Rattle.pybuf_verbs_views.specs.Slice.{slice_of_view}
 use Rattle.pybuf_verbs_views.specs.Release.{release_of_view}
-use Rattle.pybuf_verbs_views.specs.Enter.{enter_of_view}
-use Rattle.pybuf_verbs_views.specs.Contiguous.{contiguous_of_view}
-use Rattle.pybuf_verbs_views.specs.ToReadonly.{toreadonly_of_view}
 use Rattle.pybuf_verbs_reads.specs.Get as gets
 use Rattle.pybuf_verbs_reads.specs.ToBytes as orders
-use Rattle.pybuf_verbs_reads.specs.Len.{len_of_own, len_of_view}
+use Rattle.pybuf_verbs_reads.specs.Len.{len_of_view}
 use Rattle.pybuf_verbs_reads.specs.Property as properties
-use Rattle.pybuf_verbs_reads.specs.ToList.{list_of_view}
 use Rattle.pybuf_verbs_compare.specs.Compare as compares
 use Rattle.pybuf_verbs_compare.specs.Hash.{hash_of_own, hash_of_view}
 use Rattle.pybuf_verbs_compare.specs.Repr as reprs
@@ -82,14 +77,18 @@ use Rattle.pybuf_verbs_edits.specs.Common.{with_bytes, is_itself}
 use Rattle.pybuf_verbs_edits.specs.Growing as growing
 use Rattle.pybuf_verbs_edits.specs.Shrinking as shrinking
 use Rattle.pybuf_verbs_edits.specs.Replacing as replacing
-use Rattle.pybuf_verbs_edits.specs.Edits.{edit_of_own}
+use Rattle.pybuf_verbs_edits.specs.Edits.{edit_of_own, is_edit}
 use Rattle.pybuf_bytes.specs.Options.{bytes_of_options}
-use Rattle.pybuf_exporter.specs.Step.{get_of_view, set_through_view, set_in_own, effect_on_own, effect_on_view, effect, answer_by, estep, settled_answer}
+use Rattle.pybuf_exporter.specs.Step.{get_of_view, set_through_view, set_in_own, effect_on_own, effect_on_view, effect, answer_by, settled_answer}
 use Rattle.pybuf_exporter.specs.Laws.{StructErrorIsNeverReplied}
+use Rattle.pybuf_exporter.specs.Counting.{edits_by}
+use Rattle.pybuf_exporter.specs.Releasing.{BufferErrorIsOfEdits}
 use Rattle.pybuf_exporter.specs.Effects.{EffectsAreSafe}
 use Rattle.pybuf_exporter.proofs.Every.{IsStep, IsReplyTo, answered_step}
+use Rattle.pybuf_exporter.proofs.Counting.{no_edit}
+use Rattle.pybuf_exporter.proofs.Refusing.{effect_is_edit}
 use Rattle.pybuf_exporter.proofs.Arguments as given
-use Rattle.pybuf_exporter.proofs.Arguments.{is_struct, Known, bind, carried, checked, either, some_or}
+use Rattle.pybuf_exporter.proofs.Arguments.{is_struct, is_of_edits, Known, Edited, also, bind, carried, checked, either, some_or, edit_bind, edit_checked, edit_either}
 
 -- ---- what effects begin with
 
@@ -130,12 +129,16 @@ parts_of slice = bind (parts.step_in slice.step) _ (step_in slice.step) (λ step
 slice_parts : (slice : PySlice) → Known (parts.saturated_parts_of slice)
 slice_parts slice = bind (parts.parts_of slice) _ (parts_of slice) (λ p. tt)
 
-resize : (e : Exporter) → Known (resizable e)
-resize e = checked (has_exports e) fault.Buffer refl
+resize : (e : Exporter) → Edited (resizable e)
+resize e = edit_checked (has_exports e) fault.Buffer refl
 
 byte_array_alone : {X : Type 0} (k : ExporterKind) (r : Result X Fault) → Known r → Known (of_byte_array k r)
 byte_array_alone kind.ByteArray r known = known
 byte_array_alone _ r known = refl
+
+edit_byte_array : {X : Type 0} (k : ExporterKind) (r : Result X Fault) → Edited r → Edited (of_byte_array k r)
+edit_byte_array kind.ByteArray r known = known
+edit_byte_array _ r known = refl
 
 -- ---- keys of views
 
@@ -417,100 +420,108 @@ of_iterator e k _ = refl
 
 -- ---- edits
 
-append : (e : Exporter) (v : Value) → Known (growing.appended e v)
-append e v = bind (numbers.byte_in v) _ (given.byte_in v) (λ byte. bind (resizable e) _ (resize e) (λ _. tt))
+append : (e : Exporter) (v : Value) → Edited (growing.appended e v)
+append e v = edit_bind (numbers.byte_in v) _ (also _ (given.byte_in v)) (λ byte. edit_bind (resizable e) _ (resize e) (λ _. tt))
 
-insert : (e : Exporter) (index v : Value) → Known (growing.inserted e index v)
-insert e index v = bind (numbers.count_in index) _ (given.count_in index) (λ n. bind (numbers.byte_in v) _ (given.byte_in v) (λ byte. bind (resizable e) _ (resize e) (λ _. tt)))
+insert : (e : Exporter) (index v : Value) → Edited (growing.inserted e index v)
+insert e index v = edit_bind (numbers.count_in index) _ (also _ (given.count_in index)) (λ n. edit_bind (numbers.byte_in v) _ (also _ (given.byte_in v)) (λ byte. edit_bind (resizable e) _ (resize e) (λ _. tt)))
 
-repeat : (e : Exporter) (n : ℕ) → Known (growing.repeated e n)
-repeat e n = bind (resizable e) _ (resize e) (λ _. bind (unless (not (nat_lt (length e.bytes * n) (2 ^ 63))) fault.Overflow) _ (checked _ fault.Overflow refl) (λ _. tt))
+repeat : (e : Exporter) (n : ℕ) → Edited (growing.repeated e n)
+repeat e n = edit_bind (resizable e) _ (resize e) (λ _. edit_bind (unless (not (nat_lt (length e.bytes * n) (2 ^ 63))) fault.Overflow) _ (edit_checked _ fault.Overflow refl) (λ _. tt))
 
-repeat_some : (e : Exporter) (n : ℕ) → Known (growing.repeated_unless_empty e n)
-repeat_some e n = either (length e.bytes == 0) (Ok (e, reply.Ok)) (growing.repeated e n) tt (repeat e n)
+repeat_some : (e : Exporter) (n : ℕ) → Edited (growing.repeated_unless_empty e n)
+repeat_some e n = edit_either (length e.bytes == 0) (Ok (e, reply.Ok)) (growing.repeated e n) tt (repeat e n)
 
-multiply : (e : Exporter) (v : Value) → Known (growing.multiplied e v)
-multiply e v = bind (numbers.count_in v) _ (given.count_in v) (λ n. either (is_one n) (Ok (e, reply.Ok)) (growing.repeated_unless_empty e (numbers.times n)) tt (repeat_some e (numbers.times n)))
+multiply : (e : Exporter) (v : Value) → Edited (growing.multiplied e v)
+multiply e v = edit_bind (numbers.count_in v) _ (also _ (given.count_in v)) (λ n. edit_either (is_one n) (Ok (e, reply.Ok)) (growing.repeated_unless_empty e (numbers.times n)) tt (repeat_some e (numbers.times n)))
 
-extend : (e : Exporter) (v : Value) (lents : List Lent) → Known (growing.extended_or_doubled e v lents)
+extend : (e : Exporter) (v : Value) (lents : List Lent) → Edited (growing.extended_or_doubled e v lents)
 extend e v lents =
-    either (is_itself v lents) (growing.repeated_unless_empty e 2) (growing.extended e v lents) (repeat_some e 2)
-    (bind (snaps.bytes_in (snaps_of lents) v) _ (given.bytes_in (snaps_of lents) v) (λ bytes. bind (resizable e) _ (resize e) (λ _. tt)))
+    edit_either (is_itself v lents) (growing.repeated_unless_empty e 2) (growing.extended e v lents) (repeat_some e 2)
+    (edit_bind (snaps.bytes_in (snaps_of lents) v) _ (also _ (given.bytes_in (snaps_of lents) v)) (λ bytes. edit_bind (resizable e) _ (resize e) (λ _. tt)))
 
-add : (e : Exporter) (v : Value) (lents : List Lent) → Known (growing.added e v lents)
-add e v lents = bind (snaps.like_in (snaps_of lents) v) _ (given.like_in (snaps_of lents) v) (λ bytes. bind (unless (is_itself v lents) fault.Buffer) _ (checked _ fault.Buffer refl) (λ _. bind (resizable e) _ (resize e) (λ _. tt)))
+add : (e : Exporter) (v : Value) (lents : List Lent) → Edited (growing.added e v lents)
+add e v lents = edit_bind (snaps.like_in (snaps_of lents) v) _ (also _ (given.like_in (snaps_of lents) v)) (λ bytes. edit_bind (unless (is_itself v lents) fault.Buffer) _ (edit_checked _ fault.Buffer refl) (λ _. edit_bind (resizable e) _ (resize e) (λ _. tt)))
 
-pop : (e : Exporter) (index : Option Value) → Known (shrinking.popped e index)
-pop e index = bind (shrinking.count_or_last index) _ (given.count_or (negsuc 0) index) (λ n. bind (resizable e) _ (resize e) (λ _. bind (places.entry_in (length e.bytes) n) _ (entry_in (length e.bytes) n) (λ place. tt)))
+pop : (e : Exporter) (index : Option Value) → Edited (shrinking.popped e index)
+pop e index = edit_bind (shrinking.count_or_last index) _ (also _ (given.count_or (negsuc 0) index)) (λ n. edit_bind (resizable e) _ (resize e) (λ _. edit_bind (places.entry_in (length e.bytes) n) _ (also _ (entry_in (length e.bytes) n)) (λ place. tt)))
 
-remove : (e : Exporter) (v : Value) → Known (shrinking.removed e v)
-remove e v = bind (numbers.byte_in v) _ (given.byte_in v) (λ byte. bind (resizable e) _ (resize e) (λ _. bind (unless (not (nat_lt (position_or_len (λ b. b == byte) e.bytes) (length e.bytes))) fault.Value) _ (checked _ fault.Value refl) (λ _. tt)))
+remove : (e : Exporter) (v : Value) → Edited (shrinking.removed e v)
+remove e v = edit_bind (numbers.byte_in v) _ (also _ (given.byte_in v)) (λ byte. edit_bind (resizable e) _ (resize e) (λ _. edit_bind (unless (not (nat_lt (position_or_len (λ b. b == byte) e.bytes) (length e.bytes))) fault.Value) _ (edit_checked _ fault.Value refl) (λ _. tt)))
 
-byte_deleted : (e : Exporter) (key : Value) → Known (shrinking.byte_deleted e key)
-byte_deleted e key = bind (items.index_in key) _ (index_in key) (λ index. bind (resizable e) _ (resize e) (λ _. bind (places.entry_in (length e.bytes) index) _ (entry_in (length e.bytes) index) (λ place. tt)))
+byte_deleted : (e : Exporter) (key : Value) → Edited (shrinking.byte_deleted e key)
+byte_deleted e key = edit_bind (items.index_in key) _ (also _ (index_in key)) (λ index. edit_bind (resizable e) _ (resize e) (λ _. edit_bind (places.entry_in (length e.bytes) index) _ (also _ (entry_in (length e.bytes) index)) (λ place. tt)))
 
-delete : (e : Exporter) (key : Value) → Known (shrinking.deleted e key)
-delete e (value.Slice s) = bind (parts.saturated_parts_of s) _ (slice_parts s) (λ p. bind (resizable e) _ (resize e) (λ _. tt))
+delete : (e : Exporter) (key : Value) → Edited (shrinking.deleted e key)
+delete e (value.Slice s) = edit_bind (parts.saturated_parts_of s) _ (also _ (slice_parts s)) (λ p. edit_bind (resizable e) _ (resize e) (λ _. tt))
 delete e key = byte_deleted e key
 
 delete_of_view : (e : Exporter) (k : ℕ) → Known (shrinking.delete_of_view e k)
 delete_of_view e k = bind (state.live_layout e k) _ (live e k) (λ layout. refl)
 
-take : (e : Exporter) → Known (shrinking.take_of_own e)
-take e = either (is_vector e.kind) (shrinking.taken e) (Err fault.UnknownName) (bind (resizable e) _ (resize e) (λ _. tt)) refl
+take : (e : Exporter) → Edited (shrinking.take_of_own e)
+take e = edit_either (is_vector e.kind) (shrinking.taken e) (Err fault.UnknownName) (edit_bind (resizable e) _ (resize e) (λ _. tt)) refl
 
-initialize : (e : Exporter) (o : ByteInnerNewOptions) (lents : List Lent) → Known (replacing.initialized e o lents)
-initialize e o lents = bind (bytes_of_options (snaps_of lents) o.source o.encoding o.errors) _ (given.bytes_of_options (snaps_of lents) o.source o.encoding o.errors) (λ bytes. bind (resizable e) _ (resize e) (λ _. tt))
+initialize : (e : Exporter) (o : ByteInnerNewOptions) (lents : List Lent) → Edited (replacing.initialized e o lents)
+initialize e o lents = edit_bind (bytes_of_options (snaps_of lents) o.source o.encoding o.errors) _ (also _ (given.bytes_of_options (snaps_of lents) o.source o.encoding o.errors)) (λ bytes. edit_bind (resizable e) _ (resize e) (λ _. tt))
 
-set_slice : (e : Exporter) (s : PySlice) (v : Value) (lents : List Lent) → Known (replacing.slice_set e s v lents)
+set_slice : (e : Exporter) (s : PySlice) (v : Value) (lents : List Lent) → Edited (replacing.slice_set e s v lents)
 set_slice e s v lents =
-    bind (parts.saturated_parts_of s) _ (slice_parts s) (λ p.
-    bind (snaps.bytes_in (snaps_of lents) v) _ (given.bytes_in (snaps_of lents) v) (λ bytes.
-    bind (unless (has_exports e && not (length (parts.picks_of (length e.bytes) p) == length bytes)) fault.Buffer) _ (checked _ fault.Buffer refl) (λ _.
-    bind (unless (not (is_one p.step) && not (length (parts.picks_of (length e.bytes) p) == length bytes)) fault.Value) _ (checked _ fault.Value refl) (λ _. tt))))
+    edit_bind (parts.saturated_parts_of s) _ (also _ (slice_parts s)) (λ p.
+    edit_bind (snaps.bytes_in (snaps_of lents) v) _ (also _ (given.bytes_in (snaps_of lents) v)) (λ bytes.
+    edit_bind (unless (has_exports e && not (length (parts.picks_of (length e.bytes) p) == length bytes)) fault.Buffer) _ (edit_checked _ fault.Buffer refl) (λ _.
+    edit_bind (unless (not (is_one p.step) && not (length (parts.picks_of (length e.bytes) p) == length bytes)) fault.Value) _ (edit_checked _ fault.Value refl) (λ _. tt))))
 
-set_by_key : (e : Exporter) (key v : Value) (lents : List Lent) → Known (edit_of_own e (verb.Set key v) lents)
-set_by_key e (value.Slice s) v lents = byte_array_alone e.kind (replacing.slice_set e s v lents) (set_slice e s v lents)
+set_by_key : (e : Exporter) (key v : Value) (lents : List Lent) → Edited (edit_of_own e (verb.Set key v) lents)
+set_by_key e (value.Slice s) v lents = edit_byte_array e.kind (replacing.slice_set e s v lents) (set_slice e s v lents)
 set_by_key e _ v lents = refl
 
-edit : (e : Exporter) (v : Verb) (lents : List Lent) → Known (edit_of_own e v lents)
-edit e (verb.Append v) lents = byte_array_alone e.kind (growing.appended e v) (append e v)
-edit e (verb.Extend v) lents = byte_array_alone e.kind (growing.extended_or_doubled e v lents) (extend e v lents)
-edit e (verb.Insert index v) lents = byte_array_alone e.kind (growing.inserted e index v) (insert e index v)
-edit e (verb.Pop index) lents = byte_array_alone e.kind (shrinking.popped e index) (pop e index)
-edit e (verb.Remove v) lents = byte_array_alone e.kind (shrinking.removed e v) (remove e v)
-edit e verb.Clear lents = byte_array_alone e.kind (shrinking.cleared e) (bind (resizable e) _ (resize e) (λ _. tt))
-edit e verb.Reverse lents = byte_array_alone e.kind (Ok (with_bytes e (reverse e.bytes))) tt
-edit e (verb.Del key) lents = byte_array_alone e.kind (shrinking.deleted e key) (delete e key)
-edit e (verb.IAdd v) lents = byte_array_alone e.kind (growing.added e v lents) (add e v lents)
-edit e (verb.IMul v) lents = byte_array_alone e.kind (growing.multiplied e v) (multiply e v)
-edit e (verb.Init o) lents = byte_array_alone e.kind (replacing.initialized e o lents) (initialize e o lents)
+edit : (e : Exporter) (v : Verb) (lents : List Lent) → Edited (edit_of_own e v lents)
+edit e (verb.Append v) lents = edit_byte_array e.kind (growing.appended e v) (append e v)
+edit e (verb.Extend v) lents = edit_byte_array e.kind (growing.extended_or_doubled e v lents) (extend e v lents)
+edit e (verb.Insert index v) lents = edit_byte_array e.kind (growing.inserted e index v) (insert e index v)
+edit e (verb.Pop index) lents = edit_byte_array e.kind (shrinking.popped e index) (pop e index)
+edit e (verb.Remove v) lents = edit_byte_array e.kind (shrinking.removed e v) (remove e v)
+edit e verb.Clear lents = edit_byte_array e.kind (shrinking.cleared e) (edit_bind (resizable e) _ (resize e) (λ _. tt))
+edit e verb.Reverse lents = edit_byte_array e.kind (Ok (with_bytes e (reverse e.bytes))) tt
+edit e (verb.Del key) lents = edit_byte_array e.kind (shrinking.deleted e key) (delete e key)
+edit e (verb.IAdd v) lents = edit_byte_array e.kind (growing.added e v lents) (add e v lents)
+edit e (verb.IMul v) lents = edit_byte_array e.kind (growing.multiplied e v) (multiply e v)
+edit e (verb.Init o) lents = edit_byte_array e.kind (replacing.initialized e o lents) (initialize e o lents)
 edit e verb.Take lents = take e
-edit e verb.Copy lents = byte_array_alone e.kind (Ok (e, reply.Fresh (snap_of_exporter e))) tt
+edit e verb.Copy lents = edit_byte_array e.kind (Ok (e, reply.Fresh (snap_of_exporter e))) tt
 edit e (verb.Set key v) lents = set_by_key e key v lents
 edit e _ lents = refl
 
-set_own_by_key : (e : Exporter) (key v : Value) (lents : List Lent) → Known (set_in_own e key v lents)
-set_own_by_key e (value.Slice s) v lents = set_by_key e (value.Slice s) v lents
-set_own_by_key e key v lents = set_own e key v
-
 -- ---- a line for each effect
 
-of_own : (e : Exporter) (v : Verb) (lents : List Lent) → Known (effect_on_own e v lents)
-of_own e verb.View lents = tt
-of_own e (verb.Range from to) lents = range e from to
-of_own e (verb.Get key) lents = in_kind e.kind (gets.part_of_own e key) (part_of_own e key)
-of_own e (verb.Set key v) lents = set_own_by_key e key v lents
-of_own e (verb.ToBytes order) lents = bytes_own e order
-of_own e verb.Len lents = tt
-of_own e (verb.Property p) lents = property_of_own e p
-of_own e (verb.Compare op other) lents = compare_own e op other lents
-of_own e verb.Hash lents = hash_own e
-of_own e verb.Repr lents = repr_own e
-of_own e verb.Iter lents = iter_own e
-of_own e (verb.Contains v) lents = contains e v (snaps_of lents)
-of_own e (verb.Call c) lents = call e c (snaps_of lents)
-of_own e v lents = edit e v lents
+set_own_by_key : (e : Exporter) (key v : Value) (lents : List Lent) → is_edit (verb.Set key v) ≡ false → Known (set_in_own e key v lents)
+set_own_by_key e (value.Slice s) v lents is = absurd (true≢false is)
+set_own_by_key e key v lents is = set_own e key v
+
+-- what is no edit
+plain_own : (e : Exporter) (v : Verb) (lents : List Lent) → is_edit v ≡ false → Known (effect_on_own e v lents)
+plain_own e verb.View lents is = tt
+plain_own e (verb.Range from to) lents is = range e from to
+plain_own e (verb.Get key) lents is = in_kind e.kind (gets.part_of_own e key) (part_of_own e key)
+plain_own e (verb.Set key v) lents is = set_own_by_key e key v lents is
+plain_own e (verb.ToBytes order) lents is = bytes_own e order
+plain_own e verb.Len lents is = tt
+plain_own e (verb.Property p) lents is = property_of_own e p
+plain_own e (verb.Compare op other) lents is = compare_own e op other lents
+plain_own e verb.Hash lents is = hash_own e
+plain_own e verb.Repr lents is = repr_own e
+plain_own e verb.Iter lents is = iter_own e
+plain_own e (verb.Contains v) lents is = contains e v (snaps_of lents)
+plain_own e (verb.Call c) lents is = call e c (snaps_of lents)
+plain_own e v lents is = subst Known (sym (no_edit e v lents is)) refl
+
+own_by : (e : Exporter) (v : Verb) (lents : List Lent) (is : Bool) → is_edit v ≡ is → Edited (effect_on_own e v lents)
+own_by e v lents true is = subst Edited (sym (effect_is_edit e v lents is)) (edit e v lents)
+own_by e v lents false is = also (effect_on_own e v lents) (plain_own e v lents is)
+
+of_own : (e : Exporter) (v : Verb) (lents : List Lent) → Edited (effect_on_own e v lents)
+of_own e v lents = own_by e v lents (is_edit v) refl
 
 of_view : (e : Exporter) (k : ℕ) (v : Verb) (lents : List Lent) → Known (effect_on_view e k v lents)
 of_view e k verb.View lents = view e k
@@ -535,29 +546,45 @@ of_view e k verb.Iter lents = one_live e k _
 of_view e k (verb.Hex sep group) lents = hex e k sep group (snaps_of lents)
 of_view e k _ lents = refl
 
-effects : (e : Exporter) (s : Subject) (v : Verb) (lents : List Lent) → Known (effect e s v lents)
+effects : (e : Exporter) (s : Subject) (v : Verb) (lents : List Lent) → Edited (effect e s v lents)
 effects e subject.Own v lents = of_own e v lents
-effects e (subject.View k) v lents = of_view e k v lents
-effects e (subject.Iter k) v lents = of_iterator e k v
+effects e (subject.View k) v lents = also (effect_on_view e k v lents) (of_view e k v lents)
+effects e (subject.Iter k) v lents = also (iterators.effect_on_iterator e k v) (of_iterator e k v)
 
-pub answers : (e : Exporter) (s : Subject) (v : Verb) (named : ℕ → Option Loan) → Known (answer_by e s v named)
-answers e s v named = either (are_named e named (handles_of v)) (effect e s v (lents_by e named (handles_read s v))) (Err fault.UnknownName) (effects e s v (lents_by e named (handles_read s v))) refl
+plain_effects : (e : Exporter) (s : Subject) (v : Verb) (lents : List Lent) → edits_by s v ≡ false → Known (effect e s v lents)
+plain_effects e subject.Own v lents is = plain_own e v lents is
+plain_effects e (subject.View k) v lents is = of_view e k v lents
+plain_effects e (subject.Iter k) v lents is = of_iterator e k v
+
+pub answers : (e : Exporter) (s : Subject) (v : Verb) (named : ℕ → Option Loan) → Edited (answer_by e s v named)
+answers e s v named = edit_either (are_named e named (handles_of v)) (effect e s v (lents_by e named (handles_read s v))) (Err fault.UnknownName) (effects e s v (lents_by e named (handles_read s v))) refl
+
+plain_answers : (e : Exporter) (s : Subject) (v : Verb) (named : ℕ → Option Loan) → edits_by s v ≡ false → Known (answer_by e s v named)
+plain_answers e s v named is =
+    either (are_named e named (handles_of v)) (effect e s v (lents_by e named (handles_read s v))) (Err fault.UnknownName) (plain_effects e s v (lents_by e named (handles_read s v)) is) refl
 
 -- ---- replies
 
 other_fault : (f : Fault) → is_struct f ≡ false → f ≢ fault.Struct
 other_fault f known same = true≢false (sym (ap is_struct same) ∙ known)
 
-settled : (e : Exporter) (s : Subject) (v : Verb) (r : Result (Exporter × LocalReply) Fault) → IfDone (IsStep e s v) r → Known r → (settled_answer e r).1 ≢ reply.Refused fault.Struct
+settled : (e : Exporter) (s : Subject) (v : Verb) (r : Result (Exporter × LocalReply) Fault) → IfDone (IsStep e s v) r → Edited r → (settled_answer e r).1 ≢ reply.Refused fault.Struct
 settled e s v (Ok after) step known is = absurd (subst (IsReplyTo e s after.0) is step.replies)
 settled e s v (Err f) step known is = let same : f ≡ fault.Struct = cc in other_fault f known same
 
-not_refused : {A : Type 0} (r : Result A Fault) → Known r → r ≢ Err fault.Struct
+not_refused : {A : Type 0} (r : Result A Fault) → Edited r → r ≢ Err fault.Struct
 not_refused (Ok x) known is = cc
 not_refused (Err f) known is = let same : f ≡ fault.Struct = cc in other_fault f known same
 
 pub never_replied : EffectsAreSafe → ReadingKeeps → StructErrorIsNeverReplied
 never_replied safe reading = record {
   commands = λ e s v loans. settled e s v (answer_by e s v (names_of loans)) (answered_step safe reading e s v loans) (answers e s v (names_of loans));
-  options = λ pairs source encoding errors. not_refused (bytes_of_options pairs source encoding errors) (given.bytes_of_options pairs source encoding errors);
+  options = λ pairs source encoding errors. not_refused (bytes_of_options pairs source encoding errors) (also _ (given.bytes_of_options pairs source encoding errors));
 }
+
+settled_plain : (e : Exporter) (s : Subject) (v : Verb) (r : Result (Exporter × LocalReply) Fault) → IfDone (IsStep e s v) r → Known r → (settled_answer e r).1 ≢ reply.Refused fault.Buffer
+settled_plain e s v (Ok after) step known is = absurd (subst (IsReplyTo e s after.0) is step.replies)
+settled_plain e s v (Err f) step known is = let same : f ≡ fault.Buffer = cc in true≢false (sym (ap is_of_edits same) ∙ known)
+
+pub edits_alone : EffectsAreSafe → ReadingKeeps → BufferErrorIsOfEdits
+edits_alone safe reading e s v loans other = settled_plain e s v (answer_by e s v (names_of loans)) (answered_step safe reading e s v loans) (plain_answers e s v (names_of loans) other)

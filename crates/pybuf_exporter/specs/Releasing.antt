@@ -1,8 +1,9 @@
 -- What a released view still does to its exporter: it stops nothing. And when a command makes a view.
-use Rattle.std.specs.Prelude.{◌≡◌, ◌↔◌, ℕ, List, true, false, Ok, Err, Some, slice_get}
+use Rattle.std.specs.Prelude.{◌≡◌, ◌≢◌, ◌↔◌, ℕ, List, true, false, Ok, Err, Some, slice_get}
 use Rattle.pybuf_value.specs.declared.faults.Fault.{Fault}
 use Rattle.pybuf_value.specs.declared.faults.Fault.TheVariants as fault
 use Rattle.pybuf_desc.specs.Layouts.{Layout}
+use Rattle.pybuf_command.specs.declared.kinds.Subject.{Subject}
 use Rattle.pybuf_command.specs.declared.kinds.Subject.TheVariants as subject
 use Rattle.pybuf_command.specs.declared.commands.Verb.{Verb}
 use Rattle.pybuf_command.specs.declared.commands.Verb.TheVariants as verb
@@ -13,6 +14,7 @@ use Rattle.pybuf_state.specs.Resizing.{has_exports}
 use Rattle.pybuf_verbs_edits.specs.Edits.{is_edit}
 use Rattle.pybuf_exporter.specs.Step.{estep}
 use Rattle.pybuf_exporter.specs.Laws.{AddsItself}
+use Rattle.pybuf_exporter.specs.Counting.{edits_by}
 
 -- every view that was made of an exporter is released; so it is where none was made
 abbrev pub AreReleased : Exporter → Type 0
@@ -27,6 +29,10 @@ ReleasedViewsDontCount = (e : Exporter) → (has_exports e ≡ false) ↔ AreRel
 abbrev pub ReleasedViewsStopNoEdit : Type 0
 ReleasedViewsStopNoEdit =
     (e : Exporter) (v : Verb) (loans : List (ℕ × Loan)) → AreReleased e → is_edit v ≡ true → (estep e subject.Own v loans).1 ≡ reply.Refused fault.Buffer → AddsItself e v loans
+
+-- No other command is refused with `BufferError`, whatever views there are.
+abbrev pub BufferErrorIsOfEdits : Type 0
+BufferErrorIsOfEdits = (e : Exporter) (s : Subject) (v : Verb) (loans : List (ℕ × Loan)) → edits_by s v ≡ false → (estep e s v loans).1 ≢ reply.Refused fault.Buffer
 
 -- `view` of an exporter makes a view of all its bytes, always. `view` of a view that was given and is unreleased makes
 -- one of the same items. The new view is unreleased and has the next number, which is the reply, and nothing else

@@ -7,7 +7,7 @@ ghost use Rattle.pybuf_exporter.specs.Laws.{CommandsKeepItemsApart, RepliedNames
 ghost use Rattle.pybuf_exporter.specs.Owning.{OwningRepliesChangeNothing, TakenBytesAreAll, NextIsUndone, NoIteratorHasNoNext};
 ghost use Rattle.pybuf_exporter.specs.Effects.{EffectsAreSafe, StepsKeepSound};
 ghost use Rattle.pybuf_exporter.specs.Counting.{QueuesMoveFewBytes};
-ghost use Rattle.pybuf_exporter.specs.Releasing.{ReleasedViewsDontCount, ReleasedViewsStopNoEdit, ViewsAreReplied};
+ghost use Rattle.pybuf_exporter.specs.Releasing.{ReleasedViewsDontCount, ReleasedViewsStopNoEdit, BufferErrorIsOfEdits, ViewsAreReplied};
 ghost use Rattle.pybuf_exporter.specs.Handles.{UnknownHandlesAreRefused, UnlentHandlesAreRefused};
 
 /// Each effect keeps a sound exporter, or replies a copy.
@@ -280,6 +280,15 @@ pub fn released_views_stop_no_edit()
 {
     resizing_is_refused_while_exported();
     unknown_handles_are_refused();
+}
+
+/// No command but an edit of an exporter itself is refused with `BufferError`: a view is released, written through and
+/// cast while another is unreleased.
+pub fn buffer_error_is_of_edits()
+    ensures { BufferErrorIsOfEdits }
+{
+    effects_are_safe();
+    pybuf_state::reading_keeps();
 }
 
 /// `view` of an exporter is never refused, and neither is that of an unreleased view: each makes one more view, which
