@@ -282,8 +282,8 @@ pub fn released_views_stop_no_edit()
     unknown_handles_are_refused();
 }
 
-/// No command but an edit of an exporter itself is refused with `BufferError`: a view is released, written through and
-/// cast while another is unreleased.
+/// No command but an edit of an exporter itself is refused with `BufferError`.
+/// Example: while a view is unreleased, another is released, written through and cast.
 pub fn buffer_error_is_of_edits()
     ensures { BufferErrorIsOfEdits }
 {
