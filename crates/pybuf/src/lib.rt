@@ -150,6 +150,7 @@ pub use pybuf_slice::SequenceExt;
 pub use pybuf_slice::SequenceMutExt;
 pub use pybuf_slice::SliceableSequenceMutOp;
 pub use pybuf_slice::SliceableSequenceOp;
+pub use pybuf_slice::adding_is_paid_by_room;
 pub use pybuf_slice::any_number_takes_the_place;
 pub use pybuf_slice::as_many_are_read_back;
 pub use pybuf_slice::as_many_keep_the_length;

@@ -5,3 +5,4 @@ pub mod PartedLemmas
 pub mod LengthLemmas
 pub mod SetLemmas
 pub mod FrontLemmas
+pub mod RoomLemmas

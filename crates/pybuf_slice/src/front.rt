@@ -57,7 +57,7 @@ impl FrontBytes {
     ghost use Rattle.std.specs.Borrow.{sem};
     ghost use Rattle.pybuf_slice.specs.Edits.{replaced_range};
     ghost use Rattle.pybuf_slice.specs.Front.{LendsItems, LendsItemsFrom, LendsVector};
-    ghost use Rattle.pybuf_slice.specs.FrontContent.{IsSpare};
+    ghost use Rattle.pybuf_slice.specs.FrontContent.{moved_down, room_kept};
 
     /// The bytes of a vector, without room. Takes no memory.
     ///
@@ -131,17 +131,17 @@ impl FrontBytes {
         self.room += n;
     }
 
-    /// Adds bytes at the end. Where there was as much room as bytes, they are first moved to the start, so
-    /// that afterwards there is no room, or less than there are bytes.
+    /// Adds bytes at the end. Where there was as much room as bytes, or more, all are first moved to the
+    /// start, each once, and no room is left; else none moves, and the room stays. So each byte that is moved
+    /// uses up a byte of room (the law `adding_is_paid_by_room`).
     ///
     /// Where memory runs out, bytes, room and counter are as before.
     ///
     /// Example: with `b"cd"` `b"ab"` becomes `b"abcd"`.
     pub fn push_all<L: Ledger>(&mut self, items: &[u8], moved: &mut Steps<L>) -> Made<()>
         ensures items { OnOk result (self.new.items ≡ self.old.items ++ items.now) }
-        ensures counter { OnOk result (moved.new + self.new.room ≤ moved.old + self.old.room) }
-        ensures few { OnOk result (moved.new ≤ moved.old + length self.old.items) }
-        ensures spare { OnOk result (IsSpare self.new) }
+        ensures room { OnOk result (self.new.room ≡ room_kept self.old) }
+        ensures counter { OnOk result (moved.new ≡ moved.old + moved_down self.old) }
         ensures err { OnErr result (self.new ≡ self.old) }
         ensures err_counter { OnErr result (moved.new ≡ moved.old) }
     {

@@ -14,8 +14,8 @@ pub use edit_ops::{SequenceExt, SequenceMutExt, SliceableSequenceMutOp};
 pub use edits::close_up;
 pub use front::FrontBytes;
 pub use laws::{
-    any_number_takes_the_place, as_many_are_read_back, as_many_keep_the_length,
-    reading_and_deleting_part_a_list,
+    adding_is_paid_by_room, any_number_takes_the_place, as_many_are_read_back,
+    as_many_keep_the_length, reading_and_deleting_part_a_list,
 };
 pub use pybuf_index::{
     OptionalRangeArgs, SaturatedSlice, SaturatedSliceIter, SequenceIndex, SequenceIndexOp,
