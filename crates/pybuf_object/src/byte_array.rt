@@ -524,6 +524,12 @@ impl PyByteArray {
 impl BufferResizeGuard for PyByteArray {
     ghost exporter = { λ b. b };
 
+    ghost resized = { resized_exporter };
+
+    ghost keeps_the_rest = { λ b bytes. refl };
+
+    ghost use Rattle.std.specs.Prelude.{refl};
+    ghost use Rattle.pybuf_exporter.specs.Lending.{resized_exporter};
     ghost use Rattle.pybuf_object.specs.Lending.{LendsAllIfOk, LendsAllIfSome};
 
     fn try_resizable_opt(&mut self) -> Option<&mut Vec<u8>>
