@@ -18,9 +18,9 @@ pub trait BufferResizeGuard {
     /// What it is with other bytes, of any number, in place of its own.
     ghost resized: { Self → Bytes → Self };
 
-    /// The bytes, lent to be changed in any way, in number too. Views and iterators stay. It is None exactly
-    /// where a view is unreleased. When the loan ends, the bytes that were left behind it are its bytes; where
-    /// nothing is lent, it stays. Takes no memory.
+    /// The bytes, lent to be changed in any way, in number too. Views and iterators stay. When the loan ends, what was
+    /// left behind it are its bytes. It is None exactly where a view is unreleased, and nothing is changed then. Takes
+    /// no memory.
     /// Example: of `bytearray(b"abc")` with an unreleased view it is None.
     fn try_resizable_opt(&mut self) -> Option<&mut Vec<u8>>
         requires { (exporter self.old).kind ≡ kinds.ByteArray }
