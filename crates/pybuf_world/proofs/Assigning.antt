@@ -81,7 +81,7 @@ lent_when w i x h rest (inl same) is =
     ap (λ (b : Bool). if b then Some (loan_for w i x) else rest) same.0 ∙ ap (λ (n : ℕ). let lent : Option Loan = Some (loan_for w i n) in lent) same.1
 lent_when w i x h rest (inr other) is = ap (λ (b : Bool). if b then Some (loan_for w i x) else rest) other.0 ∙ is
 
-lent_last : (w : World) (i : ℕ) (before : List ℕ) (h : ℕ) → loan_of (map (λ handle. (handle, loan_for w i handle)) (before ++ h ∷ [])) h ≡ Some (loan_for w i h)
+pub lent_last : (w : World) (i : ℕ) (before : List ℕ) (h : ℕ) → loan_of (map (λ handle. (handle, loan_for w i handle)) (before ++ h ∷ [])) h ≡ Some (loan_for w i h)
 lent_last w i [] h = ap (λ (b : Bool). if b then Some (loan_for w i h) else None) (eq-eqb h h refl)
 lent_last w i (x ∷ before) h = lent_when w i x h (loan_of (map (λ handle. (handle, loan_for w i handle)) (before ++ h ∷ [])) h) (eqb_tells x h) (lent_last w i before h)
 
@@ -171,7 +171,7 @@ snap_by_lender w e i n (inr other) found =
     ap (λ (b : Bool). snap_in e (Some (if b then loan_of_own (subject_of n) else loan_of_other (slice_get w.exporters (exporter_of n)) (subject_of n)))) other.0
     ∙ other_snap e (slice_get w.exporters (exporter_of n)) (subject_of n)
 
-snap_by_name : (w : World) (e : Exporter) (i : ℕ) (o : Option Named) → slice_get w.exporters i ≡ Some e → snap_in e (Some (loan_of_name w i o)) ≡ snap_of_name w o
+pub snap_by_name : (w : World) (e : Exporter) (i : ℕ) (o : Option Named) → slice_get w.exporters i ≡ Some e → snap_in e (Some (loan_of_name w i o)) ≡ snap_of_name w o
 snap_by_name w e i None found = refl
 snap_by_name w e i (Some n) found = snap_by_lender w e i n (eqb_tells (exporter_of n) i) found
 
@@ -190,7 +190,7 @@ same_source w e i slice (value.Slices parts) found = refl
 
 -- ---- the step
 
-pair_not : (b : Bool) (n : ℕ) → reply_with_copy b n ≡ reply.Ok → ⊥
+pub pair_not : (b : Bool) (n : ℕ) → reply_with_copy b n ≡ reply.Ok → ⊥
 pair_not true n is = absurd (cc)
 pair_not false n is = absurd (cc)
 
@@ -213,18 +213,18 @@ only_ok w t local.Stop is = absurd (cc)
 only_ok w t (local.Fresh snap) is = absurd (pair_not (has_view snap.kind) (length w.handles) is)
 only_ok w t (local.Refused f) is = absurd (cc)
 
-record IsDone (w new : World) (t : Target) (answer : Exporter × LocalReply) : Type 0 where
-  after : Exporter
-  replied : answer ≡ (after, local.Ok)
-  stands : new ≡ record w { exporters = set w.exporters t.exporter after }
+pub record IsDone (w new : World) (t : Target) (answer : Exporter × LocalReply) : Type 0 where
+  pub after : Exporter
+  pub replied : answer ≡ (after, local.Ok)
+  pub stands : new ≡ record w { exporters = set w.exporters t.exporter after }
 
-done_so : (w new : World) (t : Target) (answer : Exporter × LocalReply) → world_after w t answer ≡ (new, reply.Ok) → IsDone w new t answer
+pub done_so : (w new : World) (t : Target) (answer : Exporter × LocalReply) → world_after w t answer ≡ (new, reply.Ok) → IsDone w new t answer
 done_so w new t (after, r) is =
     let ok : r ≡ local.Ok = only_ok w t r (ap (λ (x : World × Reply). x.1) is) in
     let changed : (world_after w t (after, local.Ok)).0 ≡ new = ap (λ (x : LocalReply). (world_after w t (after, x)).0) (sym ok) ∙ ap (λ (x : World × Reply). x.0) is in
     record { after = after; replied = ap (λ (x : LocalReply). (after, x)) ok; stands = sym changed }
 
-refused_not : (f : Fault) → reply.Refused f ≡ reply.Ok → ⊥
+pub refused_not : (f : Fault) → reply.Refused f ≡ reply.Ok → ⊥
 refused_not f is = absurd (cc)
 
 by_exporter : StepsAssignByValue → SnapsHoldTheItems → LoansOfWorldsFit → LiveLayoutsLieApart → SlicesLieApart → (w new : World) (handle number k : ℕ) (slice : PySlice) (v : Value) (o : Option Exporter) → IsSoundWorld w

@@ -15,3 +15,7 @@ pub mod Copies
 pub mod Shown
 pub mod Assigning
 pub mod Faults
+pub mod Asked
+pub mod Hashing
+pub mod Sharing
+pub mod Naming

@@ -6,3 +6,6 @@ pub mod Listing
 pub mod Tables
 pub mod Laws
 pub mod Assigning
+pub mod Hashing
+pub mod Sharing
+pub mod Naming
