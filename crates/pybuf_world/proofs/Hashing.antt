@@ -212,8 +212,8 @@ byte_items : SubjectsFit → FittingSnapsHaveAllItems → (w : World) (handle : 
 byte_items fit whole w handle bytes sound shows small h =
     let n = h.name in
     let fits : fits_snap h.snap ≡ true =
-        if_some (λ (x : Snap). fits_snap x ≡ true) (snap_of_subject h.exporter (subject_of n)) h.snap
-        (fit h.exporter (subject_of n) (All-slice_get IsSoundExporter w.exporters (exporter_of n) h.exporter sound.exporters_are_sound h.there)) h.lent in
+    if_some (λ (x : Snap). fits_snap x ≡ true) (snap_of_subject h.exporter (subject_of n)) h.snap
+    (fit h.exporter (subject_of n) (All-slice_get IsSoundExporter w.exporters (exporter_of n) h.exporter sound.exporters_are_sound h.there)) h.lent in
     let format = shown_byte_format w handle h.snap.format shows h.format in
     let one = one_byte h.snap.format h.snap.itemsize format (both_true (fits_kind h.snap.kind h.snap) (is_sized h.snap.format h.snap.itemsize) fits).1 in
     let all = whole h.snap fits h.unreleased (not_iterator h.snap.kind h.items) in
@@ -353,7 +353,7 @@ same_content fit whole alike orders w handle other bytes other_bytes sound shows
     let lent = all_lent w e i other g.snap h.there (hashed_snap w other other_bytes g) in
     let done = stepped_so (IsComparedString e (lent_snap lents)) e subject.Own (verb.Compare op.Eq (other_value other)) (loans_for w i other) (local.Truth true) (own_compared e other lents) is (λ f refused. no_truth f true refused) in
     let answer : bytes_compared e.bytes op.Eq (content_of (Some g.snap)) ≡ local.Truth true =
-        ap (λ (ls : List Lent). bytes_compared e.bytes op.Eq (content_of (lent_snap ls))) (sym lent) ∙ sym (ap (λ (x : Exporter × LocalReply). x.1) done.replied) ∙ is in
+    ap (λ (ls : List Lent). bytes_compared e.bytes op.Eq (content_of (lent_snap ls))) (sym lent) ∙ sym (ap (λ (x : Exporter × LocalReply). x.1) done.replied) ∙ is in
     let own : h.snap ≡ snap_of_exporter e = same_there h.snap (snap_of_exporter e) (snap_of_subject e (subject_of h.name)) h.lent (ap (snap_of_subject e) named) in
     ap (λ (x : Snap). x.content) own
     ∙ same_string orders e.bytes g.snap.content (content_of (Some g.snap)) (λ bs same. of_kind g.snap.kind g.snap.released g.snap.contiguous g.snap.content bs same) answer
@@ -366,7 +366,7 @@ same_content fit whole alike orders w handle other bytes other_bytes sound shows
     let done = stepped_so (IsComparedView e k (other_value other) lents) e (subject.View k) (verb.Compare op.Eq (other_value other)) (loans_for w i other) (local.Truth true) (view_compared e k other lents) is (λ f refused. no_truth f true refused) in
     let left = snap_of_view e.bytes done.view in
     let answer : (is_view_of_number k (subject_in o) || equals_snap left (Some g.snap)) ≡ true =
-        ap (equals_other k left (other_value other)) (sym lent) ∙ ap truth_of_reply (sym (ap (λ (x : Exporter × LocalReply). x.1) done.replied) ∙ is) in
+    ap (equals_other k left (other_value other)) (sym lent) ∙ ap truth_of_reply (sym (ap (λ (x : Exporter × LocalReply). x.1) done.replied) ∙ is) in
     let found : snap_of_subject e (subject.View k) ≡ Some left = ap (option_map (snap_of_view e.bytes)) (view_found (slice_get e.views k) done.view done.at) in
     let own : h.snap ≡ left = same_there h.snap left (snap_of_subject e (subject_of h.name)) h.lent (ap (snap_of_subject e) named ∙ found) in
     by_answer alike e k o h.snap left g.snap own (byte_items fit whole w handle bytes sound shows small h) (byte_items fit whole w other other_bytes sound other_shows other_small g) found

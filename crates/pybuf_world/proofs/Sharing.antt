@@ -376,8 +376,8 @@ seen_so : (w new later : World) (number place other : ℕ) (other_key : Value) (
     → bytes_in_world later number layout.itemsize place ≡ bytes_in_world new number layout.itemsize place → wstep later (command.Do other (verb.Get other_key)) ≡ (later, reply.Item wanted)
 seen_so w new later number place other other_key before after layout its read wanted there stands written is has plain same_format size same =
     let bytes : bytes_in_world later number its.itemsize place ≡ bytes_at after.bytes its.itemsize place =
-        ap (λ (n : ℕ). bytes_in_world later number n place) size ∙ same ∙ ap (λ (x : World). bytes_in_world x number layout.itemsize place) stands
-        ∙ set_there w number layout.itemsize place before after there ∙ ap (λ (n : ℕ). bytes_at after.bytes n place) (sym size) in
+    ap (λ (n : ℕ). bytes_in_world later number n place) size ∙ same ∙ ap (λ (x : World). bytes_in_world x number layout.itemsize place) stands
+    ∙ set_there w number layout.itemsize place before after there ∙ ap (λ (n : ℕ). bytes_at after.bytes n place) (sym size) in
     gets later other other_key number place its has
     ∙ reads_item later other its (names_itself its.shape other_key) (bytes_in_world later number its.itemsize place) wanted plain (ap (item_by its.format) bytes ∙ written.read_back its same_format size ∙ is)
 
@@ -404,7 +404,7 @@ written_so seen live names w new handle number k key v e sound given plain there
     let law = seen e done.after k layout is_set.item v lents local.Ok sound_e is_set.live below is_set.written in
     let kept = bytes_set e done.after place (piece_by layout.format (snaps_of lents) v) local.Ok is_set.written in
     let mine : HasItemAt w handle key number place layout =
-        record { view = k; names = given; exporter = e; there = there; live = is_set.live; item = is_set.item; chosen = is_set.chosen; starts = refl } in
+    record { view = k; names = given; exporter = e; there = there; live = is_set.live; item = is_set.item; chosen = is_set.chosen; starts = refl } in
     let wanted = ap (λ (pairs : List (ℕ × Snap)). item_of (normal_values pairs (fields law.0) (scalar_in v ∷ []))) (same_pairs w e number key v there) in
     record {
       number = number;

@@ -171,8 +171,8 @@ pub fn world_steps_assign_by_value()
 
 /// In a sound world two handles have the same hash, where `hash` replies bytes for each and `compare` replies that they
 /// are equal. Each is an exporter of kind bytes, or a view of any exporter; the format of each view is `b`, `B` or `c`,
-/// as `prop format` replies it. After `new bytes x01ff`, `view h0` and `cast h1 'b'`, `hash` of h0 and of h1 is the same,
-/// and so is that of a second view of other bytes that are `01ff`.
+/// as `prop format` replies it.
+/// Example: after `new bytes x01ff` and `view h0`, `hash h0` and `hash h1` both reply `b'\x01\xff'`.
 pub fn world_equal_views_hash_alike()
     ensures { WorldEqualViewsHashAlike }
 {
@@ -185,7 +185,7 @@ pub fn world_equal_views_hash_alike()
 /// Where `set` of an item isn't refused in a sound world, `get` replies the normal form of the value through every handle
 /// whose view has an item of that format at that place: directly afterwards, and in each later sound world in which the
 /// bytes of the item are the same, whatever commands came between. Nothing else changes but the bytes of that item.
-/// After `new bytearray x010203`, `view h0`, `get h1 1:3:1` and `set h1 2 True`, `get h2 1` replies `1`.
+/// Example: after `new bytearray x010203`, `view h0`, `get h1 1:3:1` and `set h1 2 True`, `get h2 1` replies `1`.
 pub fn world_writes_are_seen()
     ensures { WorldWritesAreSeen }
 {
@@ -197,8 +197,8 @@ pub fn world_writes_are_seen()
 /// In a sound world two handles see each other's writes where the items of their views share a place. `get` of an item
 /// replies after `set` of another what it replied before, where the two share no byte: they lie in different exporters,
 /// or the one lies before the other. It replies the normal form of the value that was set, where both lie at one place
-/// and have one format. The views `get h1 0:2:1` and `get h1 2:4:1` never see each other's writes, and both share with
-/// h1.
+/// and have one format.
+/// Example: the views of `get h1 0:2:1` and `get h1 2:4:1` never see each other's writes, and h1 sees those of both.
 pub fn writes_are_seen_where_places_are_shared()
     ensures apart { WritesApartAreNotSeen }
     ensures shared { SharedWritesAreSeen }
@@ -208,8 +208,8 @@ pub fn writes_are_seen_where_places_are_shared()
 }
 
 /// A handle names after every run of commands what it named before. In a sound world a view that it names is as it was,
-/// or became released, so its layout is the same. After `new bytearray x0102` and `view h0`, h1 is this view of two items
-/// whatever is asked later.
+/// or became released, so its layout is the same.
+/// Example: after `new bytearray x0102` and `view h0`, h1 is this view of two items, whatever is asked later.
 pub fn runs_name_their_views()
     ensures handles { HandlesStayInRuns }
     ensures views { RunsNameTheirViews }
@@ -220,7 +220,8 @@ pub fn runs_name_their_views()
 }
 
 /// In a sound world a handle of a view that was released names that view after every run of commands, and it is still
-/// released. No command brings it back: after `release h1`, every later `get h1 0` is refused with `ValueError`.
+/// released. No command brings it back.
+/// Example: after `release h1` every later `get h1 0` is refused with `ValueError`.
 pub fn released_handles_stay()
     ensures { ReleasedHandlesStay }
 {
