@@ -13,3 +13,5 @@ pub mod Owning
 pub mod Sounding
 pub mod Arguments
 pub mod Faults
+pub mod Unknown
+pub mod Releasing

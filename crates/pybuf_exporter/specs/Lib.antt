@@ -9,3 +9,5 @@ pub mod Columns
 pub mod Owning
 pub mod Telling
 pub mod Counting
+pub mod Releasing
+pub mod Handles

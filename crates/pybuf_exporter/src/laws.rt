@@ -7,6 +7,8 @@ ghost use Rattle.pybuf_exporter.specs.Laws.{CommandsKeepItemsApart, RepliedNames
 ghost use Rattle.pybuf_exporter.specs.Owning.{OwningRepliesChangeNothing, TakenBytesAreAll, NextIsUndone, NoIteratorHasNoNext};
 ghost use Rattle.pybuf_exporter.specs.Effects.{EffectsAreSafe, StepsKeepSound};
 ghost use Rattle.pybuf_exporter.specs.Counting.{QueuesMoveFewBytes};
+ghost use Rattle.pybuf_exporter.specs.Releasing.{ReleasedViewsDontCount, ReleasedViewsStopNoEdit, ViewsAreReplied};
+ghost use Rattle.pybuf_exporter.specs.Handles.{UnknownHandlesAreRefused, UnlentHandlesAreRefused};
 
 /// Each effect keeps a sound exporter, or replies a copy.
 fn effects_are_safe()
@@ -238,6 +240,42 @@ pub fn orders_hold_the_same_items()
     pybuf_state::live_layouts_are_sound();
     pybuf_verbs_writes::contents_hold_the_items();
 }
+
+/// An exporter has exports exactly while one of its views is unreleased. A view that was released doesn't count, and
+/// neither does an iterator: a bytearray of which three views were made and all three released replies 0 to
+/// `prop exports`, also where an iterator goes over one of them.
+pub fn released_views_dont_count()
+    ensures { ReleasedViewsDontCount }
+{}
+
+/// While every view of an exporter is released, no edit of it is refused with `BufferError`, but that which adds a
+/// bytearray to itself: `append 1` of a bytearray that had two views, which are released, adds a byte, and `iadd` of
+/// its own handle is refused so even where no view was ever made.
+pub fn released_views_stop_no_edit()
+    ensures { ReleasedViewsStopNoEdit }
+{
+    resizing_is_refused_while_exported();
+    unknown_handles_are_refused();
+}
+
+/// `view` of an exporter is never refused, and neither is that of an unreleased view: each makes one more view, which
+/// is unreleased, and replies its number. Of a bytearray with two views the next `view` replies view 2. Of a view that
+/// is released or was never given it is refused, and changes nothing.
+pub fn views_are_replied()
+    ensures { ViewsAreReplied }
+{}
+
+/// A handle that was never given is refused with `UnknownName` by every command that takes it, and nothing changes: so
+/// `set` of a view at 0 to handle 7 is refused where the loans don't name 7, also where the view is released. So is every
+/// command on a view or an iterator that was never given.
+///
+/// A call without an exporter has a lender in place of loans. A handle that the lender has no snap of is refused so as the
+/// source of new bytes, as bytes that are borrowed, read, packed, searched for or added, as a prefix or suffix, as a fill
+/// byte and as a table: `concat` of handle 7 is, with the lender `NoHandles`.
+pub fn unknown_handles_are_refused()
+    ensures commands { UnknownHandlesAreRefused }
+    ensures lenders { UnlentHandlesAreRefused }
+{}
 
 /// Where no two items of any view of an exporter share a byte, that is so after every command.
 pub fn commands_keep_items_apart()

@@ -18,9 +18,10 @@ pub use laws::{
     iterators_give_the_bytes, iterators_give_the_items, iterators_stay, iterators_stop_or_stay,
     lengths_stay, names_alike_do_the_same, orders_hold_the_same_items, others_leave_iterators,
     owning_replies_change_nothing, queues_move_few_bytes, reading_in_place_changes_nothing,
-    readonly_bytes_stay, refused_commands_change_nothing, replied_names_are_there,
-    resizing_is_refused_while_exported, shown_texts_are_one_line, snaps_hold_the_items,
-    steps_assign_by_value, struct_error_is_never_replied, subjects_stay,
+    readonly_bytes_stay, refused_commands_change_nothing, released_views_dont_count,
+    released_views_stop_no_edit, replied_names_are_there, resizing_is_refused_while_exported,
+    shown_texts_are_one_line, snaps_hold_the_items, steps_assign_by_value,
+    struct_error_is_never_replied, subjects_stay, unknown_handles_are_refused, views_are_replied,
 };
 pub use pybuf_command::{
     ExporterKind, Loan, LoanList, LocalCommand, LocalReply, PropertyName, Subject, Verb,
