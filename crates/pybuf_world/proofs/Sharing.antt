@@ -384,6 +384,10 @@ seen_so w new later number place other other_key before after layout its read wa
 abbrev normal_of : List Lent → Value → Format → Item
 normal_of lents v format = item_of (normal_values (snaps_of lents) (fields format) (scalar_in v ∷ []))
 
+item_here : (w : World) (handle : ℕ) (key : Value) (number k : ℕ) (e : Exporter) (layout : Layout) (item : ℕ) → slice_get w.handles handle ≡ Some (named.View number k) → slice_get w.exporters number ≡ Some e
+    → live_layout e k ≡ Ok layout → item_of_key layout.shape key ≡ Ok item → HasItemAt w handle key number (slice_index layout.starts item) layout
+item_here w handle key number k e layout item given there live chosen = record { view = k; names = given; exporter = e; there = there; live = live; item = item; chosen = chosen; starts = refl }
+
 refusal_not_ok : (f : Fault) → local.Refused f ≡ local.Ok → ⊥
 refusal_not_ok f is = cc
 
@@ -403,8 +407,7 @@ written_so seen live names w new handle number k key v e sound given plain there
     let below : is_set.item < length layout.starts = omega (arith, named_item, counted) in
     let law = seen e done.after k layout is_set.item v lents local.Ok sound_e is_set.live below is_set.written in
     let kept = bytes_set e done.after place (piece_by layout.format (snaps_of lents) v) local.Ok is_set.written in
-    let mine : HasItemAt w handle key number place layout =
-        record { view = k; names = given; exporter = e; there = there; live = is_set.live; item = is_set.item; chosen = is_set.chosen; starts = refl } in
+    let mine = item_here w handle key number k e layout is_set.item given there is_set.live is_set.chosen in
     let wanted = ap (λ (pairs : List (ℕ × Snap)). item_of (normal_values pairs (fields law.0) (scalar_in v ∷ []))) (same_pairs w e number key v there) in
     record {
       number = number;
