@@ -1,5 +1,5 @@
 -- Handles that are equal by `compare` have the same hash.
-use Rattle.std.proofs.Common.{◌≡◌, ◌⊎◌, inl, inr, ℕ, ◌*◌, ◌<◌, List, [], ◌∷◌, ◌++◌, length, Bool, true, false, true≢false, ap, sym, ◌∙◌, refl, subst, arith}
+use Rattle.std.proofs.Common.{◌≡◌, ◌⊎◌, inl, inr, ℕ, ◌*◌, ◌<◌, List, [], ◌∷◌, ◌++◌, Bool, true, false, true≢false, ap, sym, ◌∙◌, refl, subst, arith}
 use Rattle.std.specs.Prelude.{◌==◌, ◌&&◌, ◌||◌, not, codes, nat_lt, Option, Some, None, Result, Ok, Err, slice_get, IfSome, if◌then◌else◌}
 use Rattle.std.specs.List.{All}
 use Rattle.std.specs.Option.{option_map, ok_or}
@@ -17,7 +17,7 @@ use Rattle.pybuf_value.specs.declared.snaps.Snap.{Snap}
 use Rattle.pybuf_value.specs.declared.snaps.SnapKind.{SnapKind}
 use Rattle.pybuf_value.specs.declared.snaps.SnapKind.TheVariants as snap_kind
 use Rattle.pybuf_value.specs.Refusing.{◌>>=◌, unless, IfDone, done_bind}
-use Rattle.pybuf_value.specs.Order.{order_of, answers}
+use Rattle.pybuf_value.specs.Order.{order_of}
 use Rattle.pybuf_value.specs.Snaps.{content_of_view, content_of_kind, content_of, is_iterator}
 use Rattle.pybuf_value.specs.Laws.{OrdersAll}
 use Rattle.pybuf_struct.specs.Formats.{codes_in, layout_from, format_after_prefix}
@@ -42,7 +42,7 @@ use Rattle.pybuf_command.specs.Loans.{loan_of}
 use Rattle.pybuf_memoryview.specs.Sized.{is_sized, byte_count}
 use Rattle.pybuf_memoryview.specs.Fits.{fits_kind, fits_snap}
 use Rattle.pybuf_equality.specs.Equality.{same_view}
-use Rattle.pybuf_equality.specs.Laws.{IsByteFormat, HasByteItems, EqualByteViewsHoldTheSameBytes, HasAllItems, FittingSnapsHaveAllItems}
+use Rattle.pybuf_equality.specs.Laws.{IsByteFormat, HasByteItems, EqualByteViewsHoldTheSameBytes, FittingSnapsHaveAllItems}
 use Rattle.pybuf_state.specs.Exporter.{Exporter, View, view_at, live_layout}
 use Rattle.pybuf_state.specs.Keeps.{is_vector}
 use Rattle.pybuf_state.specs.Fits.{SubjectsFit}
@@ -53,12 +53,11 @@ use Rattle.pybuf_verbs_reads.specs.Property.{property_of_layout}
 use Rattle.pybuf_verbs_compare.specs.Compare.{has_no_order_with, bytes_compared, is_view_of_number, equals_snap, equals_other, lent_snap}
 use Rattle.pybuf_exporter.specs.Step.{effect, settled_answer, estep}
 use Rattle.pybuf_world.specs.declared.named.Named.{Named}
-use Rattle.pybuf_world.specs.declared.named.Named.TheVariants as named
 use Rattle.pybuf_world.specs.World.{World, exporter_of, subject_of, snap_of_name, snap_for, loan_for, loans_of, reply_after, world_after, target_of, wstep}
 use Rattle.pybuf_world.specs.World as worlds
 use Rattle.pybuf_world.specs.Sound.{IsSoundWorld}
 use Rattle.pybuf_world.specs.Hashing.{ShowsByteFormat, IsHashOf, WorldEqualViewsHashAlike}
-use Rattle.pybuf_world.proofs.Asked.{IsAsked, asked, steps_so, stepped_so, only_bytes, only_truth}
+use Rattle.pybuf_world.proofs.Asked.{asked, steps_so, stepped_so, only_bytes, only_truth}
 use Rattle.pybuf_world.proofs.Assigning.{lent_last, snap_by_name}
 use Rattle.pybuf_world.proofs.Lists.{All-slice_get}
 
@@ -212,8 +211,8 @@ byte_items : SubjectsFit → FittingSnapsHaveAllItems → (w : World) (handle : 
 byte_items fit whole w handle bytes sound shows small h =
     let n = h.name in
     let fits : fits_snap h.snap ≡ true =
-        if_some (λ (x : Snap). fits_snap x ≡ true) (snap_of_subject h.exporter (subject_of n)) h.snap
-        (fit h.exporter (subject_of n) (All-slice_get IsSoundExporter w.exporters (exporter_of n) h.exporter sound.exporters_are_sound h.there)) h.lent in
+    if_some (λ (x : Snap). fits_snap x ≡ true) (snap_of_subject h.exporter (subject_of n)) h.snap
+    (fit h.exporter (subject_of n) (All-slice_get IsSoundExporter w.exporters (exporter_of n) h.exporter sound.exporters_are_sound h.there)) h.lent in
     let format = shown_byte_format w handle h.snap.format shows h.format in
     let one = one_byte h.snap.format h.snap.itemsize format (both_true (fits_kind h.snap.kind h.snap) (is_sized h.snap.format h.snap.itemsize) fits).1 in
     let all = whole h.snap fits h.unreleased (not_iterator h.snap.kind h.items) in
@@ -353,7 +352,7 @@ same_content fit whole alike orders w handle other bytes other_bytes sound shows
     let lent = all_lent w e i other g.snap h.there (hashed_snap w other other_bytes g) in
     let done = stepped_so (IsComparedString e (lent_snap lents)) e subject.Own (verb.Compare op.Eq (other_value other)) (loans_for w i other) (local.Truth true) (own_compared e other lents) is (λ f refused. no_truth f true refused) in
     let answer : bytes_compared e.bytes op.Eq (content_of (Some g.snap)) ≡ local.Truth true =
-        ap (λ (ls : List Lent). bytes_compared e.bytes op.Eq (content_of (lent_snap ls))) (sym lent) ∙ sym (ap (λ (x : Exporter × LocalReply). x.1) done.replied) ∙ is in
+    ap (λ (ls : List Lent). bytes_compared e.bytes op.Eq (content_of (lent_snap ls))) (sym lent) ∙ sym (ap (λ (x : Exporter × LocalReply). x.1) done.replied) ∙ is in
     let own : h.snap ≡ snap_of_exporter e = same_there h.snap (snap_of_exporter e) (snap_of_subject e (subject_of h.name)) h.lent (ap (snap_of_subject e) named) in
     ap (λ (x : Snap). x.content) own
     ∙ same_string orders e.bytes g.snap.content (content_of (Some g.snap)) (λ bs same. of_kind g.snap.kind g.snap.released g.snap.contiguous g.snap.content bs same) answer
@@ -366,7 +365,7 @@ same_content fit whole alike orders w handle other bytes other_bytes sound shows
     let done = stepped_so (IsComparedView e k (other_value other) lents) e (subject.View k) (verb.Compare op.Eq (other_value other)) (loans_for w i other) (local.Truth true) (view_compared e k other lents) is (λ f refused. no_truth f true refused) in
     let left = snap_of_view e.bytes done.view in
     let answer : (is_view_of_number k (subject_in o) || equals_snap left (Some g.snap)) ≡ true =
-        ap (equals_other k left (other_value other)) (sym lent) ∙ ap truth_of_reply (sym (ap (λ (x : Exporter × LocalReply). x.1) done.replied) ∙ is) in
+    ap (equals_other k left (other_value other)) (sym lent) ∙ ap truth_of_reply (sym (ap (λ (x : Exporter × LocalReply). x.1) done.replied) ∙ is) in
     let found : snap_of_subject e (subject.View k) ≡ Some left = ap (option_map (snap_of_view e.bytes)) (view_found (slice_get e.views k) done.view done.at) in
     let own : h.snap ≡ left = same_there h.snap left (snap_of_subject e (subject_of h.name)) h.lent (ap (snap_of_subject e) named ∙ found) in
     by_answer alike e k o h.snap left g.snap own (byte_items fit whole w handle bytes sound shows small h) (byte_items fit whole w other other_bytes sound other_shows other_small g) found
