@@ -155,8 +155,8 @@ pub fn world_steps_assign_by_value()
 
 /// In a sound world two handles have the same hash, where `hash` replies bytes for each and `compare` replies that they
 /// are equal. Each is an exporter of kind bytes, or a view of any exporter; the format of each view is `b`, `B` or `c`,
-/// as `prop format` replies it. After `new bytes x01ff`, `view h0` and `cast h1 'b'`, `hash` of h0 and of h1 is the same,
-/// and so is that of a second view of other bytes that are `01ff`.
+/// as `prop format` replies it. After `new bytes x01ff` and `view h0`, `compare h0 == h1` replies `True`, and `hash h0` and
+/// `hash h1` reply the same.
 pub fn world_equal_views_hash_alike()
     ensures { WorldEqualViewsHashAlike }
 {
