@@ -227,6 +227,7 @@ pub use pybuf_world::handles_stay;
 pub use pybuf_world::loans_of_worlds_fit;
 pub use pybuf_world::new_exporters_stand_behind;
 pub use pybuf_world::no_reply_is_a_struct_error;
+pub use pybuf_world::nothing_is_kept_by_accident;
 pub use pybuf_world::refusals_change_nothing;
 pub use pybuf_world::released_handles_stay;
 pub use pybuf_world::releases_are_refused_by_name;

@@ -1,9 +1,8 @@
 -- A command on a handle, by the exporter that it works on.
-use Rattle.std.proofs.Common.{◌≡◌, ℕ, List, [], ◌∷◌, ◌++◌, length, map, set, Bool, true, false, ap, sym, ◌∙◌, refl, subst}
+use Rattle.std.proofs.Common.{◌≡◌, ℕ, List, length, Bool, true, false, ap, ◌∙◌, refl, subst}
 use Rattle.std.specs.Prelude.{Option, Some, None, Result, Ok, Err, slice_get, if◌then◌else◌}
 use Rattle.pybuf_value.specs.declared.faults.Fault.{Fault}
 use Rattle.pybuf_value.specs.declared.faults.Fault.TheVariants as fault
-use Rattle.pybuf_value.specs.declared.snaps.Snap.{Snap}
 use Rattle.pybuf_value.specs.Refusing.{IfDone}
 use Rattle.pybuf_command.specs.declared.kinds.Subject.{Subject}
 use Rattle.pybuf_command.specs.declared.commands.Verb.{Verb}
@@ -13,16 +12,13 @@ use Rattle.pybuf_command.specs.declared.worlds.Command.TheVariants as command
 use Rattle.pybuf_command.specs.declared.worlds.Reply.{Reply}
 use Rattle.pybuf_command.specs.declared.worlds.Reply.TheVariants as reply
 use Rattle.pybuf_command.specs.declared.loans.Loan.{Loan}
-use Rattle.pybuf_command.specs.declared.loans.Loan.TheVariants as loan
 use Rattle.pybuf_command.specs.Handles.{handles_of, handles_read}
-use Rattle.pybuf_command.specs.Loans.{loan_of}
 use Rattle.pybuf_state.specs.Exporter.{Exporter}
-use Rattle.pybuf_state.specs.Loans.{given_loan, are_named, lents_by, names_of, snap_in}
+use Rattle.pybuf_state.specs.Loans.{are_named, lents_by, names_of}
 use Rattle.pybuf_exporter.specs.Step.{effect, settled_answer, answer_of, estep}
 use Rattle.pybuf_world.specs.declared.named.Named.{Named}
 use Rattle.pybuf_world.specs.declared.named.Target.{Target}
-use Rattle.pybuf_world.specs.World.{World, exporter_of, subject_of, snap_for, loan_for, loans_of, has_view, reply_with_copy, reply_after, world_after, step_with_loans, target_of, step_of_handle, wstep}
-use Rattle.pybuf_world.proofs.Assigning.{lent_last, pair_not, snap_by_name}
+use Rattle.pybuf_world.specs.World.{World, exporter_of, subject_of, loans_of, has_view, reply_with_copy, reply_after, world_after, step_with_loans, target_of, step_of_handle, wstep}
 
 -- ---- which exporter that is
 

@@ -1,5 +1,5 @@
 -- Handles that are equal by `compare` have the same hash.
-use Rattle.std.proofs.Common.{◌≡◌, ◌⊎◌, inl, inr, ℕ, ◌*◌, ◌<◌, List, [], ◌∷◌, ◌++◌, length, Bool, true, false, true≢false, ap, sym, ◌∙◌, refl, subst, arith}
+use Rattle.std.proofs.Common.{◌≡◌, ◌⊎◌, inl, inr, ℕ, ◌*◌, ◌<◌, List, [], ◌∷◌, ◌++◌, Bool, true, false, true≢false, ap, sym, ◌∙◌, refl, subst, arith}
 use Rattle.std.specs.Prelude.{◌==◌, ◌&&◌, ◌||◌, not, codes, nat_lt, Option, Some, None, Result, Ok, Err, slice_get, IfSome, if◌then◌else◌}
 use Rattle.std.specs.List.{All}
 use Rattle.std.specs.Option.{option_map, ok_or}
@@ -17,7 +17,7 @@ use Rattle.pybuf_value.specs.declared.snaps.Snap.{Snap}
 use Rattle.pybuf_value.specs.declared.snaps.SnapKind.{SnapKind}
 use Rattle.pybuf_value.specs.declared.snaps.SnapKind.TheVariants as snap_kind
 use Rattle.pybuf_value.specs.Refusing.{◌>>=◌, unless, IfDone, done_bind}
-use Rattle.pybuf_value.specs.Order.{order_of, answers}
+use Rattle.pybuf_value.specs.Order.{order_of}
 use Rattle.pybuf_value.specs.Snaps.{content_of_view, content_of_kind, content_of, is_iterator}
 use Rattle.pybuf_value.specs.Laws.{OrdersAll}
 use Rattle.pybuf_struct.specs.Formats.{codes_in, layout_from, format_after_prefix}
@@ -42,7 +42,7 @@ use Rattle.pybuf_command.specs.Loans.{loan_of}
 use Rattle.pybuf_memoryview.specs.Sized.{is_sized, byte_count}
 use Rattle.pybuf_memoryview.specs.Fits.{fits_kind, fits_snap}
 use Rattle.pybuf_equality.specs.Equality.{same_view}
-use Rattle.pybuf_equality.specs.Laws.{IsByteFormat, HasByteItems, EqualByteViewsHoldTheSameBytes, HasAllItems, FittingSnapsHaveAllItems}
+use Rattle.pybuf_equality.specs.Laws.{IsByteFormat, HasByteItems, EqualByteViewsHoldTheSameBytes, FittingSnapsHaveAllItems}
 use Rattle.pybuf_state.specs.Exporter.{Exporter, View, view_at, live_layout}
 use Rattle.pybuf_state.specs.Keeps.{is_vector}
 use Rattle.pybuf_state.specs.Fits.{SubjectsFit}
@@ -53,12 +53,11 @@ use Rattle.pybuf_verbs_reads.specs.Property.{property_of_layout}
 use Rattle.pybuf_verbs_compare.specs.Compare.{has_no_order_with, bytes_compared, is_view_of_number, equals_snap, equals_other, lent_snap}
 use Rattle.pybuf_exporter.specs.Step.{effect, settled_answer, estep}
 use Rattle.pybuf_world.specs.declared.named.Named.{Named}
-use Rattle.pybuf_world.specs.declared.named.Named.TheVariants as named
 use Rattle.pybuf_world.specs.World.{World, exporter_of, subject_of, snap_of_name, snap_for, loan_for, loans_of, reply_after, world_after, target_of, wstep}
 use Rattle.pybuf_world.specs.World as worlds
 use Rattle.pybuf_world.specs.Sound.{IsSoundWorld}
 use Rattle.pybuf_world.specs.Hashing.{ShowsByteFormat, IsHashOf, WorldEqualViewsHashAlike}
-use Rattle.pybuf_world.proofs.Asked.{IsAsked, asked, steps_so, stepped_so, only_bytes, only_truth}
+use Rattle.pybuf_world.proofs.Asked.{asked, steps_so, stepped_so, only_bytes, only_truth}
 use Rattle.pybuf_world.proofs.Assigning.{lent_last, snap_by_name}
 use Rattle.pybuf_world.proofs.Lists.{All-slice_get}
 

@@ -19,3 +19,4 @@ pub mod Asked
 pub mod Hashing
 pub mod Sharing
 pub mod Naming
+pub mod Freeing

@@ -1,11 +1,9 @@
 -- What a handle names after a run of commands, and a view that was released.
-use Rattle.std.proofs.Common.{◌≡◌, inl, inr, ℕ, Bool, true, List, [], ◌∷◌, ap, sym, ◌∙◌, refl, subst}
-use Rattle.std.specs.Prelude.{Some, slice_get}
+use Rattle.std.proofs.Common.{◌≡◌, inl, inr, ℕ, Bool, true, [], ◌∷◌, ap, sym, ◌∙◌, refl, subst}
 use Rattle.std.proofs.lemmas.Option.{slice_get_within}
 use Rattle.pybuf_command.specs.declared.worlds.Command.{Command}
-use Rattle.pybuf_state.specs.Exporter.{Exporter, View}
+use Rattle.pybuf_state.specs.Exporter.{View}
 use Rattle.pybuf_state.specs.Keeps.{IsSameOrReleased}
-use Rattle.pybuf_world.specs.declared.named.Named.{Named}
 use Rattle.pybuf_world.specs.declared.named.Named.TheVariants as named
 use Rattle.pybuf_world.specs.World.{World, wstep, world_after_all}
 use Rattle.pybuf_world.specs.Sound.{IsSoundWorld}

@@ -1,6 +1,6 @@
 -- What is written through one handle is read through every other that has the item.
-use Rattle.std.proofs.Common.{◌≡◌, ◌≢◌, ◌⊎◌, inl, inr, ℕ, ◌+◌, ◌-◌, ◌<◌, ◌≤◌, List, [], ◌∷◌, ◌++◌, length, map, set, take, drop, Bool, true, false, true≢false, ap, ap₂, sym, ◌∙◌, refl, subst, arith}
-use Rattle.std.specs.Prelude.{◌==◌, ◌&&◌, not, nat_lt, slice_index, ℤ, Option, Some, None, Result, Ok, Err, slice_get, if◌then◌else◌}
+use Rattle.std.proofs.Common.{◌≡◌, ◌≢◌, ◌⊎◌, inl, inr, ℕ, ◌+◌, ◌-◌, ◌<◌, ◌≤◌, List, [], ◌∷◌, ◌++◌, length, set, take, drop, Bool, true, false, true≢false, ap, ap₂, sym, ◌∙◌, refl, subst, arith}
+use Rattle.std.specs.Prelude.{◌==◌, ◌&&◌, not, nat_lt, slice_index, Option, Some, None, Result, Ok, Err, slice_get, if◌then◌else◌}
 use Rattle.std.specs.List.{flat_map, list_all}
 use Rattle.std.specs.Option.{ok_or}
 use Rattle.std.proofs.lemmas.Bool.{eqb-true}
@@ -16,7 +16,6 @@ use Rattle.pybuf_value.specs.declared.values.Value.TheVariants as value
 use Rattle.pybuf_value.specs.declared.values.PySlice.{PySlice}
 use Rattle.pybuf_value.specs.declared.snaps.Snap.{Snap}
 use Rattle.pybuf_value.specs.Refusing.{◌>>=◌, unless, IfDone, done_bind}
-use Rattle.pybuf_value.specs.Numbers.{number_in}
 use Rattle.pybuf_struct.specs.Formats.{Format, format_of, fields}
 use Rattle.pybuf_struct.specs.Values.{item_of}
 use Rattle.pybuf_struct.specs.Laws.{normal_values}
@@ -24,7 +23,6 @@ use Rattle.pybuf_desc.specs.Layouts.{Layout, product}
 use Rattle.pybuf_desc.specs.Items.{bytes_at}
 use Rattle.pybuf_command.specs.declared.kinds.Subject.{Subject}
 use Rattle.pybuf_command.specs.declared.kinds.Subject.TheVariants as subject
-use Rattle.pybuf_command.specs.declared.commands.Verb.{Verb}
 use Rattle.pybuf_command.specs.declared.commands.Verb.TheVariants as verb
 use Rattle.pybuf_command.specs.declared.commands.LocalReply.{LocalReply}
 use Rattle.pybuf_command.specs.declared.commands.LocalReply.TheVariants as local
@@ -32,30 +30,30 @@ use Rattle.pybuf_command.specs.declared.worlds.Command.TheVariants as command
 use Rattle.pybuf_command.specs.declared.worlds.Reply.{Reply}
 use Rattle.pybuf_command.specs.declared.worlds.Reply.TheVariants as reply
 use Rattle.pybuf_command.specs.declared.loans.Loan.{Loan}
-use Rattle.pybuf_command.specs.Handles.{handles_in_scalar, handles_in, handles_of, handle_of_value}
+use Rattle.pybuf_command.specs.Handles.{handles_in_scalar, handles_in, handle_of_value}
 use Rattle.pybuf_command.specs.Loans.{loan_of}
 use Rattle.pybuf_memoryview.specs.Items.{is_none, is_slice, item_by, piece_by, scalar_in}
-use Rattle.pybuf_memoryview.specs.Keys.{is_number, item_of_tuple, item_among, only_item, item_of_key, names_itself}
+use Rattle.pybuf_memoryview.specs.Keys.{is_number, item_among, only_item, item_of_key, names_itself}
 use Rattle.pybuf_memoryview.specs.Laws.{KeysNameItems}
 use Rattle.pybuf_memoryview.specs.Sized.{is_size_of, is_sized}
 use Rattle.pybuf_state.specs.Exporter.{Exporter, View, live_layout}
 use Rattle.pybuf_state.specs.Laws.{LiveLayoutsAreSound}
-use Rattle.pybuf_state.specs.Loans.{Lent, given_loan, are_named, lent_as, lents_by, names_of, snaps_of, snap_in, subject_in}
+use Rattle.pybuf_state.specs.Loans.{Lent, are_named, lent_as, lents_by, names_of, snaps_of, snap_in, subject_in}
 use Rattle.pybuf_state.specs.Sound.{IsSoundExporter}
 use Rattle.pybuf_verbs_reads.specs.Get.{item_of_layout, item_of_view}
 use Rattle.pybuf_verbs_writes.specs.Laid.{bytes_with}
 use Rattle.pybuf_verbs_writes.specs.Set.{item_set, set_target, set_of_view}
 use Rattle.pybuf_verbs_writes.specs.Laws.{IsWritten, WritesAreSeen}
 use Rattle.pybuf_verbs_methods.specs.Names.{paired}
-use Rattle.pybuf_exporter.specs.Step.{get_of_view, set_through_view, effect, answer_by, settled_answer, estep}
+use Rattle.pybuf_exporter.specs.Step.{get_of_view, set_through_view, effect, settled_answer, estep}
 use Rattle.pybuf_world.specs.declared.named.Named.{Named}
 use Rattle.pybuf_world.specs.declared.named.Named.TheVariants as named
-use Rattle.pybuf_world.specs.World.{World, snap_for, pairs_of, loan_for, loans_of, world_after, step_with_loans, target_of, step_of_handle, wstep}
+use Rattle.pybuf_world.specs.World.{World, snap_for, pairs_of, loans_of, world_after, step_with_loans, target_of, step_of_handle, wstep}
 use Rattle.pybuf_world.specs.Sound.{IsSoundWorld}
 use Rattle.pybuf_world.specs.Exporters.{ExporterLaws}
 use Rattle.pybuf_world.specs.Sharing.{HasItemAt, bytes_in_exporter, bytes_in_world, normal_item, ShareNoByte, IsWrittenInWorld, WorldWritesAreSeen, WritesApartAreNotSeen, SharedWritesAreSeen}
 use Rattle.pybuf_world.proofs.Asked.{steps_so, stepped_so, from_done, each_done}
-use Rattle.pybuf_world.proofs.Assigning.{IsDone, done_so, lent_last, refused_not, snap_by_name}
+use Rattle.pybuf_world.proofs.Assigning.{done_so, lent_last, refused_not, snap_by_name}
 use Rattle.pybuf_world.proofs.Hashing.{given_snap}
 use Rattle.pybuf_world.proofs.Sound.{wstep_sound}
 use Rattle.pybuf_world.proofs.Lists.{set-slice_get, slice_get-set, slice_get-set_other, All-slice_get}
@@ -384,6 +382,10 @@ seen_so w new later number place other other_key before after layout its read wa
 abbrev normal_of : List Lent → Value → Format → Item
 normal_of lents v format = item_of (normal_values (snaps_of lents) (fields format) (scalar_in v ∷ []))
 
+item_here : (w : World) (handle : ℕ) (key : Value) (number k : ℕ) (e : Exporter) (layout : Layout) (item : ℕ) → slice_get w.handles handle ≡ Some (named.View number k) → slice_get w.exporters number ≡ Some e
+    → live_layout e k ≡ Ok layout → item_of_key layout.shape key ≡ Ok item → HasItemAt w handle key number (slice_index layout.starts item) layout
+item_here w handle key number k e layout item given there live chosen = record { view = k; names = given; exporter = e; there = there; live = live; item = item; chosen = chosen; starts = refl }
+
 refusal_not_ok : (f : Fault) → local.Refused f ≡ local.Ok → ⊥
 refusal_not_ok f is = cc
 
@@ -403,8 +405,7 @@ written_so seen live names w new handle number k key v e sound given plain there
     let below : is_set.item < length layout.starts = omega (arith, named_item, counted) in
     let law = seen e done.after k layout is_set.item v lents local.Ok sound_e is_set.live below is_set.written in
     let kept = bytes_set e done.after place (piece_by layout.format (snaps_of lents) v) local.Ok is_set.written in
-    let mine : HasItemAt w handle key number place layout =
-    record { view = k; names = given; exporter = e; there = there; live = is_set.live; item = is_set.item; chosen = is_set.chosen; starts = refl } in
+    let mine = item_here w handle key number k e layout is_set.item given there is_set.live is_set.chosen in
     let wanted = ap (λ (pairs : List (ℕ × Snap)). item_of (normal_values pairs (fields law.0) (scalar_in v ∷ []))) (same_pairs w e number key v there) in
     record {
       number = number;

@@ -9,3 +9,4 @@ pub mod Assigning
 pub mod Hashing
 pub mod Sharing
 pub mod Naming
+pub mod Releasing

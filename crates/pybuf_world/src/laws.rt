@@ -7,6 +7,7 @@ ghost use Rattle.pybuf_world.specs.Assigning.{LoansOfWorldsFit, WorldStepsAssign
 ghost use Rattle.pybuf_world.specs.Hashing.{WorldEqualViewsHashAlike};
 ghost use Rattle.pybuf_world.specs.Sharing.{WorldWritesAreSeen, WritesApartAreNotSeen, SharedWritesAreSeen};
 ghost use Rattle.pybuf_world.specs.Naming.{HandlesStayInRuns, RunsNameTheirViews, ReleasedHandlesStay};
+ghost use Rattle.pybuf_world.specs.Releasing.{EditsAreFree, ReleasesAreCounted, ExportsAreCounted};
 
 /// A refused command leaves the whole world as it was, so no handle is used up.
 /// Example: after `append h0 256`, which is refused with `ValueError`, the next handle is the one that it was before.
@@ -226,4 +227,18 @@ pub fn released_handles_stay()
     ensures { ReleasedHandlesStay }
 {
     runs_name_their_views();
+}
+
+/// Nothing but an unreleased view keeps an exporter from an edit. After every view of it was released, no edit of it is
+/// refused with `BufferError`, but that which adds a bytearray to itself. `release` of a view is never refused, and takes
+/// an unreleased view out of the count; `prop exports` replies that count, and there are no exports exactly where each
+/// view was released.
+/// Example: after `new bytearray x61`, `view h0`, `get h1 0:1:1`, `release h1` and `release h2`, `append h0 98` replies `ok`.
+pub fn nothing_is_kept_by_accident()
+    ensures edits { EditsAreFree }
+    ensures released { ReleasesAreCounted }
+    ensures counted { ExportsAreCounted }
+{
+    pybuf_exporter::released_views_stop_no_edit();
+    pybuf_exporter::released_views_dont_count();
 }
