@@ -1,5 +1,6 @@
 mod NumberLemmas
 mod OutLemmas
+mod WholeLemmas
 mod PushLemmas
 mod HandLemmas
 mod DigitLemmas

@@ -1,8 +1,9 @@
 -- Numbers of two bytes each.
-use Rattle.std.proofs.Common.{◌≡◌, ℕ, suc, zero, ◌+◌, ◌*◌, ◌<◌, ◌/◌, ◌%◌, ◌^◌, List, [], ◌∷◌, ◌++◌, length, refl, ap, sym, ◌∙◌, arith, slice_index, slice_get, set, Some, take, drop, get_or, length-set}
+use Rattle.std.proofs.Common.{◌≡◌, ℕ, suc, zero, false, ◌+◌, ◌*◌, ◌<◌, ◌/◌, ◌%◌, ◌^◌, List, [], ◌∷◌, ◌++◌, length, refl, ap, sym, ◌∙◌, arith, slice_index, slice_get, set, Some, take, drop, get_or, length-set}
 use Rattle.std.proofs.Math.Nat.{mod-eq_of_lt}
 use Rattle.std.proofs.Math.Seq.{take-append_seam}
 use Rattle.std.specs.Simd.{first_chunks}
+use Rattle.pybuf_desc.specs.Layouts.{bytes_layout}
 use Rattle.pybuf_state.specs.Exporter.{Exporter}
 use Rattle.pybuf_exporter.specs.Lending.{overwritten_exporter}
 use Rattle.example_users.specs.Numbers.{Numbers, numbers_of, numbers_in, IsNumberArray}
@@ -91,7 +92,11 @@ module _ (a : Numbers) (e : Exporter) (seen copied : List ℕ) (i n k : ℕ) (ar
   put_sound =
       let many : length (numbers_of (overwritten_exporter e written).bytes) ≡ length (numbers_of e.bytes) = ap (λ ns. length ns) numbers ∙ length-set (numbers_of e.bytes) i n in
       let same : length (overwritten_exporter e written).bytes ≡ length e.bytes = ap (λ xs. length xs) whole ∙ long in
-      record { kind = array.kind; pairs = omega (arith, array.pairs) }
+      record {
+        kind = array.kind;
+        pairs = omega (arith, array.pairs);
+        whole = λ view live. array.whole view live ∙ ap (λ count. bytes_layout count false) (sym same);
+      }
 
   pub put_shown : numbers_in (overwritten_exporter e written) ≡ record a { numbers = set a.numbers i n }
   put_shown = ap (λ ns. record (numbers_in e) { numbers = ns }) numbers ∙ ap {B = Numbers} (λ b. record b { numbers = set b.numbers i n }) shown

@@ -9,12 +9,14 @@ use Rattle.pybuf_value.specs.declared.halt.Halt.{Halt}
 use Rattle.pybuf_value.specs.declared.halt.Halt.TheVariants as halt
 use Rattle.pybuf_value.specs.Refusing.{unless}
 use Rattle.pybuf_command.specs.Kinds.{of_byte_array}
-use Rattle.pybuf_state.specs.Exporter.{Exporter}
+use Rattle.pybuf_state.specs.Exporter.{Exporter, exports_of}
+use Rattle.pybuf_state.specs.Live.{is_live}
 use Rattle.pybuf_state.specs.Resizing.{has_exports, resizable}
 use Rattle.pybuf_object.specs.Plain.{Settles, extended_by, may_resize}
 use Rattle.example_users.specs.Numbers.{Numbers, numbers_of, numbers_in, IsLent, IsNumberArray}
 use Rattle.example_users.proofs.NumberLemmas.{numbers_of-low_high}
 use Rattle.example_users.proofs.OutLemmas.{lent_by, lent_none}
+use Rattle.example_users.proofs.WholeLemmas.{none_live}
 
 pub record Pushed (a : Numbers) (new : Exporter) (n : ℕ) (r : Result (Unit {0}) Halt) : Type 0 where
   pub ok : OnOk r (numbers_in new ≡ record a { numbers = a.numbers ++ n ∷ [] })
@@ -35,11 +37,16 @@ module _ (a : Numbers) (e new : Exporter) (n : ℕ) (is : IsNumberArray e) (show
   added : numbers_of (e.bytes ++ n % 256 ∷ n / 256 % 256 ∷ []) ≡ numbers_of e.bytes ++ n ∷ []
   added = numbers_of-low_high e.bytes n small is.pairs
 
-  added_sound : new ≡ record e { bytes = e.bytes ++ n % 256 ∷ n / 256 % 256 ∷ [] } → IsNumberArray new
-  added_sound now =
+  added_sound : has_exports e ≡ false → new ≡ record e { bytes = e.bytes ++ n % 256 ∷ n / 256 % 256 ∷ [] } → IsNumberArray new
+  added_sound test now =
       let more : length (numbers_of new.bytes) ≡ length (numbers_of e.bytes) + 1 = ap (λ x. length (numbers_of x.bytes)) now ∙ (ap (λ ns. length ns) added ∙ length-append (numbers_of e.bytes) (n ∷ [])) in
       let long : length new.bytes ≡ length e.bytes + 2 = ap (λ x. length x.bytes) now ∙ length-append e.bytes (n % 256 ∷ n / 256 % 256 ∷ []) in
-      record { kind = ap (λ x. x.kind) now ∙ is.kind; pairs = omega (arith, is.pairs) }
+      let none : exports_of e ≡ 0 = grind (arith, nat_tests) in
+      record {
+        kind = ap (λ x. x.kind) now ∙ is.kind;
+        pairs = omega (arith, is.pairs);
+        whole = λ view live. absurd (none_live e.views view none (sym (ap (λ x. is_live x view) now) ∙ live));
+      }
 
   added_shown : new ≡ record e { bytes = e.bytes ++ n % 256 ∷ n / 256 % 256 ∷ [] } → numbers_in new ≡ record a { numbers = a.numbers ++ n ∷ [] }
   added_shown now =
@@ -59,7 +66,7 @@ module _ (a : Numbers) (e new : Exporter) (n : ℕ) (is : IsNumberArray e) (show
   pushed_by false (Ok x) test settles =
       let may = may_by e false is test in
       let now : new ≡ record e { bytes = e.bytes ++ n % 256 ∷ n / 256 % 256 ∷ [] } = (let given = rw may at settles in sym (ap (λ r. after_of r e) given)) in
-      record { ok = added_shown now; refused = λ same. absurd cc; lent = λ lent. absurd (free test lent); err = tt; sound = added_sound now }
+      record { ok = added_shown now; refused = λ same. absurd cc; lent = λ lent. absurd (free test lent); err = tt; sound = added_sound test now }
   pushed_by false (Err (halt.Refused f)) test settles = let may = may_by e false is test in let given = rw may at settles.0 in absurd cc
   pushed_by false (Err halt.NoMemory) test settles =
       record { ok = tt; refused = λ same. absurd cc; lent = λ lent. absurd (free test lent); err = ap numbers_in settles.1 ∙ shown; sound = kept_sound settles.1 }

@@ -1,5 +1,5 @@
 //! Numbers in a bytearray, which refuses to grow while it is lent.
-ghost use Rattle.std.specs.Prelude.{◌≡◌, ◌↔◌, ◌<◌, ◌≤◌, ◌++◌, [], ◌∷◌, true, false, length, set, slice_get, IfOk, IfErr, OnOk, OnErr, MatchResult, Err};
+ghost use Rattle.std.specs.Prelude.{◌≡◌, ◌↔◌, ◌<◌, ◌≤◌, ◌++◌, [], ◌∷◌, true, false, length, set, slice_get, IfOk, IfErr, Some, OnOk, OnErr, MatchResult, Err};
 ghost use Rattle.pybuf_value.specs.declared.halt.Halt.{Halt};
 ghost use Rattle.pybuf_value.specs.declared.faults.Fault.{Fault};
 
@@ -25,7 +25,7 @@ impl Model for NumberArray {
 }
 
 impl NumberArray {
-    ghost use Rattle.example_users.specs.Numbers.{no_numbers, numbers_in, IsLent};
+    ghost use Rattle.example_users.specs.Numbers.{no_numbers, numbers_in, IsLent, IsOut, IsNotWritten};
 
     /// No numbers, and nothing lent. Takes no memory.
     pub fn new(alloc: Global) -> NumberArray
@@ -99,6 +99,40 @@ impl NumberArray {
         ensures memory { IfErr result (λ halt. halt ≡ Halt.NoMemory) }
     {
         PyMemoryView::of_all(self.0.state_mut())
+    }
+
+    /// Puts a number in place of that at an index, through a view that is out: `get` gives it then, and every other
+    /// number stays.
+    ///
+    /// Refused with `UnknownName` exactly where the view was never lent, with `ValueError` exactly where it was given
+    /// back, and with `IndexError` exactly where it is out and there is no number at the index. Where it is refused,
+    /// nothing is changed. Takes no memory.
+    /// Example: of the numbers 1 and 2, of which view 0 is out, `set_through(&view, 1, 7)` leaves 1 and 7.
+    pub fn set_through(
+        &mut self,
+        view: &PyMemoryView,
+        index: usize,
+        number: u16,
+    ) -> Result<(), Fault>
+        ensures ok { OnOk result (self.new ≡ record self.old { numbers = set self.old.numbers index number }) }
+        ensures got { OnOk result (slice_get self.new.numbers index ≡ Some number) }
+        ensures exact { MatchResult result (λ _. IsOut self.old view.now × (index < length self.old.numbers)) (λ fault. IsNotWritten self.old view.now index fault) }
+        ensures err { OnErr result (self.new ≡ self.old) }
+    {
+        let view = view.number();
+        let state = self.0.state();
+        if view >= state.view_count() {
+            return Err(Fault::UnknownName);
+        }
+        if !state.is_live(view) {
+            return Err(Fault::Value);
+        }
+        if index >= self.len() {
+            return Err(Fault::Index);
+        }
+        let bytes = self.0.state_mut().contiguous_bytes_mut(view);
+        bytes[2 * index..2 * index + 2].copy_from_slice(&number.to_le_bytes());
+        Ok(())
     }
 
     /// Takes a view back. One that was taken back before changes nothing. Takes no memory.
