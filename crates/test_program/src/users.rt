@@ -11,11 +11,13 @@ fn a_lent_view_shows_what_is_set(rt: HostRuntime) -> Result<(), Fail> {
     let alloc = rt.alloc();
     let mut numbers = NumberArray::new(alloc);
     numbers.push(258)?;
-    let view = PyBuffer::of(numbers.lend()?.number());
+    let view = numbers.lend()?;
+    assert!(rt; PyBuffer::of(view.number()).is_live(numbers.state()));
     assert!(rt; numbers.set(0, 513).is_ok());
-    assert!(rt; numbers.set(1, 513) == Err(Fault::Index));
-    assert!(rt; view.is_live(numbers.state()));
     assert!(rt; numbers.state().bytes() == [1, 2].as_slice());
+    assert!(rt; numbers.set_through(&view, 1, 772) == Err(Fault::Index));
+    assert!(rt; numbers.set_through(&view, 0, 772).is_ok());
+    assert!(rt; numbers.get(0) == Some(772));
     Ok(())
 }
 
