@@ -5,7 +5,7 @@ Each `ByteArray` has a world of its own, which its views share and which is free
 import ast
 import ctypes
 
-from ._calls import (Number, Slice, Status, call, index_of, numbers_by, raise_for, raw, text_by, word_of)
+from ._calls import Number, Slice, Status, call, index_of, numbers_by, raise_for, text_by, word_of
 from ._worlds import World
 
 _BYTEARRAY = 1
@@ -30,6 +30,21 @@ def _lent(value):
     return bytes(memoryview(value))
 
 
+def _lent_whole(value):
+    """The bytes of an object that has a buffer of one piece."""
+    view = _lent_view(value)
+    if not view.c_contiguous:
+        raise BufferError('memoryview: underlying buffer is not C-contiguous')
+    return view.tobytes()
+
+
+def _lent_view(value):
+    """What has the format, the shape and the bytes of an object with a buffer: a view of ours, or one of Python's."""
+    if isinstance(value, MemoryView):
+        return value
+    return memoryview(value.tobytes() if isinstance(value, ByteArray) else value)
+
+
 def _byte(value):
     """A byte as a number, with Python's refusals: of what is no index, and of a number that is no byte."""
     number = index_of(value)
@@ -44,44 +59,46 @@ class _Object:
     _world = None
     _object = None
 
-    @property
-    def _at(self):
-        return self._world.pointer, self._object
+    def _call(self, name, *arguments):
+        status = self._world.ask(name, self._object, *arguments)
+        if status:
+            raise_for(status)
 
     def _one(self, name, *arguments):
-        made = ctypes.c_uint64()
-        call(name, *self._at, *arguments, ctypes.byref(made))
-        return made.value
+        return self._world.made(name, self._object, *arguments)
 
     def _number(self, name, *arguments):
         number = Number()
-        call(name, *self._at, *arguments, ctypes.byref(number))
+        self._call(name, *arguments, ctypes.byref(number))
         return number.value()
 
-    def _length(self):
-        length = ctypes.c_size_t()
-        call('length', *self._at, ctypes.byref(length))
-        return length.value
+    def _text(self, name, *arguments):
+        return text_by(self._world.ask, name, self._object, *arguments)
+
+    def _numbers(self, name, *arguments):
+        return numbers_by(self._world.ask, name, self._object, *arguments)
 
     def __len__(self):
-        return self._length()
+        length = ctypes.c_size_t()
+        self._call('length', ctypes.byref(length))
+        return length.value
 
     def tobytes(self):
         """A copy of the bytes."""
-        return text_by('bytes', *self._at)
+        return self._text('bytes')
 
     def _compares(self, operator, other):
         truth = ctypes.c_int()
         if isinstance(other, _Object):
             if other._world is self._world:
-                call('compare_with', *self._at, _OPERATORS[operator], other._object, ctypes.byref(truth))
+                self._call('compare_with', _OPERATORS[operator], other._object, ctypes.byref(truth))
                 return NotImplemented if truth.value == 2 else bool(truth.value)
             other = other.tobytes()
         try:
             other = _lent(other)
         except TypeError:
             return NotImplemented
-        call('compare', *self._at, _OPERATORS[operator], other, len(other), ctypes.byref(truth))
+        self._call('compare', _OPERATORS[operator], other, len(other), ctypes.byref(truth))
         return NotImplemented if truth.value == 2 else bool(truth.value)
 
     def __eq__(self, other):
@@ -117,8 +134,12 @@ class ByteArray(_Object):
 
     def __iter__(self):
         index = 0
-        while index < len(self):
-            yield self[index]
+        while True:
+            try:
+                item = self[index]
+            except IndexError:
+                return
+            yield item
             index += 1
 
     def __lt__(self, other):
@@ -135,7 +156,7 @@ class ByteArray(_Object):
 
     def __getitem__(self, key):
         if isinstance(key, slice):
-            return ByteArray(text_by('get_slice_bytes', *self._at, ctypes.byref(Slice.of(key))))
+            return ByteArray(self._text('get_slice_bytes', ctypes.byref(Slice.of(key))))
         if not hasattr(key, '__index__'):
             raise TypeError('bytearray indices must be integers or slices')
         return self._number('get', word_of(key))
@@ -145,28 +166,28 @@ class ByteArray(_Object):
             content = _content(value) if not isinstance(value, int) else None
             if content is None:
                 raise TypeError('can assign only bytes, buffers, or iterables of ints in range(0, 256)')
-            call('set_slice', *self._at, ctypes.byref(Slice.of(key)), content, len(content))
+            self._call('set_slice', ctypes.byref(Slice.of(key)), content, len(content))
             return
         if not hasattr(key, '__index__'):
             raise TypeError('bytearray indices must be integers or slices')
         index = word_of(key)
-        call('set', *self._at, index, _byte(value))
+        self._call('set', index, _byte(value))
 
     def __delitem__(self, key):
         if isinstance(key, slice):
-            call('delete_slice', *self._at, ctypes.byref(Slice.of(key)))
+            self._call('delete_slice', ctypes.byref(Slice.of(key)))
             return
         if not hasattr(key, '__index__'):
             raise TypeError('bytearray indices must be integers or slices')
-        call('delete', *self._at, word_of(key))
+        self._call('delete', word_of(key))
 
     def __contains__(self, value):
         truth = ctypes.c_bool()
         if hasattr(value, '__index__'):
-            call('contains_byte', *self._at, _byte(value), ctypes.byref(truth))
+            self._call('contains_byte', _byte(value), ctypes.byref(truth))
         else:
             content = _lent(value)
-            call('contains', *self._at, content, len(content), ctypes.byref(truth))
+            self._call('contains', content, len(content), ctypes.byref(truth))
         return truth.value
 
     def __add__(self, other):
@@ -177,7 +198,7 @@ class ByteArray(_Object):
 
     def __iadd__(self, other):
         content = _lent(other)
-        call('extend', *self._at, content, len(content))
+        self._call('extend', content, len(content))
         return self
 
     def __mul__(self, count):
@@ -186,36 +207,36 @@ class ByteArray(_Object):
     __rmul__ = __mul__
 
     def __imul__(self, count):
-        call('repeat', *self._at, word_of(count))
+        self._call('repeat', word_of(count))
         return self
 
     def append(self, value):
-        call('append', *self._at, _byte(value))
+        self._call('append', _byte(value))
 
     def extend(self, values):
         if values is self:
-            call('extend_by', *self._at, self._object)
+            self._call('extend_by', self._object)
             return
         content = _content(values) if not isinstance(values, int) else None
         if content is None:
             raise TypeError("can't extend bytearray with int")
-        call('extend', *self._at, content, len(content))
+        self._call('extend', content, len(content))
 
     def insert(self, index, value):
         index = word_of(index, OverflowError)
-        call('insert', *self._at, index, _byte(value))
+        self._call('insert', index, _byte(value))
 
     def pop(self, index=None):
         return self._number('pop_last') if index is None else self._number('pop', word_of(index, OverflowError))
 
     def remove(self, value):
-        call('remove', *self._at, _byte(value))
+        self._call('remove', _byte(value))
 
     def clear(self):
-        call('clear', *self._at)
+        self._call('clear')
 
     def reverse(self):
-        call('reverse', *self._at)
+        self._call('reverse')
 
     def copy(self):
         return ByteArray(self.tobytes())
@@ -313,9 +334,12 @@ _HASHED = ('B', 'b', 'c', '@B', '@b', '@c')
 
 
 class MemoryView(_Object):
-    """A view of a `ByteArray` or of another view, or of a copy of any other object with a buffer."""
+    """A view of a `ByteArray` or of another view, or of a copy of any other object with a buffer. It is released with its last
+    reference, before the next call for its bytes."""
 
     _constant = False
+    _released = False
+    _known = None
 
     def __init__(self, source):
         if isinstance(source, (ByteArray, MemoryView)):
@@ -328,6 +352,10 @@ class MemoryView(_Object):
         self._constant = isinstance(source, bytes)
         self._source = source
         whole.release()
+
+    def __del__(self):
+        if self._world is not None and not self._released:
+            self._world.drop(self._object)
 
     def _keep(self, source, made):
         self._world = source._world
@@ -343,11 +371,12 @@ class MemoryView(_Object):
         return view
 
     def __repr__(self):
-        return text_by('shown', *self._at).decode()
+        return self._text('shown').decode()
 
     def release(self):
         """Releases the view. A second time changes nothing."""
-        call('release', *self._at)
+        self._call('release')
+        self._released = True
 
     def __enter__(self):
         self._alive()
@@ -381,21 +410,28 @@ class MemoryView(_Object):
 
     def _item(self, name, *arguments):
         number = Number()
-        status = raw[name](*self._at, *arguments, ctypes.byref(number))
-        if status == Status.NOTHING:  # an item that is bytes
-            return text_by('last_bytes', self._world.pointer)
+        status, content = self._world.ask_for_item(name, self._object, *arguments, ctypes.byref(number))
         if status:
             raise_for(status)
-        return bool(number.magnitude) if self.format in ('?', '@?') else number.value()
+        if content is not None:
+            return content
+        return bool(number.magnitude) if self._code == '?' else number.value()
+
+    @property
+    def _code(self):
+        """The format without its `@`. It stays, so it is asked for once."""
+        if self._known is None:
+            self._known = self.format.lstrip('@')
+        return self._known
 
     def __setitem__(self, key, value):
         if isinstance(key, slice):
             words = ctypes.byref(Slice.of(key))
             if isinstance(value, _Object) and value._world is self._world:
-                call('set_slice_of', *self._at, words, value._object)
+                self._call('set_slice_of', words, value._object)
             else:
                 content = _lent(value)
-                call('set_slice', *self._at, words, content, len(content))
+                self._call('set_slice', words, content, len(content))
             return
         if isinstance(key, tuple):
             indices = [word_of(part) for part in key]
@@ -405,10 +441,10 @@ class MemoryView(_Object):
         else:
             self._alive()
             raise TypeError('memoryview: invalid slice key')
-        if self.format in ('c', '@c'):
+        if self._code == 'c':
             self._set_byte(key, value)
             return
-        if self.format in ('?', '@?'):
+        if self._code == '?':
             value = bool(value)
         if not hasattr(value, '__index__'):
             if not self.readonly:
@@ -417,7 +453,7 @@ class MemoryView(_Object):
         number = index_of(value)
         name, *rest = arguments
         wide = abs(number) >= 1 << 64
-        status = raw[name](*self._at, *rest, Number.of(0 if wide else number))
+        status = self._world.ask(name, self._object, *rest, Number.of(0 if wide else number))
         if status == Status.OK and not wide:
             return
         if wide or status == Status.TYPE_ERROR and not self.readonly:
@@ -460,11 +496,11 @@ class MemoryView(_Object):
     def tolist(self):
         """The items, in lists by the shape."""
         shape = self.shape
-        if self.format in ('c', '@c'):
+        if self._code == 'c':
             items = [bytes((byte,)) for byte in self.tobytes()]
         else:
-            items = numbers_by('items', *self._at)
-            if self.format in ('?', '@?'):
+            items = self._numbers('items')
+            if self._code == '?':
                 items = [bool(item) for item in items]
         for width in reversed(shape[1:]):
             items = [items[at:at + width] for at in range(0, len(items), width)]
@@ -500,8 +536,8 @@ class MemoryView(_Object):
     contiguous = property(lambda self: bool(self._property('contiguous')))
     c_contiguous = property(lambda self: bool(self._property('c_contiguous')))
     f_contiguous = property(lambda self: bool(self._property('f_contiguous')))
-    shape = property(lambda self: tuple(numbers_by('property_numbers', *self._at, _NAMES['shape'])))
-    strides = property(lambda self: tuple(numbers_by('property_numbers', *self._at, _NAMES['strides'])))
+    shape = property(lambda self: tuple(self._numbers('property_numbers', _NAMES['shape'])))
+    strides = property(lambda self: tuple(self._numbers('property_numbers', _NAMES['strides'])))
     suboffsets = property(lambda self: self._alive() or ())
     obj = property(lambda self: self._alive() or self._source)
-    format = property(lambda self: text_by('property_text', *self._at, _NAMES['format']).decode())
+    format = property(lambda self: self._text('property_text', _NAMES['format']).decode())
