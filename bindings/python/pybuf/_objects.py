@@ -1,14 +1,16 @@
 """`ByteArray` and `MemoryView`, which behave as Python's own.
 
-Each `ByteArray` has a world of its own, which its views share and which is freed with the last of them.
+Each `ByteArray` has a world of its own, which its views share and which is freed with the last of them. What two worlds do together
+is done by copies, so that no thread waits for the turn of one world while it has that of another.
 """
 import ast
 import ctypes
+import math
 
 from ._calls import Number, Slice, Status, call, index_of, numbers_by, raise_for, text_by, word_of
 from ._worlds import World
 
-_BYTEARRAY = 1
+_BYTEARRAY, _VECTOR = 1, 2
 _NAMES = {'nbytes': 2, 'readonly': 3, 'itemsize': 4, 'ndim': 5, 'shape': 6, 'strides': 7, 'format': 9, 'contiguous': 10,
           'c_contiguous': 11, 'f_contiguous': 12, 'exports': 0}
 _OPERATORS = {'==': 0, '!=': 1, '<': 2, '<=': 3, '>': 4, '>=': 5}
@@ -45,12 +47,44 @@ def _lent_view(value):
     return memoryview(value.tobytes() if isinstance(value, ByteArray) else value)
 
 
+def _is_of_bytes(view):
+    """Whether a view is one of single bytes, as that of a bytearray is."""
+    return view.format == 'B' and view.ndim == 1
+
+
+def _copied(world, view):
+    """Copies the items of a view of ours or of Python's into a world. The last of the numbers that it answers is that of a view of
+    the copy, with the same format and shape, the first that of the copy, and the others those of views on the way. A format that
+    `cast` doesn't take is its ValueError."""
+    shape, format, content = list(view.shape), view.format.encode(), view.tobytes()
+    none = shape[:1] == [0]
+    if none:  # a cast makes no view without items, and a slice does
+        shape[0] = 1
+        content = bytes(view.itemsize * math.prod(shape))
+    made = [world.made('new', _VECTOR, content, len(content))]
+    made.append(world.made('view', made[-1]))
+    if not _is_of_bytes(view):
+        made.append(world.made('cast', made[-1], format, (ctypes.c_int64 * max(len(shape), 1))(*shape), len(shape)))
+    if none:
+        made.append(world.made('get_slice', made[-1], ctypes.byref(Slice.of(slice(0, 0)))))
+    return made
+
+
 def _byte(value):
     """A byte as a number, with Python's refusals: of what is no index, and of a number that is no byte."""
     number = index_of(value)
     if not 0 <= number <= 255:
         raise ValueError('byte must be in range(0, 256)')
     return Number.of(number)
+
+
+def _truth(world, name, *arguments):
+    """What a comparison in a world answers."""
+    truth = ctypes.c_int()
+    status = world.ask(name, *arguments, ctypes.byref(truth))
+    if status:
+        raise_for(status)
+    return NotImplemented if truth.value == 2 else bool(truth.value)
 
 
 class _Object:
@@ -88,18 +122,12 @@ class _Object:
         return self._text('bytes')
 
     def _compares(self, operator, other):
-        truth = ctypes.c_int()
-        if isinstance(other, _Object):
-            if other._world is self._world:
-                self._call('compare_with', _OPERATORS[operator], other._object, ctypes.byref(truth))
-                return NotImplemented if truth.value == 2 else bool(truth.value)
-            other = other.tobytes()
-        try:
-            other = _lent(other)
-        except TypeError:
-            return NotImplemented
-        self._call('compare', _OPERATORS[operator], other, len(other), ctypes.byref(truth))
-        return NotImplemented if truth.value == 2 else bool(truth.value)
+        if isinstance(other, _Object) and other._world is self._world:
+            return _truth(self._world, 'compare_with', self._object, _OPERATORS[operator], other._object)
+        return self._compares_outside(operator, other)
+
+    def _compares_with_bytes(self, operator, content):
+        return _truth(self._world, 'compare', self._object, _OPERATORS[operator], content, len(content))
 
     def __eq__(self, other):
         return self._compares('==', other)
@@ -125,6 +153,14 @@ class ByteArray(_Object):
         made = ctypes.c_uint64()
         call('new', self._world.pointer, _BYTEARRAY, content, len(content), ctypes.byref(made))
         self._object = made.value
+
+    def _compares_outside(self, operator, other):
+        """Compares with an object of another world, or with one of Python's."""
+        try:
+            content = _lent_whole(other)
+        except (BufferError, TypeError, ValueError):
+            return NotImplemented
+        return self._compares_with_bytes(operator, content)
 
     def __repr__(self):
         return f'ByteArray({self.tobytes()!r})'
@@ -345,13 +381,14 @@ class MemoryView(_Object):
         if isinstance(source, (ByteArray, MemoryView)):
             self._keep(source, source._one('view'))
             return
+        world = World()
         with memoryview(source) as view:
-            readonly = view.readonly
-        whole = MemoryView(ByteArray(_lent(source)))
-        self._keep(whole, whole._one('to_readonly' if readonly else 'view'))
-        self._constant = isinstance(source, bytes)
-        self._source = source
-        whole.release()
+            try:
+                made = _copied(world, view)[-1]
+            except ValueError:  # the library hasn't such items, but it has their bytes
+                made = _copied(world, memoryview(view.tobytes()))[-1]
+            self._object = world.made('to_readonly', made) if view.readonly else made
+        self._world, self._source, self._constant = world, source, isinstance(source, bytes)
 
     def __del__(self):
         if self._world is not None and not self._released:
@@ -424,14 +461,47 @@ class MemoryView(_Object):
             self._known = self.format.lstrip('@')
         return self._known
 
+    def _compares_outside(self, operator, other):
+        """Compares with an object of another world, or with one of Python's."""
+        try:
+            view = _lent_view(other)
+        except (BufferError, TypeError, ValueError):
+            return NotImplemented
+        try:
+            if _is_of_bytes(view):
+                return self._compares_with_bytes(operator, view.tobytes())
+            world = World()
+            ours, others = _copied(world, self)[-1], _copied(world, view)[-1]
+        except ValueError:  # one was released, or the library hasn't such items: each is equal to itself alone
+            return operator == '!='
+        return _truth(world, 'compare_with', ours, _OPERATORS[operator], others)
+
+    def _assign(self, words, value):
+        """Assigns an object of another world, or one of Python's, to a slice."""
+        if self.readonly:
+            raise TypeError('cannot modify read-only memory')
+        view = _lent_view(value)
+        if _is_of_bytes(view):
+            content = view.tobytes()
+            self._call('set_slice', words, content, len(content))
+            return
+        if self.ndim == 1 and view.format != self.format:
+            raise ValueError('memoryview assignment: lvalue and rvalue have different structures')
+        copy, *views = _copied(self._world, view)
+        try:
+            self._call('set_slice_of', words, views[-1])
+        finally:
+            for made in views:
+                self._world.ask('release', made)
+            self._world.ask('take', copy, None, 0, ctypes.byref(ctypes.c_size_t()))
+
     def __setitem__(self, key, value):
         if isinstance(key, slice):
             words = ctypes.byref(Slice.of(key))
             if isinstance(value, _Object) and value._world is self._world:
                 self._call('set_slice_of', words, value._object)
             else:
-                content = _lent(value)
-                self._call('set_slice', words, content, len(content))
+                self._assign(words, value)
             return
         if isinstance(key, tuple):
             indices = [word_of(part) for part in key]

@@ -139,6 +139,169 @@ def a_view_without_its_array_keeps_the_bytes(A, M, S):
     return m.tolist(), m.obj
 
 
+# ---- two arrays ----
+
+def two_arrays_are_compared_by_items(A, M, S):
+    a, b = A(b'\1\0\2\0'), A(b'\1\0\2\0')
+    m, n = M(a), M(b)
+    kinds = [lambda v: v, lambda v: v.cast('H'), lambda v: v.cast('h'), lambda v: v.cast('B', [2, 2]), lambda v: v.cast('c'),
+             lambda v: v.cast('I'), lambda v: v[::2], lambda v: v[::-1], lambda v: v[:0], lambda v: v.cast('H')[:0],
+             lambda v: v.cast('?'), lambda v: v.cast('H', [1, 2]), lambda v: v.cast('B', [1, 4]), lambda v: v.cast('I', []),
+             lambda v: v.toreadonly(), lambda v: v.cast('b')[::2]]
+    views = [kind(v) for v in (m, n) for kind in kinds] + [a, b, bytes(a), memoryview(bytes(a)), bytearray(a), b'', 7]
+    return [[(v == w, v != w) for w in views] for v in views[:-5]]
+
+
+def items_of_two_arrays_are_compared_by_value(A, M, S):
+    a, b = A(b'\1\0\2\0'), A(b'\1\2')
+    return M(a).cast('H') == M(b), M(a).cast('h') == M(b), M(b) == M(a).cast('H'), M(a)[::2] == M(b), M(a)[::2] == b, b == M(a)[::2]
+
+
+def arrays_are_ordered_by_bytes_of_a_view(A, M, S):
+    a, b = A(b'\1\0\2\0'), A(b'\1\0\2\1')
+    return a < M(b), M(a) < b, a < M(b).cast('H'), a >= M(b).cast('B', [2, 2]), a == M(a).cast('H'), a == M(b).cast('H')
+
+
+@raises(TypeError)
+def an_array_has_no_order_with_items_that_lie_apart(A, M, S):
+    return A(b'a') < M(A(b'abc'))[::2]
+
+
+def a_view_is_assigned_what_has_its_structure(A, M, S):
+    a, b = A(b'abcdefgh'), A(b'ABCDEFGH')
+    M(a)[0:4] = M(b)[4:]
+    M(a).cast('H')[1:3] = M(b).cast('H')[:2]
+    M(a).cast('H')[::2] = M(b).cast('H')[1::2]
+    M(a).cast('I')[::-1] = M(b).cast('I')
+    M(a)[:0] = M(b)[3:3]
+    M(a).cast('H')[:0] = M(b).cast('H')[:0]
+    M(a).cast('c')[:] = M(b).cast('c')[::-1]
+    a.append(1)
+    b.append(1)
+    return a, b
+
+
+@raises(ValueError)
+def a_view_is_not_assigned_another_format(A, M, S):
+    M(A(b'abcdefgh'))[0:4] = M(A(b'ABCDEFGH')).cast('H')[2:4]
+
+
+@raises(ValueError)
+def a_view_is_not_assigned_another_shape(A, M, S):
+    M(A(b'abcdefgh'))[0:4] = M(A(b'ABCD')).cast('B', [2, 2])
+
+
+@raises(ValueError)
+def a_view_is_not_assigned_another_length(A, M, S):
+    M(A(b'abcdefgh')).cast('H')[0:2] = M(A(b'ABCD')).cast('H')[:1]
+
+
+@raises(ValueError)
+def a_view_of_numbers_is_not_assigned_bytes(A, M, S):
+    M(A(b'abcdefgh')).cast('H')[0:2] = b'abcd'
+
+
+def a_view_is_assigned_numbers_of_an_array(A, M, S):
+    a = A(b'abcdefgh')
+    M(a).cast('H')[1:3] = array('H', [1, 2])
+    M(a)[0:2] = array('B', [3, 4])
+    M(a)[:] = memoryview(b'01234567')[::-1]
+    return a
+
+
+@raises(ValueError)
+def a_view_is_not_assigned_numbers_of_another_code(A, M, S):
+    M(A(b'abcdefgh')).cast('H')[0:4] = array('h', [1, 2, 3, 4])
+
+
+@raises(ValueError)
+def a_view_is_not_assigned_floats(A, M, S):
+    M(A(b'abcdefgh')).cast('Q')[:] = array('d', [1])
+
+
+def a_refused_assignment_changes_nothing(A, M, S):
+    a, b = A(b'abcdefgh'), A(b'ABCDEFGH')
+    try:
+        M(a)[0:4] = M(b).cast('H')[2:4]
+    except ValueError:
+        pass
+    a.append(1)
+    return a, b
+
+
+@raises(TypeError)
+def what_may_only_be_read_comes_before_what_is_assigned(A, M, S):
+    n = M(A(b'ab'))
+    n.release()
+    M(A(b'ab')).toreadonly()[:] = n
+
+
+@raises(ValueError)
+def a_released_view_comes_before_what_is_assigned(A, M, S):
+    m = M(A(b'ab'))
+    m.release()
+    m[:] = 7
+
+
+@raises(ValueError)
+def a_released_view_isnt_assigned(A, M, S):
+    n = M(A(b'ab'))
+    n.release()
+    M(A(b'ab'))[:] = n
+
+
+def a_released_view_is_equal_to_itself_alone(A, M, S):
+    a, b = A(b'ab'), A(b'ab')
+    m, n, gone = M(a), M(b), memoryview(b'ab')
+    k, c = M(b), M(b).cast('H')
+    for view in (n, c, gone):
+        view.release()
+    views = [m, n, k, c, a, b, gone, b'ab']
+    return [[(v == w, v != w) for w in views] for v in views[:-2]]
+
+
+def a_view_is_equal_to_numbers_of_an_array(A, M, S):
+    m = M(A(b'\1\0\2\0')).cast('H')
+    return (m == array('H', [1, 2]), m == array('h', [1, 2]), m == array('q', [1, 2]), m == array('H', [1, 3]), m == array('H'),
+            array('H', [1, 2]) == m, m == memoryview(array('H', [1, 2])), m != memoryview(array('b', [1, 2])),
+            M(A(b'\1\2')) == memoryview(array('I', [1, 2])), m == 'ab', m == None)  # noqa: E711
+
+
+def a_view_of_an_array_has_its_items(A, M, S):
+    answers = []
+    for code in 'BbHhIiLlQq':
+        m = M(array(code, [1, 2, 3]))
+        answers.append((m.format, m.itemsize, m.shape, m.strides, m.nbytes, m.tolist(), m[1], m[::2].tolist(), m.readonly))
+    for view in memoryview(b'abcdef').cast('B', [2, 3]), memoryview(b'abcd').cast('I', []), memoryview(b'abc')[::2], memoryview(b'ab')[:0]:
+        m = M(view)
+        answers.append((m.format, m.shape, m.readonly, bytes(m)))
+    return answers
+
+
+def the_same_bytes_are_read_and_written(A, M, S):
+    a = A(b'abcdefgh')
+    m = M(a)
+    m[1:4] = m[0:3]
+    m[::-1] = m
+    n = m.cast('H')
+    n[:2] = n[2:]
+    return a, m == m[:], n == m, n == m.cast('H'), a == m, a == n
+
+
+@raises(BufferError)
+def an_array_isnt_extended_by_a_view_of_itself(A, M, S):
+    a = A(b'ab')
+    a.extend(M(a))
+
+
+def an_array_takes_of_itself(A, M, S):
+    a = A(b'ab')
+    a.extend(a)
+    a[1:2] = a
+    a[::2] = a[::2]
+    return a, a == a, a in a, a.find(a), a.join([a, a]), a.replace(a, a + a)
+
+
 def plain(value):
     """What a value is, whoever made it."""
     if isinstance(value, (ByteArray, bytearray)):

@@ -79,6 +79,18 @@ def views_come_and_go():
     return step, step, end
 
 
+def two_arrays():
+    arrays = ByteArray(CONTENT), ByteArray(CONTENT)
+    views = [MemoryView(array).cast('H') for array in arrays]
+
+    def step(a, b):
+        same(a == b, True)
+        a[:] = b
+        same(a.cast('B') == b, False)
+        same(arrays[0] == arrays[1], True)
+    return (lambda n: step(*views)), (lambda n: step(*views[::-1])), lambda: same(bytes(arrays[0]), CONTENT)
+
+
 def formats():
     letters = Struct('>H5sI')
 
@@ -97,7 +109,7 @@ def lines_of_a_world():
     return step, step, world.close
 
 
-KINDS = reads_of_an_array, edits_of_an_array, reads_of_a_view, views_come_and_go, formats, lines_of_a_world
+KINDS = reads_of_an_array, edits_of_an_array, reads_of_a_view, views_come_and_go, two_arrays, formats, lines_of_a_world
 
 
 def both(kind, seconds):
