@@ -194,6 +194,13 @@ def library_version():
 raw = {name: getattr(_LIB, f'pybuf_{name}') for name in _PARAMETERS}
 
 
+class Uncopied:
+    """What names something in the library, and so is neither copied nor pickled."""
+
+    def __reduce__(self):
+        raise TypeError(f'cannot pickle {type(self).__name__!r} object')
+
+
 def raise_for(status):
     status = Status(status)
     raise EXCEPTIONS.get(status, RuntimeError)(status.name)

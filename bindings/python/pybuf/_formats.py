@@ -4,7 +4,7 @@ import functools
 import re
 import threading
 
-from ._calls import BYTES_VALUE, TRUTH_VALUE, Number, Value, call, index_of, raw, struct_error, text_by, values_by, word_of
+from ._calls import BYTES_VALUE, TRUTH_VALUE, Number, Uncopied, Value, call, index_of, raw, struct_error, text_by, values_by, word_of
 from ._objects import ByteArray, MemoryView, _lent_whole
 
 # a number that no code but '?' takes, in place of one past 64 bits
@@ -23,7 +23,7 @@ def _place(offset, size, length, refusal):
     return offset
 
 
-class Struct:
+class Struct(Uncopied):
     """A format of the module `struct`. Codes of floats and pointers are none here, nor are blanks."""
 
     _pointer = None

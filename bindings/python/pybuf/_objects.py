@@ -7,7 +7,7 @@ import ast
 import ctypes
 import math
 
-from ._calls import Number, Slice, Status, call, index_of, numbers_by, raise_for, text_by, word_of
+from ._calls import Number, Slice, Status, Uncopied, index_of, numbers_by, raise_for, text_by, word_of
 from ._worlds import World
 
 _BYTEARRAY, _VECTOR = 1, 2
@@ -139,6 +139,7 @@ class _Object:
 class ByteArray(_Object):
     """A bytearray."""
 
+    __module__ = 'pybuf'  # by which pickle finds it
     __hash__ = None
 
     def __init__(self, source=b'', encoding=None, errors=None):
@@ -149,10 +150,18 @@ class ByteArray(_Object):
         elif encoding is not None or errors is not None:
             raise TypeError('encoding or errors without a string argument')
         content = _content(source)
-        self._world = World()
-        made = ctypes.c_uint64()
-        call('new', self._world.pointer, _BYTEARRAY, content, len(content), ctypes.byref(made))
-        self._object = made.value
+        if self._world is None:
+            world = World()
+            self._object = world.made('new', _BYTEARRAY, content, len(content))
+            self._world = world
+            return
+        with self._world.turn:  # it is made once more
+            self._call('clear')
+            self._call('extend', content, len(content))
+
+    def __reduce__(self):
+        more = {name: value for name, value in vars(self).items() if name not in ('_world', '_object')}
+        return type(self), (self.tobytes(),), more or None
 
     def _compares_outside(self, operator, other):
         """Compares with an object of another world, or with one of Python's."""
@@ -369,7 +378,7 @@ _joined = _method('join')
 _HASHED = ('B', 'b', 'c', '@B', '@b', '@c')
 
 
-class MemoryView(_Object):
+class MemoryView(_Object, Uncopied):
     """A view of a `ByteArray` or of another view, or of a copy of any other object with a buffer. It is released with its last
     reference, before the next call for its bytes."""
 
@@ -378,6 +387,8 @@ class MemoryView(_Object):
     _known = None
 
     def __init__(self, source):
+        if self._world is not None:  # once more, as of Python's own
+            return
         if isinstance(source, (ByteArray, MemoryView)):
             self._keep(source, source._one('view'))
             return

@@ -2,7 +2,7 @@
 import ctypes
 import threading
 
-from ._calls import Status, call, raise_for, raw, text_by
+from ._calls import Status, Uncopied, call, raise_for, raw, text_by
 
 # replies of more bytes than these aren't kept by a world
 _LONG = 1 << 16
@@ -16,7 +16,7 @@ class BadLine(ValueError):
         self.line = line
 
 
-class World:
+class World(Uncopied):
     """A world of objects, which runs lines. It is freed with the last reference, or by `close`.
 
     One thread at a time is in a world, and the others wait for their turn.

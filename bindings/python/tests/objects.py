@@ -302,6 +302,79 @@ def an_array_takes_of_itself(A, M, S):
     return a, a == a, a in a, a.find(a), a.join([a, a]), a.replace(a, a + a)
 
 
+# ---- copies, and objects that are made once more ----
+
+def a_copy_is_of_its_own(A, M, S):
+    a = A(b'ab')
+    for made in copy.copy(a), copy.deepcopy(a), pickle.loads(pickle.dumps(a)), a.copy(), a[:], a * 1, a + b'':
+        made.append(1)
+        assert made is not a
+    return a, copy.copy(a)
+
+
+def a_copy_has_what_a_class_of_ones_own_keeps(A, M, S):
+    class Own(A):
+        pass
+    a = Own(b'ab')
+    a.name = ['n']
+    b, c = copy.copy(a), copy.deepcopy(a)
+    return b.name is a.name, c.name is a.name, c.name, type(b) is Own, bytes(b), bytes(c)
+
+
+@raises(TypeError)
+def a_view_isnt_copied(A, M, S):
+    copy.copy(M(A(b'ab')))
+
+
+@raises(TypeError)
+def a_view_isnt_pickled(A, M, S):
+    pickle.dumps(M(A(b'ab')))
+
+
+@raises(TypeError)
+def a_format_isnt_copied(A, M, S):
+    copy.copy(S('H'))
+
+
+def a_view_is_made_once(A, M, S):
+    a = A(b'ab')
+    m = M(a)
+    m.__init__(A(b'xyz'))
+    answer = bytes(m)
+    del m
+    a.append(1)
+    return answer, a
+
+
+def an_array_is_made_once_more(A, M, S):
+    a = A(b'abc')
+    a.__init__(b'zz')
+    a.append(1)
+    first = bytes(a)
+    a.__init__(3)
+    a.__init__([*a, 4])
+    second = bytes(a)
+    a.__init__()
+    return first, second, a
+
+
+def an_array_isnt_made_once_more_under_a_view(A, M, S):
+    a = A(b'abc')
+    m = M(a)
+    try:
+        a.__init__(b'zz')
+    except BufferError:
+        return bytes(m), a
+    return 'done'
+
+
+def a_format_is_made_once_more(A, M, S):
+    f = S('H')
+    f.pack(1)
+    f.__init__('<IcB')
+    return f.pack(1, b'a', 2), f.size, f.format
+
+
 def plain(value):
     """What a value is, whoever made it."""
     if isinstance(value, (ByteArray, bytearray)):
@@ -316,6 +389,16 @@ def outcome(story, types):
         return plain(story(*types))
     except Exception as fault:  # each kind is compared
         return 'raises', type(fault)
+
+
+def worlds_arent_copied():
+    for made in World(), Struct('H'), MemoryView(b'a'):
+        for how in copy.copy, copy.deepcopy, pickle.dumps:
+            try:
+                how(made)
+            except TypeError:
+                continue
+            return f'{type(made).__name__} is copied by {how.__name__}'
 
 
 LEFT = """
@@ -350,7 +433,7 @@ def main():
         if own != ours or kind is not getattr(story, 'kind', None):
             failed += 1
             print(f'{story.__name__}:\n  Python {own}\n  ours   {ours}'[:2000])
-    for fault in (an_interpreter_ends_quietly(),):
+    for fault in worlds_arent_copied(), an_interpreter_ends_quietly():
         if fault:
             failed += 1
             print(fault)
