@@ -170,7 +170,6 @@ _PARAMETERS = {
     'delete_slice': [_WORLD, _OBJECT, ctypes.POINTER(Slice)],
     'repeat': [_WORLD, _OBJECT, ctypes.c_int64],
     'take': [_WORLD, _OBJECT, ctypes.c_char_p, _SIZE, ctypes.POINTER(_SIZE)],
-    'pop_last': [_WORLD, _OBJECT, ctypes.POINTER(Number)],
     'last_bytes': [_WORLD, ctypes.c_char_p, _SIZE, ctypes.POINTER(_SIZE)],
     'format_parse': [ctypes.c_char_p, _SIZE, ctypes.POINTER(_FORMAT)],
     'format_free': [_FORMAT],

@@ -11,18 +11,31 @@ from ._calls import Number, Slice, Status, Uncopied, index_of, numbers_by, raise
 from ._worlds import World
 
 _BYTEARRAY, _VECTOR = 1, 2
+# a width from which on a method's result is made in a world, and not read from a reply
+_LONG = 1 << 16
 _NAMES = {'nbytes': 2, 'readonly': 3, 'itemsize': 4, 'ndim': 5, 'shape': 6, 'strides': 7, 'format': 9, 'contiguous': 10,
           'c_contiguous': 11, 'f_contiguous': 12, 'exports': 0}
+_LEFT_OUT = object()
 _OPERATORS = {'==': 0, '!=': 1, '<': 2, '<=': 3, '>': 4, '>=': 5}
 
 
+def _has(value, *names):
+    return any(hasattr(type(value), name) for name in names)
+
+
+def _has_buffer(value):
+    try:
+        memoryview(value).release()
+    except TypeError:
+        return isinstance(value, (ByteArray, MemoryView))
+    return True
+
+
 def _content(value):
-    """The bytes of what is read as bytes: an object of ours, one of Python's, or numbers from 0 to 255."""
-    if isinstance(value, (ByteArray, MemoryView)):
-        return value.tobytes()
-    if isinstance(value, str):
-        raise TypeError('a text is not read as bytes')
-    return bytes(value)
+    """The bytes of what is read as bytes: an object with a buffer, or numbers from 0 to 255."""
+    if _has_buffer(value):
+        return _lent(value)
+    return bytes(iter(value))
 
 
 def _lent(value):
@@ -38,6 +51,14 @@ def _lent_whole(value):
     if not view.c_contiguous:
         raise BufferError('memoryview: underlying buffer is not C-contiguous')
     return view.tobytes()
+
+
+def _added(value):
+    """The bytes of what is added, with Python's refusal of anything else."""
+    try:
+        return _lent_whole(value)
+    except (BufferError, TypeError, ValueError):
+        raise TypeError(f"can't concat {type(value).__name__} to bytearray") from None
 
 
 def _lent_view(value):
@@ -149,15 +170,22 @@ class ByteArray(_Object):
             source = source.encode(encoding, errors or 'strict')
         elif encoding is not None or errors is not None:
             raise TypeError('encoding or errors without a string argument')
-        content = _content(source)
+        zeros = word_of(source, OverflowError) if _has(source, '__index__') else 0
+        if zeros < 0:
+            raise ValueError('negative count')
+        content = b'\0'[:zeros] if _has(source, '__index__') else _content(source)
         if self._world is None:
             world = World()
             self._object = world.made('new', _BYTEARRAY, content, len(content))
             self._world = world
+            if zeros:
+                self._call('repeat', zeros)
             return
         with self._world.turn:  # it is made once more
             self._call('clear')
             self._call('extend', content, len(content))
+            if zeros:
+                self._call('repeat', zeros)
 
     def __reduce__(self):
         more = {name: value for name, value in vars(self).items() if name not in ('_world', '_object')}
@@ -172,7 +200,7 @@ class ByteArray(_Object):
         return self._compares_with_bytes(operator, content)
 
     def __repr__(self):
-        return f'ByteArray({self.tobytes()!r})'
+        return f'{type(self).__name__}({self.tobytes()!r})'
 
     def __bytes__(self):
         return self.tobytes()
@@ -208,9 +236,9 @@ class ByteArray(_Object):
 
     def __setitem__(self, key, value):
         if isinstance(key, slice):
-            content = _content(value) if not isinstance(value, int) else None
-            if content is None:
+            if isinstance(value, str) or _has(value, '__index__', '__int__', '__float__'):
                 raise TypeError('can assign only bytes, buffers, or iterables of ints in range(0, 256)')
+            content = _content(value)
             self._call('set_slice', ctypes.byref(Slice.of(key)), content, len(content))
             return
         if not hasattr(key, '__index__'):
@@ -236,23 +264,24 @@ class ByteArray(_Object):
         return truth.value
 
     def __add__(self, other):
-        try:
-            return ByteArray(self.tobytes() + _lent(other))
-        except TypeError:
-            raise TypeError(f"can't concat {type(other).__name__} to bytearray") from None
+        return ByteArray(self.tobytes() + _added(other))
 
     def __iadd__(self, other):
-        content = _lent(other)
+        content = _added(other)
+        if other is self and content:  # its own bytes are lent meanwhile
+            raise BufferError('Existing exports of data: object cannot be re-sized')
         self._call('extend', content, len(content))
         return self
 
     def __mul__(self, count):
-        return ByteArray(self.tobytes() * index_of(count))
+        made = self.copy()
+        made *= count
+        return made
 
     __rmul__ = __mul__
 
     def __imul__(self, count):
-        self._call('repeat', word_of(count))
+        self._call('repeat', word_of(count, OverflowError))
         return self
 
     def append(self, value):
@@ -262,17 +291,15 @@ class ByteArray(_Object):
         if values is self:
             self._call('extend_by', self._object)
             return
-        content = _content(values) if not isinstance(values, int) else None
-        if content is None:
-            raise TypeError("can't extend bytearray with int")
+        content = _content(values)
         self._call('extend', content, len(content))
 
     def insert(self, index, value):
         index = word_of(index, OverflowError)
         self._call('insert', index, _byte(value))
 
-    def pop(self, index=None):
-        return self._number('pop_last') if index is None else self._number('pop', word_of(index, OverflowError))
+    def pop(self, index=-1):
+        return self._number('pop', word_of(index, OverflowError))
 
     def remove(self, value):
         self._call('remove', _byte(value))
@@ -295,24 +322,29 @@ class ByteArray(_Object):
         """The bytes that digits spell, as Python reads them."""
         return cls(bytes.fromhex(text))
 
-    maketrans = staticmethod(bytes.maketrans)
+    @staticmethod
+    def maketrans(before, after, /):
+        """The table by which `translate` puts bytes in the place of others."""
+        return bytes.maketrans(_lent(before), _lent(after))
+
+
+# what lines spell of numbers; a number past these is refused, or moved to the nearest place, as these are
+_WIDE = 1 << 120
 
 
 def _spelled(value):
     """A value as lines spell it."""
-    if value is None or isinstance(value, (bool, int)):
+    if value is None or isinstance(value, bool):
         return repr(value)
     if isinstance(value, str):
-        if not value.isascii() or not value.isprintable() or "'" in value or '\\' in value:
-            raise NotImplementedError('a text that lines do not spell')
-        return f"'{value}'"
+        raise TypeError("a bytes-like object is required, not 'str'")
     if isinstance(value, (tuple, list)):
         inside = ','.join(_spelled(part) for part in value)
         if isinstance(value, tuple) and len(value) == 1:
             inside += ','
         return f'({inside})' if isinstance(value, tuple) else f'[{inside}]'
-    if isinstance(value, slice):
-        return f'{value.start}:{value.stop}:{value.step}'
+    if isinstance(value, int) or _has(value, '__index__') and not _has_buffer(value):
+        return '%d' % max(-_WIDE, min(_WIDE, index_of(value)))
     return 'x' + _lent(value).hex()
 
 
@@ -356,19 +388,49 @@ def _method(name):
     return called
 
 
-def _hex(self, sep=None, bytes_per_sep=1):
+def _hex(self, sep=_LEFT_OUT, bytes_per_sep=1):
     """The digits of the bytes, with a separator between groups."""
-    if sep is None:
+    if sep is _LEFT_OUT:
         return self.tobytes().hex()
     if isinstance(sep, str):
         sep = sep.encode()
+    if not isinstance(sep, bytes):
+        raise TypeError('sep must be str or bytes.')
     return _method('hex')(self if isinstance(self, ByteArray) else ByteArray(self), sep, index_of(bytes_per_sep))
 
 
-for _name in ('capitalize center count endswith expandtabs find index isalnum isalpha isascii isdigit islower isspace istitle '
-              'isupper ljust lower lstrip partition removeprefix removesuffix replace rfind rindex rjust rpartition rsplit '
-              'rstrip split splitlines startswith strip swapcase title translate upper zfill').split():
+for _name in ('capitalize count endswith expandtabs find index isalnum isalpha isascii isdigit islower isspace istitle isupper '
+              'lower lstrip partition removeprefix removesuffix replace rfind rindex rpartition rsplit rstrip split splitlines '
+              'startswith strip swapcase title translate upper').split():
     setattr(ByteArray, _name, _method(_name))
+
+
+def _padding(name):
+    """A method that fills up to a width. A long one is filled here, as a reply would take several times its bytes."""
+    by_line = _method(name)
+
+    def called(self, width, *fill):
+        width = word_of(width, OverflowError)
+        if len(fill) > (name != 'zfill') or not all(isinstance(it, (bytes, bytearray, ByteArray)) and len(it) == 1 for it in fill):
+            raise TypeError(f'{name}() takes a width, and to fill up to it one byte, which zfill() has')
+        if width <= max(_LONG, len(self)):
+            return by_line(self, width, *fill)
+        content = self.tobytes()
+        made = ByteArray(fill[0] if fill else b'0' if name == 'zfill' else b' ')
+        made *= width
+        if name == 'zfill' and content[:1] in (b'+', b'-'):
+            made[0] = content[0]
+            content = content[1:]
+        more = width - len(content)
+        start = {'ljust': 0, 'center': more // 2 + (more & width & 1)}.get(name, more)
+        made[start:start + len(content)] = content
+        return made
+    called.__name__, called.__doc__ = name, by_line.__doc__
+    return called
+
+
+for _name in ('center', 'ljust', 'rjust', 'zfill'):
+    setattr(ByteArray, _name, _padding(_name))
 ByteArray.hex = _hex
 ByteArray.join = lambda self, parts: _joined(self, list(parts))
 _joined = _method('join')
@@ -449,12 +511,18 @@ class MemoryView(_Object, Uncopied):
         if isinstance(key, slice):
             return self._made(self._one('get_slice', ctypes.byref(Slice.of(key))))
         if isinstance(key, tuple):
-            indices = [word_of(part) for part in key]
+            indices = self._indices(key)
             return self._item('get_at', (ctypes.c_int64 * len(indices))(*indices), len(indices))
         if not hasattr(key, '__index__'):
             self._alive()
             raise TypeError('memoryview: invalid slice key')
         return self._item('get', word_of(key))
+
+    def _indices(self, key):
+        if key and all(isinstance(part, slice) for part in key):
+            self._alive()
+            raise NotImplementedError('multi-dimensional slicing is not implemented')
+        return [word_of(part) for part in key]
 
     def _item(self, name, *arguments):
         number = Number()
@@ -515,7 +583,7 @@ class MemoryView(_Object, Uncopied):
                 self._assign(words, value)
             return
         if isinstance(key, tuple):
-            indices = [word_of(part) for part in key]
+            indices = self._indices(key)
             arguments = 'set_at', (ctypes.c_int64 * len(indices))(*indices), len(indices)
         elif hasattr(key, '__index__'):
             arguments = 'set', word_of(key)
@@ -588,10 +656,14 @@ class MemoryView(_Object, Uncopied):
         return items
 
     def cast(self, format, shape=None):
+        if not isinstance(format, str):
+            raise TypeError(f"cast() argument 'format' must be str, not {type(format).__name__}")
         if shape is None:
-            return self._made(self._one('cast', format.encode(), None, 0))
-        sizes = [word_of(size) for size in shape]
-        return self._made(self._one('cast', format.encode(), (ctypes.c_int64 * max(len(sizes), 1))(*sizes), len(sizes)))
+            return self._made(self._one('cast', format.encode('ascii'), None, 0))
+        if not isinstance(shape, (list, tuple)) or not all(isinstance(size, int) for size in shape):
+            raise TypeError('shape must be a list or a tuple of integers')
+        sizes = [word_of(size, OverflowError) for size in shape]
+        return self._made(self._one('cast', format.encode('ascii'), (ctypes.c_int64 * max(len(sizes), 1))(*sizes), len(sizes)))
 
     def toreadonly(self):
         return self._made(self._one('to_readonly'))

@@ -375,6 +375,94 @@ def a_format_is_made_once_more(A, M, S):
     return f.pack(1, b'a', 2), f.size, f.format
 
 
+# ---- numbers and arguments ----
+
+def numbers_of_other_types_are_numbers(A, M, S):
+    a = A(b'abcabc')
+    answers = [a.find(Number.A), a.count(Number.A), a.find(b'b', Number.TWO), a.find(b'b', Index(2), Index(9)), a.rfind(Index(98)),
+               a.split(b'b', Number.TWO), a.rsplit(b'b', Index(1)), a.replace(b'a', b'x', Number.TWO), a.ljust(Index(9)), a.zfill(Index(8)),
+               a.startswith(b'c', Number.TWO), a.expandtabs(Number.TWO), a.splitlines(Number.TWO), a[Number.TWO], a[Index(-1)],
+               a[Index(1):Number.TWO], Number.A in a, Index(98) in a, a * Number.TWO, Number.TWO * a, a.pop(Index(1)), a.index(Index(99)),
+               a.find(True), a.hex('-', Index(2)), A(Index(3)), A(Number.TWO), A([Index(1), Number.A])]
+    a.append(Number.A)
+    a.insert(Index(0), Index(5))
+    a.remove(Index(98))
+    a[Index(1)] = Number.TWO
+    a *= Index(2)
+    m = M(a)
+    m[Index(0)] = Number.A
+    m.cast('c')[Index(1)] = b'z'
+    m.cast('B', [Number.TWO, 6])[Index(1), Number.TWO] = Index(7)
+    return answers, a, m.cast('B', [2, 6])[Index(1), Index(2)], m[Index(1):].tolist()
+
+
+def places_past_a_word_are_the_ends(A, M, S):
+    a = A(b'abcabc')
+    wide = 2 ** 200
+    return [a.find(b'b', -wide), a.find(b'b', wide), a.rfind(b'b', 0, wide), a.count(b'a', -wide, wide), a.startswith(b'a', -wide), a[-wide:wide],
+            a.find(b'b', Index(-wide)), a[::wide], M(a)[-wide:wide:wide].tolist(), a.endswith(b'', wide)]
+
+
+def counts_past_a_word_are_refused(A, M, S):
+    a = A(b'abc')
+    answers = []
+    for call in (lambda: a.find(2 ** 200), lambda: a.find(-2 ** 200), lambda: a.find(b'a', 'x'), lambda: a.ljust(2 ** 200), lambda: a.split(b'b', 2 ** 200),
+                 lambda: a.replace(b'a', b'b', -2 ** 200), lambda: a * 2 ** 200, lambda: a.__imul__(2 ** 200), lambda: a.pop(2 ** 200),
+                 lambda: a.insert(2 ** 200, 1), lambda: a[2 ** 200], lambda: a.append(2 ** 200), lambda: 2 ** 200 in a, lambda: A(2 ** 200),
+                 lambda: A(-1), lambda: a.find(1.5), lambda: a.find(None), lambda: a.find('b'), lambda: a.find("'"), lambda: a.find('\u00e9'),
+                 lambda: a.split('\n'), lambda: a.join(['\u00e9']), lambda: a.ljust('x'), lambda: a.ljust(3, 'x'), lambda: a.ljust(1 << 20, b'xy'),
+                 lambda: a.zfill(1 << 20, b'x'), lambda: a.center(1.5), lambda: M(a)[2 ** 200], lambda: M(a)[{}], lambda: a * 1.5,
+                 lambda: a.extend(5), lambda: a.extend(Index(5)), lambda: a.__setitem__(slice(0, 1), Index(5)), lambda: a.__setitem__(slice(0, 1), 1.5),
+                 lambda: M(A(b'abcd')).cast('B', [Index(2), 2]), lambda: M(A(b'abcd')).cast('B', [2.0, 2]), lambda: M(a).cast('B', 3),
+                 lambda: M(a).cast('B', [2 ** 200]), lambda: M(a).cast(5), lambda: M(a).cast('\u00e9'), lambda: M(a).cast('BB'), lambda: a.pop(None),
+                 lambda: M(A(b'abcd')).cast('B', [2, 2])[0:1, 0:1], lambda: M(A(b'abcd')).cast('B', [2, 2])[0:1, 0], lambda: A(b'x').join(b'ab'),
+                 lambda: M(A(b'abcd')).cast('B', [2, 2]).__setitem__((slice(0, 1), slice(0, 1)), 1), lambda: a + 'x', lambda: a + [1],
+                 lambda: a.__iadd__([1]), lambda: a.__iadd__(M(a)[::2]), lambda: a + M(a)[::2], lambda: S('H').pack_into(a, 2, 1),
+                 lambda: S('').pack_into(A(), 0), lambda: S('').pack_into(bytearray(), 0), lambda: S('H').pack_into(b'ab', 0, 1), lambda: S('0s').unpack(A()),
+                 lambda: S('H').pack_into(M(A(b'abcd'))[::2], 0, 1), lambda: S('H').pack(int), lambda: a.ljust(9, M(A(b'x'))), lambda: a.extend(''),
+                 lambda: a.extend('a'), lambda: a.__setitem__(slice(0, 1), ''), lambda: a.hex(A(b'x')), lambda: a.hex(None), lambda: a.zfill(9, b'x'),
+                 lambda: A.maketrans(A(b'a'), M(A(b'b')))[97], lambda: A.maketrans(b'a', 'b'), lambda: a.maketrans([1], [2]),
+                 lambda: A(1.5), lambda: A(None), lambda: A(Spelled()), lambda: a.extend(Spelled()), lambda: a.extend(None), lambda: a[int]):
+        try:
+            answers.append(call())
+        except Exception as fault:
+            answers.append(type(fault))
+    return answers, a
+
+
+def long_results_are_those_of_short_ones(A, M, S):
+    width, odd = 1 << 20, (1 << 20) + 1
+    made = [A(content) for content in (b'', b'abc', b'-abc', b'+', b'a-b')]
+    return [part for a in made for part in (a.ljust(width), a.rjust(width, b'*'), a.center(width), a.center(odd, bytearray(b'.')), a.zfill(odd),
+                                            (a * 70000).upper(), a.ljust(odd).split())]
+
+
+def an_iterator_goes_along_with_its_array(A, M, S):
+    a = A(b'abcd')
+    seen = []
+    for byte in a:
+        seen.append(byte)
+        a.pop()
+    walk = iter(a)
+    seen.append(list(walk))
+    a.append(1)
+    seen.append(list(walk))
+    return seen, a
+
+
+@raises(BufferError)
+def an_array_isnt_added_to_itself(A, M, S):
+    a = A(b'ab')
+    a += a
+
+
+def a_negative_count_is_no_times(A, M, S):
+    a = A(b'ab')
+    answers = a * -1, a * 0, -3 * a
+    a *= -1
+    return answers, a
+
+
 def plain(value):
     """What a value is, whoever made it."""
     if isinstance(value, (ByteArray, bytearray)):
