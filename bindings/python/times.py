@@ -1,25 +1,31 @@
-"""Times a million calls of append, set and get on our ByteArray and on Python's bytearray, and of pack and unpack by a format of two
-numbers of our Struct and of Python's, each in nanoseconds of the processor."""
+"""Times a million calls of append, set and get on our ByteArray and on Python's bytearray, of get and set through a view and of views
+that are made and dropped, and of pack and unpack by a format of two numbers of our Struct and of Python's, each in nanoseconds of the
+processor."""
 import struct
 import time
 
-from pybuf import ByteArray, Struct
+from pybuf import ByteArray, MemoryView, Struct
 
 CALLS = 1_000_000
 
 
-def timed(name, call):
+def timed(name, call, calls=CALLS):
     start = time.process_time_ns()
-    for i in range(CALLS):
+    for i in range(calls):
         call(i)
-    print(f'{name} {(time.process_time_ns() - start) / CALLS:.1f}')
+    print(f'{name} {(time.process_time_ns() - start) / calls:.1f}')
 
 
-for kind in (ByteArray, bytearray):
+for kind, lent in (ByteArray, MemoryView), (bytearray, memoryview):
     array = kind()
     timed(f'{kind.__name__} append', lambda i: array.append(i & 255))
     timed(f'{kind.__name__} set', lambda i: array.__setitem__(i, 7))
     timed(f'{kind.__name__} get', array.__getitem__)
+    view = lent(array)
+    timed(f'{lent.__name__} set', lambda i: view.__setitem__(i, 7))
+    timed(f'{lent.__name__} get', view.__getitem__)
+    # a world keeps what it made, so there are fewer of these
+    timed(f'{lent.__name__} made and dropped', lambda i: lent(array) is None, CALLS // 10)
 for kind in (Struct, struct.Struct):
     format = kind('<HI')
     timed(f'{kind.__module__} pack', lambda i: format.pack(i & 255, i))

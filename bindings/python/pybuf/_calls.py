@@ -1,6 +1,7 @@
 """The calls of include/pybuf.h, by ctypes. Each raises the exception that its status stands for."""
 import ctypes
 import enum
+import operator
 import os
 import pathlib
 import struct
@@ -92,12 +93,8 @@ class Slice(ctypes.Structure):
         return made
 
 
-def index_of(value):
-    """The number of what has `__index__`, as Python takes it for an index."""
-    try:
-        return value.__index__()
-    except AttributeError:
-        raise TypeError(f'{type(value).__name__} cannot be interpreted as an integer') from None
+# The number of what has `__index__`, as Python takes it for an index.
+index_of = operator.index
 
 
 def word_of(value, refusal=IndexError):
@@ -166,13 +163,13 @@ _PARAMETERS = {
     'extend_by': [_WORLD, _OBJECT, _OBJECT],
     'insert': [_WORLD, _OBJECT, ctypes.c_int64, Number],
     'pop': [_WORLD, _OBJECT, ctypes.c_int64, ctypes.POINTER(Number)],
-    'pop_last': [_WORLD, _OBJECT, ctypes.POINTER(Number)],
     'remove': [_WORLD, _OBJECT, Number],
     'clear': [_WORLD, _OBJECT],
     'reverse': [_WORLD, _OBJECT],
     'delete': [_WORLD, _OBJECT, ctypes.c_int64],
     'delete_slice': [_WORLD, _OBJECT, ctypes.POINTER(Slice)],
     'repeat': [_WORLD, _OBJECT, ctypes.c_int64],
+    'take': [_WORLD, _OBJECT, ctypes.c_char_p, _SIZE, ctypes.POINTER(_SIZE)],
     'last_bytes': [_WORLD, ctypes.c_char_p, _SIZE, ctypes.POINTER(_SIZE)],
     'format_parse': [ctypes.c_char_p, _SIZE, ctypes.POINTER(_FORMAT)],
     'format_free': [_FORMAT],
@@ -187,12 +184,20 @@ for _name, _parameters in _PARAMETERS.items():
     _function.restype = ctypes.c_int
     _function.argtypes = _parameters
 
+
 def library_version():
     """The version of the shared library that is loaded."""
     return _LIB.pybuf_version().decode()
 
 
 raw = {name: getattr(_LIB, f'pybuf_{name}') for name in _PARAMETERS}
+
+
+class Uncopied:
+    """What names something in the library, and so is neither copied nor pickled."""
+
+    def __reduce__(self):
+        raise TypeError(f'cannot pickle {type(self).__name__!r} object')
 
 
 def raise_for(status):
@@ -207,24 +212,24 @@ def call(name, *arguments):
         raise_for(status)
 
 
-def text_by(name, *arguments):
-    """The bytes that a call copies to a room, which is made as long as it says."""
+def text_by(ask, *arguments):
+    """The bytes that a call copies to a room, which is made as long as it says. `ask` makes the call, and answers its status."""
     length = _SIZE(64)
     while True:
         room = ctypes.create_string_buffer(length.value)
-        status = raw[name](*arguments, room, len(room), ctypes.byref(length))
+        status = ask(*arguments, room, len(room), ctypes.byref(length))
         if status == Status.OK:
             return room.raw[:length.value]
         if status != Status.TOO_SMALL:
             raise_for(status)
 
 
-def numbers_by(name, *arguments):
+def numbers_by(ask, *arguments):
     """The numbers that a call copies to a room, which is made as long as it says."""
     count = _SIZE(8)
     while True:
         room = (Number * max(count.value, 1))()
-        status = raw[name](*arguments, room, len(room), ctypes.byref(count))
+        status = ask(*arguments, room, len(room), ctypes.byref(count))
         if status == Status.OK:
             return [number.value() for number in room[:count.value]]
         if status != Status.TOO_SMALL:

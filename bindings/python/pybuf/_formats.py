@@ -2,24 +2,13 @@
 import ctypes
 import functools
 import re
+import threading
 
-from ._calls import BYTES_VALUE, TRUTH_VALUE, Number, Value, call, index_of, struct_error, text_by, values_by, word_of
-from ._objects import ByteArray, MemoryView
+from ._calls import BYTES_VALUE, TRUTH_VALUE, Number, Uncopied, Value, call, index_of, raw, struct_error, text_by, values_by, word_of
+from ._objects import ByteArray, MemoryView, _lent_whole
 
 # a number that no code but '?' takes, in place of one past 64 bits
 _PAST_ALL = -(1 << 64) + 1
-
-
-def _content(buffer):
-    """The bytes of an object that has a buffer of one piece."""
-    if isinstance(buffer, (ByteArray, MemoryView)):
-        if isinstance(buffer, MemoryView) and not buffer.c_contiguous:
-            raise BufferError('memoryview: underlying buffer is not C-contiguous')
-        return buffer.tobytes()
-    with memoryview(buffer) as view:
-        if not view.c_contiguous:
-            raise BufferError('memoryview: underlying buffer is not C-contiguous')
-        return view.tobytes()
 
 
 def _place(offset, size, length, refusal):
@@ -34,10 +23,15 @@ def _place(offset, size, length, refusal):
     return offset
 
 
-class Struct:
+class Struct(Uncopied):
     """A format of the module `struct`. Codes of floats and pointers are none here, nor are blanks."""
 
     _pointer = None
+
+    def __new__(cls, *arguments, **named):
+        made = super().__new__(cls)
+        made._turn = threading.RLock()
+        return made
 
     def __init__(self, format):
         if isinstance(format, str):
@@ -46,15 +40,20 @@ class Struct:
             raise TypeError(f'Struct() argument 1 must be a str or bytes object, not {type(format).__name__}')
         pointer = ctypes.c_void_p()
         call('format_parse', format, len(format), ctypes.byref(pointer))
-        self._pointer = pointer
-        self.format = format.decode('ascii')
-        self.size = self._told('format_size')
-        self._count = self._told('format_count')
+        with self._turn:
+            self._free()  # where it is made once more
+            self._pointer = pointer
+            self.format = format.decode('ascii')
+            self.size = self._told('format_size')
+            self._count = self._told('format_count')
+            vars(self).pop('_codes', None)
 
-    def __del__(self):
+    def _free(self, free=raw['format_free']):  # at the interpreter's exit the module's names may be gone
         if self._pointer:
             pointer, self._pointer = self._pointer, None
-            call('format_free', pointer)
+            free(pointer)
+
+    __del__ = _free
 
     def __repr__(self):
         return f'Struct({self.format!r})'
@@ -76,7 +75,8 @@ class Struct:
         words = (Value * max(self._count, 1))(*map(_packed_as, self._codes, values))
         room = ctypes.create_string_buffer(max(self.size, 1))
         length = ctypes.c_size_t()
-        call('format_pack', self._pointer, words, self._count, room, self.size, ctypes.byref(length))
+        with self._turn:
+            call('format_pack', self._pointer, words, self._count, room, self.size, ctypes.byref(length))
         return room.raw[:length.value]
 
     def pack_into(self, buffer, offset, *values):
@@ -86,41 +86,41 @@ class Struct:
         ours = isinstance(buffer, (ByteArray, MemoryView))
         view = MemoryView(buffer) if ours else memoryview(buffer)
         with view:
-            if view.readonly:
+            if view.readonly or not view.c_contiguous:
                 raise TypeError('a read-write bytes-like object is required')
-            if not view.c_contiguous:
-                raise BufferError('memoryview: underlying buffer is not C-contiguous')
             offset = _place(offset, self.size, view.nbytes, IndexError)
             packed = self.pack(*values)
-            with view.cast('B') as room:
-                room[offset:offset + self.size] = packed
+            if packed:
+                with view.cast('B') as room:
+                    room[offset:offset + self.size] = packed
 
     def unpack(self, buffer):
-        content = _content(buffer)
+        content = _lent_whole(buffer)
         if len(content) != self.size:
             raise struct_error(f'unpack requires a buffer of {self.size} bytes')
         return self._values(content)
 
     def unpack_from(self, buffer, offset=0):
-        content = _content(buffer)
+        content = _lent_whole(buffer)
         offset = _place(offset, self.size, len(content), OverflowError)
         return self._values(content[offset:offset + self.size])
 
     def iter_unpack(self, buffer):
         if self.size == 0:
             raise struct_error('cannot iteratively unpack with a struct of length 0')
-        content = _content(buffer)
+        content = _lent_whole(buffer)
         if len(content) % self.size:
             raise struct_error(f'iterative unpacking requires a buffer of a multiple of {self.size} bytes')
         return map(self._values, (content[at:at + self.size] for at in range(0, len(content), self.size)))
 
     def _values(self, content):
-        read = values_by(self._count, 'format_unpack', self._pointer, content, len(content))
-        return tuple(self._value(index, value) for index, value in enumerate(read))
+        with self._turn:  # the format keeps the bytes of its values until the next call
+            read = values_by(self._count, 'format_unpack', self._pointer, content, len(content))
+            return tuple(self._value(index, value) for index, value in enumerate(read))
 
     def _value(self, index, value):
         if value.kind == BYTES_VALUE:
-            return text_by('format_value_bytes', self._pointer, index)
+            return text_by(raw['format_value_bytes'], self._pointer, index)
         number = value.number.value()
         return bool(number) if value.kind == TRUTH_VALUE else number
 
@@ -137,7 +137,7 @@ def _packed_as(code, value):
         if not isinstance(value, (bytes, bytearray, ByteArray)):
             raise struct_error(f"argument for '{code}' must be a bytes object")
         return Value.of_bytes(bytes(value))
-    if not hasattr(value, '__index__'):
+    if not hasattr(type(value), '__index__'):
         raise struct_error('required argument is not an integer')
     number = index_of(value)
     return Value.of_number(Number.of(number if abs(number) < 1 << 64 else _PAST_ALL))

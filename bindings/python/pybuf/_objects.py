@@ -1,26 +1,41 @@
 """`ByteArray` and `MemoryView`, which behave as Python's own.
 
-Each `ByteArray` has a world of its own, which its views share and which is freed with the last of them.
+Each `ByteArray` has a world of its own, which its views share and which is freed with the last of them. What two worlds do together
+is done by copies, so that no thread waits for the turn of one world while it has that of another.
 """
 import ast
 import ctypes
+import math
 
-from ._calls import (Number, Slice, Status, call, index_of, numbers_by, raise_for, raw, text_by, word_of)
+from ._calls import Number, Slice, Status, Uncopied, index_of, numbers_by, raise_for, text_by, word_of
 from ._worlds import World
 
-_BYTEARRAY = 1
+_BYTEARRAY, _VECTOR = 1, 2
+# a width from which on a method's result is made in a world, and not read from a reply
+_LONG = 1 << 16
 _NAMES = {'nbytes': 2, 'readonly': 3, 'itemsize': 4, 'ndim': 5, 'shape': 6, 'strides': 7, 'format': 9, 'contiguous': 10,
           'c_contiguous': 11, 'f_contiguous': 12, 'exports': 0}
+_LEFT_OUT = object()
 _OPERATORS = {'==': 0, '!=': 1, '<': 2, '<=': 3, '>': 4, '>=': 5}
 
 
+def _has(value, *names):
+    return any(hasattr(type(value), name) for name in names)
+
+
+def _has_buffer(value):
+    try:
+        memoryview(value).release()
+    except TypeError:
+        return isinstance(value, (ByteArray, MemoryView))
+    return True
+
+
 def _content(value):
-    """The bytes of what is read as bytes: an object of ours, one of Python's, or numbers from 0 to 255."""
-    if isinstance(value, (ByteArray, MemoryView)):
-        return value.tobytes()
-    if isinstance(value, str):
-        raise TypeError('a text is not read as bytes')
-    return bytes(value)
+    """The bytes of what is read as bytes: an object with a buffer, or numbers from 0 to 255."""
+    if _has_buffer(value):
+        return _lent(value)
+    return bytes(iter(value))
 
 
 def _lent(value):
@@ -28,6 +43,52 @@ def _lent(value):
     if isinstance(value, (ByteArray, MemoryView)):
         return value.tobytes()
     return bytes(memoryview(value))
+
+
+def _lent_whole(value):
+    """The bytes of an object that has a buffer of one piece."""
+    view = _lent_view(value)
+    if not view.c_contiguous:
+        raise BufferError('memoryview: underlying buffer is not C-contiguous')
+    return view.tobytes()
+
+
+def _added(value):
+    """The bytes of what is added, with Python's refusal of anything else."""
+    try:
+        return _lent_whole(value)
+    except (BufferError, TypeError, ValueError):
+        raise TypeError(f"can't concat {type(value).__name__} to bytearray") from None
+
+
+def _lent_view(value):
+    """What has the format, the shape and the bytes of an object with a buffer: a view of ours, or one of Python's."""
+    if isinstance(value, MemoryView):
+        return value
+    return memoryview(value.tobytes() if isinstance(value, ByteArray) else value)
+
+
+def _is_of_bytes(view):
+    """Whether a view is one of single bytes, as that of a bytearray is."""
+    return view.format == 'B' and view.ndim == 1
+
+
+def _copied(world, view):
+    """Copies the items of a view of ours or of Python's into a world. The last of the numbers that it answers is that of a view of
+    the copy, with the same format and shape, the first that of the copy, and the others those of views on the way. A format that
+    `cast` doesn't take is its ValueError."""
+    shape, format, content = list(view.shape), view.format.encode(), view.tobytes()
+    none = shape[:1] == [0]
+    if none:  # a cast makes no view without items, and a slice does
+        shape[0] = 1
+        content = bytes(view.itemsize * math.prod(shape))
+    made = [world.made('new', _VECTOR, content, len(content))]
+    made.append(world.made('view', made[-1]))
+    if not _is_of_bytes(view):
+        made.append(world.made('cast', made[-1], format, (ctypes.c_int64 * max(len(shape), 1))(*shape), len(shape)))
+    if none:
+        made.append(world.made('get_slice', made[-1], ctypes.byref(Slice.of(slice(0, 0)))))
+    return made
 
 
 def _byte(value):
@@ -38,51 +99,56 @@ def _byte(value):
     return Number.of(number)
 
 
+def _truth(world, name, *arguments):
+    """What a comparison in a world answers."""
+    truth = ctypes.c_int()
+    status = world.ask(name, *arguments, ctypes.byref(truth))
+    if status:
+        raise_for(status)
+    return NotImplemented if truth.value == 2 else bool(truth.value)
+
+
 class _Object:
     """What a world and a number name."""
 
     _world = None
     _object = None
 
-    @property
-    def _at(self):
-        return self._world.pointer, self._object
+    def _call(self, name, *arguments):
+        status = self._world.ask(name, self._object, *arguments)
+        if status:
+            raise_for(status)
 
     def _one(self, name, *arguments):
-        made = ctypes.c_uint64()
-        call(name, *self._at, *arguments, ctypes.byref(made))
-        return made.value
+        return self._world.made(name, self._object, *arguments)
 
     def _number(self, name, *arguments):
         number = Number()
-        call(name, *self._at, *arguments, ctypes.byref(number))
+        self._call(name, *arguments, ctypes.byref(number))
         return number.value()
 
-    def _length(self):
-        length = ctypes.c_size_t()
-        call('length', *self._at, ctypes.byref(length))
-        return length.value
+    def _text(self, name, *arguments):
+        return text_by(self._world.ask, name, self._object, *arguments)
+
+    def _numbers(self, name, *arguments):
+        return numbers_by(self._world.ask, name, self._object, *arguments)
 
     def __len__(self):
-        return self._length()
+        length = ctypes.c_size_t()
+        self._call('length', ctypes.byref(length))
+        return length.value
 
     def tobytes(self):
         """A copy of the bytes."""
-        return text_by('bytes', *self._at)
+        return self._text('bytes')
 
     def _compares(self, operator, other):
-        truth = ctypes.c_int()
-        if isinstance(other, _Object):
-            if other._world is self._world:
-                call('compare_with', *self._at, _OPERATORS[operator], other._object, ctypes.byref(truth))
-                return NotImplemented if truth.value == 2 else bool(truth.value)
-            other = other.tobytes()
-        try:
-            other = _lent(other)
-        except TypeError:
-            return NotImplemented
-        call('compare', *self._at, _OPERATORS[operator], other, len(other), ctypes.byref(truth))
-        return NotImplemented if truth.value == 2 else bool(truth.value)
+        if isinstance(other, _Object) and other._world is self._world:
+            return _truth(self._world, 'compare_with', self._object, _OPERATORS[operator], other._object)
+        return self._compares_outside(operator, other)
+
+    def _compares_with_bytes(self, operator, content):
+        return _truth(self._world, 'compare', self._object, _OPERATORS[operator], content, len(content))
 
     def __eq__(self, other):
         return self._compares('==', other)
@@ -94,6 +160,7 @@ class _Object:
 class ByteArray(_Object):
     """A bytearray."""
 
+    __module__ = 'pybuf'  # by which pickle finds it
     __hash__ = None
 
     def __init__(self, source=b'', encoding=None, errors=None):
@@ -103,22 +170,49 @@ class ByteArray(_Object):
             source = source.encode(encoding, errors or 'strict')
         elif encoding is not None or errors is not None:
             raise TypeError('encoding or errors without a string argument')
-        content = _content(source)
-        self._world = World()
-        made = ctypes.c_uint64()
-        call('new', self._world.pointer, _BYTEARRAY, content, len(content), ctypes.byref(made))
-        self._object = made.value
+        zeros = word_of(source, OverflowError) if _has(source, '__index__') else 0
+        if zeros < 0:
+            raise ValueError('negative count')
+        content = b'\0'[:zeros] if _has(source, '__index__') else _content(source)
+        if self._world is None:
+            world = World()
+            self._object = world.made('new', _BYTEARRAY, content, len(content))
+            self._world = world
+            if zeros:
+                self._call('repeat', zeros)
+            return
+        with self._world.turn:  # it is made once more
+            self._call('clear')
+            self._call('extend', content, len(content))
+            if zeros:
+                self._call('repeat', zeros)
+
+    def __reduce__(self):
+        more = {name: value for name, value in vars(self).items() if name not in ('_world', '_object')}
+        return type(self), (self.tobytes(),), more or None
+
+    def _compares_outside(self, operator, other):
+        """Compares with an object of another world, or with one of Python's."""
+        try:
+            content = _lent_whole(other)
+        except (BufferError, TypeError, ValueError):
+            return NotImplemented
+        return self._compares_with_bytes(operator, content)
 
     def __repr__(self):
-        return f'ByteArray({self.tobytes()!r})'
+        return f'{type(self).__name__}({self.tobytes()!r})'
 
     def __bytes__(self):
         return self.tobytes()
 
     def __iter__(self):
         index = 0
-        while index < len(self):
-            yield self[index]
+        while True:
+            try:
+                item = self[index]
+            except IndexError:
+                return
+            yield item
             index += 1
 
     def __lt__(self, other):
@@ -135,87 +229,86 @@ class ByteArray(_Object):
 
     def __getitem__(self, key):
         if isinstance(key, slice):
-            return ByteArray(text_by('get_slice_bytes', *self._at, ctypes.byref(Slice.of(key))))
+            return ByteArray(self._text('get_slice_bytes', ctypes.byref(Slice.of(key))))
         if not hasattr(key, '__index__'):
             raise TypeError('bytearray indices must be integers or slices')
         return self._number('get', word_of(key))
 
     def __setitem__(self, key, value):
         if isinstance(key, slice):
-            content = _content(value) if not isinstance(value, int) else None
-            if content is None:
+            if isinstance(value, str) or _has(value, '__index__', '__int__', '__float__'):
                 raise TypeError('can assign only bytes, buffers, or iterables of ints in range(0, 256)')
-            call('set_slice', *self._at, ctypes.byref(Slice.of(key)), content, len(content))
+            content = _content(value)
+            self._call('set_slice', ctypes.byref(Slice.of(key)), content, len(content))
             return
         if not hasattr(key, '__index__'):
             raise TypeError('bytearray indices must be integers or slices')
         index = word_of(key)
-        call('set', *self._at, index, _byte(value))
+        self._call('set', index, _byte(value))
 
     def __delitem__(self, key):
         if isinstance(key, slice):
-            call('delete_slice', *self._at, ctypes.byref(Slice.of(key)))
+            self._call('delete_slice', ctypes.byref(Slice.of(key)))
             return
         if not hasattr(key, '__index__'):
             raise TypeError('bytearray indices must be integers or slices')
-        call('delete', *self._at, word_of(key))
+        self._call('delete', word_of(key))
 
     def __contains__(self, value):
         truth = ctypes.c_bool()
         if hasattr(value, '__index__'):
-            call('contains_byte', *self._at, _byte(value), ctypes.byref(truth))
+            self._call('contains_byte', _byte(value), ctypes.byref(truth))
         else:
             content = _lent(value)
-            call('contains', *self._at, content, len(content), ctypes.byref(truth))
+            self._call('contains', content, len(content), ctypes.byref(truth))
         return truth.value
 
     def __add__(self, other):
-        try:
-            return ByteArray(self.tobytes() + _lent(other))
-        except TypeError:
-            raise TypeError(f"can't concat {type(other).__name__} to bytearray") from None
+        return ByteArray(self.tobytes() + _added(other))
 
     def __iadd__(self, other):
-        content = _lent(other)
-        call('extend', *self._at, content, len(content))
+        content = _added(other)
+        if other is self and content:  # its own bytes are lent meanwhile
+            raise BufferError('Existing exports of data: object cannot be re-sized')
+        self._call('extend', content, len(content))
         return self
 
     def __mul__(self, count):
-        return ByteArray(self.tobytes() * index_of(count))
+        made = self.copy()
+        made *= count
+        return made
 
     __rmul__ = __mul__
 
     def __imul__(self, count):
-        call('repeat', *self._at, word_of(count))
+        self._call('repeat', word_of(count, OverflowError))
         return self
 
     def append(self, value):
-        call('append', *self._at, _byte(value))
+        self._call('append', _byte(value))
 
     def extend(self, values):
         if values is self:
-            call('extend_by', *self._at, self._object)
+            self._call('extend_by', self._object)
             return
-        content = _content(values) if not isinstance(values, int) else None
-        if content is None:
-            raise TypeError("can't extend bytearray with int")
-        call('extend', *self._at, content, len(content))
+        content = _content(values)
+        self._call('extend', content, len(content))
 
     def insert(self, index, value):
         index = word_of(index, OverflowError)
-        call('insert', *self._at, index, _byte(value))
+        self._call('insert', index, _byte(value))
 
-    def pop(self, index=None):
-        return self._number('pop_last') if index is None else self._number('pop', word_of(index, OverflowError))
+    def pop(self, index=-1):
+        return self._number('pop', word_of(index, OverflowError))
 
     def remove(self, value):
-        call('remove', *self._at, _byte(value))
+        self._call('remove', _byte(value))
 
     def clear(self):
-        call('clear', *self._at)
+        self._call('clear')
 
     def reverse(self):
-        call('reverse', *self._at)
+        self._call('reverse')
 
     def copy(self):
         return ByteArray(self.tobytes())
@@ -229,24 +322,29 @@ class ByteArray(_Object):
         """The bytes that digits spell, as Python reads them."""
         return cls(bytes.fromhex(text))
 
-    maketrans = staticmethod(bytes.maketrans)
+    @staticmethod
+    def maketrans(before, after, /):
+        """The table by which `translate` puts bytes in the place of others."""
+        return bytes.maketrans(_lent(before), _lent(after))
+
+
+# what lines spell of numbers; a number past these is refused, or moved to the nearest place, as these are
+_WIDE = 1 << 120
 
 
 def _spelled(value):
     """A value as lines spell it."""
-    if value is None or isinstance(value, (bool, int)):
+    if value is None or isinstance(value, bool):
         return repr(value)
     if isinstance(value, str):
-        if not value.isascii() or not value.isprintable() or "'" in value or '\\' in value:
-            raise NotImplementedError('a text that lines do not spell')
-        return f"'{value}'"
+        raise TypeError("a bytes-like object is required, not 'str'")
     if isinstance(value, (tuple, list)):
         inside = ','.join(_spelled(part) for part in value)
         if isinstance(value, tuple) and len(value) == 1:
             inside += ','
         return f'({inside})' if isinstance(value, tuple) else f'[{inside}]'
-    if isinstance(value, slice):
-        return f'{value.start}:{value.stop}:{value.step}'
+    if isinstance(value, int) or _has(value, '__index__') and not _has_buffer(value):
+        return '%d' % max(-_WIDE, min(_WIDE, index_of(value)))
     return 'x' + _lent(value).hex()
 
 
@@ -290,19 +388,49 @@ def _method(name):
     return called
 
 
-def _hex(self, sep=None, bytes_per_sep=1):
+def _hex(self, sep=_LEFT_OUT, bytes_per_sep=1):
     """The digits of the bytes, with a separator between groups."""
-    if sep is None:
+    if sep is _LEFT_OUT:
         return self.tobytes().hex()
     if isinstance(sep, str):
         sep = sep.encode()
+    if not isinstance(sep, bytes):
+        raise TypeError('sep must be str or bytes.')
     return _method('hex')(self if isinstance(self, ByteArray) else ByteArray(self), sep, index_of(bytes_per_sep))
 
 
-for _name in ('capitalize center count endswith expandtabs find index isalnum isalpha isascii isdigit islower isspace istitle '
-              'isupper ljust lower lstrip partition removeprefix removesuffix replace rfind rindex rjust rpartition rsplit '
-              'rstrip split splitlines startswith strip swapcase title translate upper zfill').split():
+for _name in ('capitalize count endswith expandtabs find index isalnum isalpha isascii isdigit islower isspace istitle isupper '
+              'lower lstrip partition removeprefix removesuffix replace rfind rindex rpartition rsplit rstrip split splitlines '
+              'startswith strip swapcase title translate upper').split():
     setattr(ByteArray, _name, _method(_name))
+
+
+def _padding(name):
+    """A method that fills up to a width. A long one is filled here, as a reply would take several times its bytes."""
+    by_line = _method(name)
+
+    def called(self, width, *fill):
+        width = word_of(width, OverflowError)
+        if len(fill) > (name != 'zfill') or not all(isinstance(it, (bytes, bytearray, ByteArray)) and len(it) == 1 for it in fill):
+            raise TypeError(f'{name}() takes a width, and to fill up to it one byte, which zfill() has')
+        if width <= max(_LONG, len(self)):
+            return by_line(self, width, *fill)
+        content = self.tobytes()
+        made = ByteArray(fill[0] if fill else b'0' if name == 'zfill' else b' ')
+        made *= width
+        if name == 'zfill' and content[:1] in (b'+', b'-'):
+            made[0] = content[0]
+            content = content[1:]
+        more = width - len(content)
+        start = {'ljust': 0, 'center': more // 2 + (more & width & 1)}.get(name, more)
+        made[start:start + len(content)] = content
+        return made
+    called.__name__, called.__doc__ = name, by_line.__doc__
+    return called
+
+
+for _name in ('center', 'ljust', 'rjust', 'zfill'):
+    setattr(ByteArray, _name, _padding(_name))
 ByteArray.hex = _hex
 ByteArray.join = lambda self, parts: _joined(self, list(parts))
 _joined = _method('join')
@@ -312,22 +440,32 @@ _joined = _method('join')
 _HASHED = ('B', 'b', 'c', '@B', '@b', '@c')
 
 
-class MemoryView(_Object):
-    """A view of a `ByteArray` or of another view, or of a copy of any other object with a buffer."""
+class MemoryView(_Object, Uncopied):
+    """A view of a `ByteArray` or of another view, or of a copy of any other object with a buffer. It is released with its last
+    reference, before the next call for its bytes."""
 
     _constant = False
+    _released = False
+    _known = None
 
     def __init__(self, source):
+        if self._world is not None:  # once more, as of Python's own
+            return
         if isinstance(source, (ByteArray, MemoryView)):
             self._keep(source, source._one('view'))
             return
+        world = World()
         with memoryview(source) as view:
-            readonly = view.readonly
-        whole = MemoryView(ByteArray(_lent(source)))
-        self._keep(whole, whole._one('to_readonly' if readonly else 'view'))
-        self._constant = isinstance(source, bytes)
-        self._source = source
-        whole.release()
+            try:
+                made = _copied(world, view)[-1]
+            except ValueError:  # the library hasn't such items, but it has their bytes
+                made = _copied(world, memoryview(view.tobytes()))[-1]
+            self._object = world.made('to_readonly', made) if view.readonly else made
+        self._world, self._source, self._constant = world, source, isinstance(source, bytes)
+
+    def __del__(self):
+        if self._world is not None and not self._released:
+            self._world.drop(self._object)
 
     def _keep(self, source, made):
         self._world = source._world
@@ -343,11 +481,12 @@ class MemoryView(_Object):
         return view
 
     def __repr__(self):
-        return text_by('shown', *self._at).decode()
+        return self._text('shown').decode()
 
     def release(self):
         """Releases the view. A second time changes nothing."""
-        call('release', *self._at)
+        self._call('release')
+        self._released = True
 
     def __enter__(self):
         self._alive()
@@ -372,43 +511,89 @@ class MemoryView(_Object):
         if isinstance(key, slice):
             return self._made(self._one('get_slice', ctypes.byref(Slice.of(key))))
         if isinstance(key, tuple):
-            indices = [word_of(part) for part in key]
+            indices = self._indices(key)
             return self._item('get_at', (ctypes.c_int64 * len(indices))(*indices), len(indices))
         if not hasattr(key, '__index__'):
             self._alive()
             raise TypeError('memoryview: invalid slice key')
         return self._item('get', word_of(key))
 
+    def _indices(self, key):
+        if key and all(isinstance(part, slice) for part in key):
+            self._alive()
+            raise NotImplementedError('multi-dimensional slicing is not implemented')
+        return [word_of(part) for part in key]
+
     def _item(self, name, *arguments):
         number = Number()
-        status = raw[name](*self._at, *arguments, ctypes.byref(number))
-        if status == Status.NOTHING:  # an item that is bytes
-            return text_by('last_bytes', self._world.pointer)
+        status, content = self._world.ask_for_item(name, self._object, *arguments, ctypes.byref(number))
         if status:
             raise_for(status)
-        return bool(number.magnitude) if self.format in ('?', '@?') else number.value()
+        if content is not None:
+            return content
+        return bool(number.magnitude) if self._code == '?' else number.value()
+
+    @property
+    def _code(self):
+        """The format without its `@`. It stays, so it is asked for once."""
+        if self._known is None:
+            self._known = self.format.lstrip('@')
+        return self._known
+
+    def _compares_outside(self, operator, other):
+        """Compares with an object of another world, or with one of Python's."""
+        try:
+            view = _lent_view(other)
+        except (BufferError, TypeError, ValueError):
+            return NotImplemented
+        try:
+            if _is_of_bytes(view):
+                return self._compares_with_bytes(operator, view.tobytes())
+            world = World()
+            ours, others = _copied(world, self)[-1], _copied(world, view)[-1]
+        except ValueError:  # one was released, or the library hasn't such items: each is equal to itself alone
+            return operator == '!='
+        return _truth(world, 'compare_with', ours, _OPERATORS[operator], others)
+
+    def _assign(self, words, value):
+        """Assigns an object of another world, or one of Python's, to a slice."""
+        if self.readonly:
+            raise TypeError('cannot modify read-only memory')
+        view = _lent_view(value)
+        if _is_of_bytes(view):
+            content = view.tobytes()
+            self._call('set_slice', words, content, len(content))
+            return
+        if self.ndim == 1 and view.format != self.format:
+            raise ValueError('memoryview assignment: lvalue and rvalue have different structures')
+        copy, *views = _copied(self._world, view)
+        try:
+            self._call('set_slice_of', words, views[-1])
+        finally:
+            for made in views:
+                self._world.ask('release', made)
+            self._world.ask('take', copy, None, 0, ctypes.byref(ctypes.c_size_t()))
 
     def __setitem__(self, key, value):
         if isinstance(key, slice):
             words = ctypes.byref(Slice.of(key))
             if isinstance(value, _Object) and value._world is self._world:
-                call('set_slice_of', *self._at, words, value._object)
+                self._call('set_slice_of', words, value._object)
             else:
-                content = _lent(value)
-                call('set_slice', *self._at, words, content, len(content))
+                self._assign(words, value)
             return
         if isinstance(key, tuple):
-            indices = [word_of(part) for part in key]
+            indices = self._indices(key)
             arguments = 'set_at', (ctypes.c_int64 * len(indices))(*indices), len(indices)
         elif hasattr(key, '__index__'):
             arguments = 'set', word_of(key)
         else:
             self._alive()
             raise TypeError('memoryview: invalid slice key')
-        if self.format in ('c', '@c'):
+        if self._code == 'c':
             self._set_byte(key, value)
             return
-        if self.format in ('?', '@?'):
+        if self._code == '?':
             value = bool(value)
         if not hasattr(value, '__index__'):
             if not self.readonly:
@@ -417,7 +602,7 @@ class MemoryView(_Object):
         number = index_of(value)
         name, *rest = arguments
         wide = abs(number) >= 1 << 64
-        status = raw[name](*self._at, *rest, Number.of(0 if wide else number))
+        status = self._world.ask(name, self._object, *rest, Number.of(0 if wide else number))
         if status == Status.OK and not wide:
             return
         if wide or status == Status.TYPE_ERROR and not self.readonly:
@@ -460,21 +645,25 @@ class MemoryView(_Object):
     def tolist(self):
         """The items, in lists by the shape."""
         shape = self.shape
-        if self.format in ('c', '@c'):
+        if self._code == 'c':
             items = [bytes((byte,)) for byte in self.tobytes()]
         else:
-            items = numbers_by('items', *self._at)
-            if self.format in ('?', '@?'):
+            items = self._numbers('items')
+            if self._code == '?':
                 items = [bool(item) for item in items]
         for width in reversed(shape[1:]):
             items = [items[at:at + width] for at in range(0, len(items), width)]
         return items
 
     def cast(self, format, shape=None):
+        if not isinstance(format, str):
+            raise TypeError(f"cast() argument 'format' must be str, not {type(format).__name__}")
         if shape is None:
-            return self._made(self._one('cast', format.encode(), None, 0))
-        sizes = [word_of(size) for size in shape]
-        return self._made(self._one('cast', format.encode(), (ctypes.c_int64 * max(len(sizes), 1))(*sizes), len(sizes)))
+            return self._made(self._one('cast', format.encode('ascii'), None, 0))
+        if not isinstance(shape, (list, tuple)) or not all(isinstance(size, int) for size in shape):
+            raise TypeError('shape must be a list or a tuple of integers')
+        sizes = [word_of(size, OverflowError) for size in shape]
+        return self._made(self._one('cast', format.encode('ascii'), (ctypes.c_int64 * max(len(sizes), 1))(*sizes), len(sizes)))
 
     def toreadonly(self):
         return self._made(self._one('to_readonly'))
@@ -500,8 +689,8 @@ class MemoryView(_Object):
     contiguous = property(lambda self: bool(self._property('contiguous')))
     c_contiguous = property(lambda self: bool(self._property('c_contiguous')))
     f_contiguous = property(lambda self: bool(self._property('f_contiguous')))
-    shape = property(lambda self: tuple(numbers_by('property_numbers', *self._at, _NAMES['shape'])))
-    strides = property(lambda self: tuple(numbers_by('property_numbers', *self._at, _NAMES['strides'])))
+    shape = property(lambda self: tuple(self._numbers('property_numbers', _NAMES['shape'])))
+    strides = property(lambda self: tuple(self._numbers('property_numbers', _NAMES['strides'])))
     suboffsets = property(lambda self: self._alive() or ())
     obj = property(lambda self: self._alive() or self._source)
-    format = property(lambda self: text_by('property_text', *self._at, _NAMES['format']).decode())
+    format = property(lambda self: self._text('property_text', _NAMES['format']).decode())

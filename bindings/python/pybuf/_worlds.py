@@ -1,7 +1,11 @@
-"""Worlds, by lines."""
+"""Worlds: the lines that they run, and the calls for their objects."""
 import ctypes
+import threading
 
-from ._calls import Status, call, raise_for, raw, text_by
+from ._calls import Status, Uncopied, call, raise_for, raw, text_by
+
+# replies of more bytes than these aren't kept by a world
+_LONG = 1 << 16
 
 
 class BadLine(ValueError):
@@ -12,21 +16,29 @@ class BadLine(ValueError):
         self.line = line
 
 
-class World:
-    """A world of objects, which runs lines. It is freed with the last reference, or by `close`."""
+class World(Uncopied):
+    """A world of objects, which runs lines. It is freed with the last reference, or by `close`.
+
+    One thread at a time is in a world, and the others wait for their turn.
+    """
 
     def __init__(self):
         self._pointer = ctypes.c_void_p()
+        self.turn = threading.RLock()
+        self._dropped = []
         call('world_new', ctypes.byref(self._pointer))
 
     def close(self):
         """Frees the world. A second time changes nothing."""
-        pointer, self._pointer = self._pointer, ctypes.c_void_p()
-        call('world_free', pointer)
+        with self.turn:
+            self._free()
 
-    def __del__(self):
+    def _free(self, free=raw['world_free']):  # at the interpreter's exit the module's names may be gone
         if getattr(self, '_pointer', None):
-            self.close()
+            pointer, self._pointer = self._pointer, None
+            free(pointer)
+
+    __del__ = _free  # nobody has the turn of a world without references
 
     def __enter__(self):
         return self
@@ -41,14 +53,45 @@ class World:
             raise ValueError('the world is closed')
         return self._pointer
 
+    def drop(self, view):
+        """Has a view released before the next call. It makes no call itself, as the collector may ask for it in the middle of one."""
+        self._dropped.append(view)
+
+    def ask(self, name, *arguments):
+        """The status of a call in this world."""
+        with self.turn:
+            while self._dropped:
+                raw['release'](self.pointer, self._dropped.pop())
+            return raw[name](self.pointer, *arguments)
+
+    def made(self, name, *arguments):
+        """The number of the object that a call makes."""
+        made = ctypes.c_uint64()
+        status = self.ask(name, *arguments, ctypes.byref(made))
+        if status:
+            raise_for(status)
+        return made.value
+
+    def ask_for_item(self, name, *arguments):
+        """The status of a call for an item, and where the item is bytes also these."""
+        with self.turn:
+            status = self.ask(name, *arguments)
+            if status != Status.NOTHING:
+                return status, None
+            return Status.OK, text_by(raw['last_bytes'], self.pointer)
+
     def run(self, text):
         """The replies to the lines of a text, as texts. Where a line is no command, nothing is run, and BadLine is raised."""
         lines = text.encode() if isinstance(text, str) else bytes(text)
         count = ctypes.c_size_t()
         line = ctypes.c_uint64()
-        status = raw['world_run'](self.pointer, lines, len(lines), ctypes.byref(count), ctypes.byref(line))
-        if status == Status.BAD_LINE:
-            raise BadLine(line.value)
-        if status:
-            raise_for(status)
-        return [text_by('world_reply', self.pointer, index).decode() for index in range(count.value)]
+        with self.turn:
+            status = self.ask('world_run', lines, len(lines), ctypes.byref(count), ctypes.byref(line))
+            if status == Status.BAD_LINE:
+                raise BadLine(line.value)
+            if status:
+                raise_for(status)
+            replies = [text_by(raw['world_reply'], self.pointer, index) for index in range(count.value)]
+            if sum(map(len, replies)) > _LONG:
+                raw['world_run'](self.pointer, b'', 0, None, None)
+        return [reply.decode() for reply in replies]

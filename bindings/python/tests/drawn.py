@@ -1,7 +1,7 @@
 """Draws operations, carries each out on Python's own object and on ours side by side, and compares values and exceptions.
 
-    drawn.py [SEED [COUNT]]     COUNT operations for bytearrays, and as many for views and for formats; the first difference ends it
-                                with 1
+    drawn.py [SEED [COUNT]]     COUNT operations for bytearrays, and as many for views, for formats, and for two bytearrays with views
+                                that come and go; the first difference ends it with 1
 """
 import pathlib
 import random
@@ -287,6 +287,96 @@ def compare_views(draw, count):
                     break  # a view without bytes is contiguous here: docs/reference/differences.md
 
 
+class Side:
+    """Two bytearrays and their views, of Python's types or of ours."""
+
+    def __init__(self, array, view, contents):
+        self.view, self.arrays, self.views = view, [array(content) for content in contents], []
+
+    def object(self, at):
+        return [*self.arrays, *self.views, b'\1\0', memoryview(b'\1\0\2\0').cast('H')][at]
+
+    def whole(self, at):
+        """An object, but for a view that is released or whose items lie apart: these are refused otherwise than by Python."""
+        value = self.object(at)
+        try:
+            return value if getattr(value, 'c_contiguous', True) else b''
+        except ValueError:
+            return b''
+
+    def again(self, at, source):
+        """Makes a bytearray once more. Of itself we differ."""
+        if source != at:
+            self.arrays[at].__init__(self.whole(source))
+
+    def keep(self, view):
+        self.views.append(view)
+        return view
+
+
+def pair_operation(draw, count):
+    """An operation for a side with so many views, with its words."""
+    one, other = draw.randrange(count + 3), draw.randrange(count + 4)  # the last is Python's own, which asks no object of ours
+    array, k, n = draw.randrange(2), key(draw), draw.randrange(3)
+    made = [
+        (f'view of {one}', lambda s: s.keep(s.view(s.object(one)))),
+        (f'{one} == {other}', lambda s: (s.object(one) == s.object(other), s.object(one) != s.object(other))),
+        (f'{one} < {other}', lambda s: s.object(one) < s.object(other)),
+        (f'append to {array}', lambda s: s.arrays[array].append(n)),
+        (f'pop of {array}', lambda s: s.arrays[array].pop()),
+        (f'extend {array} by {one}', lambda s: s.arrays[array].extend(s.whole(one))),
+        (f'{array} += {one}', lambda s: s.arrays[array].__iadd__(s.object(one)) is s.arrays[array]),
+        (f'{array} + {one}', lambda s: s.arrays[array] + s.object(one)),
+        (f'set {array} {whole(k)} to {one}', lambda s: s.arrays[array].__setitem__(whole(k), s.object(one))),
+        (f'{array} again of {one}', lambda s: s.again(array, one)),
+        (f'list of a view of {one}', lambda s: s.view(s.object(one)).tolist()),
+        (f'new of {one}', lambda s: type(s.arrays[0])(s.object(one))),
+    ]
+    if count:
+        at = draw.randrange(count)
+        code, shape = draw.choice('BbcHhIiQ'), draw.choice([[2, 2], [1, 4], [4, 1], [2, 4]])
+        made += [
+            (f'drop {at}', lambda s: s.views.pop(at).nbytes),
+            (f'release {at}', lambda s: s.views[at].release()),
+            (f'slice {at} {k}', lambda s: s.keep(s.views[at][k])),
+            (f'cast {at} {code}', lambda s: s.keep(s.views[at].cast(code))),
+            (f'cast {at} {shape}', lambda s: s.keep(s.views[at].cast('B', shape))),
+            (f'read only {at}', lambda s: s.keep(s.views[at].toreadonly())),
+            (f'set {at} {k} to {other}', lambda s: s.views[at].__setitem__(k, s.object(other))),
+            (f'set {at} 0', lambda s: s.views[at].__setitem__(0, n)),
+            (f'list {at}', lambda s: (s.views[at].tolist(), list(s.views[at]))),
+        ] * 2
+    return draw.choice(made)
+
+
+def lies_apart(value):
+    return isinstance(value, memoryview) and not value.c_contiguous
+
+
+def compare_pairs(draw, count):
+    while count > 0:
+        contents = [bytes(draw.randrange(3) for _ in range(draw.choice([0, 2, 4, 4, 8]))) for _ in range(2)]
+        theirs, ours = Side(bytearray, memoryview, contents), Side(ByteArray, MemoryView, contents)
+        said = []
+        for _ in range(draw.randrange(1, 20)):
+            words, operation = pair_operation(draw, len(theirs.views))
+            said.append(words)
+            count -= 1
+            answers = outcome(operation, theirs), outcome(operation, ours)
+            if differs_as_said(answers):
+                break
+            after = [list(map(bytes, side.arrays)) for side in (theirs, ours)]
+            if answers[0] != answers[1] or after[0] != after[1]:
+                differs(said, contents, (answers[0], after[0]), (answers[1], after[1]))
+            if answers[0][0] == 'memoryview' and lies_apart(theirs.views[-1]) and not theirs.views[-1].nbytes:
+                break  # a view without bytes is contiguous here: docs/reference/differences.md
+
+
+def differs_as_said(answers):
+    """Whether answers differ as docs/reference/differences.md says: a length that is asked for is refused before what is there."""
+    return answers[0] != answers[1] and answers[1] == ('raises', BufferError)
+
+
 def compare_formats(draw, count):
     while count > 0:
         text, codes = a_format(draw)
@@ -314,7 +404,8 @@ def main():
     compare_arrays(draw, count)
     compare_views(draw, count)
     compare_formats(draw, count)
-    print(f'{3 * count} drawn operations answer as Python\'s own objects do')
+    compare_pairs(draw, count)
+    print(f'{4 * count} drawn operations answer as Python\'s own objects do')
 
 
 main()
