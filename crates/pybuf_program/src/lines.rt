@@ -1,6 +1,6 @@
 //! Which line of the input is at fault, and which word of it.
 use crate::names::{commands, kinds, methods, operations, operators, properties};
-use crate::nearest::nearest;
+use crate::nearest::{nearest, nearest_first};
 use crate::told::{push_near, push_shown};
 use pybuf_array_lines::check_operations;
 use pybuf_line::{
@@ -52,19 +52,12 @@ fn is_one_of(text: &[u8], names: &[&'static str]) -> bool {
     false
 }
 
-/// Adds that a word isn't what it should be, with the nearest name.
-fn push_wrong(
-    alloc: Global,
-    out: &mut Vec<u8>,
-    word: &[u8],
-    what: &[u8],
-    names: &[&'static str],
-) -> Made<()> {
+/// Adds that a word isn't what it should be, with the name that was meant, where one is near.
+fn push_wrong(out: &mut Vec<u8>, word: &[u8], what: &[u8], near: Option<&'static str>) -> Made<()> {
     push_shown(out, word)?;
     out.extend_from_slice(b" is no ")?;
     out.extend_from_slice(what)?;
-    push_near(out, nearest(alloc, word, names)?)?;
-    Ok(())
+    push_near(out, near)
 }
 
 /// Adds how a line of a first word is written.
@@ -92,6 +85,25 @@ fn push_wrong_value(
     push_written(out, written)
 }
 
+/// Adds that a word is none of some names, or what is wrong behind it where it is one.
+fn push_named(
+    alloc: Global,
+    out: &mut Vec<u8>,
+    words: &[&[u8]],
+    what: &[u8],
+    names: &[&'static str],
+    written: &'static str,
+) -> Made<()> {
+    let [first, rest @ ..] = words else {
+        return push_written(out, written);
+    };
+    if is_one_of(first, names) {
+        return push_wrong_value(alloc, out, rest, written);
+    }
+    let near = nearest(alloc, first, names)?;
+    push_wrong(out, first, what, near)
+}
+
 /// Adds what is wrong behind the subject of a command.
 fn push_wrong_argument(
     alloc: Global,
@@ -100,41 +112,19 @@ fn push_wrong_argument(
     arguments: &[&[u8]],
     written: &'static str,
 ) -> Made<()> {
-    match arguments {
-        [] => push_written(out, written),
-        [first, rest @ ..] => {
-            if is_word(command, "call") {
-                if is_one_of(first, &methods()) {
-                    return push_wrong_value(alloc, out, rest, written);
-                }
-                return push_wrong(alloc, out, first, b"method", &methods());
-            }
-            if is_word(command, "prop") {
-                if is_one_of(first, &properties()) {
-                    return push_written(out, written);
-                }
-                return push_wrong(alloc, out, first, b"property", &properties());
-            }
-            if is_word(command, "compare") {
-                if is_one_of(first, &operators()) {
-                    return push_wrong_value(alloc, out, rest, written);
-                }
-                return push_wrong(alloc, out, first, b"operator", &operators());
-            }
-            if is_word(command, "new") {
-                if is_one_of(first, &kinds()) {
-                    return push_wrong_value(alloc, out, rest, written);
-                }
-                return push_wrong(alloc, out, first, b"kind", &kinds());
-            }
-            push_wrong_value(alloc, out, arguments, written)
-        }
+    if is_word(command, "call") {
+        return push_named(alloc, out, arguments, b"method", &methods(), written);
     }
-}
-
-/// The names of some pairs.
-fn first_names<const N: usize>(pairs: [(&'static str, &'static str); N]) -> [&'static str; N] {
-    pairs.map(|pair| pair.0)
+    if is_word(command, "prop") {
+        return push_named(alloc, out, arguments, b"property", &properties(), written);
+    }
+    if is_word(command, "compare") {
+        return push_named(alloc, out, arguments, b"operator", &operators(), written);
+    }
+    if is_word(command, "new") {
+        return push_named(alloc, out, arguments, b"kind", &kinds(), written);
+    }
+    push_wrong_value(alloc, out, arguments, written)
 }
 
 /// How a line is written whose first word is one of some names.
@@ -169,7 +159,8 @@ fn push_command_fault(
         return Ok(());
     };
     let Some(written) = written_of(first, &commands()) else {
-        return push_wrong(alloc, out, first, b"command", &first_names(commands()));
+        let near = nearest_first(alloc, first, &commands())?;
+        return push_wrong(out, first, b"command", near);
     };
     if is_word(first, "new") {
         if in_session {
@@ -205,7 +196,10 @@ fn push_operation_fault(alloc: Global, out: &mut Vec<u8>, words: &[&[u8]]) -> Ma
     };
     match written_of(first, &operations()) {
         Some(written) => push_wrong_value(alloc, out, rest, written),
-        None => push_wrong(alloc, out, first, b"operation", &first_names(operations())),
+        None => {
+            let near = nearest_first(alloc, first, &operations())?;
+            push_wrong(out, first, b"operation", near)
+        }
     }
 }
 
