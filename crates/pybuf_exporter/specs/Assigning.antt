@@ -1,4 +1,4 @@
--- `set` of a view by a slice, as a whole command: which items it copies, and what stands after it.
+-- `set` of a view by a slice, as a whole command: which items it copies, and what is there after it.
 use Rattle.std.specs.Prelude.{◌≡◌, ◌≢◌, ℕ, ◌*◌, ◌<◌, pos, List, [], length, slice_index, false, Option, Some, None, Ok}
 use Rattle.pybuf_value.specs.declared.values.Scalar.TheVariants as scalar
 use Rattle.pybuf_value.specs.declared.values.Value.{Value}
@@ -33,18 +33,18 @@ use Rattle.pybuf_exporter.specs.Step.{estep}
 abbrev pub item_in : List ℕ → Layout → ℕ → List ℕ
 item_in bytes layout j = bytes_at bytes layout.itemsize (slice_index layout.starts j)
 
--- Item j of what is of an exporter, as it stands: of the exporter itself its byte j, and of a view the bytes at the
--- place of its item j. An iterator has no items.
+-- Item j of a subject of an exporter, as it is now. Of the exporter itself it is byte j, and of a view it is
+-- the bytes at the place of item j. An iterator has no items.
 abbrev pub item_of_subject : Exporter → Subject → ℕ → List ℕ
 item_of_subject e subject.Own j = bytes_at e.bytes 1 j
 item_of_subject e (subject.View k) j = item_in e.bytes (layout_of e k) j
 item_of_subject e (subject.Iter k) j = []
 
--- item j of what another exporter lends: its items lie there one after the other
+-- Item j of what another exporter lends. The items lie there one after the other.
 abbrev pub item_of_snap : Snap → ℕ → List ℕ
 item_of_snap snap j = bytes_at snap.content snap.itemsize (j * snap.itemsize)
 
--- ---- sources, as they stand before a command
+-- ---- sources, as they are before a command
 
 -- item j of what a handle is lent as
 abbrev pub item_of_loan : Exporter → Option Loan → ℕ → List ℕ
@@ -68,10 +68,11 @@ source_before e loans _ = None
 
 -- ---- the law
 
--- The items that a slice picks of a view were set to those of a source, which was there and no released view, and has
--- as many of the same size. Where no two of the target share a byte, item j of the target is afterwards what item j
--- of the source was before, for all strides of both, also where both lie in the same bytes. Every byte that is of no
--- item of the target stays, and so do the length, the kind, the views and the iterators.
+-- The items of a view that a slice picks were set to those of a source. The source was there and was no
+-- released view, and it has as many items of the same size. If no two items of the target share a byte, item j
+-- of the target is afterwards what item j of the source was before, whatever the strides of both are, and even
+-- if both lie in the same bytes. Every byte that no item of the target has stays, and so do the length, the
+-- kind, the views and the iterators.
 pub record IsAssignedByValue (e new : Exporter) (k : ℕ) (slice : PySlice) (v : Value) (loans : List (ℕ × Loan)) : Type 0 where
   pub layout : Layout
   pub live : live_layout e k ≡ Ok layout
@@ -91,13 +92,13 @@ pub record IsAssignedByValue (e new : Exporter) (k : ℕ) (slice : PySlice) (v :
   pub views : new.views ≡ e.views
   pub iterators : new.iterators ≡ e.iterators
 
--- so it is wherever the command isn't refused
+-- This holds whenever the command isn't refused.
 abbrev pub StepsAssignByValue : Type 0
 StepsAssignByValue =
     (e new : Exporter) (k : ℕ) (slice : PySlice) (v : Value) (loans : List (ℕ × Loan)) → IsSoundExporter e → LoansFit loans
     → estep e (subject.View k) (verb.Set (value.Slice slice) v) loans ≡ (new, reply.Ok) → IsAssignedByValue e new k slice v loans
 
--- what is lent of a sound exporter has the items of what it is, unless that is a released view
+-- What a sound exporter lends has the items of its subject, unless that is a released view.
 abbrev pub SnapsHoldTheItems : Type 0
 SnapsHoldTheItems =
     (e : Exporter) (s : Subject) (snap : Snap) (j : ℕ) → IsSoundExporter e → snap_of_subject e s ≡ Some snap → snap.released ≡ false → j * snap.itemsize < length snap.content → item_of_snap snap j ≡ item_of_subject e s j

@@ -1,4 +1,5 @@
--- Bytes in column order, as whole commands: what they are of every view, and of a cast to column order.
+-- Bytes in column order, as whole commands: which they are for every view, and what a cast to column order
+-- makes of them.
 use Rattle.std.specs.Prelude.{◌≡◌, ℕ, ◌+◌, ◌*◌, List, [], ◌∷◌, length, codes, Option, Some, None, Ok}
 use Rattle.pybuf_value.specs.declared.values.Scalar.TheVariants as scalar
 use Rattle.pybuf_value.specs.declared.values.Value.{Value}
@@ -16,7 +17,7 @@ use Rattle.pybuf_state.specs.Exporter.{Exporter, live_layout}
 use Rattle.pybuf_state.specs.Sound.{IsSoundExporter}
 use Rattle.pybuf_exporter.specs.Step.{estep}
 
--- an order that is given by its letter
+-- an order, given by its letter
 abbrev pub order_named : List ℕ → Option Value
 order_named letter = Some (value.One (scalar.Text letter))
 
@@ -24,26 +25,28 @@ order_named letter = Some (value.One (scalar.Text letter))
 abbrev pub bytes_replied : Exporter → ℕ → Option Value → LocalReply
 bytes_replied e k order = (estep e (subject.View k) (verb.ToBytes order) []).1
 
--- `bytes` of view k replies bytes, and so do `bytes 'F'` and `bytes 'A'` of view j of the exporter as it is then: the same
+-- `bytes` of view k replies some bytes. `bytes 'F'` and `bytes 'A'` of view j reply the same, on the exporter
+-- as it is then.
 pub record GivesTheBytesBack (e new : Exporter) (k j : ℕ) : Type 0 where
   pub bytes : List ℕ
   pub before : bytes_replied e k None ≡ reply.Bytes bytes
   pub in_column_order : bytes_replied new j (order_named (codes "F")) ≡ reply.Bytes bytes
   pub in_either_order : bytes_replied new j (order_named (codes "A")) ≡ reply.Bytes bytes
 
--- so it is of a view and what `castf` makes of it, where it isn't refused
+-- This holds for a view and for what `castf` makes of it, if it isn't refused.
 abbrev pub ColumnCastsGiveTheBytesBack : Type 0
 ColumnCastsGiveTheBytesBack =
     (e new : Exporter) (k j : ℕ) (format shape : Value) (loans : List (ℕ × Loan)) → IsSoundExporter e
     → estep e (subject.View k) (verb.CastF format shape) loans ≡ (new, reply.View j) → GivesTheBytesBack e new k j
 
--- the number of the item at the indices in column order: the first index changes fastest
+-- The number in column order of the item at the indices. The first index changes fastest.
 abbrev pub column_number_at : List ℕ → List ℕ → ℕ
 column_number_at (n ∷ shape) (index ∷ indices) = index + n * column_number_at shape indices
 column_number_at _ _ = 0
 
--- `bytes` and `bytes 'F'` of view k, which has this layout, are as many, and the item at any indices stands in the one at
--- its row-major number, in the other at its number in column order: the same items, in another order.
+-- `bytes` and `bytes 'F'` of view k, which has this layout, reply equally many bytes. The item at any indices
+-- stands in the first at its row-major number, and in the second at its number in column order: they have the
+-- same items in another order.
 pub record HoldsTheSameItems (e : Exporter) (k : ℕ) (layout : Layout) : Type 0 where
   pub rows : List ℕ
   pub columns : List ℕ
@@ -53,6 +56,6 @@ pub record HoldsTheSameItems (e : Exporter) (k : ℕ) (layout : Layout) : Type 0
   pub items : (indices : List ℕ) → AreEntries layout.shape indices
       → bytes_at columns layout.itemsize (column_number_at layout.shape indices * layout.itemsize) ≡ bytes_at rows layout.itemsize (number_at layout.shape indices * layout.itemsize)
 
--- so it is of every unreleased view of a sound exporter
+-- This holds for every unreleased view of a sound exporter.
 abbrev pub OrdersHoldTheSameItems : Type 0
 OrdersHoldTheSameItems = (e : Exporter) (k : ℕ) (layout : Layout) → IsSoundExporter e → live_layout e k ≡ Ok layout → HoldsTheSameItems e k layout

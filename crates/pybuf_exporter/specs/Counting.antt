@@ -1,4 +1,4 @@
--- How many bytes a command moves, and what becomes of the room before the bytes.
+-- How many bytes a command moves, and how the room before the bytes changes.
 use Rattle.std.specs.Prelude.{◌≡◌, ◌⊎◌, ℕ, ◌+◌, ◌<◌, ◌≤◌, Bool, true, false, List, [], ◌∷◌, length, Result, Err, IsOk, IsErr}
 use Rattle.pybuf_value.specs.declared.faults.Fault.{Fault}
 use Rattle.pybuf_value.specs.declared.faults.Fault.TheVariants as fault
@@ -32,36 +32,35 @@ abbrev pub leaves_by : Subject → Verb → List Lent → Bool
 leaves_by subject.Own v lents = can_leave_length v lents
 leaves_by _ v lents = false
 
--- whether a command is an edit; no other changes the length
+-- Whether a command is an edit. No other command changes the length.
 abbrev pub edits_by : Subject → Verb → Bool
 edits_by subject.Own v = is_edit v
 edits_by _ v = false
 
--- the command takes just the first n bytes out
+-- The command takes out just the first n bytes.
 abbrev pub TakesFront : StoredExporter → LocalCommand → ℕ → Type 0
 TakesFront c command n = TakesFirst (taken_by c.exporter command.subject command.verb) n
 
 abbrev pub GrowsAtEnd : StoredExporter → LocalCommand → Type 0
 GrowsAtEnd c command = grows_by command.subject command.verb (lent_for_each c.exporter command.loans (handles_read command.subject command.verb)) ≡ true
 
--- the command can leave the length as it is, and does
+-- The command can leave the length as it is, and does so.
 abbrev pub LeavesLength : StoredExporter → LocalCommand → StoredExporter → Type 0
 LeavesLength old command new =
     (leaves_by command.subject command.verb (lent_for_each old.exporter command.loans (handles_read command.subject command.verb)) ≡ true)
     × (length new.exporter.bytes ≡ length old.exporter.bytes)
 
--- what a command answers, by its effect
+-- what a command answers, which its effect gives
 abbrev pub answer_to : StoredExporter → LocalCommand → Result (Exporter × LocalReply) Fault
 answer_to c command = answer_of c.exporter command.subject command.verb command.loans
 
--- What a command moves that is carried out, and what room is left. A step is one byte that is moved to another
--- place within.
---
--- Taking the first n bytes out moves nothing, and leaves n bytes more of room. Where bytes are added at the end,
--- the rise of the counter and the room after are together at most the room before, and afterwards there is no
--- room or less than there are bytes. Any command moves at most as many bytes as there are before and after
--- together. One that doesn't resize leaves counter and room: one that is refused, one that is no edit, and an edit
--- that can leave the length as it is, and does.
+-- How many bytes a command moves that isn't refused, and what room is left. The counter rises by 1 for each
+-- byte that is moved to another place in the same memory. If the first n bytes are taken out, nothing is moved,
+-- and the room grows by n. If bytes are added at the end, the rise of the counter and the room after are
+-- together at most the room before, and afterwards either there is no room or there is less room than there are
+-- bytes. Any command moves at most as many bytes as there are before and after together. A command that doesn't
+-- resize leaves the counter and the room as they are. Such a command is refused, or is no edit, or is an edit
+-- that can leave the length as it is and does so.
 pub record Moves (old : StoredExporter) (command : LocalCommand) (before : ℕ) (new : StoredExporter) (after : ℕ) : Type 0 where
   pub front_counter : (n : ℕ) → TakesFront old command n → IsOk (answer_to old command) → after ≡ before
   pub front_room : (n : ℕ) → TakesFront old command n → IsOk (answer_to old command) → new.room ≡ old.room + n
@@ -77,15 +76,15 @@ pub record Moves (old : StoredExporter) (command : LocalCommand) (before : ℕ) 
 
 -- ---- queues
 
--- A command of a queue that is carried out: it takes just the first bytes out, so many, or adds bytes at the end,
--- and moves what it may.
+-- A command of a queue that isn't refused. It takes out just the first `cut` bytes, or it adds bytes at the
+-- end, and it moves no more than it may.
 abbrev pub IsQueueStep : LocalCommand → ℕ → StoredExporter → ℕ → StoredExporter → ℕ → Type 0
 IsQueueStep command cut old before new after =
     IsOk (answer_to old command)
     × (TakesFront old command cut ⊎ (GrowsAtEnd old command × (cut ≡ 0)))
     × Moves old command before new after
 
--- Such commands one after another, which take so many bytes out in all.
+-- Such commands one after another. Together they take out `cut` bytes.
 abbrev pub IsQueueRun : List LocalCommand → ℕ → StoredExporter → ℕ → StoredExporter → ℕ → Type 0
 IsQueueRun [] cut old before new after = (cut ≡ 0) × (new ≡ old) × (after ≡ before)
 IsQueueRun (command ∷ commands) cut old before new after =
@@ -94,8 +93,8 @@ IsQueueRun (command ∷ commands) cut old before new after =
     × IsQueueStep command first old before between count
     × IsQueueRun commands others between count new after
 
--- Over any list of removals at the front and growths at the back the counter rises by at most the first room plus
--- the number of bytes removed at the front.
+-- In any run of commands that take bytes out at the front or add them at the end, the counter rises by at most
+-- the room at first plus the number of bytes taken out.
 abbrev pub QueuesMoveFewBytes : Type 0
 QueuesMoveFewBytes =
     (commands : List LocalCommand) (cut : ℕ) (old : StoredExporter) (before : ℕ) (new : StoredExporter) (after : ℕ)

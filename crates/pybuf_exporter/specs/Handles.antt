@@ -25,8 +25,8 @@ use Rattle.pybuf_state.specs.Snaps.{snap_of_subject}
 use Rattle.pybuf_verbs_writes.specs.Assign.{assign_of_lent}
 use Rattle.pybuf_exporter.specs.Step.{estep, estep_by}
 
--- One of the handles that a command's values are or hold names nothing: nothing is lent for it, or it is lent as a view
--- or an iterator that the exporter never gave.
+-- One of the handles in a command's values names nothing. Either nothing is lent for it, or it is lent as a
+-- view or an iterator that the exporter never gave.
 pub record HasUnknownHandle (e : Exporter) (v : Verb) (named : ℕ → Option Loan) : Type 0 where
   pub handle : ℕ
   pub held : list_any (λ (given : ℕ). given == handle) (handles_of v) ≡ true
@@ -34,12 +34,11 @@ pub record HasUnknownHandle (e : Exporter) (v : Verb) (named : ℕ → Option Lo
 
 -- ---- commands
 
--- What was never given is refused with `UnknownName`, and the exporter stays as it was.
---
--- So it is of every command on every subject with a handle that names nothing, also in a value that the command wouldn't
--- look at: by what each handle is lent as (`names`; one such handle is enough, by `one`), and by loans (`loans`). So it
--- is of every command on a view or an iterator that was never given (`subjects`), and of a view of another exporter that
--- is assigned from, which is lent without a handle (`assigned`).
+-- What was never given is refused with `UnknownName`, and the exporter stays as it was. This holds for every
+-- command on every subject if a handle names nothing, even if the command wouldn't look at the value that has
+-- it: by what each handle is lent as (`names`, and `one` says that one such handle is enough), and by loans
+-- (`loans`). It holds for every command on a view or an iterator that was never given (`subjects`). It also
+-- holds if a view of another exporter is assigned from, which is lent without a handle (`assigned`).
 pub record UnknownHandlesAreRefused : Type 0 where
   pub one : (e : Exporter) (v : Verb) (named : ℕ → Option Loan) → HasUnknownHandle e v named → are_named e named (handles_of v) ≡ false
   pub names : (e : Exporter) (s : Subject) (v : Verb) (named : ℕ → Option Loan) → are_named e named (handles_of v) ≡ false → estep_by e s v named ≡ (e, reply.Refused fault.UnknownName)
@@ -47,7 +46,7 @@ pub record UnknownHandlesAreRefused : Type 0 where
   pub subjects : (e : Exporter) (s : Subject) (v : Verb) (loans : List (ℕ × Loan)) → has_subject e s ≡ false → estep e s v loans ≡ (e, reply.Refused fault.UnknownName)
   pub assigned : (e lender : Exporter) (k j : ℕ) (slice : PySlice) → has_subject lender (subject.View j) ≡ false → assign_of_lent e k slice (snap_of_subject lender (subject.View j)) ≡ Err fault.UnknownName
 
--- ---- calls without an exporter, which take pairs of handles and snaps in place of loans
+-- ---- calls without an exporter, which get pairs of handles and snaps in place of loans
 
 -- A handle by itself is refused with `UnknownName` in each place where such a call reads bytes: as the source of new bytes,
 -- as bytes that are borrowed, read or packed, as what is searched for, added, or tested to be a prefix or suffix, as a
@@ -63,6 +62,6 @@ pub record IsRefusedUnlent (pairs : List (ℕ × Snap)) (handle : ℕ) : Type 0 
   pub filled : fill_in pairs (value.One (scalar.Handle handle)) ≡ Err fault.UnknownName
   pub mapped : (delete : Option Value) (bytes : List ℕ) → translation pairs (Some (value.One (scalar.Handle handle))) delete bytes ≡ Err fault.UnknownName
 
--- so it is of every handle of no pair
+-- This holds for every handle that no pair has.
 abbrev pub UnlentHandlesAreRefused : Type 0
 UnlentHandlesAreRefused = (pairs : List (ℕ × Snap)) (handle : ℕ) → snap_of pairs handle ≡ None → IsRefusedUnlent pairs handle

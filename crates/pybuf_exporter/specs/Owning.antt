@@ -1,4 +1,4 @@
--- Replies that own memory, and what has changed where one is given.
+-- Replies that own memory, and what a command that gives one has changed.
 use Rattle.std.specs.Prelude.{◌≡◌, ◌⊎◌, ℕ, Bool, true, false, List, length, nat_lt, Ok, Err}
 use Rattle.pybuf_value.specs.declared.faults.Fault.{Fault}
 use Rattle.pybuf_value.specs.declared.values.Scalar.{Scalar}
@@ -24,7 +24,7 @@ abbrev pub item_owns : Item → Bool
 item_owns (item.One s) = scalar_owns s
 item_owns (item.Many values) = true
 
--- whether a reply owns memory; a copy of any other takes none
+-- Whether a reply owns memory. Every other reply can be copied without memory.
 abbrev pub reply_owns : LocalReply → Bool
 reply_owns (reply.Item x) = item_owns x
 reply_owns (reply.Items shape items) = true
@@ -36,29 +36,29 @@ reply_owns (reply.ByteLists lists) = true
 reply_owns (reply.Fresh snap) = true
 reply_owns _ = false
 
--- the two commands that change something and may reply what owns memory: the bytes of a vector are taken, an
--- iterator gives its next item
+-- Two commands change something and may reply what owns memory. One takes the bytes of a vector, and the other
+-- asks an iterator for its next item.
 abbrev pub hands_over : Subject → Verb → Bool
 hands_over subject.Own verb.Take = true
 hands_over (subject.Iter k) verb.Next = true
 hands_over _ _ = false
 
--- any other command whose reply owns memory changes nothing
+-- If any other command's reply owns memory, the command changes nothing.
 abbrev pub OwningRepliesChangeNothing : Type 0
 OwningRepliesChangeNothing =
     (e : Exporter) (s : Subject) (v : Verb) (loans : List (ℕ × Loan)) → hands_over s v ≡ false → reply_owns (estep e s v loans).1 ≡ true → (estep e s v loans).0 ≡ e
 
--- what is taken is all bytes, and any other reply to that owns no memory
+-- `take` replies all bytes, and every other reply to it owns no memory.
 abbrev pub TakenBytesAreAll : Type 0
 TakenBytesAreAll =
     (e : Exporter) (loans : List (ℕ × Loan)) → (reply_owns (estep e subject.Own verb.Take loans).1 ≡ false) ⊎ ((estep e subject.Own verb.Take loans).1 ≡ reply.Bytes e.bytes)
 
--- `next` is undone where the iterator is put as it was
+-- `next` is undone if the iterator is put back as it was.
 abbrev pub NextIsUndone : Type 0
 NextIsUndone =
     (e : Exporter) (k : ℕ) (it : Iterator) (loans : List (ℕ × Loan)) → iterator_at e k ≡ Ok it
     → (nat_lt k (length (estep e (subject.Iter k) verb.Next loans).0.iterators) ≡ true) × (iterator_put (estep e (subject.Iter k) verb.Next loans).0 k it ≡ e)
 
--- there is no next item of an iterator that was never made
+-- An iterator that was never made has no next item.
 abbrev pub NoIteratorHasNoNext : Type 0
 NoIteratorHasNoNext = (e : Exporter) (k : ℕ) (f : Fault) (loans : List (ℕ × Loan)) → iterator_at e k ≡ Err f → (estep e (subject.Iter k) verb.Next loans).0 ≡ e

@@ -37,30 +37,32 @@ use Rattle.pybuf_verbs_iters.specs.Iterators.{iter_of_own, iter_of_view, effect_
 use Rattle.pybuf_verbs_edits.specs.Shrinking.{delete_of_view}
 use Rattle.pybuf_verbs_edits.specs.Edits.{edit_of_own}
 
--- of a view by a key: a new view of the items that a slice picks, or the item that any other key names
+-- `get` of a view by a key: a slice makes a new view of the items that it picks, and any other key names an
+-- item
 abbrev pub get_of_view : Exporter → ℕ → Value → Result (Exporter × LocalReply) Fault
 get_of_view e k (value.Slice slice) = slice_of_view e k slice
 get_of_view e k key = item_of_view e k key
 
--- to a view by a key: items over those that a slice picks, or the item at an index
+-- `set` of a view by a key: a slice is set to other items, and any other key names the item that is written
 abbrev pub set_through_view : Exporter → ℕ → Value → Value → List Lent → Result (Exporter × LocalReply) Fault
 set_through_view e k (value.Slice slice) v lents = assign_of_view e k slice v lents
 set_through_view e k key v lents = set_of_view e k key v lents
 
--- to an exporter by a key: bytes in place of those that a slice picks, or the byte at an index
+-- `set` of an exporter by a key: a slice is set to other bytes, and any other key names the byte that is
+-- written
 abbrev pub set_in_own : Exporter → Value → Value → List Lent → Result (Exporter × LocalReply) Fault
 set_in_own e (value.Slice slice) v lents = edit_of_own e (verb.Set (value.Slice slice) v) lents
 set_in_own e key v lents = set_of_own e key v
 
--- Whether a command reads what the handles among its values name, each from where it lies: a method, a search
--- and the digits of a view. These change nothing.
+-- Whether a command reads what its handles name, each where it lies: a method, a search, or the hexadecimal
+-- digits of a view. These commands change nothing.
 abbrev pub reads_in_place : Subject → Verb → Bool
 reads_in_place subject.Own (verb.Contains v) = true
 reads_in_place subject.Own (verb.Call method) = true
 reads_in_place (subject.View k) (verb.Hex sep group) = true
 reads_in_place s v = false
 
--- The effect of a verb on the exporter itself. Every further verb is an edit, or none that an exporter has.
+-- The effect of a verb on the exporter itself. Every further verb is an edit, or an exporter doesn't have it.
 abbrev pub effect_on_own : Exporter → Verb → List Lent → Result (Exporter × LocalReply) Fault
 effect_on_own e verb.View lents = view_of_own e
 effect_on_own e (verb.Range from to) lents = range_of_own e from to
@@ -101,15 +103,15 @@ effect_on_view e k verb.Iter lents = iter_of_view e k
 effect_on_view e k (verb.Hex sep group) lents = hex_of_view e k sep group (snaps_of lents)
 effect_on_view e k _ lents = Err fault.UnknownName
 
--- The effect of the subject and the verb, with what is lent to it. A subject of a kind that has no such
--- effect is an unknown name.
+-- The effect of the verb on the subject, with what is lent to it. If the subject's kind has no such effect, the
+-- verb is an unknown name.
 abbrev pub effect : Exporter → Subject → Verb → List Lent → Result (Exporter × LocalReply) Fault
 effect e subject.Own v lents = effect_on_own e v lents
 effect e (subject.View k) v lents = effect_on_view e k v lents
 effect e (subject.Iter k) v lents = effect_on_iterator e k v
 
--- By what each handle is lent as. An unknown handle is refused before all else, also in a value that the effect
--- would not look at.
+-- The answer by what each handle is lent as. An unknown handle is refused before all else, even if the effect
+-- wouldn't look at the value that has it.
 abbrev pub answer_by : Exporter → Subject → Verb → (ℕ → Option Loan) → Result (Exporter × LocalReply) Fault
 answer_by e s v named =
     if are_named e named (handles_of v) then effect e s v (lents_by e named (handles_read s v))
@@ -119,7 +121,7 @@ answer_by e s v named =
 abbrev pub answer_of : Exporter → Subject → Verb → List (ℕ × Loan) → Result (Exporter × LocalReply) Fault
 answer_of e s v loans = answer_by e s v (names_of loans)
 
--- a refusal leaves the exporter as it was
+-- A refusal leaves the exporter as it was.
 abbrev pub settled_answer : Exporter → Result (Exporter × LocalReply) Fault → Exporter × LocalReply
 settled_answer e (Ok after) = after
 settled_answer e (Err f) = (e, reply.Refused f)

@@ -1,5 +1,5 @@
--- `compare`: bytes and bytearrays by their bytes, a view by its items ("Value comparisons" of Python's
--- language reference, and `memoryview.__eq__` of "Binary Sequence Types").
+-- `compare`: bytes and bytearrays are compared by their bytes, and views by their items ("Value comparisons" of
+-- Python's language reference, and `memoryview.__eq__` of "Binary Sequence Types").
 use Rattle.std.specs.Prelude.{ℕ, ◌==◌, Bool, false, ◌&&◌, ◌||◌, not, List, [], ◌∷◌, Option, Some, None, Result, Ok, Err}
 use Rattle.pybuf_value.specs.declared.faults.Fault.{Fault}
 use Rattle.pybuf_value.specs.declared.faults.Fault.TheVariants as fault
@@ -32,7 +32,8 @@ abbrev pub lent_snap : List Lent → Option Snap
 lent_snap [] = None
 lent_snap (l ∷ lents) = Some l.snap
 
--- bytes, which count as an exporter of these bytes, or what a handle names; nothing else has bytes
+-- What a subject is compared with has bytes if it is bytes, which count as an exporter of these bytes, or if a
+-- handle names it. Nothing else has bytes.
 abbrev pub other_in : Value → List Lent → Option Snap
 other_in (value.One (scalar.Bytes bytes)) lents = Some (snap_of_exporter (new_exporter kind.Bytes bytes))
 other_in (value.One (scalar.Handle h)) lents = lent_snap lents
@@ -40,7 +41,7 @@ other_in _ lents = None
 
 -- ---- an exporter
 
--- Python's `bytes` has no order with a view
+-- Python's `bytes` has no order with a view.
 abbrev pub has_no_order : ExporterKind → CompareOp → SnapKind → Bool
 has_no_order kind.Bytes op snap_kind.View = is_order op
 has_no_order _ op _ = false
@@ -49,20 +50,19 @@ abbrev pub has_no_order_with : ExporterKind → CompareOp → Option Snap → Bo
 has_no_order_with k op (Some snap) = has_no_order k op snap.kind
 has_no_order_with k op None = false
 
--- Two strings of bytes are compared byte by byte; with anything that has no bytes in a row there is no
--- comparison.
+-- Two strings of bytes are compared byte by byte. If the other has no bytes in a row, they aren't compared.
 abbrev pub bytes_compared : List ℕ → CompareOp → Result (List ℕ) Fault → LocalReply
 bytes_compared bytes op (Ok other) = reply.Truth (answers op (order_of bytes other))
 bytes_compared bytes op (Err f) = reply.NotImplementedReply
 
--- a string of bytes beside what it is compared with: the bytes of an exporter, and those of an unreleased
--- view whose items lie one after the other
+-- A string of bytes is compared with the bytes of an exporter, or with those of an unreleased view whose items
+-- lie one after the other.
 abbrev pub compare_string : Exporter → CompareOp → Option Snap → Result (Exporter × LocalReply) Fault
 compare_string e op other = do
   _ ← unless (has_no_order_with e.kind op other) fault.Kind
   Ok (e, bytes_compared e.bytes op (content_of other))
 
--- of bytes and bytearrays: a vector isn't compared
+-- `compare` of bytes or of a bytearray. A vector isn't compared.
 abbrev pub compare_of_own : Exporter → CompareOp → Value → List Lent → Result (Exporter × LocalReply) Fault
 compare_of_own e op other lents = do
   _ ← unless (is_vector e.kind) fault.UnknownName
@@ -83,13 +83,13 @@ abbrev pub is_same_view : ℕ → Value → List Lent → Bool
 is_same_view k (value.One (scalar.Handle h)) lents = is_lent_view k lents
 is_same_view k _ lents = false
 
--- Two views are equal by their items. A released one is equal to none, and an exporter counts as its whole
+-- Two views are equal if their items are. A released view is equal to none, and an exporter counts as its whole
 -- view.
 abbrev pub equals_snap : Snap → Option Snap → Bool
 equals_snap left (Some right) = not (left.released || right.released) && (not (is_iterator right.kind) && same_view left right)
 equals_snap left None = false
 
--- the same view is equal to itself, also where it was released
+-- The same view is equal to itself, even if it is released.
 abbrev pub equals_other : ℕ → Snap → Value → List Lent → Bool
 equals_other k left other lents = is_same_view k other lents || equals_snap left (other_in other lents)
 
@@ -97,7 +97,7 @@ abbrev pub equality_answer : CompareOp → Bool → Bool
 equality_answer op.Ne equal = not equal
 equality_answer _ equal = equal
 
--- of a view: views have no order
+-- `compare` of a view. Views have no order.
 abbrev pub compare_of_view : Exporter → ℕ → CompareOp → Value → List Lent → Result (Exporter × LocalReply) Fault
 compare_of_view e k op other lents = do
   view ← view_at e k

@@ -1,4 +1,4 @@
--- The effects keep a sound exporter, and what equality and hashes have to do with each other.
+-- Each effect keeps a sound exporter, and equal values have equal hashes.
 use Rattle.std.specs.Prelude.{◌≡◌, ℕ, ◌<◌, List, true, false, Ok}
 use Rattle.std.specs.List.{All}
 use Rattle.pybuf_value.specs.declared.values.Value.{Value}
@@ -32,7 +32,7 @@ ReprIsSafe =
     × ((e : Exporter) (k : ℕ) → IsSafe e (repr_of_view e k))
 
 -- Two unreleased views of items of one byte that are equal reply the same bytes to `hash`, whatever their
--- exporters are and whatever such a format each has.
+-- exporters and their formats are.
 abbrev pub EqualViewsHashAlike : Type 0
 EqualViewsHashAlike =
     (e other : Exporter) (k j : ℕ) (layout other_layout : Layout) (bytes other_bytes : List ℕ)

@@ -1,4 +1,4 @@
--- Which edits ask for another length, once the checks before that are passed.
+-- Which edits ask for another length, once they have passed the checks before that.
 use Rattle.std.specs.Prelude.{◌==◌, Bool, true, false, not, ◌&&◌, length, Result, Ok, Err, if◌then◌else◌, List}
 use Rattle.pybuf_value.specs.declared.faults.Fault.{Fault}
 use Rattle.pybuf_value.specs.declared.faults.Fault.TheVariants as fault
@@ -20,17 +20,17 @@ use Rattle.pybuf_command.specs.Kinds.{of_byte_array}
 use Rattle.pybuf_verbs_edits.specs.Common.{is_itself}
 use Rattle.pybuf_verbs_edits.specs.Shrinking.{count_or_last}
 
--- passed, whatever was read
+-- The check passes, whatever was read.
 abbrev pub passed : {X : Type 0} → Result X Fault → Result Bool Fault
 passed (Ok x) = Ok true
 passed (Err f) = Err f
 
--- by a key: an index, or the parts of a slice
+-- the check of a key, which is an index or a slice
 abbrev pub key_passed : Value → Result Bool Fault
 key_passed (value.Slice slice) = passed (saturated_parts_of slice)
 key_passed key = passed (index_in key)
 
--- a slice that gets as many bytes as it picks asks for nothing
+-- An assignment to a slice asks for nothing if it gets as many bytes as the slice picks.
 abbrev pub assignment_asks : Exporter → Value → Value → List Lent → Result Bool Fault
 assignment_asks e (value.Slice slice) v lents = do
   parts ← saturated_parts_of slice
@@ -38,8 +38,8 @@ assignment_asks e (value.Slice slice) v lents = do
   Ok (not (length (picks_of (length e.bytes) parts) == length bytes))
 assignment_asks e _ v lents = Ok false
 
--- The checks of an edit of a bytearray before it asks: `Ok true` where it then asks for another length,
--- `Ok false` where it doesn't, and else the refusal.
+-- The checks of an edit of a bytearray before it asks. They give `Ok true` if the edit then asks for another
+-- length, `Ok false` if it doesn't, and otherwise the refusal.
 abbrev pub byte_array_asks : Exporter → Verb → List Lent → Result Bool Fault
 byte_array_asks e (verb.Append v) lents = passed (byte_in v)
 byte_array_asks e (verb.Extend v) lents = if is_itself v lents then Ok (not (length e.bytes == 0)) else passed (bytes_in (snaps_of lents) v)
@@ -61,7 +61,7 @@ byte_array_asks e (verb.Init options) lents = passed (bytes_of_options (snaps_of
 byte_array_asks e (verb.Set key v) lents = assignment_asks e key v lents
 byte_array_asks e _ lents = Ok false
 
--- the same of every exporter: `take` of a vector always asks, and nothing else of one does
+-- The same of every exporter: `take` of a vector always asks, and no other edit of a vector does.
 abbrev pub asks : Exporter → Verb → List Lent → Result Bool Fault
 asks e verb.Take lents = if is_vector e.kind then Ok true else Ok false
 asks e v lents = of_byte_array e.kind (byte_array_asks e v lents)

@@ -10,7 +10,7 @@ use Rattle.pybuf_command.specs.declared.commands.LocalReply.TheVariants as reply
 use Rattle.pybuf_state.specs.Exporter.{Exporter}
 use Rattle.pybuf_state.specs.Loans.{Lent}
 
--- an exporter with other bytes, and a reply that there is nothing to say
+-- an exporter with other bytes, and a reply that says nothing
 abbrev pub with_bytes : Exporter → List ℕ → Exporter × LocalReply
 with_bytes e bytes = (record e { bytes = bytes }, reply.Ok)
 

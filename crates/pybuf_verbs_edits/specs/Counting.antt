@@ -28,13 +28,14 @@ popped_places e index = do
   place ← entry_in (length e.bytes) number
   Ok (place ∷ [])
 
--- those that `remove` takes out
+-- the place of the byte that `remove` takes out
 abbrev pub removed_places : Exporter → Value → Result (List ℕ) Fault
 removed_places e v = do
   byte ← byte_in v
   Ok (position_or_len (λ b. b == byte) e.bytes ∷ [])
 
--- those that `del` takes out, in the order in which the key names them: by an index, or by a slice
+-- The places of the bytes that `del` takes out, in the order in which the key names them. The key is an index
+-- or a slice.
 abbrev pub indexed_places : Exporter → Value → Result (List ℕ) Fault
 indexed_places e key = do
   index ← index_in key
@@ -50,36 +51,36 @@ abbrev pub deleted_places : Exporter → Value → Result (List ℕ) Fault
 deleted_places e (value.Slice slice) = sliced_places e slice
 deleted_places e key = indexed_places e key
 
--- those that an edit takes out; none is told of any other edit
+-- The places of the bytes that an edit takes out. They are defined for these edits alone.
 abbrev pub taken_places : Exporter → Verb → Result (List ℕ) Fault
 taken_places e (verb.Pop index) = popped_places e index
 taken_places e (verb.Remove v) = removed_places e v
 taken_places e (verb.Del key) = deleted_places e key
 taken_places e _ = Err fault.UnknownName
 
--- the first n places, one after another, up or down
+-- The places are the first n, one after another, up or down.
 abbrev pub AreFirst : ℕ → List ℕ → Type 0
 AreFirst n places = (places ≡ rising 0 1 n) ⊎ (places ≡ reverse (rising 0 1 n))
 
--- just the first n bytes are taken out
+-- An edit takes out just the first n bytes.
 abbrev pub TakesFirst : Result (List ℕ) Fault → ℕ → Type 0
 TakesFirst (Ok places) n = AreFirst n places
 TakesFirst (Err f) n = ⊥
 
 -- ---- at the end
 
--- whether an edit adds bytes at the end: `append`, `iadd`, and `extend` by another value than itself
+-- whether an edit adds bytes at the end: `append`, `iadd`, and `extend` by anything but itself
 abbrev pub grows_at_end : Verb → List Lent → Bool
 grows_at_end (verb.Append v) lents = true
 grows_at_end (verb.Extend v) lents = not (is_itself v lents)
 grows_at_end (verb.IAdd v) lents = true
 grows_at_end _ lents = false
 
--- ---- without another length
+-- ---- edits that leave the length as it is
 
--- Whether an edit can leave the length as it is: `set` by a slice, which gets as many bytes as it picks or others,
--- `imul`, by 1 or of no byte or else, and `extend` by itself, of no byte or else; `reverse` and `copy` always do. Every
--- other edit resizes, also where there are as many bytes before and after.
+-- Whether an edit can leave the length as it is. `set` by a slice does so if it gets as many bytes as it picks,
+-- `imul` if the number is 1 or there is no byte, and `extend` by itself if there is no byte; `reverse` and
+-- `copy` always do. Every other edit resizes, even if there are as many bytes afterwards as before.
 abbrev pub can_leave_length : Verb → List Lent → Bool
 can_leave_length (verb.Extend v) lents = is_itself v lents
 can_leave_length (verb.IMul count) lents = true

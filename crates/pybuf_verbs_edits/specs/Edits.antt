@@ -1,4 +1,4 @@
--- Which edit a command on an exporter itself is.
+-- Which edit a command on an exporter itself makes.
 use Rattle.std.specs.Prelude.{Bool, true, false, List, Result, Err}
 use Rattle.pybuf_value.specs.declared.faults.Fault.{Fault}
 use Rattle.pybuf_value.specs.declared.faults.Fault.TheVariants as fault
@@ -12,7 +12,7 @@ use Rattle.pybuf_verbs_edits.specs.Growing.{append_of_own, insert_of_own, imul_o
 use Rattle.pybuf_verbs_edits.specs.Shrinking.{pop_of_own, remove_of_own, clear_of_own, delete_of_own, take_of_own}
 use Rattle.pybuf_verbs_edits.specs.Replacing.{assign_of_own, init_of_own, reverse_of_own, copy_of_own}
 
--- a line for each; a command that is no edit has no such effect
+-- Each edit has a line. A command that is no edit has no effect here, and is an unknown name.
 abbrev pub edit_of_own : Exporter → Verb → List Lent → Result (Exporter × LocalReply) Fault
 edit_of_own e (verb.Append v) lents = append_of_own e v
 edit_of_own e (verb.Extend v) lents = extend_of_own e v lents

@@ -1,5 +1,5 @@
--- Edits that add bytes. While a view is unreleased each is refused with `BufferError`, where it asks for
--- another length.
+-- Edits that add bytes. While a view is unreleased, an edit that asks for another length is refused with
+-- `BufferError`.
 use Rattle.std.specs.Prelude.{ℕ, ◌*◌, ◌^◌, ◌==◌, not, List, [], ◌∷◌, ◌++◌, length, nat_lt, Result, Ok, if◌then◌else◌}
 use Rattle.pybuf_value.specs.declared.faults.Fault.{Fault}
 use Rattle.pybuf_value.specs.declared.faults.Fault.TheVariants as fault
@@ -28,8 +28,7 @@ appended e v = do
 abbrev pub append_of_own : Exporter → Value → Result (Exporter × LocalReply) Fault
 append_of_own e v = of_byte_array e.kind (appended e v)
 
--- ---- `insert`: a byte before the place that is nearest to an index, where a negative one counts from
--- the end
+-- ---- `insert`: a byte before the place that is nearest to an index, and a negative index counts from the end
 
 abbrev pub inserted : Exporter → Value → Value → Result (Exporter × LocalReply) Fault
 inserted e index v = do
@@ -41,7 +40,7 @@ inserted e index v = do
 abbrev pub insert_of_own : Exporter → Value → Value → Result (Exporter × LocalReply) Fault
 insert_of_own e index v = of_byte_array e.kind (inserted e index v)
 
--- ---- the bytes so many times
+-- ---- the bytes, repeated n times
 
 -- The length must not pass the greatest word.
 abbrev pub repeated : Exporter → ℕ → Result (Exporter × LocalReply) Fault
@@ -50,11 +49,11 @@ repeated e n = do
   _ ← unless (not (nat_lt (length e.bytes * n) (2 ^ 63))) fault.Overflow
   Ok (with_bytes e (repeated_list n e.bytes))
 
--- no byte is as many as none, and any number of them is none
+-- An empty bytearray stays empty, however often it is repeated.
 abbrev pub repeated_unless_empty : Exporter → ℕ → Result (Exporter × LocalReply) Fault
 repeated_unless_empty e n = if length e.bytes == 0 then Ok (e, reply.Ok) else repeated e n
 
--- `imul`: once is as it was, and a negative number is 0
+-- `imul`: by 1 the bytearray stays as it is, and a negative number counts as 0.
 abbrev pub multiplied : Exporter → Value → Result (Exporter × LocalReply) Fault
 multiplied e count = do
   number ← count_in count
@@ -71,14 +70,14 @@ extended e v lents = do
   _ ← resizable e
   Ok (with_bytes e (e.bytes ++ bytes))
 
--- by itself it is twice what it was
+-- A bytearray that is extended by itself is then twice what it was.
 abbrev pub extended_or_doubled : Exporter → Value → List Lent → Result (Exporter × LocalReply) Fault
 extended_or_doubled e v lents = if is_itself v lents then repeated_unless_empty e 2 else extended e v lents
 
 abbrev pub extend_of_own : Exporter → Value → List Lent → Result (Exporter × LocalReply) Fault
 extend_of_own e v lents = of_byte_array e.kind (extended_or_doubled e v lents)
 
--- ---- `iadd`: bytes that lie one after the other at the end, and never its own
+-- ---- `iadd`: bytes that lie one after the other are added at the end, but never the bytearray's own
 
 abbrev pub added : Exporter → Value → List Lent → Result (Exporter × LocalReply) Fault
 added e v lents = do

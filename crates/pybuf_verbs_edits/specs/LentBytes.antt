@@ -1,4 +1,4 @@
--- The edits that add bytes or put them in place of others, by what a handle names.
+-- The edits that add or replace bytes, when a handle names the bytes.
 use Rattle.std.specs.Prelude.{ℕ, List, ◌++◌, Option, Some, Result, Ok, Err}
 use Rattle.pybuf_value.specs.declared.faults.Fault.{Fault}
 use Rattle.pybuf_value.specs.declared.faults.Fault.TheVariants as fault
@@ -23,37 +23,37 @@ bytes_added e bytes = do
   _ ← resizable e
   Ok (with_bytes e (e.bytes ++ bytes))
 
--- those of what a handle names, if it is there
+-- An exporter is extended by the bytes of what a handle names, if that is there.
 abbrev pub extended_by : Exporter → Option Snap → Result (Exporter × LocalReply) Fault
 extended_by e lent = do
   bytes ← content_of_named lent
   bytes_added e bytes
 
--- the same where they lie one after the other
+-- The same for `iadd`, which wants bytes that lie one after the other.
 abbrev pub added_by : Exporter → Option Snap → Result (Exporter × LocalReply) Fault
 added_by e lent = do
   bytes ← content_of lent
   bytes_added e bytes
 
--- by what the handle is lent as: by itself an exporter is twice what it was
+-- The same by what the handle is lent as: an exporter that is extended by itself is then twice what it was.
 abbrev pub extended_as : Exporter → Option Loan → Result (Exporter × LocalReply) Fault
 extended_as e (Some loan.Own) = repeated_unless_empty e 2
 extended_as e l = extended_by e (snap_in e l)
 
--- and `iadd` never adds its own
+-- `iadd` never adds an exporter's own bytes.
 abbrev pub added_as : Exporter → Option Loan → Result (Exporter × LocalReply) Fault
 added_as e (Some loan.Own) = Err fault.Buffer
 added_as e l = added_by e (snap_in e l)
 
 -- ---- bytes in place of others
 
--- a slice is set to the bytes of what a handle names, if it is there
+-- A slice is set to the bytes of what a handle names, if that is there.
 abbrev pub assigned_by : Exporter → SliceParts → Option Snap → Result (Exporter × LocalReply) Fault
 assigned_by e parts lent = do
   bytes ← content_of_named lent
   assigned e parts bytes
 
--- all bytes give way to those of what a handle names, if it is there
+-- The bytes of what a handle names replace all bytes, if that is there.
 abbrev pub initialized_by : Exporter → Option Snap → Result (Exporter × LocalReply) Fault
 initialized_by e lent = do
   bytes ← content_of_named lent

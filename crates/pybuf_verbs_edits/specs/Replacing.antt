@@ -21,7 +21,8 @@ use Rattle.pybuf_verbs_edits.specs.Common.{with_bytes}
 
 -- ---- `set` by a slice
 
--- Another number of bytes than the slice picks asks for another length, which a slice of step 1 can have.
+-- An assignment of another number of bytes than the slice picks asks for another length. Only a slice of step 1
+-- can have one.
 abbrev pub assigned : Exporter → SliceParts → List ℕ → Result (Exporter × LocalReply) Fault
 assigned e parts bytes = do
   _ ← unless (has_exports e && not (length (picks_of (length e.bytes) parts) == length bytes)) fault.Buffer
@@ -41,7 +42,7 @@ slice_set e slice v lents = do
 abbrev pub assign_of_own : Exporter → PySlice → Value → List Lent → Result (Exporter × LocalReply) Fault
 assign_of_own e slice v lents = of_byte_array e.kind (slice_set e slice v lents)
 
--- ---- `init`: all bytes give way to those of the options
+-- ---- `init`: the bytes of the options replace all bytes
 
 abbrev pub replaced_all : Exporter → List ℕ → Result (Exporter × LocalReply) Fault
 replaced_all e bytes = do
@@ -56,12 +57,12 @@ initialized e options lents = do
 abbrev pub init_of_own : Exporter → ByteInnerNewOptions → List Lent → Result (Exporter × LocalReply) Fault
 init_of_own e options lents = of_byte_array e.kind (initialized e options lents)
 
--- ---- `reverse`: the same bytes from the last to the first, also while a view is unreleased
+-- ---- `reverse`: the same bytes from the last to the first, which is allowed while a view is unreleased
 
 abbrev pub reverse_of_own : Exporter → Result (Exporter × LocalReply) Fault
 reverse_of_own e = of_byte_array e.kind (Ok (with_bytes e (reverse e.bytes)))
 
--- ---- `copy`: the bytearray stays, and another is made of its bytes
+-- ---- `copy`: the bytearray stays as it is, and another is made of its bytes
 
 abbrev pub copy_of_own : Exporter → Result (Exporter × LocalReply) Fault
 copy_of_own e = of_byte_array e.kind (Ok (e, reply.Fresh (snap_of_exporter e)))

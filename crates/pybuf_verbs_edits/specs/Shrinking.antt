@@ -24,7 +24,7 @@ use Rattle.pybuf_verbs_edits.specs.Common.{with_bytes}
 abbrev pub without : List ℕ → ℕ → List ℕ
 without bytes place = replaced_range bytes place (place + 1) []
 
--- ---- `pop`: the byte at an index, the last where none is given
+-- ---- `pop`: the byte at an index, or the last if no index is given
 
 abbrev pub count_or_last : Option Value → Result ℤ Fault
 count_or_last index = count_or (negsuc 0) index
@@ -39,7 +39,7 @@ popped e index = do
 abbrev pub pop_of_own : Exporter → Option Value → Result (Exporter × LocalReply) Fault
 pop_of_own e index = of_byte_array e.kind (popped e index)
 
--- ---- `remove`: the first byte of a value
+-- ---- `remove`: the first byte that has a value
 
 abbrev pub removed : Exporter → Value → Result (Exporter × LocalReply) Fault
 removed e v = do
@@ -83,13 +83,13 @@ deleted e key = byte_deleted e key
 abbrev pub delete_of_own : Exporter → Value → Result (Exporter × LocalReply) Fault
 delete_of_own e key = of_byte_array e.kind (deleted e key)
 
--- nothing is taken out of a view, which has its number of items for good
+-- Nothing can be taken out of a view, since its number of items never changes.
 abbrev pub delete_of_view : Exporter → ℕ → Result (Exporter × LocalReply) Fault
 delete_of_view e k = do
   _ ← live_layout e k
   Err fault.Kind
 
--- ---- `take`: all bytes of a vector, which are replied
+-- ---- `take`: all bytes of a vector are taken out and replied
 
 abbrev pub taken : Exporter → Result (Exporter × LocalReply) Fault
 taken e = do

@@ -25,19 +25,19 @@ use Rattle.pybuf_state.specs.Keeps.{is_vector}
 
 -- ---- `iter`: a new iterator at the first item
 
--- over bytes; a vector has no items of its own
+-- An iterator over bytes. A vector has no items of its own, so it has no iterator.
 abbrev pub iter_of_own : Exporter → Result (Exporter × LocalReply) Fault
 iter_of_own e = do
   _ ← unless (is_vector e.kind) fault.UnknownName
   Ok (with_iterator e subject.Own)
 
--- over the items of a view, of however many dimensions
+-- an iterator over the items of a view, whatever the number of its dimensions is
 abbrev pub iter_of_view : Exporter → ℕ → Result (Exporter × LocalReply) Fault
 iter_of_view e k = do
   layout ← live_layout e k
   Ok (with_iterator e (subject.View k))
 
--- an iterator is its own
+-- An iterator is its own iterator.
 abbrev pub iter_of_iterator : Exporter → ℕ → Result (Exporter × LocalReply) Fault
 iter_of_iterator e k = do
   it ← iterator_at e k
@@ -45,22 +45,22 @@ iter_of_iterator e k = do
 
 -- ---- `next`: the next item
 
--- the byte at a position as the bytes are now, none past their end
+-- the byte at a position of the bytes as they are now, or none past their end
 abbrev pub byte_at : Exporter → ℕ → Option Item
 byte_at e position = option_map byte_item (slice_get e.bytes position)
 
--- an entry of a view is an item where the view has one dimension
+-- The entry of a view at a position is an item if the view has one dimension.
 abbrev pub item_at : Exporter → Layout → ℕ → Result (Option Item) Fault
 item_at e layout position = do
   _ ← unless (not (length layout.shape == 1)) fault.NotImplemented
   Ok (Some (item_by layout.format (bytes_at e.bytes layout.itemsize (slice_index layout.starts position))))
 
--- The entry of a view at a position, none past its end: an iterator over a view goes along its first dimension,
--- and a view of no dimension has one entry.
+-- The entry of a view at a position, or none past the end. An iterator over a view goes along its first
+-- dimension, and a view without dimensions has one entry.
 abbrev pub entry_at : Exporter → Layout → ℕ → Result (Option Item) Fault
 entry_at e layout position = if nat_lt position (first_entry layout.shape) then item_at e layout position else Ok None
 
--- the item of a subject at a position, none past its end; there is no iterator over another
+-- The item of a subject at a position, or none past the end. No iterator goes over any other subject.
 abbrev pub item_over : Exporter → Subject → ℕ → Result (Option Item) Fault
 item_over e subject.Own position = Ok (byte_at e position)
 item_over e (subject.View v) position = do
@@ -68,13 +68,12 @@ item_over e (subject.View v) position = do
   entry_at e layout position
 item_over e (subject.Iter j) position = Err fault.UnknownName
 
--- an item is replied, and the one behind it comes next; where none is left, the iterator is exhausted from
--- now on
+-- The iterator replies an item and moves to the next position. If no item is left, it is exhausted from now on.
 abbrev pub moved_on : Exporter → ℕ → Iterator → Option Item → Exporter × LocalReply
 moved_on e k it (Some x) = (iterator_put e k (record it { position = it.position + 1 }), reply.Item x)
 moved_on e k it None = (iterator_put e k (record it { exhausted = true }), reply.Stop)
 
--- an exhausted iterator looks at nothing
+-- An exhausted iterator looks at nothing.
 abbrev pub next_unless : Bool → Exporter → ℕ → Iterator → Result (Exporter × LocalReply) Fault
 next_unless true e k it = Ok (e, reply.Stop)
 next_unless false e k it = do
@@ -86,13 +85,13 @@ next_of_iterator e k = do
   it ← iterator_at e k
   next_unless it.exhausted e k it
 
--- ---- how many are left, and the place that it is moved to, of iterators over bytes alone
+-- ---- how many items are left, and the place that an iterator is moved to, for iterators over bytes only
 
 abbrev pub is_over_bytes : Subject → Bool
 is_over_bytes subject.Own = true
 is_over_bytes _ = false
 
--- the iterator of a number that goes over bytes
+-- the iterator that has a number, if it goes over bytes
 abbrev pub iterator_over_bytes : Exporter → ℕ → Result Iterator Fault
 iterator_over_bytes e k = do
   it ← iterator_at e k
@@ -119,7 +118,7 @@ put_at e k it state = do
   number ← number_of state
   Ok (iterator_put e k (record it { position = clamped (length e.bytes) number }), reply.Ok)
 
--- an exhausted iterator stays as it is, whatever the state is
+-- An exhausted iterator stays as it is, whatever state it is given.
 abbrev pub put_unless : Bool → Exporter → ℕ → Iterator → Value → Result (Exporter × LocalReply) Fault
 put_unless true e k it state = Ok (e, reply.Ok)
 put_unless false e k it state = put_at e k it state

@@ -1,4 +1,4 @@
--- Effects of iterators change nothing but iterators, and leave an exhausted one as it is.
+-- The effects of iterators change nothing but iterators, and leave an exhausted one as it is.
 use Rattle.std.specs.Prelude.{ℕ}
 use Rattle.pybuf_value.specs.Refusing.{IfDone}
 use Rattle.pybuf_command.specs.declared.commands.Verb.{Verb}

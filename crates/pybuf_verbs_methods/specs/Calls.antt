@@ -1,4 +1,4 @@
--- Methods and searches of an exporter's bytes, and the digits of a view's.
+-- Methods and searches of an exporter's bytes, and the hexadecimal digits of a view's bytes.
 use Rattle.std.specs.Prelude.{ℕ, List, Option, Result, Ok, Err}
 use Rattle.pybuf_value.specs.declared.faults.Fault.{Fault}
 use Rattle.pybuf_value.specs.declared.faults.Fault.TheVariants as fault
@@ -27,7 +27,8 @@ reply_of_answer (answer.Truth truth) = reply.Truth truth
 reply_of_answer (answer.Number n) = reply.Item (item.One (scalar.Int n))
 reply_of_answer (answer.Text text) = reply.Text text
 
--- A method of bytes or of a bytearray, by what the handles among its arguments name. A vector has none.
+-- A method of bytes or of a bytearray. Its arguments may be handles, and the pairs say what these name. A
+-- vector has no methods.
 abbrev pub call_of_own : Exporter → MethodCall → List (ℕ × Snap) → Result (Exporter × LocalReply) Fault
 call_of_own e call pairs = do
   _ ← unless (is_vector e.kind) fault.UnknownName
@@ -41,7 +42,7 @@ contains_of_own e v pairs = do
   found ← contains_in pairs e.bytes v
   Ok (e, reply.Truth found)
 
--- the digits of a view's bytes, of which the last dimension runs fastest
+-- The hexadecimal digits of a view's bytes, in row-major order: the last dimension runs fastest.
 abbrev pub hex_of_view : Exporter → ℕ → Option Value → Option Value → List (ℕ × Snap) → Result (Exporter × LocalReply) Fault
 hex_of_view e k sep group pairs = do
   layout ← live_layout e k

@@ -1,4 +1,4 @@
--- What holds of these effects, and of what handles name.
+-- Laws of these effects, and of what handles name.
 use Rattle.std.specs.Prelude.{◌≡◌, ℕ, List, Option}
 use Rattle.pybuf_value.specs.declared.snaps.Snap.{Snap}
 use Rattle.pybuf_value.specs.declared.values.Value.{Value}
@@ -20,10 +20,10 @@ ContainsIsSafe = (e : Exporter) (v : Value) (pairs : List (ℕ × Snap)) → IsS
 abbrev pub HexIsSafe : Type 0
 HexIsSafe = (e : Exporter) (k : ℕ) (sep group : Option Value) (pairs : List (ℕ × Snap)) → IsSafe e (hex_of_view e k sep group pairs)
 
--- what a handle names is found among the pairs of some handles exactly where it is one of them
+-- The pairs of some handles name what a handle names if it is one of these handles, and otherwise nothing.
 abbrev pub NamesAreFound : Type 0
 NamesAreFound = (named : ℕ → Option Snap) (handles : List ℕ) (handle : ℕ) → snap_of (all_paired named handles) handle ≡ named_among named handles handle
 
--- the pairs of what is lent for some handles are those of what each names
+-- The pairs of what is lent for some handles are the pairs of these handles and what each names.
 abbrev pub LentsArePaired : Type 0
 LentsArePaired = (e : Exporter) (named : ℕ → Option Loan) (handles : List ℕ) → snaps_of (lents_by e named handles) ≡ all_paired (λ h. snap_in e (named h)) handles

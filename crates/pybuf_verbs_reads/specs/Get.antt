@@ -31,12 +31,12 @@ part_of_own e (value.Slice slice) = do
   Ok (e, reply.Bytes (elements_at e.bytes (picks_of (length e.bytes) parts)))
 part_of_own e key = byte_of_own e key
 
--- a vector has no items of its own
+-- A vector has no items of its own.
 abbrev pub get_in_kind : ExporterKind → Result (Exporter × LocalReply) Fault → Result (Exporter × LocalReply) Fault
 get_in_kind (kind.Vector r) read = Err fault.UnknownName
 get_in_kind _ read = read
 
--- of an exporter: the byte at an index, or the bytes that a slice picks
+-- `get` of an exporter: the byte at an index, or the bytes that a slice picks
 abbrev pub get_of_own : Exporter → Value → Result (Exporter × LocalReply) Fault
 get_of_own e key = get_in_kind e.kind (part_of_own e key)
 
@@ -46,7 +46,7 @@ item_of_layout e layout key = do
   item ← item_of_key layout.shape key
   Ok (e, reply.Item (item_by layout.format (bytes_at e.bytes layout.itemsize (slice_index layout.starts item))))
 
--- of a view: the item that a key names, or the view itself
+-- `get` of a view: the item that a key names, or the view itself
 abbrev pub item_of_view : Exporter → ℕ → Value → Result (Exporter × LocalReply) Fault
 item_of_view e k key = do
   layout ← live_layout e k

@@ -1,4 +1,5 @@
--- The effects keep a sound exporter, and only a refusal is replied as one; and what `tolist` lists.
+-- Each effect keeps a sound exporter and replies a refusal only if it is refused. A law also says what `tolist`
+-- lists.
 use Rattle.std.specs.Prelude.{◌≡◌, ℕ, List, length, Ok, Option, Some, slice_get}
 use Rattle.pybuf_value.specs.declared.values.Item.{Item}
 use Rattle.pybuf_value.specs.declared.values.Value.{Value}
@@ -38,8 +39,8 @@ PropertyIsSafe =
 abbrev pub ToListIsSafe : Type 0
 ToListIsSafe = (e : Exporter) (k : ℕ) → IsSafe e (list_of_view e k)
 
--- The items, put end to end, of a list that is nested by a shape: there are as many as the shape has
--- places, and what `get` reads at a key stands at the number of the item that the key names.
+-- What the items are of a list that is nested by a shape, put end to end. There are as many items as the shape
+-- has places, and the item that `get` reads at a key stands at the number of the item that the key names.
 pub record IsListOf (e : Exporter) (layout : Layout) (shape : List ℕ) (items : List Item) : Type 0 where
   pub filled : length items ≡ product shape
   pub in_order : (key : Value) (n : ℕ) (item : Item) → item_of_key layout.shape key ≡ Ok n → item_of_layout e layout key ≡ Ok (e, reply.Item item) → slice_get items n ≡ Some item

@@ -13,11 +13,11 @@ use Rattle.pybuf_state.specs.Exporter.{Exporter, live_layout}
 abbrev pub count_item : ℕ → Item
 count_item n = item.One (scalar.Int (pos n))
 
--- of an exporter: the number of bytes
+-- the number of an exporter's bytes
 abbrev pub len_of_own : Exporter → Result (Exporter × LocalReply) Fault
 len_of_own e = Ok (e, reply.Item (count_item (length e.bytes)))
 
--- of a view: the first entry of its shape
+-- the first entry of a view's shape
 abbrev pub len_of_view : Exporter → ℕ → Result (Exporter × LocalReply) Fault
 len_of_view e k = do
   layout ← live_layout e k

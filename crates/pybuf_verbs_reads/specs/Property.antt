@@ -14,12 +14,12 @@ use Rattle.pybuf_memoryview.specs.Orders.{nbytes_of}
 use Rattle.pybuf_state.specs.Exporter.{Exporter, exports_of, live_layout}
 use Rattle.pybuf_verbs_reads.specs.Len.{count_item}
 
--- of an exporter: the number of its unreleased views
+-- The one property of an exporter is the number of its unreleased views.
 abbrev pub property_of_own : Exporter → PropertyName → Result (Exporter × LocalReply) Fault
 property_of_own e name.Exports = Ok (e, reply.Item (count_item (exports_of e)))
 property_of_own e _ = Err fault.UnknownName
 
--- what a view shows; the number of unreleased views is no property of a view
+-- A property of a view. The number of unreleased views is no property of a view.
 abbrev pub property_of_layout : Layout → PropertyName → Result LocalReply Fault
 property_of_layout layout name.Exports = Err fault.UnknownName
 property_of_layout layout name.Obj = Ok reply.Own
@@ -39,7 +39,7 @@ abbrev pub is_exports : PropertyName → Bool
 is_exports name.Exports = true
 is_exports _ = false
 
--- of a view: what it shows
+-- `prop` of a view: what the view shows
 abbrev pub property_of_view : Exporter → ℕ → PropertyName → Result (Exporter × LocalReply) Fault
 property_of_view e k property = do
   _ ← unless (is_exports property) fault.UnknownName

@@ -1,4 +1,4 @@
--- `bytes`: the subject's bytes, of a view in an order.
+-- `bytes`: the subject's bytes. Those of a view are in an order that the command may give.
 use Rattle.std.specs.Prelude.{ℕ, ◌==◌, Bool, true, false, ◌&&◌, not, List, [], ◌∷◌, Option, Some, None, Result, Ok, Err, if◌then◌else◌}
 use Rattle.pybuf_value.specs.declared.faults.Fault.{Fault}
 use Rattle.pybuf_value.specs.declared.faults.Fault.TheVariants as fault
@@ -15,13 +15,13 @@ use Rattle.pybuf_desc.specs.Items.{content_of_layout}
 use Rattle.pybuf_desc.specs.ColumnOrder.{column_content, is_f_contiguous_layout}
 use Rattle.pybuf_state.specs.Exporter.{Exporter, live_layout}
 
--- of an exporter, which knows no order
+-- The bytes of an exporter, which has no order to choose.
 abbrev pub bytes_of_own : Exporter → Option Value → Result (Exporter × LocalReply) Fault
 bytes_of_own e None = Ok (e, reply.Bytes e.bytes)
 bytes_of_own e (Some order) = Err fault.Kind
 
--- Whether a letter asks for column order: C doesn't, F does, and A does where the items lie one after the other in that order
--- and not in row-major order.
+-- Whether a letter asks for column order. C doesn't, and F does. A does if the items lie one after the other in
+-- column order and not in row-major order.
 abbrev pub by_letter : Layout → ℕ → Result Bool Fault
 by_letter layout letter =
     if letter == 67 then Ok false
@@ -33,7 +33,7 @@ abbrev pub by_text : Layout → List ℕ → Result Bool Fault
 by_text layout (letter ∷ []) = by_letter layout letter
 by_text layout _ = Err fault.Value
 
--- the same of an order that may be absent or None: it is C then
+-- The same of an order that may be absent or None, which then counts as C.
 abbrev pub is_column_order : Layout → Option Value → Result Bool Fault
 is_column_order layout None = Ok false
 is_column_order layout (Some (value.One scalar.None)) = Ok false
@@ -46,7 +46,7 @@ abbrev pub content_in : Bool → List ℕ → Layout → List ℕ
 content_in true bytes layout = column_content bytes layout
 content_in false bytes layout = content_of_layout bytes layout
 
--- of a view: those of its items, in the order that is asked for
+-- the bytes of a view's items, in the order that the command asks for
 abbrev pub bytes_of_view : Exporter → ℕ → Option Value → Result (Exporter × LocalReply) Fault
 bytes_of_view e k order = do
   layout ← live_layout e k

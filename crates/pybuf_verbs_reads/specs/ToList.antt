@@ -7,7 +7,7 @@ use Rattle.pybuf_command.specs.declared.commands.LocalReply.TheVariants as reply
 use Rattle.pybuf_memoryview.specs.Lists.{items_of_layout}
 use Rattle.pybuf_state.specs.Exporter.{Exporter, live_layout}
 
--- The shape that the items are nested by: a view of no dimension gives a list of its one item.
+-- The shape that the items are nested by. A view without dimensions gives a list of its one item.
 abbrev pub list_shape : List ℕ → List ℕ
 list_shape [] = 1 ∷ []
 list_shape (n ∷ shape) = n ∷ shape

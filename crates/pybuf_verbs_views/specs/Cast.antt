@@ -1,5 +1,6 @@
--- `cast` and `castf`: a new view of the same bytes, with items of another format, in one dimension or in those of
--- a shape, row by row or in column order. The format is one native code, and items of single bytes stand on one side at least.
+-- `cast` and `castf`: a new view of the same bytes, whose items have another format. It has one dimension or
+-- those of a shape, row by row or in column order. The new format is one native code, and either it or the
+-- view's format has single bytes as items.
 use Rattle.std.specs.Prelude.{ℕ, ◌*◌, ◌/◌, ◌%◌, ◌==◌, ◌&&◌, ◌||◌, not, List, [], ◌∷◌, length, nat_lt, ℤ, pos, negsuc, Bool, true, false, Option, Some, None, Result, Ok, Err, ok_or, if◌then◌else◌}
 use Rattle.pybuf_value.specs.declared.faults.Fault.{Fault}
 use Rattle.pybuf_value.specs.declared.faults.Fault.TheVariants as fault
@@ -22,21 +23,22 @@ use Rattle.pybuf_command.specs.declared.commands.LocalReply.{LocalReply}
 use Rattle.pybuf_memoryview.specs.Orders.{nbytes_of, has_zero_entry}
 use Rattle.pybuf_state.specs.Exporter.{Exporter, live_layout, with_view}
 
--- the code to which a view is cast: the format is one native code, and it or that of the view has single bytes as items
+-- The code that a view is cast to. The format is one native code, and either it or the view's format has single
+-- bytes as items.
 abbrev pub code_for : Layout → List ℕ → Result FormatType Fault
 code_for layout text = do
   code ← ok_or (native_single_code text) fault.Value
   _ ← unless (not (is_byte_code code) && not (is_byte_format layout.format)) fault.Kind
   Ok code
 
--- the size of its items, which make up the bytes of the view
+-- the size of the items that a view is cast to, if the bytes of the view are whole items of that size
 abbrev pub size_for : Layout → List ℕ → Result ℕ Fault
 size_for layout text = do
   code ← code_for layout text
   _ ← unless (not (nbytes_of layout % size_of order.Native code == 0)) fault.Kind
   Ok (size_of order.Native code)
 
--- an entry of a shape, which must be above 0 and at most the greatest word divided by the product so far
+-- An entry of a shape. It must be above 0, and at most the greatest `isize` divided by the product so far.
 abbrev pub entry_above_0 : ℕ → ℤ → Result ℕ Fault
 entry_above_0 size (pos n) = if n == 0 || nat_lt (9223372036854775807 / size) n then Err fault.Value else Ok n
 entry_above_0 size (negsuc n) = Err fault.Value
@@ -55,20 +57,21 @@ entries_of size (part ∷ parts) = do
   entries ← entries_of (size * entry) parts
   Ok (entry ∷ entries)
 
--- the items in one dimension; where the view has another number of dimensions, each must have an entry
+-- The items in one dimension. If the view has another number of dimensions than one, none of its entries may be
+-- 0.
 abbrev pub flat_layout_of : Layout → List ℕ → Result Layout Fault
 flat_layout_of layout text = do
   _ ← unless (not (length layout.shape == 1) && has_zero_entry layout.shape) fault.Kind
   size ← size_for layout text
   Ok (cast_of layout text size)
 
--- the items in the dimensions of these entries, in column order or row by row
+-- the items in the dimensions that the entries give, in column order or row by row
 abbrev pub cast_in : Bool → Layout → List ℕ → ℕ → List ℕ → Layout
 cast_in true layout text size entries = column_cast_to layout text size entries
 cast_in false layout text size entries = cast_to layout text size entries
 
--- The items in the dimensions of a shape: the view or the shape has one dimension, each dimension of
--- the view an entry, and the items of the shape make up the bytes. An empty shape has one item.
+-- The items in the dimensions of a shape. The view or the shape must have one dimension, no entry of the view
+-- may be 0, and the items of the shape must make up the view's bytes. An empty shape has one item.
 abbrev pub shaped_layout_of : Bool → Layout → List ℕ → List Scalar → Result Layout Fault
 shaped_layout_of columns layout text parts = do
   _ ← unless (has_zero_entry layout.shape) fault.Kind
@@ -79,14 +82,14 @@ shaped_layout_of columns layout text parts = do
   _ ← unless (not (size * product entries == nbytes_of layout)) fault.Kind
   Ok (cast_in columns layout text size entries)
 
--- by a shape that may not be given, and else is a tuple or a list
+-- the same, if the shape may be left out, and is a tuple or a list otherwise
 abbrev pub layout_in_shape : Layout → List ℕ → Option Value → Result Layout Fault
 layout_in_shape layout text None = flat_layout_of layout text
 layout_in_shape layout text (Some (value.Tuple parts)) = shaped_layout_of false layout text parts
 layout_in_shape layout text (Some (value.List parts)) = shaped_layout_of false layout text parts
 layout_in_shape layout text (Some _) = Err fault.Kind
 
--- the view must be contiguous
+-- `cast` of a view, which must be contiguous
 abbrev pub cast_of_view : Exporter → ℕ → Value → Option Value → Result (Exporter × LocalReply) Fault
 cast_of_view e k format shape = do
   layout ← live_layout e k
@@ -95,7 +98,7 @@ cast_of_view e k format shape = do
   cast ← layout_in_shape layout text shape
   Ok (with_view e cast)
 
--- in column order, by a shape that is a tuple or a list
+-- the same in column order, by a shape that is a tuple or a list
 abbrev pub column_layout_in : Layout → List ℕ → Value → Result Layout Fault
 column_layout_in layout text (value.Tuple parts) = shaped_layout_of true layout text parts
 column_layout_in layout text (value.List parts) = shaped_layout_of true layout text parts

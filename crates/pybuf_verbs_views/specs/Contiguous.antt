@@ -1,4 +1,4 @@
--- `contig`: a copy of a view's items, one after the other, of which a new exporter is made.
+-- `contig`: a new exporter is made of a copy of a view's items, one after the other.
 use Rattle.std.specs.Prelude.{ℕ, Result, Ok}
 use Rattle.pybuf_value.specs.declared.faults.Fault.{Fault}
 use Rattle.pybuf_value.specs.Refusing.{◌>>=◌}

@@ -1,4 +1,4 @@
--- `enter`: the view itself, which must not be released.
+-- `enter`: the reply is the view itself, which must not be released.
 use Rattle.std.specs.Prelude.{ℕ, Result, Ok}
 use Rattle.pybuf_value.specs.declared.faults.Fault.{Fault}
 use Rattle.pybuf_value.specs.Refusing.{◌>>=◌}

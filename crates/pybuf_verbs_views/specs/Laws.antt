@@ -1,4 +1,4 @@
--- The effects keep a sound exporter, and only a refusal is replied as one.
+-- Each effect keeps a sound exporter and replies a refusal only if it is refused.
 use Rattle.std.specs.Prelude.{◌≡◌, ◌||◌, ℕ, true, List, Option, Some, Ok}
 use Rattle.pybuf_value.specs.declared.values.PySlice.{PySlice}
 use Rattle.pybuf_value.specs.declared.values.Value.{Value}
@@ -38,8 +38,8 @@ CastIsSafe = (e : Exporter) (k : ℕ) (format : Value) (shape : Option Value) �
 abbrev pub ColumnCastIsSafe : Type 0
 ColumnCastIsSafe = (e : Exporter) (k : ℕ) (format shape : Value) → IsSafe e (column_cast_of_view e k format shape)
 
--- A cast that is carried out is one to a format of one native code, and that format or the view's has single bytes as
--- items.
+-- A cast that isn't refused is one to a format of one native code, and either that format or the view's has
+-- single bytes as items.
 abbrev pub CastsAreOfBytes : Type 0
 CastsAreOfBytes =
     (e : Exporter) (k : ℕ) (format : Value) (shape : Option Value) (made : Exporter × LocalReply)
@@ -48,8 +48,8 @@ CastsAreOfBytes =
     × (live_layout e k ≡ Ok layout) × (text_in format ≡ Ok text) × (native_single_code text ≡ Some code)
     × (is_byte_code code || is_byte_format layout.format ≡ true)
 
--- What `castf` makes of a view is one more view, whose items lie one after the other in column order and have, in that
--- order, the bytes of the view that it is asked of.
+-- `castf` of a view makes one more view. The items of the new view lie one after the other in column order, and
+-- in that order they have the bytes of the old view.
 pub record HoldsTheBytes (e : Exporter) (k : ℕ) (made : Exporter × LocalReply) : Type 0 where
   pub layout : Layout
   pub live : live_layout e k ≡ Ok layout
@@ -75,6 +75,6 @@ ContiguousIsCopied = (e : Exporter) (k : ℕ) → IfDone (IsCopied e (subject.Vi
 abbrev pub ToReadonlyIsSafe : Type 0
 ToReadonlyIsSafe = (e : Exporter) (k : ℕ) → IsSafe e (toreadonly_of_view e k)
 
--- releasing a view twice is releasing it once
+-- A view that is released twice is as if it were released once.
 abbrev pub ReleasingTwiceIsOnce : Type 0
 ReleasingTwiceIsOnce = (e once : Exporter) (k : ℕ) → released_in e k ≡ Ok once → released_in once k ≡ Ok once

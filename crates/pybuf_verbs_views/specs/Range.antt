@@ -10,12 +10,12 @@ use Rattle.pybuf_command.specs.declared.commands.LocalReply.{LocalReply}
 use Rattle.pybuf_command.specs.Kinds.{holds_readonly}
 use Rattle.pybuf_state.specs.Exporter.{Exporter, with_view}
 
--- the first place and how many there are up to the other, where both are among so many
+-- The first place, and how many places there are up to the other. Both places must be among `count`.
 abbrev pub part_between : ℕ → ℤ → ℤ → Result (ℕ × ℕ) Fault
 part_between count (pos from) (pos to) = if nat_le from to && nat_le to count then Ok (from, to - from) else Err fault.Index
 part_between count _ _ = Err fault.Index
 
--- of an exporter alone: items of one byte
+-- `range` of an exporter itself, whose items have one byte
 abbrev pub range_of_own : Exporter → Value → Value → Result (Exporter × LocalReply) Fault
 range_of_own e from to = do
   first ← number_of from

@@ -1,4 +1,4 @@
--- `release`: the view is released, the second time too.
+-- `release`: the view is released. A second `release` is allowed, and changes nothing.
 use Rattle.std.specs.Prelude.{ℕ, Result, Ok}
 use Rattle.pybuf_value.specs.declared.faults.Fault.{Fault}
 use Rattle.pybuf_value.specs.Refusing.{◌>>=◌}

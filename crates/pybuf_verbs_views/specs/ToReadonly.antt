@@ -1,4 +1,4 @@
--- `toreadonly`: a new view of the same items, which may only be read.
+-- `toreadonly`: a new view of the same items, which can only be read.
 use Rattle.std.specs.Prelude.{ℕ, true, Result, Ok}
 use Rattle.pybuf_value.specs.declared.faults.Fault.{Fault}
 use Rattle.pybuf_value.specs.Refusing.{◌>>=◌}

@@ -1,5 +1,5 @@
--- `set` of a view by a slice: the items that the slice picks get the bytes of as many other items, as
--- these were before the command.
+-- `set` of a view by a slice: the items that the slice picks get the bytes of as many other items. These are
+-- read as they were before the command.
 use Rattle.std.specs.Prelude.{ℕ, ◌==◌, Bool, ◌&&◌, not, List, [], ◌∷◌, length, slice_index, bytes_eq, Option, Some, None, Result, Ok, Err}
 use Rattle.std.specs.Option.{ok_or}
 use Rattle.pybuf_value.specs.declared.faults.Fault.{Fault}
@@ -24,7 +24,7 @@ use Rattle.pybuf_state.specs.Loans.{Lent, lent_as}
 use Rattle.pybuf_state.specs.Snaps.{snap_of_exporter}
 use Rattle.pybuf_verbs_writes.specs.Laid.{laid}
 
--- the layout of the items that are written: those that the slice picks, of a view of one dimension
+-- The layout of the items that are written. A slice picks them, and the view has one dimension.
 abbrev pub assign_target : Exporter → ℕ → PySlice → Value → Result Layout Fault
 assign_target e k slice value = do
   layout ← live_layout e k
@@ -35,13 +35,13 @@ assign_target e k slice value = do
   parts ← saturated_parts_of slice
   Ok (slice_of layout parts)
 
--- what was lent, which is an exporter or a view: an iterator has no items to copy
+-- what was lent, if it is an exporter or a view, since an iterator has no items to copy
 abbrev pub no_iterator : Snap → Result Snap Fault
 no_iterator snap = do
   _ ← unless (is_iterator snap.kind) fault.Kind
   Ok snap
 
--- what a handle of the exporter itself or of another names, if it is there
+-- what a handle names, be it the exporter itself or another, if it is there
 abbrev pub source_of : Option Snap → Result Snap Fault
 source_of (Some snap) = no_iterator snap
 source_of None = Err fault.Kind
@@ -51,33 +51,33 @@ abbrev pub lent_source : List Lent → Result Snap Fault
 lent_source [] = Err fault.Kind
 lent_source (l ∷ lents) = no_iterator l.snap
 
--- what the items are copied from: bytes, which count as an exporter of these bytes, or what a handle
--- names, as it stands before the command
+-- What the items are copied from, as it was before the command: bytes, which count as an exporter of these
+-- bytes, or what a handle names.
 abbrev pub source_in : Value → List Lent → Result Snap Fault
 source_in (value.One (scalar.Bytes bytes)) lents = Ok (snap_of_exporter (new_exporter kind.Bytes bytes))
 source_in (value.One (scalar.Handle h)) lents = lent_source lents
 source_in _ lents = Err fault.Kind
 
--- Items of the format of the target, as it is spelled, and of its item size, in one dimension of as many
--- entries. (`bytes_eq` compares lists of numbers.)
+-- The source has items of the target's format, in the same spelling, and of its item size. It has one
+-- dimension, with as many entries as the target. (`bytes_eq` compares lists of numbers.)
 abbrev pub has_form_of : Layout → List ℕ → ℕ → List ℕ → Bool
 has_form_of target format itemsize shape =
     bytes_eq format target.format && (itemsize == target.itemsize && is_row_of (slice_index target.shape 0) shape)
 
--- the exporter with the bytes of the source over those of the target's items
+-- the exporter after the bytes of the source were copied over those of the target's items
 abbrev pub assigned : Exporter → Layout → Snap → Result (Exporter × LocalReply) Fault
 assigned e target source = do
   _ ← unless source.released fault.Value
   _ ← unless (not (has_form_of target source.format source.itemsize source.shape)) fault.Value
   Ok (record e { bytes = laid e.bytes target.itemsize target.starts source.content }, reply.Ok)
 
--- the same with what a handle names, if it is there
+-- the same for the source that a handle names, if it is there
 abbrev pub assigned_from : Exporter → Layout → Option Snap → Result (Exporter × LocalReply) Fault
 assigned_from e target lent = do
   source ← source_of lent
   assigned e target source
 
--- the same of a value
+-- the same for a source that a value gives
 abbrev pub assigned_of_value : Exporter → Layout → Value → List Lent → Result (Exporter × LocalReply) Fault
 assigned_of_value e target value lents = do
   source ← source_in value lents
@@ -88,7 +88,7 @@ assign_of_view e k slice value lents = do
   target ← assign_target e k slice value
   assigned_of_value e target value lents
 
--- the same with what is lent for a handle by itself, if it is there
+-- the same for what is lent for a handle by itself, if it is there
 abbrev pub assign_of_lent : Exporter → ℕ → PySlice → Option Snap → Result (Exporter × LocalReply) Fault
 assign_of_lent e k slice lent = do
   snap ← ok_or lent fault.UnknownName

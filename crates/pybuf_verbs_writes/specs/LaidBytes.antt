@@ -1,7 +1,7 @@
--- Bytes that are laid over the items of a view, byte by byte.
+-- Bytes that are written over the items of a view, byte by byte.
 use Rattle.std.specs.Prelude.{ℕ, List, [], ◌∷◌, set}
 
--- byte by byte: each byte set at its place, one after the other, as long as there are both
+-- Each byte is set at its place, one after the other, as long as both a place and a byte are left.
 abbrev pub put_at : List ℕ → List ℕ → List ℕ → List ℕ
 put_at bytes [] content = bytes
 put_at bytes (place ∷ places) [] = bytes

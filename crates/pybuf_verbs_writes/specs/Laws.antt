@@ -1,4 +1,4 @@
--- The effects keep a sound exporter, and only a refusal is replied as one, and what is written is read.
+-- Each effect keeps a sound exporter and replies a refusal only if it is refused. What is written can be read.
 use Rattle.std.specs.Prelude.{◌≡◌, ◌≢◌, ◌⊎◌, ℕ, ◌+◌, ◌*◌, ◌<◌, ◌≤◌, pos, List, [], ◌∷◌, All, length, slice_index, take, drop, true, false, Ok}
 use Rattle.pybuf_value.specs.declared.values.Item.{Item}
 use Rattle.pybuf_value.specs.declared.values.Value.{Value}
@@ -31,16 +31,15 @@ SetIsSafe =
 abbrev pub AssignIsSafe : Type 0
 AssignIsSafe = (e : Exporter) (k : ℕ) (slice : PySlice) (value : Value) (lents : List Lent) → IsSafe e (assign_of_view e k slice value lents)
 
--- An item was written at a place: the views stay, and so does every byte before and after the item;
--- and through every view of this format that has an item at the place, that item reads as was wanted.
+-- An item was written at a place. The views stay, and so does every byte before and after the item. If a view
+-- of this format has an item at the place, that item is read as the value that was wanted.
 pub record IsWritten (e new : Exporter) (written : Layout) (place : ℕ) (wanted : Item) : Type 0 where
   pub views : new.views ≡ e.views
   pub before : take place new.bytes ≡ take place e.bytes
   pub after : drop (place + written.itemsize) new.bytes ≡ drop (place + written.itemsize) e.bytes
   pub read_back : (other : Layout) → other.format ≡ written.format → other.itemsize ≡ written.itemsize → item_by other.format (bytes_at new.bytes other.itemsize place) ≡ wanted
 
--- What is written through one view is read through every view of the same bytes, and no other byte
--- changes.
+-- What is written through one view can be read through every view of the same bytes, and no other byte changes.
 abbrev pub WritesAreSeen : Type 0
 WritesAreSeen =
     (e new : Exporter) (k : ℕ) (layout : Layout) (item : ℕ) (value : Value) (lents : List Lent) (r : LocalReply) → IsSoundExporter e
@@ -50,15 +49,15 @@ WritesAreSeen =
 
 -- ---- assignments by a slice
 
--- so many bytes from a place on, none of which belongs to an item
+-- No item has any of the `count` bytes from a place on.
 abbrev pub AreOutside : ℕ → List ℕ → ℕ → ℕ → Type 0
 AreOutside size starts place count =
     (i : ℕ) → i < length starts → (slice_index starts i + size ≤ place) ⊎ (place + count ≤ slice_index starts i)
 
--- Items were copied over those of a target, from as many of the same size. The views stay, and the length, and
--- every byte that is of none of the target's items. Where no two of these share a byte, item k of them is afterwards item k of
--- the source; and where the source was a view of bytes, it is item k of this view as it was in those
--- bytes, whatever the strides of both are, and also where the two overlap or are one.
+-- Items of a target were copied from as many items of the same size. The views and the length stay, and so does
+-- every byte that none of the target's items has. If no two of these share a byte, item k of them is afterwards
+-- item k of the source. If the source was a view of bytes, this is the view's item k as it was in those bytes,
+-- whatever the strides of both are, and even if the two overlap or are one.
 pub record IsAssigned (e new : Exporter) (target : Layout) (source : Snap) : Type 0 where
   pub views : new.views ≡ e.views
   pub as_long : length new.bytes ≡ length e.bytes
@@ -70,7 +69,7 @@ pub record IsAssigned (e new : Exporter) (target : Layout) (source : Snap) : Typ
   pub items_of_view : (bytes : List ℕ) (layout : Layout) → source ≡ snap_of_layout bytes layout false → LiesInside (length bytes) layout → AreApart target.itemsize target.starts
       → (k : ℕ) → k < length target.starts → bytes_at new.bytes target.itemsize (slice_index target.starts k) ≡ bytes_at bytes layout.itemsize (slice_index layout.starts k)
 
--- What an assignment by a slice did: to which items, and from which source, as it stood before.
+-- what an assignment by a slice did: which items it wrote, and from which source, as this was before
 pub record IsSliceAssignment (e new : Exporter) (k : ℕ) (slice : PySlice) (value : Value) (lents : List Lent) : Type 0 where
   pub layout : Layout
   pub live : live_layout e k ≡ Ok layout
@@ -82,13 +81,13 @@ pub record IsSliceAssignment (e new : Exporter) (k : ℕ) (slice : PySlice) (val
   pub unreleased : source.released ≡ false
   pub done : IsAssigned e new (slice_of layout parts) source
 
--- an assignment that isn't refused, with what fits lent to it, is by value
+-- If an assignment isn't refused, and what is lent to it fits, then it assigns by value.
 abbrev pub AssignmentsAreByValue : Type 0
 AssignmentsAreByValue =
     (e new : Exporter) (k : ℕ) (slice : PySlice) (value : Value) (lents : List Lent) (r : LocalReply) → IsSoundExporter e → All (λ (l : Lent). fits_snap l.snap ≡ true) lents
     → assign_of_view e k slice value lents ≡ Ok (new, r) → IsSliceAssignment e new k slice value lents
 
--- the content of a view holds its items, one after the other
+-- The content of a view has its items, one after the other.
 abbrev pub ContentsHoldTheItems : Type 0
 ContentsHoldTheItems =
     (bytes : List ℕ) (layout : Layout) (k : ℕ) → LiesInside (length bytes) layout → k < length layout.starts

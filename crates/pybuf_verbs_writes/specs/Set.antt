@@ -16,7 +16,7 @@ use Rattle.pybuf_state.specs.Exporter.{Exporter, live_layout}
 use Rattle.pybuf_state.specs.Loans.{Lent, snaps_of}
 use Rattle.pybuf_verbs_writes.specs.Laid.{bytes_with}
 
--- in a bytearray: the byte
+-- A byte of a bytearray is set.
 abbrev pub byte_set : Exporter → Value → Value → Result (Exporter × LocalReply) Fault
 byte_set e key value = do
   index ← index_in key
@@ -24,18 +24,18 @@ byte_set e key value = do
   place ← entry_in (length e.bytes) index
   Ok (record e { bytes = bytes_with e.bytes place (byte ∷ []) }, reply.Ok)
 
--- only a bytearray is written by itself
+-- Only a bytearray can be written itself.
 abbrev pub set_of_own : Exporter → Value → Value → Result (Exporter × LocalReply) Fault
 set_of_own e key value = of_byte_array e.kind (byte_set e key value)
 
--- The item of a number gets the bytes of the value by the view's format. A handle counts as what it is
--- lent as.
+-- The item of a number gets the bytes of the value by the view's format. If the value is a handle, it counts as
+-- what it is lent as.
 abbrev pub item_set : Exporter → Layout → ℕ → Value → List Lent → Result (Exporter × LocalReply) Fault
 item_set e layout item value lents = do
   piece ← piece_by layout.format (snaps_of lents) value
   Ok (record e { bytes = bytes_with e.bytes (slice_index layout.starts item) piece }, reply.Ok)
 
--- through a view: its layout, and the number of the item that is written
+-- where a view is written: its layout, and the number of the item that the key names
 abbrev pub set_target : Exporter → ℕ → Value → Value → Result (Layout × ℕ) Fault
 set_target e k key value = do
   layout ← live_layout e k
