@@ -1,4 +1,4 @@
--- Arrays of whole numbers, and what is done with them: there is no byte in an array.
+-- Arrays of whole numbers, and what their operations do. These definitions speak of numbers, and not of bytes.
 use Rattle.std.specs.Prelude.{ℕ, suc, Bool, true, false, not, ℤ, pos, negsuc, List, [], ◌∷◌, ◌++◌, length, map, set, Option, Result, Ok, nat_lt, slice_get, slice_index, slice_index_or, count_by, unwrap_or}
 use Rattle.std.specs.List.{list_all, position, range_with_len}
 use Rattle.std.specs.Option.{ok_or}
@@ -16,7 +16,7 @@ use Rattle.pybuf_numbers.specs.declared.codes.ArrayCode.{ArrayCode}
 use Rattle.pybuf_numbers.specs.Codes.{holds}
 use Rattle.pybuf_numbers.specs.Numbers.{numbers_of, is_whole, swapped}
 
--- A view: which numbers of the array it shows, by their indices, and whether it was released.
+-- A view of an array: the indices of the numbers that it shows, and whether it is released.
 pub record ArrayView : Type 0 where
   pub indices : List ℕ
   pub released : Bool
@@ -39,42 +39,42 @@ exports_in a = count_by is_unreleased a.views
 
 -- ---- checks
 
--- a number is in the range of the code
+-- A number must be in the range of the code.
 abbrev pub in_range : Array → ℤ → Result Bool Fault
 in_range a n = unless (not (holds a.code n)) fault.Overflow
 
--- all of them are
+-- All numbers must be in the range of the code.
 abbrev pub all_in_range : Array → List ℤ → Result Bool Fault
 all_in_range a numbers = unless (not (list_all (holds a.code) numbers)) fault.Overflow
 
--- no view is unreleased
+-- An array can't be resized while a view of it is unreleased.
 abbrev pub may_resize : Array → Result Bool Fault
 may_resize a = unless (nat_lt 0 (exports_in a)) fault.Buffer
 
--- the view of a number, which was given
+-- the view that has this number, if one was given
 abbrev pub view_at : Array → ℕ → Result ArrayView Fault
 view_at a k = ok_or (slice_get a.views k) fault.UnknownName
 
--- the same, of one that is unreleased
+-- the same, if the view is unreleased
 abbrev pub live_view : Array → ℕ → Result ArrayView Fault
 live_view a k = do
   v ← view_at a k
   _ ← unless v.released fault.Value
   Ok v
 
--- ---- what becomes of an array
+-- ---- how an array changes
 
 abbrev pub with_numbers : Array → List ℤ → Array
 with_numbers a numbers = record a { numbers = numbers }
 
--- one more view, of these indices
+-- one more view, which shows the numbers at these indices
 abbrev pub with_view : Array → List ℕ → Array
 with_view a indices = record a { views = a.views ++ (record { indices = indices; released = false }) ∷ [] }
 
 abbrev pub number_at : Array → ℕ → ℤ
 number_at a place = slice_index_or a.numbers place (pos 0)
 
--- ---- what is done, and what is answered
+-- ---- what an operation does, and its answer
 
 -- `append`
 abbrev pub appended : Array → ℤ → Result (Array × Unit {0}) Fault
@@ -102,7 +102,7 @@ inserted a index n = do
 abbrev pub without : Array → ℕ → List ℤ
 without a place = replaced_range a.numbers place (suc place) []
 
--- `pop`: of the last where no index is given
+-- `pop`: the number at an index, or the last if no index is given
 abbrev pub popped : Array → Option ℤ → Result (Array × ℤ) Fault
 popped a index = do
   i ← fitted_number fault.Overflow (unwrap_or index (negsuc 0))
@@ -110,11 +110,11 @@ popped a index = do
   _ ← may_resize a
   Ok (with_numbers a (without a place), number_at a place)
 
--- the place of the first number that is this one, if there is one
+-- the place of the first number that is equal to this one, if there is one
 unfoldable pub first_place : List ℤ → ℤ → Option ℕ
 first_place numbers n = position (int_eq n) numbers
 
--- `remove`: of the first that is this number
+-- `remove`: the first number that is equal to this one
 abbrev pub removed : Array → ℤ → Result (Array × Unit {0}) Fault
 removed a n = do
   place ← ok_or (first_place a.numbers n) fault.Value
@@ -145,11 +145,11 @@ put_at a index n = do
 abbrev pub with_swapped : Array → Array
 with_swapped a = with_numbers a (map (swapped a.code) a.numbers)
 
--- `view`: of all numbers
+-- `view`: a view of all numbers
 abbrev pub viewed : Array → Array × ℕ
 viewed a = (with_view a (range_with_len 0 (length a.numbers)), length a.views)
 
--- `vslice`: of those indices of a view that a slice picks
+-- `vslice`: a view of those indices of a view that a slice picks
 abbrev pub view_sliced : Array → ℕ → PySlice → Result (Array × ℕ) Fault
 view_sliced a k slice = do
   v ← live_view a k
@@ -176,7 +176,7 @@ put_in_view a k index n = do
   _ ← in_range a n
   Ok (with_numbers a (set a.numbers place n), tt)
 
--- `release`: also of one that is released
+-- `release`: a view may be released twice
 abbrev pub released_in : Array → ℕ → Result (Array × Unit {0}) Fault
 released_in a k = do
   v ← view_at a k

@@ -7,15 +7,15 @@ use Rattle.pybuf_array.specs.declared.operations.ArrayOp.{ArrayOp}
 use Rattle.pybuf_array.specs.Array.{Array, ArrayView, live_view, view_sliced}
 use Rattle.pybuf_array.specs.Operations.{KeepsLengthWhileViewed}
 
--- In whatever run from whatever array, the number of numbers stays where a view is unreleased.
+-- In any run from any array, the number of numbers stays while a view is unreleased.
 abbrev pub LengthsStayWhileViewed : Type 0
 LengthsStayWhileViewed = (a : Array) (ops : List ArrayOp) → KeepsLengthWhileViewed a ops
 
--- of the picks of a slice among so many items, those that another slice picks
+-- what a second slice picks among the picks of a first, if there are n items
 abbrev pub picks_of_picks : ℕ → SliceParts → SliceParts → List ℕ
 picks_of_picks n first second = elements_at (picks_of n first) (picks_of (length (picks_of n first)) second)
 
--- the view of a number shows those items of a view that one slice picks among the picks of another
+-- View k shows the items of a view that one slice picks among the picks of another.
 pub record ShowsPicksOfPicks (v : ArrayView) (s t : PySlice) (a : Array) (k : ℕ) : Type 0 where
   pub first : SliceParts
   pub second : SliceParts

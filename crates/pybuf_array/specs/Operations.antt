@@ -11,12 +11,12 @@ use Rattle.pybuf_array.specs.declared.operations.ArrayReply.TheVariants as reply
 use Rattle.pybuf_copy.specs.declared.memory.NoMemory.{NoMemory}
 use Rattle.pybuf_array.specs.Array.{Array, ArrayView, appended, extended, inserted, popped, removed, read_from, number_named, put_at, with_swapped, viewed, view_sliced, number_in_view, put_in_view, released_in}
 
--- the answer of what is done, in the form of a reply
+-- what an operation did, with its answer in the form of a reply
 abbrev pub replied : {X : Type 0} → (X → ArrayReply) → Result (Array × X) Fault → Result (Array × ArrayReply) Fault
 replied form (Ok after) = Ok (after.0, form after.1)
 replied form (Err f) = Err f
 
--- the same of what changes nothing
+-- the same for an operation that changes nothing
 abbrev pub told : {X : Type 0} → Array → (X → ArrayReply) → Result X Fault → Result (Array × ArrayReply) Fault
 told a form (Ok x) = Ok (a, form x)
 told a form (Err f) = Err f
@@ -24,7 +24,7 @@ told a form (Err f) = Err f
 abbrev pub done : Unit {0} → ArrayReply
 done _ = reply.Ok
 
--- what an operation does, and its reply, or why it is refused
+-- what an operation does, with its reply, or why it is refused
 abbrev pub row_of : Array → ArrayOp → Result (Array × ArrayReply) Fault
 row_of a (op.Append value) = replied done (appended a value)
 row_of a (op.Extend values) = replied done (extended a values)
@@ -44,12 +44,12 @@ row_of a (op.ViewGet view index) = told a reply.Number (number_in_view a view in
 row_of a (op.ViewSet view index value) = replied done (put_in_view a view index value)
 row_of a (op.Release view) = replied done (released_in a view)
 
--- a refusal is a reply, and leaves the array as it is
+-- A refusal is a reply, and leaves the array as it is.
 abbrev pub settled : Array → Result (Array × ArrayReply) Fault → Array × ArrayReply
 settled a (Ok after) = after
 settled a (Err f) = (a, reply.Refused f)
 
--- one operation
+-- the array after one operation, and the reply
 abbrev pub astep : Array → ArrayOp → Array × ArrayReply
 astep a o = settled a (row_of a o)
 
@@ -63,7 +63,7 @@ abbrev pub replies_of : Array → List ArrayOp → List ArrayReply
 replies_of a [] = []
 replies_of a (o ∷ ops) = (astep a o).1 ∷ replies_of (astep a o).0 ops
 
--- where memory runs out: array and replies are those of the first so many operations, and not of all
+-- Memory ran out: the array and the replies are those after the first k operations, and k isn't all.
 abbrev pub StopsAt : Array → List ArrayOp → Array → List ArrayReply → List ArrayReply → Type 0
 StopsAt old ops new replies_before replies =
     (k : ℕ) × (k < length ops) × (new ≡ array_after_all old (take k ops)) × (replies ≡ replies_before ++ replies_of old (take k ops))
@@ -73,12 +73,12 @@ abbrev pub is_out : Option ArrayView → Bool
 is_out (Some v) = not v.released
 is_out None = false
 
--- the view of a number is out
+-- The view that has this number is unreleased.
 abbrev pub IsOut : Array → ℕ → Type 0
 IsOut a k = is_out (slice_get a.views k) ≡ true
 
--- From each moment of a run to each later one: where a view that was made by the first is unreleased at the second, there
--- are as many numbers at both.
+-- Two moments of a run are compared. If a view that was made by the first moment is unreleased at the second,
+-- the array has as many numbers at both.
 abbrev pub KeepsLengthWhileViewed : Array → List ArrayOp → Type 0
 KeepsLengthWhileViewed a ops =
     (m n k : ℕ) → m ≤ n → k < length (array_after_all a (take m ops)).views → IsOut (array_after_all a (take n ops)) k
@@ -86,14 +86,14 @@ KeepsLengthWhileViewed a ops =
 
 -- ---- answers of calls
 
--- The answer is what a definition says, with the array after it, or its refusal and the array as before. Where memory
--- runs out, the array is as before.
+-- The answer is what a definition says, and the array is the one that it says. If the definition refuses, the
+-- answer is that refusal. If it refuses or memory runs out, the array is as before.
 abbrev pub Settles : {X : Type 0} → Result (Array × X) Fault → Array → Result X Halt → Array → Type 0
 Settles wanted old (Ok x) new = wanted ≡ Ok (new, x)
 Settles wanted old (Err (halt.Refused f)) new = (wanted ≡ Err f) × (new ≡ old)
 Settles wanted old (Err halt.NoMemory) new = new ≡ old
 
--- the same of a call that takes no memory
+-- the same for a call that takes no memory
 abbrev pub SettlesAtOnce : {X : Type 0} → Result (Array × X) Fault → Array → Result X Fault → Array → Type 0
 SettlesAtOnce wanted old (Ok x) new = wanted ≡ Ok (new, x)
 SettlesAtOnce wanted old (Err f) new = (wanted ≡ Err f) × (new ≡ old)

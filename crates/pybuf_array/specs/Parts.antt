@@ -1,5 +1,5 @@
--- How an array is kept: its numbers in the bytes of a bytearray, whose views count those that are unreleased, and of
--- each view which of the numbers it shows, as a run of indices.
+-- How an array is kept. Its numbers lie in the bytes of a bytearray, whose unreleased views count the array's.
+-- For each view it keeps a run of indices, which says which of the numbers the view shows.
 use Rattle.std.specs.Prelude.{◌≡◌, ℕ, ◌≤◌, true, List, [], ◌∷◌, length, slice_get, Some}
 use Rattle.pybuf_command.specs.declared.kinds.ExporterKind.TheVariants as kinds
 use Rattle.pybuf_state.specs.Exporter.{Exporter, View}
@@ -20,13 +20,13 @@ views_of _ _ = []
 abbrev pub array_of : ArrayCode → Exporter → List IndexRun → Array
 array_of c e runs = record { code = c; numbers = numbers_of c e.bytes; views = views_of runs e.views }
 
--- each index of a run is below a number, and so is their number, or it is that number
+-- Each index of a run is below n, and the run has at most n indices.
 pub record IsInside (n : ℕ) (r : IndexRun) : Type 0 where
   pub below : LiesBelow n r
   pub few : r.count ≤ n
 
--- What holds of the parts: the bytes are those of whole numbers, each view has its run, and those of unreleased views
--- lie inside.
+-- What holds of the parts. The bytes are those of whole numbers, each view has its run, and the runs of
+-- unreleased views lie inside.
 pub record IsSoundArray (c : ArrayCode) (e : Exporter) (runs : List IndexRun) : Type 0 where
   pub kind : e.kind ≡ kinds.ByteArray
   pub whole : is_whole c e.bytes ≡ true

@@ -1,4 +1,4 @@
--- Arguments that are borrowed as bytes.
+-- Arguments whose bytes are borrowed.
 use Rattle.std.specs.Prelude.{ℕ, List, Result, Ok}
 use Rattle.pybuf_value.specs.declared.faults.Fault.{Fault}
 use Rattle.pybuf_value.specs.declared.snaps.Snap.{Snap}

@@ -1,4 +1,4 @@
--- What is written through a borrow, and what is lent of nothing.
+-- What a write through a borrow changes, and which arguments are refused.
 use Rattle.std.specs.Prelude.{◌≡◌, ℕ, ◌+◌, List, length, take, drop, slice_index, true, false, None, Err}
 use Rattle.pybuf_value.specs.declared.faults.Fault.TheVariants as fault
 use Rattle.pybuf_value.specs.declared.snaps.Snap.{Snap}
@@ -20,21 +20,22 @@ first_lent e subject.Own = 0
 first_lent e (subject.View k) = slice_index (layout_of e k).starts 0
 first_lent e (subject.Iter k) = 0
 
--- They are read back through the subject, and the exporter's bytes before and behind them are what they were,
--- and as many.
+-- What was written can be read back through the subject. The exporter's bytes before and behind those that were
+-- lent stay, and so does their number.
 pub record ChangesTheLentBytesAlone (e : Exporter) (s : Subject) (bytes : List ℕ) : Type 0 where
   pub read_back : lent_bytes (written_through e s bytes) s ≡ bytes
   pub before : take (first_lent e s) (written_through e s bytes).bytes ≡ take (first_lent e s) e.bytes
   pub behind : drop (first_lent e s + length bytes) (written_through e s bytes).bytes ≡ drop (first_lent e s + length bytes) e.bytes
   pub count : length (written_through e s bytes).bytes ≡ length e.bytes
 
--- so it is of as many bytes as were lent
+-- This holds if as many bytes are written as were lent.
 abbrev pub BorrowsChangeTheLentBytesAlone : Type 0
 BorrowsChangeTheLentBytesAlone =
     (e : Exporter) (s : Subject) (bytes : List ℕ) → IsSoundExporter e → is_writable e s ≡ true → length bytes ≡ length (lent_bytes e s) → ChangesTheLentBytesAlone e s bytes
 
--- A handle of which the lender has no snap is refused with `UnknownName`, as bytes (`bytes`), as a text or bytes (`text`)
--- and as a text of ASCII or bytes (`ascii`), and so is a view or an iterator that was never given, to be written (`subjects`).
+-- Handles that the lender has no snap of are refused with `UnknownName`. This holds for bytes (`bytes`), for a
+-- text or bytes (`text`), and for a text of ASCII or bytes (`ascii`). A view or an iterator that was never
+-- given is refused too, if it is borrowed to be written (`subjects`).
 pub record UnknownArgumentsAreRefused : Type 0 where
   pub bytes : (pairs : List (ℕ × Snap)) (handle : ℕ) → snap_of pairs handle ≡ None → argument_of pairs (value.One (scalar.Handle handle)) ≡ Err fault.UnknownName
   pub text : (pairs : List (ℕ × Snap)) (handle : ℕ) → snap_of pairs handle ≡ None → text_or_bytes pairs (value.One (scalar.Handle handle)) ≡ Err fault.UnknownName

@@ -1,4 +1,4 @@
--- Arguments that are a text, or are borrowed as bytes.
+-- Arguments that are a text, or whose bytes are borrowed.
 use Rattle.std.specs.Prelude.{ℕ, not, List, Result, Ok}
 use Rattle.pybuf_value.specs.declared.faults.Fault.{Fault}
 use Rattle.pybuf_value.specs.declared.faults.Fault.TheVariants as fault
@@ -14,24 +14,24 @@ use Rattle.pybuf_borrow.specs.declared.texts.ArgStrOrBytesLike.TheVariants as ei
 use Rattle.pybuf_borrow.specs.declared.texts.ArgAsciiBuffer.{ArgAsciiBuffer}
 use Rattle.pybuf_borrow.specs.declared.texts.ArgAsciiBuffer.TheVariants as ascii
 
--- a text is itself; every other value is borrowed as bytes
+-- A text stays a text, and the bytes of every other value are borrowed.
 abbrev pub text_or_bytes : List (ℕ × Snap) → Value → Result ArgStrOrBytesLike Fault
 text_or_bytes pairs (value.One (scalar.Text text)) = Ok (either.Str text)
 text_or_bytes pairs v = do
   argument ← argument_of pairs v
   Ok (either.Buf argument)
 
--- the value that such an argument is of
+-- the value that such an argument was made of
 abbrev pub object_of : ArgStrOrBytesLike → Value
 object_of (either.Buf argument) = argument.object
 object_of (either.Str text) = value.One (scalar.Text text)
 
--- its bytes: those of a text are its UTF-8
+-- the bytes of such an argument, and those of a text are its UTF-8
 abbrev pub bytes_of : ArgStrOrBytesLike → List ℕ
 bytes_of (either.Buf argument) = argument.bytes
 bytes_of (either.Str text) = text
 
--- the same of a text of ASCII alone
+-- the same, but a text must be ASCII
 abbrev pub ascii_or_bytes : List (ℕ × Snap) → Value → Result ArgAsciiBuffer Fault
 ascii_or_bytes pairs (value.One (scalar.Text text)) = do
   _ ← unless (not (is_ascii text)) fault.Value

@@ -1,4 +1,4 @@
--- Subjects whose bytes are lent to be written where they lie.
+-- Subjects whose bytes are lent to be written in place.
 use Rattle.std.specs.Prelude.{ℕ, Bool, false, not, ◌&&◌, List, [], slice_index, Result, Err}
 use Rattle.pybuf_value.specs.declared.faults.Fault.{Fault}
 use Rattle.pybuf_value.specs.declared.faults.Fault.TheVariants as fault
@@ -12,9 +12,9 @@ use Rattle.pybuf_state.specs.Live.{is_live, layout_of, is_writable_run}
 use Rattle.pybuf_exporter.specs.Stored.{StoredExporter}
 use Rattle.pybuf_exporter.specs.Lending.{overwritten_exporter, written_from}
 
--- An exporter lends all its bytes, unless they are only read, and a view those of its items, unless it was
--- never given or was released, or its items may only be read or don't lie one after the other. An iterator has
--- no bytes.
+-- Which subjects lend their bytes to be written. An exporter lends all its bytes, unless they can only be read.
+-- A view lends the bytes of its items, unless it was never given, is released, can only be read, or has items
+-- that don't lie one after the other. An iterator has no bytes.
 abbrev pub asked_to_write : Exporter → Subject → Result Bool Fault
 asked_to_write e subject.Own = unless (holds_readonly e.kind) fault.Kind
 asked_to_write e (subject.View k) = do
@@ -24,7 +24,7 @@ asked_to_write e (subject.Iter k) = do
   it ← iterator_at e k
   Err fault.Kind
 
--- whether it isn't refused
+-- whether a subject lends its bytes to be written
 abbrev pub is_writable : Exporter → Subject → Bool
 is_writable e subject.Own = not (holds_readonly e.kind)
 is_writable e (subject.View k) = is_live e k && is_writable_run (layout_of e k)
@@ -36,17 +36,17 @@ lent_bytes e subject.Own = e.bytes
 lent_bytes e (subject.View k) = content_of_layout e.bytes (layout_of e k)
 lent_bytes e (subject.Iter k) = []
 
--- The exporter's bytes once others were written over those that were lent: those of a view begin at its
+-- The exporter's bytes after others were written over those that were lent. The bytes of a view begin at its
 -- first item.
 abbrev pub bytes_after : Exporter → Subject → List ℕ → List ℕ
 bytes_after e subject.Own bytes = (overwritten_exporter e bytes).bytes
 bytes_after e (subject.View k) bytes = (written_from e (slice_index (layout_of e k).starts 0) bytes).bytes
 bytes_after e (subject.Iter k) bytes = e.bytes
 
--- nothing else of the exporter changes
+-- Nothing else of the exporter changes.
 abbrev pub written_through : Exporter → Subject → List ℕ → Exporter
 written_through e s bytes = record e { bytes = bytes_after e s bytes }
 
--- and nothing of its room
+-- The room of a stored exporter stays too.
 abbrev pub stored_through : StoredExporter → Subject → List ℕ → StoredExporter
 stored_through s u bytes = record s { exporter = written_through s.exporter u bytes }

@@ -1,4 +1,4 @@
--- What is counted while a buffer is appended.
+-- How many ranges are counted while a buffer is appended.
 use Rattle.std.specs.Prelude.{◌≡◌, ℕ, ◌-◌, ◌<◌, ◌≤◌, ℤ, Bool, Option, None, Some, [], length, take, slice_get, pos, true, false, All}
 use Rattle.std.specs.Ordering.{int_eq}
 use Rattle.std.specs.declared.ops.Range.{Range}
@@ -10,7 +10,8 @@ use Rattle.pybuf_desc.specs.Valid.{IsPlaced}
 use Rattle.pybuf_desc.specs.Segments.{ranges_of, joined_count}
 use Rattle.pybuf_buffer.specs.Appending.{range_count, shape_before_tail}
 
--- so many ranges has the walk over a view's items that joins dimensions, and none of them is empty
+-- The walk over a view's items that joins dimensions has as many ranges as are counted, and none of them is
+-- empty.
 pub record AreCounted (d : Descriptor) (start : ℕ) (view : Layout) : Type 0 where
   pub count : length (ranges_of d (pos start) (joined_count d true)) ≡ range_count view
   pub nonempty : All (λ (range : Range ℕ). range.start < range.end) (ranges_of d (pos start) (joined_count d true))
@@ -18,8 +19,8 @@ pub record AreCounted (d : Descriptor) (start : ℕ) (view : Layout) : Type 0 wh
 abbrev pub RangesAreCounted : Type 0
 RangesAreCounted = (d : Descriptor) (start : ℕ) (view : Layout) → IsPlaced d start → Stands d start view → AreCounted d start view
 
--- There are at most as many as the product of the entries before the tail: one where all items lie one
--- after the other, and none without items.
+-- There are at most as many ranges as the product of the entries before the tail. There is one if all items lie
+-- one after the other, and none if there are no items.
 pub record IsBounded (view : Layout) : Type 0 where
   pub before_tail : range_count view ≤ product (shape_before_tail view)
   pub packed : length view.shape ≡ length view.strides → HasRowMajorStrides view → 0 < product view.shape → range_count view ≡ 1
@@ -28,18 +29,18 @@ pub record IsBounded (view : Layout) : Type 0 where
 abbrev pub RangeCountsAreBounded : Type 0
 RangeCountsAreBounded = (view : Layout) → IsBounded view
 
--- whether a stride is the item size; false where there is no dimension
+-- whether a stride is the item size, which is false if there is no dimension
 abbrev pub is_stride : ℕ → Option ℤ → Bool
 is_stride itemsize None = false
 is_stride itemsize (Some stride) = int_eq stride (pos itemsize)
 
--- the items that differ in the last index alone lie one after the other
+-- Items that differ only in the last index lie one after the other.
 abbrev pub has_joined_rows : Layout → Bool
 has_joined_rows view = is_stride view.itemsize (slice_get view.strides (length view.strides - 1))
 
--- So, of a view with a stride for each dimension: where the last dimension's stride is the item size,
--- there are at most as many as the product of the other entries; always at most as many as items; and
--- without a dimension at most 1.
+-- The ranges of a view that has a stride for each dimension. If the last stride is the item size, there are at
+-- most as many ranges as the product of the other entries. There are always at most as many ranges as items,
+-- and at most 1 if the view has no dimension.
 pub record IsBoundedByRows (view : Layout) : Type 0 where
   pub joined : has_joined_rows view ≡ true → range_count view ≤ product (take (length view.shape - 1) view.shape)
   pub apart : range_count view ≤ product view.shape

@@ -1,4 +1,4 @@
--- The view of some of the blocks of a view, which are cut along its first dimension.
+-- The view of some of the blocks that cutting a view along its first dimension gives.
 use Rattle.std.specs.Prelude.{ℕ, ◌-◌, pos, Some}
 use Rattle.std.specs.List.{range_with_len}
 use Rattle.std.specs.declared.ops.Range.{Range}
@@ -10,6 +10,6 @@ use Rattle.pybuf_desc.specs.Slices.{slice_at}
 abbrev pub blocks_of : Layout → Range ℕ → Layout
 blocks_of view range = slice_at view (range_with_len range.start (range.end - range.start)) (pos 1)
 
--- the slice with these bounds and step 1, each at the nearest `isize`
+-- the slice with these bounds and step 1, and each bound is clamped to `isize`
 abbrev pub range_parts : Range ℕ → SliceParts
 range_parts range = clamped_parts (record { start = Some (pos range.start); stop = Some (pos range.end); step = pos 1 })

@@ -1,5 +1,5 @@
--- Calls on memoryviews with plain arguments are commands: each changes what its command changes, and its answer is that
--- command's reply in another form.
+-- A call on a memoryview with plain arguments is a command. It changes what its command changes, and its answer
+-- is that command's reply in another form.
 use Rattle.std.specs.Prelude.{◌≡◌, ℕ, ℤ, List, [], ◌∷◌, Option, None, Result}
 use Rattle.pybuf_value.specs.declared.faults.Fault.{Fault}
 use Rattle.pybuf_value.specs.declared.snaps.Snap.{Snap}
@@ -25,7 +25,7 @@ use Rattle.pybuf_verbs_reads.specs.Property.{property_of_view}
 use Rattle.pybuf_verbs_writes.specs.Assign.{assign_of_view, assign_of_lent}
 use Rattle.pybuf_exporter.specs.Step.{estep, settled_answer}
 
--- what an effect says is what the command does that is told to this subject, with no loans
+-- The effect is what the command with this verb does on this subject, without loans.
 abbrev pub IsCommand : Exporter → Subject → Verb → Result (Exporter × LocalReply) Fault → Type 0
 IsCommand e s v effect = settled_answer e effect ≡ estep e s v []
 
@@ -76,7 +76,7 @@ abbrev pub BytesAreAssigned : Type 0
 BytesAreAssigned = (e : Exporter) (k : ℕ) (start stop step : Option ℤ) (bytes : List ℕ) →
     IsCommand e (subject.View k) (verb.Set (value.Slice (slice_of start stop step)) (value.One (scalar.Bytes bytes))) (assign_of_view e k (slice_of start stop step) (value.One (scalar.Bytes bytes)) [])
 
--- `set` of a slice to what a handle is lent as, with that loan alone
+-- `set` of a slice to what a handle is lent as, with only that loan
 abbrev pub LentIsAssigned : Type 0
 LentIsAssigned = (e : Exporter) (k : ℕ) (start stop step : Option ℤ) (lent : Option Snap) →
     settled_answer e (assign_of_lent e k (slice_of start stop step) lent)

@@ -1,4 +1,4 @@
--- How a vector ends whose exporter was lent, or whose bytes were taken.
+-- What a vector is after its exporter was lent, or its bytes were taken.
 use Rattle.std.specs.Prelude.{[]}
 use Rattle.std.specs.Borrow.{Lends, MutBor, Fml}
 use Rattle.pybuf_state.specs.Exporter.{Exporter}
@@ -6,10 +6,10 @@ use Rattle.pybuf_exporter.specs.Stored.{StoredExporter}
 use Rattle.pybuf_exporter.specs.contracts.exporter.ExporterState as exporter
 use Rattle.pybuf_memoryobject.specs.contracts.vec_buffer.VecBuffer as vector
 
--- the vector ends with the exporter that was put in
+-- When the loan ends, the vector has the exporter that the borrower left.
 abbrev pub LendsStateOfVector : MutBor Exporter → MutBor StoredExporter → Fml
 LendsStateOfVector b r = Lends vector.the_row exporter.the_row b r (λ s. s.exporter)
 
--- the exporter with no bytes
+-- the exporter without bytes
 abbrev pub emptied : Exporter → Exporter
 emptied e = record e { bytes = [] }

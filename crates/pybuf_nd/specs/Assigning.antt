@@ -8,8 +8,8 @@ use Rattle.pybuf_memoryview.specs.Orders.{nbytes_of}
 use Rattle.pybuf_state.specs.Exporter.{Exporter}
 use Rattle.pybuf_verbs_writes.specs.Laid.{laid}
 
--- The exporter with the bytes over those of the view's items, in order. Refused where the view can only be
--- read, and then where its items have another number of bytes.
+-- The exporter after these bytes replace those of the view's items, in order. The call is refused if the view
+-- can only be read, and then if its items have another number of bytes.
 abbrev pub bytes_assigned : Exporter → Layout → List ℕ → Result Exporter Fault
 bytes_assigned e target content = do
   _ ← unless target.readonly fault.Kind

@@ -1,4 +1,4 @@
--- Views made of views, one step after another.
+-- Views that are made of views, step by step.
 use Rattle.std.specs.Prelude.{ℕ, List, [], ◌∷◌}
 use Rattle.pybuf_index.specs.Parts.{SliceParts}
 use Rattle.pybuf_desc.specs.Layouts.{Layout}
@@ -38,19 +38,19 @@ abbrev pub view_after_all : List Step → Layout → Layout
 view_after_all [] view = view
 view_after_all (step ∷ steps) view = view_after_all steps (view_after step view)
 
--- What a call promises of the descriptor that it makes of another: it is valid for the same room, and
--- stands for the view that is made of each view that the other stands for.
+-- What a call promises of a descriptor that it makes of another. The new descriptor is valid for the same room.
+-- If the other stands for a view, the new one stands for the view that is made of that view.
 pub record Makes (change : Layout → Layout) (d : Descriptor) (start : ℕ) (made : Descriptor × ℕ) : Type 0 where
   pub valid : (room : ℕ) → IsValid d start room → IsValid made.0 made.1 room
   pub stands : (view : Layout) → Stands d start view → Stands made.0 made.1 (change view)
 
--- descriptors of which each was made of the one before, by the steps in order
+-- Each descriptor was made of the one before, by the steps in order.
 abbrev pub IsChain : List Step → Descriptor → ℕ → List (Descriptor × ℕ) → Type 0
 IsChain [] d start [] = Unit {0}
 IsChain (step ∷ steps) d start (made ∷ later) = Makes (view_after step) d start made × IsChain steps made.0 made.1 later
 IsChain _ _ _ _ = ⊥
 
--- the last of them
+-- the last of these descriptors
 abbrev pub last_made : Descriptor × ℕ → List (Descriptor × ℕ) → Descriptor × ℕ
 last_made made [] = made
 last_made made (next ∷ later) = last_made next later

@@ -1,4 +1,4 @@
--- What holds of the views that are made.
+-- Laws of the views that are made.
 use Rattle.std.specs.Prelude.{◌≡◌, ℕ, ℤ, List}
 use Rattle.pybuf_desc.specs.Layouts.{Layout, HasItemsOfItsShape}
 use Rattle.pybuf_desc.specs.Items.{bytes_of_items, content_of_layout}
@@ -8,8 +8,8 @@ use Rattle.pybuf_nd.specs.IndexMaps.{IsIndexList, view_by}
 use Rattle.pybuf_nd.specs.Axes.{transposition_of}
 use Rattle.pybuf_nd.specs.Chains.{Step, view_after_all, Makes, IsChain, last_made}
 
--- Its item at any indices is the given view's at the indices that are made of them, and it has one for
--- each indices of its shape.
+-- The item at any indices is the given view's item at the indices that are made of them. The view has one item
+-- for each list of indices of its shape.
 pub record IsViewBy (view : Layout) (source : List ℕ → List ℕ) (made : Layout) : Type 0 where
   pub items : HasItemsOfItsShape made
   pub at : (indices : List ℕ) → IsIndexList made.shape indices → start_at made indices ≡ start_at view (source indices)
@@ -17,18 +17,18 @@ pub record IsViewBy (view : Layout) (source : List ℕ → List ℕ) (made : Lay
 abbrev pub ViewsGoByIndices : Type 0
 ViewsGoByIndices = (view : Layout) (shape : List ℕ) (strides : List ℤ) (source : List ℕ → List ℕ) → IsViewBy view source (view_by view shape strides source)
 
--- However many steps there are, what they make is valid for the same room, and stands for the view that
+-- However many steps there are, the last descriptor is valid for the same room, and stands for the view that
 -- the steps make.
 abbrev pub ChainsStand : Type 0
 ChainsStand =
     (steps : List Step) (d : Descriptor) (start : ℕ) (made : List (Descriptor × ℕ)) → IsChain steps d start made
     → Makes (view_after_all steps) d start (last_made (d, start) made)
 
--- the transposition of the transposition has the items of the view where they were
+-- If a view is transposed twice, its items are where they were.
 abbrev pub TransposingTwiceIsNothing : Type 0
 TransposingTwiceIsNothing = (view : Layout) → HasItemsOfItsShape view → (transposition_of (transposition_of view)).starts ≡ view.starts
 
--- the items of the transposition, row-major, are those of the view in column order
+-- The items of the transposition, row-major, are those of the view in column order.
 abbrev pub TranspositionsAreColumnOrder : Type 0
 TranspositionsAreColumnOrder =
     (bytes : List ℕ) (view : Layout) → content_of_layout bytes (transposition_of view) ≡ bytes_of_items bytes view.itemsize (column_starts view)

@@ -8,12 +8,12 @@ use Rattle.pybuf_desc.specs.Layouts.{Layout}
 use Rattle.pybuf_nd.specs.IndexMaps.{view_by}
 use Rattle.pybuf_nd.specs.Selections.{has_zero}
 
--- the axis is left out, and its index is the entry
+-- the view whose axis is left out, and whose index there is always the entry
 abbrev pub plane_of : Layout → ℕ → ℕ → Layout
 plane_of view axis entry = view_by view (remove view.shape axis) (remove view.strides axis) (λ indices. insert indices axis entry)
 
--- The entry of the axis that a place names, where a negative one counts from the end. Refused where
--- there is none, and then where a dimension has no entry.
+-- The entry of the axis that a place names, and a negative place counts from the end. The call is refused if
+-- there is no such entry, and then if a dimension has no entry.
 abbrev pub entry_of_place : List ℕ → ℕ → ℤ → Result ℕ Fault
 entry_of_place shape axis place = do
   entry ← entry_in (slice_index shape axis) place

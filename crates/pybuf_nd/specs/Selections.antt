@@ -12,7 +12,7 @@ abbrev pub picks_of_each : List ℕ → List SliceParts → List (List ℕ)
 picks_of_each (n ∷ shape) (parts ∷ slices) = picks_of n parts ∷ picks_of_each shape slices
 picks_of_each _ _ = []
 
--- in each dimension, the pick of the number that the index says
+-- the index in each dimension, which is the pick that has the given number
 abbrev pub picked_indices : List (List ℕ) → List ℕ → List ℕ
 picked_indices (picks ∷ others) (index ∷ indices) = slice_index picks index ∷ picked_indices others indices
 picked_indices _ _ = []
@@ -21,7 +21,8 @@ picked_indices _ _ = []
 abbrev pub counts_of : List (List ℕ) → List ℕ
 counts_of each = map (λ (picks : List ℕ). length picks) each
 
--- each shown stride is the old one times the step clamped to `isize`, itself clamped to `isize`
+-- Each stride that is shown is the old stride times the step, where the step is clamped to `isize`. The product
+-- is clamped to `isize` too.
 abbrev pub strides_after : List ℤ → List SliceParts → List ℤ
 strides_after (stride ∷ strides) (parts ∷ slices) = nearest_word (stride *ℤ nearest_word parts.step) ∷ strides_after strides slices
 strides_after _ _ = []
@@ -36,6 +37,6 @@ has_zero [] = false
 has_zero (zero ∷ shape) = true
 has_zero (suc n ∷ shape) = has_zero shape
 
--- refused where nothing is picked in a dimension after the first
+-- A selection is refused if it picks nothing in a dimension after the first.
 abbrev pub selection_check : List ℕ → List SliceParts → Result Bool Fault
 selection_check shape slices = unless (has_zero (drop 1 (counts_of (picks_of_each shape slices)))) fault.Value

@@ -1,5 +1,5 @@
--- Calls with plain arguments are commands: each changes what its command changes, and its answer is that command's
--- reply in another form.
+-- A call with plain arguments is a command. It changes what its command changes, and its answer is that
+-- command's reply in another form.
 use Rattle.std.specs.Prelude.{◌≡◌, ℕ, ◌<◌, ℤ, pos, true, false, List, [], Option, None, Some, Result, Ok, Err}
 use Rattle.pybuf_value.specs.declared.faults.Fault.{Fault}
 use Rattle.pybuf_value.specs.declared.faults.Fault.TheVariants as fault
@@ -29,18 +29,18 @@ abbrev pub replied : {X : Type 0} → (X → LocalReply) → Result (Exporter ×
 replied form (Ok after) = Ok (after.0, form after.1)
 replied form (Err f) = Err f
 
--- the exporter itself is told this command, with no loans
+-- The call is this command on the exporter itself, without loans.
 abbrev pub IsCommand : {X : Type 0} → (X → LocalReply) → Exporter → Verb → Result (Exporter × X) Fault → Type 0
 IsCommand form e v answer = settled_answer e (replied form answer) ≡ estep e subject.Own v []
 
--- there is nothing to say
+-- The reply says nothing more than that the command wasn't refused.
 abbrev pub done_reply : Unit {0} → LocalReply
 done_reply _ = reply.Ok
 
 abbrev pub byte_reply : ℕ → LocalReply
 byte_reply byte = reply.Item (byte_item byte)
 
--- no byte is Python's `IndexError`
+-- If there is no byte, Python raises `IndexError`.
 abbrev pub byte_or_refusal : Option ℕ → LocalReply
 byte_or_refusal None = reply.Refused fault.Index
 byte_or_refusal (Some byte) = byte_reply byte
@@ -61,7 +61,7 @@ InsertAtInserts = (e : Exporter) (index : ℤ) (byte : ℕ) → is_word index �
 abbrev pub RemoveAtPops : Type 0
 RemoveAtPops = (e : Exporter) (index : ℤ) → is_word index ≡ true → IsCommand byte_reply e (verb.Pop (Some (number_value index))) (removed_at e index)
 
--- `pop` of none
+-- `pop` without an index
 abbrev pub PopLastPops : Type 0
 PopLastPops = (e : Exporter) → IsCommand byte_or_refusal e (verb.Pop None) (popped_last e)
 
@@ -73,7 +73,7 @@ ClearAllClears = (e : Exporter) → IsCommand done_reply e verb.Clear (emptied e
 abbrev pub SetSets : Type 0
 SetSets = (e : Exporter) (index : ℤ) (byte : ℕ) → is_word index ≡ true → byte < 256 → IsCommand done_reply e (verb.Set (number_value index) (number_value (pos byte))) (put_at e index byte)
 
--- `get` of an index: a vector has no such command
+-- `get` of an index, which a vector doesn't have
 abbrev pub GetGets : Type 0
 GetGets = (e : Exporter) (index : ℤ) → is_word index ≡ true → is_vector e.kind ≡ false → IsCommand byte_or_refusal e (verb.Get (number_value index)) (Ok (e, byte_at e.bytes index))
 

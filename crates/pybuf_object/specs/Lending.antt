@@ -1,4 +1,4 @@
--- How bytes and bytearrays end whose exporter, or bytes, were lent.
+-- What bytes and a bytearray are after their exporter or their bytes were lent.
 use Rattle.std.specs.Prelude.{ℕ, List, Option, Result}
 use Rattle.std.specs.Borrow.{Lends, LendsIf, LendsIfOk, MutBor, Fml, Array, u8}
 use Rattle.pybuf_value.specs.declared.faults.Fault.{Fault}
@@ -10,7 +10,7 @@ use Rattle.pybuf_exporter.specs.contracts.exporter.ExporterState as exporter
 use Rattle.pybuf_object.specs.contracts.bytes.PyBytes as bytes
 use Rattle.pybuf_object.specs.contracts.byte_array.PyByteArray as byte_array
 
--- ---- the exporter: the owner ends with the one that was put in
+-- ---- the exporter: when its loan ends, the owner has the exporter that the borrower left
 
 abbrev pub LendsStateOfBytes : MutBor Exporter → MutBor StoredExporter → Fml
 LendsStateOfBytes b r = Lends bytes.the_row exporter.the_row b r (λ s. s.exporter)
@@ -20,11 +20,12 @@ LendsStateOfByteArray b r = Lends byte_array.the_row exporter.the_row b r (λ s.
 
 -- ---- the bytes of a bytearray
 
--- it ends with the last bytes behind the loan, as many as before, and nothing else of it changes
+-- When the loan ends, the bytearray has the bytes that the borrower left, as many as before. Nothing else of it
+-- changes.
 abbrev pub LendsBytesOfByteArray : MutBor Exporter → MutBor (List ℕ) → Fml
 LendsBytesOfByteArray b r = Lends byte_array.the_row (Array u8 0) b r (overwritten_exporter b.now)
 
--- the same of any number of bytes, where they are lent; else it stays
+-- The same if the borrower may change the number of bytes. If the bytes aren't lent, the bytearray stays.
 abbrev pub LendsAllIfOk : MutBor Exporter → Result (MutBor Bytes) Fault → Fml
 LendsAllIfOk b r = LendsIfOk byte_array.the_row bytes_row b r (resized_exporter b.now) b.now
 

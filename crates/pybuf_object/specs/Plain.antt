@@ -1,4 +1,4 @@
--- Calls on bytes and bytearrays with plain arguments: no value, no loan and no reply.
+-- Calls on bytes and bytearrays with plain arguments. They have no values, no loans and no replies.
 use Rattle.std.specs.Prelude.{◌≡◌, IsOk, ℕ, suc, Bool, ℤ, negsuc, List, [], ◌∷◌, ◌++◌, length, take, drop, slice_get, slice_index, slice_set, Option, None, Some, Result, Ok, Err}
 use Rattle.std.specs.Option.{option_and_then}
 use Rattle.std.specs.Global.{Vec}
@@ -17,28 +17,28 @@ use Rattle.pybuf_state.specs.Resizing.{resizable}
 
 -- ---- answers
 
--- The answer is what a definition says, with the exporter after it, or its refusal and the exporter as before.
--- Where memory runs out, it isn't refused, and the exporter is as before.
+-- The answer is what a definition says, and the exporter is the one that it says. If the definition refuses,
+-- the answer is that refusal. If it doesn't, memory may still run out. In both cases the exporter is as before.
 abbrev pub Settles : {X : Type 0} → Result (Exporter × X) Fault → Exporter → Result X Halt → Exporter → Type 0
 Settles wanted old (Ok x) new = wanted ≡ Ok (new, x)
 Settles wanted old (Err (halt.Refused f)) new = (wanted ≡ Err f) × (new ≡ old)
 Settles wanted old (Err halt.NoMemory) new = IsOk wanted × (new ≡ old)
 
--- the same of a call that takes no memory
+-- the same for a call that takes no memory
 abbrev pub SettlesAtOnce : {X : Type 0} → Result (Exporter × X) Fault → Exporter → Result X Halt → Exporter → Type 0
 SettlesAtOnce wanted old (Ok x) new = wanted ≡ Ok (new, x)
 SettlesAtOnce wanted old (Err (halt.Refused f)) new = (wanted ≡ Err f) × (new ≡ old)
 SettlesAtOnce wanted old (Err halt.NoMemory) new = ⊥
 
--- the answer is these bytes, or the refusal, unless memory runs out
+-- The answer is these bytes, or the refusal, unless memory runs out.
 abbrev pub GivesBytes : Result (List ℕ) Fault → Result (Vec ℕ) Halt → Type 0
 GivesBytes wanted (Ok bytes) = wanted ≡ Ok bytes.items
 GivesBytes wanted (Err (halt.Refused f)) = wanted ≡ Err f
 GivesBytes wanted (Err halt.NoMemory) = Unit {0}
 
--- ---- what is read
+-- ---- calls that read
 
--- the byte that a number names, if there is one; a negative one counts from the end
+-- the byte that a number names, if there is one, and a negative number counts from the end
 abbrev pub byte_at : List ℕ → ℤ → Option ℕ
 byte_at bytes index = option_and_then (slice_get bytes) (item_place (length bytes) index)
 
@@ -48,27 +48,28 @@ bytes_of_slice bytes start stop step = do
   parts ← saturated_parts_of (slice_of start stop step)
   Ok (elements_at bytes (picks_of (length bytes) parts))
 
--- ---- what is changed
+-- ---- calls that change something
 
--- whether the number of bytes may change: not of another kind than a bytearray, and not while a view is unreleased
+-- Whether the number of bytes may change. Only a bytearray can be resized, and only if no view of it is
+-- unreleased.
 abbrev pub may_resize : Exporter → Result Bool Fault
 may_resize e = of_byte_array e.kind (resizable e)
 
--- other bytes in place of all, of any number, where that may be
+-- other bytes in place of all bytes, in any number, if the exporter may be resized
 abbrev pub resized_to : {X : Type 0} → Exporter → List ℕ → X → Result (Exporter × X) Fault
 resized_to e bytes answer = do
   _ ← may_resize e
   Ok (record e { bytes = bytes }, answer)
 
--- a byte more at the end
+-- one more byte at the end
 abbrev pub pushed : Exporter → ℕ → Result (Exporter × Unit {0}) Fault
 pushed e byte = resized_to e (e.bytes ++ byte ∷ []) tt
 
--- bytes more at the end
+-- more bytes at the end
 abbrev pub extended_by : Exporter → List ℕ → Result (Exporter × Unit {0}) Fault
 extended_by e others = resized_to e (e.bytes ++ others) tt
 
--- a byte more, before the place that is nearest to a number
+-- one more byte, before the place that is nearest to a number
 abbrev pub inserted_at : Exporter → ℤ → ℕ → Result (Exporter × Unit {0}) Fault
 inserted_at e index byte = resized_to e (replaced_range e.bytes (saturated_place (length e.bytes) index) (saturated_place (length e.bytes) index) (byte ∷ [])) tt
 
@@ -76,29 +77,29 @@ inserted_at e index byte = resized_to e (replaced_range e.bytes (saturated_place
 abbrev pub without : List ℕ → ℕ → List ℕ
 without bytes place = replaced_range bytes place (suc place) []
 
--- without the byte that a number names, which is the answer
+-- The bytes lose the one that a number names, and that byte is the answer.
 abbrev pub removed_at : Exporter → ℤ → Result (Exporter × ℕ) Fault
 removed_at e index = do
   _ ← may_resize e
   place ← entry_in (length e.bytes) index
   Ok (record e { bytes = without e.bytes place }, slice_index e.bytes place)
 
--- without the byte at a place, if there is one, which is the answer
+-- The bytes lose the one at a place, if there is one, and that byte is the answer.
 abbrev pub out_at : Exporter → Option ℕ → Exporter × Option ℕ
 out_at e None = (e, None)
 out_at e (Some place) = (record e { bytes = without e.bytes place }, Some (slice_index e.bytes place))
 
--- without the last byte, if there is one, which is the answer
+-- The bytes lose the last one, if there is one, and that byte is the answer.
 abbrev pub popped_last : Exporter → Result (Exporter × Option ℕ) Fault
 popped_last e = do
   _ ← may_resize e
   Ok (out_at e (item_place (length e.bytes) (negsuc 0)))
 
--- as many bytes from the first on, all where there are no more
+-- the first `count` bytes, or all if there are fewer
 abbrev pub truncated : Exporter → ℕ → Result (Exporter × Unit {0}) Fault
 truncated e count = resized_to e (take count e.bytes) tt
 
--- without as many bytes from the first on, without all where there are no more
+-- the bytes behind the first `count`, or none if there are fewer
 abbrev pub drained_front : Exporter → ℕ → Result (Exporter × Unit {0}) Fault
 drained_front e count = resized_to e (drop count e.bytes) tt
 
@@ -106,13 +107,13 @@ drained_front e count = resized_to e (drop count e.bytes) tt
 abbrev pub emptied : Exporter → Result (Exporter × Unit {0}) Fault
 emptied e = resized_to e [] tt
 
--- another byte in place of the one that a number names; views don't matter
+-- Another byte replaces the one that a number names. Unreleased views don't stop this.
 abbrev pub put_at : Exporter → ℤ → ℕ → Result (Exporter × Unit {0}) Fault
 put_at e index byte = of_byte_array e.kind (do
   place ← entry_in (length e.bytes) index
   Ok (record e { bytes = slice_set e.bytes place byte }, tt))
 
--- stopped by just this refusal
+-- The call was stopped by just this refusal.
 abbrev pub IsRefusal : {X : Type 0} → Result X Fault → Halt → Type 0
 IsRefusal answer (halt.Refused f) = answer ≡ Err f
 IsRefusal answer halt.NoMemory = ⊥

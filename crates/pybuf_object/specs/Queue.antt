@@ -1,4 +1,4 @@
--- A bytearray as a queue: what is written is added at the end, and what is read is taken from the front.
+-- A bytearray as a queue: a write adds bytes at the end, and a read takes bytes from the front.
 use Rattle.std.specs.Prelude.{◌≡◌, IsErr, MatchResult, ℕ, min, List, ◌++◌, length, take, drop, Result, Ok, Err}
 use Rattle.std.specs.IoError.{error_kind}
 use Rattle.std.specs.declared.io.Error.{Error}
@@ -10,34 +10,35 @@ use Rattle.pybuf_value.specs.declared.halt.Halt.TheVariants as halt
 use Rattle.pybuf_state.specs.Exporter.{Exporter}
 use Rattle.pybuf_object.specs.Plain.{resized_to}
 
--- ---- what is asked
+-- ---- what a call does
 
--- without the bytes of the front, as many as there is room for; their number is the answer
+-- A read takes as many bytes from the front as there is room for, and its answer is their number.
 abbrev pub read_front : Exporter → ℕ → Result (Exporter × ℕ) Fault
 read_front e room = resized_to e (drop (min room (length e.bytes)) e.bytes) (min room (length e.bytes))
 
--- with more bytes at the end, all of them; their number is the answer
+-- A write adds all its bytes at the end, and its answer is their number.
 abbrev pub written_behind : Exporter → List ℕ → Result (Exporter × ℕ) Fault
 written_behind e bytes = resized_to e (e.bytes ++ bytes) (length bytes)
 
--- a room after so many bytes of the front were read into its first places
+-- the room after `count` bytes of the front were read into its first places
 abbrev pub filled_from : Exporter → List ℕ → ℕ → List ℕ
 filled_from e room count = take count e.bytes ++ drop count room
 
--- ---- how it is answered
+-- ---- how a call answers
 
--- a refusal is a resource that is busy, and want of memory is itself
+-- A refusal is the error of a busy resource, and want of memory is the error of its own name.
 abbrev pub kind_of : Halt → ErrorKind
 kind_of (halt.Refused _) = ResourceBusy
 kind_of halt.NoMemory = OutOfMemory
 
--- The answer is what a definition says, with the exporter after it. Of an error, its kind tells a refusal from want
--- of memory, which comes only where nothing is refused; the exporter is as before.
+-- The answer is what a definition says, and the exporter is the one that it says. The kind of an error tells a
+-- refusal from want of memory, which comes only if nothing is refused. After an error, the exporter is as
+-- before.
 abbrev pub SettlesAsWrite : Result (Exporter × ℕ) Fault → Exporter → Result ℕ Error → Exporter → Type 0
 SettlesAsWrite wanted old (Ok count) new = wanted ≡ Ok (new, count)
 SettlesAsWrite wanted old (Err error) new = MatchResult wanted (λ _. error_kind error ≡ OutOfMemory) (λ _. error_kind error ≡ ResourceBusy) × (new ≡ old)
 
--- the same of a call that takes no memory
+-- the same for a call that takes no memory
 abbrev pub SettlesAsRead : Result (Exporter × ℕ) Fault → Exporter → Result ℕ Error → Exporter → Type 0
 SettlesAsRead wanted old (Ok count) new = wanted ≡ Ok (new, count)
 SettlesAsRead wanted old (Err error) new = IsErr wanted × (error_kind error ≡ ResourceBusy) × (new ≡ old)

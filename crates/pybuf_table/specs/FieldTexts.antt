@@ -7,7 +7,7 @@ use Rattle.pybuf_struct.specs.declared.table.FormatType.TheVariants as code
 use Rattle.pybuf_struct.specs.Table.{letter}
 use Rattle.pybuf_struct.specs.Formats.{Field}
 
--- the bytes that a prefix is
+-- whether a byte is the prefix of a format
 abbrev pub is_prefix : ℕ → Bool
 is_prefix b = b == byte "@" || (b == byte "=" || (b == byte "<" || (b == byte ">" || b == byte "!")))
 
@@ -16,12 +16,12 @@ abbrev pub prefix_text : List ℕ → List ℕ
 prefix_text [] = []
 prefix_text (b ∷ rest) = if is_prefix b then b ∷ [] else []
 
--- a code of one field: its letter, for `s` and `p` after the field's length
+-- The text of a single field: its letter, after the field's length for `s` and `p`.
 abbrev pub code_text : FormatType → ℕ → List ℕ
 code_text code.Str n = decimal n ++ letter code.Str ∷ []
 code_text code.Pascal n = decimal n ++ letter code.Pascal ∷ []
 code_text c n = letter c ∷ []
 
--- the format of a field of records whose format has this text
+-- the format of one field, if the format of the records has this text
 abbrev pub field_text : List ℕ → Field → List ℕ
 field_text text place = prefix_text text ++ code_text place.code place.length

@@ -17,7 +17,7 @@ use Rattle.pybuf_table.specs.Records.{RecordFormat, is_whole}
 use Rattle.pybuf_table.specs.Chosen.{field_in}
 use Rattle.pybuf_table.specs.FieldTexts.{field_text}
 
--- the view of a field of so many records: item k is the field of record k
+-- the view of a field of `count` records: item k is the field of record k
 abbrev pub field_layout : RecordFormat → Field → ℕ → Bool → Layout
 field_layout r place count readonly =
     record {
@@ -29,7 +29,7 @@ field_layout r place count readonly =
       readonly = readonly;
     }
 
--- what is kept of it
+-- what the code keeps of this view
 abbrev pub field_descriptor : RecordFormat → Field → ℕ → Bool → Descriptor
 field_descriptor r place count readonly =
     record {
@@ -44,8 +44,9 @@ field_descriptor r place count readonly =
 abbrev pub view_of_field : RecordFormat → Exporter → Field → Layout
 view_of_field r e place = field_layout r place (length e.bytes / r.format.size) (holds_readonly e.kind)
 
--- The exporter with one more view, of a field of each record of its bytes, which may only be read where the exporter
--- may. A field that isn't there is refused first, then bytes that aren't whole records, and then a field without a byte.
+-- The exporter with one more view, of a field of each record of its bytes. The view can be written if the
+-- exporter can. A field that isn't there is refused first, then bytes that aren't whole records, and then a
+-- field without a byte.
 abbrev pub with_field_view : RecordFormat → ℕ → Exporter → Result (Exporter × LocalReply) Fault
 with_field_view r field e = do
   place ← field_in r.format field
@@ -53,7 +54,7 @@ with_field_view r field e = do
   _ ← unless (place.length == 0) fault.Value
   Ok (with_view e (view_of_field r e place))
 
--- what is answered, and the exporter afterwards
+-- what the call answers, and the exporter afterwards
 abbrev pub IsFieldView : RecordFormat → ℕ → Exporter → Exporter → Outcome ℕ → Type 0
 IsFieldView r field old new (outcome.Done k) = with_field_view r field old ≡ Ok (new, reply.View k)
 IsFieldView r field old new (outcome.Refused f) = (with_field_view r field old ≡ Err f) × (new ≡ old)

@@ -1,4 +1,4 @@
--- What holds of records, and of what is written through a view of one of their fields.
+-- Laws of records, and of what is written through a view of one of their fields.
 use Rattle.std.specs.Prelude.{◌≡◌, ◌≢◌, ◌⊎◌, ◌↔◌, ℕ, ◌+◌, ◌*◌, ◌/◌, ◌<◌, ◌≤◌, true, false, List, [], ◌∷◌, length, slice_get, Some, Ok, IsOk}
 use Rattle.pybuf_value.specs.declared.values.Scalar.{Scalar}
 use Rattle.pybuf_value.specs.declared.values.Value.{Value}
@@ -26,12 +26,12 @@ use Rattle.pybuf_table.specs.FieldViews.{view_of_field}
 
 -- ---- records
 
--- the bytes of the record of a number
+-- the bytes of the record that has this number
 abbrev pub record_at : Format → List ℕ → ℕ → List ℕ
 record_at f bytes number = bytes_at bytes f.size (number * f.size)
 
--- There are as many records as the size goes into the bytes, and the values of each are those of the bytes from its
--- number of sizes on.
+-- There are as many whole records as the bytes have room for. The values of each record are those of its bytes,
+-- which begin at its number times the size.
 pub record AreRecords (f : Format) (bytes : List ℕ) : Type 0 where
   pub count : length (rows f bytes) ≡ length bytes / f.size
   pub each : (number : ℕ) → number < length bytes / f.size → slice_get (rows f bytes) number ≡ Some (values f (record_at f bytes number))
@@ -39,16 +39,16 @@ pub record AreRecords (f : Format) (bytes : List ℕ) : Type 0 where
 abbrev pub RowsAreRecords : Type 0
 RowsAreRecords = (f : Format) (bytes : List ℕ) → 0 < f.size → AreRecords f bytes
 
--- A value is in an order with each value of a field exactly where it is in one with the values of the field's code. So
+-- A value has an order with each value of a field exactly if it has one with the values of the field's code. So
 -- whether an order is refused doesn't depend on the records.
 abbrev pub CodesDecideOrders : Type 0
 CodesDecideOrders = (o : Endianness) (c : FormatType) (bytes : List ℕ) (value : Scalar) → has_value c ≡ true → (has_order c value ≡ true) ↔ (IsOk (order_of_scalars (value_of o c bytes) value))
 
--- ---- sets through a view of a field
+-- ---- `set` through a view of a field
 
--- One field of one record was set: the bytes of every other record stay, the values of every other field of this one,
--- and every byte before and after the field, so every other field, pad byte and gap; and so do the length, the kind,
--- the views and the iterators.
+-- One field of one record was set. The bytes of every other record stay, and so do the values of every other
+-- field of this record. Every byte before and after the field stays, and so every other field, pad byte and gap
+-- does. The length, the kind, the views and the iterators stay too.
 pub record IsFieldSet (r : RecordFormat) (field : ℕ) (place : Field) (e new : Exporter) (number : ℕ) : Type 0 where
   pub there : number < length e.bytes / r.format.size
   pub as_long : length new.bytes ≡ length e.bytes
@@ -61,8 +61,8 @@ pub record IsFieldSet (r : RecordFormat) (field : ℕ) (place : Field) (e new : 
   pub views : new.views ≡ e.views
   pub iterators : new.iterators ≡ e.iterators
 
--- So it is after every `set` of an item through a view of a field of whole records, and the record is that of the number
--- that the key names.
+-- This holds after every `set` of an item through a view of a field of whole records. The record is the one
+-- whose number the key names.
 abbrev pub SetsChangeOneField : Type 0
 SetsChangeOneField =
     (r : RecordFormat) (field : ℕ) (place : Field) (e new : Exporter) (k : ℕ) (key v : Value) (loans : List (ℕ × Loan))
@@ -70,7 +70,7 @@ SetsChangeOneField =
     → estep e (subject.View k) (verb.Set key v) loans ≡ (new, reply.Ok)
     → (number : ℕ) × (item_of_key (length e.bytes / r.format.size ∷ []) key ≡ Ok number) × IsFieldSet r field place e new number
 
--- Fields of records were set, of each record at most this one: all else stays.
+-- This field was set in some of the records, and all else stays.
 pub record AreFieldsSet (r : RecordFormat) (field : ℕ) (place : Field) (e new : Exporter) : Type 0 where
   pub as_long : length new.bytes ≡ length e.bytes
   pub others : (at count : ℕ) → ((number : ℕ) → number < length e.bytes / r.format.size → (number * r.format.size + place.offset + place.length ≤ at) ⊎ (at + count ≤ number * r.format.size + place.offset))
@@ -81,7 +81,7 @@ pub record AreFieldsSet (r : RecordFormat) (field : ℕ) (place : Field) (e new 
   pub views : new.views ≡ e.views
   pub iterators : new.iterators ≡ e.iterators
 
--- So it is after every `set` by a slice through such a view.
+-- This holds after every `set` by a slice through such a view.
 abbrev pub SlicesChangeOneField : Type 0
 SlicesChangeOneField =
     (r : RecordFormat) (field : ℕ) (place : Field) (e new : Exporter) (k : ℕ) (slice : PySlice) (v : Value) (loans : List (ℕ × Loan))

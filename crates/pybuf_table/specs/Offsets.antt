@@ -9,8 +9,8 @@ use Rattle.pybuf_struct.specs.Formats.{Format}
 use Rattle.pybuf_struct.specs.Packing.{packed_bytes}
 use Rattle.pybuf_struct.specs.Offsets.{unpacked_from, put_at}
 
--- the place that an offset names among so many bytes: a negative one counts from their end, and one before their
--- begin is `StructError`
+-- The place that an offset names among `len` bytes. A negative offset counts from their end, and one before
+-- their beginning is `StructError`.
 abbrev pub place_of : ℕ → ℤ → Result ℕ Fault
 place_of len (pos n) = Ok n
 place_of len (negsuc n) = if nat_le (suc n) len then Ok (len - suc n) else Err fault.Struct
@@ -21,8 +21,8 @@ row_from f offset bytes = do
   place ← place_of (length bytes) offset
   unpacked_from f place bytes
 
--- the bytes with the record of values at an offset, and every byte before and after it as it was; refused before the
--- values are looked at where fewer bytes than a record are there
+-- The bytes after a record of values is written at an offset. Every byte before and after the record stays. If
+-- fewer bytes than a record are there, the call is refused before it looks at the values.
 abbrev pub with_record : Format → List (ℕ × Snap) → List Scalar → ℤ → List ℕ → Result (List ℕ) Fault
 with_record f pairs args offset room = do
   place ← place_of (length room) offset

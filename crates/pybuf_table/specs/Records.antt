@@ -9,13 +9,13 @@ use Rattle.pybuf_struct.specs.Values.{values}
 
 -- ---- formats of records
 
--- the format of records: its text, and what the text spells
+-- the format of records, by its text and by the fields that the text spells
 pub record RecordFormat : Type 0 where
   pub text : List ℕ
   pub format : Format
 
--- The format of records that a text spells. `StructError` where it spells none, and then `ValueError` where its records
--- have no byte.
+-- The format of records that a text spells. A text that spells none is refused with `StructError`, and then one
+-- whose records have no byte is refused with `ValueError`.
 abbrev pub record_format : List ℕ → Result RecordFormat Fault
 record_format text = do
   format ← format_of text
@@ -29,7 +29,7 @@ pub record IsRecordFormat (r : RecordFormat) : Type 0 where
 
 -- ---- records
 
--- so many records, of so many bytes each, one after another: the values of each
+-- the values of each of the first n records, which lie one after another
 abbrev pub rows_of : Format → ℕ → List ℕ → List (List Scalar)
 rows_of f zero bytes = []
 rows_of f (suc n) bytes = values f (take f.size bytes) ∷ rows_of f n (drop f.size bytes)
@@ -38,15 +38,15 @@ rows_of f (suc n) bytes = values f (take f.size bytes) ∷ rows_of f n (drop f.s
 abbrev pub rows : Format → List ℕ → List (List Scalar)
 rows f bytes = rows_of f (length bytes / f.size) bytes
 
--- whether bytes are records and nothing else
+-- whether bytes are whole records and nothing else
 abbrev pub is_whole : Format → List ℕ → Bool
 is_whole f bytes = length bytes % f.size == 0
 
--- the values of each record of bytes that are records and nothing else; of others `StructError`
+-- The values of each record, if the bytes are whole records and nothing else. Otherwise this is `StructError`.
 abbrev pub whole_rows : Format → List ℕ → Result (List (List Scalar)) Fault
 whole_rows f bytes = if is_whole f bytes then Ok (rows f bytes) else Err fault.Struct
 
--- what holds of bytes that are left of records
+-- What holds of the bytes of the records that are still left.
 pub record IsLeft (f : Format) (rest : List ℕ) : Type 0 where
   pub some_size : 0 < f.size
   pub whole : length rest % f.size ≡ 0

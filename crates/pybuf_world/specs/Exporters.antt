@@ -1,4 +1,4 @@
--- The laws of exporters that the laws of worlds rest on.
+-- The laws of exporters that the laws of worlds use.
 use Rattle.pybuf_state.specs.Laws.{CopiesAreFaithful, CopiesAreSpaced}
 use Rattle.pybuf_exporter.specs.Laws.{CommandsKeepSound, FreshRepliesAreCopies, CommandsKeepItemsApart, RepliedNamesAreThere, SubjectsStay}
 

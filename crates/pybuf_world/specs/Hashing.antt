@@ -1,4 +1,4 @@
--- What `hash` replies of two handles of a world that are equal by `compare`.
+-- What `hash` replies of two handles of a world, if `compare` finds them equal.
 use Rattle.std.specs.Prelude.{◌≡◌, ℕ, ◌<◌, List, true}
 use Rattle.std.specs.List.{All}
 use Rattle.pybuf_value.specs.declared.values.Scalar.TheVariants as scalar
@@ -12,17 +12,18 @@ use Rattle.pybuf_equality.specs.Laws.{IsByteFormat}
 use Rattle.pybuf_world.specs.World.{World, wstep}
 use Rattle.pybuf_world.specs.Sound.{IsSoundWorld}
 
--- A format that is replied to the property `format` of a handle is `b`, `B` or `c`. An exporter has no such property, so
--- this says nothing of it.
+-- If a handle replies its `format`, this is `b`, `B` or `c`. An exporter has no such property, so this says
+-- nothing of it.
 abbrev pub ShowsByteFormat : World → ℕ → Type 0
 ShowsByteFormat w handle = (format : List ℕ) → (wstep w (command.Do handle (verb.Property property.Format))).1 ≡ reply.Text format → IsByteFormat format
 
--- these bytes are what `hash` of a handle replies
+-- `hash` of a handle replies these bytes.
 pub record IsHashOf (w : World) (handle : ℕ) (bytes : List ℕ) : Type 0 where
   pub replied : (wstep w (command.Do handle verb.Hash)).1 ≡ reply.Bytes bytes
   pub small : All (λ b. b < 256) bytes
 
--- Two handles that are equal by `compare`, each an exporter or a view of such a format, have the same hash.
+-- Two handles that `compare` finds equal have the same hash, if each names an exporter or a view of such a
+-- format.
 abbrev pub WorldEqualViewsHashAlike : Type 0
 WorldEqualViewsHashAlike =
     (w : World) (handle other : ℕ) (bytes other_bytes : List ℕ) → IsSoundWorld w → ShowsByteFormat w handle → ShowsByteFormat w other

@@ -14,7 +14,7 @@ exporters_of stored = map (λ s. s.exporter) stored
 abbrev pub lent_exporter : Option (Bor StoredExporter) → Option Exporter
 lent_exporter lender = option_map (λ s. s.exporter) (option_copied lender)
 
--- the exporters with the one of a number as it is after a release
+-- the exporters after a release changed the one that has this number
 abbrev pub with_released : List Exporter → ℕ → Result Exporter Fault → Result (List Exporter) Fault
 with_released es i (Ok e) = Ok (set es i e)
 with_released es i (Err f) = Err f

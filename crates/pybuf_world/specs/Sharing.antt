@@ -18,10 +18,10 @@ use Rattle.pybuf_world.specs.declared.named.Named.TheVariants as named
 use Rattle.pybuf_world.specs.World.{World, pairs_of, wstep}
 use Rattle.pybuf_world.specs.Sound.{IsSoundWorld}
 
--- ---- items, as a world stands
+-- ---- items, as a world has them
 
--- A handle names an unreleased view of the exporter of a number, which has this layout. A key names an item of the view,
--- and the first byte of that item lies at this place of the exporter.
+-- A handle names an unreleased view, which has this layout, of the exporter that has this number. A key names
+-- an item of the view, and the first byte of that item lies at this place of the exporter.
 pub record HasItemAt (w : World) (handle : ℕ) (key : Value) (number place : ℕ) (layout : Layout) : Type 0 where
   pub view : ℕ
   pub names : slice_get w.handles handle ≡ Some (named.View number view)
@@ -36,12 +36,12 @@ abbrev pub bytes_in_exporter : Option Exporter → ℕ → ℕ → List ℕ
 bytes_in_exporter (Some e) count place = bytes_at e.bytes count place
 bytes_in_exporter None count place = []
 
--- so many bytes of the exporter of a number, from a place on
+-- `count` bytes of the exporter that has this number, from a place on
 abbrev pub bytes_in_world : World → ℕ → ℕ → ℕ → List ℕ
 bytes_in_world w number count place = bytes_in_exporter (slice_get w.exporters number) count place
 
--- The normal form of a value by a format: what an item reads as that the value was written to. A handle counts as what it
--- names before it is written.
+-- The normal form of a value by a format. An item to which the value was written is read as this. A handle
+-- counts as what it names before the write.
 abbrev pub normal_item : World → Format → Value → Item
 normal_item w format v = item_of (normal_values (pairs_of w (handle_of_value v)) (fields format) (scalar_in v ∷ []))
 
@@ -50,12 +50,13 @@ abbrev pub ShareNoByte : ℕ → ℕ → ℕ → ℕ → ℕ → ℕ → Type 0
 ShareNoByte number place count other_number other_place other_count =
     (number ≢ other_number) ⊎ ((place + count ≤ other_place) ⊎ (other_place + other_count ≤ place))
 
--- ---- one item is written
+-- ---- a write to one item
 
--- A value was written to the item at a key of a handle: which item that is, and in which format. Only the bytes of that
--- item change, and each item of an unreleased view is where it was. In this world, and in each later one in which the
--- bytes of the item are the same, `get` of each item of this format that lies there replies the normal form of the value,
--- through whatever handle. (Of a view of no dimension `...` is no item: `get` replies the view itself.)
+-- A value was written to the item at a key of a handle. The fields say which item that is, and what its format
+-- is. Only the bytes of that item change, and each item of an unreleased view stays where it was. Now and in
+-- each later world in which the bytes of the item are the same, `get` of each item of this format that lies
+-- there replies the normal form of the value, through any handle. (In a view without dimensions the key `...`
+-- names no item: `get` replies the view itself.)
 pub record IsWrittenInWorld (old new : World) (handle : ℕ) (key v : Value) : Type 0 where
   pub number : ℕ
   pub place : ℕ
@@ -78,13 +79,13 @@ pub record IsWrittenInWorld (old new : World) (handle : ℕ) (key v : Value) : T
 
 -- ---- the laws
 
--- so it is wherever `set` of a view by a key that is no slice isn't refused, in a sound world
+-- This holds in a sound world, whenever `set` of a view by a key that is no slice isn't refused.
 abbrev pub WorldWritesAreSeen : Type 0
 WorldWritesAreSeen =
     (w new : World) (handle number k : ℕ) (key v : Value) → IsSoundWorld w → slice_get w.handles handle ≡ Some (named.View number k) → is_slice key ≡ false
     → wstep w (command.Do handle (verb.Set key v)) ≡ (new, reply.Ok) → IsWrittenInWorld w new handle key v
 
--- Where two items share no byte, `get` of the one replies after `set` of the other what it replied before.
+-- If two items share no byte, `set` of one doesn't change what `get` of the other replies.
 abbrev pub WritesApartAreNotSeen : Type 0
 WritesApartAreNotSeen =
     (w new : World) (handle number place other other_number other_place : ℕ) (key v other_key : Value) (layout its : Layout) → IsSoundWorld w
@@ -92,8 +93,8 @@ WritesApartAreNotSeen =
     → wstep w (command.Do handle (verb.Set key v)) ≡ (new, reply.Ok)
     → (wstep new (command.Do other (verb.Get other_key))).1 ≡ (wstep w (command.Do other (verb.Get other_key))).1
 
--- Where two items of one format lie at the same place, `get` of the one replies after `set` of the other the normal form
--- of the value that was set.
+-- If two items of one format lie at the same place, `get` of one after `set` of the other replies the normal
+-- form of the value that was set.
 abbrev pub SharedWritesAreSeen : Type 0
 SharedWritesAreSeen =
     (w new : World) (handle other number place : ℕ) (key v other_key : Value) (layout its : Layout) (format : Format) → IsSoundWorld w

@@ -10,25 +10,26 @@ use Rattle.pybuf_command.specs.declared.worlds.Command.{Command}
 use Rattle.pybuf_command.specs.declared.worlds.Reply.{Reply}
 use Rattle.pybuf_world.specs.World.{World, exporter_of, subject_of, handle_of, world_after_all, replies_of}
 
--- a name of an exporter that is there, or of a view or an iterator that it has
+-- A name is that of an exporter that is there, or of a view or an iterator that such an exporter has.
 pub record IsGiven (exporters : List Exporter) (name : Named) : Type 0 where
   pub exporter : Exporter
   pub there : slice_get exporters (exporter_of name) ≡ Some exporter
   pub has : has_subject exporter (subject_of name) ≡ true
 
--- Each exporter is sound, and no two items of any view of it share a byte. Each handle names an exporter that
--- is there, or a view or an iterator that one of them has, and each exporter is named by its handle.
+-- What holds of every world. Each exporter is sound, and no two items of one of its views share a byte. Each
+-- handle names an exporter that is there, or a view or an iterator that one of them has. Each exporter is named
+-- by its handle.
 pub record IsSoundWorld (w : World) : Type 0 where
   pub exporters_are_sound : All IsSoundExporter w.exporters
   pub items_lie_apart : All IsSpaced w.exporters
   pub names_are_given : All (IsGiven w.exporters) w.handles
   pub exporters_are_named : (i : ℕ) → i < length w.exporters → slice_get w.handles (handle_of w i) ≡ Some (named.Exporter i)
 
--- the world is sound after each command of the list
+-- The world is sound after each command of the list.
 abbrev pub StaysSound : World → List Command → Type 0
 StaysSound w commands = (k : ℕ) → IsSoundWorld (world_after_all w (take k commands))
 
--- a run that stopped before its end: world and replies are those of the first k commands
+-- The run stopped before its end: the world and the replies are those after the first k commands.
 abbrev pub StopsAt : World → List Command → World → List Reply → List Reply → Type 0
 StopsAt old commands new replies_before replies =
     (k : ℕ) × (k < length commands) × (new ≡ world_after_all old (take k commands)) × (replies ≡ replies_before ++ replies_of old (take k commands))

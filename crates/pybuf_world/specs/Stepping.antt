@@ -11,11 +11,11 @@ use Rattle.pybuf_exporter.specs.Step.{estep}
 use Rattle.pybuf_world.specs.declared.named.Target.{Target}
 use Rattle.pybuf_world.specs.World.{World, loan_for}
 
--- what each handle is lent as to an exporter of this number
+-- what each handle is lent as, to the exporter that has this number
 abbrev pub named_to : World → ℕ → ℕ → Option Loan
 named_to w i handle = given_loan (Some (loan_for w i handle))
 
--- the world with the exporter as it is after a command, before any handle is given, and the local reply
+-- the world after a command changed its exporter and before any handle is given, with the local reply
 abbrev pub local_step : World → Target → Verb → List (ℕ × Loan) → Option Exporter → World × LocalReply
 local_step w t v loans (Some e) =
     (record w { exporters = set w.exporters t.exporter (estep e t.subject v loans).0 }, (estep e t.subject v loans).1)

@@ -1,4 +1,4 @@
--- The world that the tables keep, and what holds of them.
+-- The world that the tables keep, and what holds of the tables.
 use Rattle.std.specs.Prelude.{◌≡◌, ℕ, ◌<◌, Bool, List, [], ◌∷◌, ◌++◌, length, slice_index, slice_get, Option, Some, None}
 use Rattle.pybuf_value.specs.declared.faults.Fault.TheVariants as fault
 use Rattle.pybuf_value.specs.declared.snaps.Snap.{Snap}
@@ -17,7 +17,7 @@ use Rattle.pybuf_world.specs.Sound.{IsSoundWorld}
 abbrev pub world_of_tables : Tables → World
 world_of_tables t = record { exporters = t.exporters; handles = t.handles.items }
 
--- these are the handles of the exporters, in order
+-- These are the handles of the exporters, in order.
 pub record AreOwners (w : World) (owners : List ℕ) : Type 0 where
   pub counted : length owners ≡ length w.exporters
   pub first : (i : ℕ) → i < length w.exporters → slice_index owners i ≡ handle_of w i
@@ -26,29 +26,29 @@ pub record IsKept (t : Tables) : Type 0 where
   pub sound : IsSoundWorld (world_of_tables t)
   pub owned : AreOwners (world_of_tables t) t.owners.items
 
--- the handles of the exporters after a reply: a new exporter has the next one
+-- The handles of the exporters after a reply. A new exporter gets the next handle.
 abbrev pub owners_after : List ℕ → ℕ → LocalReply → List ℕ
 owners_after owners next (local.Fresh snap) = owners ++ next ∷ []
 owners_after owners next _ = owners
 
--- the exporter is there, and the snap is the copy of its subject
+-- The exporter is there, and the snap is the copy of its subject.
 abbrev pub IsCopyAt : Option Exporter → Subject → Snap → Type 0
 IsCopyAt (Some e) s snap = IsCopyOf e s snap
 IsCopyAt None s snap = ⊥
 
--- the world with an exporter that is made of a copy, and its handle with that of its view, where it has one
+-- the world with a new exporter, which a copy makes, and with its handle, and that of its view if it has one
 abbrev pub with_made : Bool → World → Exporter → World × Reply
 with_made viewed w made = (
   record { exporters = w.exporters ++ made ∷ []; handles = handles_with_copy viewed (length w.exporters) w.handles },
   reply_with_copy viewed (length w.handles),
 )
 
--- the same of the copy of a subject of an exporter that is there
+-- the same for the copy of a subject of an exporter that is there
 abbrev pub with_copy : World → Option Exporter → Subject → Snap → World × Reply
 with_copy w (Some e) s snap = with_made (has_view snap.kind) w (made_of (is_readonly_subject e s) snap)
 with_copy w None s snap = (w, reply.Refused fault.UnknownName)
 
--- the reply makes an exporter
+-- The reply makes a new exporter.
 abbrev pub IsFresh : LocalReply → Type 0
 IsFresh (local.Fresh snap) = Unit {0}
 IsFresh _ = ⊥
