@@ -1,4 +1,4 @@
--- The views that show parts of a picture, and what is asked to cut them.
+-- The views that show parts of a picture, and what cutting them needs.
 use Rattle.std.specs.Prelude.{◌≡◌, ◌<◌, ℕ, pos, negsuc, false, List, [], ◌∷◌, drop, codes, slice_index, Some, None}
 use Rattle.std.specs.declared.ops.Range.{Range}
 use Rattle.pybuf_index.specs.Parts.{SliceParts}
@@ -15,7 +15,7 @@ part_of view = record {
   places = view.starts;
 }
 
--- such a view: its items are bytes that may be written, and no axis is empty
+-- The view is such a view: its items are bytes that may be written, and no axis is empty.
 pub record IsFrame (view : Layout) : Type 0 where
   pub format : view.format ≡ codes "B"
   pub itemsize : view.itemsize ≡ 1
@@ -25,7 +25,7 @@ pub record IsFrame (view : Layout) : Type 0 where
   pub some_column : 0 < (part_of view).columns
   pub some_channel : 0 < (part_of view).channels
 
--- each axis has an index in its slice
+-- Each axis has an index in its slice.
 abbrev pub IsSome : List ℕ → List SliceParts → Type 0
 IsSome shape slices = has_zero (drop 1 (counts_of (picks_of_each shape slices))) ≡ false
 

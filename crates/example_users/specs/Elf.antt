@@ -12,7 +12,7 @@ use Rattle.pybuf_desc.specs.Items.{bytes_at}
 use Rattle.pybuf_table.specs.Records.{rows}
 use Rattle.example_users.specs.declared.elf_file.SectionTable.{SectionTable}
 
--- the number of so many bytes at a place
+-- the number that has `size` bytes at a place
 abbrev pub number_at : List ℕ → ℕ → ℕ → ℕ
 number_at file size place = little_endian 0 (bytes_at file size place)
 
@@ -29,8 +29,9 @@ header_values_of file = do
       ∷ scalar.Int (pos (number_at file 2 62)) ∷ []
       )
 
--- Where the sections of a file are described: the header has the place of their table in the 8 bytes at 40, and in 2 bytes each
--- at 58, 60 and 62 the bytes that describe one, how many there are, and the number of the one that holds their names.
+-- Where the sections of a file are described. The header has the place of their table in the 8 bytes at 40. In
+-- 2 bytes each it has, at 58, how many bytes describe a section, at 60, how many sections there are, and at 62,
+-- which of them has their names.
 abbrev pub section_table_of : List ℕ → Result SectionTable Fault
 section_table_of file = do
   _ ← unless (nat_lt (length file) 64) fault.Struct
@@ -38,8 +39,8 @@ section_table_of file = do
   _ ← unless (not (number_at file 2 58 == 64)) fault.Value
   Ok (record { start = number_at file 8 40; count = number_at file 2 60; names = number_at file 2 62 })
 
--- The values of each section, by a format of 64 bytes, from the place of the table on; `IndexError` where the file ends before
--- the table does.
+-- The values of each section, by a format of 64 bytes, from the place of the table on. If the file ends before
+-- the table does, this is `IndexError`.
 abbrev pub sections_of : Format → List ℕ → Result (List (List Scalar)) Fault
 sections_of f file = do
   table ← section_table_of file

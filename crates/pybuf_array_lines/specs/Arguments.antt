@@ -1,5 +1,5 @@
--- What stands behind the first word of an operation's line: values of one kind each, spelled as on other lines, and numbers of
--- views.
+-- The arguments of an operation's line. Each is a value of one kind, spelled as on other lines, or the number
+-- of a view.
 use Rattle.std.specs.Prelude.{ℕ, ◌^◌, List, [], ◌∷◌, ℤ, Option, Some, None}
 use Rattle.pybuf_value.specs.Choosing.{◌>>=◌}
 use Rattle.pybuf_value.specs.declared.values.PySlice.{PySlice}
@@ -10,7 +10,7 @@ use Rattle.pybuf_value.specs.declared.values.Value.TheVariants as value
 use Rattle.pybuf_line.specs.Scalars.{number_below, handle_in}
 use Rattle.pybuf_line.specs.Spellings.{value_in}
 
--- a value without parts that is a whole number: a truth value is none
+-- a value without parts that is a whole number, which a truth value isn't
 abbrev pub whole_number_of : Scalar → Option ℤ
 whole_number_of (scalar.Int n) = Some n
 whole_number_of _ = None
@@ -20,7 +20,7 @@ abbrev pub number_of : Value → Option ℤ
 number_of (value.One one) = whole_number_of one
 number_of _ = None
 
--- values without parts, of which each is a whole number
+-- values without parts, if each is a whole number
 abbrev pub each_number : List Scalar → Option (List ℤ)
 each_number [] = Some []
 each_number (part ∷ more) = do
@@ -43,7 +43,7 @@ abbrev pub slice_of : Value → Option PySlice
 slice_of (value.Slice slice) = Some slice
 slice_of _ = None
 
--- the value of a kind that a word spells
+-- the value that a word spells, if it is of this kind
 abbrev pub argument_in : {A : Type 0} → (Value → Option A) → List ℕ → Option A
 argument_in kind word = do
   v ← value_in handle_in word

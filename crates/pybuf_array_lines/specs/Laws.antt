@@ -18,16 +18,16 @@ use Rattle.pybuf_array_lines.specs.Operations.{operation_in}
 use Rattle.pybuf_array_lines.specs.Inputs.{operations_in}
 use Rattle.pybuf_array_lines.specs.Replies.{array_reply_text}
 
--- the text of each reply holds no line feed
+-- The text of each reply has no line feed.
 abbrev pub ArrayRepliesAreSingle : Type 0
 ArrayRepliesAreSingle = (r : ArrayReply) → IsOneLine (array_reply_text r)
 
--- the operations of an input are those of its lines
+-- The operations of an input are those of its lines.
 abbrev pub OperationsAreOfLines : Type 0
 OperationsAreOfLines = (input : List ℕ) (operations : List ArrayOp) → operations_in input ≡ Ok operations →
     map operation_in (lines input) ≡ map Some operations
 
--- the line of the number that is told is no operation, and all lines before it are
+-- The line whose number is told is no operation, and all lines before it are.
 abbrev pub BadLineIsFirst : Type 0
 BadLineIsFirst = (input : List ℕ) (n : ℕ) → operations_in input ≡ Err n →
     (before : List ArrayOp) × (rest : List (Option ArrayOp))
@@ -35,7 +35,7 @@ BadLineIsFirst = (input : List ℕ) (n : ℕ) → operations_in input ≡ Err n 
 
 -- ---- how operations are written
 
--- by the values of the arguments
+-- how the arguments are written, as values
 abbrev pub written_number : ℤ → List ℕ
 written_number n = written_value handle_text (value.One (scalar.Int n))
 
@@ -69,7 +69,7 @@ written_words (op.Release view) = written_word word.Release ∷ decimal view ∷
 abbrev pub written_operation : ArrayOp → List ℕ
 written_operation o = join_with_byte (byte " ") (written_words o)
 
--- the operations that lines spell: numbers of 128 bits, views whose number is below 2^64
+-- the operations that lines spell: their numbers have 128 bits, and the numbers of their views are below 2^64
 abbrev pub IsSpelledOperation : ArrayOp → Type 0
 IsSpelledOperation (op.Append value) = Is128Bits value
 IsSpelledOperation (op.Extend values) = AllByRecursion Is128Bits values

@@ -1,4 +1,4 @@
--- The operation that a line spells: its first word, and what stands behind it with single blanks.
+-- The operation that a line spells. Its first word names it, and arguments follow it with single blanks.
 use Rattle.std.specs.Prelude.{ℕ, List, [], ◌∷◌, Option, Some, None}
 use Rattle.pybuf_value.specs.Choosing.{◌>>=◌}
 use Rattle.pybuf_array.specs.declared.operations.ArrayOp.{ArrayOp}
@@ -9,7 +9,7 @@ use Rattle.pybuf_array_lines.specs.declared.words.Word.TheVariants as word
 use Rattle.pybuf_array_lines.specs.Arguments.{number_of, numbers_of, bytes_of, slice_of, argument_in, view_in}
 use Rattle.pybuf_array_lines.specs.Words.{word_in}
 
--- the operations of a word alone
+-- the operations without arguments
 abbrev pub operation_alone : Word → Option ArrayOp
 operation_alone word.Pop = Some (op.Pop None)
 operation_alone word.Len = Some op.Len
@@ -19,7 +19,7 @@ operation_alone word.ByteSwap = Some op.ByteSwap
 operation_alone word.View = Some op.View
 operation_alone _ = None
 
--- those of one argument
+-- the operations with one argument
 abbrev pub operation_of_one : Word → List ℕ → Option ArrayOp
 operation_of_one word.Append value = do
   n ← argument_in number_of value
@@ -44,7 +44,7 @@ operation_of_one word.Release view = do
   Some (op.Release k)
 operation_of_one _ _ = None
 
--- those of two
+-- the operations with two arguments
 abbrev pub operation_of_two : Word → List ℕ → List ℕ → Option ArrayOp
 operation_of_two word.Insert index value = do
   i ← argument_in number_of index
@@ -64,7 +64,7 @@ operation_of_two word.ViewGet view index = do
   Some (op.ViewGet k i)
 operation_of_two _ _ _ = None
 
--- that of three
+-- the operation with three arguments
 abbrev pub operation_of_three : Word → List ℕ → List ℕ → List ℕ → Option ArrayOp
 operation_of_three word.ViewSet view index value = do
   k ← view_in view
@@ -73,7 +73,7 @@ operation_of_three word.ViewSet view index value = do
   Some (op.ViewSet k i n)
 operation_of_three _ _ _ _ = None
 
--- an operation by its word and the words behind it
+-- an operation by its first word and the words behind it
 abbrev pub operation_by : Word → List (List ℕ) → Option ArrayOp
 operation_by w [] = operation_alone w
 operation_by w (first ∷ []) = operation_of_one w first

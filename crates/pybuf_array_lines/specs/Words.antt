@@ -1,4 +1,4 @@
--- The first words of operations' lines: a table, of what is written for each, and of all of them.
+-- The first words of operations' lines. A function gives the text of each word, and a list has all of them.
 use Rattle.std.specs.Prelude.{ℕ, List, [], ◌∷◌, codes, Option}
 use Rattle.pybuf_line.specs.Words.{named_in}
 use Rattle.pybuf_array_lines.specs.declared.words.Word.{Word}

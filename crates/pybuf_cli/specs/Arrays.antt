@@ -16,22 +16,22 @@ use Rattle.pybuf_cli.specs.Program.{most, ending_for, ReadsInput}
 abbrev pub array_program : ArrayCode → List ArrayOp → List ℕ
 array_program c operations = array_reply_lines (replies_of (new_array c) operations)
 
--- what is due for the lines of an input: the text of the replies, or the one of a line that is no operation
+-- the text that is due for the lines of an input: that of the replies, or that of a line that is no operation
 abbrev pub array_due_for : ArrayCode → Result (List ArrayOp) ℕ → List ℕ
 array_due_for c (Ok operations) = array_program c operations
 array_due_for c (Err n) = bad_line_text n
 
--- the text that is due for a run of an input: none where it is too long
+-- the text that is due for a run of an input, or no text if the input is too long
 abbrev pub array_run_text : ArrayCode → List ℕ → List ℕ
 array_run_text c input = if nat_lt most (length input) then [] else array_due_for c (operations_in input)
 
--- how a run of an input ends where memory suffices and neither source nor sink fails
+-- how a run of an input ends, if memory suffices and neither the source nor the sink fails
 abbrev pub array_run_ending : List ℕ → Status
 array_run_ending input = if nat_lt most (length input) then status.TooLong else ending_for (operations_in input)
 
--- All of an input was read, each of its lines is an operation, and the text of the replies was put, no more and no less. From
--- each moment of the run to each later one the array has as many numbers, where a view that was made by the first is unreleased
--- at the second.
+-- All of the input was read, each of its lines is an operation, and just the text of the replies was put. Any
+-- two moments of the run are compared: if a view that was made by the first is unreleased at the second, the
+-- array has as many numbers at both.
 pub record IsDoneArray (c : ArrayCode) (input : List ℕ) (left held_before held : Option (List ℕ)) : Type 0 where
   pub all_read : left ≡ Some []
   pub short : length input ≤ most
@@ -40,8 +40,8 @@ pub record IsDoneArray (c : ArrayCode) (input : List ℕ) (left held_before held
   pub sound : KeepsLengthWhileViewed (new_array c) operations
   pub put : Put held_before (array_program c operations) held
 
--- All of an input was read, one of its lines is the first that is no operation, and the text that tells its number was put, no
--- more and no less.
+-- All of the input was read, a line of it is the first that is no operation, and just the text that tells its
+-- number was put.
 pub record IsBadLineArray (input : List ℕ) (left held_before held : Option (List ℕ)) : Type 0 where
   pub all_read : left ≡ Some []
   pub short : length input ≤ most
@@ -49,7 +49,7 @@ pub record IsBadLineArray (input : List ℕ) (left held_before held : Option (Li
   pub first : operations_in input ≡ Err line
   pub put : Put held_before (bad_line_text line) held
 
--- What the form `array` owes with a code, where the source tells its bytes.
+-- What the form `array` with a code promises, if the source tells its bytes.
 pub record RunsArray {S K : Type 0} (c : ArrayCode) (result : Status) (bytes_left : S → Option (List ℕ)) (bytes_held : K → Option (List ℕ))
     (source_before source : S) (sink_before sink : K) : Type 0 where
   pub reads : ReadsInput result bytes_left source_before source sink_before sink

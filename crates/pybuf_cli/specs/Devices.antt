@@ -1,7 +1,7 @@
--- What is taken from a source and put into a sink, where these tell their bytes, and the counts of their faults.
+-- What was read from a source and written to a sink, which tell their bytes and count their faults.
 use Rattle.std.specs.Prelude.{◌≡◌, ℕ, ◌-◌, ◌<◌, ◌≤◌, ◌^◌, ◌⊎◌, List, ◌++◌, length, take, Option, Some}
 
--- The source had the bytes before what is left.
+-- The source had these bytes before those that are left.
 abbrev pub Took : Option (List ℕ) → List ℕ → Option (List ℕ) → Type 0
 Took old bytes new = (left : List ℕ) → old ≡ Some left → (rest : List ℕ) × (left ≡ bytes ++ rest) × (new ≡ Some rest)
 
@@ -17,13 +17,13 @@ Put old bytes new = (held : List ℕ) → old ≡ Some held → new ≡ Some (he
 abbrev pub PutPrefix : Option (List ℕ) → List ℕ → Option (List ℕ) → Type 0
 PutPrefix old text new = (count : ℕ) × (count ≤ length text) × Put old (take count text) new
 
--- so it has of a text of which something holds
+-- This holds for a text of which `Due` holds.
 pub record PutsFrontOf (Due : List ℕ → Type 0) (old new : Option (List ℕ)) : Type 0 where
   pub text : List ℕ
   pub due : Due text
   pub front : PutPrefix old text new
 
--- A count of faults rose in a call. One that stands at its end can't rise.
+-- A count of faults rose in a call, or it is the greatest number and can't rise.
 abbrev pub Rose : ℕ → ℕ → Type 0
 Rose old new = (old < new) ⊎ (new ≡ 2 ^ 64 - 1)
 
@@ -32,7 +32,7 @@ pub record Counts (old new : ℕ) : Type 0 where
   pub later : old ≤ new
   pub bounded : new < 2 ^ 64
 
--- What was put of a text, with what waits behind it to be put.
+-- A part of the text was put into the sink, and the rest still waits to be put.
 pub record Sends (old : Option (List ℕ)) (text waiting : List ℕ) (new : Option (List ℕ)) : Type 0 where
   pub sent : List ℕ
   pub whole : text ≡ sent ++ waiting

@@ -1,4 +1,4 @@
--- What the program does with its words and its input.
+-- What the program does, by its words and its input.
 use Rattle.std.specs.Prelude.{◌≡◌, ◌↔◌, ◌⊎◌, ℕ, ◌<◌, ◌≤◌, suc, Bool, false, List, [], ◌∷◌, length, drop, codes, nat_lt, nat_le, ◌&&◌, ◌||◌, decimal, Option, Some, None, Result, Ok, Err, if◌then◌else◌}
 use Rattle.std.specs.Str.{bytes_eq}
 use Rattle.std.specs.Str.Parse.{digits_value}
@@ -24,11 +24,12 @@ use Rattle.pybuf_cli.specs.Devices.{Put, PutPrefix}
 abbrev pub most : ℕ
 most = 1_048_576
 
--- a number, where it is from 1 to 4,096 and the word writes it
+-- a number, if it is from 1 to 4,096 and the word writes it
 abbrev pub written_number : List ℕ → ℕ → Option ℕ
 written_number word n = if nat_le 1 n && nat_le n 4096 && bytes_eq word (decimal n) then Some n else None
 
--- The number of a script that a word writes in decimal digits: `decimal` writes no sign and no leading zeros.
+-- The number of a script, which a word writes in decimal digits. It has no sign and no leading zeros, since
+-- `decimal` writes none.
 unfoldable pub script_number_in : List ℕ → Option ℕ
 script_number_in word = written_number word (digits_value 10 word)
 
@@ -36,7 +37,7 @@ abbrev pub made : Option ℕ → Option Form
 made (Some n) = Some (form.Make n)
 made None = None
 
--- the code of an array that a word of one letter stands for
+-- the code of an array that a word of one letter names
 abbrev pub array_code_in : List ℕ → Option ArrayCode
 array_code_in (letter ∷ []) = code_of letter
 array_code_in _ = None
@@ -53,10 +54,11 @@ abbrev pub selecting : Option Selection → Option Form
 selecting (Some s) = Some (form.Nd s)
 selecting None = None
 
--- What the words ask for: a run with none, or with the one word `run`; sessions with the one word `share`; with the word
--- `make` and a number, what is told of the script of that number; with the word `array` and a code, a run of operations on an
--- array of that code; with the word `table`, the records of a format, or those that a query chooses; with the word `nd`, bytes in a
--- shape, of which slices pick some. Other words are no form.
+-- What the words ask for. No word, or the one word `run`, asks for a run. The one word `share` asks for
+-- sessions. The word `make` and a number ask for a summary of the script that has this number. The word `array`
+-- and a code ask for a run of operations on an array of that code. The word `table` asks for the records of a
+-- format, all of them or those that a query chooses. The word `nd` asks for bytes in a shape, of which slices
+-- pick some. Other words are no form.
 abbrev pub form_of : List (List ℕ) → Option Form
 form_of [] = Some form.Run
 form_of (word ∷ []) = if bytes_eq word (codes "run") then Some form.Run else (if bytes_eq word (codes "share") then Some form.Share else None)
@@ -70,53 +72,53 @@ form_of (word ∷ argument ∷ further ∷ more) =
     else if bytes_eq word (codes "nd") then selecting (selection_in (argument ∷ further ∷ more))
     else None
 
--- Words that take memory to be read: those behind `table`, since a format is kept with its fields, and those behind `nd`, since a
--- shape and slices are.
+-- Words that take memory to be read. Those behind `table` give a format, which is kept with its fields, and
+-- those behind `nd` give a shape and slices, which are kept too.
 abbrev pub take_memory : List (List ℕ) → Bool
 take_memory (word ∷ argument ∷ more) = bytes_eq word (codes "table") || bytes_eq word (codes "nd")
 take_memory _ = false
 
--- the form is one whose input is data, which may be of a length that doesn't fit
+-- The form's input is data, whose length may not fit.
 abbrev pub TakesData : Form → Type 0
 TakesData (form.Table l) = Unit {0}
 TakesData (form.Nd s) = Unit {0}
 TakesData _ = ⊥
 
--- the words ask for such a form or for nothing
+-- The words ask for such a form or for no form.
 abbrev pub AskForData : Option Form → Type 0
 AskForData None = Unit {0}
 AskForData (Some f) = TakesData f
 
--- what they ask for where there is one thread alone, which sessions need more of
+-- The form, if there is only one thread. Sessions need more threads.
 abbrev pub alone : Option Form → Option Form
 alone (Some form.Share) = None
 alone asked = asked
 
--- The program: a line for each reply of a world that begins empty.
+-- The text of a run: a line for each reply of a world that begins empty.
 abbrev pub program : List Command → List ℕ
 program commands = reply_lines handle_text (replies_of empty_world commands)
 
--- what is due for the lines of an input: the program's text, or the one of a line that is no command
+-- the text that is due for the lines of an input: that of the replies, or that of a line that is no command
 abbrev pub due_for : Result (List Command) ℕ → List ℕ
 due_for (Ok commands) = program commands
 due_for (Err n) = bad_line_text n
 
--- how lines end that spell something, each of them, or where one is the first that spells nothing
+-- how a run ends: each line spells something, or there is a first line that spells nothing
 abbrev pub ending_for : {X : Type 0} → Result X ℕ → Status
 ending_for (Ok read) = status.Done
 ending_for (Err n) = status.BadLine
 
--- the text that is due for a run of an input: none where it is too long
+-- the text that is due for a run of an input, or no text if the input is too long
 abbrev pub run_text : List ℕ → List ℕ
 run_text input = if nat_lt most (length input) then [] else due_for (commands_in handle_in input)
 
--- how a run of an input ends where memory suffices and neither source nor sink fails
+-- how a run of an input ends, if memory suffices and neither the source nor the sink fails
 abbrev pub run_ending : List ℕ → Status
 run_ending input = if nat_lt most (length input) then status.TooLong else ending_for (commands_in handle_in input)
 
--- All of an input was read, each of its lines is a command, and the text of the replies was put, no
--- more and no less. After each of the commands each byte of each unreleased view lies inside its
--- exporter, and that exporter is as long as when the view was made.
+-- All of the input was read, each of its lines is a command, and just the text of the replies was put. After
+-- each of the commands, each byte of each unreleased view lies inside its exporter, and that exporter is as
+-- long as when the view was made.
 pub record IsDone (input : List ℕ) (left held_before held : Option (List ℕ)) : Type 0 where
   pub all_read : left ≡ Some []
   pub short : length input ≤ most
@@ -125,8 +127,8 @@ pub record IsDone (input : List ℕ) (left held_before held : Option (List ℕ))
   pub sound : StaysSound empty_world commands
   pub put : Put held_before (program commands) held
 
--- All of an input was read, one of its lines is the first that is no command, and the text that
--- tells its number was put, no more and no less.
+-- All of the input was read, a line of it is the first that is no command, and just the text that tells its
+-- number was put.
 pub record IsBadLine (input : List ℕ) (left held_before held : Option (List ℕ)) : Type 0 where
   pub all_read : left ≡ Some []
   pub short : length input ≤ most
@@ -134,13 +136,13 @@ pub record IsBadLine (input : List ℕ) (left held_before held : Option (List �
   pub first : commands_in handle_in input ≡ Err line
   pub put : Put held_before (bad_line_text line) held
 
--- More bytes came than are read. The first that is too many was taken, and none after it.
+-- More bytes came than the program reads. The first that is too many was taken, and none after it.
 pub record IsTooLong (input : List ℕ) (left : Option (List ℕ)) : Type 0 where
   pub long : most < length input
   pub rest : left ≡ Some (drop (suc most) input)
 
--- The front of an input was taken, and no more of it than is read but for one byte, which was taken exactly where that is how
--- it ended.
+-- The front of an input was taken. At most one byte more was taken than the program reads, and that byte was
+-- taken exactly if the run ended as too long.
 pub record TakesFront (input : List ℕ) (result : Status) (left : Option (List ℕ)) : Type 0 where
   pub count : ℕ
   pub within : count ≤ length input
@@ -148,7 +150,7 @@ pub record TakesFront (input : List ℕ) (result : Status) (left : Option (List 
   pub rest : left ≡ Some (drop count input)
   pub too_long : (result ≡ status.TooLong) ↔ (count ≡ suc most)
 
--- What a form owes that reads its input, where the source tells its bytes.
+-- What a form that reads its input promises, if the source tells its bytes.
 pub record ReadsInput {S K : Type 0} (result : Status) (bytes_left : S → Option (List ℕ)) (source_before source : S) (sink_before sink : K) : Type 0 where
   pub too_long : result ≡ status.TooLong → (input : List ℕ) → bytes_left source_before ≡ Some input →
       IsTooLong input (bytes_left source)
@@ -157,7 +159,7 @@ pub record ReadsInput {S K : Type 0} (result : Status) (bytes_left : S → Optio
   pub unread_writes_nothing : (rest : List ℕ) → bytes_left source ≡ Some rest → 0 < length rest →
       sink ≡ sink_before
 
--- What the form `run` owes, where the source tells its bytes.
+-- What the form `run` promises, if the source tells its bytes.
 pub record Runs {S K : Type 0} (result : Status) (bytes_left : S → Option (List ℕ)) (bytes_held : K → Option (List ℕ))
     (source_before source : S) (sink_before sink : K) : Type 0 where
   pub reads : ReadsInput result bytes_left source_before source sink_before sink
@@ -166,7 +168,8 @@ pub record Runs {S K : Type 0} (result : Status) (bytes_left : S → Option (Lis
   pub bad_line : result ≡ status.BadLine → (input : List ℕ) → bytes_left source_before ≡ Some input →
       IsBadLine input (bytes_left source) (bytes_held sink_before) (bytes_held sink)
 
--- What the form `make` owes with a number, whatever the source tells: it isn't read.
+-- What the form `make` with a number promises. It doesn't read the source, so it doesn't matter what that
+-- tells.
 pub record Makes {S K : Type 0} (n : ℕ) (result : Status) (bytes_held : K → Option (List ℕ)) (source_before source : S) (sink_before sink : K) : Type 0 where
   pub made : result ≡ status.Done → Put (bytes_held sink_before) (summary n) (bytes_held sink)
   pub made_prefix : PutPrefix (bytes_held sink_before) (summary n) (bytes_held sink)

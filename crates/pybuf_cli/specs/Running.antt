@@ -1,4 +1,4 @@
--- What one line does to a world and to the text that is written.
+-- What one line does to a world, and to the text that is written.
 use Rattle.std.specs.Prelude.{◌≡◌, ℕ, List, ◌++◌, Some, Ok}
 use Rattle.pybuf_command.specs.declared.worlds.Command.{Command}
 use Rattle.pybuf_world.specs.World.{World, wstep}
@@ -8,18 +8,18 @@ use Rattle.pybuf_line.specs.Commands.{command_in}
 use Rattle.pybuf_line.specs.Lines.{commands_in}
 use Rattle.pybuf_line.specs.Replies.{reply_line}
 
--- the line is a command
+-- The line is a command.
 abbrev pub IsSpelled : List ℕ → Type 0
 IsSpelled line = (c : Command) × (command_in handle_in line ≡ Some c)
 
--- each line of the input is a command
+-- Each line of the input is a command.
 abbrev pub AreSpelled : List ℕ → Type 0
 AreSpelled input = (commands : List Command) × (commands_in handle_in input ≡ Ok commands)
 
--- the world has stepped by a command, and the line of its reply was added to the text
+-- The world made a step by a command, and the line of its reply was added to the text.
 abbrev pub IsCarriedOut : World → Command → List ℕ → World → List ℕ → Type 0
 IsCarriedOut old c text new longer = (new ≡ (wstep old c).0) × (longer ≡ text ++ reply_line handle_text (wstep old c).1)
 
--- so it is by the command of the line
+-- This holds for the command of the line.
 abbrev pub IsAnswered : World → List ℕ → List ℕ → World → List ℕ → Type 0
 IsAnswered old line text new longer = (c : Command) → command_in handle_in line ≡ Some c → IsCarriedOut old c text new longer

@@ -1,4 +1,4 @@
--- A script as it is written, a line for each command.
+-- The text of a script, which has a line for each command.
 use Rattle.std.specs.Prelude.{ℕ, ◌+◌, ◌*◌, ◌/◌, ◌%◌, ◌==◌, List, [], ◌∷◌, ◌++◌, codes, decimal, if◌then◌else◌}
 use Rattle.std.specs.List.{flat_map, range_with_len}
 use Rattle.pybuf_line.specs.Laws.{ended_line}
@@ -13,8 +13,8 @@ viewed_lines first second =
     ∷ (codes "release h" ++ decimal second)
     ∷ []
 
--- Each round adds a byte. After every fourth the first byte is taken out, and after every sixteenth the bytes are read
--- through two views, with the next two handles, while a byte is added.
+-- Each round adds a byte. After every fourth byte the first byte is taken out. After every sixteenth, the bytes
+-- are read through two views, which have the next two handles, while a byte is added.
 abbrev pub round_lines : ℕ → List (List ℕ)
 round_lines k =
     (codes "append h0 " ++ decimal ((7 * k + 3) % 256))

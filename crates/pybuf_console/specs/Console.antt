@@ -1,4 +1,4 @@
--- A world with the replies that are kept of what was asked of it.
+-- A world, with the replies that are kept of its commands.
 use Rattle.std.specs.Prelude.{◌≡◌, ◌⊎◌, ℕ, List, [], Option, Some, None, Result, Ok, Err}
 use Rattle.pybuf_command.specs.declared.worlds.Command.{Command}
 use Rattle.pybuf_command.specs.declared.worlds.Reply.{Reply}
@@ -13,7 +13,8 @@ use Rattle.pybuf_line.specs.Lines.{commands_in}
 use Rattle.pybuf_line.specs.declared.unread.Misread.{Misread}
 use Rattle.pybuf_line.specs.declared.unread.Misread.TheVariants as misread
 
--- A world, the replies of the lines that were run in it last, and the reply of the one command that was asked last.
+-- A world, with the replies to the lines that it ran last, and the reply to the single command that it was
+-- asked last.
 pub record Console : Type 0 where
   pub world : World
   pub replies : List Reply
@@ -22,7 +23,8 @@ pub record Console : Type 0 where
 abbrev pub empty_console : Console
 empty_console = record { world = empty_world; replies = []; last = reply.Ok }
 
--- Each line of the text is a command. The world has stepped by all of them, and their replies stand in place of those before.
+-- Each line of the text is a command. The world made a step by each of them, and their replies replace those
+-- from before.
 pub record HasRun (text : List ℕ) (old new : Console) : Type 0 where
   pub commands : List Command
   pub spelled : commands_in handle_in text ≡ Ok commands
@@ -30,15 +32,16 @@ pub record HasRun (text : List ℕ) (old new : Console) : Type 0 where
   pub replies : new.replies ≡ replies_of old.world commands
   pub last : new.last ≡ old.last
 
--- Each line of the text is a command. The world has stepped by some of them from the first on, and has the replies of these.
+-- Each line of the text is a command. The world made a step by each of the first ones, and has the replies to
+-- these.
 pub record HasStopped (text : List ℕ) (old new : Console) : Type 0 where
   pub commands : List Command
   pub spelled : commands_in handle_in text ≡ Ok commands
   pub stopped : StopsAt old.world commands new.world [] new.replies
   pub last : new.last ≡ old.last
 
--- What comes of a text: all of it was run; or nothing was, since the line of this number is the first that is no command; or
--- memory ran out, before the first command or behind some.
+-- What comes of a text. All of it was run. Or nothing was, since the line of this number is the first that is
+-- no command. Or memory ran out, before the first command or after some.
 abbrev pub Runs : {X : Type 0} → Result X Misread → List ℕ → Console → Console → Type 0
 Runs (Ok x) text old new = HasRun text old new
 Runs (Err (misread.BadLine n)) text old new = (commands_in handle_in text ≡ Err n) × (new ≡ old)
@@ -49,12 +52,12 @@ abbrev pub shown_reply : Option Reply → Option (List ℕ)
 shown_reply (Some reply) = Some (reply_text handle_text reply)
 shown_reply None = None
 
--- One command was carried out, and its reply is the last one. The replies of lines stay.
+-- One command was carried out, and its reply is the last one. The replies to lines stay.
 pub record HasAsked (command : Command) (old new : Console) : Type 0 where
   pub step : wstep old.world command ≡ (new.world, new.last)
   pub replies : new.replies ≡ old.replies
 
--- why a command was refused
+-- the fault of a reply, if it is a refusal
 abbrev pub refusal_of : Reply → Option Fault
 refusal_of (reply.Refused fault) = Some fault
 refusal_of _ = None

@@ -7,6 +7,7 @@ abbrev pub kept : Bool → Console → Option Console
 kept false console = None
 kept true console = Some console
 
--- The console of a handle; one that is empty, as it is before a world is made and after it was freed, has none.
+-- The console of a handle. A handle is empty before a world is made and after it was freed, and then it has
+-- none.
 abbrev pub held : WorldHandle → Option Console
 held handle = kept handle.full handle.address.console

@@ -1,4 +1,4 @@
--- What an address owns of a console.
+-- What memory the address of a console owns.
 use base.Fml.{Fml, ftrue}
 use base.Stored.{Coded}
 use denote.RawPtr.{Ptr}
@@ -12,7 +12,7 @@ use Rattle.pybuf_console.specs.contracts.console.Console.{the_row}
 abbrev pub console_coded : Coded Console
 console_coded = the_row.coded
 
--- nothing, where it is empty, and else the block of the console
+-- An empty address owns nothing, and any other owns the block of its console.
 abbrev pub address_owns : Global → Ptr → Bool → Console → Fml
 address_owns alloc at false console = ftrue
 address_owns alloc at true console = box_owns (ghosts.dealloc_token alloc) the_row at console

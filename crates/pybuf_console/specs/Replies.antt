@@ -7,7 +7,7 @@ use Rattle.pybuf_value.specs.declared.values.Item.TheVariants as item
 use Rattle.pybuf_command.specs.declared.worlds.Reply.{Reply}
 use Rattle.pybuf_command.specs.declared.worlds.Reply.TheVariants as reply
 
--- The objects that were made: one, which stands for both, or an exporter and its view.
+-- The objects that were made. A single object stands for both, and otherwise they are an exporter and its view.
 abbrev pub objects_of : Reply → Option (ℕ × ℕ)
 objects_of (reply.Handle handle) = Some (handle, handle)
 objects_of (reply.Pair exporter view) = Some (exporter, view)
@@ -36,7 +36,7 @@ abbrev pub bytes_of_item : Item → Option (List ℕ)
 bytes_of_item (item.One (scalar.Bytes bytes)) = Some bytes
 bytes_of_item _ = None
 
--- bytes, or the bytes of a text
+-- the bytes of a reply, or those of its text
 abbrev pub bytes_of : Reply → Option (List ℕ)
 bytes_of (reply.Bytes bytes) = Some bytes
 bytes_of (reply.Text text) = Some text
@@ -54,13 +54,14 @@ abbrev pub number_at_item : Option Item → Option ℤ
 number_at_item (Some i) = number_of_item i
 number_at_item None = None
 
--- the number at a place: of numbers, one for each dimension, or of items, row by row
+-- The number at a place. A reply of numbers has one for each dimension, and a reply of items has its items row
+-- by row.
 abbrev pub part_at : Reply → ℕ → Option ℤ
 part_at (reply.Numbers numbers) index = slice_get numbers index
 part_at (reply.Items shape items) index = number_at_item (slice_get items index)
 part_at _ index = None
 
--- which kind a reply is of
+-- the number of a reply's kind
 abbrev pub kind_of : Reply → ℕ
 kind_of reply.Ok = 0
 kind_of (reply.Handle handle) = 1

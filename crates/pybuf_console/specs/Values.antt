@@ -1,4 +1,4 @@
--- Values of commands, by the numbers and bytes that a caller passes.
+-- Values of commands, made of the numbers and bytes that a caller passes.
 use Rattle.std.specs.Prelude.{ℕ, ℤ, Bool, true, false, List, map, Some, None}
 use Rattle.pybuf_value.specs.declared.values.Scalar.{Scalar}
 use Rattle.pybuf_value.specs.declared.values.Scalar.TheVariants as scalar
@@ -17,7 +17,7 @@ bytes_value bytes = value.One (scalar.Bytes bytes)
 abbrev pub object_value : ℕ → Value
 object_value handle = value.One (scalar.Handle handle)
 
--- a part of a slice, or none
+-- a part of a slice, which may be None
 abbrev pub part_of : Bool → ℤ → Scalar
 part_of false number = scalar.None
 part_of true number = scalar.Int number
@@ -29,7 +29,7 @@ slice_of words = record {
   step = part_of words.has_step words.step;
 }
 
--- what an exporter is made of, where it is bytes
+-- the options of an exporter that is made of bytes
 abbrev pub source_of : List ℕ → ByteInnerNewOptions
 source_of bytes = record { source = Some (bytes_value bytes); encoding = None; errors = None }
 

@@ -1,14 +1,15 @@
--- Bytes that are copied to a room.
+-- Bytes that are copied into a room, which is memory that the caller gives.
 use Rattle.std.specs.Prelude.{◌≡◌, ◌<◌, ℕ, List, length, take, drop, Option, Some, None}
 use Rattle.pybuf_crossing.specs.declared.rooms.Handed.{Handed}
 use Rattle.pybuf_crossing.specs.declared.rooms.Handed.TheVariants as handed
 
--- Bytes stand at the front of a room, and behind them the room is as before.
+-- The bytes stand at the front of the room, and the rest of the room is as before.
 pub record IsCopied (bytes old new : List ℕ) : Type 0 where
   pub front : take (length bytes) new ≡ bytes
   pub rest : drop (length bytes) new ≡ drop (length bytes) old
 
--- What is handed out of bytes, where there are some: a copy with its length; or its length alone, where the room is shorter.
+-- What a caller gets of bytes, if there are some: a copy and its length. If the room is shorter, the caller
+-- gets the length alone.
 abbrev pub Hands : Handed → Option (List ℕ) → List ℕ → List ℕ → ℕ → ℕ → Type 0
 Hands handed.Whole (Some bytes) old new length_old length_new = (length_new ≡ length bytes) × IsCopied bytes old new
 Hands handed.Whole None old new length_old length_new = ⊥

@@ -7,10 +7,11 @@ use Rattle.pybuf_line.specs.Words.{written_word}
 use Rattle.pybuf_line.specs.Commands.{word_of, written_arguments}
 use Rattle.pybuf_histories.specs.Names.{subject_text, name_of}
 
--- the words of a command, as those of a line, with its subject and its handles named by what they are
+-- the words of a command, which are those of a line, but its subject and its handles have the names of what
+-- they are
 abbrev pub command_words : LocalCommand → List (List ℕ)
 command_words c = written_word (word_of c.verb) ∷ subject_text c.subject ∷ written_arguments (name_of c.loans) c.verb
 
--- with a blank between each two of them
+-- the text of a command, which has a blank between each two words
 unfoldable pub command_text : LocalCommand → List ℕ
 command_text c = join_with_byte (byte " ") (command_words c)

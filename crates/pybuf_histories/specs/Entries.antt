@@ -1,4 +1,4 @@
--- The text of a history: a line for each entry, and what stands behind the last one.
+-- The text of a history: a line for each entry, and the lines behind the last one.
 use Rattle.std.specs.Prelude.{ℕ, List, [], ◌∷◌, ◌++◌, length, codes, decimal}
 use Rattle.std.specs.Str.{byte}
 use Rattle.std.specs.List.{flat_map}
@@ -12,11 +12,11 @@ use Rattle.pybuf_histories.specs.Replies.{local_reply_text}
 unfoldable pub entry_text : Entry → List ℕ
 entry_text x = decimal x.session ++ codes ": " ++ command_text x.command ++ codes " -> " ++ local_reply_text x.command.subject x.reply
 
--- with its line feed
+-- an entry as a line, with its line feed
 abbrev pub entry_line : Entry → List ℕ
 entry_line x = entry_text x ++ byte "\n" ∷ []
 
--- the number of entries, and the bytes that there are in the end, a line each
+-- two lines: the number of entries, and the bytes that there are in the end
 unfoldable pub last_lines : ℕ → List ℕ → List ℕ
 last_lines calls bytes = codes "calls " ++ decimal calls ++ codes "\nbytes " ++ bytes_text bytes ++ codes "\n"
 

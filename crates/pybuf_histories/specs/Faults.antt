@@ -1,4 +1,4 @@
--- The text of why sessions don't agree with a history: one line.
+-- The line that says why sessions don't agree with a history.
 use Rattle.std.specs.Prelude.{ℕ, List, [], ◌++◌, codes, decimal, Option, Some, None}
 use Rattle.pybuf_value.specs.Spelling.{bytes_text}
 use Rattle.pybuf_command.specs.declared.kinds.ExporterKind.{ExporterKind}
@@ -8,7 +8,7 @@ use Rattle.pybuf_share.specs.declared.joined.FinishFault.TheVariants as fault
 use Rattle.pybuf_line.specs.Words.{written_kind}
 use Rattle.pybuf_histories.specs.Entries.{entry_text}
 
--- what the history has at a number, where it has one
+-- the entry that the history has at a number, if it has one
 abbrev pub kept_text : Option Entry → List ℕ
 kept_text (Some kept) = entry_text kept
 kept_text None = codes "none"

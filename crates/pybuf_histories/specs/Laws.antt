@@ -11,27 +11,27 @@ use Rattle.pybuf_line.specs.Laws.{IsOneLine, IsSpelledVerb}
 use Rattle.pybuf_histories.specs.Replies.{local_reply_text}
 use Rattle.pybuf_histories.specs.Entries.{entry_text, shared_text}
 
--- the reply of each entry of a legal history is one line
+-- The reply of each entry of a legal history is one line.
 abbrev pub RepliesOfEntriesAreSingle : Type 0
 RepliesOfEntriesAreSingle =
     (k : ExporterKind) (opening : List ℕ) (entries : List Entry) → IsLegal k opening entries →
     AllByRecursion (λ x. IsOneLine (local_reply_text x.command.subject x.reply)) entries
 
--- what the entries ask are commands that lines spell
+-- The commands of the entries are commands that lines spell.
 abbrev pub AreSpelled : List Entry → Type 0
 AreSpelled entries = AllByRecursion (λ x. IsSpelledVerb x.command.verb) entries
 
--- then the text of each entry of a legal history is one line
+-- Then the text of each entry of a legal history is one line.
 abbrev pub EntriesAreSingle : Type 0
 EntriesAreSingle =
     (k : ExporterKind) (opening : List ℕ) (entries : List Entry) → IsLegal k opening entries → AreSpelled entries →
     AllByRecursion (λ x. IsOneLine (entry_text x)) entries
 
--- a line for each entry, and two more
+-- the lines of a history: one for each entry, and two more
 abbrev pub lines_due : List Entry → List ℕ → List (List ℕ)
 lines_due entries bytes = map entry_text entries ++ (codes "calls " ++ decimal (length entries)) ∷ (codes "bytes " ++ bytes_text bytes) ∷ []
 
--- these are the lines of its whole text
+-- These are the lines of its whole text.
 abbrev pub SharedTextHasItsLines : Type 0
 SharedTextHasItsLines =
     (k : ExporterKind) (opening : List ℕ) (entries : List Entry) (e : Exporter) → IsLegal k opening entries → AreSpelled entries →

@@ -1,4 +1,4 @@
--- What views, iterators and the handles of a command are called in the text of a history.
+-- How the text of a history names views, iterators and the handles of a command.
 use Rattle.std.specs.Prelude.{ℕ, ◌-◌, ◌^◌, ◌==◌, List, ◌∷◌, codes, decimal, Option, Some, None, if◌then◌else◌}
 use Rattle.std.specs.Str.{byte}
 use Rattle.hex.specs.Hex.{encode_lower}
@@ -16,7 +16,7 @@ view_name k = byte "v" ∷ decimal k
 abbrev pub iterator_name : ℕ → List ℕ
 iterator_name k = byte "j" ∷ decimal k
 
--- the name of what has a number, where the greatest number stands for what wasn't given
+-- The name of the view or the iterator that has a number. The greatest number stands for what wasn't given.
 abbrev pub name_if_given : (ℕ → List ℕ) → ℕ → List ℕ
 name_if_given name k = if k == 2 ^ 64 - 1 then codes "none" else name k
 

@@ -9,8 +9,9 @@ use Rattle.pybuf_command.specs.declared.worlds.Reply.TheVariants as reply
 use Rattle.pybuf_command.specs.Shown.{reply_text}
 use Rattle.pybuf_histories.specs.Names.{view_name, iterator_name, subject_text}
 
--- The reply to a command of a subject. A view and an iterator that were made, the exporter and the subject are named as in
--- commands, and of what a new exporter is to be made of the bytes are shown. Every other reply is the text of its line.
+-- The text of the reply to a command on a subject. A new view or iterator, the exporter and the subject are
+-- named as in commands. If a new exporter is to be made, its bytes are shown. Every other reply has the text of
+-- its line.
 abbrev pub local_reply_text : Subject → LocalReply → List ℕ
 local_reply_text asked (local.View k) = view_name k
 local_reply_text asked (local.Iter k) = iterator_name k

@@ -1,4 +1,4 @@
--- Parts and words as they are written one after the other.
+-- How parts and words are written, one after the other.
 use Rattle.std.specs.Prelude.{ℕ, List, ◌∷◌}
 use Rattle.std.specs.Str.{byte}
 use Rattle.std.specs.List.{flat_map}

@@ -1,4 +1,5 @@
--- The command that a line spells, and how a command is written. How a handle is read and written is given.
+-- The command that a line spells, and how a command is written. A parameter says how a handle is read or
+-- written.
 use Rattle.std.specs.Prelude.{ℕ, List, [], ◌∷◌, length, map, Option, Some, None, if◌then◌else◌}
 use Rattle.std.specs.List.{join_with_byte}
 use Rattle.pybuf_value.specs.Choosing.{◌>>=◌}
@@ -36,10 +37,10 @@ options_in name_in (source ∷ encoding ∷ errors ∷ []) = do
   Some (record { source = Some s; encoding = Some e; errors = Some h })
 options_in name_in _ = None
 
--- ---- the table of verbs, by how many values stand after the subject: a verb of values has a line here for each number of
--- them that it takes. Those of other arguments are the four below, in `verb_in`.
+-- ---- the table of verbs, by how many values stand after the subject: a verb with values has a line here for
+-- each number of values that it takes. The four verbs with other arguments are below, in `verb_in`.
 
--- the verbs of no argument
+-- the verbs without arguments
 abbrev pub verb_alone : Word → Option Verb
 verb_alone word.View = Some verb.View
 verb_alone word.ToBytes = Some (verb.ToBytes None)
@@ -63,7 +64,7 @@ verb_alone word.Take = Some verb.Take
 verb_alone word.Copy = Some verb.Copy
 verb_alone _ = None
 
--- those of one value
+-- the verbs with one value
 abbrev pub verb_of_one : Word → Value → Option Verb
 verb_of_one word.Get key = Some (verb.Get key)
 verb_of_one word.Cast format = Some (verb.Cast format None)
@@ -80,7 +81,7 @@ verb_of_one word.IAdd item = Some (verb.IAdd item)
 verb_of_one word.IMul count = Some (verb.IMul count)
 verb_of_one _ _ = None
 
--- those of two values
+-- the verbs with two values
 abbrev pub verb_of_two : Word → Value → Value → Option Verb
 verb_of_two word.Set key item = Some (verb.Set key item)
 verb_of_two word.Cast format shape = Some (verb.Cast format (Some shape))
@@ -90,7 +91,7 @@ verb_of_two word.Hex sep group = Some (verb.Hex (Some sep) (Some group))
 verb_of_two word.Insert index item = Some (verb.Insert index item)
 verb_of_two _ _ _ = None
 
--- a verb of values, by its word and the words of these
+-- a verb with values, by its word and the words of the values
 abbrev pub verb_by_values : (List ℕ → Option ℕ) → Word → List (List ℕ) → Option Verb
 verb_by_values name_in w [] = verb_alone w
 verb_by_values name_in w (first ∷ []) = do
@@ -102,16 +103,16 @@ verb_by_values name_in w (first ∷ second ∷ []) = do
   verb_of_two w a b
 verb_by_values _ _ _ = None
 
--- ---- verbs of other arguments
+-- ---- verbs with other arguments
 
--- a property by its name
+-- `prop`, by the name of the property
 abbrev pub property_asked : List (List ℕ) → Option Verb
 property_asked (name ∷ []) = do
   n ← property_in name
   Some (verb.Property n)
 property_asked _ = None
 
--- a comparison by its operator and the other side
+-- `compare`, by its operator and the value on the other side
 abbrev pub comparison_in : (List ℕ → Option ℕ) → List (List ℕ) → Option Verb
 comparison_in name_in (operator ∷ other ∷ []) = do
   o ← operator_in operator
@@ -119,7 +120,7 @@ comparison_in name_in (operator ∷ other ∷ []) = do
   Some (verb.Compare o v)
 comparison_in _ _ = None
 
--- new bytes by their options
+-- `init`, by its options
 abbrev pub init_in : (List ℕ → Option ℕ) → List (List ℕ) → Option Verb
 init_in name_in arguments = do
   options ← options_in name_in arguments
@@ -129,7 +130,7 @@ init_in name_in arguments = do
 abbrev pub values_in : (List ℕ → Option ℕ) → List (List ℕ) → Option (List Value)
 values_in name_in words = each (value_in name_in) words
 
--- a call of a method, where that takes so many arguments
+-- a call of a method, if the method takes so many arguments
 abbrev pub call_of : MethodName → List Value → Option Verb
 call_of name args = if takes name (length args) then Some (verb.Call (record { name = name; args = args })) else None
 
@@ -141,7 +142,7 @@ call_in name_in (name ∷ arguments) = do
   args ← values_in name_in arguments
   call_of method args
 
--- A line `WORD hN ARGS` by its word and its arguments.
+-- A line `WORD hN ARGS`, by its word and its arguments.
 abbrev pub verb_in : (List ℕ → Option ℕ) → Word → List (List ℕ) → Option Verb
 verb_in name_in word.Property arguments = property_asked arguments
 verb_in name_in word.Compare arguments = comparison_in name_in arguments
@@ -190,7 +191,7 @@ word_of (verb.Init options) = word.Init
 word_of verb.Take = word.Take
 word_of verb.Copy = word.Copy
 
--- the values that options are written with, where each comes only after the one before
+-- the values that options are written with, each of which comes only after the one before
 abbrev pub written_values : (ℕ → List ℕ) → Option Value → Option Value → Option Value → List (List ℕ)
 written_values name (Some source) None _ = written_value name source ∷ []
 written_values name (Some source) (Some encoding) None = written_value name source ∷ written_value name encoding ∷ []
@@ -204,7 +205,7 @@ written_options name options = written_values name options.source options.encodi
 abbrev pub written_call : (ℕ → List ℕ) → MethodCall → List (List ℕ)
 written_call name method = written_method method.name ∷ map (written_value name) method.args
 
--- the values of a verb that has no other arguments
+-- the values of a verb without other arguments
 abbrev pub values_of : Verb → List Value
 values_of (verb.Get key) = key ∷ []
 values_of (verb.Set key item) = key ∷ item ∷ []
@@ -227,7 +228,7 @@ values_of (verb.IAdd item) = item ∷ []
 values_of (verb.IMul count) = count ∷ []
 values_of _ = []
 
--- the words after the subject that a verb is written with
+-- the words that a verb is written with, after the subject
 abbrev pub written_arguments : (ℕ → List ℕ) → Verb → List (List ℕ)
 written_arguments name (verb.Property property) = written_name property ∷ []
 written_arguments name (verb.Compare operator other) = written_operator operator ∷ written_value name other ∷ []
@@ -235,7 +236,7 @@ written_arguments name (verb.Init options) = written_options name options
 written_arguments name (verb.Call method) = written_call name method
 written_arguments name v = map (written_value name) (values_of v)
 
--- what is asked of a handle
+-- what a line asks of a handle
 abbrev pub asked : ℕ → Option Verb → Option Command
 asked subject asks = do
   v ← asks

@@ -31,56 +31,56 @@ use Rattle.pybuf_command.specs.Shown.{reply_text}
 abbrev pub ended_line : List ℕ → List ℕ
 ended_line line = line ++ byte "\n" ∷ []
 
--- the lines of an input, each with its line feed, are the input, which may lack the last one
+-- The lines of an input, each with its line feed, make up the input. The input may lack the last line feed.
 abbrev pub LinesJoin : Type 0
 LinesJoin = (input : List ℕ) → (flat_map ended_line (lines input) ≡ input) ⊎ (flat_map ended_line (lines input) ≡ ended_line input)
 
--- no line holds a line feed
+-- The line has no line feed.
 abbrev pub IsOneLine : List ℕ → Type 0
 IsOneLine line = list_any (λ b. b == byte "\n") line ≡ false
 
 abbrev pub LinesAreSingle : Type 0
 LinesAreSingle = (input : List ℕ) → AllByRecursion IsOneLine (lines input)
 
--- the words of a line with a blank between them are the line
+-- The words of a line, with blanks between them, make up the line.
 abbrev pub WordsJoin : Type 0
 WordsJoin = (line : List ℕ) → join_with_byte (byte " ") (words line) ≡ line
 
--- the commands of an input are those of its lines
+-- The commands of an input are those of its lines.
 abbrev pub CommandsAreOfLines : Type 0
 CommandsAreOfLines = (name_in : List ℕ → Option ℕ) (input : List ℕ) (commands : List Command) → commands_in name_in input ≡ Ok commands →
     map (command_in name_in) (lines input) ≡ map Some commands
 
--- the line of the number that is told is no command, and all lines before it are
+-- The line whose number is told is no command, and all lines before it are.
 abbrev pub BadLineIsFirst : Type 0
 BadLineIsFirst = (name_in : List ℕ → Option ℕ) (input : List ℕ) (n : ℕ) → commands_in name_in input ≡ Err n →
     (before : List Command) × (rest : List (Option Command))
     × (map (command_in name_in) (lines input) ≡ map Some before ++ None ∷ rest) × (n ≡ length before + 1)
 
--- what a reply shows as it is, where it does, is one line
+-- If a reply shows a text as it is, that text is one line.
 abbrev pub ShowsOneLine : Reply → Type 0
 ShowsOneLine r = (text : List ℕ) → r ≡ reply.Shown text → IsOneLine text
 
--- the text of a reply holds no line feed
+-- The text of a reply has no line feed.
 abbrev pub RepliesAreSingle : (ℕ → List ℕ) → Type 0
 RepliesAreSingle name = (r : Reply) → ShowsOneLine r → IsOneLine (reply_text name r)
 
--- whatever the names of handles are, if each is one line
+-- This holds however handles are named, if each name is one line.
 abbrev pub NamesStaySingle : Type 0
 NamesStaySingle = (name : ℕ → List ℕ) → ((n : ℕ) → IsOneLine (name n)) → RepliesAreSingle name
 
--- The parts between commas, with a comma between each two, are the text.
+-- The parts of a text, with commas between them, make up the text.
 abbrev pub PartsJoin : Type 0
 PartsJoin = (text : List ℕ) → join_with_byte (byte ",") (parts_outside_quotes text) ≡ text
 
--- No part has a comma but between quotes: it is its own only part.
+-- A part has commas only between quotes: it is its own only part.
 abbrev pub IsOnePart : List ℕ → Type 0
 IsOnePart part = parts_outside_quotes part ≡ part ∷ []
 
 abbrev pub PartsAreSingle : Type 0
 PartsAreSingle = (text : List ℕ) → AllByRecursion IsOnePart (parts_outside_quotes text)
 
--- What stands between two bytes, with these bytes round it, is the text.
+-- The text is the opening byte, what stands between, and the closing byte.
 abbrev pub EnclosedIsBetween : Type 0
 EnclosedIsBetween = (opening closing : ℕ) (text inner : List ℕ) → enclosed_text opening closing text ≡ Some inner → text ≡ opening ∷ inner ++ closing ∷ []
 
@@ -103,7 +103,7 @@ IsSpelled _ = Unit {0}
 abbrev pub ScalarsReadBack : Type 0
 ScalarsReadBack = (s : Scalar) → IsSpelled s → scalar_in handle_in (written_scalar handle_text s) ≡ Some s
 
--- the values that may stand in a slice: a text is none
+-- the values that may stand in a slice, which a text may not
 abbrev pub IsSlicePart : Scalar → Type 0
 IsSlicePart (scalar.Text text) = ⊥
 IsSlicePart s = IsSpelled s
@@ -123,12 +123,12 @@ IsSpelledValue (value.Slices slices) = (0 < length slices) × AllByRecursion IsS
 abbrev pub ValuesReadBack : Type 0
 ValuesReadBack = (v : Value) → IsSpelledValue v → value_in handle_in (written_value handle_text v) ≡ Some v
 
--- Every one of a table is read back as it was written, and no other text is read as it.
+-- Each entry of a list is read back from its text, and no other text is read as that entry.
 pub record IsRead {A : Type 0} (name : A → List ℕ) (named : List ℕ → Option A) (IsIn : A → Type 0) : Type 0 where
   pub read : (one : A) → IsIn one → named (name one) ≡ Some one
   pub written : (text : List ℕ) (one : A) → named text ≡ Some one → text ≡ name one
 
--- all of a kind
+-- all values of a kind
 abbrev pub IsAny : {A : Type 0} → A → Type 0
 IsAny one = Unit {0}
 
@@ -147,7 +147,7 @@ PropertiesReadBack = IsRead written_name property_in IsAny
 abbrev pub MethodsReadBack : Type 0
 MethodsReadBack = IsRead written_method method_in IsAny
 
--- the options that lines spell: none, a source, a source with its encoding, or all three
+-- the options that lines spell: no option, a source, a source with its encoding, or all three
 abbrev pub AreSpelledValues : Option Value → Option Value → Option Value → Type 0
 AreSpelledValues None None None = Unit {0}
 AreSpelledValues (Some source) None None = IsSpelledValue source
@@ -158,11 +158,11 @@ AreSpelledValues _ _ _ = ⊥
 abbrev pub AreSpelledOptions : ByteInnerNewOptions → Type 0
 AreSpelledOptions options = AreSpelledValues options.source options.encoding options.errors
 
--- the calls that lines spell: as many arguments as the method takes
+-- the calls that lines spell, which have as many arguments as the method takes
 abbrev pub IsSpelledCall : MethodCall → Type 0
 IsSpelledCall method = IsTrue (takes method.name (length method.args)) × AllByRecursion IsSpelledValue method.args
 
--- the verbs that lines spell: those that lines spell the values of, where none stands behind one that is left out
+-- The verbs that lines spell. Lines must spell their values, and no value stands behind one that is left out.
 abbrev pub IsSpelledVerb : Verb → Type 0
 IsSpelledVerb (verb.Compare operator other) = IsSpelledValue other
 IsSpelledVerb (verb.Hex None (Some group)) = ⊥

@@ -1,4 +1,5 @@
--- The methods of strings of bytes that lines call: a table as those of words, of what is written for each, and of all of them.
+-- The methods of strings of bytes that lines can call. As for the words, a function gives the text of each
+-- method, and a list has all of them.
 use Rattle.std.specs.Prelude.{ℕ, List, [], ◌∷◌, codes, Option}
 use Rattle.pybuf_command.specs.declared.methods.MethodName.{MethodName}
 use Rattle.pybuf_command.specs.declared.methods.MethodName.TheVariants as name

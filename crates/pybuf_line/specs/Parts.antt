@@ -1,15 +1,15 @@
--- How texts are cut into parts, and what is read from parts.
+-- How a text is cut into parts, and how the parts are read.
 use Rattle.std.specs.Prelude.{ℕ, Bool, false, List, [], ◌∷◌, ◌==◌, ◌&&◌, not, Option, Some, if◌then◌else◌}
 use Rattle.std.specs.List.{slice_split, onto_first}
 use Rattle.std.specs.Str.{byte}
 use Rattle.pybuf_value.specs.Choosing.{◌>>=◌}
 
--- the parts of a text between the places of a byte
+-- the parts of a text between the places at which a byte stands
 abbrev pub parts_at : ℕ → List ℕ → List (List ℕ)
 parts_at separator text = slice_split (λ b. b == separator) text
 
--- the parts of a text between its commas, but for those between quotes, where the text itself
--- begins between quotes or not
+-- The parts of a text between its commas, where commas between quotes don't count. The text itself may begin
+-- between quotes.
 abbrev pub parts_from : Bool → List ℕ → List (List ℕ)
 parts_from quoted [] = [] ∷ []
 parts_from quoted (b ∷ rest) =
@@ -20,7 +20,7 @@ parts_from quoted (b ∷ rest) =
 abbrev pub parts_outside_quotes : List ℕ → List (List ℕ)
 parts_outside_quotes text = parts_from false text
 
--- what each part spells, where every one spells something
+-- what each part spells, if every part spells something
 abbrev pub each : {A : Type 0} → (List ℕ → Option A) → List (List ℕ) → Option (List A)
 each spelled [] = Some []
 each spelled (part ∷ more) = do

@@ -13,6 +13,6 @@ reply_line name reply = reply_text name reply ++ byte "\n" ∷ []
 abbrev pub reply_lines : (ℕ → List ℕ) → List Reply → List ℕ
 reply_lines name replies = flat_map (reply_line name) replies
 
--- what is written of an input whose line of this number is no command
+-- the text for an input whose line of this number is no command
 abbrev pub bad_line_text : ℕ → List ℕ
 bad_line_text n = codes "line " ++ decimal n ++ codes " is not a command\n"

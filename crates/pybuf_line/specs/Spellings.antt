@@ -1,4 +1,4 @@
--- How values are read from a line and written on one, by how a handle is.
+-- How values are read from a line and written to one, by the way in which a handle is read or written.
 use Rattle.std.specs.Prelude.{ℕ, List, [], ◌∷◌, ◌++◌, map, Option, Some, None}
 use Rattle.std.specs.List.{join_with_byte}
 use Rattle.std.specs.Str.{byte}
@@ -22,7 +22,7 @@ slice_of name_in _ = None
 abbrev pub slice_in : (List ℕ → Option ℕ) → List ℕ → Option PySlice
 slice_in name_in text = slice_of name_in (parts_at (byte ":") text)
 
--- scalars joined by `,`, maybe none
+-- Scalars that are joined by `,`. There may be none.
 abbrev pub scalars_in : (List ℕ → Option ℕ) → List ℕ → Option (List Scalar)
 scalars_in name_in [] = Some []
 scalars_in name_in (first ∷ rest) = each (scalar_in name_in) (parts_outside_quotes (first ∷ rest))
@@ -70,7 +70,7 @@ value_in name_in text = one_in name_in text or_else slice_value_in name_in text 
 abbrev pub written_slice : (ℕ → List ℕ) → PySlice → List ℕ
 written_slice name slice = join_with_byte (byte ":") (written_scalar name slice.start ∷ written_scalar name slice.stop ∷ written_scalar name slice.step ∷ [])
 
--- how parts are written, by the text of a part
+-- how parts are written, by how one part is
 abbrev pub written_parts : {A : Type 0} → (A → List ℕ) → List A → List ℕ
 written_parts text parts = join_with_byte (byte ",") (map text parts)
 

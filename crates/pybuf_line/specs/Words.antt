@@ -1,5 +1,5 @@
--- The words of a line, and those that name something: each kind of these is a table, of what is written for each, and of all
--- of them.
+-- The words of a line. For each kind of words that name something, a function gives the text of each, and a
+-- list has all of them.
 use Rattle.std.specs.Prelude.{ℕ, ◌==◌, true, false, List, [], ◌∷◌, length, codes, Option, if◌then◌else◌}
 use Rattle.std.specs.Str.{bytes_eq}
 use Rattle.std.specs.List.{find}
@@ -13,11 +13,11 @@ use Rattle.pybuf_line.specs.declared.words.Word.{Word}
 use Rattle.pybuf_line.specs.declared.words.Word.TheVariants as word
 use Rattle.pybuf_line.specs.Parts.{parts_at}
 
--- The words of a line have one blank between them.
+-- The words of a line are separated by single blanks.
 abbrev pub words : List ℕ → List (List ℕ)
 words line = parts_at 32 line
 
--- the one of a table that a text names, byte by byte, by what is written for each
+-- the entry of a list whose text is this one, byte by byte, if there is one
 abbrev pub named_in : {A : Type 0} → (A → List ℕ) → List A → List ℕ → Option A
 named_in name table text = find (λ one. bytes_eq text (name one)) table
 
@@ -71,12 +71,12 @@ every_word =
     ∷ word.Contains ∷ word.Hex ∷ word.Call ∷ word.Del ∷ word.Append ∷ word.Extend ∷ word.Insert ∷ word.Pop
     ∷ word.Remove ∷ word.Clear ∷ word.Reverse ∷ word.IAdd ∷ word.IMul ∷ word.Init ∷ word.Take ∷ word.Copy ∷ []
 
--- those of a table whose texts have so many bytes, by what is written for each
+-- the entries of a list whose texts have n bytes
 abbrev pub of_length : {A : Type 0} → ℕ → (A → List ℕ) → List A → List A
 of_length n name [] = []
 of_length n name (first ∷ more) = if length (name first) == n then first ∷ of_length n name more else of_length n name more
 
--- the first words of so many letters
+-- the first words that have n letters
 abbrev pub words_of_length : ℕ → List Word
 words_of_length n = of_length n written_word every_word
 

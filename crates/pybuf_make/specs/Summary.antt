@@ -16,16 +16,16 @@ abbrev pub bytes_of : Option Exporter → List ℕ
 bytes_of (Some e) = e.bytes
 bytes_of None = []
 
--- the bytes of the first exporter of a world, where there is one
+-- the bytes of the first exporter of a world, if there is one
 abbrev pub first_bytes : World → List ℕ
 first_bytes w = bytes_of (slice_get w.exporters 0)
 
--- a line of a word and a number
+-- a line that has a word and a number
 abbrev pub counted : List ℕ → ℕ → List ℕ
 counted word n = word ++ codes " " ++ decimal n ++ codes "\n"
 
--- What is told of a run: how many lines it had, how many replies were refusals, and of its last world how many
--- handles were given, how long the first exporter is, and the sum of its bytes.
+-- The summary of a run: how many lines it had, and how many replies were refusals. Of the world at the end it
+-- says how many handles were given, how long the first exporter is, and what the sum of its bytes is.
 abbrev pub told : ℕ → ℕ → World → List ℕ
 told lines refused w =
     counted (codes "lines") lines
@@ -34,7 +34,7 @@ told lines refused w =
     ++ counted (codes "length") (length (first_bytes w))
     ++ counted (codes "sum") (sum (first_bytes w))
 
--- what is told of the run of some commands, a line each, in a new world
+-- the summary of a run of these commands, line by line, in a new world
 abbrev pub summary_of : List Command → List ℕ
 summary_of commands = told (length commands) (count_by is_refusal (replies_of empty_world commands)) (world_after_all empty_world commands)
 

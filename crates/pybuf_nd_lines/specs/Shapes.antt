@@ -10,7 +10,7 @@ use Rattle.pybuf_desc.specs.Layouts.{product}
 use Rattle.pybuf_line.specs.Scalars.{handle_in}
 use Rattle.pybuf_line.specs.Spellings.{value_in}
 
--- what each of a list gives, where every one gives something
+-- what each entry of a list gives, if every entry gives something
 abbrev pub each_gives : {A B : Type 0} → (A → Option B) → List A → Option (List B)
 each_gives given [] = Some []
 each_gives given (one ∷ more) = do
@@ -26,19 +26,19 @@ abbrev pub counted : Result ℤ Fault → Option ℕ
 counted (Ok (pos n)) = if nat_le 1 n && nat_le n most_items then Some n else None
 counted _ = None
 
--- The number of entries of a dimension: a number from 1 on, where a truth value counts as one. One that is greater than a shape
--- may have items is none.
+-- The number of entries of a dimension. It is a number from 1 on, and a truth value counts as a number. It may
+-- not be greater than the most items that a shape may have.
 abbrev pub entry_in : Scalar → Option ℕ
 entry_in part = counted (number_in part)
 
--- from one to 64 dimensions, of so many items at most
+-- whether a shape has from one to 64 dimensions, and at most as many items as it may
 abbrev pub is_shape : List ℕ → Bool
 is_shape shape = nat_le 1 (length shape) && (nat_le (length shape) 64 && nat_le (product shape) most_items)
 
 abbrev pub if_shape : List ℕ → Option (List ℕ)
 if_shape shape = if is_shape shape then Some shape else None
 
--- a list of numbers that is a shape
+-- the shape that a list of numbers is, if it is one
 abbrev pub shape_of_value : Value → Option (List ℕ)
 shape_of_value (value.List parts) = do
   entries ← each_gives entry_in parts

@@ -7,6 +7,7 @@ abbrev pub kept : Bool → Packer → Option Packer
 kept false packer = None
 kept true packer = Some packer
 
--- The packer of a handle; one that is empty, as it is before a format is parsed and after it was freed, has none.
+-- The packer of a handle. A handle is empty before a format is parsed and after it was freed, and then it has
+-- none.
 abbrev pub held : FormatHandle → Option Packer
 held handle = kept handle.full handle.address.packer

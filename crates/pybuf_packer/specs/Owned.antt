@@ -1,4 +1,4 @@
--- What an address owns of a packer.
+-- What memory the address of a packer owns.
 use base.Fml.{Fml, ftrue}
 use base.Stored.{Coded}
 use denote.RawPtr.{Ptr}
@@ -12,7 +12,7 @@ use Rattle.pybuf_packer.specs.contracts.packer.Packer.{the_row}
 abbrev pub packer_coded : Coded Packer
 packer_coded = the_row.coded
 
--- nothing, where it is empty, and else the block of the packer
+-- An empty address owns nothing, and any other owns the block of its packer.
 abbrev pub address_owns : Global → Ptr → Bool → Packer → Fml
 address_owns alloc at false packer = ftrue
 address_owns alloc at true packer = box_owns (ghosts.dealloc_token alloc) the_row at packer

@@ -1,4 +1,4 @@
--- What a line asks of a session, `S WORD NAME ARGS`: its number, and a command in which names stand in place of handles.
+-- What a line `S WORD NAME ARGS` asks for: the number of a session, and a command. Handles replace the names.
 use Rattle.std.specs.Prelude.{◌≡◌, ℕ, List, ◌∷◌, ◌++◌, length, nat_le, Option, Some, None, if◌then◌else◌}
 use Rattle.std.specs.List.{list_any, flat_map}
 use Rattle.std.specs.Str.{byte}
@@ -20,14 +20,14 @@ use Rattle.pybuf_sessions.specs.declared.asks.Ask.{Ask}
 abbrev pub session_in : List ℕ → Option ℕ
 session_in text = if nat_le (length text) 2 then number_below 16 text else None
 
--- a command of this subject, where a line asks something of a handle
+-- a command on this subject, if the line asks for a command on a handle
 abbrev pub local_of : Subject → List (ℕ × Loan) → Option Command → Option LocalCommand
 local_of s loans (Some (command.Do handle v)) = Some (record { subject = s; verb = v; loans = loans })
 local_of s loans (Some (command.New kind options)) = None
 local_of s loans None = None
 
--- A command by its subject, its word and the text behind the subject. It is spelled as any other, with handles in place of
--- names, so what is spelled by a handle is none.
+-- A command by its subject, its word and the text behind the subject. It is spelled as any other, after handles
+-- replaced the names. A text that has a handle of its own spells no command.
 abbrev pub local_command_in : Subject → List ℕ → List ℕ → Option LocalCommand
 local_command_in s word rest =
     if list_any is_handle (pieces rest) then None
@@ -37,7 +37,7 @@ local_command_in s word rest =
 abbrev pub rest_text : List (List ℕ) → List ℕ
 rest_text arguments = flat_map (λ word. byte " " ∷ word) arguments
 
--- what words ask
+-- what words ask for
 abbrev pub ask_of_words : List (List ℕ) → Option Ask
 ask_of_words (session ∷ word ∷ name ∷ arguments) = do
   n ← session_in session
@@ -46,11 +46,11 @@ ask_of_words (session ∷ word ∷ name ∷ arguments) = do
   Some (record { session = n; command = c })
 ask_of_words _ = None
 
--- what the one line asks, or nothing
+-- what a line asks for, or nothing
 unfoldable pub ask_in : List ℕ → Option Ask
 ask_in line = ask_of_words (words line)
 
--- a text that begins with a word, and what stands behind that word
+-- The text begins with a word, and the rest is what stands behind that word.
 pub record IsFront (text word rest : List ℕ) : Type 0 where
   pub arguments : List (List ℕ)
   pub cut : words text ≡ word ∷ arguments

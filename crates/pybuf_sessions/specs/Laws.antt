@@ -24,27 +24,27 @@ use Rattle.pybuf_sessions.specs.Sessions.{opening_in, sessions_in}
 use Rattle.pybuf_sessions.specs.declared.asks.Ask.{Ask}
 use Rattle.pybuf_sessions.specs.declared.sessions.Sessions.{Sessions}
 
--- names that lines spell: of views and of iterators whose number is below 2^64
+-- the names that lines spell, whose views and iterators have numbers below 2^64
 abbrev pub IsCounted : Subject → Type 0
 IsCounted subject.Own = Unit {0}
 IsCounted (subject.View k) = k < 2 ^ 64
 IsCounted (subject.Iter k) = k < 2 ^ 64
 
--- handles that are numbered from a number on, in order
+-- The handles are numbered from n on, in order.
 abbrev pub AreNumbered : ℕ → List ℕ → Type 0
 AreNumbered n [] = Unit {0}
 AreNumbered n (h ∷ more) = (h ≡ n) × AreNumbered (n + 1) more
 
--- what handles are lent as, by what each of them names
+-- what handles are lent as, by what each names
 abbrev pub lent_by : (ℕ → Subject) → List ℕ → List (ℕ × Loan)
 lent_by named handles = map (λ h. (h, lent_as (named h))) handles
 
--- how a command of a session is written, with the names of what its handles name
+-- how a command of a session is written, with names for what its handles name
 abbrev pub written_line : ℕ → Subject → Verb → (ℕ → Subject) → List ℕ
 written_line session s v named =
     join_with_byte (byte " ") (decimal session ∷ written_word (word_of v) ∷ name_text s ∷ written_arguments (λ h. name_text (named h)) v)
 
--- what is asked by it
+-- what that line asks for
 abbrev pub written_ask : ℕ → Subject → Verb → (ℕ → Subject) → Ask
 written_ask session s v named = record { session = session; command = record { subject = s; verb = v; loans = lent_by named (handles_of v) } }
 
@@ -61,18 +61,19 @@ written_opening k bytes = join_with_byte (byte " ") (written_word word.New ∷ w
 abbrev pub OpeningsReadBack : Type 0
 OpeningsReadBack = (k : ExporterKind) (bytes : List ℕ) → IsBytes bytes → opening_in (written_opening k bytes) ≡ Some (record { kind = k; bytes = bytes })
 
--- scripts that can be carried out: for 1 to 16 sessions, and their loans fit
+-- Scripts can be carried out if there are 1 to 16 sessions and their loans fit.
 pub record AreRunnable (scripts : List (List LocalCommand)) : Type 0 where
   pub some : 0 < length scripts
   pub few : length scripts ≤ 16
   pub fit : All ScriptFits scripts
 
--- those of an input can
+-- The scripts of an input can be carried out.
 abbrev pub SessionsAreRunnable : Type 0
 SessionsAreRunnable = (input : List ℕ) (s : Sessions) → sessions_in input ≡ Ok s → AreRunnable s.scripts
 
--- The lines of an input are those of its sessions: the first gives the exporter, each of the others asks something of a
--- session that there is, the script of a session is what is asked of it, in order, and nothing else is in a script.
+-- The lines of an input are those of its sessions. The first gives the exporter, and each of the others asks
+-- for something in a session that there is. The script of a session is what it asks for, in order, and nothing
+-- else is in a script.
 pub record AreOfLines (s : Sessions) (first : List ℕ) (rest : List (List ℕ)) : Type 0 where
   pub opening : opening_in first ≡ Some (record { kind = s.kind; bytes = s.bytes })
   pub asks : List Ask
@@ -85,7 +86,7 @@ abbrev pub SessionsAreOfLines : Type 0
 SessionsAreOfLines = (input : List ℕ) (s : Sessions) → sessions_in input ≡ Ok s →
     (first : List ℕ) × (rest : List (List ℕ)) × (lines input ≡ first ∷ rest) × AreOfLines s first rest
 
--- A line behind the first one is the first that asks nothing.
+-- A line behind the first one asks for nothing, and it is the first such line.
 pub record IsFirstWrong (n : ℕ) (first : List ℕ) (rest : List (List ℕ)) : Type 0 where
   pub opening : Opening
   pub opens : opening_in first ≡ Some opening
@@ -94,12 +95,12 @@ pub record IsFirstWrong (n : ℕ) (first : List ℕ) (rest : List (List ℕ)) : 
   pub asked : map ask_in rest ≡ map Some asks ++ None ∷ others
   pub number : n ≡ length asks + 2
 
--- the first line is wrong, or there is none
+-- The first line is wrong, or there is no line.
 abbrev pub IsWithoutFirst : List (List ℕ) → Type 0
 IsWithoutFirst [] = Unit {0}
 IsWithoutFirst (first ∷ rest) = opening_in first ≡ None
 
--- a line of the number n is wrong, and none before it
+-- Line n is wrong, and no line before it is.
 abbrev pub IsWrongAt : ℕ → List (List ℕ) → Type 0
 IsWrongAt n [] = ⊥
 IsWrongAt n (first ∷ rest) = IsFirstWrong n first rest

@@ -1,4 +1,5 @@
--- The arguments of a line of a session, cut where a name may begin or end, and with handles in place of its names.
+-- The arguments of a line of a session. They are cut where a name may begin or end, and handles replace the
+-- names.
 use Rattle.std.specs.Prelude.{ℕ, ◌+◌, Bool, true, false, List, [], ◌∷◌, ◌++◌, ◌==◌, ◌&&◌, ◌||◌, not, Option, Some, None, if◌then◌else◌}
 use Rattle.std.specs.List.{onto_first}
 use Rattle.std.specs.Str.{byte}
@@ -12,8 +13,8 @@ use Rattle.pybuf_sessions.specs.Names.{name_in, lent_as}
 abbrev pub is_mark : ℕ → Bool
 is_mark b = b == byte " " || b == byte "(" || b == byte ")" || b == byte "," || b == byte ":" || b == byte "[" || b == byte "]"
 
--- The pieces of a text, where the text itself begins between quotes or not: each such byte that stands outside quotes is a
--- piece, and so is what stands between two of them, maybe nothing.
+-- The pieces of a text. Each such byte outside quotes is a piece, and so is what stands between two of them,
+-- which may be nothing. The text itself may begin between quotes.
 abbrev pub pieces_from : Bool → List ℕ → List (List ℕ)
 pieces_from quoted [] = [] ∷ []
 pieces_from quoted (b ∷ rest) =
@@ -24,7 +25,7 @@ pieces_from quoted (b ∷ rest) =
 abbrev pub pieces : List ℕ → List (List ℕ)
 pieces text = pieces_from false text
 
--- a handle, which is no name in a session
+-- whether a piece is a handle, which a session doesn't have as a name
 abbrev pub is_some_handle : Option ℕ → Bool
 is_some_handle (Some handle) = true
 is_some_handle None = false
@@ -32,7 +33,7 @@ is_some_handle None = false
 abbrev pub is_handle : List ℕ → Bool
 is_handle piece = is_some_handle (handle_in piece)
 
--- what stands in place of a piece: of a name the handle of this number
+-- the text for a piece, which is the handle n if the piece is a name
 abbrev pub text_at : ℕ → Option Subject → List ℕ → List ℕ
 text_at n (Some named) piece = handle_text n
 text_at n None piece = piece
@@ -47,8 +48,8 @@ abbrev pub next_after : ℕ → Option Subject → ℕ
 next_after n (Some named) = n + 1
 next_after n None = n
 
--- The text of pieces with a handle in place of each name: they are numbered from a number on, from the left, and a name that
--- stands twice has two.
+-- The text of pieces, in which a handle replaces each name. The handles are numbered from n on, from the left.
+-- A name that stands there twice gets two handles.
 abbrev pub handled_from : ℕ → List (List ℕ) → List ℕ
 handled_from n [] = []
 handled_from n (piece ∷ more) = text_at n (name_in piece) piece ++ handled_from (next_after n (name_in piece)) more

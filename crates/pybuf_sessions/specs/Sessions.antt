@@ -1,4 +1,4 @@
--- The lines of sessions: `new KIND xHEX`, and then a line for each command.
+-- The lines of sessions. The first is `new KIND xHEX`, and each further line is a command.
 use Rattle.std.specs.Prelude.{ℕ, ◌+◌, List, [], ◌∷◌, Option, Some, None, Result, Ok, Err}
 use Rattle.pybuf_value.specs.declared.values.Scalar.TheVariants as scalar
 use Rattle.pybuf_value.specs.declared.values.Value.{Value}
@@ -16,19 +16,19 @@ use Rattle.pybuf_sessions.specs.Scripts.{scripts_of}
 use Rattle.pybuf_sessions.specs.declared.asks.Ask.{Ask}
 use Rattle.pybuf_sessions.specs.declared.sessions.Sessions.{Sessions}
 
--- the bytes that a value is
+-- the bytes of a value, if the value is bytes
 abbrev pub bytes_in_value : Value → Option (List ℕ)
 bytes_in_value (value.One (scalar.Bytes bytes)) = Some bytes
 bytes_in_value _ = None
 
--- the bytes of a source that stands alone
+-- the bytes of a source that has no encoding and no handler of errors beside it
 abbrev pub bytes_alone : Option Value → Option Value → Option Value → Option (List ℕ)
 bytes_alone source (Some encoding) errors = None
 bytes_alone source None (Some errors) = None
 bytes_alone (Some source) None None = bytes_in_value source
 bytes_alone None None None = None
 
--- a kind, with bytes where there are any
+-- the opening with a kind and bytes, if there are bytes
 abbrev pub opening_with : ExporterKind → Option (List ℕ) → Option Opening
 opening_with k (Some bytes) = Some (record { kind = k; bytes = bytes })
 opening_with k None = None
@@ -41,23 +41,23 @@ opening_of _ = None
 unfoldable pub opening_in : List ℕ → Option Opening
 opening_in line = opening_of (command_in handle_in line)
 
--- what is asked with one thing before it, or the number of the line that asks nothing
+-- what lines ask for with one more before them, or the number of the line if it asks for nothing
 abbrev pub ask_before : ℕ → Option Ask → Result (List Ask) ℕ → Result (List Ask) ℕ
 ask_before n None rest = Err n
 ask_before n (Some ask) (Ok asks) = Ok (ask ∷ asks)
 ask_before n (Some ask) (Err m) = Err m
 
--- what lines ask that are counted from a number, or the number of the first that asks nothing
+-- what lines ask for that are counted from n on, or the number of the first that asks for nothing
 abbrev pub asks_from : ℕ → List (List ℕ) → Result (List Ask) ℕ
 asks_from n [] = Ok []
 asks_from n (line ∷ rest) = ask_before n (ask_in line) (asks_from (n + 1) rest)
 
--- the scripts of what is asked
+-- the scripts of what lines ask for
 abbrev pub scripts_for : Result (List Ask) ℕ → Result (List (List LocalCommand)) ℕ
 scripts_for (Ok asks) = Ok (scripts_of asks)
 scripts_for (Err n) = Err n
 
--- sessions of an exporter that is made so
+-- the sessions of an exporter with this opening
 abbrev pub sessions_for : Opening → Result (List (List LocalCommand)) ℕ → Result Sessions ℕ
 sessions_for opening (Ok scripts) = Ok (record { kind = opening.kind; bytes = opening.bytes; scripts = scripts })
 sessions_for opening (Err n) = Err n
@@ -70,6 +70,7 @@ abbrev pub sessions_of_lines : List (List ℕ) → Result Sessions ℕ
 sessions_of_lines [] = Err 1
 sessions_of_lines (first ∷ rest) = sessions_from (opening_in first) rest
 
--- The sessions of an input, or the number of its first line that is wrong: 1 also where it has no line.
+-- The sessions of an input, or the number of its first line that is wrong. If the input has no line, that
+-- number is 1.
 abbrev pub sessions_in : List ℕ → Result Sessions ℕ
 sessions_in input = sessions_of_lines (lines input)

@@ -1,4 +1,4 @@
--- What sessions have to show, laid beside the history that they made.
+-- The receipts of sessions, compared with the history that they made.
 use Rattle.std.specs.Prelude.{◌≡◌, ◌≢◌, zero, suc, ◌<◌, ◌≤◌, ◌↔◌, ℕ, true, nat_lt, List, [], ◌∷◌, ◌++◌, length, map, Option, Some, None, slice_get, if◌then◌else◌}
 use Rattle.std.specs.List.{flat_map, sum_by, All}
 use Rattle.pybuf_command.specs.declared.kinds.ExporterKind.{ExporterKind}
@@ -11,20 +11,21 @@ use Rattle.pybuf_share.specs.History.{Log, Opening, replay, IsLegal}
 use Rattle.pybuf_share.specs.Sessions.{Asker}
 use Rattle.pybuf_share.specs.Joining.{entries_of}
 
--- the numbers from one on, so many of them
+-- n numbers from k on
 abbrev pub numbers_from : ℕ → ℕ → List ℕ
 numbers_from k zero = []
 numbers_from k (suc n) = k ∷ numbers_from (suc k) n
 
--- all parts of the ledger that sessions have
+-- how many parts of the ledger the sessions have together
 abbrev pub parts_of : List Asker → ℕ
 parts_of sessions = sum_by (λ s. s.parts) sessions
 
--- all calls that the ledger has counted for them
+-- how many calls the ledger has counted for them together
 abbrev pub calls_of : List Asker → ℕ
 calls_of sessions = sum_by (λ s. s.calls) sessions
 
--- All sessions of an exporter: they are numbered from 0, in order, and together they have all parts of its ledger.
+-- All sessions of an exporter. They are numbered from 0, in order, and together they have all parts of its
+-- ledger.
 pub record AreAll (parts : ℕ) (sessions : List Asker) : Type 0 where
   pub numbers : map (λ s. s.number) sessions ≡ numbers_from 0 (length sessions)
   pub whole : parts_of sessions ≡ parts
@@ -39,7 +40,7 @@ first_fall [] = None
 first_fall (r ∷ []) = None
 first_fall (r ∷ s ∷ rs) = if nat_lt r.at s.at then first_fall (s ∷ rs) else Some (r.at, s.at)
 
--- the fault of a session, or else that of the others
+-- the fault of a session if it has one, and otherwise that of the others
 abbrev pub order_fault_or : ℕ → Option (ℕ × ℕ) → Option FinishFault → Option FinishFault
 order_fault_or session (Some pair) rest = Some (fault.Order session pair.0 pair.1)
 order_fault_or session None rest = rest
@@ -49,15 +50,15 @@ abbrev pub order_fault : List Asker → Option FinishFault
 order_fault [] = None
 order_fault (s ∷ ss) = order_fault_or s.number (first_fall s.receipts) (order_fault ss)
 
--- the numbers of the receipts of each session rise
+-- The numbers of the receipts of each session rise.
 abbrev pub NumbersRise : List Asker → Type 0
 NumbersRise sessions = order_fault sessions ≡ None
 
--- the entry of a receipt stands in the history at the receipt's number
+-- The entry of a receipt stands in the history, at the receipt's number.
 abbrev pub Stands : List Entry → Receipt → Type 0
 Stands entries r = slice_get entries r.at ≡ Some r.entry
 
--- At the number of a receipt the history has another entry than the receipt, or none.
+-- At the number of a receipt, the history has another entry than the receipt, or none.
 pub record IsAway (entries : List Entry) (r : Receipt) (at : ℕ) (kept : Option Entry) (got : Entry) : Type 0 where
   pub place : at ≡ r.at
   pub shown : got ≡ r.entry
@@ -71,7 +72,7 @@ IsRefused entries r (fault.Disagree at kept got) = IsAway entries r at kept got
 IsRefused entries r (fault.Order session before after) = ⊥
 IsRefused entries r (fault.Opening given_kind given kept_kind kept) = ⊥
 
--- The first of these receipts that doesn't stand in the history.
+-- This is the first of the receipts that doesn't stand in the history.
 pub record IsFirstAway (entries : List Entry) (receipts : List Receipt) (at : ℕ) (kept : Option Entry) (got : Entry) : Type 0 where
   pub earlier : List Receipt
   pub receipt : Receipt
@@ -87,19 +88,19 @@ Disagrees entries receipts (fault.Disagree at kept got) = IsFirstAway entries re
 Disagrees entries receipts (fault.Order session before after) = ⊥
 Disagrees entries receipts (fault.Opening given_kind given kept_kind kept) = ⊥
 
--- an exporter begins with this kind and these bytes
+-- A history begins with this kind and these bytes.
 pub record Begins (log : Log) (k : ExporterKind) (bytes : List ℕ) : Type 0 where
   pub same_kind : k ≡ log.kind
   pub same_bytes : bytes ≡ log.opening
 
--- Sessions agree with a history: it begins with this kind and these bytes, their receipt numbers rise, and the entry of
--- each receipt stands at its number.
+-- Sessions agree with a history. It begins with this kind and these bytes, their receipt numbers rise, and the
+-- entry of each receipt stands at its number.
 pub record Agree (log : Log) (k : ExporterKind) (bytes : List ℕ) (sessions : List Asker) : Type 0 where
   pub begins : Begins log k bytes
   pub rise : NumbersRise sessions
   pub stand : All (Stands log.entries) (receipts_of sessions)
 
--- The opening that was given and the one that is kept, which differ.
+-- The opening that was given differs from the one that is kept, and the fault has both.
 pub record IsOtherOpening (log : Log) (k : ExporterKind) (bytes : List ℕ) (given_kind : ExporterKind) (given : List ℕ) (kept_kind : ExporterKind) (kept : List ℕ) : Type 0 where
   pub kind_given : given_kind ≡ k
   pub bytes_given : given ≡ bytes
@@ -107,27 +108,28 @@ pub record IsOtherOpening (log : Log) (k : ExporterKind) (bytes : List ℕ) (giv
   pub bytes_kept : kept ≡ log.opening
   pub differ : ¬ Begins log k bytes
 
--- It begins as given, and the numbers of a session don't rise, of the first such session first.
+-- The history begins as given, but the receipt numbers of a session don't rise. This is the first such session.
 pub record IsFirstFall (log : Log) (k : ExporterKind) (bytes : List ℕ) (sessions : List Asker) (session before after : ℕ) : Type 0 where
   pub begins : Begins log k bytes
   pub first : order_fault sessions ≡ Some (fault.Order session before after)
 
--- It begins as given, all numbers rise, and this is the first receipt that doesn't stand in the history.
+-- The history begins as given and all receipt numbers rise, but this receipt doesn't stand in the history, and
+-- it is the first that doesn't.
 pub record IsFirstDisagreement (log : Log) (k : ExporterKind) (bytes : List ℕ) (sessions : List Asker) (at : ℕ) (kept : Option Entry) (got : Entry) : Type 0 where
   pub begins : Begins log k bytes
   pub rise : NumbersRise sessions
   pub first : IsFirstAway log.entries (receipts_of sessions) at kept got
 
--- Why sessions don't agree with a history: the kind or the bytes that it begins with, then the receipt numbers, then
--- the entries. Each fault has what shows it.
+-- Why sessions don't agree with a history. The kind or the bytes that it begins with are compared first, then
+-- the receipt numbers, then the entries. Each fault has the values that show it.
 abbrev pub Refuses : Log → ExporterKind → List ℕ → List Asker → FinishFault → Type 0
 Refuses log k bytes sessions (fault.Opening given_kind given kept_kind kept) = IsOtherOpening log k bytes given_kind given kept_kind kept
 Refuses log k bytes sessions (fault.Order session before after) = IsFirstFall log k bytes sessions session before after
 Refuses log k bytes sessions (fault.Disagree at kept got) = IsFirstDisagreement log k bytes sessions at kept got
 Refuses log k bytes sessions fault.NoMemory = Unit {0}
 
--- What is put together of a kind and bytes, whatever the sessions are: a legal history from them, whose replay is the
--- exporter, with the entry of each receipt at its number.
+-- What is joined from a kind and bytes, whatever the sessions are. There is a legal history from them, its
+-- replay is the exporter, and the entry of each receipt stands at its number.
 pub record IsJoined (k : ExporterKind) (bytes : List ℕ) (sessions : List Asker) (joined : Joined) : Type 0 where
   pub same_kind : joined.kind ≡ k
   pub same_bytes : joined.opening ≡ bytes
@@ -136,25 +138,25 @@ pub record IsJoined (k : ExporterKind) (bytes : List ℕ) (sessions : List Asker
   pub rise : NumbersRise sessions
   pub stand : All (Stands joined.entries) (receipts_of sessions)
 
--- each receipt of sessions came from a call
+-- Each receipt of the sessions came from a call.
 abbrev pub ArePlain : List Asker → Type 0
 ArePlain sessions = All (λ s. s.is_plain ≡ true) sessions
 
--- What is known of a session: where each of its receipts came from a call, they are as many as the ledger has counted
--- for it, and each is of an entry of its own.
+-- What is known of a session. If each of its receipts came from a call, there are as many as the ledger has
+-- counted for it, and each is of an entry of its own.
 pub record IsOwn (s : Asker) : Type 0 where
   pub counted : s.is_plain ≡ true → s.calls ≡ length s.receipts
   pub own : s.is_plain ≡ true → All (λ r. r.entry.session ≡ s.number) s.receipts
 
--- A history is that of these sessions: it has as many entries as they have receipts, each entry is of one of them, and
--- the receipts of each are, in order, exactly its entries.
+-- A history is that of these sessions. It has as many entries as they have receipts, each entry is of one of
+-- them, and the receipts of each are exactly its entries, in order.
 pub record AreTheirs (sessions : List Asker) (entries : List Entry) : Type 0 where
   pub as_many : length entries ≡ length (receipts_of sessions)
   pub known : All (λ x. x.session < length sessions) entries
   pub each : All (λ s. entries_of s.number entries ≡ map (λ r. r.entry) s.receipts) sessions
 
--- What is kept isn't what sessions show: a receipt of theirs, and what the history has at its number, which is nothing
--- exactly where fewer calls were counted.
+-- What the history keeps isn't what the sessions show. There is a receipt of theirs, and what the history has
+-- at its number. The history has nothing there exactly if fewer calls were counted.
 pub record IsDisagreement (sessions : List Asker) (at : ℕ) (kept : Option Entry) (got : Entry) : Type 0 where
   pub rise : NumbersRise sessions
   pub receipt : Receipt
@@ -166,14 +168,14 @@ pub record IsDisagreement (sessions : List Asker) (at : ℕ) (kept : Option Entr
   pub differs : kept ≢ Some got
   pub absent : (kept ≡ None) ↔ (calls_of sessions ≤ at)
 
--- what is kept is another opening than the given one
+-- The opening that is kept isn't the one that was given.
 pub record IsNotOpening (opening : Opening) (given_kind : ExporterKind) (given : List ℕ) (kept_kind : ExporterKind) (kept : List ℕ) : Type 0 where
   pub kind_given : given_kind ≡ opening.kind
   pub bytes_given : given ≡ opening.bytes
   pub differ : (given_kind ≡ kept_kind) → given ≢ kept
 
--- Why sessions are refused at the end, of an exporter that was under a lock: as far as what they show and what they
--- began with tells.
+-- Why sessions are refused at the end, if the exporter was under a lock. This says what the receipts and the
+-- opening alone can tell.
 abbrev pub RefusesAtLast : Opening → List Asker → FinishFault → Type 0
 RefusesAtLast opening sessions (fault.Opening given_kind given kept_kind kept) = IsNotOpening opening given_kind given kept_kind kept
 RefusesAtLast opening sessions (fault.Order session before after) = order_fault sessions ≡ Some (fault.Order session before after)

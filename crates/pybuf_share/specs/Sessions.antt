@@ -1,4 +1,4 @@
--- Sessions: who asks commands of a shared exporter, and what each has to show for them.
+-- Sessions: who asks for commands of a shared exporter, and which receipts each session has.
 use Rattle.std.specs.Prelude.{◌≡◌, ◌<◌, ◌≤◌, ◌+◌, length, ℕ, zero, suc, Bool, true, false, List, [], ◌∷◌, ◌++◌, ◌-◌, map, Option, slice_get}
 use Rattle.std.specs.List.{All, flat_map}
 use Rattle.std.specs.Option.{option_map}
@@ -7,7 +7,7 @@ use Rattle.pybuf_command.specs.declared.commands.LocalReply.{LocalReply}
 use Rattle.pybuf_command.specs.declared.commands.LocalReply.TheVariants as reply
 use Rattle.pybuf_share.specs.declared.entries.Receipt.{Receipt}
 
--- A session: its number, its receipts in order, how many parts of the ledger it has, how many calls of its own the
+-- A session: its number, its receipts in order, how many parts of the ledger it has, how many of its calls the
 -- ledger has counted, and whether each of its receipts came from a call.
 pub record Asker : Type 0 where
   pub number : ℕ
@@ -16,11 +16,11 @@ pub record Asker : Type 0 where
   pub calls : ℕ
   pub is_plain : Bool
 
--- a session with no receipt and one part
+-- a session without receipts, which has one part of the ledger
 abbrev pub new_session : ℕ → Asker
 new_session k = record { number = k; receipts = []; parts = 1; calls = 0; is_plain = true }
 
--- so many of them, numbered from a number on
+-- n new sessions, which are numbered from k on
 abbrev pub sessions_from : ℕ → ℕ → List Asker
 sessions_from k zero = []
 sessions_from k (suc n) = new_session k ∷ sessions_from (suc k) n
@@ -33,8 +33,8 @@ received s r = record s { receipts = s.receipts ++ r ∷ []; calls = s.calls + 1
 abbrev pub added : Asker → Receipt → Asker
 added s r = record s { receipts = s.receipts ++ r ∷ []; is_plain = false }
 
--- A session after a call: it has one more receipt, with its number, the command, and some reply at some place of the
--- history.
+-- A session after a call. It has one more receipt, with its number, the command, and some reply at some place
+-- of the history.
 pub record IsAnswered (before : Asker) (command : LocalCommand) (after : Asker) : Type 0 where
   pub at : ℕ
   pub reply : LocalReply
@@ -66,9 +66,9 @@ views_given receipts = flat_map view_given (replies_given receipts)
 abbrev pub iterators_given : List Receipt → List ℕ
 iterators_given receipts = flat_map iterator_given (replies_given receipts)
 
--- What holds of a session: the views and the iterators that are kept beside its receipts are those that these give. It
--- has a part of the ledger. Where each receipt came from a call, they are as many as the ledger has counted, and each is
--- of an entry of the session.
+-- What holds of a session. The views and iterators that are kept beside its receipts are those that these give.
+-- The session has a part of the ledger. If each of its receipts came from a call, there are as many as the
+-- ledger has counted, and each is of an entry of the session.
 pub record IsAsked (s : Asker) (views_kept iterators_kept : List ℕ) : Type 0 where
   pub views : views_kept ≡ views_given s.receipts
   pub iterators : iterators_kept ≡ iterators_given s.receipts

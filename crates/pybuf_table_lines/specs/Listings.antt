@@ -1,4 +1,4 @@
--- Which records of a table are listed, and how words spell it.
+-- Which records of a table are listed, and how words spell that.
 use Rattle.std.specs.Prelude.{◌≡◌, ℕ, true, List, [], ◌∷◌, map, Option, Some, None, Result, Ok, Err, if◌then◌else◌}
 use Rattle.pybuf_value.specs.Choosing.{◌>>=◌}
 use Rattle.pybuf_value.specs.declared.faults.Fault.{Fault}
@@ -10,12 +10,12 @@ use Rattle.pybuf_table.specs.Chosen.{chosen}
 use Rattle.pybuf_table_lines.specs.declared.queries.Query.{Query}
 use Rattle.pybuf_table_lines.specs.Queries.{query_in, may_be_asked}
 
--- the records of a format, all of them or those that a query chooses
+-- a listing of the records of a format, which are all or those that a query chooses
 pub record Listing : Type 0 where
   pub records : RecordFormat
   pub query : Option Query
 
--- a query, where there is one, may be asked of the records
+-- If there is a query, it may be asked of the records.
 abbrev pub AsksWell : Format → Option Query → Type 0
 AsksWell f None = Unit {0}
 AsksWell f (Some q) = may_be_asked f q ≡ true
@@ -31,14 +31,15 @@ abbrev pub spelled : Result RecordFormat Fault → Option RecordFormat
 spelled (Ok r) = Some r
 spelled (Err f) = None
 
--- the format of records that a word spells: of records of one byte or more
+-- the format of records that a word spells, whose records have one byte or more
 abbrev pub records_in : List ℕ → Option RecordFormat
 records_in word = spelled (record_format word)
 
 abbrev pub listing_of_query : RecordFormat → Query → Option Listing
 listing_of_query r q = if may_be_asked r.format q then Some (record { records = r; query = Some q }) else None
 
--- What words ask to be listed: a format alone each record of it, and with a query behind it those that this chooses.
+-- What words ask to be listed. A format alone asks for each record, and a format with a query for those that
+-- the query chooses.
 abbrev pub listing_in : List (List ℕ) → Option Listing
 listing_in (format ∷ []) = do
   r ← records_in format

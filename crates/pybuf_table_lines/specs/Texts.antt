@@ -1,4 +1,4 @@
--- What is written of a table.
+-- The text that is written of a table.
 use Rattle.std.specs.Prelude.{ℕ, ◌%◌, List, [], ◌∷◌, ◌++◌, length, codes, decimal}
 use Rattle.std.specs.Str.{byte}
 use Rattle.std.specs.List.{flat_map}
@@ -10,7 +10,7 @@ use Rattle.pybuf_table_lines.specs.Listings.{Listing, listed}
 abbrev pub row_text : List Scalar → List ℕ
 row_text row = tuple_text (scalar_text handle_text) row
 
--- the same with its line feed
+-- the same as a line, with its line feed
 abbrev pub row_line : List Scalar → List ℕ
 row_line row = row_text row ++ byte "\n" ∷ []
 
@@ -22,6 +22,6 @@ listing_text l bytes = flat_map row_line (listed l bytes)
 abbrev pub left_over : Listing → List ℕ → ℕ
 left_over l bytes = length bytes % l.records.format.size
 
--- what is written of bytes that aren't whole records
+-- the text for bytes that aren't whole records
 abbrev pub left_over_text : ℕ → List ℕ
 left_over_text n = decimal n ++ codes " bytes left over\n"

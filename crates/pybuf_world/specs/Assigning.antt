@@ -1,4 +1,4 @@
--- `set` of a view by a slice, as a command on a world: which items it copies, and what stands after it.
+-- `set` of a view by a slice, as a command on a world: which items it copies, and what is there after it.
 use Rattle.std.specs.Prelude.{◌≡◌, ℕ, ◌*◌, ◌<◌, List, [], length, set, slice_get, false, Option, Some, None, Ok}
 use Rattle.pybuf_value.specs.declared.values.Scalar.TheVariants as scalar
 use Rattle.pybuf_value.specs.declared.values.Value.{Value}
@@ -25,7 +25,7 @@ use Rattle.pybuf_world.specs.declared.named.Named.TheVariants as named
 use Rattle.pybuf_world.specs.World.{World, exporter_of, subject_of, snap_for, loans_of, wstep}
 use Rattle.pybuf_world.specs.Sound.{IsSoundWorld}
 
--- ---- items, as the world stands
+-- ---- items, as the world is now
 
 abbrev pub item_of_exporter : Option Exporter → Subject → ℕ → List ℕ
 item_of_exporter (Some e) s j = item_of_subject e s j
@@ -36,13 +36,13 @@ abbrev pub item_of_name : World → Option Named → ℕ → List ℕ
 item_of_name w (Some n) j = item_of_exporter (slice_get w.exporters (exporter_of n)) (subject_of n) j
 item_of_name w None j = []
 
--- item j of bytes that are given, or of what a handle names, whatever exporter that is of
+-- item j of bytes that are given, or of what a handle names, in whichever exporter that is
 abbrev pub item_in_world : World → Value → ℕ → List ℕ
 item_in_world w (value.One (scalar.Bytes bytes)) j = bytes_at bytes 1 j
 item_in_world w (value.One (scalar.Handle h)) j = item_of_name w (slice_get w.handles h) j
 item_in_world w _ j = []
 
--- ---- sources, as the world stands
+-- ---- sources, as the world is now
 
 -- bytes that are given, or what a handle names, with the bytes that it has
 abbrev pub source_in_world : World → Value → Option Snap
@@ -52,14 +52,15 @@ source_in_world w _ = None
 
 -- ---- the laws
 
--- what the others lend to an exporter of a sound world fits
+-- What the others lend to an exporter of a sound world fits.
 abbrev pub LoansOfWorldsFit : Type 0
 LoansOfWorldsFit = (w : World) (i : ℕ) (v : Verb) → IsSoundWorld w → LoansFit (loans_of w i v)
 
--- The items that a slice picks of a view were set to those of a source, which was there and no released view, and has
--- as many of the same size. Item j of the target is afterwards what item j of the source was before, for all strides of
--- both, also where both lie in the same bytes. Every byte of the exporter that is of no item of the target stays, and so
--- do its length, its kind, its views and its iterators; and nothing else of the world changes.
+-- The items of a view that a slice picks were set to those of a source. The source was there and was no
+-- released view, and it has as many items of the same size. Item j of the target is afterwards what item j of
+-- the source was before, whatever the strides of both are, and even if both lie in the same bytes. Every byte
+-- of the exporter that no item of the target has stays, and so do its length, its kind, its views and its
+-- iterators. Nothing else of the world changes.
 pub record IsAssignedInWorld (old new : World) (number k : ℕ) (slice : PySlice) (v : Value) : Type 0 where
   pub before : Exporter
   pub there : slice_get old.exporters number ≡ Some before
@@ -81,7 +82,7 @@ pub record IsAssignedInWorld (old new : World) (number k : ℕ) (slice : PySlice
   pub views : after.views ≡ before.views
   pub iterators : after.iterators ≡ before.iterators
 
--- so it is in a sound world wherever the command isn't refused
+-- This holds in a sound world whenever the command isn't refused.
 abbrev pub WorldStepsAssignByValue : Type 0
 WorldStepsAssignByValue =
     (w new : World) (handle number k : ℕ) (slice : PySlice) (v : Value) → IsSoundWorld w → slice_get w.handles handle ≡ Some (named.View number k)

@@ -53,12 +53,12 @@ abbrev pub IsFresh : LocalReply → Type 0
 IsFresh (local.Fresh snap) = Unit {0}
 IsFresh _ = ⊥
 
--- what is asked of the copy of which a reply makes an exporter
+-- If a reply makes a new exporter, its copy is as P says.
 abbrev pub IfFresh : LocalReply → (Snap → Type 0) → Type 0
 IfFresh (local.Fresh snap) P = P snap
 IfFresh _ P = Unit {0}
 
--- the world whose exporter has stepped, with the handles that its reply gives, and what is replied
+-- the world after its exporter stepped, with the handles that the reply gives, and what the world replies
 abbrev pub answered : World → Target → LocalReply → World × Reply
 answered w t (local.Fresh snap) = with_copy w (slice_get w.exporters t.exporter) t.subject snap
 answered w t r = (record w { handles = handles_after w t r }, reply_after w t r)

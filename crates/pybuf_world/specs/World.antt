@@ -42,13 +42,13 @@ empty_world = record { exporters = []; handles = [] }
 
 -- ---- what handles name
 
--- the exporter that is named, or of which a view or an iterator is
+-- the exporter that a name names, or the one whose view or iterator it names
 abbrev pub exporter_of : Named → ℕ
 exporter_of (named.Exporter i) = i
 exporter_of (named.View i k) = i
 exporter_of (named.Iterator i k) = i
 
--- and which of its subjects that is
+-- which subject of that exporter the name names
 abbrev pub subject_of : Named → Subject
 subject_of (named.Exporter i) = subject.Own
 subject_of (named.View i k) = subject.View k
@@ -59,7 +59,7 @@ is_name_of i (named.Exporter j) = j == i
 is_name_of i (named.View j k) = false
 is_name_of i (named.Iterator j k) = false
 
--- the handle of an exporter: the first that names it
+-- the handle of an exporter, which is the first that names it
 abbrev pub handle_of : World → ℕ → ℕ
 handle_of w i = position_or_len (is_name_of i) w.handles
 
@@ -75,7 +75,7 @@ with_exporter w e = (
   reply.Handle (length w.handles),
 )
 
--- what a handle names, as the world stands
+-- what a handle names, as the world is now
 abbrev pub snap_in : Option Exporter → Subject → Option Snap
 snap_in (Some e) s = snap_of_subject e s
 snap_in None s = None
@@ -87,11 +87,12 @@ snap_of_name w None = None
 abbrev pub snap_for : World → ℕ → Option Snap
 snap_for w handle = snap_of_name w (slice_get w.handles handle)
 
--- handles with what they name
+-- handles, each with what it names
 abbrev pub pairs_of : World → List ℕ → List (ℕ × Snap)
 pairs_of w handles = all_paired (snap_for w) handles
 
--- the bytes that a new exporter is made of: a handle among its options stands for what it names before
+-- The bytes that a new exporter is made of. A handle among its options stands for what it names before the
+-- command.
 abbrev pub bytes_of_new : World → ByteInnerNewOptions → Result (List ℕ) Fault
 bytes_of_new w options = bytes_of_options (pairs_of w (handles_of_options options)) options.source options.encoding options.errors
 
@@ -103,21 +104,22 @@ world_with_bytes w k (Err f) = (w, reply.Refused f)
 abbrev pub are_given : World → List ℕ → Bool
 are_given w handles = list_all (λ handle. nat_lt handle (length w.handles)) handles
 
--- a new exporter; an unknown handle is refused before all else
+-- A new exporter. An unknown handle among its options is refused before all else.
 abbrev pub step_of_new : World → ExporterKind → ByteInnerNewOptions → World × Reply
 step_of_new w k options =
     if are_given w (handles_of_options options) then world_with_bytes w k (bytes_of_new w options)
     else (w, reply.Refused fault.UnknownName)
 
--- ---- what is lent
+-- ---- what the others lend
 
--- what another exporter lends of a subject, as it stands
+-- what another exporter lends of a subject, as it is now
 abbrev pub loan_of_other : Option Exporter → Subject → Loan
 loan_of_other (Some e) s = loan_of_snap (snap_of_subject e s)
 loan_of_other None s = loan.Missing
 
--- What a handle is lent as to an exporter, by what it names: that exporter itself, a view of it or an iterator
--- over one, or else another exporter or what is made of one as it stands. Nothing is lent for a handle that was never given.
+-- What a handle is lent as to an exporter. It may name that exporter itself, a view of it or an iterator over
+-- it. Otherwise it names another exporter, or a view or an iterator of one, which is lent as it is now. Nothing
+-- is lent for a handle that was never given.
 abbrev pub loan_of_name : World → ℕ → Option Named → Loan
 loan_of_name w i (Some n) =
     if exporter_of n == i then loan_of_own (subject_of n) else loan_of_other (slice_get w.exporters (exporter_of n)) (subject_of n)
@@ -126,43 +128,42 @@ loan_of_name w i None = loan.Missing
 abbrev pub loan_for : World → ℕ → ℕ → Loan
 loan_for w i handle = loan_of_name w i (slice_get w.handles handle)
 
--- the loans to an exporter for a command: one for each handle of its values, in order
+-- the loans to an exporter for a command, one for each handle of the command's values, in order
 abbrev pub loans_of : World → ℕ → Verb → List (ℕ × Loan)
 loans_of w i v = map (λ handle. (handle, loan_for w i handle)) (handles_of v)
 
 -- ---- a command on what a handle names
 
--- the exporter as it is after a command, and one more that is made of a copy
+-- The exporters after a command: its own exporter has changed, and a copy makes one more.
 abbrev pub exporters_after : World → Target → Exporter → LocalReply → List Exporter
 exporters_after w t e (local.Fresh snap) = set w.exporters t.exporter e ++ made_of (is_readonly_subject e t.subject) snap ∷ []
 exporters_after w t e _ = set w.exporters t.exporter e
 
--- whether what is made of a copy has a view: that of a bytearray's has none
+-- Whether a copy's exporter has a view. The copy of a bytearray has none.
 abbrev pub has_view : SnapKind → Bool
 has_view snap_kind.ByteArray = false
 has_view _ = true
 
--- the handles with that of what is made of a copy, an exporter of this number, and with that of its view
--- where it has one
+-- the handles with that of the exporter that a copy makes, and with that of its view if it has one
 abbrev pub handles_with_copy : Bool → ℕ → List Named → List Named
 handles_with_copy true number handles = (handles ++ named.Exporter number ∷ []) ++ named.View number 0 ∷ []
 handles_with_copy false number handles = handles ++ named.Exporter number ∷ []
 
--- the reply by these handles, of which the next one is the first
+-- the reply with these handles, the first of which is the next one
 abbrev pub reply_with_copy : Bool → ℕ → Reply
 reply_with_copy true next = reply.Pair next (next + 1)
 reply_with_copy false next = reply.Handle next
 
--- the handles after a reply: a new view or iterator is given the next, and so is a new exporter, and then its
--- view
+-- The handles after a reply. A new view or iterator gets the next handle. A new exporter gets the next, and its
+-- view the one after that.
 abbrev pub handles_after : World → Target → LocalReply → List Named
 handles_after w t (local.View k) = w.handles ++ named.View t.exporter k ∷ []
 handles_after w t (local.Iter k) = w.handles ++ named.Iterator t.exporter k ∷ []
 handles_after w t (local.Fresh snap) = handles_with_copy (has_view snap.kind) (length w.exporters) w.handles
 handles_after w t _ = w.handles
 
--- what is replied: a new view or iterator by its handle, a new exporter and its view, where it has one, by theirs,
--- and the subject and its exporter by their own
+-- What the world replies. A new view, iterator or exporter is named by its new handle. The subject and its
+-- exporter are named by the handles that they have.
 abbrev pub reply_after : World → Target → LocalReply → Reply
 reply_after w t local.Ok = reply.Ok
 reply_after w t (local.View k) = reply.Handle (length w.handles)
@@ -189,19 +190,19 @@ world_after w t after = (
   reply_after w t after.1,
 )
 
--- a command on an exporter, where it is there, with these loans
+-- a command on an exporter, if that is there, with these loans
 abbrev pub step_with_loans : World → Target → Verb → List (ℕ × Loan) → Option Exporter → World × Reply
 step_with_loans w t v loans (Some e) = world_after w t (estep e t.subject v loans)
 step_with_loans w t v loans None = (w, reply.Refused fault.UnknownName)
 
--- a command on what a handle names, with the loans by the world as it is before
+-- a command on what a handle names, with the loans of the world as it is before the command
 abbrev pub step_of_target : World → Target → Verb → World × Reply
 step_of_target w t v = step_with_loans w t v (loans_of w t.exporter v) (slice_get w.exporters t.exporter)
 
 abbrev pub target_of : ℕ → Named → Target
 target_of handle n = record { handle = handle; exporter = exporter_of n; subject = subject_of n }
 
--- a command on a handle, where it was given
+-- a command on a handle, if that was given
 abbrev pub step_of_handle : World → ℕ → Verb → Option Named → World × Reply
 step_of_handle w handle v (Some n) = step_of_target w (target_of handle n) v
 step_of_handle w handle v None = (w, reply.Refused fault.UnknownName)
@@ -223,9 +224,9 @@ abbrev pub replies_of : World → List Command → List Reply
 replies_of w [] = []
 replies_of w (c ∷ cs) = (wstep w c).1 ∷ replies_of (wstep w c).0 cs
 
--- ---- releasing by a handle
+-- ---- a release by a handle
 
--- the world with the exporter of a number as it is after a release
+-- the world after a release changed the exporter that has this number
 abbrev pub world_with_released : World → ℕ → Result Exporter Fault → Result World Fault
 world_with_released w i (Ok e) = Ok (record w { exporters = set w.exporters i e })
 world_with_released w i (Err f) = Err f
@@ -240,11 +241,11 @@ released_by_name w (Some (named.Exporter i)) = Err fault.UnknownName
 released_by_name w (Some (named.Iterator i k)) = Err fault.UnknownName
 released_by_name w None = Err fault.UnknownName
 
--- the world with the view that a handle names released, where it names one
+-- the world after the view that a handle names is released, if it names one
 abbrev pub released_by : World → ℕ → Result World Fault
 released_by w handle = released_by_name w (slice_get w.handles handle)
 
--- whether a name that was given is that of a view
+-- whether a name was given and is that of a view
 abbrev pub is_name_of_view : Option Named → Bool
 is_name_of_view (Some (named.View i k)) = true
 is_name_of_view (Some (named.Exporter i)) = false
