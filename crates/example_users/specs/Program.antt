@@ -1,4 +1,4 @@
--- What each statement of a program asks of the world.
+-- Which command of a world each statement of a program is.
 use Rattle.std.specs.Prelude.{◌≡◌, ℤ, List, Some, None}
 use Rattle.pybuf_value.specs.declared.values.Scalar.TheVariants as scalar
 use Rattle.pybuf_value.specs.declared.values.Value.{Value}
@@ -14,7 +14,7 @@ use Rattle.example_users.specs.declared.interpreter.Statement.TheVariants as sta
 abbrev pub number_value : ℤ → Value
 number_value n = value.One (scalar.Int n)
 
--- the command that a statement is
+-- the command of a statement
 abbrev pub command_of : Statement → Command
 command_of (statement.ByteArray bytes) = command.New kinds.ByteArray (record { source = Some (value.One (scalar.Bytes bytes)); encoding = None; errors = None })
 command_of (statement.MemoryView object) = command.Do object verb.View
@@ -25,7 +25,7 @@ command_of (statement.Append object value) = command.Do object (verb.Append (num
 command_of (statement.Bytes object) = command.Do object (verb.ToBytes None)
 command_of (statement.Release object) = command.Do object verb.Release
 
--- What holds of an interpreter's world: commands made it, of a world with nothing in it.
+-- What holds of an interpreter's world: commands made it from an empty world.
 pub record IsMade (w : World) : Type 0 where
   pub commands : List Command
   pub after : w ≡ world_after_all empty_world commands
