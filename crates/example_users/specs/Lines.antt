@@ -54,7 +54,7 @@ lines_in room begin end = record { answers = take begin room; waiting = slice_ra
 abbrev pub overwritten : List ℕ → ℕ → List ℕ → List ℕ
 overwritten room place bytes = take place room ++ (bytes ++ drop (place + length bytes) room)
 
--- A single unreleased view, which may be written, shows all bytes.
+-- The view is unreleased, may be written, and shows all bytes.
 pub record IsSpanned (e : Exporter) (view : ℕ) : Type 0 where
   pub live : is_live e view ≡ true
   pub whole : layout_of e view ≡ bytes_layout (length e.bytes) false

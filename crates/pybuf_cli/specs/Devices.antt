@@ -17,7 +17,7 @@ Put old bytes new = (held : List ℕ) → old ≡ Some held → new ≡ Some (he
 abbrev pub PutPrefix : Option (List ℕ) → List ℕ → Option (List ℕ) → Type 0
 PutPrefix old text new = (count : ℕ) × (count ≤ length text) × Put old (take count text) new
 
--- This holds for a text of which `Due` holds.
+-- The sink has the first bytes of a text of which `Due` holds, after those that it had.
 pub record PutsFrontOf (Due : List ℕ → Type 0) (old new : Option (List ℕ)) : Type 0 where
   pub text : List ℕ
   pub due : Due text

@@ -54,13 +54,13 @@ LeavesLength old command new =
 abbrev pub answer_to : StoredExporter → LocalCommand → Result (Exporter × LocalReply) Fault
 answer_to c command = answer_of c.exporter command.subject command.verb command.loans
 
--- How many bytes a command moves that isn't refused, and what room is left. The counter rises by 1 for each
--- byte that is moved to another place in the same memory. If the first n bytes are taken out, nothing is moved,
--- and the room grows by n. If bytes are added at the end, the rise of the counter and the room after are
--- together at most the room before, and afterwards either there is no room or there is less room than there are
--- bytes. Any command moves at most as many bytes as there are before and after together. A command that doesn't
--- resize leaves the counter and the room as they are. Such a command is refused, or is no edit, or is an edit
--- that can leave the length as it is and does so.
+-- How many bytes a command moves, and what room is left, unless memory runs out. The counter rises by 1 for
+-- each byte that is moved to another place in the same memory. If a command that isn't refused takes out the
+-- first n bytes, nothing is moved, and the room grows by n. If it adds bytes at the end, the rise of the counter
+-- and the room after are together at most the room before, and afterwards either there is no room or there is
+-- less room than there are bytes. Any command moves at most as many bytes as there are before and after
+-- together. A command that doesn't resize leaves the counter and the room as they are. Such a command is
+-- refused, or is no edit, or is an edit that can leave the length as it is and does so.
 pub record Moves (old : StoredExporter) (command : LocalCommand) (before : ℕ) (new : StoredExporter) (after : ℕ) : Type 0 where
   pub front_counter : (n : ℕ) → TakesFront old command n → IsOk (answer_to old command) → after ≡ before
   pub front_room : (n : ℕ) → TakesFront old command n → IsOk (answer_to old command) → new.room ≡ old.room + n

@@ -12,7 +12,7 @@ abbrev pub picks_of_each : List ℕ → List SliceParts → List (List ℕ)
 picks_of_each (n ∷ shape) (parts ∷ slices) = picks_of n parts ∷ picks_of_each shape slices
 picks_of_each _ _ = []
 
--- the index in each dimension, which is the pick that has the given number
+-- in each dimension, the pick whose number is the index
 abbrev pub picked_indices : List (List ℕ) → List ℕ → List ℕ
 picked_indices (picks ∷ others) (index ∷ indices) = slice_index picks index ∷ picked_indices others indices
 picked_indices _ _ = []

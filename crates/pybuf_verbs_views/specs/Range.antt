@@ -10,7 +10,8 @@ use Rattle.pybuf_command.specs.declared.commands.LocalReply.{LocalReply}
 use Rattle.pybuf_command.specs.Kinds.{holds_readonly}
 use Rattle.pybuf_state.specs.Exporter.{Exporter, with_view}
 
--- The first place, and how many places there are up to the other. Both places must be among `count`.
+-- The first place, and how many places lie from it up to the other. The first must not lie behind the other,
+-- and the other must be at most `count`.
 abbrev pub part_between : ℕ → ℤ → ℤ → Result (ℕ × ℕ) Fault
 part_between count (pos from) (pos to) = if nat_le from to && nat_le to count then Ok (from, to - from) else Err fault.Index
 part_between count _ _ = Err fault.Index

@@ -53,10 +53,10 @@ ShareNoByte number place count other_number other_place other_count =
 -- ---- a write to one item
 
 -- A value was written to the item at a key of a handle. The fields say which item that is, and what its format
--- is. Only the bytes of that item change, and each item of an unreleased view stays where it was. Now and in
--- each later world in which the bytes of the item are the same, `get` of each item of this format that lies
--- there replies the normal form of the value, through any handle. (In a view without dimensions the key `...`
--- names no item: `get` replies the view itself.)
+-- is. Only the bytes of that item change, and each item of an unreleased view stays where it was. In the new
+-- world, and in each later one in which the bytes of the item are the same, `get` of each item of this format
+-- that lies there replies the normal form of the value, through any handle. (In a view without dimensions the
+-- key `...` names no item: `get` replies the view itself.)
 pub record IsWrittenInWorld (old new : World) (handle : ℕ) (key v : Value) : Type 0 where
   pub number : ℕ
   pub place : ℕ
