@@ -21,7 +21,7 @@ use Rattle.pybuf_array.specs.declared.operations.ArrayReply.TheVariants as reply
 use Rattle.pybuf_array.specs.Array.{Array, ArrayView, first_place, exports_in, may_resize, in_range, all_in_range, view_at, live_view, place_in_view, number_at, without, with_numbers, with_view, is_unreleased, appended, extended, inserted, popped, removed, read_from, number_named, put_at, view_sliced, number_in_view, put_in_view, released_in}
 use Rattle.pybuf_array.specs.Operations.{replied, told, done, settled, astep, array_after_all, IsOut, is_out, KeepsLengthWhileViewed}
 
--- what stays from an array to a later one
+-- what stays from one array to a later one
 pub record Keeps (a b : Array) : Type 0 where
   pub more : length a.views ≤ length b.views
   pub out : (k : ℕ) → k < length a.views → IsOut b k → IsOut a k
@@ -83,12 +83,12 @@ shut a j v = record {
   same = λ k is. refl;
 }
 
--- ---- rows
+-- ---- operations
 
 abbrev To : {X : Type 0} → Array → Array × X → Type 0
 To a after = Keeps a after.0
 
--- a chain of checks, of which each result is named
+-- a chain of checks, each of whose results has a name
 chain : {X A : Type 0} (a : Array) (r : Result A Fault) (f : A → Result (Array × X) Fault) → ((x : A) → r ≡ Ok x → IfDone (To a) (f x)) → IfDone (To a) (r >>= f)
 chain a r f after = done_bind (To a) r f after
 

@@ -1,4 +1,4 @@
--- Runs: one operation more.
+-- A run goes on by one operation.
 use Rattle.std.proofs.Common.{◌≡◌, ℕ, ◌+◌, ◌<◌, List, [], ◌∷◌, ◌++◌, length, take, get_or, ap, sym, ◌∙◌, refl, append_assoc}
 use Rattle.std.proofs.lemmas.List.{take_more}
 use Rattle.pybuf_array.specs.declared.operations.ArrayOp.{ArrayOp}
@@ -6,7 +6,7 @@ use Rattle.pybuf_array.specs.declared.operations.ArrayReply.{ArrayReply}
 use Rattle.pybuf_array.specs.Array.{Array}
 use Rattle.pybuf_array.specs.Operations.{astep, array_after_all, replies_of}
 
--- the array and the replies are those of the ops so far
+-- The array and the replies are those of the operations so far.
 pub record IsRun (old : Array) (ops : List ArrayOp) (new : Array) (before replies : List ArrayReply) : Type 0 where
   pub array : new ≡ array_after_all old ops
   pub replied : replies ≡ before ++ replies_of old ops
@@ -29,7 +29,7 @@ replies_of_one_more : (w : Array) (cs : List ArrayOp) (i : ℕ) (c : ArrayOp) �
 replies_of_one_more w cs i c below is =
     ap (replies_of w) (take_more cs i c below ∙ ap (λ x. take i cs ++ x ∷ []) (sym is)) ∙ replies_of-append w (take i cs) (c ∷ [])
 
--- a run goes on by one operation
+-- A run goes on by one operation.
 pub one_more : (old w after : Array) (cs : List ArrayOp) (i : ℕ) (c : ArrayOp) (r : ArrayReply) (before rs more : List ArrayReply)
     → IsRun old (take i cs) w before rs → i < length cs → c ≡ get_or cs i c → astep w c ≡ (after, r) → more ≡ rs ++ r ∷ [] → IsRun old (take (i + 1) cs) after before more
 one_more old w after cs i c r before rs more run below at stepped pushed =

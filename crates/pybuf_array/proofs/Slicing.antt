@@ -1,4 +1,4 @@
--- A slice of a slice of a view, by what both pick.
+-- A slice of a slice of a view shows what the second picks among the picks of the first.
 use Rattle.std.proofs.Common.{◌≡◌, ◌≢◌, ℕ, zero, suc, ◌<◌, true, false, List, [], ◌∷◌, ◌++◌, length, refl, sym, ◌∙◌, ap, subst, arith, ℤ, pos, negsuc}
 use Rattle.std.specs.Prelude.{Option, Some, None, Result, Ok, Err, IfOk, slice_get}
 use Rattle.std.specs.List.{All, cons_option}
@@ -19,7 +19,7 @@ use Rattle.pybuf_array.specs.Laws.{picks_of_picks, SlicesOfSlices}
 
 -- ---- elements of elements
 
--- an element that is there is the first of those at its index and others
+-- The element at the first index comes first, and then the elements at the other indices.
 with_first : (xs : List ℕ) (p x : ℕ) (ps : List ℕ) → slice_get xs p ≡ Some x → elements_at xs (p ∷ ps) ≡ x ∷ elements_at xs ps
 with_first xs p x ps there = ap (λ (o : Option ℕ). cons_option o (elements_at xs ps)) there
 
@@ -35,7 +35,7 @@ as_many xs (p ∷ ps) below =
     let there = first_there xs p ps below in
     ap (λ (ys : List ℕ). length ys) (with_first xs p there.0 ps there.1) ∙ ap suc (as_many xs ps (rest_below (length xs) p ps below))
 
--- the element at a place of such a list is the one at the index that stands there
+-- The element at a place of such a list is the one at the index that stands there.
 element_there : (xs ps : List ℕ) (k : ℕ) → All (λ i. i < length xs) ps →
     slice_get (elements_at xs ps) k ≡ option_and_then (slice_get xs) (slice_get ps k)
 element_there xs [] k below = refl
@@ -58,7 +58,7 @@ chosen_twice xs ps (q ∷ qs) below =
     ∙ (ap (cons_option (option_and_then (slice_get xs) (slice_get ps q))) (chosen_twice xs ps qs below)
     ∙ one_more xs (slice_get ps q) (elements_at ps qs))
 
--- ---- the step of a slice is not 0
+-- ---- the step of a slice isn't 0
 
 still_nonzero : (n : ℤ) → n ≢ pos 0 → nearest_word n ≢ pos 0
 still_nonzero (pos zero) moves = λ e. moves refl
@@ -95,7 +95,8 @@ parts_move s parts is =
 
 -- ---- slices of views
 
--- the array with one more view, which shows what a slice of another picks, and the number of the view
+-- The array with one more view, which shows what a slice picks of another. The pair has the number of the new
+-- view.
 abbrev with_slice : Array → ArrayView → SliceParts → Array × ℕ
 with_slice a v parts = (with_view a (elements_at v.indices (picks_of (length v.indices) parts)), length a.views)
 
@@ -132,7 +133,7 @@ last_there : (views : List ArrayView) (v : ArrayView) → slice_get (views ++ v 
 last_there [] v = refl
 last_there (w ∷ views) v = last_there views v
 
--- the view that was made last is unreleased
+-- The view that was made last is unreleased.
 last_live : (a : Array) (indices : List ℕ) → live_view (with_view a indices) (length a.views) ≡ Ok (record { indices = indices; released = false })
 last_live a indices =
     ap (λ (o : Option ArrayView). ok_or o fault.UnknownName >>= (λ v. unless v.released fault.Value >>= (λ _. Ok v)))

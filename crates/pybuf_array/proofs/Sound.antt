@@ -1,4 +1,4 @@
--- The parts of an array, after a change of its bytes or of its views.
+-- The parts of an array after its bytes or its views changed.
 use Rattle.std.proofs.Common.{◌≡◌, ℕ, zero, suc, ◌+◌, ◌≤◌, Bool, true, false, not, cond, List, [], ◌∷◌, ◌++◌, length, refl, sym, ap, subst, ◌∙◌, arith, ℤ, slice_get, map, take, drop, ◌/◌, ◌%◌}
 use Rattle.std.specs.Prelude.{Result, Ok, Err, OnOk, OnErr, count_by, nat_lt, ◌==◌}
 use Rattle.std.proofs.lemmas.Bool.{ltb-false}
@@ -22,7 +22,7 @@ use Rattle.pybuf_array.specs.Array as spec
 use Rattle.pybuf_array.specs.Array.{Array, ArrayView, exports_in, may_resize, with_numbers}
 use Rattle.pybuf_array.specs.Parts.{view_of, views_of, array_of, IsInside, IsSoundArray}
 
--- as many views are unreleased as the bytearray has unreleased ones
+-- The array has as many unreleased views as its bytearray.
 pub exports_by : (runs : List IndexRun) (views : List View) → length runs ≡ length views → count_by spec.is_unreleased (views_of runs views) ≡ count_by is_exported views
 exports_by [] [] same = refl
 exports_by [] (v ∷ views) same = absurd (omega arith)
@@ -45,7 +45,7 @@ unless_free : (b : Bool) (f : Fault) → unless b f ≡ Ok true → b ≡ false
 unless_free true f is = absurd cc
 unless_free false f is = refl
 
--- ---- an array of no numbers
+-- ---- an array without numbers
 
 pub none_whole : (c : ArrayCode) → is_whole c [] ≡ true
 none_whole code.SByte = refl
@@ -77,7 +77,7 @@ new_shown c = ap (λ (ns : List ℤ). record { code = c; numbers = ns; views = [
 pub new_sound : (c : ArrayCode) → IsSoundArray c (new_exporter kinds.ByteArray []) []
 new_sound c = record { kind = refl; whole = none_whole c; count = refl; inside = λ k r there live. absurd cc }
 
--- there are at most as many numbers as bytes
+-- There are at most as many numbers as bytes.
 length_mapped : (f : List ℕ → ℤ) (ps : List (List ℕ)) → length (map f ps) ≡ length ps
 length_mapped f [] = refl
 length_mapped f (p ∷ ps) = ap suc (length_mapped f ps)
@@ -93,7 +93,7 @@ pub few_numbers : (c : ArrayCode) (bytes : List ℕ) → length (numbers_of c by
 few_numbers c bytes =
     omega (arith, length_mapped (number_in c) (first_chunks (size_of c) (count_in c bytes) bytes), length_pieces (size_of c) (count_in c bytes) bytes, div-le_self (length bytes) (size_of c))
 
--- ---- an array whose numbers are others
+-- ---- an array that got other numbers
 
 module _ (c : ArrayCode) (e : Exporter) (runs : List IndexRun) (a : Array) (sound : IsSoundArray c e runs) (shown : array_of c e runs ≡ a) where
   pub exports_are : exports_of e ≡ exports_in a
@@ -116,12 +116,12 @@ module _ (c : ArrayCode) (e : Exporter) (runs : List IndexRun) (a : Array) (soun
   pub sound_written : (new : List ℕ) → length (numbers_of c new) ≡ length (numbers_of c e.bytes) → is_whole c new ≡ true → IsSoundArray c (record e { bytes = new }) runs
   sound_written new same whole = record { kind = sound.kind; whole = whole; count = sound.count; inside = λ k r there live. subst (λ (n : ℕ). IsInside n r) (sym same) (sound.inside k r there live) }
 
-  -- the same after a call that may have failed for want of memory
+  -- the same after a call that may have failed because memory ran out
   pub sound_edited : {X E : Type 0} (r : Result X E) (before new : List ℕ) → before ≡ e.bytes → may_resize a ≡ Ok true → OnOk r (is_whole c new ≡ true) → OnErr r (new ≡ before) → IsSoundArray c (record e { bytes = new }) runs
   sound_edited (Ok x) before new lent may whole same = sound_free new may whole
   sound_edited (Err f) before new lent may whole same = sound_free new may (ap (λ b. is_whole c b) (same ∙ lent) ∙ sound.whole)
 
-  -- the same where as many bytes were written over all
+  -- the same after as many bytes were written over all bytes
   pub sound_over : (new : List ℕ) → length new ≡ length e.bytes → IsSoundArray c (overwritten_exporter e new) runs
   sound_over new long =
       let whole : (overwritten_exporter e new).bytes ≡ new = ap (λ m. take m (new ++ drop (length new) e.bytes)) (sym long) ∙ take-append_seam new (drop (length new) e.bytes) in

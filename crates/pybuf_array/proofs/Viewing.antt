@@ -1,4 +1,4 @@
--- The views of an array and those of its bytearray.
+-- How the views of an array go with those of its bytearray.
 use Rattle.std.proofs.Common.{◌≡◌, ℕ, zero, suc, ◌<◌, ◌≤◌, ◌⊎◌, inl, inr, Bool, true, false, not, List, [], ◌∷◌, ◌++◌, length, set, refl, sym, ap, subst, ◌∙◌, arith, slice_get, Some, length-append, length-set}
 use Rattle.std.specs.Prelude.{Option, None, Result, Ok, Err, OnErr, MatchResult, ok_or}
 use Rattle.pybuf_value.specs.declared.faults.Fault.{Fault}
@@ -82,7 +82,7 @@ seen_of (q ∷ runs) (w ∷ views) zero r b is same live =
     not_not false = refl
 seen_of (q ∷ runs) (w ∷ views) (suc k) r b is same live = seen_of runs views k r b is (omega arith) live
 
--- fewer numbers are below a greater one
+-- What lies below a number lies below a greater one.
 pub below_more : (n m : ℕ) (r : IndexRun) → n ≤ m → LiesBelow n r → LiesBelow m r
 below_more n m r less below = by r.falls r.start r.stride r.count below
   where

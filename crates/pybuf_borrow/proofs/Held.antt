@@ -1,4 +1,4 @@
--- A borrow once its bytes were written.
+-- A borrow after its bytes were written.
 use Rattle.std.proofs.Common.{◌≡◌, ℕ, List, true, ap, subst}
 use Rattle.std.specs.Borrow.{MutBor}
 use Rattle.std.proofs.Math.Bool.{Bool-set}
@@ -13,7 +13,7 @@ use Rattle.pybuf_borrow.specs.declared.memory.ArgMemoryBuffer.{ArgMemoryBuffer}
 abbrev pub borrow_of : (s : MutBor StoredExporter) (u : Subject) → is_writable s.now.exporter u ≡ true → ArgMemoryBuffer
 borrow_of s u p = record { state = s; subject = u; writable = p }
 
--- which proof a borrow holds doesn't matter
+-- It doesn't matter which proof a borrow has.
 any_proof : (s : MutBor StoredExporter) (u : Subject) (p q : is_writable s.now.exporter u ≡ true) → borrow_of s u p ≡ borrow_of s u q
 any_proof s u p q = ap (borrow_of s u) (Bool-set _ _ p q)
 

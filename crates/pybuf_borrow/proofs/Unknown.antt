@@ -17,7 +17,7 @@ use Rattle.pybuf_borrow.specs.Arguments.{argument_of}
 use Rattle.pybuf_borrow.specs.Writable.{asked_to_write}
 use Rattle.pybuf_borrow.specs.Laws.{UnknownArgumentsAreRefused}
 
--- where the first check refuses, so does the chain
+-- If the first check refuses, so does the chain.
 first_refuses : {A B : Type 0} (r : Result A Fault) (f : A → Result B Fault) (g : Fault) → r ≡ Err g → (r >>= f) ≡ Err g
 first_refuses r f g is = ap (λ s. s >>= f) is
 

@@ -1,4 +1,4 @@
--- Bytes that are written where the items of a view lie, one after the other.
+-- Bytes that are written where the items of a view lie one after the other.
 use Rattle.std.proofs.Common.{◌≡◌, ℕ, zero, suc, ◌+◌, ◌-◌, ◌*◌, ◌%◌, ◌<◌, ◌≤◌, List, [], ◌∷◌, ◌++◌, length, take, drop, Bool, true, false, not, true≢false, refl, ap, sym, subst, ◌∙◌, arith}
 use Rattle.std.specs.Prelude.{slice_index, slice_get, All, Option, Some, None, Ok, ◌&&◌}
 use Rattle.std.proofs.Math.Seq.{drop-append_seam, drop-nil}
@@ -23,7 +23,7 @@ use Rattle.pybuf_borrow.specs.Laws.{ChangesTheLentBytesAlone, BorrowsChangeTheLe
 
 -- ---- lists
 
--- bytes with others from a place on
+-- the bytes with others written over them from a place on
 abbrev pub run_in : List ℕ → ℕ → List ℕ → List ℕ
 run_in old s new = take s old ++ (new ++ drop (length new) (drop s old))
 
@@ -59,7 +59,7 @@ run_behind old s new fits =
 
 -- ---- the content of items that lie one after the other
 
--- the item of all bytes
+-- Items that lie one after the other are one item of all their bytes.
 whole_item : (bytes : List ℕ) (view : Layout) (n count : ℕ) (starts : List ℕ) → view.starts ≡ starts → 0 < length starts → count ≡ 1
     → bytes_of_items bytes n (starts_from view.starts n count) ≡ take n (drop (slice_index view.starts 0) bytes)
 whole_item bytes view n count [] same some one = absurd (omega (arith, some))

@@ -1,4 +1,4 @@
--- The views that buffers are made of are sound.
+-- The view that a buffer is made of is sound.
 use Rattle.std.proofs.Common.{◌≡◌, ℕ, List, length, Bool, true, false, not, sym, subst, ap, ◌∙◌, refl, true≢false, rules}
 use Rattle.std.specs.Prelude.{Result, Ok, Err, ◌==◌, ◌&&◌, nat_lt, ◌<◌}
 use Rattle.pybuf_value.specs.declared.faults.Fault.{Fault}
@@ -32,7 +32,7 @@ vector_made one e new d bytes n k long is stands made =
     sym (ap (λ (pair : Exporter × _). pair.0) made) ∙ ap (λ (x : Exporter). (with_view x (layout_at d 0)).0) is
     ∙ ap (λ (l : Layout). (with_view (new_exporter (kinds.Vector true) bytes) l).0) (sym (vector_layout one d bytes n long stands))
 
--- ---- of a checked format
+-- ---- a format that passed its checks
 
 sized_one : (same some readonly : Bool) → some ≡ true → (unless (not same) fault.Kind >>= λ u. unless readonly fault.Kind) ≡ Ok true → (some && same) ≡ true
 sized_one true some readonly is done = cc

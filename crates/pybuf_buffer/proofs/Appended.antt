@@ -1,4 +1,4 @@
--- What a walk that appends its ranges keeps.
+-- What a walk keeps that appends its ranges.
 use Rattle.std.proofs.Common.{◌≡◌, ℕ, zero, suc, ◌+◌, ◌*◌, ◌<◌, ◌≤◌, List, ◌++◌, length, take, drop, le_refl, arith, append_assoc, ap, ap₂, sym, subst, ◌∙◌}
 use Rattle.std.specs.Prelude.{All, pos, true}
 use Rattle.std.specs.declared.ops.Range.{Range}
@@ -17,7 +17,7 @@ use Rattle.pybuf_desc.specs.Segments.{bytes_in, ranges_of, joined_count}
 use Rattle.pybuf_desc.specs.Laws.{RangesHaveTheContent, LinesHaveTheirPieces}
 use Rattle.pybuf_memoryview.specs.Laws.{ContentsAreWhole}
 
--- the ranges are not empty backwards, and end inside
+-- No range ends before it begins, and each ends inside.
 abbrev pub AreInOrder : List (Range ℕ) → Type 0
 AreInOrder ranges = All (λ (range : Range ℕ). range.start ≤ range.end) ranges
 
@@ -102,12 +102,12 @@ length-pieces source from size (suc n) all =
     ∙ ap₂ (λ (x y : ℕ). x + y) (length-pieces source from size n (λ some k less. all some k (let more : k < suc n = omega (arith, less) in more)))
     (piece_long source (from n) size (λ some. all some n (let last : n < suc n = omega arith in last))) ∙ whole
 
--- as many bytes as the items of the line have
+-- There are as many bytes as the items of the line have.
 pub line_long : LinesHaveTheirPieces → (line : SegmentLine) (bytes : List ℕ) → AreInside line.track.falls line.track.start line.track.step line.count line.size (length bytes)
     → length (flat_map (bytes_in bytes) (ranges_of_line line)) ≡ line.size * line.count
 line_long law line bytes inside = ap length (law line bytes) ∙ length-pieces bytes (place_of line.track.falls line.track.start line.track.step) line.size line.count inside.high
 
--- the ranges of the walk have as many bytes as the descriptor says
+-- The ranges of the walk have as many bytes as the descriptor says.
 pub walk_long : RangesHaveTheContent → ContentsAreWhole → (d : Descriptor) (start : ℕ) (layout : Layout) (bytes : List ℕ) → IsPlaced d start → IsValid d start (length bytes) → Stands d start layout → HasItemsOfItsShape layout → LiesInside (length bytes) layout
     → length (flat_map (bytes_in bytes) (ranges_of d (pos start) (joined_count d true))) ≡ d.len
 walk_long content whole d start layout bytes placed valid stands items inside =

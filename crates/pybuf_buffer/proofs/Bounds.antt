@@ -9,7 +9,7 @@ use Rattle.pybuf_desc.specs.Laws.{IsTail, TailsAreGreatest}
 use Rattle.pybuf_buffer.specs.Appending.{shape_before_tail}
 use Rattle.pybuf_buffer.specs.Laws.{RangeCountsAreBounded, RangeCountsAreBoundedByRows, has_joined_rows, is_stride}
 
--- ---- none, or a number
+-- ---- none, or a number of them
 
 at_most : (n m most : ℕ) → (0 < n → m ≤ most) → (if n == 0 then 0 else m) ≤ most
 at_most zero m most h = omega arith
@@ -51,7 +51,7 @@ nothing_first : (k : ℕ) → product (take k []) ≤ 1
 nothing_first zero = le_refl 1
 nothing_first (suc k) = le_refl 1
 
--- ---- by the tail
+-- ---- the bound by the tail
 
 whole_tail : TailsAreGreatest → (view : Layout) → length view.shape ≡ length view.strides → AreRowMajor view.itemsize view.shape view.strides → length view.shape - tail_of_layout view ≡ 0
 whole_tail greatest view long packed =
@@ -68,9 +68,9 @@ are_bounded greatest view = record {
   none = λ e. ap (λ (n : ℕ). if n == 0 then 0 else product (shape_before_tail view)) e;
 }
 
--- ---- by rows
+-- ---- the bound by rows
 
--- a last dimension whose stride is the item size is packed
+-- If the stride of the last dimension is the item size, that dimension is packed.
 last_packed : (size : ℕ) (shape : List ℕ) (strides : List ℤ) → length shape ≡ length strides → is_stride size (slice_get strides (length strides - 1)) ≡ true
     → AreRowMajor size (drop (length shape - 1) shape) (drop (length shape - 1) strides)
 last_packed size [] strides long joined = tt
@@ -92,7 +92,7 @@ by_dimensions size (n ∷ shape) strides t tail packed =
     let one : 1 ≤ t = tail.greatest 1 (let long : 1 ≤ suc (length shape) = omega arith in long) packed in
     omega (arith, one)
 
--- so the tail has one dimension at least, where there is any
+-- So if there is a dimension, the tail has at least one.
 some_tail : TailsAreGreatest → (view : Layout) → length view.shape ≡ length view.strides → has_joined_rows view ≡ true → length view.shape - tail_of_layout view ≤ length view.shape - 1
 some_tail greatest view long joined =
     let tail : IsTail view.itemsize view.shape view.strides (tail_of_layout view) = greatest view.itemsize view.shape view.strides long in

@@ -38,20 +38,20 @@ counted : (empty : Bool) (f : ℤ → Range ℕ) (ps : List ℤ) (n : ℕ) → l
 counted true f ps n same = refl
 counted false f ps n same = length-map ps f ∙ same
 
--- of a descriptor
+-- the number of a descriptor's ranges
 ranges_counted : (d : Descriptor) (start : ℤ) (joined : ℕ) → length (ranges_of d start joined) ≡ (if product (shape_of d.dims) == 0 then 0 else product (take (length (shape_of d.dims) - joined) (shape_of d.dims)))
 ranges_counted d start joined =
     counted (product (shape_of d.dims) == 0) (range_at (product (shape_of (joined_dims joined d.dims)) * d.itemsize)) (places (outer_dims joined d.dims) start)
     (product (take (length (shape_of d.dims) - joined) (shape_of d.dims))) (length-places (outer_dims joined d.dims) start ∙ outer_is d.dims joined)
 
--- of the view that it stands for
+-- the number of ranges of the view that a descriptor stands for
 pub ranges_are_counted : (d : Descriptor) (start : ℕ) (layout : Layout) → IsPlaced d start → Stands d start layout → length (ranges_of d (pos start) (joined_count d true)) ≡ range_count layout
 ranges_are_counted d start layout placed stands =
     ranges_counted d (pos start) (tail_of d)
     ∙ ap (λ (shape : List ℕ). if product shape == 0 then 0 else product (take (length shape - tail_of_strides d.itemsize shape (strides_of d.dims)) shape)) stands.shape
     ∙ ap₂ (λ (size : ℕ) (strides : List ℤ). if product layout.shape == 0 then 0 else product (take (length layout.shape - tail_of_strides size layout.shape strides) layout.shape)) stands.itemsize stands.strides
 
--- ---- where
+-- ---- where they lie
 
 at_in_order : (size : ℕ) (p : ℤ) → (range_at size p).start ≤ (range_at size p).end
 at_in_order size p = omega arith
@@ -63,7 +63,7 @@ if_in_order false size ps = All-map (λ (range : Range ℕ). range.start ≤ ran
 pub ranges_in_order : (d : Descriptor) (start : ℤ) (joined : ℕ) → All (λ (range : Range ℕ). range.start ≤ range.end) (ranges_of d start joined)
 ranges_in_order d start joined = if_in_order (product (shape_of d.dims) == 0) (product (shape_of (joined_dims joined d.dims)) * d.itemsize) (places (outer_dims joined d.dims) start)
 
--- ---- that none is empty
+-- ---- no range is empty
 
 factor : (a b : ℕ) → 0 < a * b → 0 < b
 factor a zero some = absurd (omega (arith, some))
@@ -91,7 +91,7 @@ ranges_nonempty d start joined sized =
     if_nonempty (product (shape_of d.dims) == 0) (product (shape_of (joined_dims joined d.dims)) * d.itemsize) (places (outer_dims joined d.dims) start)
     (λ is. mul-pos (some_rest (length d.dims - joined) d.dims (not_empty (product (shape_of d.dims)) is)) sized)
 
--- ---- both
+-- ---- both together
 
 pub are_counted : RangesAreCounted
 are_counted d start view placed stands = record {

@@ -1,4 +1,4 @@
--- The names that the two walks by hand cite, passed on from one place, and two facts on an answer.
+-- One place for the names that the two walks by hand cite, and two facts on an answer.
 use Rattle.std.proofs.Common.{T, not}
 pub use Rattle.std.proofs.Common.{◌≡◌, ℕ, ◌<◌, ◌^◌, List, [], ◌∷◌, refl, sym, ap, ◌∙◌, subst, lit<, w64, MutBor, length, Bool, true, false, Option, Some, None}
 pub use Rattle.std.proofs.Flags.{T_true}

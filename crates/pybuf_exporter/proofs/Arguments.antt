@@ -1,4 +1,4 @@
--- What reads arguments never refuses them with `StructError` or `BufferError`.
+-- No argument is refused with `StructError` or `BufferError`.
 use Rattle.std.proofs.Common.{◌≡◌, ℕ, zero, suc, ◌^◌, ◌++◌, List, [], ◌∷◌, Bool, true, false, refl, length}
 use Rattle.std.specs.Prelude.{◌==◌, ◌&&◌, ◌||◌, not, ℤ, pos, negsuc, Option, Some, None, Result, Ok, Err, nat_lt, if◌then◌else◌}
 use Rattle.std.specs.Option.{ok_or}
@@ -51,18 +51,18 @@ abbrev pub is_struct : Fault → Bool
 is_struct fault.Struct = true
 is_struct _ = false
 
--- the faults that no effect but an edit is refused with
+-- the faults with which only edits are refused
 abbrev pub is_of_edits : Fault → Bool
 is_of_edits fault.Struct = true
 is_of_edits fault.Buffer = true
 is_of_edits _ = false
 
--- a result that is refused with neither
+-- The result isn't refused with either of these faults.
 abbrev pub Known : {A : Type 0} → Result A Fault → Type 0
 Known (Ok x) = Unit {0}
 Known (Err f) = is_of_edits f ≡ false
 
--- a result of an edit, which isn't refused with `StructError`
+-- The result of an edit isn't refused with `StructError`.
 abbrev pub Edited : {A : Type 0} → Result A Fault → Type 0
 Edited (Ok x) = Unit {0}
 Edited (Err f) = is_struct f ≡ false
@@ -205,7 +205,7 @@ bytes_in pairs (value.Tuple parts) = bytes_in_parts parts
 bytes_in pairs (value.List parts) = bytes_in_parts parts
 bytes_in pairs _ = refl
 
--- ---- what bytes are made of
+-- ---- the bytes that something new is made of
 
 zeros_of : (n : ℤ) → Known (options.zeros_of n)
 zeros_of (pos n) = tt

@@ -1,4 +1,4 @@
--- `set` of a view by a slice, as a whole command, is by value.
+-- `set` of a view by a slice, as a whole command, assigns by value.
 use Rattle.std.proofs.Common.{◌≡◌, ℕ, ◌*◌, ◌<◌, List, [], ◌∷◌, ◌++◌, length, Bool, true, false, true≢false, ap, sym, ◌∙◌, refl, subst, arith}
 use Rattle.std.specs.Prelude.{All, ◌&&◌, ◌==◌, nat_lt, Option, Some, None, Result, Ok, Err, slice_get, IfSome, if◌then◌else◌}
 use Rattle.std.specs.Option.{ok_or, option_map}
@@ -206,7 +206,7 @@ source_items hold e loans (value.Slices parts) source j sound is unreleased belo
 
 -- ---- the law
 
--- items of a view have at least one byte
+-- Items of a view have at least one byte.
 some_byte : (size : ℕ) (r : Result Format Fault) → is_size_of size r ≡ true → 0 < size
 some_byte size (Ok format) is = ltb-true 0 size (both_true (nat_lt 0 size) (format.size == size) is).0
 some_byte size (Err f) is = absurd (true≢false (sym is))

@@ -1,4 +1,4 @@
--- What `castf` makes of a view has, in column order, the bytes of that view, as `bytes` replies both.
+-- `castf` makes a view whose bytes in column order are those of the old view, and `bytes` replies both.
 use Rattle.std.proofs.Common.{◌≡◌, ◌⊎◌, inl, inr, ℕ, zero, suc, List, [], ◌∷◌, ◌++◌, length, Bool, true, false, ap, ap₂, sym, ◌∙◌, refl, subst, arith}
 use Rattle.std.specs.Prelude.{◌&&◌, ◌||◌, ◌==◌, not, bytes_eq, Option, Some, None, Result, Ok, Err, slice_get, if◌then◌else◌}
 use Rattle.std.specs.Option.{ok_or}
@@ -28,13 +28,13 @@ use Rattle.pybuf_exporter.specs.Columns.{bytes_replied, order_named, GivesTheByt
 use Rattle.pybuf_exporter.specs.Laws.{CommandsKeepSound}
 use Rattle.pybuf_exporter.proofs.Iterating.{get-middle}
 
--- ---- one order, where items lie one after the other in both
+-- ---- a single order, if items lie one after the other in both
 
 no_items : (starts : List ℕ) → length starts ≡ 0 → starts ≡ []
 no_items [] none = refl
 no_items (s ∷ starts) none = absurd (omega (arith, none))
 
--- whether they do in column order, by the number of items
+-- The number of items decides whether they lie so in column order.
 columns_of_some : (starts columns run : List ℕ) (b : Bool) → (length starts == 0) ≡ b → b || bytes_eq columns run ≡ true → (starts ≡ []) ⊎ (columns ≡ run)
 columns_of_some starts columns run true is told = inl (no_items starts (eqb-true (length starts) 0 is))
 columns_of_some starts columns run false is told = inr ((bytes_eq-Decides columns run).0 told)
@@ -85,7 +85,7 @@ read_by e k layout letter live = ap (λ (found : Result Layout Fault). read_in e
 view_numbered : (j k : ℕ) → reply.View j ≡ reply.View k → j ≡ k
 view_numbered j k is = cc
 
--- the view that was made is there
+-- The view that was made is there.
 made_live : (e : Exporter) (cast : Layout) → live_layout (with_view e cast).0 (length e.views) ≡ Ok cast
 made_live e cast =
     let v : View = record { made_at = length e.bytes; layout = cast; released = false } in

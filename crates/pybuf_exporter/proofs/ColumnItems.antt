@@ -1,4 +1,4 @@
--- The item at any indices of a view, in its bytes row by row and in column order.
+-- Where the item at any indices of a view stands, in its bytes row by row and in column order.
 use Rattle.std.proofs.Common.{◌≡◌, ℕ, zero, suc, ◌+◌, ◌*◌, ◌<◌, List, [], ◌∷◌, ◌++◌, length, map, flat_map, Bool, ap, sym, ◌∙◌, refl, subst, mul_comm, arith}
 use Rattle.std.specs.Prelude.{Option, Some, None, Result, Ok, Err, slice_get, slice_index}
 use Rattle.std.specs.List.{range_with_len}
@@ -41,7 +41,7 @@ get-right : {X : Type 0} (xs ys : List X) (k : ℕ) → slice_get (xs ++ ys) (le
 get-right [] ys k = ap (slice_get ys) (let z : 0 + k ≡ k = omega arith in z)
 get-right (x ∷ xs) ys k = ap (slice_get (x ∷ (xs ++ ys))) (let z : suc (length xs) + k ≡ suc (length xs + k) = omega arith in z) ∙ get-right xs ys k
 
--- an element of the m-th block, of blocks of the same length
+-- an element of the m-th block, if all blocks have the same length
 in_block : {X Y : Type 0} (f : X → List Y) (n : ℕ) → ((x : X) → length (f x) ≡ n) → (xs : List X) (m i : ℕ) (x : X) → slice_get xs m ≡ Some x → i < n → slice_get (flat_map f xs) (i + n * m) ≡ slice_get (f x) i
 in_block f n each [] m i x given inside = absurd (cc)
 in_block f n each (y ∷ xs) zero i x given inside =
@@ -62,7 +62,7 @@ long_blocks f n each (x ∷ xs) =
     let first = each x in
     length-append (f x) (flat_map f xs) ∙ grind (arith, first, rest)
 
--- the lists of indices of which the first is below a bound
+-- the lists of indices whose first index is below a bound
 abbrev one_more : ℕ → List ℕ → List (List ℕ)
 one_more n indices = map (λ index. index ∷ indices) (range_with_len 0 n)
 

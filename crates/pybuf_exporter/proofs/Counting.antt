@@ -1,4 +1,4 @@
--- What a command moves, and queues of commands.
+-- How many bytes a command moves, and queues of commands.
 use Rattle.std.proofs.Common.{◌≡◌, ℕ, ◌+◌, ◌≤◌, List, [], ◌∷◌, true, false, true≢false, sym, subst, ap, ap₂, refl, inl, inr, arith}
 use Rattle.std.specs.Prelude.{Result, Ok, Err, IsOk, IsErr, OnOk, OnErr}
 use Rattle.pybuf_value.specs.declared.faults.Fault.{Fault}
@@ -100,7 +100,7 @@ no_growth e (verb.Hex sep group) lents is grows = true≢false (sym grows)
 no_growth e (verb.Call method) lents is grows = true≢false (sym grows)
 no_growth e (verb.Set key v) lents is grows = true≢false (sym grows)
 
--- a verb that is no edit has no effect among the edits
+-- A verb that is no edit has no effect among the edits.
 pub no_edit : (e : Exporter) (v : Verb) (lents : List Lent) → is_edit v ≡ false → edit_of_own e v lents ≡ Err fault.UnknownName
 no_edit e (verb.Append v) lents is = absurd (true≢false is)
 no_edit e (verb.Extend v) lents is = absurd (true≢false is)
@@ -150,28 +150,28 @@ no_edit e (verb.Set (value.Slices slices) v) lents is = refl
 abbrev Effect : Type 0
 Effect = Result (Exporter × LocalReply) Fault
 
--- what holds where an effect is done holds of a command that is carried out
+-- What holds if an effect isn't refused holds of a command that is carried out.
 pub where_done : (P : Type 0) (effect : Effect) (old new : Exporter) (a : Result LocalReply Halt) → Answers effect old a new → IsOk effect → (a ≡ Err halt.NoMemory → ⊥) → OnOk a P → P
 where_done P effect old new (Ok r) answers done never holds = holds
 where_done P effect old new (Err (halt.Refused f)) answers done never holds = absurd (true≢false (sym (subst IsOk answers.0 done)))
 where_done P effect old new (Err halt.NoMemory) answers done never holds = absurd (never refl)
 
--- and what holds where it isn't, of one that is refused
+-- What holds if an effect is refused holds of a command that is refused.
 pub where_refused : (P : Type 0) (effect : Effect) (old new : Exporter) (a : Result LocalReply Halt) → Answers effect old a new → IsErr effect → OnErr a P → P
 where_refused P effect old new (Ok r) answers refused holds = absurd (true≢false (sym (subst IsErr answers refused)))
 where_refused P effect old new (Err h) answers refused holds = holds
 
--- what holds of a command that leaves the length
+-- What holds of a command that leaves the length as it is.
 pub still_by : (P Q : Type 0) (a : Result LocalReply Halt) → OnOk a (P → Q) → P → OnOk a Q
 still_by P Q (Ok r) then holds = then holds
 still_by P Q (Err h) then holds = then
 
--- in either case few bytes are moved
+-- In either case, few bytes are moved.
 pub few_moved : (a : Result LocalReply Halt) (before after most : ℕ) → OnOk a (after ≤ before + most) → OnErr a (after ≡ before) → after ≤ before + most
 few_moved (Ok r) before after most done gone = done
 few_moved (Err h) before after most done gone = omega (arith, gone)
 
--- where memory runs out
+-- This holds if memory runs out.
 pub without_memory : (P : Type 0) (a : Result LocalReply Halt) → a ≡ Err halt.NoMemory → OnErr a P → P
 without_memory P (Ok r) gone holds = absurd (cc)
 without_memory P (Err h) gone holds = holds
@@ -195,12 +195,12 @@ pub where_err : {A E : Type 0} (P Q : Type 0) (r : Result A E) → OnErr r P →
 where_err P Q (Ok a) holds then = holds
 where_err P Q (Err x) holds then = then holds
 
--- where memory runs out, exporter and room are as before
+-- If memory runs out, the exporter and the room are as before.
 pub closes_stored : {R E : Type 0} (effect : Effect) (old new : Exporter) (m n : ℕ) (a : Result LocalReply Halt) (r : Result R E) → Answers effect old a new → OnErr a (n ≡ m) → OnErr r (a ≡ Err halt.NoMemory) → OnErr r (stored new n ≡ stored old m)
 closes_stored effect old new m n a r answers rooms memory =
     where_err _ _ r memory (λ gone. same_stored new old n m (same_exporter effect old new a gone answers) (without_memory _ a gone rooms))
 
--- so it is where the room stays in any case
+-- This holds if the room stays in any case.
 pub always_on_err : {R E : Type 0} (P : Type 0) (r : Result R E) → P → OnErr r P
 always_on_err P (Ok x) holds = tt
 always_on_err P (Err e) holds = holds
@@ -210,7 +210,7 @@ stored_on_err r old new m n same rooms = where_err _ _ r same (λ exporters. sam
 
 -- ---- queues
 
--- what is left to be paid for: the moves up to now, and the room
+-- A step pays for its moves: the moves up to now and the room stay below what was there and what was taken out.
 step_pays : (command : LocalCommand) (cut : ℕ) (old : StoredExporter) (before : ℕ) (new : StoredExporter) (after : ℕ) → IsQueueStep command cut old before new after → after + new.room ≤ before + (old.room + cut)
 step_pays command cut old before new after step =
     elim step.1 [

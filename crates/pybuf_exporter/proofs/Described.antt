@@ -1,4 +1,5 @@
--- The descriptor of a view stands for it, and is valid for the exporter's length while it is unreleased.
+-- The descriptor of a view stands for the view. While the view is unreleased, its descriptor is valid for the
+-- exporter's length.
 use Rattle.std.proofs.Common.{◌≡◌, ℕ, zero, suc, ◌<◌, List, [], ◌∷◌, length, true, false, sym, subst, refl, arith}
 use Rattle.std.specs.Prelude.{Option, Some, None, Ok, Err, IsSomeAnd, slice_get}
 use Rattle.std.specs.List.{All}
@@ -13,7 +14,7 @@ use Rattle.pybuf_desc.specs.Laws.{ValidWhereItemsLieInside}
 use Rattle.pybuf_state.specs.Exporter.{Exporter, View, view_at}
 use Rattle.pybuf_state.specs.Sound.{IsSoundView, IsSoundExporter}
 
--- what holds of each holds of the one that is found
+-- What holds of each element holds of one that is found.
 All-slice_get : {X : Type 0} (P : X → Type 0) (xs : List X) (k : ℕ) (x : X) → All P xs → slice_get xs k ≡ Some x → P x
 All-slice_get P xs k x all at = subst P (get_or_from_slice_get xs k x x at) (all k x (slice_get_within xs k x at))
 

@@ -1,4 +1,4 @@
--- Every command, by the laws of its effect.
+-- What holds of every command, by the laws of its effect.
 use Rattle.std.proofs.Common.{◌≡◌, ℕ, ◌+◌, ◌<◌, ◌≤◌, List, [], ◌∷◌, length, get_or, Bool, true, false, true≢false, ap, ap₂, sym, ◌∙◌, refl, subst, arith, inl}
 use Rattle.std.specs.Prelude.{◌==◌, ◌&&◌, nat_lt, slice_get, slice_index, Option, Some, Result, Ok, Err, if◌then◌else◌}
 use Rattle.std.proofs.lemmas.Option.{slice_get-get_or, slice_get_within}
@@ -95,7 +95,7 @@ set_in_own_safe laws e (value.Tuple parts) v lents = laws.set.0 e (value.Tuple p
 set_in_own_safe laws e (value.List parts) v lents = laws.set.0 e (value.List parts) v
 set_in_own_safe laws e (value.Slices slices) v lents = laws.set.0 e (value.Slices slices) v
 
--- a line for each effect
+-- a lemma for each effect
 pub effects_safe : EffectLaws → EffectsAreSafe
 effects_safe laws e subject.Own verb.View lents = laws.view.0 e
 effects_safe laws e subject.Own (verb.Get key) lents = laws.get.0 e key
@@ -177,8 +177,8 @@ effects_safe laws e (subject.Iter k) v lents = laws.iterators e k v
 
 -- ---- every command
 
--- a reply is no refusal, something fresh is a copy, by which the exporter is as before, what is shown is one
--- line, and a view or an iterator that is named is there
+-- A reply is no refusal. If it is something fresh, that is a copy, and the exporter is as before. If it shows a
+-- text, that is one line. If it names a view or an iterator, that is there.
 abbrev pub IsReplyTo : Exporter → Subject → Exporter → LocalReply → Type 0
 IsReplyTo e s new (reply.Refused f) = ⊥
 IsReplyTo e s new (reply.Fresh snap) = (new ≡ e) × IsCopyOf e s snap
@@ -187,7 +187,7 @@ IsReplyTo e s new (reply.View k) = has_subject new (subject.View k) ≡ true
 IsReplyTo e s new (reply.Iter k) = has_subject new (subject.Iter k) ≡ true
 IsReplyTo e s new _ = Unit {0}
 
--- what every command leaves of a sound exporter
+-- what every command keeps of a sound exporter
 pub record IsLeft (old new : Exporter) : Type 0 where
   pub sound : IsSoundExporter new
   pub lengths : LengthsStay old new
@@ -195,7 +195,7 @@ pub record IsLeft (old new : Exporter) : Type 0 where
   pub iterators : IteratorsStay old.iterators new.iterators
   pub items_apart : IsSpaced old → IsSpaced new
 
--- what every effect owes where it isn't refused
+-- what holds of every effect that isn't refused
 pub record IsStep (e : Exporter) (s : Subject) (v : Verb) (after : Exporter × LocalReply) : Type 0 where
   pub leaves : IsSoundExporter e → IsLeft e after.0
   pub others : is_of_iterators s v ≡ false → IsSoundExporter e → after.0.iterators ≡ e.iterators
@@ -214,7 +214,7 @@ left_so old new keeps = record {
   items_apart = keeps.items_apart;
 }
 
--- where nothing but iterators changes
+-- Nothing but iterators changes.
 iterated_so : ReadingKeeps → (e new : Exporter) → new ≡ record e { iterators = new.iterators } → IteratorsStay e.iterators new.iterators → IsSoundExporter e → IsLeft e new
 iterated_so reading e new same stay sound =
     subst (IsLeft e) (sym same)
@@ -404,7 +404,7 @@ bytes_stay_so effects reading e s v loans sound = (step_leaves effects reading e
 pub iterators_stay_so : EffectsAreSafe → ReadingKeeps → IteratorsStayUnderCommands
 iterators_stay_so effects reading e s v loans sound = (step_leaves effects reading e s v loans sound).iterators
 
--- commands of iterators, and all others
+-- commands of iterators, and all other commands
 settled_others : (e : Exporter) (s : Subject) (v : Verb) (r : Result (Exporter × LocalReply) Fault) → IfDone (IsStep e s v) r → IsSoundExporter e → is_of_iterators s v ≡ false → (settled_answer e r).0.iterators ≡ e.iterators
 settled_others e s v (Ok after) step sound other = step.others other sound
 settled_others e s v (Err f) step sound other = refl
@@ -420,7 +420,7 @@ settled_iterated e s v (Err f) step is = refl
 pub nothing_else_so : EffectsAreSafe → ReadingKeeps → IterationChangesNothingElse
 nothing_else_so effects reading e s v loans is = settled_iterated e s v (answer_of e s v loans) (answered_step effects reading e s v loans) is
 
--- where the reply is a refusal, the exporter is as before
+-- If the reply is a refusal, the exporter is as before.
 settled_refusal : (e : Exporter) (s : Subject) (v : Verb) (r : Result (Exporter × LocalReply) Fault) (f : Fault) → IfDone (IsStep e s v) r → (settled_answer e r).1 ≡ reply.Refused f → (settled_answer e r).0 ≡ e
 settled_refusal e s v (Ok after) f step is = absurd (subst (IsReplyTo e s after.0) is step.replies)
 settled_refusal e s v (Err g) f step is = refl
@@ -428,7 +428,7 @@ settled_refusal e s v (Err g) f step is = refl
 pub refusals_stay_so : EffectsAreSafe → ReadingKeeps → RefusedCommandsChangeNothing
 refusals_stay_so effects reading e s v loans f is = settled_refusal e s v (answer_of e s v loans) f (answered_step effects reading e s v loans) is
 
--- where the reply is something fresh, the exporter is as before, and it is a copy
+-- If the reply is something fresh, that is a copy, and the exporter is as before.
 settled_fresh : (e : Exporter) (s : Subject) (v : Verb) (r : Result (Exporter × LocalReply) Fault) (snap : Snap) → IfDone (IsStep e s v) r → (settled_answer e r).1 ≡ reply.Fresh snap
     → ((settled_answer e r).0 ≡ e) × (IsCopyOf e s snap)
 settled_fresh e s v (Ok after) snap step is = subst (IsReplyTo e s after.0) is step.replies
@@ -437,7 +437,7 @@ settled_fresh e s v (Err g) snap step is = absurd (cc)
 pub fresh_are_copies : EffectsAreSafe → ReadingKeeps → FreshRepliesAreCopies
 fresh_are_copies effects reading e s v loans snap is = settled_fresh e s v (answer_of e s v loans) snap (answered_step effects reading e s v loans) is
 
--- where the reply shows a text, it is one line
+-- If the reply shows a text, that is one line.
 settled_shown : (e : Exporter) (s : Subject) (v : Verb) (r : Result (Exporter × LocalReply) Fault) (text : List ℕ) → IfDone (IsStep e s v) r → (settled_answer e r).1 ≡ reply.Shown text → is_one_line text ≡ true
 settled_shown e s v (Ok after) text step is = subst (IsReplyTo e s after.0) is step.replies
 settled_shown e s v (Err g) text step is = absurd (cc)
@@ -445,11 +445,11 @@ settled_shown e s v (Err g) text step is = absurd (cc)
 pub shown_are_one_line : EffectsAreSafe → ReadingKeeps → ShownTextsAreOneLine
 shown_are_one_line effects reading e s v loans text is = settled_shown e s v (answer_of e s v loans) text (answered_step effects reading e s v loans) is
 
--- where no two items of a view share a byte
+-- After a command, no two items of a view share a byte, if that was so before.
 pub items_stay_apart : EffectsAreSafe → ReadingKeeps → CommandsKeepItemsApart
 items_stay_apart effects reading e s v loans sound spaced = (step_leaves effects reading e s v loans sound).items_apart spaced
 
--- where the reply names a view or an iterator, it is there
+-- If the reply names a view or an iterator, that is there.
 reply_names : (e : Exporter) (s : Subject) (new : Exporter) (r : LocalReply) → IsReplyTo e s new r → NamesItsOwn new r
 reply_names e s new (reply.View k) is = is
 reply_names e s new (reply.Iter k) is = is
@@ -480,7 +480,7 @@ element_at : {X : Type 0} (xs : List X) (k : ℕ) → k < length xs → X
 element_at [] k below = absurd (omega (arith, below))
 element_at (x ∷ xs) k below = x
 
--- a list that keeps each of its elements by its number has no fewer
+-- A list that keeps each of its elements at its number has no fewer.
 still_there : {X : Type 0} (P : X → X → Type 0) (xs ys : List X) → ((k : ℕ) (x : X) → slice_get xs k ≡ Some x → (y : X) × (slice_get ys k ≡ Some y) × P x y) → (k : ℕ) → nat_lt k (length xs) ≡ true → nat_lt k (length ys) ≡ true
 still_there P xs ys stays k there =
     let below : k < length xs = grind (arith, there) in
@@ -508,7 +508,7 @@ both_true : (a b : Bool) → (a && b) ≡ true → (a ≡ true) × (b ≡ true)
 both_true true b is = (refl, is)
 both_true false b is = absurd (cc)
 
--- a sized format is in the grammar, with the size of an item
+-- A format that has a size is in the grammar, and its items have that size.
 spelled_by : (text : List ℕ) (itemsize : ℕ) (r : Result Format Fault) → format_of text ≡ r → is_size_of itemsize r ≡ true → (f : Format) × (format_of text ≡ Ok f) × (f.size ≡ itemsize)
 spelled_by text itemsize (Ok f) is sized = (f, is, eqb-true f.size itemsize (both_true (nat_lt 0 itemsize) (f.size == itemsize) sized).1)
 spelled_by text itemsize (Err g) is sized = absurd (true≢false (sym sized))
@@ -529,7 +529,7 @@ each_item_is_read live reads e k layout i sound found below =
           ∙ ap item_of_values (reads spelled.0 bytes long),
     )
 
--- the exporter after an answer is sound
+-- The exporter after an answer is sound.
 pub closes_sound : (e new : Exporter) (r : Result LocalReply Halt) (answer : Result (Exporter × LocalReply) Fault) → Answers answer e r new → IsSoundExporter e → IsSoundExporter (settled_answer e answer).0 → IsSoundExporter new
 closes_sound e new (Ok r) answer is sound kept = subst (λ (x : Result (Exporter × LocalReply) Fault). IsSoundExporter (settled_answer e x).0) is kept
 closes_sound e new (Err (halt.Refused f)) answer is sound kept = subst IsSoundExporter (sym is.1) sound

@@ -1,4 +1,4 @@
--- No effect is refused with `StructError`, and none but an edit with `BufferError`, effect by effect.
+-- No effect is refused with `StructError`, and only an edit with `BufferError`, effect by effect.
 use Rattle.std.proofs.Common.{◌≡◌, ℕ, zero, suc, ◌*◌, ◌/◌, ◌%◌, ◌^◌, List, [], ◌∷◌, Bool, true, false, true≢false, refl, ap, ◌∙◌, sym, subst, length, map}
 use Rattle.std.specs.Prelude.{◌≢◌, ◌==◌, ◌&&◌, ◌||◌, not, reverse, ◌-◌, ℤ, pos, negsuc, Option, Some, None, Result, Ok, Err, nat_lt, nat_le, slice_get, slice_index}
 use Rattle.std.specs.List.{list_all, position_or_len}
@@ -170,7 +170,7 @@ only _ = refl
 of_key : (shape : List ℕ) (key : Value) → Known (keys.item_of_key shape key)
 of_key shape key = either (length shape == 0) (keys.only_item key) (keys.item_among shape key) (only key) (among shape key)
 
--- ---- effects that make and end views
+-- ---- effects that make or release views
 
 between : (count : ℕ) (from to : ℤ) → Known (ranges.part_between count from to)
 between count (pos from) (pos to) = either (nat_le from to && nat_le to count) (Ok (from, to - from)) (Err fault.Index) tt refl
@@ -282,7 +282,7 @@ property e k p = bind (unless (properties.is_exports p) fault.UnknownName) _ (ch
 one_live : {A : Type 0} (e : Exporter) (k : ℕ) (f : Layout → A) → Known (state.live_layout e k >>= λ layout. Ok (f layout))
 one_live e k f = bind (state.live_layout e k) _ (live e k) (λ layout. tt)
 
--- an order is one of three letters
+-- An order is one of three letters.
 by_letter : (layout : Layout) (letter : ℕ) → Known (orders.by_letter layout letter)
 by_letter layout letter = either (letter == 67) (Ok false) _ tt (either (letter == 70) (Ok true) _ tt (either (letter == 65) (Ok _) (Err fault.Value) tt refl))
 
@@ -493,13 +493,13 @@ edit e verb.Copy lents = edit_byte_array e.kind (Ok (e, reply.Fresh (snap_of_exp
 edit e (verb.Set key v) lents = set_by_key e key v lents
 edit e _ lents = refl
 
--- ---- a line for each effect
+-- ---- a lemma for each effect
 
 set_own_by_key : (e : Exporter) (key v : Value) (lents : List Lent) → is_edit (verb.Set key v) ≡ false → Known (set_in_own e key v lents)
 set_own_by_key e (value.Slice s) v lents is = absurd (true≢false is)
 set_own_by_key e key v lents is = set_own e key v
 
--- what is no edit
+-- the effect of a verb that is no edit
 plain_own : (e : Exporter) (v : Verb) (lents : List Lent) → is_edit v ≡ false → Known (effect_on_own e v lents)
 plain_own e verb.View lents is = tt
 plain_own e (verb.Range from to) lents is = range e from to

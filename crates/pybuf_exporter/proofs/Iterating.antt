@@ -49,7 +49,7 @@ next_over_bytes e k it x given own goes found =
     ∙ ap (λ (s : Subject). settled_answer e (item_over e s it.position >>= λ y. Ok (moved_on e k it y))) own
     ∙ ap (moved_on e k it) found
 
--- ---- and so on
+-- ---- more than one `next`
 
 pub stops : (more : ℕ) (e : Exporter) (k : ℕ) (it : Iterator) → slice_get e.iterators k ≡ Some it → it.exhausted ≡ true → nexts e k more ≡ replicate more reply.Stop
 stops zero e k it given is = refl
@@ -83,7 +83,7 @@ gives (b ∷ rest) before e k it more n count bytes at given own goes =
     ∙ ap (λ (replies : List LocalReply). item_reply b ∷ replies)
     (gives rest (before ++ b ∷ []) (iterator_put e k moved) k moved more left refl (bytes ∙ sym (append_assoc before (b ∷ []) rest)) (grind (arith, common_steps, at)) (get-set e.iterators k it moved given) own goes)
 
--- where the position is past the end, no byte is given
+-- If the position is past the end, no byte is given.
 by_place : (e : Exporter) (k : ℕ) (it : Iterator) (more : ℕ) (b : Bool) → nat_lt (length e.bytes) it.position ≡ b → slice_get e.iterators k ≡ Some it → it.subject ≡ subject.Own → it.exhausted ≡ false
     → nexts e k (length e.bytes - it.position + more) ≡ map item_reply (drop it.position e.bytes) ++ replicate more reply.Stop
 by_place e k it more true is given own goes =

@@ -1,4 +1,4 @@
--- What has changed where a reply owns memory, effect by effect.
+-- What has changed if a reply owns memory, effect by effect.
 use Rattle.std.proofs.Common.{◌≡◌, ◌⊎◌, inl, inr, ℕ, List, [], ◌∷◌, Bool, true, false, true≢false, ap, sym, refl, arith, zero, suc, ◌+◌, set, subst, length}
 use Rattle.std.specs.Prelude.{◌*◌, ◌^◌, ◌==◌, not, reverse, Option, Some, None, Result, Ok, Err, slice_get, nat_lt, if◌then◌else◌}
 use Rattle.std.specs.List.{position_or_len}
@@ -59,7 +59,7 @@ use Rattle.pybuf_verbs_iters.specs.Iterators.{item_over, moved_on, next_unless, 
 use Rattle.pybuf_exporter.specs.Step.{get_of_view, set_through_view, set_in_own, effect, effect_on_own, effect_on_view, settled_answer}
 use Rattle.pybuf_exporter.specs.Owning.{reply_owns, hands_over, OwningRepliesChangeNothing, TakenBytesAreAll, NextIsUndone, NoIteratorHasNoNext}
 
--- the reply owns no memory, or nothing changed
+-- The reply owns no memory, or nothing changed.
 abbrev IsPlainOrSame : Exporter → Exporter × LocalReply → Type 0
 IsPlainOrSame e after = reply_owns after.1 ≡ true → after.0 ≡ e
 
@@ -85,7 +85,7 @@ chosen : (e : Exporter) (b : Bool) (r s : Result (Exporter × LocalReply) Fault)
 chosen e true r s this that = this
 chosen e false r s this that = that
 
--- what is replied owns no memory
+-- The reply owns no memory.
 no : {A : Type 0} → false ≡ true → A
 no is = absurd (true≢false (sym is))
 
@@ -104,7 +104,7 @@ own_part e (value.Slices slices) = own_byte e (value.Slices slices)
 own_written : (e : Exporter) (key v : Value) → IfDone (IsPlainOrSame e) (set_of_own e key v)
 own_written e key v = in_byte_array e e.kind (byte_set e key v) (bind e (index_in key) _ (λ index. bind e (byte_in v) _ (λ byte. bind e (entry_in (length e.bytes) index) _ (λ place is. no is))))
 
--- where both checks pass, other bytes stand
+-- If both checks pass, there are other bytes.
 own_laid : (e : Exporter) (asked stepped : Result Bool Fault) (bytes : List ℕ) → IfDone (IsPlainOrSame e) (asked >>= λ _. stepped >>= λ _. Ok (with_bytes e bytes))
 own_laid e asked stepped bytes = bind e asked _ (λ _. bind e stepped _ (λ _ is. no is))
 

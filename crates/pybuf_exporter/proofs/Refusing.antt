@@ -1,4 +1,4 @@
--- Edits are refused while a view is unreleased.
+-- Edits that ask for another length are refused while a view is unreleased.
 use Rattle.std.proofs.Common.{◌≡◌, ◌⊎◌, inl, inr, ℕ, List, [], ◌∷◌, ◌++◌, Bool, true, false, true≢false, ap, sym, ◌∙◌, refl, subst}
 use Rattle.std.specs.Prelude.{◌≢◌, ◌==◌, ◌&&◌, Option, Some, None, Result, Ok, Err, slice_get, if◌then◌else◌}
 use Rattle.std.specs.Option.{option_map}
@@ -39,7 +39,7 @@ use Rattle.pybuf_exporter.specs.Effects.{EffectsAreSafe}
 use Rattle.pybuf_exporter.specs.Laws.{AddsItself, IsRefusedWhileExported, ResizingIsRefusedWhileExported, AddingItselfIsRefused, OnlyByteArraysAreAddedTo}
 use Rattle.pybuf_exporter.proofs.Every.{IsReplyTo, IsStep, answered_step}
 
--- the effect of an edit is that edit
+-- The effect of an edit is that edit.
 pub effect_is_edit : (e : Exporter) (v : Verb) (lents : List Lent) → is_edit v ≡ true → effect_on_own e v lents ≡ edit_of_own e v lents
 effect_is_edit e (verb.Append v) lents is = refl
 effect_is_edit e (verb.Extend v) lents is = refl
@@ -84,14 +84,14 @@ effect_is_edit e (verb.Contains v) lents is = absurd (true≢false (sym is))
 effect_is_edit e (verb.Hex sep group) lents is = absurd (true≢false (sym is))
 effect_is_edit e (verb.Call method) lents is = absurd (true≢false (sym is))
 
--- what replies a refusal is refused so
+-- If the effect is refused with a fault, the reply is that refusal.
 refused_by : (e : Exporter) (v : Verb) (r : Result (Exporter × LocalReply) Fault) (f : Fault) → IfDone (IsStep e subject.Own v) r → (settled_answer e r).1 ≡ reply.Refused f → r ≡ Err f
 refused_by e v (Ok after) f step is = absurd (subst (IsReplyTo e subject.Own after.0) is step.replies)
 refused_by e v (Err g) f step is = ap (λ (x : Fault). let gone : Result (Exporter × LocalReply) Fault = Err x in gone) (let same : g ≡ f = cc in same)
 
 -- ---- an exporter that is added to itself
 
--- what is lent first for a handle counts
+-- The first loan for a handle counts.
 first_named : (h : ℕ) (b : Bool) → (if h == h then b else false) ≡ b
 first_named h b = ap (λ (same : Bool). if same then b else false) (eq-eqb h h refl)
 
@@ -110,7 +110,7 @@ either : {A B C : Type 0} → (B → C) → A ⊎ B → A ⊎ C
 either f (inl a) = inl a
 either f (inr b) = inr (f b)
 
--- only a loan of the exporter itself is lent so
+-- Only a loan of the exporter itself is lent as the exporter itself.
 lent_own : (e : Exporter) (h : ℕ) (l : Option Loan) → is_itself (value.One (scalar.Handle h)) (lent_as h (subject_in (given_loan l)) (snap_in e (given_loan l)) ++ []) ≡ true → l ≡ Some loan.Own
 lent_own e h None is = absurd (true≢false (sym is))
 lent_own e h (Some loan.Own) is = refl
@@ -155,7 +155,7 @@ refused_while_exported effects reading asking alone e v loans edit known =
     ap (λ (b : Bool). if b then effect_on_own e v lents else Err fault.UnknownName) known ∙ effect_is_edit e v lents edit in
     replied e v loans (asks e v lents) (edit_of_own e v lents) (answer_of e subject.Own v loans) same (answered_step effects reading e subject.Own v loans) (asking e v lents) (λ is. adds_so e v loans (alone e v lents is))
 
--- a handle that is lent as the exporter itself is known
+-- A handle that is lent as the exporter itself is known.
 known_own : (e : Exporter) (loans : List (ℕ × Loan)) (h : ℕ) → loan_of loans h ≡ Some loan.Own → are_known e loans (h ∷ []) ≡ true
 known_own e loans h is = ap (λ (l : Option Loan). is_named e (given_loan l) && true) is
 

@@ -1,4 +1,4 @@
--- Released views stop nothing.
+-- A released view stops no edit.
 use Rattle.std.proofs.Common.{◌≡◌, ◌⊎◌, inl, inr, ℕ, zero, suc, ◌+◌, List, [], ◌∷◌, Bool, true, false, true≢false, ap, sym, ◌∙◌, refl, arith}
 use Rattle.std.specs.Prelude.{not, cond, nat_lt, count_by, slice_get, Some, Result, Ok}
 use Rattle.std.proofs.lemmas.List.Sums.{sum_by-cons}

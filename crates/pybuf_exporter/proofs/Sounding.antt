@@ -1,4 +1,4 @@
--- What a safe effect answers leaves a sound exporter sound.
+-- A safe effect leaves a sound exporter sound, whatever it answers.
 use Rattle.std.proofs.Common.{◌≡◌, sym, subst}
 use Rattle.std.specs.Prelude.{ℕ, Option, Some, None, Result, Ok, Err}
 use Rattle.pybuf_value.specs.declared.faults.Fault.{Fault}

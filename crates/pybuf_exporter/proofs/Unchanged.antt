@@ -1,4 +1,4 @@
--- Commands that read in place change nothing.
+-- A command that reads in place changes nothing.
 use Rattle.std.proofs.Common.{◌≡◌, List, Bool, true, false, Ok, Err, refl}
 use Rattle.std.specs.Prelude.{Result, if◌then◌else◌}
 use Rattle.pybuf_value.specs.declared.faults.Fault.{Fault}

@@ -1,4 +1,4 @@
--- What was never given is answered with `UnknownName`.
+-- What was never given is refused with `UnknownName`.
 use Rattle.std.proofs.Common.{◌≡◌, ℕ, List, [], ◌∷◌, length, Bool, true, false, true≢false, ap, sym, ◌∙◌, refl, arith}
 use Rattle.std.specs.Prelude.{◌==◌, ◌&&◌, ◌||◌, nat_lt, Option, Some, None, Result, Err, slice_get, if◌then◌else◌}
 use Rattle.std.specs.List.{list_any}
@@ -38,7 +38,7 @@ and_false : (b : Bool) → (b && false) ≡ false
 and_false true = refl
 and_false false = refl
 
--- the unknown one is the first, or among the others
+-- The unknown handle is the first, or one of the others.
 first_or_later : (e : Exporter) (named : ℕ → Option Loan) (h x : ℕ) (is any all : Bool) → (x == h) ≡ is → (is || any) ≡ true → is_named e (named h) ≡ false → (any ≡ true → all ≡ false) → (is_named e (named x) && all) ≡ false
 first_or_later e named h x true any all same among unknown later = ap (λ (n : ℕ). is_named e (named n) && all) (eqb-true x h same) ∙ ap (λ (b : Bool). b && all) unknown
 first_or_later e named h x false any all same among unknown later = ap (λ (b : Bool). is_named e (named x) && b) (later among) ∙ and_false (is_named e (named x))
@@ -56,7 +56,7 @@ unknown_answer e s v named unknown = ap (λ (b : Bool). if b then effect e s v (
 
 -- ---- subjects
 
--- where the first check refuses, so does the chain
+-- If the first check refuses, so does the chain.
 first_refuses : {A B : Type 0} (r : Result A Fault) (f : A → Result B Fault) (g : Fault) → r ≡ Err g → (r >>= f) ≡ Err g
 first_refuses r f g is = ap (λ s. s >>= f) is
 

@@ -1,4 +1,4 @@
--- Iterators over views give their items in order and each once, or are refused, or stop.
+-- An iterator over a view gives its items in order and each once, or is refused, or stops.
 use Rattle.std.proofs.Common.{◌≡◌, ◌⊎◌, inl, inr, ℕ, zero, suc, ◌+◌, ◌-◌, ◌<◌, ◌≤◌, List, [], ◌∷◌, ◌++◌, length, take, drop, map, Bool, true, false, ap, ap₂, sym, ◌∙◌, refl, arith, take-append-drop, append_assoc}
 use Rattle.std.specs.Prelude.{◌≢◌, ◌==◌, not, replicate, Option, Some, None, Result, Ok, Err, slice_get, slice_index, nat_lt, if◌then◌else◌}
 use Rattle.std.specs.Option.{ok_or}
@@ -67,7 +67,7 @@ other_entry e layout position inside differs =
     ∙ ap (λ (b : Bool). unless (not b) fault.NotImplemented >>= λ _. Ok (Some (item_from e.bytes layout (slice_index layout.starts position))))
     (not_one (length layout.shape) (eqb_tells (length layout.shape) 1) differs)
 
--- ---- and so on
+-- ---- more than one `next`
 
 refused : (more : ℕ) (e : Exporter) (k n : ℕ) (it : Iterator) (o : Result Layout Fault) (f : Fault) → slice_get e.iterators k ≡ Some it → it.subject ≡ subject.View n → it.exhausted ≡ false → live_layout e n ≡ o
     → entry_of e o it.position ≡ Err f → nexts e k more ≡ replicate more (reply.Refused f)

@@ -1,4 +1,4 @@
--- The blocks of a range are the slice of that range, with step 1.
+-- The blocks of a range are the slice of that range with step 1.
 use Rattle.std.proofs.Common.{◌≡◌, ◌≢◌, ℕ, zero, suc, ◌+◌, ◌-◌, ◌*◌, ◌^◌, ◌<◌, ◌≤◌, ℤ, pos, Bool, true, false, List, [], ◌∷◌, length, ap, ap₂, subst, ◌∙◌, refl, arith}
 use Rattle.std.specs.Prelude.{Some, nat_lt, ◌+ℤ◌, if◌then◌else◌}
 use Rattle.std.specs.List.{range_with_len}

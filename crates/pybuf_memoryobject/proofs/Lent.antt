@@ -11,7 +11,7 @@ use Rattle.pybuf_state.specs.Laws.{IsSoundLayout, WholeLayoutsAreSound}
 pub lent_layout : DescriptorsStandForOneView → (d : Descriptor) (bytes : List ℕ) (n : ℕ) (readonly : Bool) → n ≡ length bytes → Stands d 0 (bytes_layout n readonly) → bytes_layout (length bytes) readonly ≡ layout_at d 0
 lent_layout one d bytes n readonly long stands = ap (λ (k : ℕ). bytes_layout k readonly) (sym long) ∙ one d 0 (bytes_layout n readonly) stands
 
--- all bytes of an exporter that may be written, to be read alone or not
+-- the view of all bytes of an exporter that may be written, which may be read-only or not
 pub lent_sound : DescriptorsStandForOneView → WholeLayoutsAreSound → (e : Exporter) (d : Descriptor) (n : ℕ) (readonly : Bool) → n ≡ length e.bytes → holds_readonly e.kind ≡ false → Stands d 0 (bytes_layout n readonly) → IsSoundLayout e (layout_at d 0)
 lent_sound one whole e d n readonly long written stands =
     let sound = whole e in

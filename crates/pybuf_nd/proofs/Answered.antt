@@ -1,4 +1,4 @@
--- What the calls answer, from what their steps gave.
+-- What the calls answer, by what their steps gave.
 use Rattle.std.proofs.Common.{◌≡◌, ℕ, ◌*◌, ◌^◌, ◌<◌, ◌&&◌, nat_lt, ℤ, pos, ◌+ℤ◌, ◌*ℤ◌, ◌≤ℤ◌, nat_abs, Bool, false, Result, Ok, List, [], ◌∷◌, length, drop, remove, reverse, refl, ap, ap₂, sym, ◌∙◌, subst, All}
 use Rattle.std.proofs.Math.ListN.{get_or-map}
 use Rattle.std.proofs.lemmas.List.{length-map}
@@ -57,7 +57,7 @@ pub selection_refused : (d : Descriptor) (slices : List SliceParts) (dims cut : 
 selection_refused d slices dims cut b e f h =
     ap (λ t. refusal_of (unless t fault.Value)) (sym (later_zero d slices dims cut b e f h) ∙ ap (λ (ns : List ℕ). has_zero (drop 1 ns)) (shape_cut d.dims slices))
 
--- where the selection starts
+-- The selection starts here.
 abbrev pub StartsAt : Descriptor → ℕ → List SliceParts → ℕ → Type 0
 StartsAt d start slices next =
     has_zero (counts_of (picks_of_each (shape_of d.dims) slices)) ≡ false → pos next ≡ pos start +ℤ offset_of (firsts_of (picks_of_each (shape_of d.dims) slices)) d.dims
@@ -122,7 +122,7 @@ transposed_stands d dims list made can e f m start view stands =
 
 -- ---- planes
 
--- the entry that is named, unless a dimension has no entry
+-- the entry that a place names, unless a dimension has no entry
 abbrev pub unless_zero : Bool → Result ℕ Fault → Result ℕ Fault
 unless_zero b named = do
   entry ← named

@@ -1,4 +1,4 @@
--- What is assigned to a view, by its descriptor.
+-- What is assigned to a view, by the view's descriptor.
 use Rattle.std.proofs.Common.{◌≡◌, ℕ, zero, suc, ◌*◌, ◌<◌, pos, ℤ, Bool, true, false, not, List, [], ◌∷◌, length, map, refl, ap, ap₂, sym, ◌∙◌, subst, arith, true≢false, zero-mul}
 use Rattle.std.specs.Prelude.{◌==◌, nat_abs, Ok}
 use Rattle.std.proofs.lemmas.Bool.{eq-eqb}
@@ -27,7 +27,7 @@ all_entered : (dims : List (ℕ × ℤ × ℤ)) → 0 < product (shape_of dims) 
 all_entered [] some = tt
 all_entered (dim ∷ dims) some = (left_some dim.0 (product (shape_of dims)) some, all_entered dims (right_some dim.0 (product (shape_of dims)) some))
 
--- where there are bytes, no dimension is without an entry
+-- If there are bytes, no dimension lacks an entry.
 pub entered_of : (d : Descriptor) (dims : List (ℕ × ℤ × ℤ)) (start room : ℕ) (content : List ℕ) → IsValid d start room → dims ≡ d.dims → length content ≡ d.len → 0 < length content → Entered dims
 entered_of d dims start room content valid same long some =
     let whole : 0 < d.itemsize * product (shape_of d.dims) = (let len = valid.len in omega (arith, len, long, some)) in
@@ -47,7 +47,7 @@ passed true long e writable as_many = absurd (true≢false writable)
 passed false false e writable as_many = absurd (true≢false (sym as_many))
 passed false true e writable as_many = refl
 
--- all bytes are laid over the items of the view
+-- All bytes are written over the items of the view.
 pub assigned_all : (e new : Exporter) (d : Descriptor) (start size : ℕ) (view : Layout) (content : List ℕ) (dims : List (ℕ × ℤ × ℤ)) → Stands d start view → IsValid d start (length e.bytes)
     → d.readonly ≡ false → length content ≡ d.len → dims ≡ d.dims → size ≡ d.itemsize → new ≡ record e { bytes = laid e.bytes size (map nat_abs (places dims (pos start))) content }
     → bytes_assigned e view content ≡ Ok new

@@ -1,4 +1,4 @@
--- The code's numbers of a slice, which go over bits, and its walks over slices.
+-- The numbers of a slice as the code computes them in bits, and the walks of the code over slices.
 use Rattle.std.proofs.Common.{◌≡◌, ℕ, zero, suc, ◌+◌, ◌<◌, ◌≤◌, ℤ, pos, ◌*ℤ◌, false, true≢false, List, [], ◌∷◌, ◌++◌, length, get_or, set, take, drop, drop-cons, refl, ap, ap₂, sym, ◌∙◌, subst, arith, add-one, append_assoc, ◌⊎◌, inl, inr, ⊎_elim, eq-or-lt_of_le, append-nil, drop_of_length-le, SFits, w64, to_z, of_z}
 use Rattle.std.proofs.lemmas.Int.{to_z-of_z}
 use Rattle.std.proofs.lemmas.List.{get_or_default}
@@ -65,7 +65,7 @@ take_more [] k y h = absurd (omega (arith, h))
 take_more (x ∷ xs) zero y h = refl
 take_more (x ∷ xs) (suc k) y h = ap (λ (ys : List ℕ). x ∷ ys) (take_more xs k y (omega (arith, h)))
 
--- an index was found
+-- An index was found.
 pub first_more : (dims : List (ℕ × ℤ × ℤ)) (slices : List SliceParts) (k first : ℕ) (parts : SliceParts) (rest firsts : List ℕ) → k < length dims → k < length slices → k < length firsts → get_or slices k parts ≡ parts
     → picks_of (dim_at dims k).0 parts ≡ first ∷ rest
     → take k firsts ++ firsts_of (drop k (picks_of_each (shape_of dims) slices)) ≡ firsts_of (picks_of_each (shape_of dims) slices)
@@ -82,7 +82,7 @@ first_more dims slices k first parts rest firsts h g f is found e z =
       ap (λ (ps : List (List ℕ)). has_zero (counts_of ps)) (sym cons) ∙ z,
     )
 
--- no index was found
+-- No index was found.
 pub none_found : (dims : List (ℕ × ℤ × ℤ)) (slices : List SliceParts) (k : ℕ) (parts : SliceParts) → k < length dims → k < length slices → get_or slices k parts ≡ parts
     → picks_of (dim_at dims k).0 parts ≡ []
     → has_zero (counts_of (drop k (picks_of_each (shape_of dims) slices))) ≡ has_zero (counts_of (picks_of_each (shape_of dims) slices))

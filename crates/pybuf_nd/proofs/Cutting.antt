@@ -1,4 +1,4 @@
--- What slices make of the dimensions of a descriptor.
+-- How slices change the dimensions of a descriptor.
 use Rattle.std.proofs.Common.{◌≡◌, ◌≢◌, ℕ, zero, suc, ◌*◌, ◌^◌, ◌<◌, ◌≤◌, min, ℤ, pos, negsuc, ◌+ℤ◌, ◌*ℤ◌, neg_ℤ, Bool, true, false, true≢false, List, [], ◌∷◌, length, get_or, drop, refl, ap, ap₂, sym, ◌∙◌, subst, arith, SFits, w64, All, mul-le-mul, mul-le-mul_left, le_refl, lt_of_le_of_lt, le-mul_of_pos_right, zero-lt-suc, mul-pos}
 use Rattle.std.specs.List.{AllByRecursion}
 use Rattle.std.proofs.lemmas.Int.{ints}
@@ -213,7 +213,7 @@ sound_cut d start room slices valid s some =
       extent_fits = lt_of_le_of_lt (mul-le-mul_left d.itemsize (extent_cut d.dims slices)) valid.extent_fits;
     }
 
--- ---- what a selection is answered with
+-- ---- what a selection answers
 
 selection_is : (d : Descriptor) (view : Layout) (slices : List SliceParts) → shape_of d.dims ≡ view.shape → strides_of d.dims ≡ view.strides
     → view_by view (counts_of (picks_of_each (shape_of d.dims) slices)) (strides_after (strides_of d.dims) slices) (picked_indices (picks_of_each (shape_of d.dims) slices)) ≡ selection_of view slices

@@ -1,4 +1,4 @@
--- Lists of all indices: what stands at the number of each of them.
+-- Lists of all indices, and what stands at the number of each of them.
 use Rattle.std.proofs.Common.{◌≡◌, ℕ, zero, suc, ◌+◌, ◌*◌, ◌<◌, ◌≤◌, ℤ, pos, ◌+ℤ◌, ◌*ℤ◌, List, [], ◌∷◌, ◌++◌, length, get_or, map, flat_map, refl, ap, ap₂, sym, ◌∙◌, subst, arith, All, length-append, mul_comm, zero-mul, get_or-append-add}
 use Rattle.std.specs.List.{range_with_len}
 use Rattle.std.proofs.lemmas.Int.{ints}
@@ -27,7 +27,7 @@ pub map_same : {X A : Type 0} (f g : X → A) (xs : List X) → ((x : X) → f x
 map_same f g [] e = refl
 map_same f g (x ∷ xs) e = ap₂ (λ y ys. y ∷ ys) (e x) (map_same f g xs e)
 
--- over the numbers from a place on, below a bound
+-- a flat map over the numbers from a place on, all of them below a bound
 flat_range : {A : Type 0} (g h : ℕ → List A) (bound a n : ℕ) → a + n ≤ bound → ((k : ℕ) → k < bound → g k ≡ h k) → flat_map g (range_with_len a n) ≡ flat_map h (range_with_len a n)
 flat_range g h bound a zero fits e = refl
 flat_range g h bound a (suc n) fits e =
@@ -86,7 +86,7 @@ item_at f (n ∷ shape) (i ∷ indices) d h =
     ∙ ap (λ xs. get_or xs (number_at shape indices) d) (map-map f (λ (rest : List ℕ). i ∷ rest) (index_lists shape))
     ∙ item_at (λ rest. f (i ∷ rest)) shape indices d h.1
 
--- two maps that agree at all indices of the shape
+-- Two maps agree if they agree at all indices of the shape.
 pub map_over : {A : Type 0} (f g : List ℕ → A) (shape : List ℕ) → ((indices : List ℕ) → IsIndexList shape indices → f indices ≡ g indices) → map f (index_lists shape) ≡ map g (index_lists shape)
 map_over f g [] e = ap (λ y. y ∷ []) (e [] tt)
 map_over f g (n ∷ shape) e =
@@ -96,7 +96,7 @@ map_over f g (n ∷ shape) e =
     ∙ sym (map-map g (λ (rest : List ℕ). k ∷ rest) (index_lists shape)))
     ∙ sym (map_of_flat_map g (λ index. map (λ (rest : List ℕ). index ∷ rest) (index_lists shape)) (range_with_len 0 n))
 
--- what holds at all indices of the shape
+-- What holds at all indices of the shape holds of the whole list.
 pub all_over : {A : Type 0} (P : A → Type 0) (f : List ℕ → A) (shape : List ℕ) → ((indices : List ℕ) → IsIndexList shape indices → P (f indices)) → All P (map f (index_lists shape))
 all_over P f [] h = λ k d below. one P (f []) (h [] tt) k d below
   where

@@ -1,4 +1,4 @@
--- Neighbouring dimensions that lie together, made one.
+-- Neighbouring dimensions that lie together become one.
 use Rattle.std.proofs.Common.{◌≡◌, ◌≢◌, ℕ, zero, suc, ◌+◌, ◌*◌, ◌^◌, ◌<◌, ◌≤◌, ℤ, pos, ◌+ℤ◌, ◌*ℤ◌, Bool, true, false, true≢false, cond, get_or, drop-cons, ◌||◌, eqb, List, [], ◌∷◌, ◌++◌, ◌⊎◌, inl, inr, length, drop, refl, ap, ap₂, sym, ◌∙◌, subst, arith, All, append_assoc, append-nil, zero-mul, mul-zero, mul-one, one-mul, mul_assoc, mul-pos, mul-le-mul_left, le_refl, le_trans, le-mul_of_pos_right, lt_of_le_of_lt, zero-lt-suc}
 use Rattle.std.specs.List.{flat_map, range_with_len, AllByRecursion}
 use Rattle.std.specs.Ordering.{int_eq}
@@ -17,9 +17,9 @@ use Rattle.pybuf_nd.proofs.Cutting.{extent_pos}
 use Rattle.pybuf_nd.proofs.Walks.{times_sum, next_multiple}
 use Rattle.pybuf_nd.proofs.Remaps.{AreSound}
 
--- ---- places by adding the stride once for each index
+-- ---- places that are found by adding the stride once for each index
 
--- `n` blocks, the first at `p` and each `t` after the one before
+-- `n` blocks, the first of which is at `p`, and each lies `t` after the one before
 abbrev pub apart : (ℤ → List ℤ) → ℕ → ℤ → ℤ → List ℤ
 apart block zero p t = []
 apart block (suc n) p t = block p ++ apart block n (p +ℤ t) t
@@ -66,7 +66,7 @@ apart_apart f m t (suc n) p =
     ap (λ rest. apart f m p t ++ rest) (apart_apart f m t n (p +ℤ pos m *ℤ t))
     ∙ sym (apart_add f m (n * m) p t) ∙ ap (λ k. apart f k p t) (let e : m + n * m ≡ suc n * m = omega arith in e)
 
--- ---- two dimensions made one
+-- ---- one dimension for two
 
 joined_more : (f : ℤ → List ℤ) (n : ℕ) (s : ℤ) (m : ℕ) (t p : ℤ) → (eqb n 1 ≡ true) ⊎ (int_eq s (pos m *ℤ t) ≡ true) → apart (λ q. apart f m q t) n p s ≡ apart f (n * m) p t
 joined_more f n s m t p (inl e) =
@@ -168,7 +168,7 @@ none_together : (dims : List (ℕ × ℤ × ℤ)) → HasNoneTogether (merged_di
 none_together [] = tt
 none_together (dim ∷ dims) = none_from dim dims
 
--- ---- dimensions that a valid descriptor can have
+-- ---- the dimensions that a valid descriptor can have
 
 all_step : (P : ℕ × ℤ × ℤ → Type 0) (last dim : ℕ × ℤ × ℤ) (dims : List (ℕ × ℤ × ℤ)) (b : Bool) → P last
     → AllByRecursion P (merged_from (joined last dim) dims) → AllByRecursion P (merged_from dim dims)
@@ -295,7 +295,7 @@ product_fits n m shape h = product_below (n * m) shape (lt_of_le_of_lt (extent_j
 abbrev pub dim_after : List (ℕ × ℤ × ℤ) → ℕ → ℕ × ℤ × ℤ
 dim_after dims k = get_or dims k (0, pos 0, pos 0)
 
--- what is behind a place
+-- the dimensions behind a place
 pub behind : (dims : List (ℕ × ℤ × ℤ)) (k : ℕ) → k < length dims → drop k dims ≡ dim_after dims k ∷ drop (k + 1) dims
 behind dims k below = drop-cons dims k (0, pos 0, pos 0) below ∙ ap (λ j. dim_after dims k ∷ drop j dims) (let e : suc k ≡ k + 1 = omega arith in e)
 

@@ -1,4 +1,4 @@
--- Bytes that are laid over items, dimension by dimension.
+-- Bytes that are written over items, dimension by dimension.
 use Rattle.std.proofs.Common.{◌≡◌, ℕ, zero, suc, ◌+◌, ◌-◌, ◌*◌, ◌<◌, ◌≤◌, ◌^◌, ℤ, pos, negsuc, ◌+ℤ◌, ◌*ℤ◌, ◌≤ℤ◌, Bool, true, false, List, [], ◌∷◌, ◌++◌, length, map, drop, refl, ap, ap₂, sym, ◌∙◌, subst, arith, length-append}
 use Rattle.std.specs.Prelude.{nat_abs, take, slice_index_or}
 use Rattle.std.specs.List.{AllByRecursion, flat_map, range_with_len}
@@ -93,7 +93,7 @@ next_lower start n j a at low =
 place_below : (start m a : ℕ) → a + m ≡ start → start - m ≡ a
 place_below start m a at = omega (arith, at)
 
--- what is below: the places, and that each lies inside
+-- What holds below: the places, and that each lies inside.
 pub record Falls (start n size room j a count : ℕ) : Type 0 where
   pub starts : map (place_of true start (suc n)) (range_with_len j count) ≡ map nat_abs (line (pos a) (negsuc n) count)
   pub low : (k : ℕ) → k < count → (j + k) * suc n ≤ start
@@ -283,7 +283,7 @@ one_row_count dims p stride some few same = ap length (one_row dims p stride som
 abbrev pub left_places : List (ℕ × ℤ × ℤ) → ℕ → ℤ → ℕ → List ℤ
 left_places rest place stride left = flat_map (places rest) (line (pos place) stride left)
 
--- what is laid, with what is left to lay, is all
+-- What is written and what is left to write are all of it.
 pub record IsLeft (bytes before : List ℕ) (rest : List (ℕ × ℤ × ℤ)) (place : ℕ) (stride : ℤ) (left count start size : ℕ) (content : List ℕ) (next from : ℕ) : Type 0 where
   pub laid_so : laid bytes size (map nat_abs (left_places rest place stride left)) (drop next content) ≡ laid before size (map nat_abs (left_places rest start stride count)) (drop from content)
   pub long : length bytes ≡ length before
@@ -299,7 +299,7 @@ begun bytes dims start stride size content from some same all = record {
   counted = refl;
 }
 
--- the rows that are left begin with one
+-- The rows that are left begin with this one.
 pub this_inside : (rest : List (ℕ × ℤ × ℤ)) (place : ℕ) (stride : ℤ) (left size room : ℕ) → 0 < left → Inside size room (left_places rest place stride left) → Inside size room (places rest (pos place))
 this_inside rest place stride left size room some all =
     left_of (IsInside size room) (places rest (pos place)) (flat_map (places rest) (line (pos place +ℤ stride) stride (left - 1)))

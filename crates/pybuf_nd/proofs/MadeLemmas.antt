@@ -1,4 +1,4 @@
--- Steps of walks over dimensions.
+-- The steps of walks over dimensions.
 use Rattle.std.proofs.Common.{◌≡◌, ◌≢◌, ℕ, zero, suc, ◌+◌, ◌*◌, ◌^◌, ◌<◌, ℤ, pos, Bool, true, List, ◌∷◌, length, get_or, drop, drop-cons, refl, ap, sym, ◌∙◌, subst, arith, add-one, mul_assoc, mul-zero, zero-mul, mul-le-mul_left, le-mul_of_pos_right, lt_of_le_of_lt}
 use Rattle.pybuf_desc.specs.Layouts.{product}
 use Rattle.pybuf_desc.specs.Descriptor.{shape_of}

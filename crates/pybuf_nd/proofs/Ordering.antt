@@ -1,4 +1,4 @@
--- The axes in another order.
+-- Axes in another order.
 use Rattle.std.proofs.Common.{◌≡◌, ◌≢◌, ℕ, zero, suc, ◌+◌, ◌*◌, ◌/◌, ◌^◌, ◌<◌, ◌≤◌, ℤ, pos, ◌+ℤ◌, ◌*ℤ◌, eqb, Bool, true, false, ◌&&◌, nat_lt, List, [], ◌∷◌, ◌++◌, length, get_or, set, swap, reverse, map, drop, refl, ap, ap₂, sym, ◌∙◌, subst, arith, All, IsPermutation, mul_assoc, mul-div_cancel, length-set}
 use Rattle.std.specs.List.{AllByRecursion, range_with_len, IsDistinct}
 use Rattle.std.proofs.lemmas.Bool.{eqb-true, eqb-false, ne_eqb, ltb-false}
@@ -66,7 +66,7 @@ axes_below n axes p = All-permutation (λ axis. axis < n) (range_with_len 0 n) a
 
 -- ---- the dimensions, in another order
 
--- the entries of a list by their numbers
+-- the entries of a list, by their numbers
 shifted : (f g : ℕ → ℕ × ℤ × ℤ) (a n : ℕ) → ((k : ℕ) → f (suc k) ≡ g k) → map f (range_with_len (suc a) n) ≡ map g (range_with_len a n)
 shifted f g a zero e = refl
 shifted f g a (suc n) e =
@@ -121,7 +121,7 @@ length_put [] indices made = refl
 length_put (axis ∷ axes) [] made = refl
 length_put (axis ∷ axes) (index ∷ indices) made = length-set (put_at_axes axes indices made) axis index ∙ length_put axes indices made
 
--- no index is put at an axis that isn't there
+-- No index is put at an axis that the list doesn't have.
 put_elsewhere : (axes indices made : List ℕ) (axis : ℕ) → AllByRecursion (λ other. eqb axis other ≡ false) axes → get_or (put_at_axes axes indices made) axis 0 ≡ get_or made axis 0
 put_elsewhere [] indices made axis h = refl
 put_elsewhere (other ∷ axes) [] made axis h = refl
@@ -169,9 +169,9 @@ put_offset dims (axis ∷ axes) (index ∷ indices) xs e below apart i =
 length_axes : (dims : List (ℕ × ℤ × ℤ)) (axes : List ℕ) → AreAxes (length dims) axes → length axes ≡ length dims
 length_axes dims axes p = length_permutation (range_with_len 0 (length dims)) axes p ∙ length-range_with_len 0 (length dims)
 
--- ---- one dimension without an entry, or none
+-- ---- a single dimension without an entry, or no such dimension
 
--- either no entry is 0, or there is one dimension at most
+-- No entry is 0, or there is at most one dimension.
 abbrev pub CanBeOrdered : List (ℕ × ℤ × ℤ) → Type 0
 CanBeOrdered dims = (has_zero (shape_of dims) && nat_lt 1 (length dims)) ≡ false
 
@@ -253,7 +253,7 @@ drop_first : (P : ℕ × ℤ × ℤ → Type 0) (dims : List (ℕ × ℤ × ℤ)
 drop_first P [] all = tt
 drop_first P (dim ∷ dims) all = all.1
 
--- what stays where the dimensions are put in order
+-- What stays when the dimensions get another order.
 by_zero : {A : Type 0} (dims : List (ℕ × ℤ × ℤ)) → CanBeOrdered dims → (has_zero (shape_of dims) ≡ false → A) → (length dims ≤ 1 → A) → A
 by_zero {A} dims can some few = test (has_zero (shape_of dims)) refl
   where
@@ -298,7 +298,7 @@ remap_order dims start axes p can =
         by_zero dims can (λ e. nonzero_all dims e)
         (λ few. nonzero_from dims indices (subst (λ (ds : List (ℕ × ℤ × ℤ)). IsIndexList (shape_of ds) indices) (same_where_few dims axes p few) i))
 
--- ---- what an order is answered with
+-- ---- what an order answers
 
 pub valid_order : (d : Descriptor) (axes : List ℕ) (start room : ℕ) → AreAxes (length d.dims) axes → CanBeOrdered d.dims → IsValid d start room → IsValid (in_dims d (dims_in_order d.dims axes)) start room
 valid_order d axes start room p can valid =

@@ -1,4 +1,4 @@
--- One axis left out.
+-- One axis is left out.
 use Rattle.std.proofs.Common.{◌≡◌, ◌≢◌, ℕ, zero, suc, ◌-◌, ◌*◌, ◌^◌, ◌<◌, ◌≤◌, ℤ, pos, negsuc, ◌+ℤ◌, ◌*ℤ◌, ◌≤ℤ◌, ◌<ℤ◌, nat_lt, Bool, true, false, Option, Some, None, Ok, ok_or, if◌then◌else◌, List, [], ◌∷◌, length, drop, insert, remove, map, refl, ap, ap₂, sym, ◌∙◌, subst, arith, SFits, w64, le_refl, mul-le-mul_left, lt_of_le_of_lt, le-mul_of_pos_right, zero-lt-suc}
 use Rattle.std.specs.List.{AllByRecursion}
 use Rattle.std.proofs.lemmas.Bool.{ltb-true}
@@ -24,7 +24,7 @@ use Rattle.pybuf_nd.proofs.Remaps.{Remaps, AreSound, stands_remap, valid_remap}
 
 -- ---- the entry that a place names
 
--- the place of an index, where it is below
+-- the place of an index, if it is below
 abbrev chosen : Bool → ℕ → Option ℕ
 chosen b x = if b then Some x else None
 
@@ -200,7 +200,7 @@ sound_plane d start room axis valid h e =
       extent_fits = lt_of_le_of_lt (mul-le-mul_left d.itemsize (extent_remove d.dims axis h)) valid.extent_fits;
     }
 
--- ---- what a pick is answered with
+-- ---- what a pick answers
 
 pub valid_plane : (d : Descriptor) (start next axis entry room : ℕ) → axis < length d.dims → entry < (dim_at d.dims axis).0 → has_zero (shape_of d.dims) ≡ false → pos next ≡ pos start +ℤ pos entry *ℤ (dim_at d.dims axis).1
     → IsValid d start room → IsValid (in_dims d (remove d.dims axis)) next room

@@ -1,4 +1,4 @@
--- Descriptors whose items are those of another descriptor at other indices.
+-- Descriptors whose items are those of another descriptor, at other indices.
 use Rattle.std.proofs.Common.{◌≡◌, ◌≢◌, ℕ, ◌*◌, ◌^◌, ◌<◌, ◌≤◌, ℤ, pos, ◌+ℤ◌, List, length, get_or, map, drop, refl, ap, sym, ◌∙◌, subst, arith, All}
 use Rattle.std.proofs.lemmas.List.{get_or-map, length-map}
 use Rattle.std.proofs.lemmas.Simd.{map-map}
@@ -12,12 +12,12 @@ use Rattle.pybuf_nd.specs.IndexMaps.{IsIndexList, index_lists, view_by}
 use Rattle.pybuf_nd.specs.Dims.{in_dims}
 use Rattle.pybuf_nd.proofs.IndexLemmas.{number_below, length_lists, item_at, map_over, all_over, at_of_all, places_by_indices}
 
--- at any indices of the new dimensions, the place is that of the old ones at the source of these indices
+-- At any indices of the new dimensions, the place is that of the old ones at the source of these indices.
 pub record Remaps (dims : List (ℕ × ℤ × ℤ)) (start : ℕ) (made : List (ℕ × ℤ × ℤ)) (next : ℕ) (source : List ℕ → List ℕ) : Type 0 where
   pub within : (indices : List ℕ) → IsIndexList (shape_of made) indices → IsIndexList (shape_of dims) (source indices)
   pub same : (indices : List ℕ) → IsIndexList (shape_of made) indices → pos next +ℤ offset_of indices made ≡ pos start +ℤ offset_of (source indices) dims
 
--- where the item of a view at some indices lies
+-- The item of a view at some indices lies here.
 start_is : (d : Descriptor) (start : ℕ) (view : Layout) (indices : List ℕ) → Stands d start view → IsIndexList (shape_of d.dims) indices → pos start +ℤ offset_of indices d.dims ≡ pos (start_at view indices)
 start_is d start view indices stands h =
     let k : ℕ = number_at (shape_of d.dims) indices in
@@ -57,7 +57,7 @@ inside_remap P dims start made next source r all =
     (λ indices h. subst P (sym (r.same indices h))
     (at_of_all P (λ is. pos start +ℤ offset_of is dims) (shape_of dims) (source indices) (subst (All P) (places_by_indices dims (pos start)) all) (r.within indices h))))
 
--- dimensions that a valid descriptor can have
+-- the dimensions that a valid descriptor can have
 pub record AreSound (itemsize : ℕ) (dims : List (ℕ × ℤ × ℤ)) : Type 0 where
   pub few : length dims ≤ 64
   pub strides : All (λ dim. dim.1 ≢ pos 0) dims

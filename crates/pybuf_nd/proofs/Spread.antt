@@ -1,4 +1,4 @@
--- How far apart the entries of a dimension lie, where all items lie inside.
+-- How far apart the entries of a dimension lie, if all items lie inside.
 use Rattle.std.proofs.Common.{◌≡◌, ℕ, zero, suc, ◌+◌, ◌^◌, ◌<◌, ℤ, pos, ◌+ℤ◌, ◌*ℤ◌, List, [], ◌∷◌, ◌++◌, ap, ◌∙◌, subst, arith, SFits, w64, flat_map}
 use Rattle.std.proofs.lemmas.Int.{ints}
 use Rattle.std.proofs.Math.IntN.{zero-*ℤ}
@@ -32,13 +32,13 @@ entry_of P dim dims p i h all =
 plus_zeroth : (p t : ℤ) → p +ℤ pos 0 *ℤ t ≡ p
 plus_zeroth p t = ap (λ z. p +ℤ z) (zero-*ℤ t) ∙ (let e : p +ℤ pos 0 ≡ p = omega (arith, ints) in e)
 
--- the first item lies where they start
+-- The first item lies where the places start.
 pub first_of : (P : ℤ → Type 0) (dims : List (ℕ × ℤ × ℤ)) (p : ℤ) → AreNonzero dims → AllByRecursion P (places dims p) → P p
 first_of P [] p some all = all.0
 first_of P (dim ∷ dims) p some all =
     subst P (plus_zeroth p dim.1) (first_of P dims (p +ℤ pos 0 *ℤ dim.1) some.1 (entry_of P dim dims p 0 some.0 all))
 
--- in each dimension, the way from one entry to another fits `isize`
+-- In each dimension, the way from one entry to another fits into `isize`.
 abbrev pub AreSpread : List (ℕ × ℤ × ℤ) → Type 0
 AreSpread [] = Unit {0}
 AreSpread (dim ∷ dims) = ((a b : ℕ) (s : ℤ) → a < dim.0 → b < dim.0 → pos b *ℤ dim.1 ≡ pos a *ℤ dim.1 +ℤ s → SFits w64 s) × AreSpread dims

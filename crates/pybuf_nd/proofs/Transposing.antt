@@ -58,7 +58,7 @@ length_put (axis ∷ axes) (index ∷ indices) made = length_after (put_at_axes 
     length_after (x ∷ xs) zero y = refl
     length_after (x ∷ xs) (suc k) y = ap suc (length_after xs k y)
 
--- below the end, the last entry stays
+-- If only the first places change, the last entry stays.
 put_front : (n m : ℕ) (indices made : List ℕ) (z : ℕ) → m ≤ n → length made ≡ n → put_at_axes (reversed_axes m) indices (made ++ z ∷ []) ≡ put_at_axes (reversed_axes m) indices made ++ z ∷ []
 put_front n zero indices made z few e = refl
 put_front n (suc m) [] made z few e =
@@ -128,7 +128,7 @@ starts_transposed view =
     ∙ map_over (λ indices. start_at view (indices_by_axis (reversed_axes (length view.shape)) indices)) (λ indices. start_at view (reverse indices)) (reverse view.shape)
     (λ indices h. ap (start_at view) (put_reversed (length view.shape) indices (length_index (reverse view.shape) indices h ∙ length-reverse view.shape)))
 
--- ---- twice
+-- ---- a transposition of a transposition
 
 -- all numbers of items, in order
 numbers_from : (shape : List ℕ) (a : ℕ) → map (λ indices. a + number_at shape indices) (index_lists shape) ≡ range_with_len a (product shape)

@@ -1,4 +1,4 @@
--- The indices of a slice: one step apart, each below the number of entries.
+-- The indices of a slice lie one step apart, and each is below the number of entries.
 use Rattle.std.proofs.Common.{◌≡◌, ◌≢◌, ℕ, zero, suc, ◌-◌, ◌+◌, ◌<◌, ◌≤◌, ℤ, pos, negsuc, ◌+ℤ◌, ◌-ℤ◌, ◌*ℤ◌, ◌≤ℤ◌, ◌<ℤ◌, nat_abs, Bool, true, false, cond, List, [], ◌∷◌, length, get_or, refl, sym, ap, ap₂, ◌∙◌, subst, arith}
 use Rattle.std.proofs.lemmas.Int.{ints}
 use Rattle.std.proofs.Math.IntN.{*ℤ_comm, zero-*ℤ}
@@ -7,7 +7,7 @@ use Rattle.pybuf_index.specs.Picks.{steps_to, comes_before, start_of, stop_of, p
 use Rattle.pybuf_index.specs.Runs.{picks_in_span, span_start, span_end}
 use Rattle.pybuf_index.specs.Laws.{SlicesHaveSpans}
 
--- indices one step apart, each below `n`; the first lies a step after `before`
+-- Indices one step apart, each below `n`. The first lies one step after `before`.
 abbrev pub Walks : ℕ → ℤ → ℤ → List ℕ → Type 0
 Walks n step before [] = Unit {0}
 Walks n step before (x ∷ xs) = (x < n) × (pos x ≡ before +ℤ step) × Walks n step (pos x) xs
@@ -75,7 +75,7 @@ walks_span n low high (negsuc s) h =
     subst (λ z. Walks n (negsuc s) (pos high +ℤ negsuc 0 -ℤ negsuc s) (steps_to (high - low) z (pos low +ℤ negsuc 0) (negsuc s))) (back_and_forth (pos high +ℤ negsuc 0) (negsuc s))
     (walks_down n s (high - low) (pos high +ℤ negsuc 0 -ℤ negsuc s) (pos low +ℤ negsuc 0) (high_first high s n h) (omega (arith, ints)))
 
--- where the walk of a slice begins
+-- the place from which the walk of a slice begins
 abbrev pub before_first : ℕ → SliceParts → ℤ
 before_first n parts = span_first (span_start n parts) (span_end n parts) parts.step -ℤ parts.step
 
@@ -136,7 +136,7 @@ sum_moves a b c = omega (arith, ints)
 zero_plus : (a : ℤ) → pos 0 +ℤ a ≡ a
 zero_plus a = omega (arith, ints)
 
--- from the first index, so many steps times the stride
+-- Index i lies i steps after the first.
 pub walk_line : (n : ℕ) (step before t : ℤ) (xs : List ℕ) (i : ℕ) → Walks n step before xs → i < length xs → pos i *ℤ (t *ℤ step) +ℤ (before +ℤ step) *ℤ t ≡ pos (get_or xs i 0) *ℤ t
 walk_line n step before t [] i w h = absurd (omega arith)
 walk_line n step before t (x ∷ xs) zero w h =
@@ -151,7 +151,7 @@ pub walk_first : (n : ℕ) (step before : ℤ) (xs : List ℕ) → Walks n step 
 walk_first n step before [] w h = absurd (omega arith)
 walk_first n step before (x ∷ xs) w h = w.1
 
--- two picks show that the stride times the step leads no further than from one entry to another
+-- If there are two picks, the stride times the step leads no further than from one entry to another.
 pub walk_two : (n : ℕ) (step before : ℤ) (xs : List ℕ) → Walks n step before xs → 1 < length xs → pos (get_or xs 1 0) ≡ pos (get_or xs 0 0) +ℤ step
 walk_two n step before [] w h = absurd (omega arith)
 walk_two n step before (x ∷ []) w h = absurd (omega arith)

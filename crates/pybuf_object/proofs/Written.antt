@@ -1,4 +1,4 @@
--- A byte in place of another, by two definitions.
+-- One byte replaces another, by two definitions that agree.
 use Rattle.std.proofs.Common.{◌≡◌, ℕ, ◌+◌, ◌<◌, List, [], ◌∷◌, ◌++◌, length, take, drop, slice_set, append_assoc, add-one}
 use Rattle.std.proofs.lemmas.List.{set_split}
 

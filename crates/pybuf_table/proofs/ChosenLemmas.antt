@@ -1,4 +1,4 @@
--- Choosing one record after another.
+-- Records are chosen one after another.
 use Rattle.std.proofs.Common.{◌≡◌, ℕ, ◌+◌, ◌<◌, Bool, true, false, cond, List, [], ◌∷◌, ◌++◌, length, take, drop, refl, sym, ap, ◌∙◌, append_assoc}
 use Rattle.std.specs.Prelude.{slice_get, Some}
 use Rattle.std.specs.Option.{option_map}
@@ -16,7 +16,7 @@ use Rattle.pybuf_table.specs.Records.{rows, IsLeft}
 use Rattle.pybuf_table.specs.Chosen.{compares, compares_so, is_chosen}
 use Rattle.pybuf_table.proofs.RowLemmas.{row_comes}
 
--- a truth value compares as the number that it counts as
+-- A truth value compares as the number that it counts as.
 pub compares_counted : (o : CompareOp) (left right : Scalar) → compares o (counted left) right ≡ compares o left right
 compares_counted o scalar.None right = refl
 compares_counted o (scalar.Int n) right = refl
@@ -37,7 +37,7 @@ compares_counted op.Le (scalar.Bool false) right = refl
 compares_counted op.Gt (scalar.Bool false) right = refl
 compares_counted op.Ge (scalar.Bool false) right = refl
 
--- the value of a field, among all of a record
+-- The value of a field is one of the values of its record.
 pub field_value : (f : Format) (bytes : List ℕ) (field : ℕ) (place : Field) → slice_get (fields f) field ≡ Some place → slice_get (values f bytes) field ≡ Some (value_in f.order bytes place)
 field_value f bytes field place there = slice_get-map (value_in f.order bytes) (fields f) field ∙ ap (option_map (value_in f.order bytes)) there
 
@@ -46,7 +46,7 @@ pub field_compares : (f : Format) (bytes : List ℕ) (field : ℕ) (place : Fiel
 field_compares f bytes field place o wanted lent there lent_is =
     rw lent_is (compares_counted o (value_in f.order bytes place) wanted ∙ ap (compares_so o wanted) (sym (field_value f bytes field place there)))
 
--- one more record is put where it is chosen
+-- One more record is put behind the others if it is chosen.
 put_by : {X : Type 0} → (b : Bool) (x : X) (out rest : List X) → (out ++ cond b (x ∷ []) []) ++ rest ≡ out ++ cond b (x ∷ rest) rest
 put_by true x out rest = append_assoc out (x ∷ []) rest
 put_by false x out rest = ap (λ (front : List _). front ++ rest) (append-nil out)

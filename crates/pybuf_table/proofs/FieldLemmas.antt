@@ -1,4 +1,4 @@
--- The fields of one code, by their number.
+-- The fields of one code, by their numbers.
 use Rattle.std.proofs.Common.{◌≡◌, ℕ, zero, suc, ◌+◌, ◌-◌, ◌*◌, ◌<◌, ◌≤◌, List, [], ◌∷◌, ◌++◌, length, get_or, drop, refl, sym, ap, ◌∙◌, arith}
 use Rattle.std.specs.Prelude.{Some, None, Option, slice_get}
 use Rattle.std.proofs.lemmas.List.{drop_more, drop_all}
@@ -35,7 +35,7 @@ get_right [] ys k left same = ap (slice_get ys) (omega arith)
 get_right (x ∷ xs) ys zero left same = absurd (omega arith)
 get_right (x ∷ xs) ys (suc k) left same = get_right xs ys k left (omega arith)
 
--- ---- the fields of codes
+-- ---- the fields of codes, one after another
 
 length_in_row : (c : FormatType) (size offset count : ℕ) → length (fields_in_row c size offset count) ≡ count
 length_in_row c size offset zero = refl
@@ -61,7 +61,7 @@ length_of_code code.SSizeT size offset count = length_in_row code.SSizeT size of
 length_of_code code.SizeT size offset count = length_in_row code.SizeT size offset count
 length_of_code code.WideChar size offset count = length_in_row code.WideChar size offset count
 
--- a field of the first code, and one of the others
+-- A field is one of the first code, or one of the other codes.
 pub field_here : (o : Endianness) (at : ℕ) (c : Code) (codes : List Code) (k : ℕ) → k < field_count c
     → slice_get (fields_from o at (c ∷ codes)) k ≡ slice_get (fields_of_code c.code (size_of o c.code) (at + c.pre_padding) c.repeat) k
 field_here o at c codes k less =

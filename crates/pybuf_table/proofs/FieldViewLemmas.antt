@@ -1,4 +1,4 @@
--- The view of one field of each record is a sound one.
+-- The view of one field of each record is sound.
 use Rattle.std.proofs.Common.{◌≡◌, ◌≢◌, ℕ, zero, suc, ◌+◌, ◌*◌, ◌^◌, ◌<◌, ◌≤◌, ◌/◌, ◌%◌, Bool, true, false, List, [], ◌∷◌, length, map, Option, Some, Result, Ok, IsTrue, refl, sym, ap, ◌∙◌, subst, eqb, arith}
 use Rattle.std.proofs.lemmas.Int.{ints}
 use Rattle.std.proofs.lemmas.Bool.{lt-ltb, eq-eqb, ne_eqb}
@@ -113,7 +113,7 @@ field_placed r place count room readonly some small inside long whole fits =
       };
     }
 
--- ---- and the view is sound
+-- ---- the view is sound
 
 sized_by : (len : ℕ) (g : Format) (r : Result Format Fault) → 0 < len → r ≡ Ok g → g.size ≡ len → is_size_of len r ≡ true
 sized_by len g r some is sized = rw (is, sized, lt-ltb 0 len some, eq-eqb len len refl) refl

@@ -1,4 +1,4 @@
--- Which values are in an order with those of a code.
+-- Which values have an order with those of a code.
 use Rattle.std.proofs.Common.{◌≡◌, ℕ, Bool, true, false, List, refl, sym, true≢false}
 use Rattle.std.specs.Prelude.{◌↔◌, ◌==◌, ℤ, pos, IsOk, not, slice_index}
 use Rattle.pybuf_struct.specs.Table.{is_big, is_signed}

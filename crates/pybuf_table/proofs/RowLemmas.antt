@@ -1,4 +1,4 @@
--- The first record of bytes, and those after it.
+-- The first record of bytes, and the records after it.
 use Rattle.std.proofs.Common.{◌≡◌, ℕ, suc, ◌+◌, ◌-◌, ◌*◌, ◌<◌, ◌≤◌, ◌/◌, ◌%◌, List, ◌∷◌, length, take, drop, sym, ap, ◌∙◌, inl, inr, arith}
 use Rattle.std.proofs.lemmas.Bool.{cases_lt}
 use Rattle.std.proofs.lemmas.List.{length-drop}
@@ -9,7 +9,7 @@ use Rattle.pybuf_struct.specs.Formats.{Format}
 use Rattle.pybuf_struct.specs.Values.{values}
 use Rattle.pybuf_table.specs.Records.{rows, rows_of, IsLeft}
 
--- one more of a size in a length that has one
+-- If a length has room for one size, it has room for one more than the rest has.
 pub quotient_more : (len size : ℕ) → 0 < size → size ≤ len → len / size ≡ suc ((len - size) / size)
 quotient_more len size some within =
     let q : ℕ = (len - size) / size in
@@ -31,7 +31,7 @@ left_more f bytes is within = record {
   whole = ap (λ (n : ℕ). n % f.size) (length-drop f.size bytes) ∙ sym (mod-eq-sub-mod within) ∙ is.whole;
 }
 
--- bytes of whole records have one where they aren't empty
+-- The bytes of whole records have a record if there are any bytes.
 pub has_record : (f : Format) (bytes : List ℕ) → IsLeft f bytes → 0 < length bytes → f.size ≤ length bytes
 has_record f bytes is some =
     elim (cases_lt (length bytes) f.size) [

@@ -58,7 +58,7 @@ by_item e k (value.Tuple parts) v lents is = refl
 by_item e k (value.List parts) v lents is = refl
 by_item e k (value.Slices slices) v lents is = refl
 
--- the item that was set
+-- what holds of the item that was set
 pub record IsItemSet (e new : Exporter) (layout : Layout) (key v : Value) (lents : List Lent) : Type 0 where
   pub item : ℕ
   pub named : item_of_key layout.shape key ≡ Ok item
@@ -122,7 +122,7 @@ set_piece fills e new layout item v lents sized is =
     piece_set e new layout item (piece_by layout.format (snaps_of lents) v)
     (λ piece written. packed fills layout.format (snaps_of lents) (scalar_in v ∷ []) layout.itemsize piece (format_of layout.format) refl sized written) is
 
--- ---- where it was written
+-- ---- where the piece was written
 
 abbrev start_of : ℕ → ℕ → ℕ → ℕ
 start_of size offset number = number * size + offset
@@ -130,7 +130,7 @@ start_of size offset number = number * size + offset
 start_is : (r : RecordFormat) (place : Field) (count number : ℕ) (readonly : Bool) → number < count → slice_index (field_layout r place count readonly).starts number ≡ start_of r.format.size place.offset number
 start_is r place count number readonly less = get_or-map-range_with_len (start_of r.format.size place.offset) 0 count number number 0 less (omega arith)
 
--- a record before another one, or after it
+-- The record lies before another one, or after it.
 other_records : (number other size offset len : ℕ) → offset + len ≤ size → other ≢ number → (other * size + size ≤ start_of size offset number) ⊎ (start_of size offset number + len ≤ other * size)
 other_records number other size offset len inside apart =
     elim (cases_lt other number) [
@@ -179,7 +179,7 @@ field_set r field place e new number piece spread there less long fits done =
       iterators = ap (λ (x : Exporter). x.iterators) done;
     }
 
--- ---- all of it
+-- ---- the whole law
 
 pub one_field_set : FieldsLieInOrder → PackingFillsTheFormat → KeysNameItems → LiveLayoutsAreSound → SetsChangeOneField
 one_field_set order fills keys lives r field place e new k key v loans is there sound live not_slice done =

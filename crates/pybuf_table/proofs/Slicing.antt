@@ -22,7 +22,7 @@ use Rattle.pybuf_table.proofs.FieldLemmas.{unit_within}
 use Rattle.pybuf_table.proofs.Staying.{spread_inside}
 use Rattle.pybuf_table.proofs.Setting.{other_fields, field_stays}
 
--- what holds of all starts holds of those that a slice picks
+-- What holds of all starts holds of those that a slice picks.
 block_all : (P : ℕ → Type 0) (size : ℕ) (starts : List ℕ) (i : ℕ) → All P starts → All P (block_at size starts i)
 block_all P size starts i all = All-take P size (drop (i * size) starts) (All-drop P (i * size) starts all)
 
@@ -49,7 +49,7 @@ numbers_outside records size offset len at count each k d less =
 abbrev is_layout : Result Layout Fault → Layout → Type 0
 is_layout live layout = live ≡ Ok layout
 
--- another field of a record lies outside that field of every record
+-- Another field of a record lies outside this field of every record.
 apart_from : (fs : List Field) (size field k : ℕ) (place other : Field) (number one : ℕ) → Spread 0 fs size → slice_get fs field ≡ Some place → slice_get fs k ≡ Some other → k ≢ field
     → Outside place.length (number * size + other.offset) other.length (start_of size place.offset one)
 apart_from fs size field k place other number one spread there is apart =

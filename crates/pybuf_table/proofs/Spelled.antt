@@ -126,7 +126,7 @@ codes_allowed o offset (item ∷ items) l are is =
     codes_by o (code_at o offset item) (ltb (offset_after o offset (code_at o offset item)) (2 ^ 63)) (layout_from o (offset_after o offset (code_at o offset item)) items) l are.0
     (λ k e. codes_allowed o (offset_after o offset (code_at o offset item)) items k are.1 e) is
 
--- a field of a code has it
+-- If a code has a field, that is one of its row.
 in_row : (c : FormatType) (size offset count k : ℕ) (place : Field) → slice_get (fields_in_row c size offset count) k ≡ Some place → place.code ≡ c
 in_row c size offset zero k place is = absurd cc
 in_row c size offset (suc count) zero place is = let same : record { code = c; offset = offset; length = size } ≡ place = cc in ap (λ (f : Field). f.code) (sym same)
@@ -259,7 +259,7 @@ prefix_is [] = inl refl
 prefix_is (b ∷ rest) =
     which_prefix (eqb b 64) (eqb b 61) (eqb b 60) (eqb b 62) (eqb b 33) b rest (eqb-true b 64) (eqb-true b 61) (eqb-true b 60) (eqb-true b 62) (eqb-true b 33)
 
--- the format of a field is a format, whose items have the field's length
+-- The format of a field is a format, and its items have the field's length.
 pub record IsSpelled (text : List ℕ) (size : ℕ) : Type 0 where
   pub format : Format
   pub spelled : format_of text ≡ Ok format

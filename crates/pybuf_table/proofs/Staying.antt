@@ -1,4 +1,4 @@
--- Bytes and fields that stay where others are written.
+-- Bytes and fields that stay when others are written.
 use Rattle.std.proofs.Common.{◌≡◌, ℕ, zero, suc, ◌+◌, ◌-◌, ◌<◌, ◌≤◌, List, [], ◌∷◌, ◌++◌, length, take, drop, Some, sym, ap, ◌∙◌, subst, inl, inr, ◌⊎◌, append_assoc, arith}
 use Rattle.std.specs.Prelude.{slice_get}
 use Rattle.std.proofs.lemmas.List.{drop-drop, drop-take, take-take, take_at, drop_at, length-take-le, length-drop, length-append}
@@ -9,12 +9,12 @@ use Rattle.pybuf_verbs_writes.specs.Laid.{bytes_with}
 
 -- ---- bytes
 
--- bytes before a place are those of its front
+-- Bytes before a place are those of the front.
 pub front : (bytes : List ℕ) (place at count : ℕ) → at + count ≤ place → bytes_at bytes count at ≡ bytes_at (take place bytes) count at
 front bytes place at count before =
     sym (drop-take at count bytes) ∙ ap (drop at) (sym (take-take (at + count) place bytes before)) ∙ drop-take at count (take place bytes)
 
--- bytes from a place on are those of its back
+-- Bytes from a place on are those of the back.
 pub back : (bytes : List ℕ) (place at count : ℕ) → place ≤ at → bytes_at bytes count at ≡ bytes_at (drop place bytes) count (at - place)
 back bytes place at count behind =
     let same : at ≡ place + (at - place) = omega arith in
@@ -24,7 +24,7 @@ pub bytes_stay : (new old : List ℕ) (place end at count : ℕ) → take place 
 bytes_stay new old place end at count before behind (inl h) = front new place at count h ∙ ap (λ (bytes : List ℕ). bytes_at bytes count at) before ∙ sym (front old place at count h)
 bytes_stay new old place end at count before behind (inr h) = back new end at count h ∙ ap (λ (bytes : List ℕ). bytes_at bytes count (at - end)) behind ∙ sym (back old end at count h)
 
--- a part of a part
+-- A part of a part is a part of the whole.
 pub part_of_part : (bytes : List ℕ) (start size offset len : ℕ) → offset + len ≤ size → bytes_at (bytes_at bytes size start) len offset ≡ bytes_at bytes len (start + offset)
 part_of_part bytes start size offset len within = sym (front (drop start bytes) size offset len within) ∙ ap (take len) (drop-drop offset start bytes)
 
@@ -67,7 +67,7 @@ spread_inside p q (g ∷ fs) (suc k) f spread is =
     let later : g.offset + g.length ≤ f.offset = rest.0 in
     (omega (arith, first, later), rest.1)
 
--- the later of two fields begins at the end of the other, or after it
+-- The later of two fields begins at the end of the other, or after it.
 pub spread_apart : (p q : ℕ) (fs : List Field) (j k : ℕ) (f g : Field) → Spread p fs q → j < k → slice_get fs j ≡ Some f → slice_get fs k ≡ Some g → f.offset + f.length ≤ g.offset
 spread_apart p q [] j k f g spread less is other = absurd cc
 spread_apart p q (h ∷ fs) j zero f g spread less is other = absurd (omega arith)

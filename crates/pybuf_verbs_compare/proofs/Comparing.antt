@@ -1,4 +1,4 @@
--- What the code of a comparison rests on.
+-- Lemmas for the code of a comparison.
 use Rattle.std.proofs.Common.{◌≡◌, ℕ, List, Bool, false, sym, refl, subst}
 use Rattle.std.specs.Prelude.{Option, Some, None}
 use Rattle.std.specs.Option.{option_map}
@@ -15,7 +15,7 @@ use Rattle.pybuf_state.specs.Exporter.{Exporter}
 use Rattle.pybuf_state.specs.Loans.{lent_as, snap_in, subject_in}
 use Rattle.pybuf_verbs_compare.specs.Compare.{has_no_order, has_no_order_with, equals_snap, equals_other}
 
--- whether there is an order shows by the kind alone of what a handle names
+-- Whether there is an order depends only on the kind of what a handle names.
 abbrev pub no_order_with_kind : ExporterKind → CompareOp → Option SnapKind → Bool
 no_order_with_kind k op (Some kind) = has_no_order k op kind
 no_order_with_kind k op None = false
@@ -24,13 +24,13 @@ pub no_order_by_kind : (k : ExporterKind) (op : CompareOp) (o : Option Snap) →
 no_order_by_kind k op None = refl
 no_order_by_kind k op (Some snap) = refl
 
--- something of another exporter is no view of this one
+-- What another exporter has is no view of this one.
 pub equals_other_snap : (e : Exporter) (number h : ℕ) (left : Snap) (o : Option Snap) →
     equals_other number left (value.One (scalar.Handle h)) (lent_as h (subject_in (option_map loan.Other o)) (snap_in e (option_map loan.Other o))) ≡ equals_snap left o
 equals_other_snap e number h left None = refl
 equals_other_snap e number h left (Some snap) = refl
 
--- what holds of a bytes value holds of the value that it is
+-- What holds of a bytes value holds of a value that is equal to it.
 pub by_bytes : (P : Value → Type 0) (v : Value) (bytes content : List ℕ) → v ≡ value.One (scalar.Bytes bytes) → content ≡ bytes → P (value.One (scalar.Bytes content)) → P v
 by_bytes P v bytes content is same holds =
     subst P (sym is) (subst (λ (bs : List ℕ). P (value.One (scalar.Bytes bs))) same holds)

@@ -1,4 +1,4 @@
--- Equal views of single bytes are hashed alike.
+-- Equal views of single bytes have the same hash.
 use Rattle.std.proofs.Common.{◌≡◌, inl, inr, ℕ, ◌*◌, ◌<◌, List, [], ◌∷◌, length, drop, Bool, true, false, ap, sym, ◌∙◌, refl, arith}
 use Rattle.std.specs.Prelude.{◌==◌, ◌&&◌, not, nat_lt, Result, Ok, Err}
 use Rattle.std.specs.List.{All}
@@ -21,7 +21,7 @@ use Rattle.pybuf_state.specs.Laws.{IsSoundLayout, LiveLayoutsAreSound}
 use Rattle.pybuf_verbs_compare.specs.Hash.{hash_of_view}
 use Rattle.pybuf_verbs_compare.specs.Laws.{EqualViewsHashAlike}
 
--- ---- what is replied
+-- ---- what `hash` replies
 
 abbrev after : Exporter → Layout → Bool → Result (Exporter × LocalReply) Fault
 after e layout writable = unless writable fault.Value >>= λ _. Ok (e, reply.Bytes (content_of_layout e.bytes layout))

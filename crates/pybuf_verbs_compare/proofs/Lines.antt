@@ -1,4 +1,4 @@
--- The texts that subjects are shown as have no line feed.
+-- If a subject is shown as a text, the text has no line feed.
 use Rattle.std.proofs.Common.{◌≡◌, ℕ, ◌/◌, ◌%◌, zero, suc, List, [], ◌∷◌, ◌++◌, slice_index, Bool, true, false, cond, ◌==◌, ◌||◌, ◌&&◌, not, codes, refl, ◌∙◌, ap, arith, tests}
 use Rattle.std.specs.List.{flat_map, list_any}
 use Rattle.std.specs.Fmt.{digits, digits_onto, digit_glyph, decimal}
@@ -71,7 +71,7 @@ quoted_single bytes =
 repr_single : (before bytes after : List ℕ) → HasNoFeed before → HasNoFeed after → HasNoFeed (repr_of before bytes after)
 repr_single before bytes after first last = both (before ++ quoted_text bytes) after (both before (quoted_text bytes) first (quoted_single bytes)) last
 
--- ---- what is shown
+-- ---- the texts
 
 pub bytes_shown : (k : ExporterKind) (bytes : List ℕ) → is_one_line (shown_bytes k bytes) ≡ true
 bytes_shown kind.ByteArray bytes = ap not (repr_single (codes "bytearray(b") bytes (codes ")") refl refl)

@@ -1,4 +1,4 @@
--- Effects that compare keep a sound exporter.
+-- Each effect that compares keeps a sound exporter.
 use Rattle.std.proofs.Common.{◌≡◌, ℕ, ◌^◌, List, length, Bool, true, false, refl, subst}
 use Rattle.std.specs.Prelude.{not, nat_lt, Option, Result, Ok, Err, if◌then◌else◌}
 use Rattle.pybuf_value.specs.declared.faults.Fault.{Fault}

@@ -37,7 +37,7 @@ Effect = Result (Exporter × LocalReply) Fault
 abbrev is_buffer : Effect → Type 0
 is_buffer effect = effect ≡ Err fault.Buffer
 
--- a check that refuses decides
+-- A check that refuses decides the answer.
 refused_so : (e : Exporter) (f : Fault) → IsAsked e (Err f) (Err f)
 refused_so e f = record {
   earlier = λ g is. ap (λ (y : Fault). let gone : Effect = Err y in gone) (let same : f ≡ g = cc in same);
@@ -45,21 +45,21 @@ refused_so e f = record {
   only = λ is. inr (let same : f ≡ fault.Buffer = cc in ap (λ (y : Fault). let gone : Result Bool Fault = Err y in gone) same);
 }
 
--- what follows a check
+-- A check passes or refuses, and what follows it asks as it should.
 checked : {A : Type 0} (e : Exporter) (r : Result A Fault) (f : A → Result Bool Fault) (g : A → Effect) → ((a : A) → IsAsked e (f a) (g a)) → IsAsked e (r >>= f) (r >>= g)
 checked e (Ok a) f g after = after a
 checked e (Err x) f g after = refused_so e x
 
--- a check after which another length is asked for
+-- After this check another length is asked for.
 passing : {A : Type 0} (e : Exporter) (r : Result A Fault) (g : A → Effect) → ((a : A) → IsAsked e (Ok true) (g a)) → IsAsked e (passed r) (r >>= g)
 passing e (Ok a) g after = after a
 passing e (Err x) g after = refused_so e x
 
--- what asks for nothing is never refused so
+-- What asks for nothing is never refused with `BufferError`.
 never : (e : Exporter) (effect : Effect) → (is_buffer effect → ⊥) → IsAsked e (Ok false) effect
 never e effect other = record { earlier = λ f is. absurd (cc); refused = λ is live. absurd (cc); only = λ is. absurd (other is) }
 
--- what is asked is refused while a view is unreleased, and what comes after it refuses in other ways
+-- What asks is refused while a view is unreleased, and what comes after that refuses in other ways.
 asking_when : (e : Exporter) (b : Bool) (g : Bool → Effect) → has_exports e ≡ b → ((u : Bool) → is_buffer (g u) → ⊥) → IsAsked e (Ok true) (unless b fault.Buffer >>= g)
 asking_when e true g is after = record { earlier = λ f is. absurd (cc); refused = λ asked live. refl; only = λ refusal. inl (refl, is) }
 asking_when e false g is after = record { earlier = λ f is. absurd (cc); refused = λ asked live. absurd (true≢false (sym live ∙ is)); only = λ refusal. absurd (after true refusal) }
@@ -70,7 +70,7 @@ asking e g after = asking_when e (has_exports e) g refl after
 done_so : (after : Exporter × LocalReply) → is_buffer (Ok after) → ⊥
 done_so after is = absurd (cc)
 
--- a check that refuses with another fault
+-- a check that refuses with another fault than `BufferError`
 then_done : (b : Bool) (f : Fault) (g : Bool → Exporter × LocalReply) → f ≢ fault.Buffer → is_buffer (unless b f >>= λ u. Ok (g u)) → ⊥
 then_done true f g other is = other (let same : f ≡ fault.Buffer = cc in same)
 then_done false f g other is = absurd (cc)
@@ -91,7 +91,7 @@ none_of_kind kind.ByteArray e = never e (Err fault.UnknownName) (λ is. absurd (
 none_of_kind kind.Bytes e = refused_so e fault.UnknownName
 none_of_kind (kind.Vector readonly) e = refused_so e fault.UnknownName
 
--- ---- a line for each
+-- ---- a lemma for each edit
 
 appending : (e : Exporter) (v : Value) → IsAsked e (passed (byte_in v)) (appended e v)
 appending e v = passing e (byte_in v) _ (λ byte. asking e _ (λ u. done_so _))
@@ -155,7 +155,7 @@ taking : (e : Exporter) (b : Bool) → IsAsked e (if b then Ok true else Ok fals
 taking e true = asking e _ (λ u. done_so _)
 taking e false = never e (Err fault.UnknownName) (λ is. absurd (cc))
 
--- a slice asks where it gets another number of bytes than it picks
+-- A slice asks if it gets another number of bytes than it picks.
 of_count : (e : Exporter) (b other : Bool) (effect : Effect) → has_exports e ≡ b → (is_buffer effect → ⊥) → IsAsked e (Ok other) (unless (b && other) fault.Buffer >>= λ _. effect)
 of_count e true true effect is after = record { earlier = λ f is. absurd (cc); refused = λ asked live. refl; only = λ refusal. inl (refl, is) }
 of_count e true false effect is after = never e effect after

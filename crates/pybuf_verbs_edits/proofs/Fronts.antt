@@ -1,4 +1,4 @@
--- Which slices pick the first places of a sequence, and what is left without these.
+-- Which slices pick the first places of a sequence, and what is left without these places.
 use Rattle.std.proofs.Common.{◌≡◌, ◌⊎◌, ℕ, zero, suc, ◌+◌, ◌-◌, ◌<◌, ◌≤◌, List, [], ◌∷◌, ◌++◌, length, drop, true, false, Bool, sym, subst, ap, ◌∙◌, refl, inl, inr, arith, eq-eqb}
 use Rattle.std.specs.Prelude.{◌==◌, reverse, All, if◌then◌else◌}
 use Rattle.std.proofs.lemmas.Bool.{cases_lt, eqb-true}
@@ -55,7 +55,7 @@ all_between x (suc k) q low high =
       | inr more ↦ on_tail x q (rising (x + 1) 1 k) (all_between (x + 1) k q (omega (arith, more)) (omega (arith, high)))
     ]
 
--- a number of a run is its first, or a stride further
+-- A number of a run is the first, or at least one stride further.
 first_or_further : (x s k q : ℕ) → has (rising x s k) q ≡ true → (q ≡ x) ⊎ (x + s ≤ q)
 first_or_further x s zero q on = absurd (cc)
 first_or_further x s (suc k) q on =
@@ -68,7 +68,7 @@ length_rising : (x s k : ℕ) → length (rising x s k) ≡ k
 length_rising x s zero = refl
 length_rising x s (suc k) = ap suc (length_rising (x + s) s k)
 
--- ---- lists of the same numbers
+-- ---- lists that have the same numbers
 
 either_way : (b c : Bool) → (if c then true else if b then true else false) ≡ (if b then true else c)
 either_way true true = refl
@@ -92,7 +92,7 @@ has_reverse (x ∷ xs) q =
     ∙ ap (λ (b : Bool). if b then true else has (x ∷ []) q) (has_reverse xs q)
     ∙ either_way (x == q) (has xs q)
 
--- the first n places, and no others
+-- A list of the first n places has these places and no others.
 first_have : (n : ℕ) (xs : List ℕ) (q : ℕ) → AreFirst n xs → has xs q ≡ has (rising 0 1 n) q
 first_have n xs q (inl up) = ap (λ (us : List ℕ). has us q) up
 first_have n xs q (inr down) = ap (λ (us : List ℕ). has us q) down ∙ has_reverse (rising 0 1 n) q
@@ -115,7 +115,7 @@ pub run_is_first : (falls : Bool) (k : ℕ) → AreFirst k (run_of falls 0 1 k)
 run_is_first true k = inr refl
 run_is_first false k = inl refl
 
--- what a run of the first places has
+-- A run that is the first places has these places and no others.
 run_has : (n : ℕ) (falls : Bool) (x s k q : ℕ) → AreFirst n (run_of falls x s k) → has (rising x s k) q ≡ has (rising 0 1 n) q
 run_has n falls x s k q first = sym (run_have falls x s k q) ∙ first_have n (run_of falls x s k) q first
 
@@ -185,7 +185,7 @@ without_first n items xs first =
     (λ q past. first_have n xs q first ∙ not_both (has (rising 0 1 n) q) (λ on. omega (arith, past, none_past 0 n q on)))
     ∙ ap (λ (k : ℕ). drop k items) (let whole : n - 0 ≡ n = omega arith in whole)
 
--- as many as there are at most, where all lie inside
+-- If all places lie inside, there are at most as many as the length.
 pub first_inside : (n len : ℕ) (xs : List ℕ) → ((q : ℕ) → has xs q ≡ true → q < len) → AreFirst n xs → n ≤ len
 first_inside zero len xs inside first = omega arith
 first_inside (suc n) len xs inside first = omega (arith, inside n (first_have (suc n) xs n first ∙ all_between 0 (suc n) n (omega arith) (omega arith)))

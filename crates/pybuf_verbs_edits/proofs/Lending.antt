@@ -47,7 +47,7 @@ okay x = Ok x
 abbrev once : View → ℕ
 once v = if is_exported v then 1 else 0
 
--- an unreleased view is counted
+-- An unreleased view is counted.
 counted : (views : List View) (k : ℕ) (v : View) → slice_get views k ≡ Some v → v.released ≡ false → 0 < count_by is_exported views
 counted [] k v at live = absurd (cc)
 counted (w ∷ views) zero v at live =
@@ -62,7 +62,7 @@ while_counted n some =
     let over : nat_lt 0 n ≡ true = grind (arith, some) in
     ap (λ (b : Bool). unless b fault.Buffer) over
 
--- because of it the length stays
+-- While there is such a view, the length stays.
 refused : (e : Exporter) (k : ℕ) (v : View) → slice_get e.views k ≡ Some v → v.released ≡ false → resizable e ≡ Err fault.Buffer
 refused e k v at live = while_counted (exports_of e) (counted e.views k v at live)
 
@@ -91,7 +91,7 @@ view_given bytes (Some v) l found = view_live bytes v v.released l refl found
 view_content : (e : Exporter) (k : ℕ) (l : Layout) → live_layout e k ≡ Ok l → content_of_named (snap_of_subject e (subject.View k)) ≡ Ok (content_of_layout e.bytes l)
 view_content e k l found = view_given e.bytes (slice_get e.views k) l found
 
--- an edit by them that asks for another length is refused, whatever they are
+-- An edit by these bytes that asks for another length is refused, whatever the bytes are.
 view_asks : (e : Exporter) (k : ℕ) (l : Layout) (g : List ℕ → Bool → Effect) → live_layout e k ≡ Ok l → (content_of_named (snap_of_subject e (subject.View k)) >>= λ bytes. (resizable e >>= g bytes)) ≡ Err fault.Buffer
 view_asks e k l g found =
     ap (λ (r : Result (List ℕ) Fault). r >>= λ bytes. (resizable e >>= g bytes)) (view_content e k l found)
@@ -134,7 +134,7 @@ other_adds e (Some snap) = refl
 
 -- ---- what is lent for one handle
 
--- it alone
+-- just what is lent for this handle
 abbrev alone : ℕ → Option Subject → Option Snap → List Lent
 alone h s o = lent_as h s o ++ []
 
@@ -207,7 +207,7 @@ handle_adds e h (Some loan.Missing) = refl
 pub handle_assigns : (e : Exporter) (parts : SliceParts) (h : ℕ) (o : Option Loan) → assigned_from e parts (value.One (scalar.Handle h)) (alone h (subject_in o) (snap_in e o)) ≡ assigned_by e parts (snap_in e o)
 handle_assigns e parts h o = ap (assigned_by e parts) (found_alone h (subject_in o) (snap_in e o))
 
--- an effect that is given what is lent for a value that is a handle answers by what that is lent as
+-- An effect on a value that is a handle answers by what the handle is lent as.
 pub by_handle : (effect : Value → List Lent → Effect) (short : Option Loan → Effect) (e : Exporter) (v : Value) (h : ℕ) (named : ℕ → Option Loan) (o : Option Loan) (r : Result LocalReply Halt) (new : Exporter)
     → ((x : Option Loan) → effect (value.One (scalar.Handle h)) (alone h (subject_in x) (snap_in e x)) ≡ short x) → v ≡ value.One (scalar.Handle h) → o ≡ named h
     → Answers (short o) e r new → Answers (effect v (lents_by e named (handle_of_value v))) e r new
@@ -216,7 +216,7 @@ by_handle effect short e v h named o r new same is found answers =
     (subst (λ (answer : Effect). Answers answer e r new) (sym (same (named h)))
     (subst (λ (x : Option Loan). Answers (short x) e r new) found answers))
 
--- ---- what is lent for a source alone
+-- ---- what is lent for a source that stands alone
 
 alone_read : (e : Exporter) (s n r : Option Value) (h : ℕ) (named : ℕ → Option Loan) → source_alone s n r ≡ Some h
     → bytes_of_options (snaps_of (lents_by e named (handle_of_option s))) s n r ≡ content_of_named (snap_in e (named h))
@@ -225,7 +225,7 @@ alone_read e (Some (value.One (scalar.Handle g))) None None h named is =
     ap content_of_named (found_alone g (subject_in (named g)) (snap_in e (named g))) ∙ ap (λ (x : ℕ). content_of_named (snap_in e (named x))) same
 alone_read e s n r h named is = absurd (cc)
 
--- options answer by what the handle that is their source alone is lent as
+-- If a handle is the only option, the options answer by what that handle is lent as.
 pub by_source : (e : Exporter) (options : ByteInnerNewOptions) (h : ℕ) (named : ℕ → Option Loan) (o : Option Loan) (r : Result LocalReply Halt) (new : Exporter) → handle_alone options ≡ Some h → o ≡ named h
     → Answers (initialized_by e (snap_in e o)) e r new → Answers (initialized e options (lents_by e named (handle_of_option options.source))) e r new
 by_source e options h named o r new is found answers =

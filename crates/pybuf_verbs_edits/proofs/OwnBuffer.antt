@@ -1,4 +1,5 @@
--- No check before an edit asks for another length gives `BufferError`, but that an exporter is not added to itself.
+-- No check before an edit asks for another length gives `BufferError`, except that an exporter isn't added to
+-- itself.
 use Rattle.std.proofs.Common.{◌≡◌, ℕ, List, [], ◌∷◌, Bool, true, false, ap, refl}
 use Rattle.std.specs.Prelude.{◌≢◌, ℤ, pos, negsuc, zero, suc, not, ◌&&◌, ◌||◌, nat_lt, Option, Some, None, Result, Ok, Err, if◌then◌else◌}
 use Rattle.pybuf_value.specs.declared.faults.Fault.{Fault}
@@ -276,13 +277,13 @@ assignment_so e (value.Tuple parts) v lents = okay false
 assignment_so e (value.List parts) v lents = okay false
 assignment_so e (value.Slices slices) v lents = okay false
 
--- of a bytearray, and of nothing else
+-- Only the effect of a bytearray can give it.
 of_kind : (k : ExporterKind) (r : Result Bool Fault) → of_byte_array k r ≡ Err fault.Buffer → (k ≡ kind.ByteArray) × (r ≡ Err fault.Buffer)
 of_kind kind.ByteArray r is = (refl, is)
 of_kind kind.Bytes r is = absurd (other {A = Bool} fault.UnknownName unknown_differs is)
 of_kind (kind.Vector readonly) r is = absurd (other {A = Bool} fault.UnknownName unknown_differs is)
 
--- where no check of an edit gives it
+-- Here no check of an edit gives it.
 none : (e : Exporter) (v : Verb) (lents : List Lent) (r : Result Bool Fault) → NoBuffer r → of_byte_array e.kind r ≡ Err fault.Buffer → IsAddedToItself e v lents
 none e v lents r never is = absurd (never (of_kind e.kind r is).1)
 

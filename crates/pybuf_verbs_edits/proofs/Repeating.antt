@@ -1,4 +1,4 @@
--- A list so many times.
+-- Lists that are repeated n times.
 use Rattle.std.proofs.Common.{◌≡◌, ℕ, zero, suc, ◌+◌, List, ◌++◌, ap, sym, ◌∙◌, refl, arith, append_assoc, append-nil}
 use Rattle.std.specs.Prelude.{◌*◌, ◌^◌, length, nat_lt, true, Ok}
 use Rattle.pybuf_slice.specs.Edits.{repeated_list}
@@ -7,7 +7,7 @@ use Rattle.pybuf_state.specs.Resizing.{resizable}
 use Rattle.pybuf_verbs_edits.specs.Common.{with_bytes}
 use Rattle.pybuf_verbs_edits.specs.Growing.{repeated}
 
--- one more list at the end is one more at the front
+-- One more list at the end is one more at the front.
 more_behind : {X : Type 0} (n : ℕ) (xs : List X) → repeated_list n xs ++ xs ≡ repeated_list (suc n) xs
 more_behind zero xs = sym (append-nil xs)
 more_behind {X} (suc n) xs = append_assoc xs (repeated_list n xs) xs ∙ ap (λ (rest : List X). xs ++ rest) (more_behind n xs)

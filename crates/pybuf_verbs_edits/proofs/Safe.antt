@@ -1,4 +1,4 @@
--- The edits keep a sound exporter.
+-- Each edit keeps a sound exporter.
 use Rattle.std.proofs.Common.{◌≡◌, ℕ, ◌*◌, ◌^◌, List, [], length, Bool, true, false, true≢false, sym, ap, refl}
 use Rattle.std.specs.Prelude.{not, ◌&&◌, ◌==◌, nat_lt, reverse, Option, Result, Ok, Err, if◌then◌else◌}
 use Rattle.std.specs.List.{position_or_len}
@@ -38,7 +38,7 @@ use Rattle.pybuf_verbs_edits.specs.Shrinking.{count_or_last, popped, removed, cl
 use Rattle.pybuf_verbs_edits.specs.Replacing.{slice_set, initialized}
 use Rattle.pybuf_verbs_edits.specs.Laws.{EditsAreSafe}
 
--- what each way of changing an exporter keeps
+-- what each way to change an exporter keeps
 pub record Ways : Type 0 where
   pub reading : ReadingKeeps
   pub writing : WritingKeeps
@@ -53,7 +53,7 @@ passed : (b : Bool) (f : Fault) (u : Bool) → unless b f ≡ Ok u → b ≡ fal
 passed true f u is = absurd (cc)
 passed false f u is = refl
 
--- ---- ways that effects end
+-- ---- the ways in which effects end
 
 kept : Ways → (e : Exporter) → IsSafe e (Ok (e, reply.Ok))
 kept ways e = record { keeps = λ sound. ways.reading e sound; answers = refl }
@@ -64,7 +64,7 @@ resized_to ways e bytes r free writable is = record { keeps = λ sound. ways.res
 written : Ways → (e : Exporter) (bytes : List ℕ) → holds_readonly e.kind ≡ false → length bytes ≡ length e.bytes → IsSafe e (Ok (with_bytes e bytes))
 written ways e bytes writable same = record { keeps = λ sound. ways.writing e bytes sound writable same; answers = refl }
 
--- what follows where the length may change
+-- What holds if no view is unreleased holds after the check of that.
 asked : (e : Exporter) (f : Bool → Result (Exporter × LocalReply) Fault) → ((u : Bool) → has_exports e ≡ false → IsSafe e (f u)) → IsSafe e (resizable e >>= f)
 asked e f after = bind e (resizable e) f (λ u is. after u (passed (has_exports e) fault.Buffer u is))
 
@@ -72,13 +72,13 @@ either : (e : Exporter) (b : Bool) (effect other : Result (Exporter × LocalRepl
 either e true effect other first second = first
 either e false effect other first second = second
 
--- the effect of a bytearray is that of an exporter that may be written
+-- If a bytearray has an effect, its exporter may be written.
 of_kind : (e : Exporter) (k : ExporterKind) (effect : Result (Exporter × LocalReply) Fault) → e.kind ≡ k → (holds_readonly e.kind ≡ false → IsSafe e effect) → IsSafe e (of_byte_array k effect)
 of_kind e kind.ByteArray effect is safe = safe (ap holds_readonly is)
 of_kind e kind.Bytes effect is safe = tt
 of_kind e (kind.Vector readonly) effect is safe = tt
 
--- ---- a line for each
+-- ---- a lemma for each edit
 
 appending : Ways → (e : Exporter) (v : Value) → holds_readonly e.kind ≡ false → IsSafe e (appended e v)
 appending ways e v writable = bind e (byte_in v) _ (λ byte _. asked e _ (λ u free. resized_to ways e _ reply.Ok free writable refl))
@@ -144,7 +144,7 @@ not_false : (b : Bool) → not b ≡ false → b ≡ true
 not_false true told = refl
 not_false false told = absurd (true≢false told)
 
--- a slice that is written while a view is unreleased gets as many bytes as it picks
+-- While a view is unreleased, a slice that is written gets as many bytes as it picks.
 count_kept : (live other : Bool) (u : Bool) (n count : ℕ) → other ≡ not (n == count) → unless (live && other) fault.Buffer ≡ Ok u → live ≡ true → n ≡ count
 count_kept true true u n count same is on = absurd (cc)
 count_kept true false u n count same is on = eqb-true n count (not_false (n == count) (sym same))

@@ -8,7 +8,7 @@ use Rattle.pybuf_index.specs.Picks.{steps_to}
 use Rattle.pybuf_index.specs.Runs.{picks_in_span}
 use Rattle.pybuf_slice.specs.Edits.{replaced_range, repeated_list}
 
--- ---- other bytes in place of a range, and not as many
+-- ---- other bytes in place of a range, in another number
 
 steps_long : (most s count : ℕ) → count ≤ most → length (steps_to most (pos s) (pos (s + count)) (pos 1)) ≡ count
 steps_long zero s zero within = refl
@@ -37,7 +37,7 @@ not_as_long old new bytes start end count step one order inside counted other is
     let whole : length new ≡ start + (length bytes + (length old - end)) = ap length is ∙ long in
     other (omega (arith, spans, whole, same, order, inside))
 
--- ---- the bytes so many times
+-- ---- the bytes, repeated n times
 
 repeated_long : (n : ℕ) (xs : List ℕ) → length (repeated_list n xs) ≡ length xs * n
 repeated_long zero xs = let none : 0 ≡ length xs * 0 = grind arith in none
@@ -57,7 +57,7 @@ pub not_empty : (n : ℕ) (b : Bool) → b ≡ (n == 0) → b ≡ false → 0 < 
 not_empty zero b is some = absurd (cc)
 not_empty (suc n) b is some = omega arith
 
--- another number of times than 1 makes another length of any bytes
+-- Bytes that are repeated another number of times than 1 have another length.
 pub other_times : (P : Type 0) (n m t : ℕ) (r : Result LocalReply Halt) → 0 < n → OnOk r (m ≡ n * t) → (t ≡ 1 → ⊥) → OnOk r (m ≡ n → P)
 other_times P n m t (Ok x) some long other = λ same. absurd (other (one_time n t some (sym long ∙ same)))
 other_times P n m t (Err h) some long other = long

@@ -1,4 +1,4 @@
--- What an edit takes out at the front, by the checks of its effect.
+-- The checks of its effect tell what an edit takes out at the front.
 use Rattle.std.proofs.Common.{◌≡◌, ◌≢◌, inl, inr, ℕ, zero, suc, ◌+◌, ◌-◌, ◌/◌, min, ◌<◌, ◌≤◌, ℤ, pos, negsuc, List, [], ◌∷◌, length, take, drop, true, false, Bool, sym, subst, ap, ◌∙◌, refl, arith, length-take, length-drop, length-append}
 use Rattle.std.specs.Prelude.{nat_abs, Result, Ok, Err}
 use Rattle.std.proofs.lemmas.Bool.{cases_lt}
@@ -35,7 +35,7 @@ named_place (Ok k) f number place n is found first =
     last_place (f k) place n (ap f same ∙ found) first
 named_place (Err g) f number place n is found first = absurd (cc)
 
--- the byte at a place that a number names
+-- The byte is the one at a place that a number names.
 pub named_room : (r : Result ℤ Fault) (f : ℤ → Result ℕ Fault) (number : ℤ) (place n old new : ℕ) → r ≡ Ok number → f number ≡ Ok place → TakesFirst (r >>= λ k. (f k >>= λ p. Ok (p ∷ []))) n
     → (place ≡ 0 → new ≡ old + (place + 1)) → new ≡ old + n
 named_room r f number place n old new is found first room =
@@ -46,7 +46,7 @@ pub named_counter : (r : Result ℤ Fault) (f : ℤ → Result ℕ Fault) (numbe
     → (place ≡ 0 → new ≡ old) → new ≡ old
 named_counter r f number place n old new is found first counter = counter (first_alone n place (named_place r f number place n is found first)).0
 
--- the first byte of a value
+-- The byte is the first of its value.
 valued_place : (r : Result ℕ Fault) (f : ℕ → ℕ) (byte place n : ℕ) → r ≡ Ok byte → f byte ≡ place → TakesFirst (r >>= λ b. Ok (f b ∷ [])) n → AreFirst n (place ∷ [])
 valued_place (Ok b) f byte place n is found first =
     let same : b ≡ byte = cc in
@@ -69,11 +69,11 @@ sliced_first len (Ok p) parts n is first =
     subst (λ (q : SliceParts). AreFirst n (picks_of len q)) same first
 sliced_first len (Err f) parts n is first = absurd (cc)
 
--- what is left where just the first go
+-- If just the first places go, the rest is left.
 pub front_gone : (bytes places : List ℕ) (n : ℕ) → AreFirst n places → elements_off bytes places ≡ replaced_range bytes 0 n []
 front_gone bytes places n first = without_first n bytes places first
 
--- as long as what stays
+-- The result is as long as what stays.
 pub shorter : (bytes : List ℕ) (start end : ℕ) → start ≤ end → end ≤ length bytes → length (replaced_range bytes start end []) ≡ start + (length bytes - end)
 shorter bytes start end ordered inside =
     length-append (take start bytes) (drop end bytes)
@@ -104,7 +104,7 @@ some_size (pos zero) moves = absurd (moves refl)
 some_size (pos (suc n)) moves = omega arith
 some_size (negsuc n) moves = omega arith
 
--- a span with several indices that begins at 0, and whose step is 1 up or down, picks the first places
+-- A span with several indices picks the first places if it begins at 0 and its step is 1, up or down.
 pub several_first : (spans : EachSpan SpanPicksAre) (low high : ℕ) (step : ℤ) → step ≢ pos 0 → 1 < length (picks_in_span low high step) → low ≡ 0 → nat_abs step ≡ 1 → AreFirst (length (picks_in_span low high step)) (picks_in_span low high step)
 several_first spans low high step moves some none stride =
     let falls : Bool = is_negative step in
@@ -117,7 +117,7 @@ several_first spans low high step moves some none stride =
     let same : picks_in_span low high step ≡ run_of falls 0 1 k = run ∙ ap (λ (x : ℕ). run_of falls x s k) least ∙ ap (λ (t : ℕ). run_of falls 0 t k) stride in
     subst (λ (m : ℕ). AreFirst m (picks_in_span low high step)) (sym long) (subst (AreFirst k) (sym same) (run_is_first falls k))
 
--- and no other with several does
+-- No other span with several indices picks the first places.
 pub several_only : (spans : EachSpan SpanPicksAre) (low high : ℕ) (step : ℤ) (n : ℕ) → step ≢ pos 0 → 1 < length (picks_in_span low high step) → AreFirst n (picks_in_span low high step) → (low ≡ 0) × (nat_abs step ≡ 1)
 several_only spans low high step n moves some first =
     let falls : Bool = is_negative step in

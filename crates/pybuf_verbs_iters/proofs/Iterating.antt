@@ -1,4 +1,4 @@
--- Effects of iterators change nothing but iterators.
+-- The effects of iterators change nothing but iterators.
 use Rattle.std.proofs.Common.{◌≡◌, ℕ, ◌+◌, List, [], ◌∷◌, ◌++◌, Bool, true, false, true≢false, sym, refl, ◌∙◌, ap, arith}
 use Rattle.std.specs.Prelude.{Option, Some, None, Result, Ok, Err, not, nat_lt, slice_get, length}
 use Rattle.std.proofs.lemmas.List.{length-append}
@@ -25,7 +25,7 @@ bind e r f after = done_bind (IsIterated e) r f after
 
 -- ---- the three ways of an effect
 
--- one more iterator
+-- The iterator that was added is there.
 last_is_there : (its : List Iterator) (it : Iterator) → nat_lt (length its) (length (its ++ it ∷ [])) ≡ true
 last_is_there its it = let more : length (its ++ it ∷ []) ≡ length its + 1 = length-append its (it ∷ []) in grind (arith, more)
 
@@ -34,15 +34,15 @@ made new e s =
     let it : Iterator = record { subject = s; position = 0; exhausted = false } in
     record { same = refl; iterators = new e.iterators it; answers = last_is_there e.iterators it }
 
--- nothing changes
+-- Nothing changes.
 read : (e : Exporter) (r : LocalReply) → is_answer e r ≡ true → IsIterated e (e, r)
 read e r answers = record { same = refl; iterators = λ k it given. (it, given, record { subject = refl; exhausted = λ is. refl }); answers = answers }
 
--- one that isn't exhausted moves
+-- An iterator that isn't exhausted moves.
 moved : MovedIteratorsStay → (e : Exporter) (k : ℕ) (it after : Iterator) (r : LocalReply) → slice_get e.iterators k ≡ Some it → IsSameOrMoved it after → is_answer (iterator_put e k after) r ≡ true → IsIterated e (iterator_put e k after, r)
 moved stays e k it after r given move answers = record { same = refl; iterators = stays e.iterators k it after given move; answers = answers }
 
--- so it may be at any place, and end
+-- It may move to any place, and become exhausted.
 at_place : (it : Iterator) (place : ℕ) → it.exhausted ≡ false → IsSameOrMoved it (record it { position = place })
 at_place it place goes = record { subject = refl; exhausted = λ is. absurd (true≢false (sym is ∙ goes)) }
 
@@ -63,7 +63,7 @@ next_by : MovedIteratorsStay → (e : Exporter) (k : ℕ) (it : Iterator) (b : B
 next_by stays e k it true is given = read e reply.Stop refl
 next_by stays e k it false is given = bind e (item_over e it.subject it.position) _ (λ x _. moved_on_so stays e k it x given is)
 
--- ---- how many are left, and the place that an iterator is moved to
+-- ---- how many items are left, and the place that an iterator is moved to
 
 over_bytes_case : (b : Bool) (it found : Iterator) → (unless (not b) fault.UnknownName >>= λ _. Ok it) ≡ Ok found → it ≡ found
 over_bytes_case true it found is = cc

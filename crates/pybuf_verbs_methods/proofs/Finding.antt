@@ -12,7 +12,7 @@ use Rattle.pybuf_state.specs.Loans.{Lent, lent_as, lents_by, snap_in, snaps_of, 
 use Rattle.pybuf_verbs_methods.specs.Laws.{NamesAreFound}
 use Rattle.pybuf_verbs_methods.specs.Names.{paired, all_paired, named_among}
 
--- past a handle that names nothing, or another than is sought, it is sought among the others
+-- If a handle names nothing, or isn't the one that is sought, the search goes on among the others.
 past : (x : ℕ) (s : Option Snap) (rest : List (ℕ × Snap)) (h : ℕ) → (x == h) ≡ false → snap_of (paired x s ++ rest) h ≡ snap_of rest h
 past x None rest h other = refl
 past x (Some s) rest h other = ap (λ (b : Bool). if b then Some s else snap_of rest h) other
@@ -34,7 +34,7 @@ pub names_found : NamesAreFound
 names_found named [] h = refl
 names_found named (x ∷ xs) h = one_of named x (all_paired named xs) h (x == h) (list_any (λ other. other == h) xs) refl (names_found named xs h)
 
--- the pairs of what is lent are those of what each handle names
+-- The pairs of what is lent are those of what each handle names.
 one_lent : (x : ℕ) (s : Option Subject) (o : Option Snap) (rest : List Lent) → snaps_of (lent_as x s o ++ rest) ≡ paired x o ++ snaps_of rest
 one_lent x s None rest = refl
 one_lent x s (Some snap) rest = refl

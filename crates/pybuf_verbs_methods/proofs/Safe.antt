@@ -1,4 +1,4 @@
--- Effects that read bytes as strings keep a sound exporter.
+-- Each effect that reads bytes as strings keeps a sound exporter.
 use Rattle.std.proofs.Common.{◌≡◌, true, refl, Ok}
 use Rattle.std.specs.Prelude.{Result}
 use Rattle.pybuf_value.specs.declared.faults.Fault.{Fault}

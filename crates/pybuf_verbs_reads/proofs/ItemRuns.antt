@@ -1,4 +1,4 @@
--- Items that are read from bytes in which they lie one after the other.
+-- Items that are read from bytes, in which they lie one after the other.
 use Rattle.std.proofs.Common.{◌≡◌, ℕ, zero, suc, ◌+◌, ◌*◌, ◌-◌, ◌<◌, ◌≤◌, List, [], ◌∷◌, ◌++◌, length, map, take, drop, ap, ap₂, sym, ◌∙◌, refl, subst, arith, suc-add, append_assoc}
 use Rattle.std.specs.Prelude.{All, ◌/◌, ◌%◌}
 use Rattle.std.proofs.lemmas.Grind.{common_steps}
@@ -37,7 +37,7 @@ in_both reader size a b (suc n) m long =
 whole : (len size : ℕ) → len % size ≡ 0 → len ≡ len / size * size
 whole len size is = let split = mod-add-div' len size in omega (arith, split, is)
 
--- whole items and what follows them
+-- whole items, and the bytes that follow them
 run_both : (reader : ItemReader) (size : ℕ) (a b : List ℕ) → 0 < size → length a % size ≡ 0 → items_of_run reader size (a ++ b) ≡ items_of_run reader size a ++ items_of_run reader size b
 run_both reader size a b some is =
     let long : length a ≡ length a / size * size = whole (length a) size is in
@@ -56,7 +56,7 @@ one_run reader size bytes some long =
 
 -- ---- all items
 
--- how items of a size are read by a reader is how they read by their format
+-- The reader reads items of this size as their format does.
 abbrev pub ReadsAs : ItemReader → List ℕ → ℕ → Type 0
 ReadsAs reader format size = (bytes : List ℕ) → length bytes ≡ size → read_by reader bytes ≡ item_by format bytes
 
@@ -72,7 +72,7 @@ content_read reader format size bytes (start ∷ starts) some reads inside =
     ∙ ap₂ (λ (xs ys : List Item). xs ++ ys) (one_run reader size (bytes_at bytes size start) some long ∙ ap (λ (item : Item). item ∷ []) (reads (bytes_at bytes size start) long))
     (content_read reader format size bytes starts some reads (All-tail (λ s. s + size ≤ length bytes) start starts inside))
 
--- the bytes of a view's items give the items of the view
+-- The bytes of a view's items give the items of the view.
 pub content_listed : (reader : ItemReader) (layout : Layout) (size : ℕ) (bytes content : List ℕ) → size ≡ layout.itemsize → 0 < size → ReadsAs reader layout.format size → LiesInside (length bytes) layout
     → content ≡ content_of_layout bytes layout → items_of_run reader size content ≡ items_of_layout bytes layout
 content_listed reader layout size bytes content same some reads inside is =
@@ -101,7 +101,7 @@ run_step reader size (suc n) rest items more total some grown so_far =
     ap₂ (λ (xs : List Item) (k : ℕ). xs ++ items_in reader size (drop size rest) k) grown same
     ∙ append_assoc items (read_by reader (take size rest) ∷ []) (items_in reader size (drop size rest) n) ∙ so_far
 
--- one turn of the loop
+-- one step of the loop
 pub run_step_at : (reader : ItemReader) (size left : ℕ) (rest front back : List ℕ) (items more total : List Item) (item : Item) → 0 < left → front ≡ take size rest → back ≡ drop size rest
     → item ≡ read_by reader front → more ≡ items ++ item ∷ [] → items ++ items_in reader size rest left ≡ total → left * size ≤ length rest
     → (more ++ items_in reader size back (left - 1) ≡ total) × ((left - 1) * size ≤ length back)

@@ -1,4 +1,4 @@
--- What `tolist` lists are the items that keys name.
+-- The items that `tolist` lists are those that keys name.
 use Rattle.std.proofs.Common.{◌≡◌, ℕ, ◌<◌, List, [], ◌∷◌, length, ap, sym, ◌∙◌, refl, subst, arith}
 use Rattle.std.specs.Prelude.{Result, Ok, Some, slice_index}
 use Rattle.std.specs.Option.{option_map}
@@ -23,7 +23,7 @@ use Rattle.pybuf_verbs_reads.specs.Get.{item_of_layout}
 use Rattle.pybuf_verbs_reads.specs.ToList.{list_shape}
 use Rattle.pybuf_verbs_reads.specs.Laws.{IsListOf, ListsHoldTheItems}
 
--- a list of one has as many places as a view of no dimension
+-- A list of one item has as many places as a view without dimensions.
 nested : (shape : List ℕ) → product (list_shape shape) ≡ product shape
 nested [] = omega arith
 nested (n ∷ shape) = refl

@@ -1,4 +1,4 @@
--- Effects that read keep a sound exporter.
+-- Each effect that reads keeps a sound exporter.
 use Rattle.std.proofs.Common.{◌≡◌, ℕ, length, Bool, true, false, refl, subst}
 use Rattle.std.specs.Prelude.{Option, Some, None, Result, Ok, Err, if◌then◌else◌}
 use Rattle.pybuf_value.specs.declared.faults.Fault.{Fault}
@@ -50,7 +50,7 @@ in_kind e kind.ByteArray r safe = safe
 in_kind e kind.Bytes r safe = safe
 in_kind e (kind.Vector readonly) r safe = tt
 
--- an item, or the view itself
+-- The answer is an item, or the view itself.
 either_safe : ReadingKeeps → (e : Exporter) (layout : Layout) (key : Value) (b : Bool) → IsSafe e (if b then Ok (e, reply.Itself) else item_of_layout e layout key)
 either_safe reading e layout key true = read reading e reply.Itself refl
 either_safe reading e layout key false = bind e (item_of_key layout.shape key) _ (λ item _. read reading e _ refl)
@@ -93,7 +93,7 @@ own_safe reading e property.Contiguous = tt
 own_safe reading e property.CContiguous = tt
 own_safe reading e property.FContiguous = tt
 
--- what a view shows is no refusal
+-- What a view shows is no refusal.
 shows_answer : (e : Exporter) (layout : Layout) (name : PropertyName) → IfDone (λ (r : LocalReply). is_answer e r ≡ true) (property_of_layout layout name)
 shows_answer e layout property.Exports = tt
 shows_answer e layout property.Obj = refl

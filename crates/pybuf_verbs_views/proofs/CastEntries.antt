@@ -1,4 +1,4 @@
--- The entries of a shape, taken one after the other.
+-- The entries of a shape, read one after the other.
 use Rattle.std.proofs.Common.{◌≡◌, ℕ, suc, ◌+◌, ◌*◌, ◌<◌, ◌≤◌, List, [], ◌∷◌, ◌++◌, length, get_or, drop, drop-cons, ap, ap₂, sym, ◌∙◌, refl, arith, append_assoc, append-nil, drop_of_length-le}
 use Rattle.std.specs.Prelude.{Result, Ok, Err}
 use Rattle.pybuf_value.specs.declared.faults.Fault.{Fault}
@@ -7,7 +7,7 @@ use Rattle.pybuf_value.specs.Refusing.{◌>>=◌}
 use Rattle.pybuf_desc.specs.Layouts.{product}
 use Rattle.pybuf_verbs_views.specs.Cast.{entry_of, entries_of}
 
--- entries before others, where these are not refused
+-- entries in front of others, if these are not refused
 abbrev pub joined : List ℕ → Result (List ℕ) Fault → Result (List ℕ) Fault
 joined made (Ok later) = Ok (made ++ later)
 joined made (Err f) = Err f

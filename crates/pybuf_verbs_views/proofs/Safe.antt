@@ -53,8 +53,8 @@ bind e r f after = done_bind (IsCarriedOut e) r f after
 last_is_there : (views : List View) (v : View) → nat_lt (length views) (length (views ++ v ∷ [])) ≡ true
 last_is_there views v = let more : length (views ++ v ∷ []) ≡ length views + 1 = length-append views (v ∷ []) in grind (arith, more)
 
--- one more view of a layout that is sound where the exporter is, and whose items lie apart where those of its
--- views do
+-- A new view keeps a sound exporter if its layout is sound whenever the exporter is, and its items lie apart
+-- whenever those of the other views do.
 new_view : NewViewsKeep → (e : Exporter) (layout : Layout) → (IsSoundExporter e → IsSoundLayout e layout) → (IsSpaced e → HasItemsApart layout) → IsCarriedOut e (with_view e layout)
 new_view adding e layout made apart = record {
   keeps = λ sound. adding e layout sound (made sound) apart;
@@ -77,7 +77,7 @@ shape_of : (shape : List ℕ) → (length shape == 0) ≡ false → (n : ℕ) ×
 shape_of [] some = absurd (true≢false some)
 shape_of (n ∷ rest) some = (n, rest, refl)
 
--- the step of a slice is not 0
+-- The step of a slice isn't 0.
 nonzero_moves : (z : ℤ) → IfDone (λ (step : ℤ). step ≢ pos 0) (nonzero z)
 nonzero_moves (pos zero) = tt
 nonzero_moves (pos (suc n)) = λ e. omega (arith, ints, e)
@@ -125,7 +125,7 @@ sliced inside shapes e layout parts u some moves sound =
       readonly = sound.readonly;
     }
 
--- the laws that a slice rests on
+-- the laws that the proof for slices uses
 pub record SliceLaws : Type 0 where
   pub adding : NewViewsKeep
   pub live : LiveLayoutsAreSound
@@ -167,7 +167,7 @@ cast inside shapes e layout text size flat told some sound = record {
   readonly = sound.readonly;
 }
 
--- the laws that a cast rests on
+-- the laws that the proof for casts uses
 pub record CastLaws : Type 0 where
   pub adding : NewViewsKeep
   pub live : LiveLayoutsAreSound
@@ -204,7 +204,7 @@ of_code : (layout : Layout) (text : List ℕ) (size : ℕ) (r : Result FormatTyp
 of_code layout text size (Err f) told is = absurd (cc)
 of_code layout text size (Ok c) told is = (c, sym told, size_case (size_of order.Native c) size (not (nbytes_of layout % size_of order.Native c == 0)) is)
 
--- the format is one of `struct`, whose items have that size, which isn't 0
+-- The format is one of `struct`, and its items have that size, which isn't 0.
 size_bound : NativeCodesHaveTheirSize → (layout : Layout) (text : List ℕ) (size : ℕ) → size_for layout text ≡ Ok size → (size_by text ≡ Ok size) × (0 < size)
 size_bound sizes layout text size is =
     let found = of_code layout text size (code_for layout text) refl is in
@@ -219,7 +219,7 @@ flat_sound laws e layout text flat =
     let sized = size_bound laws.sizes layout text size told in
     (λ sound. cast laws.inside laws.shapes e layout text size flat sized.0 sized.1 sound)))
 
--- as many bytes as the items of the view have
+-- The cast has as many bytes as the items of the view.
 bytes_told : (n m : ℕ) (b : Bool) → unless (not (n == m)) fault.Kind ≡ Ok b → n ≡ m
 bytes_told n m b is = eqb-true n m (not_false (n == m) (passed (not (n == m)) fault.Kind b is))
 
@@ -227,7 +227,7 @@ second_false : (a b : Bool) → a || b ≡ false → b ≡ false
 second_false true b is = absurd (true≢false is)
 second_false false b is = is
 
--- no dimension without an entry
+-- No dimension lacks an entry.
 some_items : (shape : List ℕ) → has_zero_entry shape ≡ false → 0 < product shape
 some_items [] is = omega arith
 some_items (zero ∷ shape) is = absurd (true≢false is)
@@ -273,7 +273,7 @@ in_shape_sound laws e layout text (Some (value.One s)) flat = tt
 in_shape_sound laws e layout text (Some (value.Slice s)) flat = tt
 in_shape_sound laws e layout text (Some (value.Slices s)) flat = tt
 
--- and the items of what is cast lie apart
+-- The items of the cast lie apart.
 flat_apart : CastsLieApart → (layout : Layout) (text : List ℕ) → IfDone HasItemsApart (flat_layout_of layout text)
 flat_apart apart layout text =
     done_bind HasItemsApart (unless (not (length layout.shape == 1) && has_zero_entry layout.shape) fault.Kind) _ (λ _ _.
@@ -341,7 +341,7 @@ column_cast_safe laws e k format shape =
 
 -- ---- the bytes of a cast in column order
 
--- the laws that these rest on
+-- the laws that these proofs use
 pub record ColumnLaws : Type 0 where
   pub live : LiveLayoutsAreSound
   pub contiguous : ColumnCastsAreFContiguous
@@ -393,7 +393,7 @@ pub column_casts_hold : ColumnLaws → ColumnCastsHoldTheBytes
 column_casts_hold laws e k format shape made sound is =
     done (λ (m : Exporter × LocalReply). HoldsTheBytes e k m) (column_cast_of_view e k format shape) made (columns_made laws e k format shape sound) is
 
--- the code of a cast that is carried out
+-- The code of a cast that isn't refused is one of single bytes, or the view has single bytes.
 abbrev OfBytes : Layout → List ℕ → Type 0
 OfBytes layout text = (c : FormatType) × (native_single_code text ≡ Some c) × (is_byte_code c || is_byte_format layout.format ≡ true)
 
@@ -488,7 +488,7 @@ pub contiguous_copied : ContiguousIsCopied
 contiguous_copied e k =
     done_bind (IsCopied e (subject.View k)) (live_layout e k) _ (λ layout found. record { same = refl; copied = (layout, found, refl) })
 
--- ---- views that may only be read
+-- ---- views that can only be read
 
 read_only : (e : Exporter) (layout : Layout) → IsSoundLayout e layout → IsSoundLayout e (record layout { readonly = true })
 read_only e layout sound = record {
@@ -515,6 +515,6 @@ released_from : ReleasingKeeps → (e new : Exporter) (k : ℕ) (r : Result View
 released_from keeps e new k (Ok v) sound at is = let same : released_at e k v ≡ new = cc in subst IsSoundExporter same (keeps e k v sound (sym at)).sound
 released_from keeps e new k (Err f) sound at is = absurd (cc)
 
--- an exporter whose view was released is sound
+-- An exporter is sound after a view of it is released.
 pub released_is_sound : ReleasingKeeps → (e new : Exporter) (k : ℕ) → IsSoundExporter e → released_in e k ≡ Ok new → IsSoundExporter new
 released_is_sound keeps e new k sound is = released_from keeps e new k (view_at e k) sound refl is

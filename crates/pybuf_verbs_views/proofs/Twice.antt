@@ -1,4 +1,4 @@
--- Releasing twice is releasing once.
+-- A view that is released twice is as if it were released once.
 use Rattle.std.proofs.Common.{◌≡◌, ℕ, zero, suc, List, [], ◌∷◌, set, true, ap, sym, ◌∙◌, refl, subst}
 use Rattle.std.specs.Prelude.{Option, Some, None, Result, Ok, Err, slice_get}
 use Rattle.std.specs.Option.{ok_or}
@@ -8,7 +8,7 @@ use Rattle.pybuf_value.specs.Refusing.{◌>>=◌}
 use Rattle.pybuf_state.specs.Exporter.{Exporter, View, view_at, released_at, released_in}
 use Rattle.pybuf_verbs_views.specs.Laws.{ReleasingTwiceIsOnce}
 
--- an element that was set is found
+-- An element that was set is found.
 slice_get-set : {X : Type 0} (xs : List X) (i : ℕ) (x y : X) → slice_get xs i ≡ Some x → slice_get (set xs i y) i ≡ Some y
 slice_get-set [] i x y at = absurd (cc)
 slice_get-set (z ∷ zs) zero x y at = refl

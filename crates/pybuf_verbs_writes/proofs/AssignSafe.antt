@@ -22,7 +22,7 @@ use Rattle.pybuf_verbs_writes.specs.Laws.{AssignIsSafe}
 use Rattle.pybuf_verbs_writes.proofs.LaidLengths.{length-laid}
 use Rattle.pybuf_verbs_writes.proofs.Safe.{bind, done, passed, not_false, writable}
 
--- what a target is
+-- what holds of a target
 pub record IsAssignTarget (e : Exporter) (k : ℕ) (slice : PySlice) (target : Layout) : Type 0 where
   pub layout : Layout
   pub live : live_layout e k ≡ Ok layout

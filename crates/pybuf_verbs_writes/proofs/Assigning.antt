@@ -1,4 +1,4 @@
--- What the code of an assignment by a slice rests on.
+-- Lemmas for the code of an assignment by a slice.
 use Rattle.std.proofs.Common.{◌≡◌, ℕ, ◌*◌, List, [], ◌∷◌, ◌++◌, length, take, drop, Bool, true, false, true≢false, ap, ap₂, sym, ◌∙◌, refl, subst, arith}
 use Rattle.std.specs.Prelude.{◌==◌, ◌&&◌, ◌||◌, not, bytes_eq, slice_index, Option, Some, None, Result, Ok}
 use Rattle.std.specs.Option.{option_map}
@@ -56,7 +56,7 @@ of_form target format itemsize shape one is =
     let parts = both_true (itemsize == target.itemsize) (is_row_of (slice_index target.shape 0) shape) rest in
     record { same_size = eqb-true itemsize target.itemsize parts.0; same_shape = row_shape (slice_index target.shape 0) shape parts.1 ∙ sym (one_entry target.shape one) }
 
--- as many bytes as the target has
+-- The source has as many bytes as the target.
 pub bytes_of_form : (target : Layout) (itemsize : ℕ) (shape : List ℕ) → IsOfForm target itemsize shape → byte_count itemsize shape ≡ byte_count target.itemsize target.shape
 bytes_of_form target itemsize shape is = ap₂ (λ (size : ℕ) (s : List ℕ). byte_count size s) is.same_size is.same_shape
 
@@ -79,11 +79,11 @@ by_kind snap_kind.Vector s is other live = whole s is
 by_kind snap_kind.View s is other live = filled s.released (length s.content) (byte_count s.itemsize s.shape) live is
 by_kind snap_kind.Iterator s is other live = absurd (true≢false other)
 
--- a snap that fits has as many bytes as its items
+-- A snap that fits has as many bytes as its items.
 pub content_fits : (s : Snap) → fits_snap s ≡ true → is_iterator s.kind ≡ false → s.released ≡ false → length s.content ≡ byte_count s.itemsize s.shape
 content_fits s fit other live = by_kind s.kind s (both_true (fits_kind s.kind s) (is_sized s.format s.itemsize) fit).0 other live
 
--- ---- what stands after an assignment
+-- ---- what is there after an assignment
 
 abbrev okay : Exporter × LocalReply → Result (Exporter × LocalReply) Fault
 okay after = Ok after
@@ -104,7 +104,7 @@ is_assigned_from e target lent snap bytes named live form now =
     ap (λ (r : Result Snap Fault). r >>= assigned e target) named ∙ is_assigned e target snap live form
     ∙ ap (λ (bs : List ℕ). okay (record e { bytes = bs }, reply.Ok)) (sym now)
 
--- bytes that were lent to be written, and are as many
+-- The bytes that were lent come back written, and there are as many.
 pub lent_back : (old new : List ℕ) (n : ℕ) → length new ≡ n → take n (new ++ drop (length new) old) ≡ new
 lent_back old new n is = grind (arith, common_steps, is)
 

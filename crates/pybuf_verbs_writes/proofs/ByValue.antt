@@ -181,7 +181,7 @@ length-items bytes size (t ∷ starts) inside =
     ∙ ap₂ (λ (m n : ℕ). m + n) (whole_item bytes size t (All-head (λ t. t + size ≤ length bytes) t starts inside)) (length-items bytes size starts (All-tail (λ t. t + size ≤ length bytes) t starts inside))
     ∙ grind arith
 
--- items of no bytes are all the same
+-- Items without bytes are all the same.
 no_bytes : (xs ys : List ℕ) (size s t : ℕ) → size ≡ 0 → bytes_at xs size s ≡ bytes_at ys size t
 no_bytes xs ys size s t none = ap (λ (n : ℕ). bytes_at xs n s) none ∙ empty_take (drop s xs) ∙ sym (empty_take (drop t ys)) ∙ ap (λ (n : ℕ). bytes_at ys n t) (sym none)
 
@@ -193,7 +193,7 @@ by_size bytes layout k (suc size) count lies same total below =
     let as_many : count ≡ length layout.starts = cancelled size count (length layout.starts) equal in
     item_of_content bytes layout.itemsize layout.starts k lies (let there : k < length layout.starts = omega (arith, below, as_many) in there)
 
--- a source whose bytes are those of its items
+-- The bytes of the source are those of its items.
 pub assigned_is : (e : Exporter) (target : Layout) (source : Snap) → LiesInside (length e.bytes) target → length source.content ≡ target.itemsize * length target.starts → source.itemsize ≡ target.itemsize
     → IsAssigned e (record e { bytes = laid e.bytes target.itemsize target.starts source.content }) target source
 assigned_is e target source inside long size = record {
@@ -247,7 +247,7 @@ source_fits (value.Tuple parts) lents source fit is live = absurd (cc)
 source_fits (value.List parts) lents source fit is live = absurd (cc)
 source_fits (value.Slices parts) lents source fit is live = absurd (cc)
 
--- ---- whole
+-- ---- the whole law
 
 only_entry : (shape : List ℕ) → length shape ≡ 1 → shape ≡ slice_index shape 0 ∷ []
 only_entry [] one = absurd (omega (arith, one))

@@ -1,4 +1,4 @@
--- Bytes that are laid over items: as many as before, and the same outside the items.
+-- Bytes that are written over items: their number stays, and so does all outside the items.
 use Rattle.std.proofs.Common.{◌≡◌, ℕ, ◌+◌, ◌≤◌, List, [], ◌∷◌, length, take, drop, sym, ◌∙◌, refl, subst, arith}
 use Rattle.std.specs.Prelude.{All}
 use Rattle.std.proofs.lemmas.Grind.{common_steps}
@@ -9,7 +9,7 @@ use Rattle.pybuf_verbs_writes.proofs.Bytes.{length-bytes_with}
 pub piece_short : (size : ℕ) (content : List ℕ) → length (take size content) ≤ size
 piece_short size content = grind (arith, common_steps)
 
--- a piece within an item
+-- A piece is written within an item.
 pub length-with_piece : (bytes : List ℕ) (start size : ℕ) (content : List ℕ) → start + size ≤ length bytes → length (bytes_with bytes start (take size content)) ≡ length bytes
 length-with_piece bytes start size content inside =
     let short = piece_short size content in

@@ -1,4 +1,4 @@
--- Bytes that are laid over items, range by range.
+-- Bytes that are written over items, range by range.
 use Rattle.std.proofs.Common.{◌≡◌, ℕ, zero, suc, ◌+◌, ◌*◌, ◌-◌, ◌<◌, ◌≤◌, ℤ, pos, nat_abs, true, List, [], ◌∷◌, ◌++◌, length, map, take, drop, ap, ap₂, sym, ◌∙◌, refl, subst, arith}
 use Rattle.std.specs.Prelude.{All, set, slice_index}
 use Rattle.std.specs.List.{flat_map, range_with_len}
@@ -21,11 +21,11 @@ use Rattle.pybuf_verbs_writes.specs.LaidBytes.{put_at}
 use Rattle.pybuf_verbs_writes.proofs.Bytes.{length-bytes_with}
 use Rattle.pybuf_verbs_writes.proofs.Ranges.{range_inside}
 
--- nothing is put
+-- No byte is written.
 pub bytes_with_none : (bytes : List ℕ) (place : ℕ) → bytes_with bytes place [] ≡ bytes
 bytes_with_none bytes place = grind (arith, common_steps)
 
--- one byte, and then the bytes after it
+-- One byte is written, and then the bytes after it.
 one_more : (bytes : List ℕ) (place b : ℕ) (piece : List ℕ) → place + suc (length piece) ≤ length bytes → bytes_with (set bytes place b) (place + 1) piece ≡ bytes_with bytes place (b ∷ piece)
 one_more bytes place b piece inside = grind (arith, common_steps, set_split, inside)
 
@@ -42,7 +42,7 @@ put_both bytes [] qs (x ∷ xs) ys same = absurd (omega (arith, same))
 put_both bytes (p ∷ ps) qs [] ys same = absurd (omega (arith, same))
 put_both bytes (p ∷ ps) qs (x ∷ xs) ys same = put_both (set bytes p x) ps qs xs ys (let fewer : length ps ≡ length xs = omega (arith, same) in fewer)
 
--- the bytes of a range come first
+-- The bytes of a range come first.
 pub put_first : (bytes : List ℕ) (place size : ℕ) (qs content : List ℕ) → place + size ≤ length bytes → size ≤ length content
     → put_at bytes (range_with_len place size ++ qs) content ≡ put_at (bytes_with bytes place (take size content)) qs (drop size content)
 put_first bytes place size qs content inside enough =
@@ -54,7 +54,7 @@ put_first bytes place size qs content inside enough =
     ∙ ap (λ (n : ℕ). put_at (put_at bytes (range_with_len place n) (take size content)) qs (drop size content)) (sym long)
     ∙ ap (λ (bs : List ℕ). put_at bs qs (drop size content)) (put_run bytes place (take size content) fits)
 
--- item by item is byte by byte
+-- To write item by item is to write byte by byte.
 pub laid_is_put : (bytes : List ℕ) (size : ℕ) (starts content : List ℕ) → length content ≡ size * length starts → All (λ start. start + size ≤ length bytes) starts
     → laid bytes size starts content ≡ put_at bytes (flat_map (λ (start : ℕ). range_with_len start size) starts) content
 laid_is_put bytes size [] content long inside = refl
@@ -86,7 +86,7 @@ put_range bytes place zero qs content inside enough =
     sym (ap₂ (λ (bs cs : List ℕ). put_at bs qs cs) (ap (bytes_with bytes place) none ∙ bytes_with_none bytes place) all)
 put_range bytes place (suc size) qs content inside enough = put_first bytes place (suc size) qs content (inside (let some : 0 < suc size = omega arith in some)) enough
 
--- how many bytes the ranges have
+-- The ranges have as many bytes as their lengths say.
 pub length_ranges : (range : Range ℕ) (ranges rest : List (Range ℕ)) → ranges ≡ range ∷ rest → length (flat_map bytes_of ranges) ≡ (range.end - range.start) + length (flat_map bytes_of rest)
 length_ranges range ranges rest same =
     ap (λ (rs : List (Range ℕ)). length (flat_map bytes_of rs)) same
@@ -128,7 +128,7 @@ by_starts : (size : ℕ) (starts : List ℕ) → flat_map (λ place. range_with_
 by_starts size [] = refl
 by_starts size (s ∷ starts) = ap (λ (xs : List ℕ). range_with_len s size ++ xs) (by_starts size starts)
 
--- the places of a view's bytes by its descriptor are those by its starts
+-- The places of a view's bytes by its descriptor are those by its starts.
 pub places_of_layout : (d : Descriptor) (start : ℕ) (layout : Layout) → Stands d start layout → item_bytes d (pos start) ≡ flat_map (λ (s : ℕ). range_with_len s layout.itemsize) layout.starts
 places_of_layout d start layout stands =
     ap₂ (λ (size : ℕ) (ps : List ℤ). flat_map (λ place. range_with_len (nat_abs place) size) ps) stands.itemsize stands.starts ∙ by_starts layout.itemsize layout.starts
@@ -145,12 +145,12 @@ laid_by_ranges bytes content d start layout ranges stands counted same inside lo
     ap (λ (ps : List ℕ). put_at bytes ps content) (same ∙ places_of_layout d start layout stands)
     ∙ sym (laid_is_put bytes layout.itemsize layout.starts content (long ∙ ap (λ (n : ℕ). layout.itemsize * n) (sym counted)) inside)
 
--- each byte of the ranges of a walk over the items lies inside
+-- Each byte of the ranges of a walk over the items lies inside.
 pub places_inside : ItemBytesLieInside → (bytes : List ℕ) (d : Descriptor) (start : ℕ) (layout : Layout) (ranges : List (Range ℕ)) → Stands d start layout → flat_map bytes_of ranges ≡ item_bytes d (pos start)
     → LiesInside (length bytes) layout → All (λ place. place < length bytes) (flat_map bytes_of ranges)
 places_inside lie_inside bytes d start layout ranges stands same held = subst (All (λ place. place < length bytes)) (sym same) (lie_inside d start layout (length bytes) stands held)
 
--- and these ranges hold the bytes of the view
+-- These ranges have the bytes of the view.
 pub content_of_ranges : ItemBytesAreTheContent → (bytes : List ℕ) (d : Descriptor) (start : ℕ) (layout : Layout) (ranges : List (Range ℕ)) → Stands d start layout → flat_map bytes_of ranges ≡ item_bytes d (pos start)
     → elements_at bytes (flat_map bytes_of ranges) ≡ content_of_layout bytes layout
 content_of_ranges are_content bytes d start layout ranges stands same = ap (elements_at bytes) same ∙ are_content bytes d start layout stands
@@ -160,7 +160,7 @@ content_of_ranges are_content bytes d start layout ranges stands same = ap (elem
 bytes_counted : (layout : Layout) → HasItemsOfItsShape layout → nbytes_of layout ≡ layout.itemsize * length layout.starts
 bytes_counted layout counted = ap (λ (n : ℕ). layout.itemsize * n) (sym counted)
 
--- laid over them at once
+-- Items that lie one after the other are written in one go.
 laid_at_once : (bytes : List ℕ) (size : ℕ) (starts content : List ℕ) → flat_map (λ (s : ℕ). range_with_len s size) starts ≡ range_with_len (slice_index starts 0) (size * length starts)
     → length content ≡ size * length starts → All (λ start. start + size ≤ length bytes) starts → slice_index starts 0 + size * length starts ≤ length bytes
     → laid bytes size starts content ≡ bytes_with bytes (slice_index starts 0) content

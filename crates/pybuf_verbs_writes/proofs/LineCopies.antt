@@ -21,7 +21,7 @@ use Rattle.pybuf_verbs_writes.proofs.Ranges.{run_of_bytes, elements_both}
 use Rattle.pybuf_verbs_writes.proofs.Laying.{put_run, put_both, bytes_with_none}
 use Rattle.pybuf_verbs_writes.proofs.Pairs.{firsts, seconds, IsStep}
 
--- ---- items that are copied are bytes that are put
+-- ---- a copy of items writes their bytes
 
 abbrev pub Lie : List ℕ → (ℕ → ℕ) → ℕ → ℕ → Type 0
 Lie bytes place size n = 0 < size → (k : ℕ) → k < n → place k + size ≤ length bytes
@@ -65,7 +65,7 @@ one_more j (suc n) =
     let same : (j + 1) + n ≡ j + suc n = omega arith in
     ap (λ (xs : List ℕ). j ∷ xs) (one_more (j + 1) n ∙ ap (λ (k : ℕ). range_with_len (j + 1) n ++ k ∷ []) same)
 
--- the bytes of ranges of one size at places
+-- the bytes of ranges that have one size, at these places
 abbrev pub places_to : (ℕ → ℕ) → ℕ → ℕ → List ℕ
 places_to to size n = flat_map bytes_of (map (λ k. record { start = to k; end = to k + size }) (range_with_len 0 n))
 
@@ -130,7 +130,7 @@ row_pieces content from size (suc n) =
     ap₂ (λ (xs ys : List ℕ). xs ++ ys) (row_pieces content from size n) (ap (take size) (sym (drop-drop (n * size) from content)))
     ∙ sym (take-add (n * size) size (drop from content)) ∙ ap (λ (k : ℕ). take k (drop from content)) whole
 
--- ---- the first ranges of many, and the others
+-- ---- the first of many ranges, and the others
 
 abbrev pub Inside : List ℕ → List (Range ℕ) → Type 0
 Inside bytes ranges = All (λ (place : ℕ). place < length bytes) (flat_map bytes_of ranges)
@@ -174,7 +174,7 @@ line_laid bytes more content total from next line ranges others same step copied
     ∙ ap₂ (λ (ps cs : List ℕ). put_at bytes ps cs) (sym (bytes_split (ranges_of_line line) ranges others same)) (take-append-drop n (drop from content))
     ∙ so_far
 
--- there are fewer ranges left
+-- Fewer ranges are left.
 pub fewer_ranges : (line : SegmentLine) (ranges others : List (Range ℕ)) → ranges ≡ ranges_of_line line ++ others → IsLine line → length others < length ranges
 fewer_ranges line ranges others same is =
     let long : length ranges ≡ line.count + length others = ap length same ∙ length-append (ranges_of_line line) others

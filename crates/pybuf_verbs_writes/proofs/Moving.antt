@@ -1,4 +1,4 @@
--- The step of a slice that isn't refused is not 0.
+-- The step of a slice that isn't refused isn't 0.
 use Rattle.std.proofs.Common.{◌≡◌, zero, suc, refl, arith}
 use Rattle.std.specs.Prelude.{◌≢◌, ℤ, pos, negsuc, min, Result, Ok, Err}
 use Rattle.std.proofs.lemmas.Int.{ints}

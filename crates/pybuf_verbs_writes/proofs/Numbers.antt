@@ -1,4 +1,4 @@
--- Items of a format that is the letter of a number.
+-- Items whose format is the letter of a number.
 use Rattle.std.proofs.Common.{◌≡◌, ℕ, List, [], ◌∷◌, Result, Ok, Err, refl, ap, subst}
 use Rattle.std.specs.Prelude.{IsErr}
 use Rattle.pybuf_value.specs.declared.faults.Fault.{Fault}

@@ -20,7 +20,7 @@ all_right P xs ys all = λ k d below.
     let within : length xs + k < length (xs ++ ys) = omega (arith, below, length-append xs ys) in
     subst P (get_or-append-add xs ys k d) (all (length xs + k) d within)
 
--- the last byte of a range lies inside
+-- The last byte of a range lies inside.
 pub range_inside : (bytes : List ℕ) (range : Range ℕ) (ranges rest : List (Range ℕ)) → ranges ≡ range ∷ rest → range.start < range.end
     → All (λ place. place < length bytes) (flat_map bytes_of ranges) → range.end ≤ length bytes
 range_inside bytes range ranges rest same some all =

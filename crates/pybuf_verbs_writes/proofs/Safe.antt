@@ -1,4 +1,4 @@
--- Effects that write keep a sound exporter.
+-- Each effect that writes keeps a sound exporter.
 use Rattle.std.proofs.Common.{◌≡◌, ℕ, ◌+◌, ◌<◌, ◌≤◌, List, [], ◌∷◌, length, Bool, true, false, true≢false, ap, sym, ◌∙◌, refl, subst, arith}
 use Rattle.std.specs.Prelude.{not, ℤ, pos, negsuc, ◌==◌, ◌&&◌, nat_lt, slice_index, Result, Ok, Err}
 use Rattle.std.proofs.lemmas.Bool.{eqb-true}
@@ -56,7 +56,7 @@ byte_safe writing e key value writable =
       answers = refl;
     })))
 
--- the effect of a bytearray is that of an exporter that may be written
+-- If a bytearray has an effect, its exporter may be written.
 in_kind : (e : Exporter) (k : ExporterKind) (r : Result (Exporter × LocalReply) Fault) → e.kind ≡ k → (holds_readonly e.kind ≡ false → IsSafe e r) → IsSafe e (of_byte_array k r)
 in_kind e kind.ByteArray r is safe = safe (ap holds_readonly is)
 in_kind e kind.Bytes r is safe = tt
@@ -72,7 +72,7 @@ pub not_false : (b : Bool) → not b ≡ false → b ≡ true
 not_false true is = refl
 not_false false is = absurd (true≢false is)
 
--- what is asked of a target
+-- what holds of a target
 pub record IsTarget (e : Exporter) (k : ℕ) (target : Layout × ℕ) : Type 0 where
   pub live : live_layout e k ≡ Ok target.0
   pub writable : target.0.readonly ≡ false
@@ -95,7 +95,7 @@ both_true : (a b : Bool) → (a && b) ≡ true → (a ≡ true) × (b ≡ true)
 both_true true b is = (refl, is)
 both_true false b is = absurd (cc)
 
--- the size of a formed view's format is its item size
+-- The size of a view's format is its item size.
 pub size_is : (text : List ℕ) (f : Format) (itemsize : ℕ) → format_of text ≡ Ok f → is_sized text itemsize ≡ true → f.size ≡ itemsize
 size_is text f itemsize spelled sized =
     let told : (nat_lt 0 itemsize && f.size == itemsize) ≡ true = rw (sym (ap (λ (r : Result Format Fault). is_size_of itemsize r) spelled)) sized in
@@ -105,7 +105,7 @@ pub kind_ok : {X : Type 0} (r : Result X Fault) (x : X) → kind_fault r ≡ Ok 
 kind_ok (Ok y) x is = is
 kind_ok (Err f) x is = absurd (cc)
 
--- the format by which a piece was made, and how long the piece is
+-- the format that made a piece, and how long the piece is
 pub record IsPiece (layout : Layout) (pairs : List (ℕ × Snap)) (value : Value) (piece : List ℕ) : Type 0 where
   pub format : Format
   pub spelled : format_of layout.format ≡ Ok format
@@ -133,7 +133,7 @@ piece_is fills layout pairs value =
 
 -- ---- the effect
 
--- a view that may be written is one of bytes that may be
+-- A view that may be written is one of bytes that may be written.
 by_kind : (k : ExporterKind) (b : Bool) (layout : Layout) → holds_readonly k ≡ b → layout.readonly ≡ false → (holds_readonly k ≡ true → layout.readonly ≡ true) → holds_readonly k ≡ false
 by_kind k true layout is free only = absurd (true≢false (sym (only is) ∙ free))
 by_kind k false layout is free only = is

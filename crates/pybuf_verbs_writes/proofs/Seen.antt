@@ -1,4 +1,4 @@
--- What is written through one view is read through every view of the same bytes.
+-- What is written through one view can be read through every view of the same bytes.
 use Rattle.std.proofs.Common.{◌≡◌, ℕ, ◌+◌, ◌≤◌, List, [], ◌∷◌, length, take, drop, ap, ap₂, sym, ◌∙◌, refl, subst, arith}
 use Rattle.std.specs.Prelude.{slice_index, Result, Ok, Err}
 use Rattle.pybuf_value.specs.declared.faults.Fault.{Fault}
@@ -26,7 +26,7 @@ use Rattle.pybuf_verbs_writes.specs.Laws.{IsWritten, WritesAreSeen}
 use Rattle.pybuf_verbs_writes.proofs.Bytes.{taken, dropped, between}
 use Rattle.pybuf_verbs_writes.proofs.Safe.{done, IsPiece, piece_is}
 
--- a step that was done had a first part that was done
+-- If a chain of two steps isn't refused, neither is its first step.
 first_done : {A B : Type 0} (r : Result A Fault) (f : A → Result B Fault) (y : B) → (r >>= f) ≡ Ok y → (x : A) × (r ≡ Ok x) × (f x ≡ Ok y)
 first_done (Ok x) f y is = (x, refl, is)
 first_done (Err g) f y is = absurd (cc)
@@ -37,7 +37,7 @@ okay x = Ok x
 ok_same : {A : Type 0} (x y : A) → okay x ≡ okay y → x ≡ y
 ok_same x y is = cc
 
--- an item that was written by a format reads as what its fields give back
+-- An item that was written by a format reads as what its fields give back.
 reads_back : ReadsWhatWasWritten → (text bytes piece : List ℕ) (place : ℕ) (f : Format) (pairs : List (ℕ × Snap)) (vs : List Scalar) → format_of text ≡ Ok f → packed_bytes f pairs vs ≡ Ok piece
     → length piece ≡ f.size → place ≤ length bytes → item_by text (bytes_at (bytes_with bytes place piece) f.size place) ≡ item_of (normal_values pairs (fields f) vs)
 reads_back reads text bytes piece place f pairs vs spelled packs long inside =

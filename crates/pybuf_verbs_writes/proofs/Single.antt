@@ -27,7 +27,7 @@ bound_one : {X : Type 0} (byte : Result ℕ Fault) (f : List ℕ → Result X Fa
 bound_one (Ok b) f = refl
 bound_one (Err fault) f = refl
 
--- the item of a target is written by its one byte
+-- A write to the item of a target is a write of its one byte.
 item_is_byte : ByteItemsAreTheirByte → (e : Exporter) (layout : Layout) (item : ℕ) (v : Value) (lents : List Lent) →
     layout.format ≡ codes "B" → item_set e layout item v lents ≡ single_byte_set e (slice_index layout.starts item) v
 item_is_byte bytes e layout item v lents is =

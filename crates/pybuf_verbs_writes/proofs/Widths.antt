@@ -1,4 +1,4 @@
--- The ranges of two walks over one shape of items of one size are as long.
+-- If two walks go over one shape, and their items have one size, their ranges are equally long.
 use Rattle.std.proofs.Common.{◌≡◌, ℕ, ◌+◌, ◌*◌, ◌-◌, ℤ, nat_abs, Bool, true, false, List, [], ◌∷◌, length, map, drop, ap, ap₂, sym, ◌∙◌, subst, arith}
 use Rattle.std.specs.Prelude.{All, ◌==◌, if◌then◌else◌}
 use Rattle.std.specs.declared.ops.Range.{Range}

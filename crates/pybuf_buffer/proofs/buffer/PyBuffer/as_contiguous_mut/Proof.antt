@@ -1,4 +1,6 @@
--- The number is asked of the buffer, and of the exporter, which is lent again for this, whether its bytes may be written. Then it is handed on to the call that lends, or ends as it is.
+-- The function asks the buffer for its number, and the exporter, which it lends again for this, whether the
+-- bytes may be written. Then it hands the exporter on to the call that lends, or it ends and the exporter is as
+-- it was.
 use Rattle.pybuf_buffer.proofs.Walking.{◌≡◌, ℕ, List, [], ◌∷◌, refl, sym, ap, ◌∙◌, subst, ◌<◌, ◌^◌, true, false, Bool, MutBor, length, Some, None, w64, lit<, full_share, proved, Some-of, none_of, T_true, T_false, Ura, SProp, ent, sep, id⊢, emp, Lft, Share, Memory, Routine, Fun, Logic, sem, by, RattleType, Bor, Clauses, ftrue, flft, fres, named, Val, vint, of_list, fact, fact_i, tables, ‵, raw, ◌⊛◌, some, later, at_ret, ◌$◌, ◌∵◌, !, qed, done, move, keep, drop, rewrite, use0, use1, use2, use3, split, join, fsplit, fsplit3, fjoin, pick, await, suffices, frame, live, agg, lft_new, lft_end, enter, lit, addr, stop, first, branches, skips, exec, returns, returns_within, no_more, and_then, alloc_all, pass_all, free_all, look_at, get, through, sets, lands_as, env, u8, usize, bool, yes, no, shows, lends_again, comes_back, LentAgain, uint_Makes, follows, MutRef, ShrRef, mut_vals, mut_Tells, shr_vals, shr_Tells, MutSlice, slice_val, plain, shr_ref_to, nothing, owned, peeks, facts, heard, only, calls_at, lasts, triple_of, framed, Stays, walk_of, says, stay_dropped, Goes-dropped, Goes-spent_ref, ends_at}
 use denote.Follow.{follows_by}
 use Rattle.std.specs.Borrow.{Array}
@@ -22,7 +24,7 @@ use Rattle.pybuf_buffer.proofs.lending.writable_run.Met.{met as lent}
 abbrev stayed : Stays f.ended.signature.params f.ended.kept
 stayed = (stay_dropped _ yes, (stay_dropped _ no, tt))
 
--- how the function ends, with the buffer b, whose lifetime is κ₀, and the exporter s, whose lifetime is κ
+-- How the function ends. It has the buffer b, whose lifetime is κ₀, and the exporter s, whose lifetime is κ.
 module _ {M : Type 1} {𝓤 : Ura M} (𝓛 : Logic 𝓤) (at_mem : Memory → SProp 𝓤) (run : Routine → Fun 𝓤) (κ₀ κ : Lft) (q₀ q : Share) (b : Bor ℕ) (s : MutBor StoredExporter) where
   open 𝓛 use {A}
 
@@ -38,7 +40,7 @@ module _ {M : Type 1} {𝓤 : Ura M} (𝓛 : Logic 𝓤) (at_mem : Memory → SP
   abbrev Lent : RattleType
   Lent = MutSlice (named 1) κ u8
 
-  -- with the slice r
+  -- it ends with the slice r
   exits : (r : MutBor (List ℕ)) → is_writable_run (layout_of s.now.exporter b.now) ≡ true → r.now ≡ content_of_layout s.now.exporter.bytes (layout_of s.now.exporter b.now)
       → ent 𝓤 (sep 𝓤 (sem 𝓛 (Lent.own_val r (slice_val r.ref_ptr (length r.now) ∷ []))) (sep 𝓤 (sem 𝓛 (follows S (Array u8 0) s.ghost_name r.ghost_name (run_written s.now b.now))) (sep 𝓤 (A.lft κ q) (A.lft κ₀ q₀))))
       (Post (live 1 (of_list (slice_val r.ref_ptr (length r.now) ∷ []))))
@@ -51,7 +53,7 @@ module _ {M : Type 1} {𝓤 : Ura M} (𝓛 : Logic 𝓤) (at_mem : Memory → SP
       nothing ! $ nothing ! $ fjoin ! $ nothing ! $ fjoin ! $ join ! $ nothing ! $ move ! (3 ∷ 0 ∷ []) $ join ! $ move ! (3 ∷ 0 ∷ []) $ join ! $ join ! $
       frame ! $ says ! (writable, value) $ done !
 
-  -- with none, and the exporter as it was
+  -- it ends with no slice, and the exporter is as it was
   leaves : is_writable_run (layout_of s.now.exporter b.now) ≡ false
       → ent 𝓤 (sep 𝓤 (sem 𝓛 ((MutRef (named 1) κ S).own_val s (mut_vals s))) (sep 𝓤 (A.lft κ q) (A.lft κ₀ q₀))) (Post (live 0 (of_list [])))
   unfolding follows_by

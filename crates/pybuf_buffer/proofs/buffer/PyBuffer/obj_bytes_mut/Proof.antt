@@ -1,4 +1,4 @@
--- The number is asked of the buffer, and the exporter is handed on to the call that lends.
+-- The function asks the buffer for its number, and hands the exporter on to the call that lends.
 use Rattle.pybuf_buffer.proofs.Walking.{◌≡◌, ℕ, List, [], ◌∷◌, refl, ap, ◌∙◌, subst, ◌<◌, ◌^◌, true, false, MutBor, length, w64, proved, id⊢, emp, ftrue, flft, named, Val, vint, fact, fact_i, tables, ‵, raw, ◌⊛◌, some, later, ◌$◌, ◌∵◌, !, qed, done, move, keep, drop, rewrite, use0, use1, use2, split, join, fjoin, pick, await, suffices, frame, enter, addr, stop, returns, no_more, and_then, alloc_all, pass_all, free_all, look_at, get, through, sets, lands_as, u8, usize, yes, no, shows, uint_Makes, follows, MutRef, ShrRef, mut_vals, mut_Tells, shr_vals, shr_Tells, MutSlice, slice_val, plain, shr_ref_to, nothing, owned, peeks, facts, heard, only, calls_at, lasts, triple_of, framed, Stays, walk_of, says, stay_dropped, Goes-dropped, Goes-spent_ref, ends_at}
 use Rattle.std.specs.Borrow.{Array}
 use Rattle.pybuf_state.specs.Live.{is_live, layout_of}
