@@ -1,4 +1,5 @@
--- The operations of an input are those of its lines, and the line that is told is the first that is none.
+-- The operations of an input are those of its lines, and the line whose number is told is the first that is no
+-- operation.
 use Rattle.std.proofs.Common.{◌≡◌, ◌⊎◌, inl, inr, ℕ, ◌+◌, List, [], ◌∷◌, ◌++◌, length, map, Option, Some, None, Result, Ok, Err, refl, sym, ◌∙◌, ap, arith}
 use Rattle.pybuf_array.specs.declared.operations.ArrayOp.{ArrayOp}
 use Rattle.pybuf_line.specs.Lines.{lines}
@@ -6,7 +7,7 @@ use Rattle.pybuf_array_lines.specs.Operations.{operation_in}
 use Rattle.pybuf_array_lines.specs.Inputs.{operation_before, operations_from}
 use Rattle.pybuf_array_lines.specs.Laws.{OperationsAreOfLines, BadLineIsFirst}
 
--- what one line more says of those after it
+-- what one more line says of the lines after it
 each_step : (n : ℕ) (o : Option ArrayOp) (r : Result (List ArrayOp) ℕ) (operations : List ArrayOp) → operation_before n o r ≡ Ok operations →
     (first : ArrayOp) × (others : List ArrayOp) × (o ≡ Some first) × (r ≡ Ok others) × (operations ≡ first ∷ others)
 each_step n None r operations h = let no : ⊥ = cc in absurd no

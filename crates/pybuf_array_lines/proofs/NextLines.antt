@@ -1,4 +1,4 @@
--- Operations of lines, one line on.
+-- The operations of lines, after one more line.
 use Rattle.std.proofs.Common.{◌≡◌, ℕ, ◌+◌, ◌≤◌, List, [], ◌∷◌, ◌++◌, length, refl, sym, ◌∙◌, ap, Result, Ok, Err, Some, None, true, false, cond, Bool, ◌==◌, arith}
 use Rattle.std.proofs.lemmas.List.{append_assoc}
 use Rattle.std.proofs.lemmas.List.Splits.{length-slice_split}
@@ -9,7 +9,7 @@ use Rattle.pybuf_line.specs.Parts.{parts_at}
 use Rattle.pybuf_array_lines.specs.Operations.{operation_in}
 use Rattle.pybuf_array_lines.specs.Inputs.{operation_before, operations_from}
 
--- operations before those of a reading
+-- the operations in front of those that the rest gives
 abbrev pub onto : List ArrayOp → Result (List ArrayOp) ℕ → Result (List ArrayOp) ℕ
 onto operations (Ok rest) = Ok (operations ++ rest)
 onto operations (Err n) = Err n
@@ -19,7 +19,7 @@ onto_before : (operations : List ArrayOp) (n : ℕ) (o : ArrayOp) (rest : Result
 onto_before operations n o (Ok rest) = ap Ok (sym (append_assoc operations (o ∷ []) rest))
 onto_before operations n o (Err m) = refl
 
--- What all lines of an input give, by the operations before and the rest.
+-- What all lines of an input give, by the operations before and by the rest.
 pub next_operation : (all : Result (List ArrayOp) ℕ) (operations : List ArrayOp) (n : ℕ) (rest line after : List ℕ) (o : ArrayOp) →
     lines rest ≡ line ∷ lines after → operation_in line ≡ Some o → all ≡ onto operations (operations_from (n + 1) (lines rest)) →
     all ≡ onto (operations ++ o ∷ []) (operations_from (n + 1 + 1) (lines after))
@@ -49,12 +49,12 @@ fewer [] = omega arith
 fewer (part ∷ []) = last_fewer part (length part == 0)
 fewer (part ∷ next ∷ more) = omega (arith, fewer (next ∷ more))
 
--- there is a line left, so the count of lines read is below the count of all
+-- A line is left, so the count of lines that were read is below the count of all lines.
 pub counted : (n : ℕ) (rest line after input : List ℕ) → lines rest ≡ line ∷ lines after → n + length (lines rest) ≡ length (lines input) →
     n + 1 + length (lines after) ≡ length (lines input)
 counted n rest line after input cut h = omega (arith, ap length cut, h)
 
--- there is at most one line more than there are bytes
+-- There is at most one line more than there are bytes.
 pub few_lines : (input : List ℕ) → length (lines input) ≤ length input + 1
 few_lines input =
     let whole = fewer (parts_at 10 input) in

@@ -1,11 +1,11 @@
--- Whole numbers read in turn, one on.
+-- Whole numbers that are read in turn, after one more number.
 use Rattle.std.proofs.Common.{◌≡◌, ℕ, ◌+◌, List, [], ◌∷◌, ◌++◌, drop, refl, sym, ◌∙◌, ap, ℤ}
 use Rattle.std.specs.Prelude.{Option, Some, None}
 use Rattle.std.proofs.lemmas.List.{append_assoc}
 use Rattle.pybuf_value.specs.declared.values.Scalar.{Scalar}
 use Rattle.pybuf_array_lines.specs.Arguments.{whole_number_of, each_number}
 
--- what was read, before what is read of the rest
+-- what was read, in front of what the rest gives
 abbrev pub onto : List ℤ → Option (List ℤ) → Option (List ℤ)
 onto done (Some rest) = Some (done ++ rest)
 onto done None = None

@@ -29,12 +29,12 @@ use Rattle.pybuf_array_lines.specs.Arguments.{number_of, numbers_of, bytes_of, s
 use Rattle.pybuf_array_lines.specs.Operations.{operation_by, operation_of_words, operation_in}
 use Rattle.pybuf_array_lines.specs.Laws.{written_number, written_numbers, written_bytes, OperationsReadBack}
 
--- ---- texts that are one word each
+-- ---- texts that are a single word
 
 abbrev IsWord : List ℕ → Type 0
 IsWord text = words text ≡ text ∷ []
 
--- a first byte that stands before a first part is no blank, where all is one part
+-- If a text is all one part, a byte in front of it that joins its first part is no blank.
 no_blank_first : (x : ℕ) (cut : Bool) (text : List ℕ) (parts : List (List ℕ)) (n : ℕ) → length parts ≡ n + 1 →
     cond cut ([] ∷ parts) (onto_first x parts) ≡ (x ∷ text) ∷ [] → (cut ≡ false) × (parts ≡ text ∷ [])
 no_blank_first x true text parts n some is =
@@ -47,7 +47,7 @@ no_blank_first x false text (first ∷ more) n some is =
 behind_first : (x : ℕ) (text : List ℕ) → IsWord (x ∷ text) → ((x == 32) ≡ false) × IsWord text
 behind_first x text is = no_blank_first x (x == 32) text (words text) (count_by (λ b. b == 32) text) (length-slice_split (λ b. b == 32) text) is
 
--- such a text is the first word where a blank stands behind it
+-- Such a text is the first word if a blank stands behind it.
 first_word_of : (text rest : List ℕ) → IsWord text → words (text ++ 32 ∷ rest) ≡ text ∷ words rest
 first_word_of [] rest is = refl
 first_word_of (x ∷ text) rest is =
@@ -60,7 +60,7 @@ words_joined text [] each = each.0
 words_joined text (next ∷ more) each =
     first_word_of text (join_with_byte 32 (next ∷ more)) each.0 ∙ ap (λ others. text ∷ others) (words_joined next more each.1)
 
--- ---- values, as other lines have them
+-- ---- values, as on other lines
 
 no_one : (a : Option Value) → (a >>= (λ v. verb_of_one line.Len v)) ≡ None
 no_one None = refl
@@ -71,7 +71,7 @@ no_two w none None b = refl
 no_two w none (Some u) None = refl
 no_two w none (Some u) (Some v) = none u v
 
--- a command of a handle, where something is asked of it
+-- a command on a handle, if the line asks for one
 abbrev command_of : Option ℕ → Option Verb → Option Command
 command_of handle asks = handle >>= (λ h. asks >>= (λ v. Some (command.Do h v)))
 
@@ -80,7 +80,7 @@ nothing_asked None asks c none is = cc
 nothing_asked (Some h) asks c none is =
     let no : None ≡ Some c = sym (ap (command_of (Some h)) none) ∙ is in cc
 
--- what `get` reads behind its subject is one word
+-- What `get` reads behind its subject is one word.
 one_key : (arguments : List (List ℕ)) (c : Command) → do_in handle_in line.Get (codes "h0" ∷ arguments) ≡ Some c →
     (key : List ℕ) × (arguments ≡ key ∷ [])
 one_key [] c is = absurd (nothing_asked (handle_in (codes "h0")) None c refl is)
@@ -105,7 +105,7 @@ value_word commands v spelled =
     let key = one_key (words (written_value handle_text v)) (command.Do 0 (verb.Get v)) (get_read commands v spelled) in
     whole_word (written_value handle_text v) key.0 key.1
 
--- what `len` reads is one word, which spells the handle
+-- What `len` reads is one word, which spells the handle.
 record IsSubject (subjects : List (List ℕ)) (k : ℕ) : Type 0 where
   subject : List ℕ
   alone : subjects ≡ subject ∷ []
@@ -129,7 +129,7 @@ len_read : CommandsReadBack → (k : ℕ) → k < 2 ^ 64 → do_in handle_in lin
 unfolding command_in word_in
 len_read commands k small = commands (command.Do k verb.Len) (small, tt)
 
--- the number of a view is one word, and is read as the number of a handle
+-- The number of a view is one word, and is read as the number of a handle is.
 record IsViewWord (k : ℕ) : Type 0 where
   word : IsWord (decimal k)
   read : view_in (decimal k) ≡ Some k
@@ -155,7 +155,7 @@ unfolding own.word_in
 own_read word.Append = refl
 own_read _ = refl
 
--- a line of words that are one each, by its first word and the others
+-- a line whose arguments are one word each, by its first word and the others
 read_words : (w : Word) (arguments : List (List ℕ)) (o : Option ArrayOp) → AllByRecursion IsWord arguments → operation_by w arguments ≡ o →
     operation_in (join_with_byte 32 (own.written_word w ∷ arguments)) ≡ o
 unfolding operation_in
@@ -163,7 +163,7 @@ read_words w arguments o each is =
     ap operation_of_words (words_joined (own.written_word w) arguments (own_word w, each))
     ∙ (ap (λ (found : Option Word). found >>= (λ x. operation_by x arguments)) (own_read w) ∙ is)
 
--- an argument that is read, and is one word
+-- An argument is read, and is one word.
 record IsArgument {A : Type 0} (kind : Value → Option A) (text : List ℕ) (a : A) : Type 0 where
   word : IsWord text
   read : argument_in kind text ≡ Some a
@@ -183,7 +183,7 @@ each_read : (numbers : List ℤ) → each_number (map scalar.Int numbers) ≡ So
 each_read [] = refl
 each_read (n ∷ more) = ap (λ (found : Option (List ℤ)). found >>= (λ ns. Some (n ∷ ns))) (each_read more)
 
--- operations of one argument, of two and of three, by what is read of each
+-- operations with one, two and three arguments, by what is read for each
 of_one : {A : Type 0} (form : A → ArrayOp) (read : Option A) (a : A) → read ≡ Some a → (read >>= (λ x. Some (form x))) ≡ Some (form a)
 of_one form read a is = ap (λ r. r >>= (λ x. Some (form x))) is
 

@@ -1,4 +1,4 @@
--- What an array replies is one line: it is written as the replies of other subjects are.
+-- What an array replies is one line, since it is written as the replies of other subjects are.
 use Rattle.std.proofs.Common.{◌≡◌, List, [], ◌∷◌, ◌++◌, codes, map, refl, ap, subst, ℤ}
 use Rattle.std.specs.Fmt.{signed_decimal}
 use Rattle.std.specs.List.{flat_map}

@@ -1,4 +1,4 @@
--- The entries of legal histories are one line each, and these are the lines of the whole text.
+-- Each entry of a legal history is one line, and these are the lines of the whole text.
 use Rattle.std.proofs.Common.{◌≡◌, ℕ, List, [], ◌∷◌, ◌++◌, length, map, Bool, true, false, cond, not, ◌==◌, ◌||◌, refl, ◌∙◌, ap, sym, codes, decimal}
 use Rattle.std.specs.List.{list_any, flat_map, onto_first, AllByRecursion}
 use Rattle.std.proofs.lemmas.List.{append_assoc}
@@ -22,7 +22,7 @@ use Rattle.pybuf_histories.proofs.Single.{both, decimal_single, bytes_single, su
 
 -- ---- replies
 
--- what a reply shows as it is, where it does, is one line
+-- If a reply shows a text as it is, that text is one line.
 abbrev ShowsSingle : LocalReply → Type 0
 ShowsSingle r = (text : List ℕ) → r ≡ local.Shown text → IsOneLine text
 
@@ -57,12 +57,12 @@ entry_single law x spelled shows =
     let third = both (decimal x.session ++ codes ": " ++ command) (codes " -> ") second refl in
     both (decimal x.session ++ codes ": " ++ command ++ codes " -> ") replied third (reply_single law x.command.subject x.reply shows)
 
--- a text of one line, by the two tests of that
+-- A text is one line, by both tests for that.
 not_any : (b : Bool) → not b ≡ true → b ≡ false
 not_any true h = sym h
 not_any false h = refl
 
--- what an exporter shows is one line
+-- What an exporter shows is one line.
 stepped_single : ShownTextsAreOneLine → (e : Exporter) (x : Entry) → x.reply ≡ (step_by e x.command).1 → ShowsSingle x.reply
 stepped_single shown e x same text is =
     not_any (list_any (λ b. b == 10) text) (shown e x.command.subject x.command.verb x.command.loans text (sym same ∙ is))
@@ -102,14 +102,14 @@ either_second false b h = h
 byte_on : (b : ℕ) (text : List ℕ) → (b == 10) ≡ false → parts_at 10 (b ∷ text) ≡ onto_first b (parts_at 10 text)
 byte_on b text h = ap (λ cut. cond cut ([] ∷ parts_at 10 text) (onto_first b (parts_at 10 text))) h
 
--- a line that ends before another text
+-- A line ends before another text.
 line_cuts : (line rest : List ℕ) → IsOneLine line → parts_at 10 (line ++ 10 ∷ rest) ≡ line ∷ parts_at 10 rest
 line_cuts [] rest h = refl
 line_cuts (b ∷ line) rest h =
     byte_on b (line ++ 10 ∷ rest) (either_first (b == 10) (list_any (λ c. c == 10) line) h)
     ∙ ap (onto_first b) (line_cuts line rest (either_second (b == 10) (list_any (λ c. c == 10) line) h))
 
--- an empty last part isn't one
+-- An empty last part is no line.
 without_empty : (all : List (List ℕ)) → without_empty_last (all ++ [] ∷ []) ≡ all
 without_empty [] = refl
 without_empty (line ∷ []) = refl

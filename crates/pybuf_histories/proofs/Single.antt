@@ -1,4 +1,4 @@
--- What is written of commands holds no line feed.
+-- The text of a command has no line feed.
 use Rattle.std.proofs.Common.{◌≡◌, ℕ, ◌/◌, ◌%◌, ◌-◌, ◌^◌, zero, suc, List, [], ◌∷◌, ◌++◌, length, map, slice_index, Bool, true, false, cond, ◌==◌, ◌||◌, Option, Some, None, refl, ◌∙◌, ap, arith, tests, ℤ, codes, decimal}
 use Rattle.std.specs.List.{list_any, list_all, join_with_byte, AllByRecursion}
 use Rattle.std.specs.Fmt.{signed_decimal}
@@ -40,7 +40,7 @@ use Rattle.pybuf_histories.specs.Commands.{command_text}
 pub both : (xs ys : List ℕ) → IsOneLine xs → IsOneLine ys → IsOneLine (xs ++ ys)
 both xs ys h k = list_any-append (λ b. b == 10) xs ys ∙ (ap (λ b. b || list_any (λ c. c == 10) ys) h ∙ k)
 
--- ---- what a line of a reply has, by the law of these
+-- ---- what the line of a reply has, by the law of these lines
 
 pub decimal_single : RepliesAreSingle handle_text → (n : ℕ) → IsOneLine (decimal n)
 decimal_single law n = law (reply.Handle n) (λ text h. cc)

@@ -1,4 +1,4 @@
--- A word is looked for among those of its length, and so is a method.
+-- A word is looked for among the words of its length, and so is a method.
 use Rattle.std.proofs.Common.{◌≡◌, ◌≢◌, ℕ, List, [], ◌∷◌, length, Bool, true, false, cond, ◌==◌, ◌&&◌, ◌||◌, refl, sym, ◌∙◌, ap, arith, tests}
 use Rattle.std.specs.Prelude.{Option, Some, None}
 use Rattle.std.specs.Str.{bytes_eq}
@@ -16,7 +16,7 @@ equal n m h = grind (arith, tests)
 unequal : (n m : ℕ) → m ≢ n → (n == m) ≡ false
 unequal n m h = grind (arith, tests)
 
--- a text of another length is not the word
+-- A text of another length isn't the word.
 other_length : (passes : Bool) (text word : List ℕ) → bytes_eq text word ≡ passes → (length word == length text) ≡ false → passes ≡ false
 other_length false text word e h = refl
 other_length true text word e h =
@@ -43,7 +43,7 @@ none_of_length : (n : ℕ) (text : List ℕ) → (3 == n) ≡ false → (4 == n)
     (8 == n) ≡ false → (10 == n) ≡ false → named_in written_word (words_of_length n) text ≡ None
 none_of_length n text h3 h4 h5 h6 h7 h8 h10 = rw (h3, h4, h5, h6, h7, h8, h10) refl
 
--- no word has another length
+-- No word has another length.
 pub no_word : (text : List ℕ) → length text ≢ 3 → length text ≢ 4 → length text ≢ 5 → length text ≢ 6 → length text ≢ 7 → length text ≢ 8 →
     length text ≢ 10 → None ≡ word_in text
 no_word text n3 n4 n5 n6 n7 n8 n10 =
@@ -89,7 +89,7 @@ none_of_lengths name (first ∷ more) n all other =
 no_length : (n : ℕ) → n ≢ 3 → n ≢ 4 → n ≢ 5 → n ≢ 6 → n ≢ 7 → n ≢ 8 → n ≢ 9 → n ≢ 10 → n ≢ 12 → is_length n ≡ false
 no_length n n3 n4 n5 n6 n7 n8 n9 n10 n12 = rw (unequal n 3 (λ e. n3 (sym e)), unequal n 4 (λ e. n4 (sym e)), unequal n 5 (λ e. n5 (sym e)), unequal n 6 (λ e. n6 (sym e)), unequal n 7 (λ e. n7 (sym e)), unequal n 8 (λ e. n8 (sym e)), unequal n 9 (λ e. n9 (sym e)), unequal n 10 (λ e. n10 (sym e)), unequal n 12 (λ e. n12 (sym e))) refl
 
--- no method has another length
+-- No method has another length.
 pub no_method : (text : List ℕ) → length text ≢ 3 → length text ≢ 4 → length text ≢ 5 → length text ≢ 6 → length text ≢ 7 → length text ≢ 8 → length text ≢ 9 → length text ≢ 10 → length text ≢ 12 → None ≡ method_in text
 no_method text n3 n4 n5 n6 n7 n8 n9 n10 n12 =
     let n = length text in

@@ -15,12 +15,12 @@ some_or_onto : (b : Bool) (x : ℕ) (parts : List (List ℕ)) →
 some_or_onto true x parts = ([], parts, refl)
 some_or_onto false x parts = onto_some x parts
 
--- there is always a first part
+-- There is always a first part.
 pub some_part : (p : ℕ → Bool) (xs : List ℕ) → (first : List ℕ) × (more : List (List ℕ)) × (slice_split p xs ≡ first ∷ more)
 some_part p [] = ([], [], refl)
 some_part p (x ∷ xs) = some_or_onto (p x) x (slice_split p xs)
 
--- four parts and more are no slice
+-- Four or more parts aren't a slice.
 pub too_many_parts : (text start bounds stop step third rest : List ℕ) → parts_at 58 text ≡ start ∷ parts_at 58 bounds →
     parts_at 58 bounds ≡ stop ∷ parts_at 58 step → parts_at 58 step ≡ third ∷ parts_at 58 rest → slice_in handle_in text ≡ None
 too_many_parts text start bounds stop step third rest h1 h2 h3 =

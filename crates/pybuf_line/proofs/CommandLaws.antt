@@ -34,14 +34,14 @@ use Rattle.pybuf_line.proofs.NameLaws.{kinds_read, operators_read, properties_re
 use Rattle.pybuf_line.proofs.SpellingLaws.{handle_read}
 use Rattle.pybuf_line.proofs.ValueLaws.{is_free, IsFree, part_free, each_text_byte, values_read}
 
--- no blank in a text
+-- The byte is no blank.
 abbrev is_unbroken : ℕ → Bool
 is_unbroken b = not (b == 32)
 
 abbrev IsUnbroken : List ℕ → Type 0
 IsUnbroken text = list_all is_unbroken text ≡ true
 
--- blanks cut
+-- Blanks cut a line into words.
 no_blank : (x : ℕ) → is_unbroken x ≡ true → (x == 32) ≡ false
 no_blank x h = grind (arith, tests)
 
@@ -67,7 +67,7 @@ words_of : (a : List ℕ) (more : List (List ℕ)) → AllByRecursion IsUnbroken
 words_of a [] h = nothing_cuts a h.0
 words_of a (b ∷ more) h = blank_cuts a (join_with_byte 32 (b ∷ more)) h.0 ∙ ap (λ others. a ∷ others) (words_of b more h.1)
 
--- what is written for a value has no blank
+-- The text of a value has no blank.
 both : (xs ys : List ℕ) → IsUnbroken xs → IsUnbroken ys → IsUnbroken (xs ++ ys)
 both [] ys h k = k
 both (x ∷ xs) ys h k = rw (first_of_all is_unbroken x xs h, both xs ys (rest_of_all is_unbroken x xs h) k) refl
@@ -179,7 +179,7 @@ arguments_unbroken v h = values_unbroken (values_of v) h
 handle_unbroken : (n : ℕ) → n < 2 ^ 64 → IsUnbroken (handle_text n)
 handle_unbroken n h = free (handle_text n) (part_free (scalar.Handle n) h)
 
--- the verb of a word and of values
+-- the verb that a word and values make
 abbrev verb_with : Word → List Value → Option Verb
 verb_with w [] = verb_alone w
 verb_with w (first ∷ []) = verb_of_one w first
@@ -206,7 +206,7 @@ verb_read (verb.Hex None (Some group)) h = absurd h
 verb_read (verb.Hex (Some sep) None) h = by_values_read word.Hex (sep ∷ []) h
 verb_read v h = by_values_read (word_of v) (values_of v) h
 
--- what is asked of a handle that was read
+-- what the line asks of a handle that was read
 asked_of : (handle : Option ℕ) (asks : Option Verb) (n : ℕ) (v : Verb) → handle ≡ Some n → asks ≡ Some v →
     (handle >>= λ subject. asked subject asks) ≡ Some (command.Do n v)
 asked_of handle asks n v h k = rw (h, k) refl

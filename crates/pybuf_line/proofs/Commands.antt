@@ -1,4 +1,4 @@
--- Commands of lines, one line on.
+-- The commands of lines, after one more line.
 use Rattle.std.proofs.Common.{◌≡◌, ℕ, ◌+◌, ◌≤◌, List, [], ◌∷◌, ◌++◌, length, refl, sym, ◌∙◌, ap, Result, Ok, Err, Some, None, Bool, true, false, cond, ◌==◌, arith}
 use Rattle.std.proofs.lemmas.List.{append_assoc}
 use Rattle.std.proofs.lemmas.List.Splits.{length-slice_split}
@@ -9,7 +9,7 @@ use Rattle.pybuf_line.specs.Commands.{command_in}
 use Rattle.pybuf_line.specs.Lines.{lines, without_empty_last, commands_from, before}
 use Rattle.pybuf_line.specs.Parts.{parts_at}
 
--- commands before those of a reading
+-- the commands in front of those that the rest gives
 abbrev pub onto : List Command → Result (List Command) ℕ → Result (List Command) ℕ
 onto commands (Ok rest) = Ok (commands ++ rest)
 onto commands (Err n) = Err n
@@ -19,7 +19,7 @@ onto_before : (commands : List Command) (n : ℕ) (c : Command) (rest : Result (
 onto_before commands n c (Ok rest) = ap Ok (sym (append_assoc commands (c ∷ []) rest))
 onto_before commands n c (Err m) = refl
 
--- What all lines of an input give, by the commands before and the rest.
+-- What all lines of an input give, by the commands before and by the rest.
 pub next_command : (all : Result (List Command) ℕ) (commands : List Command) (n : ℕ) (rest line after : List ℕ) (c : Command) →
     lines rest ≡ line ∷ lines after → command_in handle_in line ≡ Some c →
     all ≡ onto commands (commands_from handle_in (n + 1) (lines rest)) →
@@ -51,12 +51,12 @@ fewer [] = omega arith
 fewer (part ∷ []) = last_fewer part (length part == 0)
 fewer (part ∷ next ∷ more) = omega (arith, fewer (next ∷ more))
 
--- there is a line left, so the count of lines read is below the count of all
+-- A line is left, so the count of lines that were read is below the count of all lines.
 pub counted : (n : ℕ) (rest line after input : List ℕ) → lines rest ≡ line ∷ lines after → n + length (lines rest) ≡ length (lines input) →
     n + 1 + length (lines after) ≡ length (lines input)
 counted n rest line after input cut h = omega (arith, ap length cut, h)
 
--- there is at most one line more than there are bytes
+-- There is at most one line more than there are bytes.
 pub few_lines : (input : List ℕ) → length (lines input) ≤ length input + 1
 few_lines input =
     let whole = fewer (parts_at 10 input) in

@@ -1,4 +1,4 @@
--- Parts between the commas outside quotes, one byte on.
+-- The parts between the commas outside quotes, after one more byte.
 use Rattle.std.proofs.Common.{◌≡◌, ◌≢◌, ℕ, ◌+◌, ◌-◌, ◌<◌, ◌≤◌, Bool, true, false, not, cond, ◌==◌, ◌&&◌, List, [], ◌∷◌, ◌++◌, length, take, drop, get_or, refl, sym, ◌∙◌, ap, arith, tests}
 use Rattle.std.specs.List.{onto_first}
 use Rattle.std.proofs.lemmas.List.{drop_more}
@@ -15,7 +15,7 @@ if_some true b x ps qs rs = onto_some x ps
 if_some false true x ps qs rs = ([], qs, refl)
 if_some false false x ps qs rs = onto_some x rs
 
--- there is always a first part
+-- There is always a first part.
 pub some_part : (quoted : Bool) (text : List ℕ) → (first : List ℕ) × (more : List (List ℕ)) × (parts_from quoted text ≡ first ∷ more)
 some_part quoted [] = ([], [], refl)
 some_part quoted (b ∷ rest) =

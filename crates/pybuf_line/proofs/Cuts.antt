@@ -1,9 +1,10 @@
--- A text cut into parts byte by byte: the parts that are done, the bytes of the one that is begun, and the parts of the rest.
+-- A text that is cut into parts byte by byte. There are the parts that are done, the bytes of the part that is
+-- begun, and the parts of the rest.
 use Rattle.std.proofs.Common.{◌≡◌, ℕ, ◌+◌, ◌-◌, ◌<◌, ◌≤◌, List, [], ◌∷◌, ◌++◌, length, take, drop, get_or, map, Bor, refl, sym, ◌∙◌, ap, arith}
 use Rattle.std.specs.List.{onto_first}
 use Rattle.std.proofs.lemmas.List.{append_assoc, append-nil, map-append, take_more, get_or-drop, length-drop}
 
--- the parts that are done, and the bytes of the one that is begun, before the parts of the rest
+-- the parts that are done, with the bytes of the part that is begun, in front of the parts of the rest
 abbrev pub onto_parts : List (List ℕ) → List ℕ → List (List ℕ) → List (List ℕ)
 onto_parts done begun [] = done ++ begun ∷ []
 onto_parts done begun (part ∷ more) = done ++ (begun ++ part) ∷ more
@@ -24,7 +25,7 @@ begun_more text start i within here =
     ap (λ k. take k (drop start text)) n
     ∙ (more ∙ ap (λ b. take (i - start) (drop start text) ++ b ∷ []) (get_or-drop start text (i - start) 0 ∙ ap (λ k. get_or text k 0) m))
 
--- a byte that goes to the part that is begun
+-- The byte goes to the part that is begun.
 pub byte_on : (all done : List (List ℕ)) (text : List ℕ) (start i : ℕ) (parts rest : List (List ℕ)) → start ≤ i → i < length text →
     all ≡ onto_parts done (take (i - start) (drop start text)) parts → parts ≡ onto_first (get_or text i 0) rest →
     all ≡ onto_parts done (take (i + 1 - start) (drop start text)) rest
@@ -40,7 +41,7 @@ onto_next done begun parts first more e =
     ap (λ b. done ++ b ∷ parts) (append-nil begun)
     ∙ (ap (λ p. done ++ begun ∷ p) e ∙ (sym (append_assoc done (begun ∷ []) (first ∷ more)) ∙ ap (onto_parts (done ++ begun ∷ []) []) (sym e)))
 
--- a byte that ends the part that is begun
+-- The byte ends the part that is begun.
 pub cut_on : (all done : List (List ℕ)) (text : List ℕ) (start i : ℕ) (parts rest : List (List ℕ)) (first : List ℕ) (more : List (List ℕ)) →
     all ≡ onto_parts done (take (i - start) (drop start text)) parts → parts ≡ [] ∷ rest → rest ≡ first ∷ more →
     all ≡ onto_parts (done ++ take (i - start) (drop start text) ∷ []) (take (i + 1 - (i + 1)) (drop (i + 1) text)) rest
@@ -51,7 +52,7 @@ cut_on all done text start i parts rest first more h cuts some =
     ∙ (ap (onto_parts done begun) cuts
     ∙ (onto_next done begun rest first more some ∙ ap (λ k. onto_parts (done ++ begun ∷ []) (take k (drop (i + 1) text)) rest) (sym none)))
 
--- the texts of parts that are lent
+-- the bytes of parts that are lent
 abbrev pub texts : List (Bor (List ℕ)) → List (List ℕ)
 texts parts = map (λ part. part.now) parts
 

@@ -1,4 +1,4 @@
--- Numbers read digit by digit, which only grow by further digits.
+-- Numbers that are read digit by digit. Further digits only make a number greater.
 use Rattle.std.proofs.Common.{ℕ, ◌≡◌, ◌<◌, ◌≤◌, ◌*◌, ◌+◌, ◌-◌, drop, length, get_or, List, [], ◌∷◌, Bool, true, false, cond, ◌==◌, ◌&&◌, refl, ◌∙◌, ap, arith, tests}
 use Rattle.std.specs.Prelude.{Option, Some, None}
 use Rattle.std.specs.Char.{digit_value, is_ascii_digit}
@@ -17,7 +17,8 @@ below_none bound n h = grind (arith, tests)
 ascii_digit : (c : ℕ) → is_ascii_digit c ≡ true → digit_value c ≡ c - 48
 ascii_digit c h = grind (arith, tests)
 
--- The number that the digits so far and those that are left spell, where it is below a bound and no other byte is left.
+-- The number that the digits so far and those that are left spell, if it is below a bound and only digits are
+-- left.
 abbrev pub number_from : ℕ → ℕ → List ℕ → Option ℕ
 number_from bound number rest = cond (list_all is_ascii_digit rest) (below bound (digits_value_after 10 number rest)) None
 
@@ -35,7 +36,7 @@ from_other : (bound number c : ℕ) (rest : List ℕ) → is_ascii_digit c ≡ f
 from_other bound number c rest h =
     ap (λ here. cond (here && list_all is_ascii_digit rest) (below bound (digits_value_after 10 (number * 10 + digit_value c) rest)) None) h
 
--- one digit on
+-- one more digit
 pub digit_on : (bound number i : ℕ) (text : List ℕ) → i < length text → is_ascii_digit (get_or text i 0) ≡ true →
     number_from bound number (drop i text) ≡ number_from bound (number * 10 + (get_or text i 0 - 48)) (drop (i + 1) text)
 digit_on bound number i text here h =
@@ -47,7 +48,7 @@ pub no_digit : (bound number i : ℕ) (text : List ℕ) → i < length text → 
 no_digit bound number i text here h =
     ap (number_from bound number) (drop_more text i 0 here) ∙ from_other bound number (get_or text i 0) (drop (i + 1) text) h
 
--- a number that has outgrown its bound
+-- A number that has passed its bound stays above it.
 outgrown : (bound number : ℕ) (rest : List ℕ) (digits : Bool) → bound ≤ number → cond digits (below bound (digits_value_after 10 number rest)) None ≡ None
 outgrown bound number rest true h =
     let grows = le-digits_value_after number rest in below_none bound (digits_value_after 10 number rest) (omega (arith, h, grows))
@@ -59,11 +60,11 @@ too_large bound number i text here h large =
     digit_on bound number i text here h
     ∙ outgrown bound (number * 10 + (get_or text i 0 - 48)) (drop (i + 1) text) (list_all is_ascii_digit (drop (i + 1) text)) large
 
--- with no byte left
+-- No byte is left.
 pub all_read : (bound number i : ℕ) (text : List ℕ) → length text ≤ i → number_from bound number (drop i text) ≡ below bound number
 all_read bound number i text done = ap (number_from bound number) (drop_all i text done)
 
--- a number below a bound is below any that is no smaller
+-- A number below a bound is below every bound that is no smaller.
 pub below_more : (bound more n m : ℕ) → bound ≤ more → below bound n ≡ Some m → below more n ≡ Some m
 below_more bound more n m within h = grind (arith, tests)
 

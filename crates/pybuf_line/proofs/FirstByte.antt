@@ -1,4 +1,4 @@
--- The first byte of a scalar says how it is spelled.
+-- The first byte of a scalar says how the scalar is spelled.
 use Rattle.std.proofs.Common.{◌≡◌, ◌≢◌, ℕ, ◌<◌, ◌≤◌, ◌-◌, true, false, List, [], ◌∷◌, length, take, drop, get_or, refl, sym, ◌∙◌, ap, arith, tests}
 use Rattle.std.proofs.lemmas.List.{take_rest}
 use Rattle.std.specs.Prelude.{Option, Some, None}
@@ -52,7 +52,7 @@ fourth_alone c w h b nc nw nh = rw (nc, nw, nh) refl
 not_digit : (b : ℕ) → is_ascii_digit b ≡ true → (b ≢ 104) × (b ≢ 120)
 not_digit b h = (grind (arith, tests), grind (arith, tests))
 
--- a digit begins a number
+-- A digit begins a number.
 pub by_digit : (b : ℕ) (bs : List ℕ) → is_ascii_digit b ≡ true → plain_in handle_in (b ∷ bs) ≡ positive_in (b ∷ bs)
 by_digit b bs h =
     let other = not_digit b h in
@@ -73,14 +73,14 @@ by_h b bs e =
     third_alone _ _ _ _ (no_constant b bs (omega arith) (omega arith) (omega arith) (omega arith)) (no_whole b bs (omega arith) (grind (arith, tests)))
     (no_bytes b bs (omega arith))
 
--- any other byte begins a name
+-- Any other byte begins a name.
 by_other : (b : ℕ) (bs : List ℕ) → is_ascii_digit b ≡ false → b ≢ 120 → b ≢ 45 → b ≢ 104 → plain_in handle_in (b ∷ bs) ≡ constant_in (b ∷ bs)
 by_other b bs h n1 n2 n3 = first_alone _ _ _ _ (no_whole b bs n2 h) (no_handle b bs n3) (no_bytes b bs n1)
 
 no_digit : (b : ℕ) → b ≡ 39 → is_ascii_digit b ≡ false
 no_digit b h = grind (arith, tests)
 
--- a quote begins a text
+-- A quote begins a text.
 by_quote : (b : ℕ) (bs : List ℕ) → b ≡ 39 → scalar_in handle_in (b ∷ bs) ≡ text_in (b ∷ bs)
 by_quote b bs e =
     let none : plain_in handle_in (b ∷ bs) ≡ None =
@@ -88,11 +88,11 @@ by_quote b bs e =
     ∙ no_constant b bs (omega arith) (omega arith) (omega arith) (omega arith) in
     rw none refl
 
--- and no other byte does
+-- No other byte begins a text.
 by_no_quote : (b : ℕ) (bs : List ℕ) → b ≢ 39 → scalar_in handle_in (b ∷ bs) ≡ plain_in handle_in (b ∷ bs)
 by_no_quote b bs n = rw (no_text b bs n) (no_other (plain_in handle_in (b ∷ bs)))
 
--- the same of a text that is not empty
+-- the same for a text that isn't empty
 pub digit_first : (text : List ℕ) → 1 ≤ length text → is_ascii_digit (get_or text 0 0) ≡ true → plain_in handle_in text ≡ positive_in text
 digit_first [] some h = absurd (omega (arith, some))
 digit_first (b ∷ bs) some h = by_digit b bs h
@@ -122,7 +122,7 @@ pub no_quote_first : (text : List ℕ) → 1 ≤ length text → get_or text 0 0
 no_quote_first [] some h = absurd (omega (arith, some))
 no_quote_first (b ∷ bs) some h = by_no_quote b bs h
 
--- and of an empty one
+-- the same for an empty text
 pub no_plain_empty : (text : List ℕ) → length text < 1 → plain_in handle_in text ≡ None
 unfolding constant_in
 no_plain_empty [] h = grind (arith, tests)

@@ -1,4 +1,4 @@
--- A text cut at the first separator that a search finds, and the first line of an input.
+-- A text that is cut at the first separator that a search finds, and the first line of an input.
 use Rattle.std.proofs.Common.{◌≡◌, ℕ, ◌+◌, ◌-◌, ◌<◌, ◌≤◌, Bool, true, false, ◌==◌, List, [], ◌∷◌, length, take, drop, get_or, refl, sym, ◌∙◌, ap, arith, tests}
 use Rattle.std.specs.List.{position_or_len, slice_split}
 use Rattle.std.proofs.lemmas.List.Splits.{slice_split_first, slice_split_none}
@@ -14,7 +14,7 @@ is_false : (b : Bool) → ¬ (b ≡ true) → b ≡ false
 is_false true h = absurd (h refl)
 is_false false h = refl
 
--- where the parts are cut at the first separator
+-- If there is a separator, the parts are cut at the first one.
 pub cut_there : (separator at : ℕ) (text : List ℕ) → IsFirstByte (is_byte separator) text (Some at) →
     parts_at separator text ≡ take at text ∷ parts_at separator (drop (at + 1) text)
 cut_there separator at text h =
@@ -24,13 +24,13 @@ cut_there separator at text h =
     (λ k less. is_false (get_or text k 0 == separator) (h.0.before k (omega arith) less)) (λ less. h.1) in
     slice_split_first (is_byte separator) text 0 (omega arith) ∙ ap (λ i. take i text ∷ parts_at separator (drop (i + 1) text)) same
 
--- where there is no separator, the text is the one part
+-- If there is no separator, the text is the only part.
 pub nowhere : (separator : ℕ) (text : List ℕ) → IsFirstByte (is_byte separator) text None → parts_at separator text ≡ text ∷ []
 nowhere separator text h =
     slice_split_none (is_byte separator) text
     (λ k d here. ap (is_byte separator) (get_or_default text k d 0 here) ∙ is_false (get_or text k 0 == separator) (h k (omega arith) here))
 
--- a part before others stays
+-- A part in front of others stays.
 stays : (part : List ℕ) (parts : List (List ℕ)) (first : List ℕ) (more : List (List ℕ)) → parts ≡ first ∷ more →
     without_empty_last (part ∷ parts) ≡ part ∷ without_empty_last parts
 stays part parts first more e = rw e refl

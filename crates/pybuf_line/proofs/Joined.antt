@@ -1,4 +1,4 @@
--- Texts put end to end.
+-- Texts that are put end to end.
 use Rattle.std.proofs.Common.{◌≡◌, ℕ, List, ◌++◌}
 use Rattle.std.proofs.lemmas.List.{append_assoc}
 

@@ -15,7 +15,7 @@ words_join line = join_with_byte-slice_split 32 line
 no_length : (b : ℕ) (bs : List ℕ) → true ≡ (length (b ∷ bs) == 0) → ⊥
 no_length b bs h = grind (arith, tests)
 
--- the parts, each with a line feed, are the joined parts, which may lack the last one
+-- The parts, each with a line feed, make up the joined parts, which may lack the last line feed.
 last_ended : (part : List ℕ) (empty : Bool) → empty ≡ (length part == 0) →
     (flat_map ended_line (cond empty [] (part ∷ [])) ≡ part) ⊎ (flat_map ended_line (cond empty [] (part ∷ [])) ≡ ended_line part)
 last_ended [] true h = inl refl
@@ -41,7 +41,7 @@ lines_join input =
     let whole = join_with_byte-slice_split 10 input in
     elim (parts_ended (parts_at 10 input)) [ inl same ↦ inl (same ∙ whole) | inr longer ↦ inr (longer ∙ ap ended_line whole) ]
 
--- no part holds the byte at which they were cut
+-- No part has the byte at which they were cut.
 onto_single : (x : ℕ) (parts : List (List ℕ)) → (x == 10) ≡ false → AllByRecursion IsOneLine parts → AllByRecursion IsOneLine (onto_first x parts)
 onto_single x [] h all = (ap (λ b. b || false) h, tt)
 onto_single x (part ∷ parts) h all = (ap (λ b. b || list_any (λ c. c == 10) part) h ∙ all.0, all.1)
@@ -67,7 +67,7 @@ lines_single_of (part ∷ next ∷ more) all = (all.0, lines_single_of (next ∷
 pub lines_single : LinesAreSingle
 lines_single input = lines_single_of (parts_at 10 input) (parts_single input)
 
--- what one line more says of those after it
+-- what one more line says of the lines after it
 each_step : (n : ℕ) (c : Option Command) (r : Result (List Command) ℕ) (commands : List Command) → before n c r ≡ Ok commands →
     (first : Command) × (others : List Command) × (c ≡ Some first) × (r ≡ Ok others) × (commands ≡ first ∷ others)
 each_step n None r commands h = let no : ⊥ = cc in absurd no

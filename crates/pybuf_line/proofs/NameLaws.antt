@@ -1,4 +1,4 @@
--- The tables of words are read back.
+-- Every entry of the lists of words is read back.
 use Rattle.std.proofs.Common.{◌≡◌, ℕ, List, [], ◌∷◌, Bool, true, false, cond, Option, Some, refl}
 use Rattle.std.specs.List.{find}
 use Rattle.std.specs.Str.{bytes_eq}
@@ -17,7 +17,7 @@ use Rattle.pybuf_line.specs.Words.{named_in, written_word, every_word, word_in, 
 use Rattle.pybuf_line.specs.Methods.{written_method, every_method, method_in}
 use Rattle.pybuf_line.specs.Laws.{IsAny, WordsReadBack, KindsReadBack, OperatorsReadBack, PropertiesReadBack, MethodsReadBack}
 
--- what is found passes the test
+-- What is found passes the test.
 found_by : {A : Type 0} (p : A → Bool) (first : A) (others : Option A) (found : A) (passes : Bool) → p first ≡ passes →
     (others ≡ Some found → p found ≡ true) → cond passes (Some first) others ≡ Some found → p found ≡ true
 found_by p first others found true e later h = cc

@@ -1,4 +1,4 @@
--- Blocks of items written one after another.
+-- Blocks of items that are written one after another.
 use Rattle.std.proofs.Common.{◌≡◌, ℕ, zero, suc, ◌+◌, ◌*◌, ◌-◌, ◌/◌, ◌<◌, ◌≤◌, List, [], ◌∷◌, ◌++◌, length, take, drop, slice_index_or, codes, refl, sym, ◌∙◌, ap, arith}
 use Rattle.std.specs.List.{flat_map}
 use Rattle.std.proofs.lemmas.List.{append_assoc, append-nil}
@@ -8,7 +8,7 @@ use Rattle.pybuf_value.specs.declared.values.Item.{Item}
 use Rattle.pybuf_value.specs.Spelling.{handle_text, item_text, list_text, next_part_text}
 use Rattle.pybuf_command.specs.Shown.{cut, nested_text}
 
--- the text of a block by the shape of each
+-- the text of a block, by the shape of each block
 abbrev pub block_text : List ℕ → List Item → List ℕ
 block_text inner items = nested_text (item_text handle_text) inner items
 
@@ -19,7 +19,7 @@ left_text inner n size items = flat_map (next_part_text (block_text inner)) (cut
 one_left : (i n : ℕ) → i < n → n - i ≡ suc (n - (i + 1))
 one_left i n h = omega (arith, h)
 
--- there is room for each block
+-- There is room for each block.
 pub fits : (i n size len : ℕ) → i < n → (n - i) * size ≤ len → size ≤ len
 fits i n size len h k =
     let m = n - (i + 1) in
@@ -40,7 +40,7 @@ fits_first (suc n) len rest h r =
     let one : suc n - 1 ≡ n = omega arith in
     rw one (omega (arith, e, r))
 
--- one block more
+-- one more block
 pub block_more : (inner : List ℕ) (i n size : ℕ) (items block rest : List Item) (all out out1 out2 : List ℕ) → i < n →
     out ++ left_text inner (n - i) size items ≡ all → block ≡ take size items → rest ≡ drop size items →
     out1 ≡ out ++ codes ", " → out2 ≡ out1 ++ block_text inner block →
@@ -55,7 +55,7 @@ block_more inner i n size items block rest all out out1 out2 h k first last e1 e
     ∙ (ap (λ r. (out ++ (codes ", " ++ shown)) ++ left_text inner (n - (i + 1)) size r) last
     ∙ (append_assoc out (codes ", " ++ shown) more ∙ (ap (λ t. out ++ t) (sym split) ∙ k)))
 
--- a shape of at most one dimension
+-- A shape of at most one dimension makes one list.
 pub in_one_list : (shape : List ℕ) (items : List Item) → length shape < 2 →
     nested_text (item_text handle_text) shape items ≡ list_text (item_text handle_text) items
 in_one_list [] items h = refl
@@ -69,7 +69,7 @@ inner_of shape = take (length shape - 1) (drop 1 shape)
 inner_is : (n : ℕ) (more : List ℕ) → inner_of (n ∷ more) ≡ more
 inner_is n more = let e : length (n ∷ more) - 1 ≡ length more = omega arith in ap (λ k. take k more) e ∙ take-length more
 
--- several dimensions, and an entry at least: a block, and what is left
+-- The shape has several dimensions, and at least one entry. There is a first block, and then what is left.
 abbrev pub first_text : List ℕ → ℕ → List Item → List ℕ
 first_text shape size items = block_text (inner_of shape) (take size items)
 
@@ -91,7 +91,7 @@ in_blocks (suc n ∷ m ∷ more) items h k =
     let shown : List ℕ → ℕ → List ℕ = λ inner left. codes "[" ++ block_text inner (take size items) ++ left_text inner left size (drop size items) ++ codes "]" in
     ap (λ inner. shown inner n) (sym (inner_is (suc n) (m ∷ more))) ∙ ap (shown (inner_of (suc n ∷ m ∷ more))) (sym one)
 
--- all blocks, with their brackets
+-- All blocks stand between their brackets.
 pub all_blocks : (o o1 o2 o3 o4 a l : List ℕ) (inner : List ℕ) (n i size : ℕ) (rest : List Item) →
     o1 ≡ o ++ 91 ∷ [] → o2 ≡ o1 ++ a → o3 ++ left_text inner (n - i) size rest ≡ o2 ++ l → n ≤ i → o4 ≡ o3 ++ 93 ∷ [] →
     o4 ≡ o ++ (codes "[" ++ a ++ l ++ codes "]")

@@ -1,4 +1,4 @@
--- The text of items is nested by their shape, and has them in order.
+-- The text of items is nested by their shape, and has the items in order.
 use Rattle.std.proofs.Common.{◌≡◌, ◌⊎◌, inl, inr, ℕ, zero, suc, ◌*◌, ◌/◌, ◌-◌, ◌≤◌, List, [], ◌∷◌, ◌++◌, length, take, drop, codes, refl, sym, ◌∙◌, ap, arith}
 use Rattle.std.specs.List.{flat_map, join_by, AllByRecursion}
 use Rattle.std.proofs.Math.Nat.{mul-div_cancel_left}
@@ -50,7 +50,7 @@ blocks_are zero size items h = cuts_of zero size items h
 blocks_are (suc n) size items h =
     rw (size_of_block n size (length items) h) (cuts_of (suc n) size items h)
 
--- a list as its parts joined
+-- A list is its parts, joined.
 list_joined : {P : Type 0} (text : P → List ℕ) (parts : List P) → list_text text parts ≡ codes "[" ++ join_by text (codes ", ") parts ++ codes "]"
 list_joined text [] = refl
 list_joined text (part ∷ more) = refl
@@ -63,7 +63,7 @@ all_pieces : (xs ys : List (ℕ ⊎ Item)) → AllByRecursion IsPiece xs → All
 all_pieces [] ys h k = k
 all_pieces (x ∷ xs) ys h k = (h.0, all_pieces xs ys h.1 k)
 
--- one text after another
+-- One text follows another.
 then : (text : Item → List ℕ) (a b : List ℕ) (xs ys : List Item) → HasItemsInOrder text a xs → HasItemsInOrder text b ys →
     HasItemsInOrder text (a ++ b) (xs ++ ys)
 then text a b xs ys h k = record {
@@ -88,7 +88,7 @@ nothing text = record { pieces = []; are_pieces = tt; whole = refl; in_order = r
 one : (text : Item → List ℕ) (x : Item) → HasItemsInOrder text (text x) (x ∷ [])
 one text x = record { pieces = inr x ∷ []; are_pieces = (tt, tt); whole = sym (append-nil (text x)); in_order = refl }
 
--- parts, each of which has its items in order
+-- Each of the parts has its items in order.
 next_parts : {P : Type 0} (text : Item → List ℕ) (shown : P → List ℕ) (held : P → List Item) (Q : P → Type 0) →
     ((p : P) → Q p → HasItemsInOrder text (shown p) (held p)) → (parts : List P) → AllByRecursion Q parts →
     HasItemsInOrder text (flat_map (next_part_text shown) parts) (flat_map held parts)

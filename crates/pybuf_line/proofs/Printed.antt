@@ -1,4 +1,4 @@
--- Bytes of texts are ASCII.
+-- The bytes of a text are ASCII.
 use Rattle.std.proofs.Common.{◌≡◌, ℕ, ◌<◌, true, List, get_or, arith, tests}
 use Rattle.std.specs.List.{list_all}
 use Rattle.std.specs.Str.{IsUtf8}

@@ -1,4 +1,4 @@
--- Texts that begin with a digit are numbers or nothing.
+-- A text that begins with a digit is a number or nothing.
 use Rattle.std.proofs.Common.{◌≡◌, ℕ, ◌^◌, true, List, [], ◌∷◌, ◌∙◌, ap, arith, tests, pos, refl}
 use Rattle.std.specs.Prelude.{Some}
 use Rattle.std.specs.Char.{is_ascii_digit}

@@ -1,10 +1,10 @@
--- Parts read in turn, one part on.
+-- Parts that are read in turn, after one more part.
 use Rattle.std.proofs.Common.{◌≡◌, ℕ, ◌+◌, List, [], ◌∷◌, ◌++◌, drop, map, refl, sym, ◌∙◌, ap, Bor}
 use Rattle.std.specs.Prelude.{Option, Some, None}
 use Rattle.std.proofs.lemmas.List.{append_assoc}
 use Rattle.pybuf_line.specs.Parts.{each}
 
--- what was read, before what is read of the rest
+-- what was read, in front of what the rest gives
 abbrev pub onto : {A : Type 0} → List A → Option (List A) → Option (List A)
 onto done (Some rest) = Some (done ++ rest)
 onto done None = None

@@ -18,7 +18,7 @@ use Rattle.pybuf_line.specs.Scalars.{constant_in, is_number, number_below, whole
 use Rattle.pybuf_line.specs.Laws.{PartsJoin, IsOnePart, PartsAreSingle, EnclosedIsBetween, BetweenIsEnclosed, IsSpelled, IsSlicePart, ScalarsReadBack}
 use Rattle.pybuf_line.proofs.Commas.{some_part, quote_cuts, other_cuts}
 
--- one byte onto the first part is one byte more in front
+-- One byte more on the first part is one byte more in front.
 join_onto : (b : ℕ) (parts : List (List ℕ)) (first : List ℕ) (more : List (List ℕ)) → parts ≡ first ∷ more →
     join_with_byte 44 (onto_first b parts) ≡ b ∷ join_with_byte 44 parts
 join_onto b parts first [] e = rw e refl
@@ -52,7 +52,7 @@ join_from quoted (b ∷ rest) =
 pub parts_join : PartsJoin
 parts_join text = join_from false text
 
--- the first part, begun between quotes or not, and the others are each one part
+-- The first part, which may begin between quotes, and the others are one part each.
 abbrev SingleFrom : Bool → List (List ℕ) → Type 0
 SingleFrom quoted [] = Unit {0}
 SingleFrom quoted (part ∷ more) = (parts_from quoted part ≡ part ∷ []) × AllByRecursion IsOnePart more

@@ -1,4 +1,4 @@
--- Values are read back with all their parts.
+-- A value that was written is read back, with all its parts.
 use Rattle.std.proofs.Common.{◌≡◌, ◌⊎◌, inl, inr, ℕ, ◌/◌, ◌%◌, ◌^◌, ◌+◌, ◌<◌, zero, suc, pos, negsuc, List, [], ◌∷◌, ◌++◌, map, slice_index, Bool, true, false, not, cond, ◌==◌, ◌&&◌, ◌||◌, Option, Some, None, Result, Ok, Err, refl, sym, ◌∙◌, ap, arith, tests, decimal, codes}
 use Rattle.std.specs.List.{onto_first, list_all, list_any, AllByRecursion}
 use Rattle.std.specs.Char.{is_ascii_digit, digit_value}
@@ -24,7 +24,7 @@ use Rattle.pybuf_line.proofs.Colons.{some_part as colon_part}
 use Rattle.pybuf_line.proofs.Commas.{some_part, quote_cuts, other_cuts}
 use Rattle.pybuf_line.proofs.SpellingLaws.{same_number, same_bytes, no_number, enclosed_read, part_reads, scalars_read}
 
--- neither a colon, nor a comma, nor a quote, nor a blank
+-- The byte is no colon, no comma, no quote and no blank.
 abbrev pub is_free : ℕ → Bool
 is_free b = not (b == 58) && not (b == 44) && not (b == 39) && not (b == 32)
 
@@ -66,7 +66,7 @@ part_free (scalar.Bytes bytes) h = encoded_free bytes
 part_free scalar.Ellipsis h = refl
 part_free (scalar.Handle n) h = digits_free (decimal n) (decimal_is_IsNumeral_wide n (omega (arith, h))).0.1
 
--- colons cut
+-- Colons cut a text into parts.
 no_colon : (x : ℕ) → is_free x ≡ true → (x == 58) ≡ false
 no_colon x h = grind (arith, tests)
 
@@ -93,7 +93,7 @@ slice_reads s h =
     let cuts = one ∙ ap (λ parts. (written_scalar handle_text) s.start ∷ parts) rest in
     ap (slice_of handle_in) cuts ∙ rw (part_reads s.start h.0, part_reads s.stop h.1, part_reads s.step h.2) refl
 
--- commas cut, but not within a part
+-- Commas cut a text into parts, but not within a part.
 abbrev onto_front : List ℕ → List (List ℕ) → List (List ℕ)
 onto_front a [] = a ∷ []
 onto_front a (part ∷ more) = (a ++ part) ∷ more
@@ -106,7 +106,7 @@ one_in_front : (b : ℕ) (parts : List (List ℕ)) → onto_first b parts ≡ on
 one_in_front b [] = refl
 one_in_front b (part ∷ more) = refl
 
--- a text through which the parts after it go on
+-- A text is whole if the parts behind it go on through it.
 abbrev IsWhole : List ℕ → Type 0
 IsWhole text = (rest : List ℕ) → parts_from false (text ++ rest) ≡ onto_front text (parts_from false rest)
 
@@ -214,7 +214,7 @@ slices_reads s more h =
     ap (each (slice_in handle_in)) (all_whole (written_slice handle_text) IsSpelledSlice slice_whole s more h)
     ∙ each_read (written_slice handle_text) (slice_in handle_in) IsSpelledSlice slice_reads (s ∷ more) h
 
--- no value without parts has a colon but between quotes
+-- A value without parts has a colon only between quotes.
 abbrev has_colon : List ℕ → Bool
 has_colon text = list_any (λ b. b == 58) text
 
@@ -313,7 +313,7 @@ slice_no_scalar s h =
     let rest = written_scalar handle_text s.stop ++ 58 ∷ written_scalar handle_text s.step in
     rw (no_plain (written_slice handle_text s) (colon_there (written_scalar handle_text s.start) rest), no_text (written_scalar handle_text s.start) rest (part_free s.start h.0)) refl
 
--- what begins with a bracket is neither a value without parts nor a slice
+-- A text that begins with a bracket is neither a value without parts nor a slice.
 bracket_no_plain : (b : ℕ) → (b ≡ 40) ⊎ (b ≡ 91) → (rest : List ℕ) → plain_in handle_in (b ∷ rest) ≡ None
 unfolding constant_in
 bracket_no_plain b (inl e) rest = rw (e, no_number 40 rest refl refl) refl

@@ -1,4 +1,4 @@
--- Runs of commands one after the other.
+-- Runs of commands, one after the other.
 use Rattle.std.proofs.Common.{◌≡◌, ℕ, zero, suc, ◌+◌, Bool, cond, List, [], ◌∷◌, ◌++◌, length, count_by, refl, sym, ◌∙◌, ap, subst, arith}
 use Rattle.std.specs.Prelude.{None}
 use Rattle.std.specs.List.{flat_map, range_with_len}
@@ -25,11 +25,11 @@ replies_of_both w (x ∷ xs) ys = ap (λ rs. (wstep w x).1 ∷ rs) (replies_of_b
 count_both : (p : Reply → Bool) (xs ys : List Reply) → count_by p (xs ++ ys) ≡ count_by p xs + count_by p ys
 count_both p xs ys = sum_by-append (λ x. cond (p x) 1 0) xs ys
 
--- nothing was run
+-- No command was run.
 pub runs_none : (a : Counted) → HasRun a [] a
 runs_none a = record { world = refl; lines = omega arith; refused = omega arith }
 
--- one run after another
+-- One run follows another.
 pub runs_on : (a b c : Counted) (xs ys : List Command) → HasRun a xs b → HasRun b ys c → HasRun a (xs ++ ys) c
 runs_on a b c xs ys first then = record {
   world = then.world ∙ (ap (λ (w : World). world_after_all w ys) first.world ∙ sym (after_both a.world xs ys));
@@ -48,7 +48,7 @@ range_more : (a n : ℕ) → range_with_len a (suc n) ≡ range_with_len a n ++ 
 range_more a zero = ap (λ x. x ∷ []) (omega arith)
 range_more a (suc n) = ap (λ rest. a ∷ rest) (range_more (a + 1) n ∙ ap (λ x. range_with_len (a + 1) n ++ x ∷ []) (omega arith))
 
--- one round more
+-- one more round
 rounds_more : (f : ℕ → List Command) (n : ℕ) → flat_map f (range_with_len 0 (n + 1)) ≡ flat_map f (range_with_len 0 n) ++ f n
 rounds_more f n =
     let one : n + 1 ≡ suc n = omega arith in
@@ -58,13 +58,13 @@ rounds_more f n =
     ∙ (ap (λ k. flat_map f (range_with_len 0 n ++ k ∷ [])) last
     ∙ (flat_map-append f (range_with_len 0 n) (n ∷ []) ∙ ap (λ xs. flat_map f (range_with_len 0 n) ++ xs) (append-nil (f n)))))
 
--- the rounds up to a number, and then the one of that number
+-- the rounds up to a number, and then the round that has this number
 pub one_more : (old mid new : Counted) (n : ℕ) → HasRun old (flat_map round (range_with_len 0 n)) mid → HasRun mid (round n) new →
     HasRun old (flat_map round (range_with_len 0 (n + 1))) new
 one_more old mid new n first then =
     subst (λ (cs : List Command). HasRun old cs new) (sym (rounds_more round n)) (runs_on old mid new (flat_map round (range_with_len 0 n)) (round n) first then)
 
--- what is counted of a whole run is its summary
+-- What is counted of a whole run is its summary.
 pub counts_of : (run : Counted) (commands : List Command) (begun : Counted) → HasRun begun commands run → begun.world ≡ empty_world →
     begun.lines ≡ 0 → begun.refused ≡ 0 → told run.lines run.refused run.world ≡ summary_of commands
 counts_of run commands begun ran empty none zero_refused =

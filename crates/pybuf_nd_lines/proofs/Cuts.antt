@@ -1,4 +1,4 @@
--- Views of bytes in a shape, as they are kept.
+-- Views of bytes in a shape, as the code keeps them.
 use Rattle.std.proofs.Common.{◌≡◌, ℕ, zero, suc, ◌+◌, ◌*◌, ◌<◌, ◌≤◌, ◌^◌, Bool, true, List, [], ◌∷◌, length, map, refl, sym, ◌∙◌, ap, ap₂, subst, arith, get_or, All}
 use Rattle.std.specs.Prelude.{codes, Result, Ok, Err, IfOk}
 use Rattle.std.specs.List.{range_with_len}
@@ -59,7 +59,7 @@ inside_if stay r n shape text whole fits is made =
     if_ok_so r (λ view. view ≡ cast_to whole text 1 shape) (λ view. LiesInside n view)
     (λ view e. subst (LiesInside n) (sym e) (shape_is_inside stay n shape text whole fits is)) made
 
--- ---- views that were made of a view
+-- ---- views that are made of a view
 
 pub done_so : {B : Type 0} (P : B → Type 0) (o : Outcome B) (b : B) → o ≡ outcome.Done b → IfDone P (given_by o) → P b
 done_so {B = B} P o b e h = subst (λ (x : Outcome B). IfDone P (given_by x)) e h

@@ -1,4 +1,4 @@
--- Selections of nothing.
+-- Selections that pick nothing.
 use Rattle.std.proofs.Common.{◌≡◌, ℕ, zero, suc, Bool, true, false, List, [], ◌∷◌, ◌++◌, length, drop, map, flat_map, refl, sym, ◌∙◌, ap}
 use Rattle.std.specs.Prelude.{◌&&◌, nat_lt, Result, Ok, Err}
 use Rattle.std.specs.List.{range_with_len}
@@ -34,7 +34,7 @@ no_columns (zero ∷ shape) h = nothing_each (λ (indices : List ℕ). map (λ i
 no_columns (suc n ∷ shape) h =
     ap (λ (lists : List (List ℕ)). flat_map (λ (indices : List ℕ). map (λ index. index ∷ indices) (range_with_len 0 (suc n))) lists) (no_columns shape h)
 
--- ---- from a refusal
+-- ---- by a refusal
 
 refused_so : (b : Bool) (f g : Fault) → Err f ≡ refusal_of (unless b g) → b ≡ true
 refused_so true f g e = refl
@@ -73,7 +73,7 @@ nothing_asked : TranspositionsAreColumnOrder → (bytes : List ℕ) (view : Layo
 nothing_asked columns bytes view slices true f e = nothing_transposed columns bytes (selection_of view slices) (nothing_picked view slices f e)
 nothing_asked columns bytes view slices false f e = nothing_selected bytes view slices (nothing_picked view slices f e)
 
--- what a call that was refused answers to
+-- what a refused call answers for the selection
 refusal_so : (o : Outcome Layout) (f : Fault) (wanted : Result Bool Fault) → o ≡ outcome.Refused f → refusal_of (given_by o) ≡ refusal_of wanted → Err f ≡ refusal_of wanted
 refusal_so o f wanted e h = sym (ap (λ (x : Outcome Layout). refusal_of (given_by x)) e) ∙ h
 

@@ -1,10 +1,10 @@
--- What each of a list gives, one on.
+-- What each entry of a list gives, after one more entry.
 use Rattle.std.proofs.Common.{◌≡◌, ℕ, ◌+◌, List, [], ◌∷◌, ◌++◌, drop, refl, sym, ◌∙◌, ap}
 use Rattle.std.specs.Prelude.{Option, Some, None}
 use Rattle.std.proofs.lemmas.List.{append_assoc}
 use Rattle.pybuf_nd_lines.specs.Shapes.{each_gives}
 
--- what was given, before what the rest gives
+-- what the entries so far gave, in front of what the rest gives
 abbrev pub onto : {B : Type 0} → List B → Option (List B) → Option (List B)
 onto done (Some rest) = Some (done ++ rest)
 onto done None = None

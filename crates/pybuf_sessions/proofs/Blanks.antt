@@ -1,4 +1,4 @@
--- A text cut at its first blank.
+-- A text that is cut at its first blank.
 use Rattle.std.proofs.Common.{◌≡◌, ℕ, ◌+◌, Bool, true, false, ◌==◌, List, [], ◌∷◌, take, drop, get_or, refl, sym, ◌∙◌, ap, arith, tests}
 use Rattle.std.specs.Prelude.{Some, None, cond}
 use Rattle.std.specs.List.{position_or_len, onto_first}
@@ -26,7 +26,7 @@ nowhere text h =
     slice_split_none (is_byte 32) text
     (λ k d here. ap (is_byte 32) (get_or_default text k d 0 here) ∙ is_false (get_or text k 0 == 32) (h k (omega arith) here))
 
--- the words of a text, each with a blank before it, are the text behind a blank
+-- The words of a text, each with a blank before it, are a blank and then the text.
 onto_text : (b : ℕ) (all : List (List ℕ)) (text : List ℕ) → rest_text all ≡ 32 ∷ text → rest_text (onto_first b all) ≡ 32 ∷ b ∷ text
 onto_text b [] text e = cc
 onto_text b (word ∷ more) text e = cc
@@ -43,7 +43,7 @@ pub words_text : (text : List ℕ) → rest_text (words text) ≡ 32 ∷ text
 words_text [] = refl
 words_text (b ∷ rest) = words_text_if (b == 32) b (words rest) rest (is_blank b) (words_text rest)
 
--- from the blank on
+-- the text from the blank on
 from_blank : (at : ℕ) (text : List ℕ) → IsFirstByte (is_byte 32) text (Some at) → drop at text ≡ 32 ∷ drop (at + 1) text
 from_blank at text h =
     let high = h.0.high in

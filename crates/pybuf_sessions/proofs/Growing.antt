@@ -12,7 +12,7 @@ count_more : (asks : List Ask) (a : Ask) → session_count (asks ++ a ∷ []) �
 count_more [] a = omega arith
 count_more (ask ∷ more) a = let rest = count_more more a in omega (arith, rest)
 
--- what the script of a number gets
+-- what the script of a session gets
 abbrev got : Bool → LocalCommand → List LocalCommand
 got is c = cond is (c ∷ []) []
 
@@ -47,7 +47,7 @@ same_scripts f g p same j (suc n) h =
     let rest : map f (numbers_from (suc j) n) ≡ map g (numbers_from (suc j) n) = same_scripts f g p same (suc j) n (omega (arith, h)) in
     ap (λ x. x ∷ map f (numbers_from (suc j) n)) first ∙ ap (λ xs. g j ∷ xs) rest
 
--- The script of the number p gets a command, and those from q on are empty before.
+-- The script of session p gets a command, and those from q on were empty before.
 pub record Gets (f g : ℕ → List LocalCommand) (c : LocalCommand) (p q : ℕ) : Type 0 where
   pub same : (k : ℕ) → k ≢ p → g k ≡ f k
   pub here : g p ≡ f p ++ c ∷ []
@@ -85,7 +85,7 @@ gets_one asks a = record {
   none = λ k h. script_none asks k h;
 }
 
--- The scripts of one ask more are those of the others, with its command added.
+-- After one more ask, the scripts are those of the others with its command added.
 pub one_ask_more : (asks : List Ask) (a : Ask) → scripts_of (asks ++ a ∷ []) ≡ added a.session a.command (scripts_of asks)
 one_ask_more asks a =
     sym
@@ -100,7 +100,7 @@ empty_more [] (suc s) c h = refl
 empty_more (script ∷ more) zero c h = absurd (omega (arith, h))
 empty_more (script ∷ more) (suc s) c h = ap (λ rest. script ∷ rest) (empty_more more s c (omega (arith, h)))
 
--- ---- a command put into a script
+-- ---- a command that is put into a script
 
 pub put_there : (scripts : List (List LocalCommand)) (s : ℕ) (c : LocalCommand) (old new : List LocalCommand) → s < length scripts →
     old ≡ slice_index_or scripts s old → new ≡ old ++ c ∷ [] → set scripts s new ≡ added s c scripts

@@ -1,4 +1,4 @@
--- What lines ask, one line on.
+-- What lines ask for, after one more line.
 use Rattle.std.proofs.Common.{◌≡◌, ℕ, ◌+◌, ◌≤◌, List, [], ◌∷◌, ◌++◌, length, refl, sym, ◌∙◌, ap, Bool, true, false, cond, ◌==◌, arith}
 use Rattle.std.specs.Prelude.{Result, Ok, Err, Some, None}
 use Rattle.std.proofs.lemmas.List.{append_assoc, append-nil}
@@ -13,7 +13,7 @@ use Rattle.pybuf_sessions.specs.Scripts.{scripts_of, added}
 use Rattle.pybuf_sessions.specs.Sessions.{ask_before, asks_from, scripts_for}
 use Rattle.pybuf_sessions.proofs.Growing.{one_ask_more}
 
--- asks before those of a reading
+-- what lines asked for, in front of what the rest asks for
 abbrev pub onto : List Ask → Result (List Ask) ℕ → Result (List Ask) ℕ
 onto asks (Ok rest) = Ok (asks ++ rest)
 onto asks (Err n) = Err n
@@ -26,7 +26,7 @@ onto_nothing : (rest : Result (List Ask) ℕ) → rest ≡ onto [] rest
 onto_nothing (Ok rest) = refl
 onto_nothing (Err n) = refl
 
--- Lines ask so much before a line of a number, and there are these scripts.
+-- The lines before a number ask for so much, and these are the scripts.
 pub record AskedSoFar (all : Result (List Ask) ℕ) (scripts : List (List LocalCommand)) (n : ℕ) (left : List (List ℕ)) : Type 0 where
   pub asks : List Ask
   pub kept : scripts ≡ scripts_of asks
@@ -76,13 +76,13 @@ fewer [] = omega arith
 fewer (part ∷ []) = last_fewer part (length part == 0)
 fewer (part ∷ next ∷ more) = omega (arith, fewer (next ∷ more))
 
--- there is at most one line more than there are bytes
+-- There is at most one line more than there are bytes.
 pub few_lines : (input : List ℕ) → length (lines input) ≤ length input + 1
 few_lines input =
     let whole = fewer (parts_at 10 input) in
     let parts = length-slice_split (λ b. b == 10) input in
     omega (arith, whole, parts, count_by-le-length (λ b. b == 10) input)
 
--- there is a line left, so the count of lines read is below the count of all
+-- A line is left, so the count of lines that were read is below the count of all lines.
 pub counted : (n : ℕ) (left after all : List (List ℕ)) (line : List ℕ) → left ≡ line ∷ after → n + length left ≡ length all + 1 → n + 1 + length after ≡ length all + 1
 counted n left after all line cut h = omega (arith, ap length cut, h)

@@ -1,4 +1,4 @@
--- Sessions are those of lines.
+-- The sessions are those of the lines.
 use Rattle.std.proofs.Common.{◌≡◌, ◌≢◌, ◌⊎◌, inl, inr, ℕ, zero, suc, ◌+◌, ◌<◌, ◌≤◌, Bool, true, false, cond, ◌==◌, List, [], ◌∷◌, ◌++◌, length, map, refl, sym, ◌∙◌, ap, arith, tests}
 use Rattle.std.specs.Prelude.{Option, Some, None, Result, Ok, Err, slice_get}
 use Rattle.std.specs.List.{AllByRecursion, sum_by}
@@ -16,7 +16,7 @@ use Rattle.pybuf_sessions.specs.declared.sessions.Sessions.{Sessions}
 use Rattle.pybuf_sessions.specs.Laws.{AreOfLines, SessionsAreOfLines, IsFirstWrong, IsWithoutFirst, IsWrongAt, WrongLineIsFirst}
 use Rattle.pybuf_sessions.proofs.Runnable.{length-scripts}
 
--- ---- what lines ask
+-- ---- what lines ask for
 
 asked_before : (n : ℕ) (x : Option Ask) (r : Result (List Ask) ℕ) (asks : List Ask) (others : List (Option Ask)) →
     ((rest : List Ask) → r ≡ Ok rest → others ≡ map Some rest) → ask_before n x r ≡ Ok asks → x ∷ others ≡ map Some asks
@@ -31,7 +31,7 @@ asked_lines n [] asks h = let same : [] ≡ asks = cc in ap (map Some) same
 asked_lines n (line ∷ rest) asks h =
     asked_before n (ask_in line) (asks_from (n + 1) rest) asks (map ask_in rest) (asked_lines (n + 1) rest) h
 
--- the first line that asks nothing
+-- Line n is the first line that asks for nothing.
 record IsStopped (n m : ℕ) (all : List (Option Ask)) : Type 0 where
   asks : List Ask
   others : List (Option Ask)
@@ -68,7 +68,7 @@ script_there f j (suc n) (suc k) h =
 from_none : (k : ℕ) → 0 + k ≡ k
 from_none k = omega arith
 
--- how many commands scripts have
+-- how many commands the scripts have together
 abbrev total : (ℕ → List LocalCommand) → ℕ → ℕ → ℕ
 total f j zero = 0
 total f j (suc n) = length (f j) + total f (suc j) n

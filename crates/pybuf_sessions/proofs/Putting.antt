@@ -1,4 +1,4 @@
--- Pieces of a text put one after the other, as far as they are done.
+-- Pieces of a text that are put one after the other, and how far that is done.
 use Rattle.std.proofs.Common.{◌≡◌, ◌≢◌, ℕ, ◌+◌, ◌-◌, ◌<◌, ◌≤◌, Bool, true, false, not, cond, ◌==◌, ◌&&◌, ◌||◌, List, [], ◌∷◌, ◌++◌, length, take, drop, get_or, refl, sym, ◌∙◌, ap, arith, tests, length-append}
 use Rattle.std.specs.Prelude.{Option, Some, None}
 use Rattle.std.specs.List.{list_any, onto_first}
@@ -11,7 +11,7 @@ use Rattle.pybuf_sessions.specs.Putting.{IsPut, ArePut}
 
 -- ---- pieces, byte by byte
 
--- the bytes of the piece that is begun, before the pieces of the rest
+-- the bytes of the piece that is begun, in front of the pieces of the rest
 abbrev pub onto_begun : List ℕ → List (List ℕ) → List (List ℕ)
 onto_begun begun [] = begun ∷ []
 onto_begun begun (piece ∷ more) = (begun ++ piece) ∷ more
@@ -30,7 +30,7 @@ onto_none_if true b x ps qs rs = onto_some x ps
 onto_none_if false true x ps qs rs = refl
 onto_none_if false false x ps qs rs = onto_some x rs
 
--- where nothing is begun, the pieces are those of the rest
+-- If no piece is begun, the pieces are those of the rest.
 pub onto_none : (quoted : Bool) (text : List ℕ) → onto_begun [] (pieces_from quoted text) ≡ pieces_from quoted text
 onto_none quoted [] = refl
 onto_none quoted (b ∷ rest) =
@@ -47,7 +47,7 @@ begun_more text start i within here =
     ap (λ k. take k (drop start text)) n
     ∙ (more ∙ ap (λ b. take (i - start) (drop start text) ++ b ∷ []) (get_or-drop start text (i - start) 0 ∙ ap (λ k. get_or text k 0) m))
 
--- what is left to put: the piece that is begun, and the pieces of the rest
+-- what is left to put: the piece that is begun, and then the pieces of the rest
 abbrev pub left_from : List ℕ → ℕ → ℕ → Bool → List (List ℕ)
 left_from text start i quoted = onto_begun (take (i - start) (drop start text)) (pieces_from quoted (drop i text))
 
@@ -93,7 +93,7 @@ mark_left text start i quoted within here q m =
     ∙ ap (λ rest. begun ∷ (get_or text i 0 ∷ []) ∷ rest)
     (sym (ap (λ n. onto_begun (take n (drop (i + 1) text)) (pieces_from quoted (drop (i + 1) text))) none ∙ onto_none quoted (drop (i + 1) text)))))
 
--- behind the last byte there is the piece that is begun
+-- Behind the last byte, only the piece that is begun is left.
 pub end_left : (text : List ℕ) (start i : ℕ) (quoted : Bool) → length text ≤ i →
     left_from text start i quoted ≡ take (i - start) (drop start text) ∷ []
 end_left text start i quoted done =
@@ -109,7 +109,7 @@ no_quote b h = grind (arith, tests)
 
 -- ---- pieces, one by one
 
--- pieces are put as far as some that are left
+-- The pieces are put up to some that are left.
 pub record PutSoFar (all : List (List ℕ)) (old : List ℕ) (lent : List (ℕ × Loan)) (new : List ℕ) (lent_now : List (ℕ × Loan)) (rest : List (List ℕ)) : Type 0 where
   pub named : list_any is_handle all ≡ list_any is_handle rest
   pub text : old ++ handled_from (length lent) all ≡ new ++ handled_from (length lent_now) rest
@@ -153,7 +153,7 @@ piece_put all rest piece old new new2 lent lent_now lent2 p put =
           ∙ (ap (λ t. t ++ loans_from (next_after n name) rest) (sym put.loans) ∙ ap (λ k. lent2 ++ loans_from k rest) next));
     }
 
--- a single byte is no name and no handle
+-- A single byte is neither a name nor a handle.
 pub byte_no_name : (b : ℕ) → name_in (b ∷ []) ≡ None
 byte_no_name b = grind (arith, tests)
 

@@ -1,4 +1,4 @@
--- What a text comes to, piece by piece, that is written with names.
+-- What a text that is written with names becomes, piece by piece.
 use Rattle.std.proofs.Common.{◌≡◌, ℕ, ◌+◌, Bool, true, false, not, ◌==◌, ◌&&◌, ◌||◌, List, [], ◌∷◌, ◌++◌, refl, sym, ◌∙◌, ap, subst, arith, tests}
 use Rattle.std.specs.Prelude.{Option, Some, None}
 use Rattle.std.specs.List.{list_any, list_all, onto_first}
@@ -11,9 +11,10 @@ use Rattle.pybuf_sessions.specs.Pieces.{is_mark, pieces_from, pieces, is_handle,
 use Rattle.pybuf_sessions.specs.Laws.{AreNumbered, lent_by}
 use Rattle.pybuf_sessions.proofs.Putting.{onto_begun, onto_none, quote_on, other_on, mark_on, byte_no_name, byte_no_handle}
 
--- ---- what a text comes to
+-- ---- what a text becomes
 
--- whether a piece is a handle, and the text and what is lent, where handles are numbered from a number on
+-- whether a piece is a handle, the text that was made, and what is lent, if handles are numbered from a number
+-- on
 pub record Outcome : Type 0 where
   pub refused : Bool
   pub text : List ℕ
@@ -33,17 +34,17 @@ behind_both a b k l o =
     ap (λ text. record { refused = o.refused; text = text; loans = k ++ (l ++ o.loans) }) (sym (append_assoc a b o.text))
     ∙ ap (λ loans. record { refused = o.refused; text = (a ++ b) ++ o.text; loans = loans }) (sym (append_assoc k l o.loans))
 
--- nothing, or a byte at which a piece ends
+-- The text is empty, or begins with a byte at which a piece ends.
 abbrev pub IsBehind : List ℕ → Type 0
 IsBehind [] = Unit {0}
 IsBehind (b ∷ rest) = is_mark b ≡ true
 
--- the number behind that of the last of some handles
+-- the number behind that of the last handle
 abbrev pub next_number : ℕ → List ℕ → ℕ
 next_number n [] = n
 next_number n (h ∷ more) = next_number (n + 1) more
 
--- A text in which names stand for handles comes to one with these handles, which are lent.
+-- A text with names in place of handles becomes a text with these handles, and they are lent.
 abbrev pub Comes : (ℕ → Subject) → ℕ → List ℕ → List ℕ → List ℕ → Type 0
 Comes named n handles text written =
     (rest : List ℕ) → IsBehind rest → outcome n (text ++ rest) ≡ behind written (lent_by named handles) (outcome (next_number n handles) rest)
@@ -113,11 +114,11 @@ after_comes named n b h t w mark comes =
 
 -- ---- single pieces
 
--- a text through which the pieces behind it go on
+-- A text is whole if the pieces behind it go on through it.
 abbrev pub IsWhole : List ℕ → Type 0
 IsWhole text = (rest : List ℕ) → pieces_from false (text ++ rest) ≡ onto_begun text (pieces_from false rest)
 
--- no byte at which a piece ends, and no quote
+-- The byte is no quote, and no piece ends at it.
 abbrev pub is_plain : ℕ → Bool
 is_plain b = not (is_mark b) && not (b == 39)
 
@@ -155,7 +156,7 @@ never : (b : Bool) → (b && not true) ≡ false
 never true = refl
 never false = refl
 
--- no quote
+-- The byte is no quote.
 abbrev pub is_unquoted : ℕ → Bool
 is_unquoted b = not (b == 39)
 
@@ -173,7 +174,7 @@ quoted_whole t h rest =
     ap (λ l. pieces_from false (39 ∷ l)) (append_assoc t (39 ∷ []) rest)
     ∙ (quote_on 39 false (t ++ 39 ∷ rest) refl ∙ (ap (onto_first 39) (to_quote t rest h) ∙ byte_in_front 39 (t ++ 39 ∷ []) (pieces_from false rest)))
 
--- behind a piece there is nothing, and then the pieces of the rest
+-- Behind a piece nothing follows, or the pieces of the rest do.
 pub record Follows (rest : List ℕ) : Type 0 where
   pub more : List (List ℕ)
   pub cut : pieces rest ≡ [] ∷ more
@@ -182,7 +183,7 @@ follows : (rest : List ℕ) → IsBehind rest → Follows rest
 follows [] h = record { more = []; cut = refl }
 follows (b ∷ rest) h = record { more = (b ∷ []) ∷ pieces rest; cut = mark_on b false rest (no_quote b h) (mark_out b h) }
 
--- what a piece comes to, by the name that it is
+-- what a piece becomes, by the name that it is
 piece_outcome : (n : ℕ) (piece rest : List ℕ) (name : Option Subject) → IsBehind rest → IsWhole piece → is_handle piece ≡ false → name_in piece ≡ name →
     outcome n (piece ++ rest) ≡ behind (text_at n name piece) (loan_at n name) (outcome (next_after n name) rest)
 piece_outcome n piece rest name r whole free e =

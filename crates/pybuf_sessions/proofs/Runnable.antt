@@ -1,4 +1,4 @@
--- Sessions of lines can be carried out.
+-- The sessions of lines can be carried out.
 use Rattle.std.proofs.Common.{◌≡◌, ℕ, zero, suc, ◌+◌, ◌<◌, ◌≤◌, Bool, true, false, cond, ◌==◌, List, [], ◌∷◌, ◌++◌, length, map, refl, ap, subst, arith, tests}
 use Rattle.std.specs.Prelude.{Option, Some, None, Result, Ok, Err, IfOk}
 use Rattle.std.specs.List.{All, AllByRecursion, list_any}
@@ -42,7 +42,7 @@ loans_fit : (n : ℕ) (all : List (List ℕ)) → all_fit (loans_from n all) ≡
 loans_fit n [] = refl
 loans_fit n (piece ∷ more) = loan_fits n (name_in piece) (loans_from (next_after n (name_in piece)) more) (loans_fit (next_after n (name_in piece)) more)
 
--- what a line asks is of one of 16 sessions, and what is lent to it fits
+-- What a line asks for is of one of 16 sessions, and what is lent to it fits.
 pub record IsProper (a : Ask) : Type 0 where
   pub session : a.session < 16
   pub fit : LoansFit a.command.loans

@@ -75,7 +75,7 @@ decimal_read bound n h most =
 decimal_plain : (n : ℕ) → n < 10 ^ 64 → IsPlain (decimal n)
 decimal_plain n h = digits_plain (decimal n) (decimal_is_IsNumeral_wide n h).0.1
 
--- a digit begins no name and no handle
+-- A digit begins neither a name nor a handle.
 digit_no_name : (c : ℕ) (cs : List ℕ) → is_ascii_digit c ≡ true → name_in (c ∷ cs) ≡ None
 digit_no_name c cs h = grind (arith, tests)
 
@@ -214,7 +214,7 @@ value_comes named all n (value.Slices slices) h k =
 
 -- ---- arguments
 
--- words with a blank before each, or nothing, stand behind a piece
+-- Words with a blank before each stand behind a piece, and so does nothing.
 rest_behind : (all : List (List ℕ)) (rest : List ℕ) → IsBehind rest → IsBehind (rest_text all ++ rest)
 rest_behind [] rest h = h
 rest_behind (word ∷ more) rest h = refl
@@ -235,7 +235,7 @@ values_come named each n (v ∷ more) h k =
     (value_comes named each n v h.0 (numbered_first n (handles_in v) rest k))
     (values_come named each (next_number n (handles_in v)) more h.1 (numbered_second n (handles_in v) rest k))
 
--- a word that is none of them stands before others
+-- A word that is neither a name nor a handle stands before others.
 plain_before : (named : ℕ → Subject) (n : ℕ) (k t : List ℕ) (us vs : List (List ℕ)) → Comes named n [] t t → Comes named n k (rest_text us) (rest_text vs) →
     Comes named n k (rest_text (t ∷ us)) (rest_text (t ∷ vs))
 plain_before named n k t us vs first rest = word_before named n [] k t t us vs first rest
@@ -252,14 +252,14 @@ method_comes : (named : ℕ → Subject) (n : ℕ) (m : MethodName) → Comes na
 method_comes named n name.Add = constant_comes named n (written_method name.Add) refl refl refl
 method_comes named n m = constant_comes named n (written_method m) refl refl refl
 
--- the handles of a verb are those of its values, one after the other
+-- The handles of a verb are those of its values, one after the other.
 alone : (v : Value) → handles_in v ≡ flat_map handles_in (v ∷ [])
 alone v = sym (append-nil (handles_in v))
 
 two : (v w : Value) → handles_in v ++ handles_in w ≡ flat_map handles_in (v ∷ w ∷ [])
 two v w = ap (λ l. handles_in v ++ l) (alone w)
 
--- as verbs have them
+-- the same for a list of values
 abbrev joined : List Value → List ℕ
 joined [] = []
 joined (v ∷ []) = handles_in v
@@ -353,12 +353,12 @@ word_unbroken : (w : Word) → list_all is_unbroken (written_word w) ≡ true
 word_unbroken word.New = refl
 word_unbroken _ = refl
 
--- a word, and others with a blank before each
+-- The first word stands alone, and each other word has a blank before it.
 joined_text : (first : List ℕ) (all : List (List ℕ)) → join_with_byte 32 (first ∷ all) ≡ first ++ rest_text all
 joined_text first [] = sym (append-nil first)
 joined_text first (next ∷ more) = ap (λ l. first ++ 32 ∷ l) (joined_text next more)
 
--- the words of a text that begins with one, and what stands behind it
+-- the words of a text that begins with a word, and what stands behind that word
 pub record IsFrontOf (text first behind_it : List ℕ) : Type 0 where
   pub others : List (List ℕ)
   pub cut : words text ≡ first ∷ others
@@ -378,7 +378,7 @@ session_read n h =
     let read : number_below 16 (decimal n) ≡ Some n = decimal_read 16 n h (omega arith) in
     grind (arith, tests, short, read)
 
--- a command that its text spells
+-- The text spells this command.
 local_read : (s : Subject) (v : Verb) (word text rest : List ℕ) (loans : List (ℕ × Loan)) →
     list_any is_handle (pieces text) ≡ false → handled_from 0 (pieces text) ≡ rest → loans_from 0 (pieces text) ≡ loans →
     command_in handle_in (word ++ 32 ∷ handle_text 0 ++ rest) ≡ Some (command.Do 0 v) → local_command_in s word text ≡ Some (record { subject = s; verb = v; loans = loans })
@@ -392,7 +392,7 @@ words_read session n word name text s others c number is behind_is reads =
     let local : local_command_in s word (rest_text others) ≡ Some c = ap (local_command_in s word) behind_is ∙ reads in
     rw (number, is, local) refl
 
--- the text with handles is that of the command
+-- The text with handles is that of the command.
 written_text : (v : Verb) → written_command handle_text (command.Do 0 v) ≡ (written_word (word_of v) ++ 32 ∷ handle_text 0) ++ rest_text (written_arguments handle_text v)
 written_text v =
     ap (λ l. written_word (word_of v) ++ 32 ∷ l) (joined_text (handle_text 0) (written_arguments handle_text v))

@@ -1,4 +1,4 @@
--- Receipts and sessions that are looked at one after the other.
+-- Receipts and sessions that are checked one after the other.
 use Rattle.std.proofs.Common.{◌≡◌, ℕ, zero, suc, ◌+◌, ◌<◌, ◌≤◌, Bool, true, false, List, [], ◌∷◌, ◌++◌, length, map, take, drop, get_or, Option, Some, None, refl, ap, sym, ◌∙◌, subst, arith, append_assoc, true≢false}
 use Rattle.std.specs.List.{All}
 use Rattle.std.proofs.lemmas.List.{take-append-drop, drop_more}
@@ -14,20 +14,20 @@ use Rattle.pybuf_share.specs.History.{Log}
 use Rattle.pybuf_share.specs.Sessions.{Asker, new_session, sessions_from}
 use Rattle.pybuf_share.specs.Finishing.{AreAll, Begins, NumbersRise, Refuses, numbers_from, parts_of, receipts_of, first_fall, order_fault, order_fault_or, Stands, IsRefused, Disagrees}
 
--- of fewer than two receipts none falls
+-- The numbers of fewer than two receipts rise.
 pub fall_short : (rs : List Receipt) → length rs ≤ 1 → first_fall rs ≡ None
 fall_short [] few = refl
 fall_short (r ∷ []) few = refl
 fall_short (r ∷ t ∷ rs) few = absurd (omega (arith, few))
 
--- one receipt more stands
+-- One more receipt stands.
 pub all_next : (entries : List Entry) (rs : List Receipt) (i : ℕ) (r : Receipt) → i < length rs → r ≡ get_or rs i r → All (Stands entries) (take i rs) → Stands entries r → All (Stands entries) (take (i + 1) rs)
 all_next entries rs i r within read all here = All-more (Stands entries) rs i r within all (subst (λ (x : Receipt). Stands entries x) read here)
 
 split_at : {X : Type 0} (xs : List X) (i : ℕ) (x : X) → i < length xs → x ≡ get_or xs i x → xs ≡ take i xs ++ x ∷ drop (i + 1) xs
 split_at xs i x within read = sym (take-append-drop i xs) ∙ ap (λ ys. take i xs ++ ys) (drop_more xs i x within ∙ ap (λ y. y ∷ drop (i + 1) xs) (sym read))
 
--- the first receipt that doesn't stand
+-- This is the first receipt that doesn't stand.
 pub disagrees_at : (entries : List Entry) (rs : List Receipt) (i : ℕ) (r : Receipt) (f : FinishFault) → i < length rs → r ≡ get_or rs i r → All (Stands entries) (take i rs) → IsRefused entries r f → Disagrees entries rs f
 disagrees_at entries rs i r fault.NoMemory within read all why = tt
 disagrees_at entries rs i r (fault.Disagree at kept got) within read all why = record { earlier = take i rs; receipt = r; later = drop (i + 1) rs; are = split_at rs i r within read; stand = all; away = why }
@@ -38,7 +38,7 @@ receipts_append : (xs ys : List Asker) → receipts_of (xs ++ ys) ≡ receipts_o
 receipts_append [] ys = refl
 receipts_append (x ∷ xs) ys = ap (λ (l : List Receipt). x.receipts ++ l) (receipts_append xs ys) ∙ sym (append_assoc x.receipts (receipts_of xs) (receipts_of ys))
 
--- of the receipts of all sessions
+-- This is the first of the receipts of all sessions that doesn't stand.
 pub disagrees_in : (entries : List Entry) (ss : List Asker) (i : ℕ) (s : Asker) (f : FinishFault) → i < length ss → s ≡ get_or ss i s → All (Stands entries) (receipts_of (take i ss)) → Disagrees entries s.receipts f
     → Disagrees entries (receipts_of ss) f
 disagrees_in entries ss i s fault.NoMemory within read all why = tt
@@ -70,7 +70,7 @@ order_only : (ss : List Asker) (f : FinishFault) → order_fault ss ≡ Some f �
 order_only [] f e = absurd (none-some {A = FinishFault} f e)
 order_only (s ∷ ss) f e = order_or s.number (first_fall s.receipts) (order_fault ss) f (order_only ss f) e
 
--- numbers that don't rise are why sessions are refused
+-- Receipt numbers that don't rise are why the sessions are refused.
 pub order_refuses : (log : Log) (k : ExporterKind) (bytes : List ℕ) (ss : List Asker) (f : FinishFault) → Begins log k bytes → order_fault ss ≡ Some f → Refuses log k bytes ss f
 order_refuses log k bytes ss fault.NoMemory begins e = tt
 order_refuses log k bytes ss (fault.Order session before after) begins e = record { begins = begins; first = e }
@@ -88,11 +88,11 @@ parts_are k (suc n) =
     let sum = sum_by-cons (λ (s : Asker). s.parts) (new_session k) (sessions_from (suc k) n) in
     omega (arith, rest, sum)
 
--- the sessions at the beginning are all
+-- The sessions at the beginning are all sessions.
 pub all_made : (ss : List Asker) (n parts : ℕ) → ss ≡ sessions_from 0 n → n ≡ parts → AreAll parts ss
 all_made ss n parts are many = subst (λ (l : List Asker). AreAll parts l) (sym are) (record { numbers = numbers_are 0 n; whole = parts_are 0 n ∙ many })
 
--- a receipt that doesn't stand is why sessions are refused
+-- A receipt that doesn't stand is why the sessions are refused.
 pub disagreement_refuses : (log : Log) (k : ExporterKind) (bytes : List ℕ) (ss : List Asker) (f : FinishFault) → Begins log k bytes → NumbersRise ss → Disagrees log.entries (receipts_of ss) f → Refuses log k bytes ss f
 disagreement_refuses log k bytes ss fault.NoMemory begins rise why = tt
 disagreement_refuses log k bytes ss (fault.Disagree at kept got) begins rise why = record { begins = begins; rise = rise; first = why }

@@ -1,4 +1,4 @@
--- Receipts that follow a script, one command at a time.
+-- The receipts of a session follow its script, one command at a time.
 use Rattle.std.proofs.Common.{◌≡◌, ℕ, suc, ◌+◌, ◌<◌, true, List, [], ◌∷◌, ◌++◌, length, map, take, drop, get_or, subst, Option, Some, None, slice_get, refl, ap, ap₂, sym, ◌∙◌, arith, append_assoc}
 use Rattle.std.specs.List.{All, flat_map, Contains}
 use Rattle.std.proofs.lemmas.Bool.{and_parts, and_from}
@@ -14,7 +14,7 @@ use Rattle.pybuf_share.specs.declared.entries.Receipt.{Receipt}
 use Rattle.pybuf_share.specs.Sessions.{view_given, iterator_given, replies_given}
 use Rattle.pybuf_share.specs.Joining.{view_lent, iterator_lent, resolved_loan, resolved_loans, resolve, resolved_from, Follows}
 
--- what is lent in place of a session's own count fits
+-- What is lent fits, after the number that it counts is looked up.
 view_fits : (given : Option ℕ) → fits (view_lent given) ≡ true
 view_fits (Some k) = refl
 view_fits None = refl
@@ -41,7 +41,7 @@ resolved_length before replies [] = refl
 resolved_length before [] (c ∷ cs) = let rest = resolved_length before [] cs in omega (arith, rest)
 resolved_length before (r ∷ rs) (c ∷ cs) = let rest = resolved_length (before ++ r ∷ []) rs cs in omega (arith, rest)
 
--- one command more, and the reply to it
+-- one more command, and the reply to it
 resolved_more : (before rs : List LocalReply) (cs : List LocalCommand) (r : LocalReply) (c : LocalCommand) → length rs ≡ length cs
     → resolved_from before (rs ++ r ∷ []) (cs ++ c ∷ []) ≡ resolved_from before rs cs ++ resolve c (before ++ rs) ∷ []
 resolved_more before [] [] r c len = ap (λ (b : List LocalReply). resolve c b ∷ []) (sym (append-nil before))
@@ -72,7 +72,7 @@ pub replies_are : (rs : List Receipt) → map (λ (x : Entry). x.reply) (map (λ
 replies_are [] = refl
 replies_are (r ∷ rs) = ap (λ (l : List LocalReply). r.entry.reply ∷ l) (replies_are rs)
 
--- a session with one receipt more follows one command more of its script
+-- A session with one more receipt follows one more command of its script.
 pub follows_next : (rs new_rs : List Receipt) (r : Receipt) (script : List LocalCommand) (n : ℕ) (c : LocalCommand) → new_rs ≡ rs ++ r ∷ [] → n < length script → c ≡ get_or script n c
     → r.entry.command ≡ resolve c (replies_given rs) → Follows (map (λ r. r.entry) rs) (take n script) → Follows (map (λ r. r.entry) new_rs) (take (n + 1) script)
 follows_next rs new_rs r script n c more within read is follows =
@@ -83,7 +83,7 @@ follows_next rs new_rs r script n c more within read is follows =
     subst (λ (xs : List Entry). Follows xs (take (n + 1) script)) (sym all)
     (subst (λ (cs : List LocalCommand). Follows (map entry_of rs ++ r.entry ∷ []) cs) (sym script_more) (follows_more (map entry_of rs) r.entry (take n script) c follows named))
 
--- a receipt whose command is one of a script, with its views and iterators named by some replies
+-- A receipt's command is one of the script, and its views and iterators are named as some replies name them.
 abbrev pub Named : List LocalCommand → Receipt → Type 0
 Named script r = (c : LocalCommand) × (replies : List LocalReply) × Contains script c × (r.entry.command ≡ resolve c replies)
 
@@ -110,6 +110,6 @@ named_from before (r ∷ rs) (c ∷ cs) e =
     All-cons (Named (c ∷ cs)) r rs (c, before, (0, omega arith, refl), same_first r.entry.command (resolve c before) xs ys e)
     (All-weaker (Named cs) (Named (c ∷ cs)) (named_more c cs) rs (named_from (before ++ r.entry.reply ∷ []) rs cs (same_rest r.entry.command (resolve c before) xs ys e)))
 
--- each receipt of a session that follows a script is of one of its commands
+-- If a session follows a script, each of its receipts is of one of the script's commands.
 pub all_named : (rs : List Receipt) (script : List LocalCommand) → Follows (map (λ r. r.entry) rs) script → All (Named script) rs
 all_named rs script follows = named_from [] rs script follows

@@ -1,4 +1,4 @@
--- Histories that sessions agree with, or don't.
+-- Histories, and the sessions that agree with them or don't.
 use Rattle.std.proofs.Common.{◌≡◌, ◌⊎◌, ℕ, ◌<◌, ◌≤◌, List, length, get_or, None, slice_get, ap, ap₂, sym, ◌∙◌, subst, inl, inr}
 use Rattle.std.specs.List.{All}
 use Rattle.std.proofs.lemmas.Bool.{cases_lt}
@@ -14,7 +14,7 @@ use Rattle.pybuf_share.specs.Sessions.{Asker}
 use Rattle.pybuf_share.specs.Finishing.{AreAll, Agree, IsJoined, IsOwn, ArePlain, AreTheirs, Refuses, RefusesAtLast, Stands, receipts_of, calls_of}
 use Rattle.pybuf_share.proofs.Theirs.{theirs}
 
--- what is kept under the lock, handed out
+-- what is kept under the lock, as it is given out
 pub joined_is : (log : Log) (k : ExporterKind) (bytes : List ℕ) (ss : List Asker) (state : Exporter) (total : ℕ) (joined : Joined) → Agree log k bytes ss → IsKept log state total
     → joined.kind ≡ k → joined.opening ≡ bytes → joined.entries ≡ log.entries → joined.state.exporter ≡ state → IsJoined k bytes ss joined
 joined_is log k bytes ss state total joined agree kept kind opening entries state_is =
@@ -33,7 +33,7 @@ pub theirs_are : (log : Log) (k : ExporterKind) (bytes : List ℕ) (ss : List As
 theirs_are log k bytes ss state total parts agree kept all own counted plain =
     theirs log.entries ss all.numbers agree.rise agree.stand (λ i d within. (own i d within).counted (plain i d within)) (λ i d within. (own i d within).own (plain i d within)) (sym kept.counted ∙ counted)
 
--- where nothing stands the list has ended
+-- If nothing stands at a place, the list ends there or before.
 ended_by : (xs : List Entry) (i : ℕ) (d : Entry) → slice_get xs i ≡ None → (i < length xs) ⊎ (length xs ≤ i) → length xs ≤ i
 ended_by xs i d none (inl within) = absurd (none-some {A = Entry} (get_or xs i d) (sym none ∙ slice_get-get_or xs i d within))
 ended_by xs i d none (inr past) = past
@@ -41,7 +41,7 @@ ended_by xs i d none (inr past) = past
 ended : (xs : List Entry) (i : ℕ) (d : Entry) → slice_get xs i ≡ None → length xs ≤ i
 ended xs i d none = ended_by xs i d none (cases_lt i (length xs))
 
--- why sessions are refused, as far as they can tell
+-- why the sessions are refused, as far as the receipts tell
 pub refused_at_last : (log : Log) (o : Opening) (ss : List Asker) (f : FinishFault) → length log.entries ≡ calls_of ss → Refuses log o.kind o.bytes ss f → RefusesAtLast o ss f
 refused_at_last log o ss fault.NoMemory counted why = tt
 refused_at_last log o ss (fault.Order session before after) counted why = why.first

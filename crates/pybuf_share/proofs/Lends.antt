@@ -1,4 +1,4 @@
--- Bytes that are lent to a command for one more handle.
+-- Bytes that are lent to a command as the loan for one more handle.
 use Rattle.std.proofs.Common.{◌≡◌, ◌⊎◌, inl, inr, ℕ, Bool, true, false, List, [], ◌∷◌, ◌++◌, Option, Some, None, Result, Ok, Err, refl, ap, ap₂, sym, ◌∙◌, subst}
 use Rattle.std.specs.Prelude.{◌≢◌, ◌&&◌, ◌==◌, if◌then◌else◌, OnOk}
 use Rattle.std.proofs.lemmas.Bool.{eq-eqb}
@@ -18,18 +18,18 @@ use Rattle.pybuf_state.specs.Sound.{IsSoundView}
 use Rattle.pybuf_share.specs.Sessions.{Asker, IsAnswered}
 use Rattle.pybuf_share.specs.Carrying.{snap_of_bytes, with_bytes, AreLent, HasTaken}
 
--- what an exporter of kind bytes lends fits
+-- What an exporter of kind bytes lends fits.
 bytes_fit : SubjectsFit → (bytes : List ℕ) → fits (loan.Other (snap_of_bytes bytes)) ≡ true
 bytes_fit fit bytes = fit (new_exporter exporter_kind.Bytes bytes) subject.Own (record { views = All-nil (IsSoundView exporter_kind.Bytes bytes) })
 
--- so loans that fit do with it
+-- So loans that fit still fit after it is added.
 pub more_fit : SubjectsFit → (loans : List (ℕ × Loan)) (handle : ℕ) (bytes : List ℕ) → all_fit loans ≡ true → all_fit (loans ++ (handle, loan.Other (snap_of_bytes bytes)) ∷ []) ≡ true
 more_fit fit loans handle bytes is =
     let one = (handle, loan.Other (snap_of_bytes bytes)) ∷ [] in
     list_all-append (λ (pair : ℕ × Loan). fits pair.1) loans one
     ∙ ap₂ (λ a b. a && b) is (ap (λ (b : Bool). b && true) (bytes_fit fit bytes))
 
--- a pair behind the others is found where none of them is
+-- A pair behind the others is found if none of these is.
 found_by : (b : Bool) (first : Loan) (rest more : Option Loan) (l : Loan) → (if b then Some first else rest) ≡ None → (rest ≡ None → more ≡ Some l) → (if b then Some first else more) ≡ Some l
 found_by true first rest more l none found = absurd (none-some first (sym none))
 found_by false first rest more l none found = found none
@@ -39,7 +39,7 @@ found_behind [] handle l none = ap (λ (same : Bool). if same then Some l else N
 found_behind (pair ∷ pairs) handle l none =
     found_by (pair.0 == handle) pair.1 (loan_of pairs handle) (loan_of (pairs ++ (handle, l) ∷ []) handle) l none (found_behind pairs handle l)
 
--- and of no other handle is it looked at
+-- It isn't looked at for any other handle.
 not_looked_at : (handle h : ℕ) (l : Loan) → h ≢ handle → (((handle == h) ≡ true) × (handle ≡ h)) ⊎ (((handle == h) ≡ false) × (handle ≢ h)) → (if handle == h then Some l else None) ≡ None
 not_looked_at handle h l other (inl same) = absurd (other (sym same.1))
 not_looked_at handle h l other (inr differs) = ap (λ (same : Bool). if same then Some l else None) differs.0
@@ -54,14 +54,14 @@ are_lent handle bytes command none = record {
   others = λ h other. others_behind command.loans handle h (loan.Other (snap_of_bytes bytes)) other;
 }
 
--- a session that was answered has taken them
+-- A session that got an answer has taken the bytes.
 pub has_taken : (before after : Asker) (command lent : LocalCommand) (handle : ℕ) (bytes : List ℕ) → loan_of command.loans handle ≡ None → lent ≡ with_bytes handle bytes command → IsAnswered before lent after → HasTaken before command handle bytes after
 has_taken before after command lent handle bytes none is answered = record {
   answered = subst (λ (c : LocalCommand). IsAnswered before c after) is answered;
   lent = are_lent handle bytes command none;
 }
 
--- what follows where a call succeeds
+-- What follows holds if the call succeeds.
 pub on_ok : {A E : Type 0} {P Q : Type 0} (r : Result A E) → (P → Q) → OnOk r P → OnOk r Q
 on_ok (Ok x) f p = f p
 on_ok (Err e) f p = p

@@ -1,4 +1,4 @@
--- What sessions that have carried out their scripts make of a history.
+-- What the sessions that have carried out their scripts make of a history.
 use Rattle.std.proofs.Common.{◌≡◌, ℕ, zero, suc, ◌+◌, ◌<◌, ◌≤◌, Bool, true, false, nat_lt, List, [], ◌∷◌, ◌++◌, length, map, get_or, drop, Option, Some, None, slice_get, Result, Ok, Err, IfOk, IfErr, if◌then◌else◌, refl, ap, sym, ◌∙◌, arith, subst}
 use Rattle.std.specs.List.{All, sum_by}
 use Rattle.std.proofs.lemmas.List.Elements.{All-nil, All-cons, All-head, All-tail, All-append}
@@ -21,7 +21,7 @@ use Rattle.pybuf_share.proofs.Follows.{Named, all_named}
 use Rattle.pybuf_share.proofs.Theirs.{All-behind}
 use Rattle.pybuf_share.proofs.Works.{many_sessions}
 
--- what workers have at their posts
+-- The numbers of the workers' sessions are those of their posts.
 numbers_by : (ws : List Work) → map (λ s. s.number) (map (λ w. w.asker) ws) ≡ map (λ (p : Post). p.number) (map post_of ws)
 numbers_by [] = refl
 numbers_by (w ∷ ws) = ap (λ (l : List ℕ). w.asker.number ∷ l) (numbers_by ws)
@@ -38,7 +38,7 @@ parts_by (w ∷ ws) =
     let there = sum_by-cons (λ (p : Post). p.parts) (post_of w) (map post_of ws) in
     omega (arith, rest, here, there)
 
--- before they work
+-- the sessions before the workers begin
 askers_before : (k : ℕ) (scripts : List (List LocalCommand)) → map (λ w. w.asker) (works_from k scripts) ≡ sessions_from k (length scripts)
 askers_before k [] = refl
 askers_before k (script ∷ scripts) = ap (λ (l : List Asker). (record { number = k; receipts = []; parts = 1; calls = 0; is_plain = true }) ∷ l) (askers_before (suc k) scripts)
@@ -47,18 +47,18 @@ scripts_before : (k : ℕ) (scripts : List (List LocalCommand)) → map (λ w. w
 scripts_before k [] = refl
 scripts_before k (script ∷ scripts) = ap (λ (l : List (List LocalCommand)). script ∷ l) (scripts_before (suc k) scripts)
 
--- the scripts are the same after
+-- The scripts are the same afterwards.
 scripts_after : (scripts : List (List LocalCommand)) (ws : List Work) → map post_of ws ≡ map post_of (works_from 0 scripts) → map (λ w. w.script) ws ≡ scripts
 scripts_after scripts ws posts = scripts_by ws ∙ ap (λ (ps : List Post). map (λ (p : Post). p.script) ps) posts ∙ sym (scripts_by (works_from 0 scripts)) ∙ scripts_before 0 scripts
 
--- as many sessions have done their scripts as there are scripts
+-- As many sessions have done their scripts as there are scripts.
 many_done : (scripts : List (List LocalCommand)) (ss : List Asker) → HaveDone scripts ss → length ss ≡ length scripts
 many_done [] [] done = refl
 many_done [] (s ∷ ss) done = absurd done
 many_done (script ∷ scripts) [] done = absurd done
 many_done (script ∷ scripts) (s ∷ ss) done = let rest = many_done scripts ss done.1 in omega (arith, rest)
 
--- and the sessions are still all
+-- The sessions are still all sessions.
 still_all : (parts : ℕ) (scripts : List (List LocalCommand)) (ws : List Work) (made ss : List Asker) → made ≡ sessions_from 0 (length scripts) → AreAll parts made → map post_of ws ≡ map post_of (works_from 0 scripts) → ss ≡ map (λ w. w.asker) ws
     → HaveDone scripts ss → AreAll parts ss
 still_all parts scripts ws made ss made_is all posts are done =
@@ -83,7 +83,7 @@ all_plain [] (s ∷ ss) done = absurd done
 all_plain (script ∷ scripts) [] done = absurd done
 all_plain (script ∷ scripts) (s ∷ ss) done = All-cons (λ (t : Asker). t.is_plain ≡ true) s ss done.0.plain (all_plain scripts ss done.1)
 
--- the session of a script
+-- the session that did a script
 record DoneAt (ss : List Asker) (i : ℕ) (script : List LocalCommand) : Type 0 where
   pub session : Asker
   pub there : slice_get ss i ≡ Some session
@@ -111,7 +111,7 @@ all_at P [] i s all is = absurd (none-some {A = Asker} s is)
 all_at P (t ∷ ss) zero s all is = subst P (same_Some {A = Asker} t s is) (All-head P t ss all)
 all_at P (t ∷ ss) (suc i) s all is = all_at P ss i s (All-tail P t ss all) is
 
--- the entries of a session that has done its script follow it
+-- The entries of a session that has done its script follow it.
 followed : (scripts : List (List LocalCommand)) (ss : List Asker) (entries : List Entry) → map (λ s. s.number) ss ≡ numbers_from 0 (length ss) → HaveDone scripts ss → AreTheirs ss entries → (i : ℕ) (script : List LocalCommand) → slice_get scripts i ≡ Some script
     → Follows (entries_of i entries) script
 followed scripts ss entries numbers done theirs i script is =
@@ -121,7 +121,7 @@ followed scripts ss entries numbers done theirs i script is =
     let own : entries_of at.session.number entries ≡ map (λ (r : Receipt). r.entry) at.session.receipts = all_at (λ (s : Asker). entries_of s.number entries ≡ map (λ (r : Receipt). r.entry) s.receipts) ss i at.session theirs.each at.there in
     subst (λ (xs : List Entry). Follows xs script) (sym own ∙ ap (λ (n : ℕ). entries_of n entries) number) at.done.follows
 
--- what is put together of them
+-- the history that joins them
 is_run : (k : ExporterKind) (bytes : List ℕ) (scripts : List (List LocalCommand)) (ss : List Asker) (parts : ℕ) (joined : Joined) → AreAll parts ss → HaveDone scripts ss → IsJoined k bytes ss joined → (ArePlain ss → AreTheirs ss joined.entries)
     → IsRun k bytes scripts joined
 is_run k bytes scripts ss parts joined all done joined_of theirs_of =
@@ -137,7 +137,7 @@ is_run k bytes scripts ss parts joined all done joined_of theirs_of =
       joins = record { known = subst (λ (n : ℕ). All (λ (x : Entry). x.session < n) joined.entries) many theirs.known; each = followed scripts ss joined.entries all.numbers done theirs };
     }
 
--- numbers that don't rise
+-- These numbers don't rise.
 fall_by : (b : Bool) (x y : ℕ) (others : Option (ℕ × ℕ)) (pair : ℕ × ℕ) → nat_lt x y ≡ b → (others ≡ Some pair → pair.1 ≤ pair.0) → (if b then others else Some (x, y)) ≡ Some pair → pair.1 ≤ pair.0
 fall_by true x y others pair is rest e = rest e
 fall_by false x y others pair is rest e =
@@ -178,7 +178,7 @@ falls_in k n (s ∷ ss) session before after most are e =
     let here : s.number ≡ k = first_number k s ss are in
     falls_in_by s n session before after (first_fall s.receipts) (order_fault ss) (omega (arith, here, most)) (fall_is s.receipts) (falls_in (suc k) n ss session before after (omega (arith, most)) (other_numbers k s ss are)) e
 
--- each receipt is of a command of a script
+-- Each receipt is of a command of a script.
 all_of_scripts : (whole : List (List LocalCommand)) (k : ℕ) (scripts : List (List LocalCommand)) (ss : List Asker) → ((i : ℕ) (script : List LocalCommand) → slice_get scripts i ≡ Some script → slice_get whole (k + i) ≡ Some script)
     → map (λ s. s.number) ss ≡ numbers_from k (length ss) → HaveDone scripts ss → All (λ r. IsOfScripts whole r.entry) (receipts_of ss)
 all_of_scripts whole k [] [] at are done = All-nil (λ (r : Receipt). IsOfScripts whole r.entry)
@@ -199,7 +199,7 @@ all_of_scripts whole k (script ∷ scripts) (s ∷ ss) at are done =
     all_of_scripts whole (suc k) scripts ss (λ i x is. let next : suc k + i ≡ k + suc i = omega arith in ap (λ (n : ℕ). slice_get whole n) next ∙ at (suc i) x is) (other_numbers k s ss are) done.1
     )
 
--- why nothing is put together
+-- why no history joins them
 is_not_run : (k : ExporterKind) (bytes : List ℕ) (scripts : List (List LocalCommand)) (ss : List Asker) (parts : ℕ) (f : FinishFault) → AreAll parts ss → HaveDone scripts ss → RefusesAtLast (record { kind = k; bytes = bytes }) ss f → IsNotRun k bytes scripts f
 is_not_run k bytes scripts ss parts fault.NoMemory all done why = tt
 is_not_run k bytes scripts ss parts (fault.Opening given_kind given kept_kind kept) all done why = why

@@ -1,4 +1,4 @@
--- Entries that join scripts are all the commands of these.
+-- Entries that join scripts are all the commands of these scripts.
 use Rattle.std.proofs.Common.{◌≡◌, ℕ, zero, suc, ◌+◌, ◌<◌, List, [], ◌∷◌, ◌++◌, length, map, take, Some, slice_get, refl, ap, sym, ◌∙◌, arith, inl, inr, append_assoc}
 use Rattle.std.specs.List.{All, sum_by}
 use Rattle.std.proofs.lemmas.List.{append-nil}
@@ -14,7 +14,7 @@ use Rattle.pybuf_share.specs.Laws.{AreTheScripts}
 use Rattle.pybuf_share.proofs.Follows.{follows_length, same_first, same_rest}
 use Rattle.pybuf_share.proofs.Theirs.{MoreIf, Among, many_of, many_more, many_none}
 
--- where each entry's session is among these, they have all entries
+-- If each entry's session is one of these, they have all entries.
 all_counted_by : (x : Entry) (h : List Entry) (n : ℕ) → x.session < n → many_of h (numbers_from 0 n) ≡ length h → MoreIf (Among 0 n x.session) (many_of (x ∷ h) (numbers_from 0 n)) (many_of h (numbers_from 0 n)) → many_of (x ∷ h) (numbers_from 0 n) ≡ length (x ∷ h)
 all_counted_by x h n known rest (inl more) = let m = more.1 in omega (arith, rest, m)
 all_counted_by x h n known rest (inr none) = absurd (none.0 (omega arith, omega (arith, known)))
@@ -23,7 +23,7 @@ all_counted : (h : List Entry) (n : ℕ) → All (λ x. x.session < n) h → man
 all_counted [] n known = many_none (numbers_from 0 n)
 all_counted (x ∷ h) n known = all_counted_by x h n (All-head (λ y. y.session < n) x h known) (all_counted h n (All-tail (λ y. y.session < n) x h known)) (many_more x h 0 n)
 
--- the entries of sessions whose entries are as many as their scripts
+-- If the sessions have as many entries as their scripts have commands, the sums are the same.
 sum_counted : (k : ℕ) (scripts : List (List LocalCommand)) (entries : List Entry) → ((i : ℕ) (script : List LocalCommand) → slice_get scripts i ≡ Some script → length (entries_of (k + i) entries) ≡ length script)
     → many_of entries (numbers_from k (length scripts)) ≡ sum_by length scripts
 sum_counted k [] entries each = refl
@@ -34,7 +34,7 @@ sum_counted k (script ∷ scripts) entries each =
     let sum = sum_by-cons (λ (s : List LocalCommand). length s) script scripts in
     omega (arith, first, rest, sum)
 
--- the entry at a place, and the command of the script there
+-- the entry at a place, and the command of the script at that place
 follows_at : (before : List LocalReply) (xs : List Entry) (script : List LocalCommand) (n : ℕ) (c : LocalCommand) → map (λ x. x.command) xs ≡ resolved_from before (map (λ x. x.reply) xs) script → slice_get script n ≡ Some c
     → (x : Entry) × (slice_get xs n ≡ Some x) × (x.command ≡ resolve c (before ++ map (λ y. y.reply) (take n xs)))
 follows_at before xs [] n c e is = absurd (none-some {A = LocalCommand} c is)

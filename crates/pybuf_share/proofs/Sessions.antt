@@ -1,4 +1,4 @@
--- One more receipt of a session.
+-- A session gets one more receipt.
 use Rattle.std.proofs.Common.{◌≡◌, ℕ, zero, suc, arith, ◌+◌, List, [], ◌∷◌, ◌++◌, length, ap, sym, ◌∙◌, append_assoc, length-append}
 use Rattle.std.proofs.lemmas.List.{append-nil}
 use Rattle.pybuf_share.specs.declared.entries.Receipt.{Receipt}
@@ -13,7 +13,7 @@ iterators_more [] r = append-nil (iterator_given r.entry.reply)
 iterators_more (x ∷ rs) r =
     ap (λ ks. iterator_given x.entry.reply ++ ks) (iterators_more rs r) ∙ sym (append_assoc (iterator_given x.entry.reply) (iterators_given rs) (iterator_given r.entry.reply))
 
--- the views and the iterators that are kept stay those that the receipts give
+-- The views and iterators that are kept stay those that the receipts give.
 pub views_kept : (rs new_rs : List Receipt) (r : Receipt) (ks new_ks : List ℕ) → new_rs ≡ rs ++ r ∷ [] → new_ks ≡ ks ++ view_given r.entry.reply → ks ≡ views_given rs → new_ks ≡ views_given new_rs
 views_kept rs new_rs r ks new_ks more view kept = view ∙ ap (λ (l : List ℕ). l ++ view_given r.entry.reply) kept ∙ sym (views_more rs r) ∙ ap views_given (sym more)
 
@@ -23,7 +23,7 @@ iterators_kept rs new_rs r ks new_ks more iterator kept = iterator ∙ ap (λ (l
 pub one_more : (rs new_rs : List Receipt) (r : Receipt) → new_rs ≡ rs ++ r ∷ [] → length new_rs ≡ length rs + 1
 one_more rs new_rs r more = ap length more ∙ length-append rs (r ∷ [])
 
--- one more session behind those that are made
+-- One more session is made behind the others.
 sessions_behind : (k n : ℕ) → sessions_from k (suc n) ≡ sessions_from k n ++ new_session (k + n) ∷ []
 sessions_behind k zero = let same : k ≡ k + zero = omega arith in ap (λ (m : ℕ). new_session m ∷ []) same
 sessions_behind k (suc n) =

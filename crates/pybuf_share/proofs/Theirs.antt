@@ -1,4 +1,5 @@
--- Receipts that stand at rising numbers, as many as there are entries, are exactly the entries of their sessions.
+-- Receipts stand at rising numbers, and there are as many as entries. Then they are exactly the entries of
+-- their sessions.
 use Rattle.std.proofs.Common.{◌≡◌, ◌⊎◌, ℕ, zero, suc, ◌+◌, ◌-◌, ◌<◌, ◌≤◌, ◌==◌, Bool, true, false, List, [], ◌∷◌, ◌++◌, length, map, Option, Some, None, slice_get, nat_lt, if◌then◌else◌, refl, ap, sym, ◌∙◌, arith, inl, inr}
 use Rattle.std.specs.List.{All}
 use Rattle.std.proofs.lemmas.Bool.{cases_order}
@@ -14,17 +15,17 @@ use Rattle.pybuf_share.specs.Sessions.{Asker}
 use Rattle.pybuf_share.specs.Joining.{entries_of}
 use Rattle.pybuf_share.specs.Finishing.{numbers_from, receipts_of, first_fall, order_fault, order_fault_or, NumbersRise, Stands, AreTheirs, calls_of}
 
--- numbers of receipts that rise, from a number on
+-- The numbers of the receipts rise from `low` on.
 abbrev RiseFrom : ℕ → List Receipt → Type 0
 RiseFrom o [] = Unit {0}
 RiseFrom o (r ∷ rs) = (o ≤ r.at) × RiseFrom (suc r.at) rs
 
--- receipts of a session that stand in what is left of a history from a number on
+-- The receipts of a session stand in what is left of a history, from a number on.
 abbrev StandFrom : ℕ → ℕ → List Entry → List Receipt → Type 0
 StandFrom s o h [] = Unit {0}
 StandFrom s o h (r ∷ rs) = (slice_get h (r.at - o) ≡ Some r.entry) × (r.entry.session ≡ s) × StandFrom s o h rs
 
--- what holds of two lists behind one another holds of each
+-- What holds of two lists, one behind the other, holds of each.
 All-front : (P : Receipt → Type 0) (xs ys : List Receipt) → All P (xs ++ ys) → All P xs
 All-front P [] ys all = All-nil P
 All-front P (x ∷ xs) ys all = All-cons P x xs (All-head P x (xs ++ ys) all) (All-front P xs ys (All-tail P x (xs ++ ys) all))
@@ -56,7 +57,7 @@ stand_all s h (r ∷ rs) stand own =
       stand_all s h rs (All-tail (Stands h) r rs stand) (All-tail (λ x. x.entry.session ≡ s) r rs own),
     )
 
--- what stands behind the first entry stands in the rest
+-- What stands behind the first entry stands in the rest.
 stand_on : (s o low : ℕ) (x : Entry) (h : List Entry) (rs : List Receipt) → suc o ≤ low → RiseFrom low rs → StandFrom s o (x ∷ h) rs → StandFrom s (suc o) h rs
 stand_on s o low x h [] over rise stand = tt
 stand_on s o low x h (r ∷ rs) over rise stand =
@@ -71,7 +72,7 @@ rise_on : (o low : ℕ) (rs : List Receipt) → o ≤ low → RiseFrom low rs �
 rise_on o low [] le rise = tt
 rise_on o low (r ∷ rs) le rise = let first = rise.0 in (omega (arith, le, first), rise.1)
 
--- a session has at most as many receipts as entries, and where as many, its entries are those of the receipts
+-- A session has at most as many receipts as entries. If it has as many, its entries are those of its receipts.
 abbrev Exact : List Entry → List Receipt → Type 0
 Exact xs rs = (length rs ≤ length xs) × (length rs ≡ length xs → xs ≡ map (λ r. r.entry) rs)
 
@@ -102,16 +103,16 @@ exact s o h [] rise stand = (omega arith, λ e. nil_from_length (entries_of s h)
 exact s o [] (r ∷ rs) rise stand = absurd (none-some {A = Entry} r.entry stand.0)
 exact s o (x ∷ h) (r ∷ rs) rise stand = exact_at s o x h r rs (exact s (suc o) h) rise stand (cases_order r.at o)
 
--- how many entries these sessions have
+-- how many entries these sessions have together
 abbrev pub many_of : List Entry → List ℕ → ℕ
 many_of h [] = 0
 many_of h (k ∷ ks) = length (entries_of k h) + many_of h ks
 
--- a number that is one more where something holds, and else the same
+-- A number is one more than another if something holds, and otherwise the same.
 abbrev pub MoreIf : Type 0 → ℕ → ℕ → Type 0
 MoreIf P new old = (P × (new ≡ old + 1)) ⊎ ((P → ⊥) × (new ≡ old))
 
--- a session among so many numbers
+-- A session is one of n sessions from a number on.
 abbrev pub Among : ℕ → ℕ → ℕ → Type 0
 Among a n s = (a ≤ s) × (s < a + n)
 
@@ -130,7 +131,7 @@ either_more a n s hn ho tn to (inl here) (inr there) = let e = here.0 in let m =
 either_more a n s hn ho tn to (inr here) (inl there) = let m = here.1 in let l = there.0.0 in let u = there.0.1 in let k = there.1 in inl ((omega (arith, l), omega (arith, u)), omega (arith, m, k))
 either_more a n s hn ho tn to (inr here) (inr there) = let m = here.1 in let k = there.1 in inr (λ in'. not_first a n s here.0 there.0 in' (cases_order s a), omega (arith, m, k))
 
--- one entry more is one more of one of these sessions, or of none
+-- One more entry is one more of one of these sessions, or of none.
 pub many_more : (x : Entry) (h : List Entry) (a n : ℕ) → MoreIf (Among a n x.session) (many_of (x ∷ h) (numbers_from a n)) (many_of h (numbers_from a n))
 many_more x h a zero = inr (λ in'. let low = in'.0 in let high = in'.1 in omega (arith, low, high), refl)
 many_more x h a (suc n) =
@@ -150,7 +151,7 @@ many_at_most : (h : List Entry) (n : ℕ) → many_of h (numbers_from 0 n) ≤ l
 many_at_most [] n = let none = many_none (numbers_from 0 n) in omega (arith, none)
 many_at_most (x ∷ h) n = many_by x h n (many_at_most h n) (many_more x h 0 n)
 
--- where each entry is one of theirs, each entry's session is among them
+-- If all entries are counted, each entry's session is one of these.
 known_by : (x : Entry) (h : List Entry) (n : ℕ) → (many_of h (numbers_from 0 n) ≡ length h → All (λ y. y.session < n) h) → many_of (x ∷ h) (numbers_from 0 n) ≡ length (x ∷ h)
     → MoreIf (Among 0 n x.session) (many_of (x ∷ h) (numbers_from 0 n)) (many_of h (numbers_from 0 n)) → All (λ y. y.session < n) (x ∷ h)
 known_by x h n rest e (inl more) = let high = more.0.1 in let m = more.1 in All-cons (λ y. y.session < n) x h (omega (arith, high)) (rest (omega (arith, e, m)))
@@ -160,7 +161,7 @@ all_known : (h : List Entry) (n : ℕ) → many_of h (numbers_from 0 n) ≡ leng
 all_known [] n e = All-nil (λ (x : Entry). x.session < n)
 all_known (x ∷ h) n e = known_by x h n (all_known h n) e (many_more x h 0 n)
 
--- of each of these sessions
+-- The same holds of each of these sessions.
 abbrev AllExact : List Entry → List Asker → Type 0
 AllExact h [] = Unit {0}
 AllExact h (s ∷ ss) = Exact (entries_of s.number h) s.receipts × AllExact h ss
@@ -188,7 +189,7 @@ exact_at_most h (s ∷ ss) all =
     let sum = length-append s.receipts (receipts_of ss) in
     omega (arith, here, there, sum)
 
--- as many receipts as entries: none is left out
+-- If there are as many receipts as entries, no entry is left out.
 exact_all : (h : List Entry) (ss : List Asker) → AllExact h ss → length (receipts_of ss) ≡ many_of h (map (λ s. s.number) ss) → All (λ s. entries_of s.number h ≡ map (λ r. r.entry) s.receipts) ss
 exact_all h [] all e = All-nil (λ s. entries_of s.number h ≡ map (λ r. r.entry) s.receipts)
 exact_all h (s ∷ ss) all e =
@@ -206,8 +207,8 @@ calls_are (s ∷ ss) all =
     let calls = sum_by-cons (λ t. t.calls) s ss in
     omega (arith, here, there, sum, calls)
 
--- A history is that of sessions whose receipts stand in it at rising numbers, each of an entry of its session, where
--- they are as many as the entries.
+-- A history is that of its sessions if their receipts stand in it at rising numbers, each is of an entry of its
+-- session, and there are as many as entries.
 pub theirs : (h : List Entry) (ss : List Asker) → map (λ s. s.number) ss ≡ numbers_from 0 (length ss) → NumbersRise ss → All (Stands h) (receipts_of ss)
     → All (λ s. s.calls ≡ length s.receipts) ss → All (λ s. All (λ r. r.entry.session ≡ s.number) s.receipts) ss → length h ≡ calls_of ss → AreTheirs ss h
 theirs h ss numbers rise stand counted own total =

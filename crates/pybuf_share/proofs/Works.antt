@@ -1,4 +1,4 @@
--- Workers that are made one after the other, and what their sessions show.
+-- Workers that are made one after the other, and what their sessions have to show.
 use Rattle.std.proofs.Common.{◌≡◌, ◌⊎◌, ℕ, zero, suc, ◌+◌, ◌<◌, ◌≤◌, true, List, [], ◌∷◌, ◌++◌, length, map, take, drop, get_or, refl, ap, ap₂, sym, ◌∙◌, arith, subst, inl, inr}
 use denote.Ref.{MutBor}
 use denote.Param.Members.{Shared}
@@ -10,7 +10,7 @@ use Rattle.pybuf_command.specs.declared.commands.LocalCommand.{LocalCommand}
 use Rattle.pybuf_share.specs.Sessions.{Asker, new_session, sessions_from}
 use Rattle.pybuf_share.specs.Working.{Work, HasDone, HaveDone, Post, post_of, works_from, new_work}
 
--- one more session that has carried out its script
+-- One more session has carried out its script.
 have_done_more : (scripts : List (List LocalCommand)) (ss : List Asker) (script : List LocalCommand) (s : Asker) → HaveDone scripts ss → HasDone script s → HaveDone (scripts ++ script ∷ []) (ss ++ s ∷ [])
 have_done_more [] [] script s all one = (one, tt)
 have_done_more [] (t ∷ ss) script s all one = absurd all
@@ -25,14 +25,14 @@ sessions_next ws w ss new s more is one all = (
       (subst (λ (l : List Asker). HaveDone (map (λ (x : Work). x.script) ws ++ w.script ∷ []) l) (sym more) (have_done_more (map (λ (x : Work). x.script) ws) ss w.script s all.1 one)),
 )
 
--- workers that each stay at their post
+-- Workers stay at their posts if each of them does.
 pub posts_stay : (xs ys : List Work) → length ys ≡ length xs → ((i : ℕ) (d : Work) → i < length xs → post_of (get_or ys i d) ≡ post_of (get_or xs i d)) → map post_of ys ≡ map post_of xs
 posts_stay [] [] len each = refl
 posts_stay [] (y ∷ ys) len each = absurd (omega (arith, len))
 posts_stay (x ∷ xs) [] len each = absurd (omega (arith, len))
 posts_stay (x ∷ xs) (y ∷ ys) len each = ap₂ (λ p ps. p ∷ ps) (each 0 x (omega arith)) (posts_stay xs ys (omega (arith, len)) (λ i d within. each (suc i) d (omega (arith, within))))
 
--- the same of workers that are each handed to a call which keeps them at their post
+-- The same holds if each worker is handed to a call that keeps it at its post.
 pub calls_keep_posts : {F : Type 0} (g : Shared F (ℕ × (MutBor Work × Unit {0})) ((Unit {0}) × (MutBor Work × Unit {0}))) (f : F) (xs ys : List Work) → length ys ≡ length xs
     → ((i : ℕ) (before after : MutBor Work) → g.post f (i, (before, tt)) (tt, (after, tt)) → post_of after.now ≡ post_of before.now)
     → ChangesEach g f xs ys → map post_of ys ≡ map post_of xs
@@ -53,7 +53,7 @@ first_of x y xs ys e = ap (λ l. get_or l 0 x) e
 rest_of : {X : Type 0} (x y : X) (xs ys : List X) → x ∷ xs ≡ y ∷ ys → xs ≡ ys
 rest_of x y xs ys e = ap (λ l. drop 1 l) e
 
--- where x is the first of what is left from a place on, it stands at that place
+-- If x is the first of what is left from a place on, it stands at that place.
 pub record IsHere {X : Type 0} (xs : List X) (i : ℕ) (x : X) (rest : List X) : Type 0 where
   pub within : i < length xs
   pub read : x ≡ get_or xs i x
@@ -71,7 +71,7 @@ here_by xs i x rest is (inr past) =
 pub here : {X : Type 0} (xs left : List X) (i : ℕ) (x : X) (rest : List X) → left ≡ drop i xs → left ≡ x ∷ rest → IsHere xs i x rest
 here xs left i x rest left_is first = here_by xs i x rest (sym left_is ∙ first) (cases_lt i (length xs))
 
--- where nothing is left from a place on, the list has ended
+-- If nothing is left from a place on, the list has ended.
 pub no_more : {X : Type 0} (xs left : List X) (i : ℕ) → left ≡ drop i xs → length left ≡ 0 → length xs ≤ i
 no_more xs left i left_is none =
     let many = length-drop i xs in
@@ -87,7 +87,7 @@ session_at k zero i d within = absurd (omega (arith, within))
 session_at k (suc n) zero d within = let same : k ≡ k + 0 = omega arith in ap new_session same
 session_at k (suc n) (suc i) d within = let same : suc k + i ≡ k + suc i = omega arith in session_at (suc k) n i d (omega (arith, within)) ∙ ap new_session same
 
--- the session at a place is new, and has the number of the place
+-- The session at a place is new, and its number is the place.
 pub session_here : (ss : List Asker) (n i : ℕ) (s : Asker) → ss ≡ sessions_from 0 n → i < length ss → s ≡ get_or ss i s → s ≡ new_session i
 session_here ss n i s are low read =
     let within : i < n = let len = ap length are ∙ many_sessions 0 n in omega (arith, len, low) in
@@ -104,7 +104,7 @@ works_behind k (x ∷ scripts) script =
     let same : suc k + length scripts ≡ k + suc (length scripts) = omega arith in
     ap (λ (l : List Work). new_work k x ∷ l) (works_behind (suc k) scripts script ∙ ap (λ (n : ℕ). works_from (suc k) scripts ++ new_work n script ∷ []) same)
 
--- one worker more
+-- One more worker is made.
 pub works_next : (scripts : List (List LocalCommand)) (i : ℕ) (script : List LocalCommand) (s : Asker) (ws new : List Work) → i < length scripts → script ≡ get_or scripts i script → s ≡ new_session i → ws ≡ works_from 0 (take i scripts)
     → new ≡ ws ++ new_work s.number script ∷ [] → new ≡ works_from 0 (take (i + 1) scripts)
 works_next scripts i script s ws new within read is so_far more =

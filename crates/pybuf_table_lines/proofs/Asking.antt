@@ -1,4 +1,4 @@
--- What may be asked of records.
+-- What a query may ask of records.
 use Rattle.std.proofs.Common.{◌≡◌, ℕ, ◌==◌, ◌&&◌, Bool, true, false, not, List, [], refl, ◌∙◌, ap}
 use Rattle.std.specs.Prelude.{slice_get, Option, Some, None, Result, Ok, Err, ℤ}
 use Rattle.std.specs.Option.{ok_or}
@@ -19,12 +19,12 @@ use Rattle.pybuf_table.specs.Chosen.{field_in, has_bytes, has_order, chosen, sel
 use Rattle.pybuf_table_lines.specs.declared.queries.Query.{Query}
 use Rattle.pybuf_table_lines.specs.Queries.{may_compare, may_be_asked}
 
--- what is answered of whole records, by whether an order is asked of a field of bytes
+-- the answer for whole records, by whether the query asks for an order of a field of bytes
 abbrev answer_by : Bool → List (ℕ × List Scalar) → Result (List (ℕ × List Scalar)) Fault
 answer_by true rows = Ok rows
 answer_by false rows = Err fault.Kind
 
--- a number is in no order with bytes
+-- A number has no order with bytes.
 refused_order : (order bytes : Bool) (rows : List (ℕ × List Scalar)) →
     ((unless (order && not (not bytes)) fault.Kind) >>= (λ _. Ok rows)) ≡ answer_by (not (order && bytes)) rows
 refused_order true true rows = refl
@@ -32,7 +32,7 @@ refused_order true false rows = refl
 refused_order false true rows = refl
 refused_order false false rows = refl
 
--- a query of whole records is answered where it may be asked, and else refused
+-- A query of whole records gets its answer if it may be asked, and otherwise it is refused.
 abbrev answered : Option Field → CompareOp → List (ℕ × List Scalar) → Result (List (ℕ × List Scalar)) Fault
 answered None o rows = Err fault.Index
 answered (Some place) o rows = answer_by (not (is_order o && has_bytes place.code)) rows
@@ -50,19 +50,19 @@ selected_so f q bytes whole =
     ap (λ (all : Bool). (field_in f q.field) >>= (λ place. (unless (not all) fault.Struct) >>= (λ _. (unless (is_order q.op && not (has_order place.code (scalar.Int q.number))) fault.Kind) >>= (λ _. Ok rows)))) whole
     ∙ selected_of (slice_get (fields f) q.field) q.op q.number rows
 
--- ---- of a query that may be asked
+-- ---- a query that may be asked
 
 answered_well : (place : Option Field) (o : CompareOp) (rows : List (ℕ × List Scalar)) → may_compare o place ≡ true → answered place o rows ≡ Ok rows
 answered_well None o rows may = cc
 answered_well (Some place) o rows may = ap (λ (b : Bool). answer_by b rows) may
 
--- what is selected of the bytes of one record
+-- what is chosen of the bytes of one record
 pub selected_well : (f : Format) (q : Query) (bytes : List ℕ) → is_whole f bytes ≡ true → may_be_asked f q ≡ true →
     selected f q.field q.op (scalar.Int q.number) bytes ≡ Ok (chosen f q.field q.op (scalar.Int q.number) bytes)
 selected_well f q bytes whole may =
     selected_so f q bytes whole ∙ answered_well (slice_get (fields f) q.field) q.op (chosen f q.field q.op (scalar.Int q.number) bytes) may
 
--- ---- whether one may be asked, by the answer of no bytes
+-- ---- the answer for no bytes tells whether a query may be asked
 
 abbrev is_done : {X : Type 0} → Outcome X → Bool
 is_done (outcome.Done x) = true

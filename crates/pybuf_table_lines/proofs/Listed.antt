@@ -1,4 +1,4 @@
--- The listed records of bytes, one record after another.
+-- The records of bytes that are listed, one after another.
 use Rattle.std.proofs.Common.{◌≡◌, ℕ, suc, ◌+◌, ◌-◌, ◌*◌, ◌<◌, ◌≤◌, ◌/◌, ◌%◌, Bool, true, false, cond, List, [], ◌∷◌, ◌++◌, length, take, drop, map, Option, Some, None, refl, sym, ◌∙◌, ap, append_assoc, inl, inr, arith}
 use Rattle.std.specs.Prelude.{slice_get}
 use Rattle.std.specs.List.{filter, enumerate_from, flat_map}
@@ -21,7 +21,7 @@ use Rattle.pybuf_table_lines.specs.Texts.{row_line, listing_text}
 
 -- ---- records
 
--- one more of a size in a length that has one
+-- If a length has room for one size, it has room for one more than the rest has.
 quotient_more : (len size : ℕ) → 0 < size → size ≤ len → len / size ≡ suc ((len - size) / size)
 quotient_more len size some within =
     let q : ℕ = (len - size) / size in
@@ -37,7 +37,7 @@ rows_more f bytes some within =
     let count : length bytes / f.size ≡ suc (length (drop f.size bytes) / f.size) = quotient_more (length bytes) f.size some within ∙ ap (λ (n : ℕ). suc (n / f.size)) (sym left) in
     ap (λ (n : ℕ). rows_of f n bytes) count
 
--- the one record of as many bytes as it has
+-- If there are as many bytes as one record has, there is this single record.
 pub row_alone : (f : Format) (alone : List ℕ) → 0 < f.size → length alone ≡ f.size → rows f alone ≡ values f alone ∷ []
 row_alone f bytes some long =
     let front : take f.size bytes ≡ bytes = ap (λ (n : ℕ). take n bytes) (sym long) ∙ take-length bytes in
@@ -47,7 +47,7 @@ row_alone f bytes some long =
     ∙ (ap (λ (front : List ℕ). values f front ∷ rows f (drop f.size bytes)) front
     ∙ ap (λ (others : List (List Scalar)). values f bytes ∷ others) none)
 
--- whole records have one where there are bytes
+-- The bytes of whole records have a record if there are any bytes.
 pub has_record : (f : Format) (bytes : List ℕ) → 0 < f.size → length bytes % f.size ≡ 0 → 0 < length bytes → f.size ≤ length bytes
 has_record f bytes size whole some =
     elim (cases_lt (length bytes) f.size) [
@@ -55,16 +55,16 @@ has_record f bytes size whole some =
       | inr within ↦ within
     ]
 
--- and whole records are behind it
+-- Whole records stand behind the first.
 pub whole_behind : (f : Format) (bytes : List ℕ) → f.size ≤ length bytes → length bytes % f.size ≡ 0 → length (drop f.size bytes) % f.size ≡ 0
 whole_behind f bytes within whole = ap (λ (n : ℕ). n % f.size) (length-drop f.size bytes) ∙ (sym (mod-eq-sub-mod within) ∙ whole)
 
--- ---- those that are listed
+-- ---- the records that are listed
 
 abbrev answers_so : Query → List Scalar → Bool
 answers_so q row = compares_so q.op (scalar.Int q.number) (slice_get row q.field)
 
--- one more record is chosen or not
+-- One more record is chosen or not.
 chosen_next : (b : Bool) (n : ℕ) (row : List Scalar) (chosen : List (ℕ × List Scalar)) (kept : List (List Scalar)) → map (λ row. row.1) chosen ≡ kept
     → map (λ row. row.1) (cond b ((n, row) ∷ chosen) chosen) ≡ cond b (row ∷ kept) kept
 chosen_next true n row chosen kept same = ap (λ (others : List (List Scalar)). row ∷ others) same
@@ -78,7 +78,7 @@ chosen_values q n (row ∷ more) =
     chosen_next (answers_so q row) n row (filter (is_chosen q.field q.op (scalar.Int q.number)) (enumerate_from (n + 1) more)) (filter (answers_so q) more)
     (chosen_values q (n + 1) more)
 
--- those of a query, or all
+-- the records that a query chooses, or all of them
 abbrev kept : Option Query → List (List Scalar) → List (List Scalar)
 kept None all = all
 kept (Some q) all = filter (answers_so q) all
@@ -91,7 +91,7 @@ kept_append : (query : Option Query) (first rest : List (List Scalar)) → kept 
 kept_append None first rest = refl
 kept_append (Some q) first rest = filter-append (answers_so q) first rest
 
--- What is listed is what is listed of the first record, and then of those behind it.
+-- What is listed is what is listed of the first record, and then of the records behind it.
 listed_first : (f : Format) (query : Option Query) (bytes first rest : List ℕ) → 0 < f.size → f.size ≤ length bytes → first ≡ take f.size bytes → rest ≡ drop f.size bytes
     → rows_listed f query bytes ≡ rows_listed f query first ++ rows_listed f query rest
 listed_first f query bytes first rest some within first_is rest_is =
@@ -107,7 +107,8 @@ listed_first f query bytes first rest some within first_is rest_is =
     ∙ (ap (λ (front : List (List Scalar)). front ++ kept query (rows f rest)) (sym (listed_kept f query first))
     ∙ ap (λ (back : List (List Scalar)). rows_listed f query first ++ back) (sym (listed_kept f query rest)))))
 
--- The text of a table is the line of its first record, where that is listed, and then the text of those behind it.
+-- The text of a table is the line of its first record, if that is listed, and then the text of the records
+-- behind it.
 pub text_first : (l : Listing) (bytes first rest old new : List ℕ) → 0 < l.records.format.size → l.records.format.size ≤ length bytes
     → first ≡ take l.records.format.size bytes → rest ≡ drop l.records.format.size bytes → new ≡ old ++ listing_text l first
     → new ++ listing_text l rest ≡ old ++ listing_text l bytes
@@ -119,7 +120,7 @@ text_first l bytes first rest old new some within first_is rest_is is =
     (sym (ap (flat_map row_line) (listed_first f l.query bytes first rest some within first_is rest_is)
     ∙ flat_map-append row_line (rows_listed f l.query first) (rows_listed f l.query rest))))
 
--- the text of one record, all of them being listed
+-- the text of one record, if all records are listed
 pub text_of_all : (l : Listing) (alone : List ℕ) → l.query ≡ None → 0 < l.records.format.size → length alone ≡ l.records.format.size →
     listing_text l alone ≡ row_line (values l.records.format alone)
 text_of_all l alone all some long =

@@ -5,6 +5,6 @@ use Rattle.pybuf_command.specs.declared.worlds.Reply.TheVariants as reply
 use Rattle.pybuf_line.specs.Laws.{RepliesAreSingle}
 use Rattle.pybuf_table_lines.specs.Laws.{RowsAreSingle}
 
--- as that of a reply that shows an item of several values is
+-- It is written as a reply that shows an item of several values is.
 pub rows_single : RepliesAreSingle handle_text → RowsAreSingle
 rows_single law row = law (reply.Item (item.Many row)) (λ text e. cc)

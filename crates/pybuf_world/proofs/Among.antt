@@ -1,4 +1,4 @@
--- An exporter that steps, with the others lent to it, does what it does by its loans.
+-- An exporter steps while the others are lent to it. It does what it does with the loans.
 use Rattle.std.proofs.Common.{◌≡◌, ◌≢◌, ℕ, suc, ◌<◌, List, [], ◌∷◌, ◌++◌, length, map, set, Bool, true, false, true≢false, get_or, ap, ap₂, sym, ◌∙◌, refl, arith}
 use Rattle.std.specs.Prelude.{◌==◌, ◌&&◌, ◌||◌, IfOk, OnErr, slice_get, Option, Some, None, Result, Ok, Err, if◌then◌else◌}
 use Rattle.std.specs.List.{list_all, list_any}
@@ -40,7 +40,7 @@ pub snap_given : (o : Option Snap) → given_loan (Some (loan_of_snap o)) ≡ op
 snap_given None = refl
 snap_given (Some snap) = refl
 
--- a name of another exporter than the one that steps
+-- The name is of another exporter than the one that steps.
 pub another_lends : (w : World) (i : ℕ) (name : Named) (j k : ℕ) (s : Subject) → k ≡ exporter_of name → k ≢ i → j ≡ exporter_of name → s ≡ subject_of name
     → loan_of_name w i (Some name) ≡ loan_of_other (slice_get w.exporters j) s
 another_lends w i name j k s is other at which =
@@ -48,7 +48,7 @@ another_lends w i name j k s is other at which =
     (ne_eqb (exporter_of name) i (λ same. other (is ∙ same)))
     ∙ ap₂ (λ (x : ℕ) (y : Subject). loan_of_other (slice_get w.exporters x) y) (sym at) (sym which)
 
--- ---- handles that stand among others
+-- ---- handles that are among others
 
 abbrev AllAmong : List ℕ → List ℕ → Type 0
 AllAmong reads handles = (k d : ℕ) → k < length reads → list_any (λ (h : ℕ). h == get_or reads k d) handles ≡ true
@@ -92,7 +92,7 @@ option_among : (o : Option Value) → AllAmong (handle_of_option o) (handles_in_
 option_among (Some v) = whole_among v
 option_among None = none_among []
 
--- each handle whose bytes a command reads is one of its handles
+-- Each handle whose bytes a command reads is one of the command's handles.
 reads_among : (s : Subject) (v : Verb) → AllAmong (handles_read s v) (handles_of v)
 reads_among subject.Own verb.View = none_among (handles_of verb.View)
 reads_among subject.Own (verb.Get key) = none_among (handles_of (verb.Get key))
@@ -178,7 +178,7 @@ reads_among (subject.View k) (verb.Hex sep group) = among_front (handle_of_optio
 reads_among (subject.View k) (verb.Call method) = none_among (handles_of (verb.Call method))
 reads_among (subject.Iter k) v = none_among (handles_of v)
 
--- ---- each of them is lent as its loan says
+-- ---- each of these handles is lent as its loan says
 
 abbrev some_loan : Loan → Option Loan
 some_loan l = Some l
@@ -201,7 +201,7 @@ found w i (h ∷ hs) x among =
     pick (h == x) (loan_for w i h) (loan_for w i x) (loan_of (whole_loans w i hs) x) (λ is. ap (loan_for w i) (eqb-true h x is))
     (λ is. found w i hs x (not_first (h == x) (list_any (λ (y : ℕ). y == x) hs) among is))
 
--- the others are lent as they are while the one that steps is out of the table
+-- The others are lent as they are while the exporter that steps is out of the table.
 by_number : (w : World) (i : ℕ) (dest : Exporter) (n : Named) (b : Bool) → (exporter_of n == i) ≡ b
     → (if b then loan_of_own (subject_of n) else loan_of_other (slice_get (set w.exporters i dest) (exporter_of n)) (subject_of n))
     ≡ (if b then loan_of_own (subject_of n) else loan_of_other (slice_get w.exporters (exporter_of n)) (subject_of n))
@@ -219,7 +219,7 @@ named_alike : (w : World) (i : ℕ) (dest : Exporter) (handles : List ℕ) (x : 
 named_alike w i dest handles x among =
     ap (λ (l : Loan). given_loan (Some l)) (name_beside w i dest (slice_get w.handles x)) ∙ sym (ap given_loan (found w i handles x among))
 
--- ---- so the same are known, and the same is lent
+-- ---- the same handles are known, and the same is lent
 
 all_within : (p q : ℕ → Bool) (xs : List ℕ) → ((k d : ℕ) → k < length xs → p (get_or xs k d) ≡ q (get_or xs k d)) → list_all p xs ≡ list_all q xs
 all_within p q [] same = refl

@@ -1,4 +1,4 @@
--- In every world that a run reaches no two items of a view share a byte.
+-- In every world that a run reaches, no two items of a view share a byte.
 use Rattle.std.proofs.Common.{List, length, subst}
 use Rattle.std.proofs.Math.Seq.{take-length}
 use Rattle.pybuf_state.specs.Spaced.{IsSpaced}
@@ -12,7 +12,7 @@ use Rattle.pybuf_world.proofs.Lists.{All-slice_get}
 world_apart : LiveLayoutsLieApart → (w : World) → IsSoundWorld w → HasViewsOfItemsApart w
 world_apart apart w sound i k e layout at found = apart e k layout (All-slice_get IsSpaced w.exporters i e sound.items_lie_apart at) found
 
--- a run as a whole is the first of its commands, as many as there are
+-- A whole run is the run of its first commands, as many as there are.
 whole_sound : RunsStaySound → (commands : List Command) → IsSoundWorld (world_after_all empty_world commands)
 whole_sound stays commands = subst (λ (cs : List Command). IsSoundWorld (world_after_all empty_world cs)) (take-length commands) (stays commands (length commands))
 

@@ -20,9 +20,9 @@ use Rattle.pybuf_world.specs.declared.named.Named.{Named}
 use Rattle.pybuf_world.specs.declared.named.Target.{Target}
 use Rattle.pybuf_world.specs.World.{World, exporter_of, subject_of, loans_of, has_view, reply_with_copy, reply_after, world_after, step_with_loans, target_of, step_of_handle, wstep}
 
--- ---- which exporter that is
+-- ---- which exporter a command works on
 
--- the exporter that a command works on, and what it answers there
+-- the exporter that a command works on, and what the command answers there
 pub record IsAsked (w : World) (handle : ℕ) (v : Verb) (after : World × Reply) : Type 0 where
   pub name : Named
   pub given : slice_get w.handles handle ≡ Some name
@@ -39,11 +39,11 @@ by_name : (w : World) (handle : ℕ) (v : Verb) (o : Option Named) (after : Worl
 by_name w handle v None after at known is = absurd (known (ap (λ (x : World × Reply). x.1) is))
 by_name w handle v (Some name) after at known is = by_exporter w handle v name (slice_get w.exporters (exporter_of name)) after at refl known is
 
--- a command that isn't refused for its name works on an exporter that is there
+-- If a command isn't refused for its name, it works on an exporter that is there.
 pub asked : (w : World) (handle : ℕ) (v : Verb) (after : World × Reply) → (reply.Refused fault.UnknownName ≡ after.1 → ⊥) → wstep w (command.Do handle v) ≡ after → IsAsked w handle v after
 asked w handle v after known is = by_name w handle v (slice_get w.handles handle) after refl known is
 
--- and where that exporter is known, so is the step
+-- If that exporter is known, so is the step.
 pub steps_so : (w : World) (handle : ℕ) (v : Verb) (name : Named) (e : Exporter) (after : Exporter × LocalReply) → slice_get w.handles handle ≡ Some name → slice_get w.exporters (exporter_of name) ≡ Some e
     → estep e (subject_of name) v (loans_of w (exporter_of name) v) ≡ after → wstep w (command.Do handle v) ≡ world_after w (target_of handle name) after
 steps_so w handle v name e after given there is =
@@ -60,7 +60,7 @@ if_known : (P : Exporter × LocalReply → Type 0) (b : Bool) (r : Result (Expor
 if_known P true r done = done
 if_known P false r done = tt
 
--- what holds of an effect unless it is refused holds of a step that isn't
+-- What holds of an effect unless it is refused holds of a step that isn't refused.
 pub stepped_so : (P : Exporter × LocalReply → Type 0) (e : Exporter) (s : Subject) (v : Verb) (loans : List (ℕ × Loan)) (out : LocalReply) → IfDone P (effect e s v (lents_by e (names_of loans) (handles_read s v)))
     → (estep e s v loans).1 ≡ out → ((f : Fault) → local.Refused f ≡ out → ⊥) → P (estep e s v loans)
 stepped_so P e s v loans out done is known =
@@ -74,7 +74,7 @@ pub each_done : {X : Type 0} (P : X → Type 0) (r : Result X Fault) → ((x : X
 each_done P (Ok x) each = each x refl
 each_done P (Err f) each = tt
 
--- ---- replies by the local one
+-- ---- replies, by the local reply
 
 copy_no_bytes : (viewed : Bool) (next : ℕ) (x : List ℕ) → reply_with_copy viewed next ≡ reply.Bytes x → ⊥
 copy_no_bytes true next x is = cc

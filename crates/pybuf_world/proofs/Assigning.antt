@@ -1,4 +1,4 @@
--- `set` of a view by a slice, as a command on a world, is by value.
+-- `set` of a view by a slice, as a command on a world, assigns by value.
 use Rattle.std.proofs.Common.{◌≡◌, ◌⊎◌, inl, inr, ℕ, ◌*◌, ◌<◌, List, [], ◌∷◌, ◌++◌, length, map, Bool, true, false, ap, ap₂, sym, ◌∙◌, refl, subst}
 use Rattle.std.specs.Prelude.{◌≢◌, set, ◌&&◌, ◌==◌, Option, Some, None, slice_get, IfSome, if◌then◌else◌}
 use Rattle.std.proofs.lemmas.Bool.{eq-eqb}
@@ -75,7 +75,7 @@ loans_fit fit w i v sound = each_fits fit w i (handles_of v) sound
 
 -- ---- items
 
--- the handle of a value is lent as what it names
+-- The handle of a value is lent as what it names.
 lent_when : (w : World) (i x h : ℕ) (rest : Option Loan) → ((x == h) ≡ true) × (x ≡ h) ⊎ ((x == h) ≡ false) × (x ≢ h) → rest ≡ Some (loan_for w i h) → (if x == h then Some (loan_for w i x) else rest) ≡ Some (loan_for w i h)
 lent_when w i x h rest (inl same) is =
     ap (λ (b : Bool). if b then Some (loan_for w i x) else rest) same.0 ∙ ap (λ (n : ℕ). let lent : Option Loan = Some (loan_for w i n) in lent) same.1

@@ -1,4 +1,4 @@
--- Where a copy was made, it is an exporter of its own: so it is where a pair of handles is replied.
+-- If a copy was made, it is an exporter of its own. A reply that is a pair of handles tells that one was made.
 use Rattle.std.proofs.Common.{◌≡◌, ℕ, ◌+◌, ◌<◌, Bool, true, false, true≢false, List, [], ◌∷◌, ◌++◌, length, set, ap, ap₂, sym, ◌∙◌, refl, subst, arith}
 use Rattle.std.specs.Prelude.{Option, Some, None, Result, Ok, Err, slice_get, if◌then◌else◌}
 use Rattle.std.proofs.lemmas.List.{length-append, length-set}
@@ -39,7 +39,7 @@ second_named : (handles : List Named) (x y : Named) → slice_get ((handles ++ x
 second_named handles x y =
     ap (slice_get ((handles ++ x ∷ []) ++ y ∷ [])) (sym (length-append handles (x ∷ []))) ∙ slice_get-push (handles ++ x ∷ []) y
 
--- the first handle is the exporter's, and a second is its view's
+-- The first handle names the exporter, and a second names its view.
 copy_named : (viewed : Bool) (n : ℕ) (handles : List Named) → slice_get (handles_with_copy viewed n handles) (length handles) ≡ Some (named.Exporter n)
 copy_named true n handles = first_named handles (named.Exporter n) (named.View n 0)
 copy_named false n handles = slice_get-push handles (named.Exporter n)
@@ -57,7 +57,7 @@ by_handle : (viewed : Bool) (next x : ℕ) → reply_with_copy viewed next ≡ r
 by_handle true next x replied = absurd (cc)
 by_handle false next x replied = let same : next ≡ x = cc in (refl, same)
 
--- a copy with a view is one of a view, and else it is one of a bytearray
+-- A copy that has a view is one of a view, and any other is one of a bytearray.
 of_view : (e : Exporter) (s : Subject) (snap : Snap) → IsCopyOf e s snap → has_view snap.kind ≡ true → (k : ℕ) × (s ≡ subject.View k)
 of_view e subject.Own snap copied viewed =
     let none : has_view snap.kind ≡ false = ap (λ (x : Snap). has_view x.kind) copied.1 ∙ ap (λ (k : ExporterKind). has_view (snap_kind_of k)) copied.0 in
@@ -71,7 +71,7 @@ of_own e (subject.View k) snap copied unviewed =
     let some : has_view snap.kind ≡ true = ap (λ (x : Snap). has_view x.kind) copied.2 in absurd (true≢false (sym some ∙ unviewed))
 of_own e (subject.Iter k) snap copied unviewed = absurd copied
 
--- a copy is an exporter behind the others, which its handle names
+-- A copy is an exporter behind the others, and its handle names it.
 copy_made : FreshRepliesAreCopies → CopiesAreFaithful → (w : World) (t : Target) (v : Verb) (loans : List (ℕ × Loan)) (e : Exporter) (snap : Snap) (x : ℕ)
     → slice_get w.exporters t.exporter ≡ Some e → IsSoundExporter e → (estep e t.subject v loans).1 ≡ local.Fresh snap → length w.handles ≡ x
     → IsCopyMade w (world_after w t ((estep e t.subject v loans).0, local.Fresh snap)).0 t.subject x

@@ -1,4 +1,4 @@
--- Where each view of an exporter was released, nothing keeps it from an edit.
+-- If every view of an exporter is released, nothing keeps it from an edit.
 use Rattle.std.proofs.Common.{◌≡◌, ◌≢◌, ◌⊎◌, inl, inr, ℕ, zero, suc, ◌+◌, List, [], ◌∷◌, length, set, Bool, true, false, true≢false, ap, sym, ◌∙◌, refl, arith}
 use Rattle.std.specs.Prelude.{◌==◌, not, cond, Option, Some, None, Ok, slice_get, count_by, if◌then◌else◌}
 use Rattle.std.specs.Option.{ok_or}
@@ -61,7 +61,7 @@ only_refused w t (local.ByteLists lists) f is = absurd (cc)
 only_refused w t local.Stop f is = absurd (cc)
 only_refused w t (local.Fresh snap) f is = absurd (copy_no_refusal (has_view snap.kind) (length w.handles) f is)
 
--- a handle that is lent as the exporter itself names that exporter
+-- A handle that is lent as the exporter itself names that exporter.
 snap_is_other : (o : Option Snap) → loan_of_snap o ≡ loan.Own → ⊥
 snap_is_other (Some snap) is = cc
 snap_is_other None is = cc

@@ -1,4 +1,5 @@
--- Names that were given: each is of an exporter that is there, or of a view or an iterator that it has.
+-- Each name that was given is of an exporter that is there, or of a view or an iterator that such an exporter
+-- has.
 use Rattle.std.proofs.Common.{◌≡◌, ℕ, ◌<◌, Bool, true, false, true≢false, List, [], ◌∷◌, ◌++◌, length, set, ap, sym, ◌∙◌, refl, subst}
 use Rattle.std.specs.Prelude.{◌==◌, Some, slice_get}
 use Rattle.std.specs.List.{All}
@@ -13,11 +14,11 @@ use Rattle.pybuf_world.specs.Sound.{IsGiven}
 use Rattle.pybuf_world.proofs.Handles.{NameExporters}
 use Rattle.pybuf_world.proofs.Lists.{slice_get-append, slice_get-push, slice_get-set, slice_get-set_other}
 
--- what the one exporter has the other has too
+-- The second exporter has everything that the first has.
 abbrev pub HasAllOf : Exporter → Exporter → Type 0
 HasAllOf old new = (s : Subject) → has_subject old s ≡ true → has_subject new s ≡ true
 
--- their exporters are there
+-- The exporters of the names are there.
 pub name_exporters : (es : List Exporter) (handles : List Named) → All (IsGiven es) handles → NameExporters (length es) handles
 name_exporters es handles given =
     All-weaker (IsGiven es) (λ (n : Named). exporter_of n < length es) (λ n is. slice_get_within es (exporter_of n) is.exporter is.there) handles given
@@ -34,13 +35,13 @@ with_more es e n is = record {
 pub all_with_more : (es : List Exporter) (e : Exporter) (handles : List Named) → All (IsGiven es) handles → All (IsGiven (es ++ e ∷ [])) handles
 all_with_more es e handles given = All-weaker (IsGiven es) (IsGiven (es ++ e ∷ [])) (with_more es e) handles given
 
--- a name of it, or of what it has
+-- a name of the new exporter, or of what it has
 pub of_last : (es : List Exporter) (e : Exporter) (n : Named) → exporter_of n ≡ length es → has_subject e (subject_of n) ≡ true → IsGiven (es ++ e ∷ []) n
 of_last es e n at has = record { exporter = e; there = ap (slice_get (es ++ e ∷ [])) at ∙ slice_get-push es e; has = has }
 
--- ---- another exporter in the place of one
+-- ---- an exporter that replaces another
 
--- a name of it, or of what it has
+-- a name of the new exporter, or of what it has
 pub of_set : (es : List Exporter) (i : ℕ) (old new : Exporter) (n : Named) → slice_get es i ≡ Some old → exporter_of n ≡ i → has_subject new (subject_of n) ≡ true → IsGiven (set es i new) n
 of_set es i old new n at same has = record { exporter = new; there = ap (slice_get (set es i new)) same ∙ slice_get-set es i old new at; has = has }
 

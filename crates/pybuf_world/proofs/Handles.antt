@@ -1,4 +1,4 @@
--- Handles: the first that names an exporter stays the first, also where more are given.
+-- The first handle that names an exporter stays the first when more are given.
 use Rattle.std.proofs.Common.{◌≡◌, ℕ, ◌+◌, ◌<◌, ◌≤◌, ◌⊎◌, inl, inr, Bool, true, false, true≢false, cond, List, [], ◌∷◌, ◌++◌, length, get_or, ap, sym, ◌∙◌, refl, subst, arith, le_refl}
 use Rattle.std.specs.Prelude.{Some, ◌==◌, slice_get, slice_index}
 use Rattle.std.specs.List.{All, position_or_len}
@@ -13,7 +13,7 @@ use Rattle.pybuf_world.specs.declared.named.Named.TheVariants as named
 use Rattle.pybuf_world.specs.World.{exporter_of, is_name_of}
 use Rattle.pybuf_world.proofs.Lists.{slice_get-append, slice_get-push}
 
--- the first handle that names an exporter, or how many there are
+-- the first handle that names an exporter, or the number of handles if none does
 abbrev pub first : List Named → ℕ → ℕ
 first handles i = position_or_len (is_name_of i) handles
 
@@ -26,7 +26,7 @@ AreNamed n handles = (i : ℕ) → i < n → slice_get handles (first handles i)
 abbrev pub AreFirst : ℕ → List Named → List ℕ → Type 0
 AreFirst n handles owners = (i : ℕ) → i < n → slice_index owners i ≡ first handles i
 
--- a handle more leaves the first one
+-- One more handle leaves the first one.
 first_stays : (handles : List Named) (name : Named) (i : ℕ) → slice_get handles (first handles i) ≡ Some (named.Exporter i) → first (handles ++ name ∷ []) i ≡ first handles i
 first_stays handles name i at =
     let below = slice_get_within handles (first handles i) (named.Exporter i) at in

@@ -1,4 +1,4 @@
--- Handles that are equal by `compare` have the same hash.
+-- Handles that `compare` finds equal have the same hash.
 use Rattle.std.proofs.Common.{◌≡◌, ◌⊎◌, inl, inr, ℕ, ◌*◌, ◌<◌, List, [], ◌∷◌, ◌++◌, Bool, true, false, true≢false, ap, sym, ◌∙◌, refl, subst, arith}
 use Rattle.std.specs.Prelude.{◌==◌, ◌&&◌, ◌||◌, not, codes, nat_lt, Option, Some, None, Result, Ok, Err, slice_get, IfSome, if◌then◌else◌}
 use Rattle.std.specs.List.{All}
@@ -82,7 +82,7 @@ live_is e k layout is = live_by e (slice_get e.views k) layout is
 
 -- ---- what is hashed
 
--- what a subject is that was hashed, and what is replied
+-- the subject that was hashed, and what `hash` replied
 record IsHashed (e : Exporter) (s : Subject) (after : Exporter × LocalReply) : Type 0 where
   snap : Snap
   lent : snap_of_subject e s ≡ Some snap
@@ -103,7 +103,7 @@ own_hashed e lents =
     done_bind P (unless (not (holds_readonly e.kind)) fault.Kind) _ (λ _ _.
     record { snap = snap_of_exporter e; lent = refl; unreleased = refl; items = no_iterator e.kind; format = inl refl; replied = refl }))
 
--- the bytes of an unreleased view are those of its items
+-- The bytes of an unreleased view are those of its items.
 whole_content : (e : Exporter) (v : View) → v.released ≡ false → (snap_of_view e.bytes v).content ≡ content_of_layout e.bytes v.layout
 whole_content e v is = ap (λ (b : Bool). if b then [] else content_of_layout e.bytes v.layout) is
 
@@ -140,7 +140,7 @@ abbrev bytes_of_reply : LocalReply → List ℕ
 bytes_of_reply (local.Bytes bytes) = bytes
 bytes_of_reply _ = []
 
--- a handle that was hashed: what it names as the world stands, and which bytes that has
+-- a handle that was hashed: what it names in the world as it is now, and which bytes that has
 record HasHash (w : World) (handle : ℕ) (bytes : List ℕ) : Type 0 where
   name : Named
   given : slice_get w.handles handle ≡ Some name
@@ -248,7 +248,7 @@ hashed_snap w other bytes h =
 abbrev lent_other : ℕ → Option Loan → Snap → List Lent
 lent_other other o snap = record { handle = other; subject = subject_in o; snap = snap } ∷ []
 
--- the one that is lent is the other
+-- What is lent is the other subject.
 all_lent : (w : World) (e : Exporter) (i other : ℕ) (snap : Snap) → slice_get w.exporters i ≡ Some e → snap_for w other ≡ Some snap
     → lents_by e (names_of (loans_for w i other)) (other ∷ []) ≡ lent_other other (names_of (loans_for w i other) other) snap
 all_lent w e i other snap found is =
@@ -316,7 +316,7 @@ either : (b c : Bool) → (b || c) ≡ true → (b ≡ true) ⊎ (c ≡ true)
 either true c is = inl refl
 either false c is = inr is
 
--- the very view is lent
+-- The view itself is lent.
 very_view : (e : Exporter) (k : ℕ) (o : Option Loan) → is_view_of_number k (subject_in o) ≡ true → snap_in e o ≡ snap_of_subject e (subject.View k)
 very_view e k (Some (loan.View j)) is = ap (λ (n : ℕ). snap_of_subject e (subject.View n)) (eqb-true j k is)
 very_view e k (Some loan.Own) is = absurd (true≢false (sym is))

@@ -1,4 +1,4 @@
--- The bytes of a new exporter are those of one handle, or are read from none.
+-- The bytes of a new exporter are those of a single handle, or no handle is read for them.
 use Rattle.std.proofs.Common.{◌≡◌, ◌≢◌, ℕ, ◌≤◌, Bool, true, false, true≢false, List, [], ◌∷◌, ◌++◌, length, ap, sym, ◌∙◌, refl, arith}
 use Rattle.std.specs.Prelude.{◌==◌, ◌&&◌, ◌||◌, nat_lt, Option, Some, None, Result, Ok, Err, if◌then◌else◌}
 use Rattle.std.specs.List.{list_all, list_any}
@@ -21,7 +21,7 @@ use Rattle.pybuf_verbs_methods.specs.Names.{paired}
 use Rattle.pybuf_world.specs.World.{World, snap_for, pairs_of, bytes_of_new, world_with_bytes, are_given}
 use Rattle.pybuf_world.specs.Laws.{IsNewMade, NewExportersStandBehind, UnknownSourcesAreRefused}
 
--- ---- one handle
+-- ---- a single handle
 
 found : (h : ℕ) (o : Option Snap) → snap_of (paired h o ++ []) h ≡ o
 found h (Some snap) = ap (λ (b : Bool). if b then Some snap else None) (eq-eqb h h refl)
@@ -34,7 +34,7 @@ of_one w (Some (value.One (scalar.Handle g))) None None h is =
     ap content_of_named (found g (snap_for w g)) ∙ ap (λ (x : ℕ). content_of_named (snap_for w x)) same
 of_one w s e r h is = absurd (cc)
 
--- what a handle alone names is what is read
+-- If a handle is the only option, its bytes are those that are read.
 pub bytes_of_one : (w : World) (options : ByteInnerNewOptions) (h : ℕ) → handle_alone options ≡ Some h → bytes_of_new w options ≡ content_of_named (snap_for w h)
 bytes_of_one w options h is = of_one w options.source options.encoding options.errors h is
 
@@ -77,7 +77,7 @@ of_none pairs s None (Some r) is = errors_alone pairs s (text_in r)
 of_none pairs (Some v) None None is = source_read pairs v is
 of_none pairs None None None is = refl
 
--- where a source is no handle alone, nothing that is lent is looked at
+-- If the source isn't a single handle, nothing that is lent is read.
 pub bytes_of_none : (w : World) (options : ByteInnerNewOptions) → handle_alone options ≡ None → bytes_of_new w options ≡ bytes_of_options [] options.source options.encoding options.errors
 bytes_of_none w options is = of_none _ options.source options.encoding options.errors is
 

@@ -1,4 +1,4 @@
--- What a handle names after a run of commands, and a view that was released.
+-- What a handle names after a run of commands, and a view that is released.
 use Rattle.std.proofs.Common.{◌≡◌, inl, inr, ℕ, Bool, true, [], ◌∷◌, ap, sym, ◌∙◌, refl, subst}
 use Rattle.std.proofs.lemmas.Option.{slice_get_within}
 use Rattle.pybuf_command.specs.declared.worlds.Command.{Command}
@@ -16,7 +16,7 @@ pub handles_in_runs : HandlesStay → HandlesStayInRuns
 handles_in_runs stay w [] handle n is = is
 handles_in_runs stay w (c ∷ cs) handle n is = handles_in_runs stay (wstep w c).0 cs handle n (stay w c handle (slice_get_within w.handles handle n is) ∙ is)
 
--- a view that is named after some commands
+-- a view that a handle names after some commands
 abbrev NamesAfter : World → ℕ → ℕ → ℕ → View → Type 0
 NamesAfter w handle number k v = (after : View) × IsSameOrReleased v after × NamesView w handle number k after
 

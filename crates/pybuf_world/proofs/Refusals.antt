@@ -24,12 +24,12 @@ use Rattle.pybuf_world.proofs.Lists.{slice_get-append, set-slice_get}
 
 -- ---- refusals
 
--- a copy is replied by handles
+-- A copy is replied as handles, and so isn't a refusal.
 pub copy_no_refusal : (viewed : Bool) (next : ℕ) (f : Fault) → reply_with_copy viewed next ≡ reply.Refused f → ⊥
 copy_no_refusal true next f is = cc
 copy_no_refusal false next f is = cc
 
--- only a refusal of the exporter is replied as one, and then the exporter is as before
+-- Only a refusal of the exporter is replied as one, and then the exporter is as before.
 after_refusal : (w : World) (t : Target) (e : Exporter) (r : LocalReply) (f : Fault) → (r ≡ local.Refused f → set w.exporters t.exporter e ≡ w.exporters)
     → (world_after w t (e, r)).1 ≡ reply.Refused f → (world_after w t (e, r)).0 ≡ w
 after_refusal w t e (local.Refused g) f kept is =

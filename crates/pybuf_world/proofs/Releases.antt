@@ -1,4 +1,4 @@
--- Releasing by a handle: twice is once, and where it is refused.
+-- A second release by a handle changes nothing, and when a release by a handle is refused.
 use Rattle.std.proofs.Common.{◌≡◌, ℕ, ◌<◌, true, false, true≢false, List, [], ◌∷◌, length, set, get_or, ap, sym, ◌∙◌, refl, subst, arith}
 use Rattle.std.specs.Prelude.{Option, Some, None, Result, Ok, Err, slice_get}
 use Rattle.std.proofs.lemmas.Option.{slice_get-get_or}
@@ -16,7 +16,7 @@ use Rattle.pybuf_world.specs.Sound.{IsGiven, IsSoundWorld}
 use Rattle.pybuf_world.specs.Laws.{ReleasingByHandleTwiceIsOnce, ReleasesAreRefusedByName}
 use Rattle.pybuf_world.proofs.Lists.{slice_get-set, set-set, All-slice_get}
 
--- the world with the released exporter, whose view is released again
+-- The world with the released exporter stays the same when the view is released again.
 world_again : ReleasingTwiceIsOnce → (w once : World) (i k : ℕ) (e : Exporter) (r : Result Exporter Fault) → slice_get w.exporters i ≡ Some e → r ≡ released_in e k → world_with_released w i r ≡ Ok once → released_in_exporter once i k (slice_get once.exporters i) ≡ Ok once
 world_again twice w once i k e (Ok after) at was is =
     let same : record w { exporters = set w.exporters i after } ≡ once = cc in
@@ -51,9 +51,9 @@ name_again twice w once handle None at is = absurd (cc)
 pub by_handle_twice : ReleasingTwiceIsOnce → ReleasingByHandleTwiceIsOnce
 by_handle_twice twice w once handle is = name_again twice w once handle (slice_get w.handles handle) refl is
 
--- ---- where it is refused
+-- ---- when it is refused
 
--- a view that an exporter has is found, and released
+-- A view that an exporter has is found.
 found : (views : List View) (k : ℕ) → k < length views → (v : View) × (slice_get views k ≡ Some v)
 found [] k below = absurd (omega (arith, below))
 found (v ∷ views) k below = (get_or (v ∷ views) k v, slice_get-get_or (v ∷ views) k v below)
@@ -64,7 +64,7 @@ there_released e k has =
     let at = found e.views k below in
     (released_at e k at.0, ap (λ (o : Option View). ok_or o fault.UnknownName >>= (λ v. Ok (released_at e k v))) at.1)
 
--- a handle of a view is released
+-- The view that a handle names is released.
 view_released : (w : World) (i k : ℕ) → IsGiven w.exporters (named.View i k) → (new : World) × (released_in_exporter w i k (slice_get w.exporters i) ≡ Ok new)
 view_released w i k given =
     let after = there_released given.exporter k given.has in

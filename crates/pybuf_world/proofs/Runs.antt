@@ -1,11 +1,11 @@
--- Runs: one command more.
+-- A run goes on by one command.
 use Rattle.std.proofs.Common.{◌≡◌, ℕ, ◌+◌, ◌<◌, List, [], ◌∷◌, ◌++◌, length, take, get_or, ap, sym, ◌∙◌, refl, append_assoc}
 use Rattle.std.proofs.lemmas.List.{take_more}
 use Rattle.pybuf_command.specs.declared.worlds.Command.{Command}
 use Rattle.pybuf_command.specs.declared.worlds.Reply.{Reply}
 use Rattle.pybuf_world.specs.World.{World, wstep, world_after_all, replies_of}
 
--- the world and the replies are those of the commands so far
+-- The world and the replies are those of the commands so far.
 pub record IsRun (old : World) (commands : List Command) (new : World) (before replies : List Reply) : Type 0 where
   pub world : new ≡ world_after_all old commands
   pub replied : replies ≡ before ++ replies_of old commands
@@ -28,7 +28,7 @@ replies_of_one_more : (w : World) (cs : List Command) (i : ℕ) (c : Command) �
 replies_of_one_more w cs i c below is =
     ap (replies_of w) (take_more cs i c below ∙ ap (λ x. take i cs ++ x ∷ []) (sym is)) ∙ replies_of-append w (take i cs) (c ∷ [])
 
--- a run goes on by one command
+-- A run goes on by one command.
 pub one_more : (old w after : World) (cs : List Command) (i : ℕ) (c : Command) (r : Reply) (before rs more : List Reply)
     → IsRun old (take i cs) w before rs → i < length cs → c ≡ get_or cs i c → wstep w c ≡ (after, r) → more ≡ rs ++ r ∷ [] → IsRun old (take (i + 1) cs) after before more
 one_more old w after cs i c r before rs more run below at stepped pushed =

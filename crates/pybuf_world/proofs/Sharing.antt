@@ -1,4 +1,4 @@
--- What is written through one handle is read through every other that has the item.
+-- What is written through one handle is read through every other handle that has the item.
 use Rattle.std.proofs.Common.{◌≡◌, ◌≢◌, ◌⊎◌, inl, inr, ℕ, ◌+◌, ◌-◌, ◌<◌, ◌≤◌, List, [], ◌∷◌, ◌++◌, length, set, take, drop, Bool, true, false, true≢false, ap, ap₂, sym, ◌∙◌, refl, subst, arith}
 use Rattle.std.specs.Prelude.{◌==◌, ◌&&◌, not, nat_lt, slice_index, Option, Some, None, Result, Ok, Err, slice_get, if◌then◌else◌}
 use Rattle.std.specs.List.{flat_map, list_all}
@@ -58,7 +58,7 @@ use Rattle.pybuf_world.proofs.Hashing.{given_snap}
 use Rattle.pybuf_world.proofs.Sound.{wstep_sound}
 use Rattle.pybuf_world.proofs.Lists.{set-slice_get, slice_get-set, slice_get-set_other, All-slice_get}
 
--- ---- keys that name an item hold no handle
+-- ---- keys that name an item have no handles in them
 
 no_slice_names : (b : Bool) (shape : List ℕ) (slice : PySlice) (item : ℕ) → (if b then only_item (value.Slice slice) else item_among shape (value.Slice slice)) ≡ Ok item → ⊥
 no_slice_names true shape slice item is = cc
@@ -71,7 +71,7 @@ key_is_no_slice shape (value.Tuple parts) item is = refl
 key_is_no_slice shape (value.List parts) item is = refl
 key_is_no_slice shape (value.Slices slices) item is = refl
 
--- parts that are numbers are no handles
+-- Parts that are numbers aren't handles.
 number_no_handle : (s : Scalar) → is_number s ≡ true → handles_in_scalar s ≡ []
 number_no_handle (scalar.Handle h) is = absurd (cc)
 number_no_handle scalar.None is = refl
@@ -124,7 +124,7 @@ key_by false shape (value.Slices (slice ∷ slices)) item is = absurd (cc)
 key_no_handles : (shape : List ℕ) (key : Value) (item : ℕ) → item_of_key shape key ≡ Ok item → handles_in key ≡ []
 key_no_handles shape key item is = key_by (length shape == 0) shape key item is
 
--- ---- an item is read
+-- ---- a read of an item
 
 get_by_key : (e : Exporter) (k : ℕ) (key : Value) → is_slice key ≡ false → get_of_view e k key ≡ item_of_view e k key
 get_by_key e k (value.Slice slice) is = absurd (true≢false is)
@@ -133,7 +133,7 @@ get_by_key e k (value.Tuple parts) is = refl
 get_by_key e k (value.List parts) is = refl
 get_by_key e k (value.Slices slices) is = refl
 
--- what `get` answers of the item of a layout
+-- what `get` answers for the item of a layout
 abbrev read_item : Exporter → Layout → Value → Exporter × LocalReply
 read_item e layout key = settled_answer e (if names_itself layout.shape key then Ok (e, local.Itself) else item_of_layout e layout key)
 
@@ -144,7 +144,7 @@ reads_so e k layout key item loans live chosen =
     ∙ ap (settled_answer e) (get_by_key e k key (key_is_no_slice layout.shape key item chosen))
     ∙ ap (λ (r : Result Layout Fault). settled_answer e (r >>= λ l. (if names_itself l.shape key then Ok (e, local.Itself) else item_of_layout e l key))) live
 
--- the item as these bytes read, or the view itself
+-- the item that these bytes read as, or the view itself
 abbrev item_or_view : Exporter → Layout → Bool → List ℕ → Exporter × LocalReply
 item_or_view e layout true bytes = (e, local.Itself)
 item_or_view e layout false bytes = (e, local.Item (item_by layout.format bytes))
@@ -156,7 +156,7 @@ reads_what false e layout key item place chosen starts =
     ap (λ (r : Result ℕ Fault). settled_answer e (r >>= λ n. Ok (e, local.Item (item_by layout.format (bytes_at e.bytes layout.itemsize (slice_index layout.starts n)))))) chosen
     ∙ ap (λ (at : ℕ). (e, local.Item (item_by layout.format (bytes_at e.bytes layout.itemsize at)))) starts
 
--- the same by handles
+-- the same as a reply with handles
 abbrev handle_or_item : ℕ → Layout → Bool → List ℕ → Reply
 handle_or_item handle layout true bytes = reply.Handle handle
 handle_or_item handle layout false bytes = reply.Item (item_by layout.format bytes)
@@ -166,7 +166,7 @@ world_reads : (b : Bool) (w : World) (handle number k : ℕ) (e : Exporter) (lay
 world_reads true w handle number k e layout bytes there = ap (λ (xs : List Exporter). (record w { exporters = xs }, reply.Handle handle)) (set-slice_get w.exporters number e there)
 world_reads false w handle number k e layout bytes there = ap (λ (xs : List Exporter). (record w { exporters = xs }, reply.Item (item_by layout.format bytes))) (set-slice_get w.exporters number e there)
 
--- `get` of an item replies what its bytes read as
+-- `get` of an item replies what the item's bytes read as.
 gets : (w : World) (handle : ℕ) (key : Value) (number place : ℕ) (layout : Layout) → HasItemAt w handle key number place layout
     → wstep w (command.Do handle (verb.Get key)) ≡ (w, handle_or_item handle layout (names_itself layout.shape key) (bytes_in_world w number layout.itemsize place))
 gets w handle key number place layout has =
@@ -178,7 +178,7 @@ gets w handle key number place layout has =
     ∙ world_reads b w handle number has.view e layout (bytes_at e.bytes layout.itemsize place) has.there
     ∙ ap (λ (o : Option Exporter). (w, handle_or_item handle layout b (bytes_in_exporter o layout.itemsize place))) (sym has.there)
 
--- ---- an item is written
+-- ---- a write of an item
 
 record IsTarget (e : Exporter) (k : ℕ) (key : Value) (target : Layout × ℕ) : Type 0 where
   live : live_layout e k ≡ Ok target.0
@@ -216,7 +216,7 @@ set_by_key e k (value.Slices slices) v lents is = refl
 item_is_set : (e : Exporter) (k : ℕ) (key v : Value) (lents : List Lent) → is_slice key ≡ false → IfDone (IsItemSet e k key v lents) (effect e (subject.View k) (verb.Set key v) lents)
 item_is_set e k key v lents is = subst (IfDone (IsItemSet e k key v lents)) (sym (set_by_key e k key v lents is)) (set_is e k key v lents)
 
--- nothing but the bytes changes
+-- Nothing but the bytes changes.
 record IsBytesSet (old new : Exporter) : Type 0 where
   kind : new.kind ≡ old.kind
   views : new.views ≡ old.views
@@ -257,7 +257,7 @@ same_pairs w e i key (value.Tuple parts) found = refl
 same_pairs w e i key (value.List parts) found = refl
 same_pairs w e i key (value.Slices slices) found = refl
 
--- ---- the bytes around it
+-- ---- the bytes around the item
 
 bytes_before : (xs ys : List ℕ) (n count from : ℕ) → take n xs ≡ take n ys → from + count ≤ n → bytes_at xs count from ≡ bytes_at ys count from
 bytes_before xs ys n count from same below =
@@ -270,7 +270,7 @@ bytes_behind xs ys n count from same behind =
     let at : n + (from - n) ≡ from = omega (arith, behind) in
     ap (λ (m : ℕ). take count (drop m xs)) (sym at) ∙ ap (take count) (sym (drop-drop (from - n) n xs) ∙ ap (drop (from - n)) same ∙ drop-drop (from - n) n ys) ∙ ap (λ (m : ℕ). take count (drop m ys)) at
 
--- what stands in a world with one exporter set
+-- a world in which one exporter was set
 abbrev with_set : World → ℕ → Exporter → World
 with_set w number e = record w { exporters = set w.exporters number e }
 
@@ -282,7 +282,7 @@ set_bytes w number count from before after there same =
 other_bytes : (w : World) (number other count from : ℕ) (after : Exporter) → number ≢ other → bytes_in_world (with_set w number after) other count from ≡ bytes_in_world w other count from
 other_bytes w number other count from after apart = ap (λ (o : Option Exporter). bytes_in_exporter o count from) (slice_get-set_other w.exporters number other after apart)
 
--- where the two exporters may be one
+-- The two exporters may be one.
 either_bytes : (w : World) (number other count from : ℕ) (before after : Exporter) → slice_get w.exporters number ≡ Some before → bytes_at after.bytes count from ≡ bytes_at before.bytes count from
     → ((number == other) ≡ true) × (number ≡ other) ⊎ ((number == other) ≡ false) × (number ≢ other) → bytes_in_world (with_set w number after) other count from ≡ bytes_in_world w other count from
 either_bytes w number other count from before after there same (inl one) =
@@ -331,7 +331,7 @@ item_stays w number before after other key n place its there same (inr two) has 
   starts = has.starts;
 }
 
--- ---- the same of the world that stands after it
+-- ---- the same in the world after the write
 
 outside_so : (w new : World) (number place size : ℕ) (before after : Exporter) → slice_get w.exporters number ≡ Some before → new ≡ with_set w number after → take place after.bytes ≡ take place before.bytes
     → drop (place + size) after.bytes ≡ drop (place + size) before.bytes → (other count from : ℕ) → ShareNoByte number place size other from count → bytes_in_world new other count from ≡ bytes_in_world w other count from
@@ -357,7 +357,7 @@ same_size live w later handle other key other_key number place n p layout its so
     let theirs = live other_has.exporter other_has.view its (All-slice_get IsSoundExporter later.exporters n other_has.exporter later_sound.exporters_are_sound other_has.there) other_has.live in
     sizes_same (format_of layout.format) its.itemsize layout.itemsize (subst (λ (text : List ℕ). is_sized text its.itemsize ≡ true) same theirs.formed.sized) mine.formed.sized
 
--- ---- what is written is seen
+-- ---- what was written is seen
 
 abbrev with_reply : World → Reply → World × Reply
 with_reply w r = (w, r)
@@ -437,7 +437,7 @@ pub worlds_seen : WritesAreSeen → LiveLayoutsAreSound → KeysNameItems → Wo
 worlds_seen seen live names w new handle number k key v sound given plain is =
     by_exporter seen live names w new handle number k key v (slice_get w.exporters number) sound given plain refl (sym (ap (step_of_handle w handle (verb.Set key v)) given) ∙ is)
 
--- ---- where places are shared
+-- ---- two items at the same place
 
 named_same : (o : Option Named) (n k m j : ℕ) → o ≡ Some (named.View n k) → o ≡ Some (named.View m j) → (n ≡ m) × (k ≡ j)
 named_same o n k m j first second = let numbers : n ≡ m = cc in let views : k ≡ j = cc in (numbers, views)
@@ -445,7 +445,7 @@ named_same o n k m j first second = let numbers : n ≡ m = cc in let views : k 
 ok_same : {X : Type 0} (x y : X) (r : Result X Fault) → r ≡ Ok x → r ≡ Ok y → x ≡ y
 ok_same x y r first second = cc
 
--- a key of a handle names one item
+-- A key of a handle names a single item.
 record IsSameItem (n p m q : ℕ) (layout its : Layout) : Type 0 where
   numbers : n ≡ m
   places : p ≡ q

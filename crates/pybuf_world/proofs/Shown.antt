@@ -1,4 +1,4 @@
--- A text that a command shows of its subject is one line.
+-- If a command shows its subject as a text, the text is one line.
 use Rattle.std.proofs.Common.{◌≡◌, ℕ, Bool, true, false, List, length, ap, sym, ◌∙◌, refl}
 use Rattle.std.specs.Prelude.{Option, Some, None, Result, Ok, Err, slice_get, if◌then◌else◌}
 use Rattle.pybuf_value.specs.declared.faults.Fault.{Fault}
@@ -20,12 +20,12 @@ use Rattle.pybuf_command.specs.declared.worlds.Reply.TheVariants as reply
 use Rattle.pybuf_world.specs.World.{World, bytes_of_new, world_with_bytes, are_given, loans_of, has_view, reply_with_copy, reply_after, step_with_loans, target_of, step_of_handle}
 use Rattle.pybuf_world.specs.Laws.{WorldShownTextsAreOneLine}
 
--- a copy is replied by handles
+-- A copy is replied as handles, and so isn't a text.
 copy_no_text : (viewed : Bool) (next : ℕ) (text : List ℕ) → reply_with_copy viewed next ≡ reply.Shown text → ⊥
 copy_no_text true next text is = cc
 copy_no_text false next text is = cc
 
--- only a text that the exporter shows is replied as one
+-- Only a text that the exporter shows is replied as one.
 shown_by_reply : (w : World) (t : Target) (r : LocalReply) (text : List ℕ) → ((shown : List ℕ) → r ≡ local.Shown shown → is_one_line shown ≡ true)
     → reply_after w t r ≡ reply.Shown text → is_one_line text ≡ true
 shown_by_reply w t (local.Shown shown) text single is =
@@ -56,7 +56,7 @@ handle_shown single w handle v (Some name) text is =
     let t = target_of handle name in loans_shown single w t v (loans_of w t.exporter v) (slice_get w.exporters t.exporter) text is
 handle_shown single w handle v None text is = absurd (cc)
 
--- a new exporter is replied by its handle
+-- A new exporter is replied by its handle, and so isn't a text.
 bytes_not_shown : (w : World) (k : ExporterKind) (r : Result (List ℕ) Fault) (text : List ℕ) → (world_with_bytes w k r).1 ≡ reply.Shown text → ⊥
 bytes_not_shown w k (Ok bytes) text is = cc
 bytes_not_shown w k (Err f) text is = cc

@@ -1,4 +1,4 @@
--- Every world after a command is sound, and the handles that the tables keep for the exporters stay theirs.
+-- Every world after a command is sound, and the tables keep the right handles for the exporters.
 use Rattle.std.proofs.Common.{◌≡◌, ℕ, ◌+◌, Bool, true, false, List, [], ◌∷◌, ◌++◌, length, take, set, ap, sym, ◌∙◌, refl, subst, arith}
 use Rattle.std.specs.Prelude.{nat_lt, Option, Some, None, Result, Ok, Err, IfOk, OnErr, slice_get, if◌then◌else◌}
 use Rattle.std.proofs.lemmas.List.{length-append, length-set}
@@ -53,7 +53,7 @@ empty_is_sound = record {
 pub empty_is_owned : AreOwners empty_world []
 empty_is_owned = record { counted = refl; first = λ i below. absurd (omega (arith, below)) }
 
--- what is asked of an exporter
+-- what must hold of an exporter
 pub record IsWell (e : Exporter) : Type 0 where
   pub sound : IsSoundExporter e
   pub apart : IsSpaced e
@@ -66,7 +66,7 @@ well_at w i e sound at = record {
 
 -- ---- a new exporter
 
--- which has no view
+-- A new exporter has no view.
 new_is_well : (k : ExporterKind) (bytes : List ℕ) → IsWell (new_exporter k bytes)
 new_is_well k bytes = record { sound = record { views = All-nil (IsSoundView k bytes) }; apart = record { views = All-nil (λ (v : View). HasItemsApart v.layout) } }
 
@@ -117,12 +117,12 @@ step_of_new_sound w k options sound =
 
 -- ---- a command on what a handle names
 
--- what an exporter is that takes the place of one
+-- what must hold of an exporter that replaces another
 pub record IsStepped (old new : Exporter) : Type 0 where
   pub well : IsWell new
   pub subjects : HasAllOf old new
 
--- the world with another exporter in the place of one
+-- the world after an exporter replaced another
 with_set_sound : (w : World) (i : ℕ) (old e : Exporter) → IsSoundWorld w → slice_get w.exporters i ≡ Some old → IsStepped old e → IsSoundWorld (record w { exporters = set w.exporters i e })
 with_set_sound w i old e sound at stepped =
     let same : length w.exporters ≡ length (set w.exporters i e) = sym (length-set w.exporters i e) in
@@ -141,7 +141,7 @@ with_set_owned w i e owners owned =
       first = subst (λ (n : ℕ). AreFirst n w.handles owners) same owned.first;
     }
 
--- and one more handle, of what is there
+-- the world with one more handle, which names what is there
 with_handle_sound : (w : World) (name : Named) → IsSoundWorld w → IsGiven w.exporters name → IsSoundWorld (record w { handles = w.handles ++ name ∷ [] })
 with_handle_sound w name sound given = record {
   exporters_are_sound = sound.exporters_are_sound;
@@ -156,12 +156,12 @@ with_handle_owned w name owners names owned = record {
   first = stay_first (length w.exporters) w.handles name owners names owned.first;
 }
 
--- what is made of a copy, which has its view where it has one
+-- what holds of the exporter that a copy makes: if it should have a view, it has one
 pub record IsMade (viewed : Bool) (e : Exporter) : Type 0 where
   pub well : IsWell e
   pub first : viewed ≡ true → has_subject e (subject.View 0) ≡ true
 
--- and one more exporter with a view, and the handles of both
+-- the world with one more exporter, which has a view, and with the handles of both
 with_viewed_sound : (w : World) (e : Exporter) (n : ℕ) → length w.exporters ≡ n → IsSoundWorld w → IsMade true e
     → IsSoundWorld (record { exporters = w.exporters ++ e ∷ []; handles = (w.handles ++ named.Exporter n ∷ []) ++ named.View n 0 ∷ [] })
 with_viewed_sound w e n same sound made =
@@ -175,7 +175,7 @@ with_viewed_owned w e n owners same sound well owned =
     (with_handle_owned (with_exporter w e).0 (named.View (length w.exporters) 0) (owners ++ length w.handles ∷ []) (with_exporter_sound w e sound well).exporters_are_named
     (with_exporter_owned w e owners sound owned))
 
--- and one more exporter that is made of a copy, with a view or without one
+-- the world with one more exporter, which a copy makes, with a view or without one
 with_made_sound : (viewed : Bool) (w : World) (e : Exporter) (n : ℕ) → length w.exporters ≡ n → IsSoundWorld w → IsMade viewed e
     → IsSoundWorld (record { exporters = w.exporters ++ e ∷ []; handles = handles_with_copy viewed n w.handles })
 with_made_sound true w e n same sound made = with_viewed_sound w e n same sound made
@@ -188,7 +188,7 @@ with_made_owned true w e n owners same sound well owned = with_viewed_owned w e 
 with_made_owned false w e n owners same sound well owned =
     subst (λ (m : ℕ). AreOwners (record { exporters = w.exporters ++ e ∷ []; handles = w.handles ++ named.Exporter m ∷ [] }) (owners ++ length w.handles ∷ [])) same (with_exporter_owned w e owners sound owned)
 
--- what a reply hands out: a view or an iterator that is there, or what an exporter is made of
+-- what a reply gives out: a view or an iterator that is there, or what a new exporter is made of
 abbrev HandsOut : Exporter → Target → LocalReply → Type 0
 HandsOut e t (local.Fresh snap) = IsMade (has_view snap.kind) (made_of (is_readonly_subject e t.subject) snap)
 HandsOut e t (local.View k) = has_subject e (subject.View k) ≡ true
@@ -246,7 +246,7 @@ after_owned w t old e (local.Numbers numbers) owners sound at stepped out owned 
 after_owned w t old e (local.ByteLists lists) owners sound at stepped out owned = with_set_owned w t.exporter e owners owned
 after_owned w t old e (local.Refused f) owners sound at stepped out owned = with_set_owned w t.exporter e owners owned
 
--- what is made of a copy has a view, unless it is a bytearray
+-- The exporter that a copy makes has a view, unless it is a bytearray.
 made_has_view : (k : SnapKind) (readonly : Bool) (snap : Snap) → has_view k ≡ true → has_subject (made_by_kind k readonly snap) (subject.View 0) ≡ true
 made_has_view snap_kind.ByteArray readonly snap viewed = absurd (cc)
 made_has_view snap_kind.Bytes readonly snap viewed = refl
@@ -308,12 +308,12 @@ handle_sound keeps w handle v None sound = sound
 
 -- ---- commands
 
--- a command keeps a world sound
+-- A command keeps a world sound.
 pub wstep_sound : ExporterLaws → (w : World) (c : Command) → IsSoundWorld w → IsSoundWorld (wstep w c).0
 wstep_sound keeps w (command.New k options) sound = step_of_new_sound w k options sound
 wstep_sound keeps w (command.Do handle v) sound = handle_sound keeps w handle v (slice_get w.handles handle) sound
 
--- and so does a run of them
+-- A run of commands keeps a world sound.
 all_sound : ExporterLaws → (w : World) (cs : List Command) → IsSoundWorld w → IsSoundWorld (world_after_all w cs)
 all_sound keeps w [] sound = sound
 all_sound keeps w (c ∷ cs) sound = all_sound keeps (wstep w c).0 cs (wstep_sound keeps w c sound)
@@ -321,14 +321,14 @@ all_sound keeps w (c ∷ cs) sound = all_sound keeps (wstep w c).0 cs (wstep_sou
 pub stays_sound : ExporterLaws → (w : World) (cs : List Command) → IsSoundWorld w → StaysSound w cs
 stays_sound keeps w cs sound k = all_sound keeps w (take k cs) sound
 
--- ---- where memory runs out
+-- ---- if memory runs out
 
--- nothing has changed there, so what is reached is sound in either case
+-- If memory runs out, nothing changes, so the world that is reached is sound in either case.
 pub sound_in_either : {E : Type 0} → (w after : World) (stepped : World × Reply) (r : Result Reply E) → IfOk r (λ reply. stepped ≡ (after, reply)) → OnErr r (after ≡ w) → IsSoundWorld w → IsSoundWorld stepped.0 → IsSoundWorld after
 sound_in_either w after stepped (Ok reply) is same sound sound_after = subst IsSoundWorld (ap (λ (p : World × Reply). p.0) is) sound_after
 sound_in_either w after stepped (Err e) is same sound sound_after = subst IsSoundWorld (sym same) sound
 
--- and so are the handles of the exporters theirs
+-- The handles of the exporters are right in either case too.
 pub owned_after_loans : {E : Type 0} → ExporterLaws → (w after : World) (t : Target) (v : Verb) (loans : List (ℕ × Loan)) (r : Result Reply E) (owners later : List ℕ)
     → IfOk r (λ reply. step_with_loans w t v loans (slice_get w.exporters t.exporter) ≡ (after, reply)) → OnErr r (after ≡ w)
     → IfOk r (λ _. later ≡ owners_after owners (length w.handles) (local_step w t v loans (slice_get w.exporters t.exporter)).1) → OnErr r (later ≡ owners)
@@ -339,9 +339,9 @@ owned_after_loans laws w after t v loans (Ok reply) owners later is same stepped
     (loans_owned laws w t v loans (slice_get w.exporters t.exporter) owners refl sound owned))
 owned_after_loans laws w after t v loans (Err e) owners later is same stepped kept sound owned = subst (AreOwners after) (sym kept) (subst (λ (x : World). AreOwners x owners) (sym same) owned)
 
--- ---- releasing
+-- ---- releases
 
--- a release leaves every view and every iterator there
+-- A release leaves every view and every iterator there.
 has_released : (e : Exporter) (k : ℕ) (v : View) → HasAllOf e (released_at e k v)
 has_released e k v subject.Own has = has
 has_released e k v (subject.View j) has = ap (nat_lt j) (length-set e.views k (record v { released = true })) ∙ has
@@ -351,7 +351,7 @@ released_has : (e : Exporter) (k : ℕ) (r : Result View Fault) → IfDone (HasA
 released_has e k (Ok v) = has_released e k v
 released_has e k (Err f) = tt
 
--- what a release leaves is what its effect leaves
+-- A release by a handle leaves what the effect of `release` leaves.
 effect_steps : (e : Exporter) (r : Result Exporter Fault) → IsSafe e (r >>= (λ after. Ok (after, local.Ok))) → IfDone (HasAllOf e) r → IsWell e → IfDone (IsStepped e) r
 effect_steps e (Ok after) safe has well =
     let keeps = safe.keeps well.sound in
@@ -389,13 +389,13 @@ name_released_owned w after (Some (named.Exporter i)) owners owned is = absurd (
 name_released_owned w after (Some (named.Iterator i k)) owners owned is = absurd (cc)
 name_released_owned w after None owners owned is = absurd (cc)
 
--- releasing keeps a world sound, and the handles of its exporters
+-- A release keeps a world sound, and the handles of its exporters right.
 pub released_by_sound : ReleaseIsSafe → (w after : World) (handle : ℕ) → IsSoundWorld w → released_by w handle ≡ Ok after → IsSoundWorld after
 released_by_sound safe w after handle sound is = name_released_sound safe w after (slice_get w.handles handle) sound is
 
 pub released_by_owned : (w after : World) (handle : ℕ) (owners later : List ℕ) → AreOwners w owners → later ≡ owners → released_by w handle ≡ Ok after → AreOwners after later
 released_by_owned w after handle owners later owned same is = subst (AreOwners after) (sym same) (name_released_owned w after (slice_get w.handles handle) owners owned is)
 
--- where nothing changed, the handles of the exporters are the same
+-- If nothing changed, the handles of the exporters are the same.
 pub same_owned : (w after : World) (owners later : List ℕ) → AreOwners w owners → after ≡ w → later ≡ owners → AreOwners after later
 same_owned w after owners later owned same_world same = subst (AreOwners after) (sym same) (subst (λ (x : World). AreOwners x owners) (sym same_world) owned)

@@ -27,7 +27,7 @@ use Rattle.pybuf_world.specs.Sound.{IsSoundWorld}
 use Rattle.pybuf_world.specs.Laws.{EachExporterStays, WorldLengthsStay, WorldReadOnlyBytesStay, KeepsIterators, WorldIteratorsStay}
 use Rattle.pybuf_world.proofs.Lists.{slice_get-append, slice_get-set, slice_get-set_other, All-slice_get}
 
--- what holds between an exporter and itself, and before and after each command
+-- The relation holds between an exporter and itself, and between an exporter before and after each command.
 record IsKeptBySteps (Stays : Exporter → Exporter → Type 0) : Type 0 where
   same : (e : Exporter) → Stays e e
   step : (e : Exporter) (s : Subject) (v : Verb) (loans : List (ℕ × Loan)) → IsSoundExporter e → Stays e (estep e s v loans).0
@@ -35,7 +35,7 @@ record IsKeptBySteps (Stays : Exporter → Exporter → Type 0) : Type 0 where
 world_stays : (Stays : Exporter → Exporter → Type 0) → IsKeptBySteps Stays → (w : World) → EachExporterStays Stays w w
 world_stays Stays kept w i e at = (e, at, kept.same e)
 
--- one exporter is set, and the others stay
+-- One exporter is set, and the others stay.
 one_set : (Stays : Exporter → Exporter → Type 0) → IsKeptBySteps Stays → (w : World) (j : ℕ) (old new : Exporter) → slice_get w.exporters j ≡ Some old → Stays old new
     → (i : ℕ) (e : Exporter) → ((j == i) ≡ true) × (j ≡ i) ⊎ ((j == i) ≡ false) × (j ≢ i) → slice_get w.exporters i ≡ Some e
     → (after : Exporter) × (slice_get (set w.exporters j new) i ≡ Some after) × Stays e after
@@ -49,7 +49,7 @@ one_set Stays kept w j old new found stays i e (inl same) at =
 one_set Stays kept w j old new found stays i e (inr other) at =
     (e, slice_get-set_other w.exporters j i new other.1 ∙ at, kept.same e)
 
--- and where one more is added behind them
+-- The same if one more exporter is added behind them.
 set_or_more : (Stays : Exporter → Exporter → Type 0) → IsKeptBySteps Stays → (w : World) (t : Target) (old new : Exporter) (r : LocalReply) → slice_get w.exporters t.exporter ≡ Some old → Stays old new
     → EachExporterStays Stays w (world_after w t (new, r)).0
 set_or_more Stays kept w t old new (local.Fresh snap) found stays i e at =

@@ -1,4 +1,4 @@
--- What the tables are after a command on an exporter that is there.
+-- What the tables have after a command on an exporter that is there.
 use Rattle.std.proofs.Common.{◌≡◌, ℕ, List, [], ◌∷◌, ◌++◌, length, Bool, true, false, true≢false, set, ap, ap₂, sym, ◌∙◌, refl, subst}
 use Rattle.std.specs.Prelude.{Option, Some, None, Result, Ok, Err, OnErr, slice_get}
 use Rattle.std.proofs.lemmas.List.{length-set}
@@ -21,9 +21,9 @@ use Rattle.pybuf_world.specs.Stepping.{local_step}
 use Rattle.pybuf_world.specs.Tables.{owners_after, IsCopyAt, IsFresh, IfFresh, with_made, with_copy, answered}
 use Rattle.pybuf_world.proofs.Lists.{slice_get-set, set-slice_get}
 
--- ---- what is replied
+-- ---- replies
 
--- what is made of a copy stands behind the exporter that has stepped
+-- The exporter that a copy makes stands behind the exporter that made a step.
 fresh_answered : (w : World) (t : Target) (old new : Exporter) (snap : Snap) → slice_get w.exporters t.exporter ≡ Some old
     → world_after w t (new, local.Fresh snap) ≡ answered (record w { exporters = set w.exporters t.exporter new }) t (local.Fresh snap)
 fresh_answered w t old new snap found =
@@ -50,7 +50,7 @@ reply_answered w t old new (local.Numbers numbers) found = refl
 reply_answered w t old new (local.ByteLists lists) found = refl
 reply_answered w t old new (local.Refused f) found = refl
 
--- a step is the local step with its answer
+-- A step is the local step together with its answer.
 pub answer_of_local : (w : World) (t : Target) (v : Verb) (loans : List (ℕ × Loan)) (o : Option Exporter) (after : World) (r : LocalReply) → slice_get w.exporters t.exporter ≡ o → local_step w t v loans o ≡ (after, r)
     → step_with_loans w t v loans o ≡ answered after t r
 answer_of_local w t v loans (Some e) after r found is =
@@ -63,7 +63,7 @@ abbrev is_fresh : LocalReply → Bool
 is_fresh (local.Fresh snap) = true
 is_fresh _ = false
 
--- something fresh leaves the world as it was, and is a copy of the target
+-- A reply that is something fresh leaves the world as it was, and is a copy of the target.
 fresh_copy : FreshRepliesAreCopies → (w : World) (t : Target) (v : Verb) (loans : List (ℕ × Loan)) (o : Option Exporter) (after : World) (snap : Snap) → slice_get w.exporters t.exporter ≡ o
     → local_step w t v loans o ≡ (after, local.Fresh snap) → (after ≡ w) × (IsCopyAt o t.subject snap)
 fresh_copy copies w t v loans (Some e) after snap found is =
@@ -115,9 +115,9 @@ copy_asked copies w t v loans o after (local.Numbers numbers) found is = tt
 copy_asked copies w t v loans o after (local.ByteLists lists) found is = tt
 copy_asked copies w t v loans o after (local.Refused f) found is = tt
 
--- ---- room that was reserved, and both facts of an error
+-- ---- reserved room, and the two facts of an error
 
--- handles for which room was reserved are the handles
+-- Handles with reserved room are the same handles.
 pub with_room : (es : List Exporter) (names handles : List Named) (t : Target) (v : Verb) (after : World) (r : LocalReply) → names ≡ handles
     → local_step (record { exporters = es; handles = names }) t v (loans_of (record { exporters = es; handles = names }) t.exporter v) (slice_get es t.exporter) ≡ (after, r)
     → local_step (record { exporters = es; handles = handles }) t v (loans_of (record { exporters = es; handles = handles }) t.exporter v) (slice_get es t.exporter) ≡ (after, r)
@@ -128,9 +128,9 @@ pub both_on_err : {X E : Type 0} (P Q R : Type 0) (r : Result X E) → (P → Q 
 both_on_err P Q R (Ok x) go p q = p
 both_on_err P Q R (Err e) go p q = go p q
 
--- ---- what is made of a copy
+-- ---- the exporter that a copy makes
 
--- it is added by whether it has a view
+-- The exporter is added with or without its view.
 pub copy_added : (w after : World) (o : Option Exporter) (e made : Exporter) (s : Subject) (snap : Snap) (viewed : Bool) (r : Reply) → o ≡ Some e → made ≡ made_of (is_readonly_subject e s) snap
     → viewed ≡ has_view snap.kind → with_made viewed w made ≡ (after, r) → with_copy w o s snap ≡ (after, r)
 copy_added w after o e made s snap viewed r found is kind added =

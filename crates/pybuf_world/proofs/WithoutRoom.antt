@@ -1,4 +1,4 @@
--- A list of exporters without their room.
+-- The exporters of a list, without their room.
 use Rattle.std.proofs.Common.{◌≡◌, ℕ, ◌<◌, List, length, set, get_or, ap, sym, ◌∙◌}
 use Rattle.std.specs.Prelude.{slice_get, Option, Some, None, Result, Ok, Err, MatchResult}
 use Rattle.std.specs.Option.{option_map}
@@ -45,7 +45,7 @@ pub refused_in_world : (w : World) (i k : ℕ) (o : Option Exporter) (f : Fault)
 refused_in_world w i k (Some e) f is = world_refused w i k (released_in e k) f is
 refused_in_world w i k None f is = let same : fault.UnknownName ≡ f = cc in ap (λ (x : Fault). let gone : Result World Fault = Err x in gone) same
 
--- an exporter of the list whose view was released, or wasn't
+-- an exporter of the list, whose view was released or wasn't
 pub released_listed : {A : Type 0} (ss : List StoredExporter) (es : List Exporter) (i k : ℕ) (s new : StoredExporter) (r : Result A Fault) → exporters_of ss ≡ es → slice_get (exporters_of ss) i ≡ Some s.exporter
     → MatchResult r (λ x. released_in s.exporter k ≡ Ok new.exporter) (λ f. released_in s.exporter k ≡ Err f)
     → MatchResult r (λ x. released_among es i k (slice_get es i) ≡ Ok (exporters_of (set ss i new))) (λ f. released_among es i k (slice_get es i) ≡ Err f)

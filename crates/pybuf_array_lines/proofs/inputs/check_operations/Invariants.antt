@@ -5,7 +5,7 @@ use Rattle.pybuf_array_lines.specs.Inputs.{operations_in, operations_from}
 use Rattle.pybuf_array_lines.proofs.NextLines.{onto}
 use Rattle.pybuf_array_lines.proofs.inputs.check_operations.Given as goal
 
--- the lines so far are operations, and so many lines were read
+-- The lines so far are operations, and as many lines were read.
 pub record Checked (Operations Count : Type 0) : Type 0 where
   pub operations : Operations
   pub count : Count

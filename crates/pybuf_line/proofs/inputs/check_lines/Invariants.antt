@@ -5,7 +5,7 @@ use Rattle.pybuf_line.specs.Lines.{lines, commands_in, commands_from}
 use Rattle.pybuf_line.proofs.Commands.{onto}
 use Rattle.pybuf_line.proofs.inputs.check_lines.Given as goal
 
--- the lines so far are commands, and so many lines were read
+-- The lines so far are commands, and as many lines were read.
 pub record Checked (Commands Count : Type 0) : Type 0 where
   pub commands : Commands
   pub count : Count

@@ -3,7 +3,7 @@ use Rattle.pybuf_line.specs.Scalars.{number_below}
 use Rattle.pybuf_line.proofs.Digits.{number_from}
 use Rattle.pybuf_line.proofs.scalars.word_number.Given as goal
 
--- the number so far, with the digits that are left, is the whole number; and a machine word holds it
+-- The number so far and the digits that are left make the whole number. A machine word holds the number.
 pub record Read (Value Fits : Type 0) : Type 0 where
   pub value : Value
   pub fits : Fits

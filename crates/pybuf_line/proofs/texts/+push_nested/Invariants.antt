@@ -2,7 +2,7 @@ use Rattle.std.proofs.Common.{◌≡◌, ◌++◌, ◌-◌, ◌*◌, ◌≤◌, 
 use Rattle.pybuf_line.proofs.Nested.{left_text}
 use Rattle.pybuf_line.proofs.texts.+push_nested.Given as goal
 
--- what is written, with what is left to write, is the text of the blocks; and there is room for each of them
+-- What is written and what is left to write are the text of the blocks. There is room for each block.
 pub record Blocks (Text Room : Type 0) : Type 0 where
   pub text : Text
   pub room : Room

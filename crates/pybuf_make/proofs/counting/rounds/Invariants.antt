@@ -4,7 +4,7 @@ use Rattle.pybuf_make.specs.Script as spec
 use Rattle.pybuf_make.specs.Counting.{HasRun}
 use Rattle.pybuf_make.proofs.counting.rounds.Given as goal
 
--- the rounds so far were run, and each has at most eight commands
+-- The rounds so far were run, and each has at most eight commands.
 pub record Rounds (Ran Room Within : Type 0) : Type 0 where
   pub ran : Ran
   pub room : Room

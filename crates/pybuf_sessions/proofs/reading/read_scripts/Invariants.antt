@@ -4,7 +4,7 @@ use Rattle.pybuf_sessions.specs.Sessions.{asks_from}
 use Rattle.pybuf_sessions.proofs.Lines.{AskedSoFar}
 use Rattle.pybuf_sessions.proofs.reading.read_scripts.Given as goal
 
--- what the lines so far ask, and how many lines were read
+-- what the lines so far ask for, and how many lines were read
 pub record Read (Asked Count : Type 0) : Type 0 where
   pub asked : Asked
   pub count : Count

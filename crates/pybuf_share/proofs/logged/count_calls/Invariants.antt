@@ -3,7 +3,7 @@ use Rattle.std.specs.List.{All}
 use Rattle.pybuf_share.specs.Finishing.{parts_of, calls_of, IsOwn}
 use Rattle.pybuf_share.proofs.logged.count_calls.Given as goal
 
--- what the sessions that are left have, with what was added together, is what all have
+-- What the remaining sessions have, and what was added up, is what all sessions have.
 abbrev pub invariant-loop-session : goal.invariant-loop-session
 invariant-loop-session g l =
     (l.all.parts + parts_of l.left.items ≡ parts_of l.fn.sessions.items)
