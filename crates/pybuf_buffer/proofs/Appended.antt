@@ -17,7 +17,7 @@ use Rattle.pybuf_desc.specs.Segments.{bytes_in, ranges_of, joined_count}
 use Rattle.pybuf_desc.specs.Laws.{RangesHaveTheContent, LinesHaveTheirPieces}
 use Rattle.pybuf_memoryview.specs.Laws.{ContentsAreWhole}
 
--- No range ends before it begins, and each ends inside.
+-- No range ends before it begins.
 abbrev pub AreInOrder : List (Range ℕ) → Type 0
 AreInOrder ranges = All (λ (range : Range ℕ). range.start ≤ range.end) ranges
 

@@ -210,7 +210,8 @@ stored_on_err r old new m n same rooms = where_err _ _ r same (λ exporters. sam
 
 -- ---- queues
 
--- A step pays for its moves: the moves up to now and the room stay below what was there and what was taken out.
+-- The moves so far and the room after a step are together at most the moves and the room before it and what it
+-- took out.
 step_pays : (command : LocalCommand) (cut : ℕ) (old : StoredExporter) (before : ℕ) (new : StoredExporter) (after : ℕ) → IsQueueStep command cut old before new after → after + new.room ≤ before + (old.room + cut)
 step_pays command cut old before new after step =
     elim step.1 [

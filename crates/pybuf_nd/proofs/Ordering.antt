@@ -253,7 +253,7 @@ drop_first : (P : ℕ × ℤ × ℤ → Type 0) (dims : List (ℕ × ℤ × ℤ)
 drop_first P [] all = tt
 drop_first P (dim ∷ dims) all = all.1
 
--- What stays when the dimensions get another order.
+-- There are two cases: no entry is 0, or there is at most one dimension.
 by_zero : {A : Type 0} (dims : List (ℕ × ℤ × ℤ)) → CanBeOrdered dims → (has_zero (shape_of dims) ≡ false → A) → (length dims ≤ 1 → A) → A
 by_zero {A} dims can some few = test (has_zero (shape_of dims)) refl
   where

@@ -58,7 +58,7 @@ length_put (axis ∷ axes) (index ∷ indices) made = length_after (put_at_axes 
     length_after (x ∷ xs) zero y = refl
     length_after (x ∷ xs) (suc k) y = ap suc (length_after xs k y)
 
--- If only the first places change, the last entry stays.
+-- If only entries before the last are set, the last stays.
 put_front : (n m : ℕ) (indices made : List ℕ) (z : ℕ) → m ≤ n → length made ≡ n → put_at_axes (reversed_axes m) indices (made ++ z ∷ []) ≡ put_at_axes (reversed_axes m) indices made ++ z ∷ []
 put_front n zero indices made z few e = refl
 put_front n (suc m) [] made z few e =

@@ -64,7 +64,7 @@ resized_to ways e bytes r free writable is = record { keeps = λ sound. ways.res
 written : Ways → (e : Exporter) (bytes : List ℕ) → holds_readonly e.kind ≡ false → length bytes ≡ length e.bytes → IsSafe e (Ok (with_bytes e bytes))
 written ways e bytes writable same = record { keeps = λ sound. ways.writing e bytes sound writable same; answers = refl }
 
--- What holds if no view is unreleased holds after the check of that.
+-- What follows the check for unreleased views need only be safe if there are none.
 asked : (e : Exporter) (f : Bool → Result (Exporter × LocalReply) Fault) → ((u : Bool) → has_exports e ≡ false → IsSafe e (f u)) → IsSafe e (resizable e >>= f)
 asked e f after = bind e (resizable e) f (λ u is. after u (passed (has_exports e) fault.Buffer u is))
 

@@ -393,7 +393,7 @@ pub column_casts_hold : ColumnLaws → ColumnCastsHoldTheBytes
 column_casts_hold laws e k format shape made sound is =
     done (λ (m : Exporter × LocalReply). HoldsTheBytes e k m) (column_cast_of_view e k format shape) made (columns_made laws e k format shape sound) is
 
--- The code of a cast that isn't refused is one of single bytes, or the view has single bytes.
+-- The text is a single native code, and that code or the view's format has single bytes.
 abbrev OfBytes : Layout → List ℕ → Type 0
 OfBytes layout text = (c : FormatType) × (native_single_code text ≡ Some c) × (is_byte_code c || is_byte_format layout.format ≡ true)
 
