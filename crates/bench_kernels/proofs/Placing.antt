@@ -1,4 +1,4 @@
--- Views whose items lie among so many bytes, and an order of three axes.
+-- Views whose items lie among `count` bytes, and an order of three axes.
 use Rattle.std.proofs.Common.{◌≡◌, ℕ, [], ◌∷◌, sym, subst}
 use Rattle.std.proofs.lemmas.List.Sorted.{IsPermutation-append_comm}
 use Rattle.pybuf_desc.specs.Layouts.{Layout, LiesInside}

@@ -1,4 +1,4 @@
--- The indices of slices of one axis.
+-- The indices of slices of a single axis.
 use Rattle.std.proofs.Common.{◌≡◌, ℕ, zero, suc, ◌+◌, ◌-◌, ◌<◌, ◌≤◌, ℤ, pos, negsuc, Bool, true, false, List, [], ◌∷◌, length, refl, ap, ap₂, ◌∙◌, arith}
 use Rattle.std.specs.Prelude.{Some, None, nat_lt, slice_index, ◌+ℤ◌, if◌then◌else◌}
 use Rattle.std.specs.List.{range_with_len}
@@ -9,7 +9,7 @@ use Rattle.pybuf_index.specs.Picks.{start_of, stop_of, steps_to, picks}
 use Rattle.pybuf_index.specs.Parts.{SliceParts, picks_of}
 use Rattle.example_picture.specs.Cuts.{all_of, backwards, between}
 
--- a slice has so many indices on an axis, and these
+-- A slice has `count` indices on an axis, and `source` gives them.
 pub record IsAxis (entries : ℕ) (parts : SliceParts) (count : ℕ) (source : ℕ → ℕ) : Type 0 where
   pub many : length (picks_of entries parts) ≡ count
   pub at : (i : ℕ) → i < count → slice_index (picks_of entries parts) i ≡ source i
@@ -42,7 +42,7 @@ unfolding picks
 picks_all n =
     ap (λ (k : ℕ). steps_to n (pos 0) (pos k) (pos 1)) (let same : n ≡ 0 + n = omega arith in same) ∙ steps_rise n 0 n (omega arith)
 
--- the numbers below, the greatest first
+-- the numbers below a number, the greatest first
 abbrev falling : ℕ → List ℕ
 falling zero = []
 falling (suc n) = n ∷ falling n

@@ -51,7 +51,8 @@ on_ok (Err e) P Q h p = tt
 
 -- ---- what a selection shows
 
--- a view of so many rows, columns and channels that shows at each pixel what another shows at one of its own
+-- A view has this many rows, columns and channels. At each pixel it shows what another view shows at the pixel
+-- that `f` and `g` give.
 pub record IsCut (view made : Layout) (n m k : ℕ) (f g : ℕ → ℕ) : Type 0 where
   pub shape : made.shape ≡ n ∷ m ∷ k ∷ []
   pub at : (i j l : ℕ) → i < n → j < m → l < k → start_at made (i ∷ j ∷ l ∷ []) ≡ start_at view (f i ∷ g j ∷ l ∷ [])
@@ -97,7 +98,7 @@ shown view made n m f g frame framed is = record {
   pixels = λ row column channel p q s. sym (place_is made row column channel framed) ∙ is.at row column channel p q s ∙ place_is view (f row) (g column) channel frame;
 }
 
--- ---- the three ways
+-- ---- the three ways to make a part
 
 pub flip_some : (view : Layout) → IsFrame view → IsSome view.shape (all_of ∷ backwards ∷ all_of ∷ [])
 flip_some view is = cut_some view _ _ _ _ _ all_of backwards all_of (λ i. i) _ is.shape (axis_all _) (axis_backwards _) (axis_all _) is.some_column is.some_channel
@@ -127,7 +128,7 @@ module _ (view : Layout) (is : IsFrame view) (rows columns : Range ℕ) (some_ro
   pub crop_shows : ViewsGoByIndices → IsCropped (part_of view) rows columns (part_of (selection_of view (between rows ∷ between columns ∷ all_of ∷ [])))
   crop_shows law = shown view _ _ _ _ _ is (crop_frame law) (crop_cut law)
 
--- ---- rows and columns in each other's place
+-- ---- rows and columns change places
 
 pub swap_axes : (count : ℕ) → count ≡ 3 → IsPermutation (range_with_len 0 count) (1 ∷ 0 ∷ 2 ∷ [])
 swap_axes count three =

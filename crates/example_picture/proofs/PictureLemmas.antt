@@ -95,7 +95,7 @@ found stand positions within d start room row column channel offset placed valid
     found_at stand within d start room row column channel offset placed valid frame
     (subst (λ (z : ℤ). IsPosition (layout_at d start) start (number_of_item (row ∷ column ∷ channel ∷ []) d.dims) z) (sym sum) (positions d start (layout_at d start) (row ∷ column ∷ channel ∷ []) placed (stand d start placed) indices))
 
--- ---- a level painted
+-- ---- a level is painted
 
 pub painted_is : (e : Exporter) (k x : ℕ) → overwritten_exporter e (set e.bytes k x) ≡ record e { bytes = set e.bytes k x }
 painted_is e k x =

@@ -1,4 +1,4 @@
--- What the header of a program's file says of its sections.
+-- What the header of a program's file says about its sections.
 use Rattle.std.proofs.Common.{◌≡◌, ℕ, ◌≤◌, pos, Bool, true, false, List, [], ◌∷◌, length, take, refl, arith, ap, sym, ◌∙◌, subst, Result, Ok, Err, ℤ, codes}
 use Rattle.std.specs.Prelude.{nat_lt, nat_le, slice_index_or, IfOk}
 use Rattle.std.proofs.lemmas.List.{length-take-le}
@@ -21,7 +21,7 @@ use Rattle.pybuf_table.specs.Offsets.{row_from}
 use Rattle.example_users.specs.Elf.{number_at, header_values_of}
 use Rattle.example_users.proofs.LogLemmas.{in_head}
 
--- the values of the first bytes of a file by the format of a header
+-- the values of the first bytes of a file, by the format of a header
 header_row : List ℕ → List Scalar
 header_row head =
     scalar.Int (pos (number_at head 8 40)) ∷ scalar.Int (pos (number_at head 2 58)) ∷ scalar.Int (pos (number_at head 2 60))
@@ -37,7 +37,7 @@ row_of_short : (file : List ℕ) → nat_le 64 (length file) ≡ false →
 unfolding codes_in layout_from format_after_prefix
 row_of_short file short = rw short refl
 
--- the format of a header is one
+-- The format of a header is a format.
 pub header_has_format : (f : Fault) → record_format (codes "<40xQ10xHHH") ≡ Err f → ⊥
 unfolding codes_in layout_from format_after_prefix
 header_has_format f same = cc
@@ -63,7 +63,7 @@ read_by file r false test is =
 pub header_read_by : (file : List ℕ) (r : RecordFormat) → record_format (codes "<40xQ10xHHH") ≡ Ok r → row_from r.format (pos 0) file ≡ header_values_of file
 header_read_by file r is = read_by file r (nat_le 64 (length file)) refl is
 
--- a file whose header was read has one, and these are its numbers
+-- A file whose header was read has one, and these are its numbers.
 pub record IsHeader (file : List ℕ) (values : List Scalar) : Type 0 where
   pub long : 64 ≤ length file
   pub short : nat_lt (length file) 64 ≡ false
@@ -84,7 +84,7 @@ unfolding header_row
 refused_by file f true test is = let same : Err fault.Struct ≡ Err f = rw test at is in (test, cc)
 refused_by file f false test is = let bad : Ok (header_row file) ≡ Err f = rw test at is in cc
 
--- one without a header is refused so
+-- A file without a header is refused.
 pub header_refused : (file : List ℕ) (f : Fault) → header_values_of file ≡ Err f → (nat_lt (length file) 64 ≡ true) × (f ≡ fault.Struct)
 header_refused file f is = refused_by file f (nat_lt (length file) 64) refl is
 
@@ -110,7 +110,7 @@ given_back : {X : Type 0} (wanted : Result X Fault) → Gives wanted (stopped_by
 given_back (Ok x) = refl
 given_back (Err f) = refl
 
--- what an answer that may be refused is as one result
+-- an answer that may be a refusal, as a single result
 pub given_so : {X : Type 0} (wanted : Result X Fault) (r : Result (Outcome X) NoMemory) → IfOk r (λ o. o ≡ outcome_of wanted) →
     Gives wanted (done_by given_by r)
 given_so wanted (Err none) is = tt

@@ -1,4 +1,4 @@
--- What one session did with a locked buffer, and what two of them did with two.
+-- What one session did with a locked buffer, and what two sessions did with two buffers.
 use Rattle.std.proofs.Common.{◌≡◌, inl, inr, ℕ, ◌<◌, List, [], ◌∷◌, ◌++◌, length, map, get_or, Bool, true, Option, Some, None, Result, Ok, Err, IfOk, refl, ap, sym, ◌∙◌, subst, arith}
 use Rattle.std.specs.Prelude.{if◌then◌else◌}
 use Rattle.std.specs.List.{All}
@@ -24,14 +24,14 @@ use Rattle.pybuf_share.specs.Joining.{entries_of}
 use Rattle.pybuf_share.specs.Sessions.{Asker, new_session, last_reply, IsAnswered}
 use Rattle.example_users.specs.Handing.{Handed, handed, byte_array, extending, last_bytes, IsWhole, IsAlone, IsNotHanded}
 
--- one session is all sessions
+-- A single session is all sessions.
 pub is_all : (parts : ℕ) (s : Asker) → s.number ≡ 0 → s.parts ≡ parts → AreAll parts (s ∷ [])
 is_all parts s number whole = record { numbers = ap (λ n. n ∷ []) number; whole = grind (arith, whole) }
 
 pub is_plain : (s : Asker) → s.is_plain ≡ true → ArePlain (s ∷ [])
 is_plain s plain = All-cons (λ (t : Asker). t.is_plain ≡ true) s [] plain (All-nil (λ (t : Asker). t.is_plain ≡ true))
 
--- every entry is its
+-- Every entry is of this session.
 all_of_one : (entries : List Entry) → All (λ x. x.session < 1) entries → entries_of 0 entries ≡ entries
 all_of_one [] known = refl
 all_of_one (x ∷ xs) known =
@@ -46,11 +46,11 @@ are_its s entries number theirs =
     ∙ ap (λ (n : ℕ). entries_of n entries) (sym number)
     ∙ All-head (λ (t : Asker). entries_of t.number entries ≡ map (λ (r : Receipt). r.entry) t.receipts) s [] theirs.each
 
--- so its receipts are the history
+-- So its receipts are the history.
 pub is_alone : (opening : Opening) (s : Asker) (joined : Joined) → s.number ≡ 0 → IsJoined opening.kind opening.bytes (s ∷ []) joined → AreTheirs (s ∷ []) joined.entries → IsAlone opening s joined
 is_alone opening s joined number is theirs = record { is = is; own = are_its s joined.entries number theirs }
 
--- where what is put together is of that session
+-- The history that was joined is of that session.
 pub alone_by : (opening : Opening) (s : Asker) (ss : List Asker) (r : Result Joined FinishFault) → ss ≡ s ∷ [] → s.number ≡ 0 → s.is_plain ≡ true → IfOk r (λ joined. IsJoined opening.kind opening.bytes ss joined)
     → (ArePlain ss → IfOk r (λ joined. AreTheirs ss joined.entries)) → IfOk r (λ joined. IsAlone opening s joined)
 alone_by opening s ss (Ok joined) are number plain is theirs =
@@ -66,7 +66,7 @@ one_entry : (command : LocalCommand) (after : Asker) (answered : IsAnswered (new
     → map (λ r. r.entry) after.receipts ≡ (record { session = 0; command = command; reply = answered.reply }) ∷ []
 one_entry command after answered = ap (λ (s : Asker). map (λ (r : Receipt). r.entry) s.receipts) answered.same
 
--- what a history is that such a call is the whole of
+-- The history has just the entry of this call.
 module _ (opening : Opening) (command : LocalCommand) (after : Asker) (joined : Joined) (answered : IsAnswered (new_session 0) command after) (alone : IsAlone opening after joined) where
   abbrev entry : Entry
   entry = record { session = 0; command = command; reply = answered.reply }
@@ -101,14 +101,14 @@ module _ (from to : List ℕ) (giver taker : Asker) (first second : Joined) (ask
   pub is_handed : record { given = last_bytes first; taken = last_bytes second } ≡ handed from to
   is_handed = cc (given_is, taken_is)
 
--- a session stays plain, whether or not something came to it
+-- A session stays plain, whether it took something or not.
 pub still_plain : (before after : Asker) (command : LocalCommand) (handle : ℕ) (given : Option (List ℕ)) → Takes before command handle given after → before.is_plain ≡ true → after.is_plain ≡ true
 still_plain before after command handle (Some bytes) takes plain = ap (λ (s : Asker). s.is_plain) takes.answered.same ∙ plain
 still_plain before after command handle None takes plain = ap (λ (s : Asker). s.is_plain) takes ∙ plain
 
 -- ---- why bytes aren't handed over
 
--- one receipt, or none, is in order
+-- A single receipt is in order, and so is none.
 pub asked_in_order : (command : LocalCommand) (after : Asker) → IsAnswered (new_session 0) command after → first_fall after.receipts ≡ None
 asked_in_order command after answered = ap (λ (s : Asker). first_fall s.receipts) answered.same
 

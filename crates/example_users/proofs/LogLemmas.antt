@@ -30,14 +30,14 @@ take_less (suc m) zero xs less = absurd (omega arith)
 take_less (suc m) (suc j) [] less = refl
 take_less (suc m) (suc j) (x ∷ xs) less = ap (λ rest. x ∷ rest) (take_less m j xs (omega arith))
 
--- bytes that lie in the first so many
+-- The bytes lie among the first `head`.
 pub in_head : (file : List ℕ) (size start head : ℕ) → start + size ≤ head → bytes_at (take head file) size start ≡ bytes_at file size start
 in_head file size start head inside =
     let whole : head ≡ start + (head - start) = omega arith in
     ap (λ n. take size (drop start (take n file))) whole
     ∙ (ap (λ xs. take size xs) (drop-take start (head - start) file) ∙ take_less size (head - start) (drop start file) (omega arith))
 
--- the values of a header by its format
+-- the values of a header, by its format
 header_values : List ℕ → List Scalar
 header_values head = scalar.Int (pos (little_endian 0 (bytes_at head 2 4))) ∷ scalar.Int (pos (little_endian 0 (bytes_at head 4 6))) ∷ []
 
@@ -49,7 +49,7 @@ header_short : (file : List ℕ) → nat_le 10 (length file) ≡ false → (form
 unfolding codes_in layout_from format_after_prefix
 header_short file short = rw short refl
 
--- the format of a header is one
+-- The format of a header is a format.
 pub header_format : (f : Fault) → format_of (codes "<4xHI") ≡ Err f → ⊥
 unfolding codes_in layout_from format_after_prefix
 header_format f same = cc
@@ -72,7 +72,7 @@ refused_by file format f false test parsed read =
     let short : nat_lt (length file) 10 ≡ true = grind (arith, nat_tests) in
     rw (short, same) refl
 
--- a file that is too short for the format of a header has none
+-- A file that is too short for the format of a header has no header.
 pub header_refused : (file : List ℕ) (format : Format) (f : Fault) → format_of (codes "<4xHI") ≡ Ok format → unpacked_from format 0 file ≡ Err f → header_of file ≡ Err f
 header_refused file format f parsed read = refused_by file format f (nat_le 10 (length file)) refl parsed read
 
@@ -82,7 +82,7 @@ long_by file format values false test parsed read =
     let given = sym read ∙ (read_of file format parsed ∙ header_short file test) in
     absurd cc
 
--- the numbers that are told are those that there are
+-- The numbers that are told are those that are there.
 pub told_numbers : (values : List Scalar) (count : ℕ) (numbers others : List ℤ) → Ok numbers ≡ so_many_numbers count values → so_many_numbers count values ≡ Ok others → numbers ≡ others
 told_numbers values count numbers others told are = let both : Ok numbers ≡ Ok others = told ∙ are in cc
 
@@ -95,7 +95,7 @@ second_of numbers a b rest is = ap (λ ns. slice_index_or ns 1 (pos 0)) is
 pub third_of : (numbers : List ℤ) (a b c : ℤ) (rest : List ℤ) → numbers ≡ a ∷ b ∷ c ∷ rest → slice_index_or numbers 2 (pos 0) ≡ c
 third_of numbers a b c rest is = ap (λ ns. slice_index_or ns 2 (pos 0)) is
 
--- the values of a header
+-- the values of a header that was read
 pub header_is_read : (file : List ℕ) (format : Format) (values : List Scalar) → format_of (codes "<4xHI") ≡ Ok format → unpacked_from format 0 file ≡ Ok values
     → (10 ≤ length file) × (so_many_numbers 2 values ≡ Ok (pos (little_endian 0 (bytes_at file 2 4)) ∷ pos (little_endian 0 (bytes_at file 4 6)) ∷ []))
 unfolding header_values
@@ -111,7 +111,7 @@ pub reading_read : (bytes : List ℕ) → length bytes ≡ 7
 unfolding codes_in layout_from format_after_prefix
 reading_read bytes seven = rw seven refl
 
--- and of any other number of bytes
+-- what that format does with any other number of bytes
 pub reading_refused : (bytes : List ℕ) → (length bytes == 7) ≡ false → values_by (codes "<IhB") bytes ≡ Err fault.Struct
 unfolding codes_in layout_from format_after_prefix
 reading_refused bytes other = rw other refl
@@ -127,7 +127,7 @@ below bytes size start small inside =
 under : (bytes : List ℕ) → ((i : ℕ) → Fits w8 (slice_index_or bytes i 0)) → All (λ b. b < 256) bytes
 under bytes fits k d inside = let here : Fits w8 (slice_index_or bytes k 0) = fits k in rw (get_or_default bytes k d 0 inside) (omega arith)
 
--- a number of so many bytes of a file fits as many
+-- A number that has so many bytes of a file fits into as many.
 pub number_fits : (bytes : List ℕ) → ((i : ℕ) → Fits w8 (slice_index_or bytes i 0)) → (size start : ℕ) → start + size ≤ length bytes → little_endian 0 (bytes_at bytes size start) < 256 ^ size
 number_fits bytes fits size start inside = below bytes size start (under bytes fits) inside
 
@@ -135,11 +135,11 @@ seven_by : (bytes : List ℕ) (values : List Scalar) (b : Bool) → (length byte
 seven_by bytes values true test read = grind (arith, nat_tests)
 seven_by bytes values false test read = absurd (cc (reading_refused bytes test))
 
--- what is read is of seven bytes
+-- What is read has seven bytes.
 pub reading_of_seven : (bytes : List ℕ) (values : List Scalar) → values_by (codes "<IhB") bytes ≡ Ok values → length bytes ≡ 7
 reading_of_seven bytes values read = seven_by bytes values (length bytes == 7) refl read
 
--- the format of a reading is one
+-- The format of a reading is a format.
 pub reading_format : (f : Fault) → format_of (codes "<IhB") ≡ Err f → ⊥
 unfolding codes_in layout_from format_after_prefix
 reading_format f same = cc
@@ -156,7 +156,7 @@ unread_by bytes format f false test parsed read =
     let same : f ≡ fault.Struct = cc in
     rw (test, same) refl
 
--- another number of bytes is no reading
+-- Another number of bytes is no reading.
 pub reading_unread : (bytes : List ℕ) (format : Format) (f : Fault) → format_of (codes "<IhB") ≡ Ok format → unpacked_values format bytes ≡ Err f → reading_of bytes ≡ Err f
 reading_unread bytes format f parsed read = unread_by bytes format f (length bytes == 7) refl parsed read
 
@@ -173,7 +173,7 @@ signed_by : (b : Bool) (n : ℕ) → nat_le 65536 (2 * n) ≡ b → n < 2 ^ 16 �
 signed_by true n test small = let high : 65536 ≤ 2 * n = leb-true _ _ test in omega (arith, ints)
 signed_by false n test small = let low : 2 * n < 65536 = leb-false _ _ test in omega (arith, ints)
 
--- a number of two bytes with a sign fits as many
+-- A number of two bytes with a sign fits into two.
 pub signed_fits : (bytes : List ℕ) → ((i : ℕ) → Fits w8 (slice_index_or bytes i 0)) → (start : ℕ) → start + 2 ≤ length bytes → FitsSigned w16 (number false true (bytes_at bytes 2 start))
 signed_fits bytes fits start inside =
     let long : length (bytes_at bytes 2 start) ≡ 2 = length-take-le 2 (drop start bytes) (simp length-drop (omega arith)) in

@@ -1,4 +1,4 @@
--- Numbers of two bytes each.
+-- Numbers that have two bytes each.
 use Rattle.std.proofs.Common.{◌≡◌, ℕ, suc, zero, false, ◌+◌, ◌*◌, ◌<◌, ◌/◌, ◌%◌, ◌^◌, List, [], ◌∷◌, ◌++◌, length, refl, ap, sym, ◌∙◌, arith, slice_index, slice_get, set, Some, take, drop, get_or, length-set}
 use Rattle.std.proofs.Math.Nat.{mod-eq_of_lt}
 use Rattle.std.proofs.Math.Seq.{take-append_seam}
@@ -19,7 +19,7 @@ twice i = omega arith
 twice_more : (i : ℕ) → 2 * suc i + 1 ≡ suc (suc (2 * i + 1))
 twice_more i = omega arith
 
--- other bytes in the place of two are another number in the place of theirs
+-- If two bytes are replaced, so is the number that they spell.
 pub numbers_of-set : (bytes : List ℕ) (i low high : ℕ) → i < length (numbers_of bytes) → numbers_of (set (set bytes (2 * i) low) (2 * i + 1) high) ≡ set (numbers_of bytes) i (low + 256 * high)
 numbers_of-set [] i low high inside = absurd (omega arith)
 numbers_of-set (b ∷ []) i low high inside = absurd (omega arith)
@@ -31,18 +31,18 @@ numbers_of-set (a ∷ b ∷ bytes) (suc i) low high inside =
 pub two_bytes : (n : ℕ) → n < 2 ^ 16 → n % 256 + 256 * (n / 256 % 256) ≡ n
 two_bytes n small = let high : n / 256 % 256 ≡ n / 256 = mod-eq_of_lt (omega arith) in rw high (omega arith)
 
--- a number's two bytes behind others are the number behind theirs
+-- If a number's two bytes are added to others, the number is added to theirs.
 pub numbers_of-low_high : (bytes : List ℕ) (n : ℕ) → n < 2 ^ 16 → length bytes ≡ 2 * length (numbers_of bytes) → numbers_of (bytes ++ n % 256 ∷ n / 256 % 256 ∷ []) ≡ numbers_of bytes ++ n ∷ []
 numbers_of-low_high bytes n small even = numbers_of-append bytes _ _ even ∙ ap (λ m. numbers_of bytes ++ m ∷ []) (two_bytes n small)
 
--- two bytes in the place of those at an index
+-- Two bytes replace those at an index.
 pub put_two : (bytes : List ℕ) (i low high : ℕ) → i < length (numbers_of bytes) → take (2 * i) bytes ++ (low ∷ high ∷ drop 2 (drop (2 * i) bytes)) ≡ set (set bytes (2 * i) low) (2 * i + 1) high
 put_two [] i low high inside = absurd (omega arith)
 put_two (b ∷ []) i low high inside = absurd (omega arith)
 put_two (a ∷ b ∷ bytes) zero low high inside = refl
 put_two (a ∷ b ∷ bytes) (suc i) low high inside = rw (twice_more i, twice i) (ap (λ rest. a ∷ b ∷ rest) (put_two bytes i low high (omega arith)))
 
--- the number that the pair of bytes at an index is read as
+-- The pair of bytes at an index reads as this number.
 pub pair_read : (bytes : List ℕ) (k i n : ℕ) (d : List ℕ) → i < k → i < length (numbers_of bytes)
     → n ≡ slice_index (get_or (first_chunks 2 k bytes) i d) 0 + slice_index (get_or (first_chunks 2 k bytes) i d) 1 * 256 → Some n ≡ slice_get (numbers_of bytes) i
 pair_read [] k i n d few inside is = absurd (omega arith)
@@ -51,7 +51,7 @@ pair_read (a ∷ b ∷ bytes) zero i n d few inside is = absurd (omega arith)
 pair_read (a ∷ b ∷ bytes) (suc k) zero n d few inside is = ap Some (omega (arith, is))
 pair_read (a ∷ b ∷ bytes) (suc k) (suc i) n d few inside is = pair_read bytes k i n d (omega arith) (omega arith) is
 
--- the same of an array, whose pairs are cut
+-- the same for an array, whose bytes are cut into pairs
 pub number_read : (a : Numbers) (e : Exporter) (seen : List ℕ) (pairs : List (List ℕ)) (pair : List ℕ) (i n : ℕ) → IsNumberArray e → numbers_in e ≡ a
     → seen ≡ e.bytes → pairs ≡ first_chunks 2 (length seen / 2) seen → length pairs ≡ length seen / 2 → i < length pairs → pair ≡ get_or pairs i pair
     → n ≡ slice_index pair 0 + slice_index pair 1 * 256 → Some n ≡ slice_get a.numbers i
@@ -64,7 +64,7 @@ number_read a e seen pairs pair i n array shown bytes cut many inside at is =
     (is ∙ ap (λ p. slice_index p 0 + slice_index p 1 * 256) found)
     ∙ ap (λ b. slice_get b.numbers i) shown
 
--- an array after the two bytes of a number took the place of those at an index
+-- an array after the two bytes of a number replaced those at an index
 module _ (a : Numbers) (e : Exporter) (seen copied : List ℕ) (i n k : ℕ) (array : IsNumberArray e) (shown : numbers_in e ≡ a) (bytes : seen ≡ e.bytes) (copy : copied ≡ n % 256 ∷ n / 256 % 256 ∷ []) (two : k ≡ 2) (small : n < 2 ^ 16) (inside : i < length a.numbers) where
   abbrev pub written : List ℕ
   written = take (2 * i) seen ++ (copied ++ drop k (drop (2 * i) seen))

@@ -1,4 +1,4 @@
--- Views that are out, by their number.
+-- Views that are out, by their numbers.
 use Rattle.std.proofs.Common.{◌≡◌, ℕ, suc, zero, ◌+◌, ◌<◌, ◌≤◌, Bool, true, false, cond, List, [], ◌∷◌, length, map, refl, ap, arith, sym, ◌∙◌, subst, set}
 use Rattle.std.specs.Prelude.{Contains, count_by, slice_get, Result, Ok, Err, MatchResult, OnErr}
 use Rattle.std.proofs.lemmas.List.Sums.{sum_by-cons}
@@ -14,7 +14,7 @@ found_first : (b : Bool) (bs : List Bool) (n : ℕ) → 0 < cond b 1 0 + n → (
 found_first true bs n some rest = (0, omega arith, refl)
 found_first false bs n some rest = let (k, inside, is) = rest (omega arith) in (suc k, omega arith, is)
 
--- where some pass a test, one of them does
+-- If the count of elements that pass a test isn't 0, one of them passes it.
 pub some_pass : {X : Type 0} (p : X → Bool) (xs : List X) → 0 < count_by p xs → Contains (map p xs) true
 some_pass p [] some = absurd (omega arith)
 some_pass p (x ∷ xs) some = found_first (p x) (map p xs) (count_by p xs) (rw sum_by-cons at some) (some_pass p xs)
@@ -24,12 +24,12 @@ not_first true bs n none rest found = absurd (omega arith)
 not_first false bs n none rest (zero, inside, is) = cc
 not_first false bs n none rest (suc k, inside, is) = rest (omega arith) (k, omega arith, is)
 
--- where none passes it, none does
+-- If that count is 0, none passes it.
 pub none_pass : {X : Type 0} (p : X → Bool) (xs : List X) → count_by p xs ≡ 0 → Contains (map p xs) true → ⊥
 none_pass p [] none (k, inside, is) = absurd (omega arith)
 none_pass p (x ∷ xs) none found = not_first (p x) (map p xs) (count_by p xs) (rw sum_by-cons at none) (none_pass p xs) found
 
--- an array of whose views some is out is lent, and no other
+-- An array is lent exactly if one of its views is out.
 pub lent_by : (a : Numbers) (e : Exporter) → numbers_in e ≡ a → (exports_of e ≡ 0 → ⊥) → IsLent a
 lent_by a e is some = subst IsLent is (some_pass is_exported e.views (omega arith))
 
@@ -53,13 +53,13 @@ given_back_by e new k (Err f) (Err g) at exact err =
     let past : length (map is_exported e.views) ≤ k = omega (arith, length-map e.views is_exported, past_end e.views k f _ at) in
     ap numbers_in err ∙ ap (λ out. record (numbers_in e) { out = out }) (sym (set_past (map is_exported e.views) k false past))
 
--- a view that was given back is out no longer
+-- A view that was given back is no longer out.
 pub given_back : (a : Numbers) (e new : Exporter) (k : ℕ) (r : Result Unit Fault) → numbers_in e ≡ a
     → MatchResult r (λ _. released_in e k ≡ Ok new) (λ f. released_in e k ≡ Err f) → OnErr r (new ≡ e)
     → numbers_in new ≡ record a { out = set a.out k false }
 given_back a e new k r is exact err = given_back_by e new k (view_at e k) r refl exact err ∙ ap {B = Numbers} (λ b. record b { out = set b.out k false }) is
 
--- where an exporter that is lent on stays, so does the array's
+-- If an exporter that is lent on stays, so does the array's.
 pub stays_on_err : (r : Result Unit Fault) (old new : StoredExporter) (e : Exporter) → old.exporter ≡ e → OnErr r (new ≡ old) → OnErr r (new.exporter ≡ e)
 stays_on_err (Ok done) old new e at same = same
 stays_on_err (Err f) old new e at same = ap (λ (s : StoredExporter). s.exporter) same ∙ at

@@ -1,4 +1,4 @@
--- The bytes of places one after the other.
+-- The bytes at places that lie one after the other.
 use Rattle.std.proofs.Common.{◌≡◌, ℕ, suc, zero, ◌+◌, List, [], ◌∷◌, ◌++◌, length, take, drop, refl, arith, ap, sym, ◌∙◌}
 use Rattle.std.specs.Prelude.{bytes_eq, true, map}
 use Rattle.std.proofs.Common.{◌*◌, subst}
@@ -15,7 +15,7 @@ drop_one [] (suc start) = let more : suc start + 1 ≡ suc (start + 1) = omega a
 drop_one (b ∷ bytes) zero = refl
 drop_one (b ∷ bytes) (suc start) = let at : suc start + 1 ≡ suc (start + 1) = omega arith in rw at (drop_one bytes start)
 
--- the bytes of so many places from one on are a part of the bytes
+-- The bytes of `count` places from one on are a part of the bytes.
 pub bytes_in_row : (bytes : List ℕ) (start count : ℕ) → bytes_of_items bytes 1 (range_with_len start count) ≡ take count (drop start bytes)
 bytes_in_row bytes start zero = refl
 bytes_in_row bytes start (suc count) =
@@ -35,7 +35,7 @@ shifted start j (suc count) =
 same_bytes : (xs ys : List ℕ) → xs ≡ ys → bytes_eq xs ys ≡ true
 same_bytes xs ys same = subst (λ zs. bytes_eq xs zs ≡ true) same (nat_list_eq_equiv.refl xs)
 
--- places one after the other lie together
+-- Places one after the other lie together.
 pub in_row_together : (start count : ℕ) → bytes_eq (range_with_len start count) (starts_from (range_with_len start count) 1 (length (range_with_len start count))) ≡ true
 in_row_together start zero = refl
 in_row_together start (suc count) =

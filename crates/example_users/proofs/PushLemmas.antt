@@ -1,4 +1,4 @@
--- A number that is added, by its two bytes.
+-- A number is added by adding its two bytes.
 use Rattle.std.proofs.Common.{◌≡◌, ℕ, ◌+◌, ◌<◌, ◌/◌, ◌%◌, ◌^◌, Bool, true, false, [], ◌∷◌, ◌++◌, length, refl, ap, sym, subst, ◌∙◌, arith}
 use Rattle.std.specs.Prelude.{Result, Ok, Err, OnOk, OnErr}
 use Rattle.std.proofs.Common.{length-append}
@@ -29,7 +29,7 @@ abbrev after_of : Result (Exporter × Unit {0}) Fault → Exporter → Exporter
 after_of (Ok pair) e = pair.0
 after_of (Err f) e = e
 
--- whether the number of bytes may change, of a bytearray
+-- whether the number of bytes of a bytearray may change
 may_by : (e : Exporter) (b : Bool) → IsNumberArray e → has_exports e ≡ b → may_resize e ≡ unless b fault.Buffer
 may_by e b is test = ap (λ k. of_byte_array k (resizable e)) is.kind ∙ ap (λ c. unless c fault.Buffer) test
 

@@ -1,4 +1,4 @@
--- Bytes in place of others in a room.
+-- Bytes that replace others in a room.
 use Rattle.std.proofs.Common.{◌≡◌, ℕ, ◌+◌, ◌-◌, ◌≤◌, ◌<◌, List, ◌++◌, length, take, drop, arith, ap, sym, ◌∙◌, append_assoc, length-append, length-drop, slice_range, refl, Some}
 use Rattle.std.specs.Char.{to_ascii_uppercase}
 use Rattle.std.proofs.lemmas.List.{length-map, drop-drop, take-append-le, drop-append-le, length-take-le, drop-take, length-take, take-append-drop}
@@ -10,21 +10,21 @@ use Rattle.pybuf_state.specs.Exporter.{Exporter}
 use Rattle.pybuf_exporter.specs.Lending.{overwritten_exporter}
 use Rattle.example_users.specs.Lines.{Lines, overwritten, lines_in, received, answered, answered_at, answer_of, line_len_of, line_at, next_line, sent}
 
--- a part from the front on, and what stands behind it
+-- the first part, and what stands behind it
 split_at : (xs : List ℕ) (i j : ℕ) → i ≤ j → drop i (take j xs) ≡ slice_range xs i j
 split_at xs i j ordered = let whole : j ≡ i + (j - i) = omega arith in ap (λ n. drop i (take n xs)) whole ∙ drop-take i (j - i) xs
 
 length-part : (xs : List ℕ) (i j : ℕ) → i ≤ j → j ≤ length xs → length (slice_range xs i j) ≡ j - i
 length-part xs i j ordered inside = length-take-le (j - i) (drop i xs) (simp length-drop (omega arith))
 
--- what stands before the place stays
+-- What stands before the place stays.
 pub before_place : (room bytes : List ℕ) (i place : ℕ) → i ≤ place → place ≤ length room → take i (overwritten room place bytes) ≡ take i room
 before_place room bytes i place ordered inside =
     let front : length (take place room) ≡ place = length-take-le place room inside in
     take-append-le i (take place room) (bytes ++ drop (place + length bytes) room) (omega arith)
     ∙ (sym (take-append-le i (take place room) (drop place room) (omega arith)) ∙ ap (λ xs. take i xs) (take-append-drop place room))
 
--- a part that ends with the bytes
+-- a part that ends with these bytes
 pub part_with : (room bytes : List ℕ) (begin place : ℕ) → begin ≤ place → place ≤ length room
     → slice_range (overwritten room place bytes) begin (place + length bytes) ≡ slice_range room begin place ++ bytes
 part_with room bytes begin place ordered inside =
@@ -38,13 +38,13 @@ part_with room bytes begin place ordered inside =
     ∙ (take-append-add part (bytes ++ rest) (length bytes)
     ∙ ap (λ xs. part ++ xs) (take-append_seam bytes rest))))
 
--- there are as many
+-- There are as many bytes as before.
 pub length-overwritten : (room bytes : List ℕ) (place : ℕ) → place + length bytes ≤ length room → length (overwritten room place bytes) ≡ length room
 length-overwritten room bytes place inside =
     let front : length (take place room) ≡ place = length-take-le place room (omega arith) in
     simp (length-append, length-drop) (omega arith)
 
--- a part behind the bytes stays
+-- A part behind the bytes stays.
 pub part_behind : (room bytes : List ℕ) (place begin end : ℕ) → place + length bytes ≡ begin → begin ≤ end → begin ≤ length room
     → slice_range (overwritten room place bytes) begin end ≡ slice_range room begin end
 part_behind room bytes place begin end at ordered inside =
@@ -56,7 +56,7 @@ part_behind room bytes place begin end at ordered inside =
     ∙ (ap (λ n. take (end - begin) (drop n (before ++ drop (place + length bytes) room))) (sym long)
     ∙ (ap (λ xs. take (end - begin) xs) (drop-append_seam before (drop (place + length bytes) room)) ∙ ap (λ n. take (end - begin) (drop n room)) at))
 
--- what ends with the bytes
+-- the front that ends with these bytes
 pub front_with : (room bytes : List ℕ) (place : ℕ) → place ≤ length room → take (place + length bytes) (overwritten room place bytes) ≡ take place room ++ bytes
 front_with room bytes place inside =
     let rest : List ℕ = drop (place + length bytes) room in
@@ -80,7 +80,7 @@ shorter xs m n ordered inside =
     let front : length (take n xs) ≡ n = length-take-le n xs inside in
     sym (take-append-le m (take n xs) (drop n xs) (omega arith)) ∙ ap (λ ys. take m ys) (take-append-drop n xs)
 
--- the end of a part
+-- A part ends here.
 part_end : (room : List ℕ) (begin mid end : ℕ) → begin ≤ mid → mid ≤ end → slice_range room mid end ≡ drop (mid - begin) (slice_range room begin end)
 part_end room begin mid end first second =
     let whole : end - begin ≡ (mid - begin) + (end - mid) = omega arith in
@@ -105,7 +105,7 @@ answered_in room begin end len ordered inside =
     (part_behind room answer begin (begin + len + 1) end at ordered (omega arith) ∙ (part_end room begin (begin + len + 1) end (omega arith) ordered ∙ ap (λ n. drop n (slice_range room begin end)) counted))
     (ap (λ n. n - end) (length-overwritten room answer begin (omega arith)))
 
--- a line lies with its line feed in what is looked through
+-- A line and its line feed lie inside the part that is searched.
 pub line_inside : (room : List ℕ) (begin end len : ℕ) → line_len_of (slice_range room begin end) ≡ Some len → begin + len + 1 ≤ end
 line_inside room begin end len found =
     let at : len < length (slice_range room begin end) = (position-Some (λ byte. byte == 10) (slice_range room begin end) len 0 found).0 in
@@ -120,11 +120,11 @@ found_by waiting line (Some len) is found =
     let long : len ≡ length line = sym (length-take-le len waiting (omega (arith, at))) ∙ ap (λ xs. length xs) same in
     is ∙ ap Some long
 
--- how many bytes stand before the first line feed is how many the first line has
+-- The first line has as many bytes as stand before the first line feed.
 pub line_found : (b : Lines) (line : List ℕ) → next_line b ≡ Some line → line_len_of b.waiting ≡ Some (length line)
 line_found b line found = found_by b.waiting line (line_len_of b.waiting) refl found
 
--- as many bytes in place of all
+-- As many bytes replace all bytes.
 pub kept : (e : Exporter) (new : List ℕ) → length new ≡ length e.bytes → (overwritten_exporter e new).bytes ≡ new
 kept e new long = ap (λ n. take n (new ++ drop (length new) e.bytes)) (sym long) ∙ take-append_seam new (drop (length new) e.bytes)
 
@@ -153,7 +153,7 @@ answered_now e new b begin end len was is found inside =
     ∙ (answered_in e.bytes begin end len ordered inside
     ∙ (ap (answered_at (lines_in e.bytes begin end)) (sym found) ∙ ap answered was))
 
--- bytes in the place of a part
+-- Bytes replace a part of the room.
 pub part_overwritten : (room seen bytes copied : List ℕ) (from to : ℕ) → seen ≡ room → copied ≡ bytes → from + length bytes ≡ to
     → take from seen ++ (copied ++ drop (to - from) (drop from seen)) ≡ overwritten room from bytes
 part_overwritten room seen bytes copied from to same copy ends =
@@ -162,13 +162,13 @@ part_overwritten room seen bytes copied from to same copy ends =
     ∙ (ap (λ xs. take from room ++ (xs ++ drop (to - from) (drop from room))) copy
     ∙ ap (λ xs. take from room ++ (bytes ++ xs)) (drop-drop (to - from) from room ∙ ap (λ n. drop n room) behind))
 
--- an answer is as long as its line
+-- An answer is as long as its line.
 pub answer_ends : (room : List ℕ) (from to : ℕ) → from ≤ to → to ≤ length room → from + length (answer_of (slice_range room from to)) ≡ to
 answer_ends room from to ordered inside =
     let long : length (answer_of (slice_range room from to)) ≡ to - from = length-map (slice_range room from to) to_ascii_uppercase ∙ length-part room from to ordered inside in
     omega arith
 
--- a part that is moved to the front
+-- A part is moved to the front.
 pub front_moved : (room seen new : List ℕ) (from to : ℕ) → seen ≡ room → new ≡ copy_within seen from to 0 → from ≤ to → to ≤ length room → new ≡ overwritten room 0 (slice_range room from to)
 front_moved room seen new from to same is ordered inside =
     is ∙ (ap (λ xs. copy_within xs from to 0) same ∙ ap (λ n. slice_range room from to ++ drop (0 + n) room) (sym (length-part room from to ordered inside)))

@@ -1,4 +1,4 @@
--- A view that spans all bytes.
+-- A view that shows all bytes.
 use Rattle.std.proofs.Common.{◌≡◌, ℕ, suc, zero, ◌≤◌, true, false, List, ◌++◌, length, drop, refl, arith, ap, ◌∙◌, length-append, length-drop}
 use Rattle.std.specs.Prelude.{slice_index}
 use Rattle.std.specs.List.{range_with_len}
@@ -16,11 +16,11 @@ use Rattle.example_users.proofs.PlaceLemmas.{bytes_in_row, in_row_together}
 writable_by : (n : ℕ) → is_contiguous_layout (bytes_layout n false) ≡ true → is_writable_run (bytes_layout n false) ≡ true
 writable_by n together = rw together refl
 
--- it may be written as a whole
+-- The view may be written as a whole.
 pub spanned_writable : (e : Exporter) (view : ℕ) → IsSpanned e view → is_writable_run (layout_of e view) ≡ true
 spanned_writable e view spanned = ap is_writable_run spanned.whole ∙ writable_by (length e.bytes) (in_row_together 0 (length e.bytes))
 
--- its bytes are all bytes
+-- The bytes of the view are all bytes.
 pub spanned_content : (e : Exporter) (view : ℕ) → IsSpanned e view → content_of_layout e.bytes (layout_of e view) ≡ e.bytes
 spanned_content e view spanned = ap (content_of_layout e.bytes) spanned.whole ∙ (bytes_in_row e.bytes 0 (length e.bytes) ∙ take-length e.bytes)
 
@@ -35,13 +35,13 @@ written_first e new =
     let long : length e.bytes ≤ length whole = simp (length-append, length-drop) (omega arith) in
     ap (λ bytes. record e { bytes = bytes }) (take-append-le (length e.bytes) whole (drop (length whole) e.bytes) long)
 
--- what is written through it is written from the first byte on
+-- What is written through the view is written from the first byte on.
 pub spanned_written : (e : Exporter) (view : ℕ) → IsSpanned e view → (new : List ℕ) → written_from e (slice_index (layout_of e view).starts 0) new ≡ overwritten_exporter e new
 spanned_written e view spanned new =
     let at : slice_index (layout_of e view).starts 0 ≡ 0 = ap (λ l. slice_index l.starts 0) spanned.whole ∙ first_start (length e.bytes) in
     ap (λ place. written_from e place new) at ∙ written_first e new
 
--- the same of an exporter that is lent on
+-- the same for an exporter that is lent on
 pub lent_writable : (e lent : Exporter) (view : ℕ) → IsSpanned e view → lent ≡ e → is_writable_run (layout_of lent view) ≡ true
 lent_writable e lent view spanned same = ap (λ x. is_writable_run (layout_of x view)) same ∙ spanned_writable e view spanned
 

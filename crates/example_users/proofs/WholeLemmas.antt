@@ -1,4 +1,4 @@
--- Views that are out span all bytes, and a number is written through one.
+-- Views that are out show all bytes, and a number is written through one of them.
 use Rattle.std.proofs.Common.{◌≡◌, ℕ, suc, zero, ◌+◌, ◌*◌, ◌<◌, ◌≤◌, ◌^◌, ◌/◌, ◌%◌, Bool, true, false, not, cond, List, [], ◌∷◌, ◌++◌, length, map, refl, ap, arith, sym, ◌∙◌, subst, set, Some, take, drop}
 use Rattle.std.specs.Prelude.{count_by, slice_get, slice_index, Result, Ok, Err, MatchResult, OnErr}
 use Rattle.std.proofs.lemmas.List.Sums.{sum_by-cons}
@@ -30,19 +30,19 @@ not_first false n none is = cc
 rest_none : (b : Bool) (n : ℕ) → cond b 1 0 + n ≡ 0 → n ≡ 0
 rest_none b n none = omega arith
 
--- where no view is exported, none is live
+-- If no view is exported, none is live.
 pub none_live : (views : List View) (k : ℕ) → count_by is_exported views ≡ 0 → is_unreleased (slice_get views k) ≡ true → ⊥
 none_live [] k none live = cc
 none_live (v ∷ views) zero none live = not_first (is_exported v) (count_by is_exported views) (rw sum_by-cons at none) live
 none_live (v ∷ views) (suc k) none live = none_live views k (rest_none (is_exported v) _ (rw sum_by-cons at none)) live
 
--- what is live is out
+-- A view that is live is out.
 shown_live : (views : List View) (k : ℕ) → is_unreleased (slice_get views k) ≡ true → slice_get (map is_exported views) k ≡ Some true
 shown_live [] k live = absurd cc
 shown_live (v ∷ views) zero live = ap Some live
 shown_live (v ∷ views) (suc k) live = shown_live views k live
 
--- and what was given and isn't live was given back
+-- A view that was given and isn't live was given back.
 shown_back : (views : List View) (k : ℕ) → k < length views → is_unreleased (slice_get views k) ≡ false → slice_get (map is_exported views) k ≡ Some false
 shown_back [] k inside back = absurd (omega arith)
 shown_back (v ∷ views) zero inside back = ap Some back
@@ -59,7 +59,7 @@ is_unknown a e k shown past =
     let many : length (map is_exported e.views) ≡ length a.out = ap (λ (b : Numbers). length b.out) shown in
     omega (arith, length-map e.views is_exported)
 
--- each view that is live has this layout
+-- Each view that is live has this layout.
 abbrev AllSpan : List View → Layout → Type 0
 AllSpan views l = (k : ℕ) → is_unreleased (slice_get views k) ≡ true → layout_in (slice_get views k) ≡ l
 
@@ -82,7 +82,7 @@ span_back (w ∷ views) (suc i) v l all is (suc k) live = span_back views i v l 
 
 -- ---- arrays stay arrays
 
--- a new one has no view
+-- A new array has no view.
 pub empty_sound : (e : Exporter) → e ≡ new_exporter kinds.ByteArray [] → IsNumberArray e
 empty_sound e is = subst IsNumberArray (sym is) (record { kind = refl; pairs = refl; whole = λ view live. absurd cc })
 
@@ -98,7 +98,7 @@ after_view (Err f) e = e
 same_sound : (e new : Exporter) → IsNumberArray e → new ≡ e → IsNumberArray new
 same_sound e new is now = subst IsNumberArray (sym now) is
 
--- where one more view is lent, or none
+-- One more view is lent, or none is.
 pub lent_sound : (e old new : Exporter) (r : Result ℕ Halt) → IsNumberArray e → old ≡ e → Answers (Ok (with_view old (whole_layout old))) old (result_map_both reply.View (λ h. h) r) new → IsNumberArray new
 lent_sound e old new (Ok k) is same answer =
     more_sound e new is (sym (ap (λ r. after_view r e) answer) ∙ ap (λ x. (with_view x (whole_layout x)).0) same)
@@ -115,7 +115,7 @@ back_sound_by e new k (Ok v) (Err f) at is exact err = absurd cc
 back_sound_by e new k (Err f) (Ok done) at is exact err = absurd cc
 back_sound_by e new k (Err f) (Err g) at is exact err = same_sound e new is err
 
--- where a view is given back, or was never lent
+-- A view is given back, or it was never lent.
 pub back_sound : (e new : Exporter) (k : ℕ) (r : Result Unit Fault) → IsNumberArray e
     → MatchResult r (λ _. released_in e k ≡ Ok new) (λ f. released_in e k ≡ Err f) → OnErr r (new ≡ e) → IsNumberArray new
 back_sound e new k r is exact err = back_sound_by e new k (view_at e k) r refl is exact err
@@ -127,14 +127,14 @@ set_got [] i n inside = absurd (omega arith)
 set_got (m ∷ numbers) zero n inside = refl
 set_got (m ∷ numbers) (suc i) n inside = set_got numbers i n (omega arith)
 
--- a view that an exporter's owner tells as live
+-- The exporter's owner tells that this view is live.
 pub live_by : (e seen : Exporter) (view : ℕ) (told : Bool) → seen ≡ e → told ≡ is_live seen view → told ≡ true → is_live e view ≡ true
 live_by e seen view told same is holds = sym (ap (λ x. is_live x view) same) ∙ (sym is ∙ holds)
 
 pub is_spanned : (e : Exporter) (view : ℕ) → IsNumberArray e → is_live e view ≡ true → IsSpanned e view
 is_spanned e view is live = record { live = live; whole = is.whole view live }
 
--- an array after the two bytes of a number took the place of those at an index, through a view that is out
+-- an array after the two bytes of a number replaced those at an index, through a view that is out
 module _ (a : Numbers) (e lent : Exporter) (view : ℕ) (seen copied : List ℕ) (i n k : ℕ) (array : IsNumberArray e) (shown : numbers_in e ≡ a) (live : is_live e view ≡ true) (same : lent ≡ e) (content : seen ≡ content_of_layout lent.bytes (layout_of lent view)) (copy : copied ≡ n % 256 ∷ n / 256 % 256 ∷ []) (two : k ≡ 2) (small : n < 2 ^ 16) (inside : i < length a.numbers) where
   abbrev pub through : Exporter
   through = written_from lent (slice_index (layout_of lent view).starts 0) (take (2 * i) seen ++ (copied ++ drop k (drop (2 * i) seen)))

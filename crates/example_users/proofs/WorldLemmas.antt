@@ -15,19 +15,19 @@ after_both : (w : World) (first then : List Command) → world_after_all w (firs
 after_both w [] then = refl
 after_both w (c ∷ first) then = after_both (wstep w c).0 first then
 
--- there is a reply for each command
+-- There is a reply for each command.
 pub length-replies_of : (w : World) (commands : List Command) → length (replies_of w commands) ≡ length commands
 length-replies_of w [] = refl
 length-replies_of w (c ∷ commands) = ap suc (length-replies_of (wstep w c).0 commands)
 
--- further commands make a world too
+-- A world that commands made is still made by commands after more of them.
 pub made_more : (w new : World) (commands : List Command) → IsMade w → new ≡ world_after_all w commands → IsMade new
 made_more w new commands made is = record {
   commands = made.commands ++ commands;
   after = is ∙ (ap (λ v. world_after_all v commands) made.after ∙ sym (after_both empty_world made.commands commands));
 }
 
--- it is sound after each command that follows
+-- Such a world is sound after each command that follows.
 pub made_stays_sound : RunsStaySound → (w : World) (commands : List Command) → IsMade w → StaysSound w commands
 made_stays_sound law w commands made k =
     let all : List Command = made.commands ++ take k commands in
@@ -37,18 +37,18 @@ made_stays_sound law w commands made k =
     subst IsSoundWorld whole (law all (length all))
 
 module _ {E : Type 0} where
-  -- one command makes a world too, and a step without memory changes none
+  -- One more command makes such a world too, and a step without memory changes none.
   pub made_by_step : (w new : World) (c : Command) (r : Result Reply E) → IsMade w → IfOk r (λ reply. wstep w c ≡ (new, reply)) → OnErr r (new ≡ w) → IsMade new
   made_by_step w new c (Ok reply) made ok err = made_more w new (c ∷ []) made (sym (ap (λ after. after.0) ok))
   made_by_step w new c (Err e) made ok err = subst IsMade (sym err) made
 
-  -- each handle names what it named
+  -- Each handle names what it named before.
   pub handles_kept : HandlesStay → (w new : World) (c : Command) (r : Result Reply E) → IfOk r (λ reply. wstep w c ≡ (new, reply))
       → IfOk r (λ _. (handle : ℕ) → handle < length w.handles → slice_get new.handles handle ≡ slice_get w.handles handle)
   handles_kept law w new c (Ok reply) ok = λ handle given. subst (λ v. slice_get v.handles handle ≡ slice_get w.handles handle) (ap (λ after. after.0) ok) (law w c handle given)
   handles_kept law w new c (Err e) ok = tt
 
-  -- a refusal changes nothing
+  -- A refusal changes nothing.
   pub refusal_kept : RefusalsChangeNothing → (w new : World) (c : Command) (r : Result Reply E) → IfOk r (λ reply. wstep w c ≡ (new, reply))
       → IfOk r (λ reply. (fault : Fault) → reply ≡ replies.Refused fault → new ≡ w)
   refusal_kept law w new c (Ok answer) ok = λ fault refused. sym (ap (λ after. after.0) ok) ∙ law w c fault (ap (λ after. after.1) ok ∙ refused)

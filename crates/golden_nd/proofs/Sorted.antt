@@ -1,4 +1,4 @@
--- Numbers that are their places, and orders of them.
+-- Lists whose numbers are their places, and orders of such numbers.
 use Rattle.std.proofs.Common.{◌≡◌, ℕ, ◌<◌, ◌+◌, List, length, get_or, refl, sym, ◌∙◌, subst, arith, IsPermutation}
 use Rattle.std.specs.List.{range_with_len}
 use Rattle.std.proofs.lemmas.List.{ext_get_or}

@@ -1,4 +1,4 @@
--- What a test may answer, another may too.
+-- If one test may give an answer, so may another.
 use Rattle.std.proofs.Common.{inl, inr, ℕ, Bool, true, false, List, [], ◌∷◌, Result, Ok, Err}
 use Rattle.std.specs.Result.{IfOk}
 use Rattle.pybuf_value.specs.declared.faults.Fault.{Fault}
@@ -32,7 +32,7 @@ module _ (A B : List ℕ → Bool → Type 0) (more : (bytes : List ℕ) (answer
   single_more pairs (value.Tuple parts) result is = any_more pairs parts result is
   single_more pairs v result is = test_more (bytes_in pairs v) result is
 
--- the same of a value, with the test given after what holds of it
+-- the same for a value, with the test after what holds of the value
 pub as_another : (A B : List ℕ → Bool → Type 0) (pairs : List (ℕ × Snap)) (v : Value) (result : Result Bool Fault)
     → IsSingleOrAnyOf A pairs v result → ((bytes : List ℕ) (answer : Bool) → A bytes answer → B bytes answer) → IsSingleOrAnyOf B pairs v result
 as_another A B pairs v result is more = single_more A B more pairs v result is

@@ -1,4 +1,4 @@
--- Runs that close up, and what stays off the indices between them.
+-- Runs of bytes that close up, and what is left without the bytes at the indices between the runs.
 use Rattle.std.proofs.Common.{◌≡◌, ◌≢◌, ℕ, zero, suc, ◌+◌, ◌-◌, ◌*◌, ◌/◌, ◌%◌, ◌<◌, ◌≤◌, true, false, List, [], ◌∷◌, ◌++◌, length, refl, ap, ap₂, sym, ◌∙◌, arith, inl, inr, ℤ, pos, take, drop, get_or, append-nil, append_assoc, length-drop, take-append-drop}
 use Rattle.std.specs.Prelude.{Bool, reverse, if◌then◌else◌, ◌==◌, nat_abs}
 use Rattle.std.proofs.Math.Nat.{zero-mul, mul-le-mul_right}
@@ -16,7 +16,7 @@ use Rattle.pybuf_byte_slices.specs.Closing.{run_place, closed_runs}
 
 -- ---- places of runs
 
--- each run lies among the bytes
+-- Each run lies among the bytes.
 pub run_inside : (low size n k len : ℕ) → low + n * suc size < len → k < n → run_place low size k + size < len
 run_inside low size n k len inside less =
     let up : suc k ≤ n = omega (arith, less) in
@@ -24,13 +24,13 @@ run_inside low size n k len inside less =
     let sum : suc k * suc size ≡ k * suc size + suc size = grind arith in
     omega (arith, inside, more, sum)
 
--- the place as the code computes it
+-- the place of a run, as the code computes it
 pub place_is : (low size k : ℕ) → low + 1 + k * (size + 1) ≡ run_place low size k
 place_is low size k =
     let one : size + 1 ≡ suc size = omega arith in
     rw one (omega arith)
 
--- a run goes to a place before its own
+-- A run moves to a place before its own.
 run_down : (low size k : ℕ) → low + k * size ≤ run_place low size k
 run_down low size k =
     let sum : k * suc size ≡ k * size + k = grind arith in
@@ -48,7 +48,7 @@ length-pieces bytes from size (suc n) all =
     let whole : suc n * size ≡ n * size + size = grind arith in
     length-append (pieces_at bytes from size n) (take size (drop (from n) bytes)) ∙ ap₂ (λ (x y : ℕ). x + y) before last ∙ sym whole
 
--- what is before the place of the next run
+-- what stands before the place of the next run
 abbrev front : List ℕ → ℕ → ℕ → ℕ → List ℕ
 front bytes low size k = take low bytes ++ pieces_at bytes (run_place low size) size k
 
@@ -61,7 +61,7 @@ length-front bytes low size k inside =
 closed_front : (bytes : List ℕ) (low size k : ℕ) → closed_runs bytes low size k ≡ front bytes low size k ++ drop (low + k * size) bytes
 closed_front bytes low size k = sym (append_assoc (take low bytes) (pieces_at bytes (run_place low size) size k) (drop (low + k * size) bytes))
 
--- what is further on is as it was
+-- What lies further on is as it was.
 beyond : (before bytes : List ℕ) (a e : ℕ) → length before ≡ a → a ≤ e → drop e (before ++ drop a bytes) ≡ drop e bytes
 beyond before bytes a e long further =
     let n : ℕ = e - a in
@@ -75,7 +75,7 @@ piece_after before item bytes a long =
 
 -- ---- the loops
 
--- one more run moves
+-- One more run moves.
 pub next_closed : (bytes now more : List ℕ) (low size k n to from : ℕ) → low + n * suc size < length bytes → k < n → to ≡ low + k * size → from ≡ run_place low size k
     → now ≡ closed_runs bytes low size k → more ≡ with_piece now to (take size (drop from now)) → more ≡ closed_runs bytes low size (k + 1)
 next_closed bytes now more low size k n to from inside less to_is from_is so_far step =
@@ -99,7 +99,7 @@ next_closed bytes now more low size k n to from inside less to_is from_is so_far
     ∙ append_assoc (take low bytes) (pieces_at bytes (run_place low size) size (suc k)) (drop (low + suc k * size) bytes)
     ∙ ap (closed_runs bytes low size) next
 
--- runs of no bytes stay
+-- Runs without bytes stay.
 no_pieces : (bytes : List ℕ) (from : ℕ → ℕ) (n : ℕ) → pieces_at bytes from 0 n ≡ []
 no_pieces bytes from zero = refl
 no_pieces bytes from (suc n) = append-nil (pieces_at bytes from 0 n) ∙ no_pieces bytes from n
@@ -148,7 +148,7 @@ has_reverse (x ∷ xs) q =
     ∙ ap (λ b. if b then true else has (x ∷ []) q) (has_reverse xs q)
     ∙ other_way (has xs q) (x == q)
 
--- ---- what is off a list
+-- ---- what is left without the indices of a list
 
 off_none : (items : List ℕ) (place : ℕ) (indices : List ℕ) → ((q : ℕ) → place ≤ q → q < place + length items → has indices q ≡ false) → off_from place items indices ≡ items
 off_none [] place indices none = refl
@@ -172,7 +172,7 @@ off_same : (items : List ℕ) (place : ℕ) (one other : List ℕ) → ((q : ℕ
 off_same [] place one other same = refl
 off_same (x ∷ items) place one other same = rw (same place (omega arith), off_same items (suc place) one other (λ q over. same q (omega arith))) refl
 
--- the byte at the least index is off
+-- Without the least index, the byte there is gone.
 off_first : (bytes : List ℕ) (p stride n : ℕ) → p < length bytes → off_from p (drop p bytes) (rising p stride (suc n)) ≡ off_from (suc p) (drop (suc p) bytes) (rising (p + stride) stride n)
 off_first bytes p stride n inside =
     let rest : List ℕ = rising (p + stride) stride n in
@@ -182,7 +182,7 @@ off_first bytes p stride n inside =
     ∙ here
     ∙ off_same (drop (suc p) bytes) (suc p) (p ∷ rest) rest (λ q over. let other : p ≢ q = omega (arith, over) in has_other p rest q other)
 
--- what is before the least index stays
+-- What stands before the least index stays.
 off_before : (items bytes : List ℕ) (start p stride n : ℕ) → start + length items ≡ p → off_from start (items ++ bytes) (rising p stride n) ≡ items ++ off_from p bytes (rising p stride n)
 off_before items bytes start p stride n long =
     off_append items bytes start (rising p stride n)
@@ -211,7 +211,7 @@ pieces_on bytes low size n =
     (pieces_same bytes (λ k. run_place low size (suc k)) (run_place (low + suc size) size) size n
     (λ k. let same : run_place low size (suc k) ≡ run_place (low + suc size) size k = grind arith in same))
 
--- ---- what is off a run of indices
+-- ---- what is left without a run of indices
 
 off_rest : (bytes : List ℕ) (low size n : ℕ) → low + n * suc size < length bytes
     → off_from (suc low) (drop (suc low) bytes) (rising (low + suc size) (suc size) n) ≡ pieces_at bytes (run_place low size) size n ++ drop (suc (low + n * suc size)) bytes
@@ -244,7 +244,7 @@ off_run bytes low size n inside =
     ∙ off_before (take low bytes) (drop low bytes) 0 low (suc size) (suc n) long
     ∙ ap (λ (xs : List ℕ). take low bytes ++ xs) (off_first bytes low (suc size) n (omega (arith, inside)) ∙ off_rest bytes low size n inside)
 
--- the runs that moved, without what they left behind
+-- the runs that moved, without what stood between them
 closed_off : (bytes : List ℕ) (low size n : ℕ) → low + n * suc size < length bytes
     → replaced_range (closed_runs bytes low size n) (low + n * size) (suc (low + n * suc size)) [] ≡ elements_off bytes (rising low (suc size) (suc n))
 closed_off bytes low size n inside =
@@ -285,7 +285,7 @@ length-run : (falls : Bool) (low stride n : ℕ) → length (run_of falls low st
 length-run false low stride n = length-rising n low stride
 length-run true low stride n = length-reverse (rising low stride n) ∙ length-rising n low stride
 
--- as many as there are
+-- There are as many indices as this.
 count_is : (spans : EachSpan SpanPicksAre) (low high : ℕ) (step : ℤ) (count : ℕ) → step ≢ pos 0 → count ≡ length (picks_in_span low high step) → count ≡ how_many low high (nat_abs step)
 count_is spans low high step count moves same_count =
     let many : ℕ = how_many low high (nat_abs step) in
@@ -299,7 +299,7 @@ how_many_none low high stride h = grind (arith, nat_tests)
 how_many_some : (low high stride : ℕ) → low < high → how_many low high stride ≡ (high - low - 1) / stride + 1
 how_many_some low high stride h = grind (arith, nat_tests)
 
--- the last of them is still below the end
+-- The last of them is still below the end.
 last_below : (low high stride k : ℕ) → suc k ≡ how_many low high stride → low + k * stride < high
 last_below low high stride k h =
     elim (cases_lt low high) [
@@ -315,11 +315,11 @@ less_one_below low high stride zero some h = absurd (omega arith)
 less_one_below low high stride (suc k) some h =
     let one : suc k - 1 ≡ k = omega arith in rw one (last_below low high stride k h)
 
--- the last of so many indices lies in the span
+-- The last of the indices lies in the span.
 pub last_in_span : (spans : EachSpan SpanPicksAre) (low high : ℕ) (step : ℤ) (count : ℕ) → step ≢ pos 0 → 0 < count → count ≡ length (picks_in_span low high step) → low + (count - 1) * nat_abs step < high
 last_in_span spans low high step count moves some same_count = less_one_below low high (nat_abs step) count some (count_is spans low high step count moves same_count)
 
--- what is off them is off the run from the least of them up
+-- What is left without these indices is what is left without the run that goes up from the least of them.
 pub off_picks : (spans : EachSpan SpanPicksAre) (bytes : List ℕ) (low high : ℕ) (step : ℤ) (count least : ℕ) → step ≢ pos 0 → count ≡ length (picks_in_span low high step) → least ≡ run_low (is_negative step) low high (nat_abs step) count
     → elements_off bytes (rising least (nat_abs step) count) ≡ elements_off bytes (picks_in_span low high step)
 off_picks spans bytes low high step count least moves same_count first =
@@ -330,7 +330,7 @@ off_picks spans bytes low high step count least moves same_count first =
     ∙ ap (λ (n : ℕ). elements_off bytes (run_of falls (run_low falls low high stride n) stride n)) (count_is spans low high step count moves same_count)
     ∙ ap (elements_off bytes) (sym (spans low high step moves).run)
 
--- with no indices, all stays
+-- Without indices, all bytes stay.
 pub off_no_picks : (bytes indices : List ℕ) (place : ℕ) → 0 ≡ length indices → replaced_range bytes place place [] ≡ elements_off bytes indices
 off_no_picks bytes [] place none = take-append-drop place bytes ∙ sym (off_none bytes 0 [] (λ q over under. refl))
 off_no_picks bytes (i ∷ indices) place none = absurd (omega arith)

@@ -1,4 +1,4 @@
--- Bytes at the indices of a slice, set by a loop over the places of its run.
+-- Bytes that are set at the indices of a slice, by a loop over the places of the slice's run.
 use Rattle.std.proofs.Common.{◌≡◌, ◌≢◌, ℕ, zero, suc, ◌+◌, ◌-◌, ◌*◌, ◌<◌, ◌≤◌, Bool, true, false, true≢false, List, [], ◌∷◌, ◌++◌, length, take, drop, reverse, get_or, refl, ap, ap₂, sym, ◌∙◌, subst, arith, inl, inr, ℤ, pos, negsuc, nat_abs, w64, to_z, of_z, take_all, take-suc, mul-le-mul_right, length-append, length-take, length-set}
 use Rattle.std.specs.Prelude.{All, slice_set, int_lt, if◌then◌else◌}
 use Rattle.std.proofs.Math.Nat.{suc-mul}
@@ -39,7 +39,7 @@ place_at to (suc n) k d less =
           ap (λ (i : ℕ). get_or (places to (suc n)) i d) same ∙ get_or-append_seam (places to n) (to n) [] d ∙ ap to (sym here)
     ]
 
--- ---- one byte more is set
+-- ---- one more byte is set
 
 set_push : (indices bytes others : List ℕ) (i x : ℕ) → length indices ≡ length others → set_at bytes (indices ++ i ∷ []) (others ++ x ∷ []) ≡ slice_set (set_at bytes indices others) i x
 set_push [] bytes [] i x same = refl
@@ -64,7 +64,7 @@ one_byte source n inside =
     let same : 0 + n * 1 ≡ n = omega arith in
     ap (λ (k : ℕ). take 1 (drop k source)) same ∙ grind (arith, common_steps, inside)
 
--- bytes moved one by one are set at their places
+-- Bytes that are moved one by one are set at their places.
 moved_are_set : (bytes source : List ℕ) (to : ℕ → ℕ) (n : ℕ) → n ≤ length source → ((k : ℕ) → k < n → to k < length bytes)
     → moved_at bytes to source (place_of false 0 1) 1 n ≡ set_at bytes (places to n) (take n source)
 moved_are_set bytes source to zero many inside = refl
@@ -115,13 +115,13 @@ length_run true low s n = length-reverse (rising low s n) ∙ length_rising n lo
 
 -- ---- the indices of a span are places in it
 
--- the indices are so many places one stride apart, each below a bound
+-- The indices are `count` places one stride apart, and each is below a bound.
 pub record IsWalk (high : ℕ) (falls : Bool) (start stride count : ℕ) (indices : List ℕ) : Type 0 where
   pub are : indices ≡ places (place_of falls start stride) count
   pub low : (k : ℕ) → k < count → falls ≡ true → k * stride ≤ start
   pub below : (k : ℕ) → k < count → place_of falls start stride k < high
 
--- where the walk begins
+-- the place where the walk begins
 abbrev pub first_of : Bool → ℕ → ℕ → ℕ
 first_of falls low high = if falls then high - 1 else low
 
@@ -174,7 +174,7 @@ negative_is : (z : ℤ) → int_lt z (pos 0) ≡ is_negative z
 negative_is (pos n) = grind (arith, nat_tests)
 negative_is (negsuc n) = refl
 
--- the same from the start, by the stride and in the direction that are given
+-- the same walk, by the start, the stride and the direction that are given
 same_walk : (high : ℕ) (f falls : Bool) (first start s stride n : ℕ) (indices : List ℕ) → falls ≡ f → start ≡ first → stride ≡ s → IsWalk high f first s n indices
     → IsWalk high falls start stride n indices
 same_walk high f falls first start s stride n indices way at by walk =
@@ -184,7 +184,7 @@ same_walk high f falls first start s stride n indices way at by walk =
 
 -- ---- what the code asks for and answers
 
--- the indices of a slice go from the start, by the stride and in the direction that were computed
+-- The indices of a slice go on from the start that was computed, by its stride and in its direction.
 pub slice_is_walk : (spans : EachSpan SpanPicksAre) (parts : SliceParts) (room low high : ℕ) (step : ℤ) (n start stride : ℕ)
     → IsSaturated parts → step ≡ parts.step → n ≡ length (picks_of room parts) → picks_in_span low high step ≡ picks_of room parts
     → start ≡ first_of (int_lt (to_z w64 (of_z w64 step)) (pos 0)) low high → stride ≡ nat_abs (to_z w64 (of_z w64 step))
@@ -204,7 +204,7 @@ are_inside high room falls start stride n indices walk inside = record {
   high = λ some k less. omega (arith, walk.below k less, inside);
 }
 
--- bytes moved along the walk are set at the indices
+-- Bytes that are moved along the walk are set at the indices.
 pub moved_is_set : (bytes source : List ℕ) (high : ℕ) (falls : Bool) (start stride n : ℕ) (indices : List ℕ) → IsWalk high falls start stride n indices → high ≤ length bytes → n ≡ length source
     → moved_at bytes (place_of falls start stride) source (place_of false 0 1) 1 n ≡ set_at bytes indices source
 moved_is_set bytes source high falls start stride n indices walk inside many =

@@ -1,4 +1,4 @@
--- Bytes once are themselves.
+-- Bytes that are repeated once are the same bytes.
 use Rattle.std.proofs.Common.{◌≡◌, ℕ, ◌^◌, ◌<◌, pos, true, nat_lt, List, length, Ok, Err, Result, refl, ap, ◌∙◌, if◌then◌else◌}
 use Rattle.std.proofs.Common.{ℤ, sym, w64, SFits, of_z, to_z}
 use Rattle.std.proofs.lemmas.Int.{to_z-of_z}

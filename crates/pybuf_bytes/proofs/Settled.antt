@@ -1,4 +1,4 @@
--- Answers as one result.
+-- Answers as single results.
 use Rattle.std.proofs.Common.{◌≡◌, ℕ, List, Option, Result, Ok, Err, IfOk, sym, ap, ◌∙◌, subst}
 use Rattle.pybuf_value.specs.declared.NoMemory.{NoMemory}
 use Rattle.pybuf_value.specs.declared.faults.Fault.{Fault}
@@ -12,7 +12,7 @@ settled : {X : Type 0} (wanted : Result X Fault) (answer : Result (Outcome X) No
 settled wanted (Ok o) r h e = subst (Gives wanted) (sym (e ∙ ap (λ o. stopped_by (given_by o)) h)) (given_gives wanted)
 settled wanted (Err _) r h e = subst (Gives wanted) (sym e) tt
 
--- bytes that are decoded by the names that a codec and a handler of errors are given as
+-- bytes that are decoded by the names that are given for a codec and a handler of errors
 pub decoded_by : (bytes : List ℕ) (codec handler codec_given handler_given : Option (List ℕ)) (answer : Result (Outcome (List ℕ)) NoMemory) (r : Result (List ℕ) Halt) → codec ≡ codec_given → handler ≡ handler_given → IfOk answer (λ o. o ≡ outcome_of (decoded bytes codec handler)) → r ≡ done_by given_by answer → Gives (decoded bytes codec_given handler_given) r
 decoded_by bytes codec handler codec_given handler_given answer r p q h e =
     subst (λ c. Gives (decoded bytes c handler_given) r) p (subst (λ g. Gives (decoded bytes codec g) r) q (settled (decoded bytes codec handler) answer r h e))

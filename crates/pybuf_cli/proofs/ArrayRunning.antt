@@ -1,4 +1,5 @@
--- Runs of operations on an array, line by line: what the lines that are left reply is the rest of what is due.
+-- Runs of operations on an array, line by line. The replies to the lines that are left are the rest of the text
+-- that is due.
 use Rattle.std.proofs.Common.{◌≡◌, ℕ, ◌+◌, List, [], ◌∷◌, ◌++◌, Option, Some, None, Result, Ok, Err, refl, sym, ◌∙◌, ap, subst}
 use Rattle.pybuf_numbers.specs.declared.codes.ArrayCode.{ArrayCode}
 use Rattle.pybuf_array.specs.declared.operations.ArrayOp.{ArrayOp}
@@ -15,11 +16,11 @@ use Rattle.pybuf_cli.specs.ArrayRunning.{IsOperation, AreOperations, IsCarriedOu
 use Rattle.pybuf_cli.proofs.Sending.{sends_nothing}
 use Rattle.pybuf_cli.proofs.Pieces.{IsWritten, writes_next, stops_before, stops_behind, ends_put}
 
--- what is due for the lines of an input
+-- the text that is due for the lines of an input
 abbrev due_of : ArrayCode → List ℕ → List ℕ
 due_of c input = array_due_for c (operations_in input)
 
--- The lines that are left are operations, and what they reply on this array is still to come.
+-- The lines that are left are operations, and their replies on this array are still to come.
 pub record IsRunning (c : ArrayCode) (input rest : List ℕ) (a : Array) (old : Option (List ℕ)) (waiting : List ℕ) (held : Option (List ℕ)) : Type 0 where
   pub number : ℕ
   pub operations : List ArrayOp
@@ -53,7 +54,7 @@ cut_at rest line after number operations left cut =
     cut_before number line (lines after) operations (operation_in line) (operations_from (number + 1) (lines after)) refl refl
     (sym (ap (operations_from number) cut) ∙ left)
 
--- an operation that was carried out, by its step and what was added to the text
+-- an operation that was carried out, by its step and by what was added to the text
 pub carried_out : (a next : Array) (o : ArrayOp) (r : ArrayReply) (text longer : List ℕ) → astep a o ≡ (next, r) →
     longer ≡ text ++ array_reply_line r → IsCarriedOut a o text next longer
 carried_out a next o r text longer stepped pushed = (
@@ -61,7 +62,7 @@ carried_out a next o r text longer stepped pushed = (
   pushed ∙ ap (λ (p : Array × ArrayReply). text ++ array_reply_line p.1) (sym stepped),
 )
 
--- the first line that is left is an operation
+-- The first line that is left is an operation.
 pub spelled_first : (c : ArrayCode) (input rest line after : List ℕ) (a : Array) (old : Option (List ℕ)) (waiting : List ℕ) (held : Option (List ℕ)) →
     IsRunning c input rest a old waiting held → lines rest ≡ line ∷ lines after → IsOperation line
 spelled_first c input rest line after a old waiting held so cut =
@@ -80,14 +81,14 @@ begins c input a old spelled empty = record {
   };
 }
 
--- What the first line that is left replies, and what the others do.
+-- what the first line that is left replies, and what the other lines do
 record IsNext (c : ArrayCode) (input after : List ℕ) (next : Array) (old : Option (List ℕ)) (waiting shown : List ℕ) (held : Option (List ℕ)) : Type 0 where
   number : ℕ
   more : List ArrayOp
   left : operations_from number (lines after) ≡ Ok more
   written : IsWritten (due_of c input) (shown ++ array_reply_lines (replies_of next more)) old waiting held
 
--- a reply that was written apart is that of the line
+-- A reply that was written by itself is that of the line.
 next_line : (c : ArrayCode) (input rest line after : List ℕ) (a next : Array) (old held : Option (List ℕ)) (waiting before shown : List ℕ) →
     IsRunning c input rest a old waiting held → lines rest ≡ line ∷ lines after → before ≡ [] → IsAnswered a line before next shown →
     IsNext c input after next old waiting shown held
@@ -107,7 +108,7 @@ next_line c input rest line after a next old held waiting before shown so cut no
       written = subst (λ (x : List ℕ). IsWritten (due_of c input) x old waiting held) to_come so.written;
     }
 
--- one line more was run, and its text put or left waiting
+-- One more line was run, and its text was put or still waits.
 pub goes_on : (c : ArrayCode) (input rest line after : List ℕ) (a next : Array) (old mid new : Option (List ℕ)) (waiting before shown left : List ℕ) →
     IsRunning c input rest a old waiting mid → lines rest ≡ line ∷ lines after → before ≡ [] → IsAnswered a line before next shown →
     Sends mid (waiting ++ shown) left new → IsRunning c input after next old left new
@@ -120,13 +121,13 @@ goes_on c input rest line after a next old mid new waiting before shown left so 
       written = writes_next (due_of c input) shown (array_reply_lines (replies_of next one.more)) old mid new waiting left one.written sent;
     }
 
--- a run that stops before a line, or while it is run, with the front of what waits put
+-- The run stops before a line, or while the line is run. The front of what waits was put.
 pub stopped_before : (c : ArrayCode) (input rest : List ℕ) (a : Array) (old mid new : Option (List ℕ)) (waiting lent : List ℕ) →
     IsRunning c input rest a old waiting mid → lent ≡ waiting → PutPrefix mid lent new → PutPrefix old (due_of c input) new
 stopped_before c input rest a old mid new waiting lent so same front =
     stops_before (due_of c input) (array_reply_lines (replies_of a so.operations)) old mid new waiting lent so.written same front
 
--- and one that stops where the text behind a line is put
+-- The run stops while the text behind a line is put.
 pub stopped_behind : (c : ArrayCode) (input rest line after : List ℕ) (a next : Array) (old mid new : Option (List ℕ)) (waiting before shown : List ℕ) →
     IsRunning c input rest a old waiting mid → lines rest ≡ line ∷ lines after → before ≡ [] → IsAnswered a line before next shown →
     PutPrefix mid (waiting ++ shown) new → PutPrefix old (due_of c input) new
@@ -134,7 +135,7 @@ stopped_behind c input rest line after a next old mid new waiting before shown s
     let one = next_line c input rest line after a next old mid waiting before shown so cut none answered in
     stops_behind (due_of c input) shown (array_reply_lines (replies_of next one.more)) old mid new waiting one.written front
 
--- with no line left, what was put and what waits is all that is due
+-- No line is left, so what was put and what waits are all that is due.
 pub ended : (c : ArrayCode) (input rest : List ℕ) (a : Array) (old mid new : Option (List ℕ)) (waiting lent : List ℕ) →
     IsRunning c input rest a old waiting mid → lines rest ≡ [] → lent ≡ waiting → Put mid lent new → Put old (due_of c input) new
 ended c input rest a old mid new waiting lent so none same put =
@@ -144,7 +145,7 @@ ended c input rest a old mid new waiting lent so none same put =
     subst (λ (os : List ArrayOp). IsWritten (due_of c input) (array_reply_lines (replies_of a os)) old waiting mid) empty so.written in
     ends_put (due_of c input) old mid new waiting lent last same put
 
--- what is due for lines that are operations is the text of their replies
+-- The text that is due for lines that are operations is that of their replies.
 pub puts_program : (c : ArrayCode) (old new : Option (List ℕ)) (read : Result (List ArrayOp) ℕ) (operations : List ArrayOp) → read ≡ Ok operations →
     Put old (array_due_for c read) new → Put old (array_program c operations) new
 puts_program c old new read operations is put = subst (λ (x : Result (List ArrayOp) ℕ). Put old (array_due_for c x) new) is put

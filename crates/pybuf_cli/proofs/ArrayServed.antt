@@ -1,4 +1,4 @@
--- What was read and put of the operations of an array, where the source tells its bytes.
+-- What was read and put for the operations of an array, if the source tells its bytes.
 use Rattle.std.proofs.Common.{◌≡◌, ℕ, ◌≤◌, List, [], length, Option, Some, Ok, Err, sym, ◌∙◌, ap, arith}
 use Rattle.pybuf_numbers.specs.declared.codes.ArrayCode.{ArrayCode}
 use Rattle.pybuf_array.specs.declared.operations.ArrayOp.{ArrayOp}
@@ -39,7 +39,7 @@ refused old new held_before held input bytes lent took end short same bad told =
       put = bad.2;
     }
 
--- ---- over bytes in memory
+-- ---- bytes in memory
 
 pub quiet_ran : (c : ArrayCode) (input told held_before held out : List ℕ) (left : Option (List ℕ)) → told ≡ input → held_before ≡ [] → out ≡ held →
     IsDoneArray c told left (Some held_before) (Some held) →

@@ -1,4 +1,5 @@
--- Forms whose input is data: what is due where it isn't too long, how that ends, and what is owed where there is no memory to read words.
+-- Forms whose input is data: what text is due if the input isn't too long, how the run ends, and what the
+-- program promises if there is no memory to read its words.
 use Rattle.std.proofs.Common.{◌≡◌, ◌⊎◌, ℕ, ◌<◌, ◌≤◌, Bool, true, false, cond, List, [], length, Option, Some, inl, inr, refl, sym, ◌∙◌, ap, subst, arith}
 use Rattle.std.specs.Prelude.{nat_lt}
 use Rattle.std.proofs.lemmas.Bool.{le-ltb, lt-ltb}
@@ -16,13 +17,13 @@ use Rattle.pybuf_cli.specs.Serving.{Owes, IsDue, ServesForm}
 use Rattle.pybuf_cli.proofs.Sending.{put_nothing, put_front}
 use Rattle.pybuf_cli.proofs.Served.{took_all}
 
--- ---- how it ends
+-- ---- how the run ends
 
--- by whether the length fits, where memory suffices and neither source nor sink fails
+-- the status by whether the length fits, if memory suffices and neither the source nor the sink fails
 abbrev pub ending_where : Bool → Status
 ending_where fits = cond fits status.Done status.BadData
 
--- an answer to data has no other status
+-- A run over data ends with no other status.
 abbrev pub is_data_answer : Status → Type 0
 is_data_answer status.Done = Unit {0}
 is_data_answer status.BadData = Unit {0}
@@ -40,7 +41,8 @@ data_answers_so fits result other (inl ended) is = subst is_data_answer (sym end
 data_answers_so fits result other (inr (inl none)) is = subst is_data_answer (sym none ∙ is) tt
 data_answers_so fits result other (inr (inr failed)) is = subst is_data_answer (sym failed ∙ is) tt
 
--- ---- what was read and put, where the source tells its bytes: the bytes that were read are those of the input, which isn't too long
+-- ---- what was read and put, if the source tells its bytes: the bytes that were read are those of the input,
+-- which isn't too long
 
 pub data_front : (due : List ℕ → List ℕ) (old new held_before held : Option (List ℕ)) (input bytes lent : List ℕ) → Took old bytes new → AtEnd new →
     length bytes ≤ most → lent ≡ bytes → PutPrefix held_before (due lent) held → old ≡ Some input →
@@ -104,7 +106,7 @@ no_memory_reads bytes_left source sink = record {
   unread_writes_nothing = λ rest told some. refl;
 }
 
--- what is owed for any form, where nothing was read and nothing put, but for what is its own
+-- If nothing was read and nothing put, each form's promises hold but for those that are its own.
 no_memory_form : {S K : Type 0} (f : Form) (due : List ℕ → List ℕ) (bytes_left : S → Option (List ℕ)) (source_faults : S → ℕ) (bytes_held : K → Option (List ℕ))
     (sink_faults : K → ℕ) (source : S) (sink : K) → ((input : List ℕ) → IsDue f input (due input)) →
     Owes f status.NoMemory bytes_left bytes_held source source sink sink →

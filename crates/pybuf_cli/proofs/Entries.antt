@@ -1,4 +1,4 @@
--- The lines of entries, one more at a time.
+-- The lines of entries, line by line.
 use Rattle.std.proofs.Common.{◌≡◌, ℕ, suc, ◌+◌, ◌<◌, List, [], ◌∷◌, ◌++◌, take, drop, length, get_or, Option, sym, ◌∙◌, ap, subst, arith}
 use Rattle.std.specs.List.{flat_map}
 use Rattle.std.proofs.Math.Seq.{take-suc}
@@ -23,7 +23,7 @@ shown_split : (entries : List Entry) (k : ℕ) →
     flat_map entry_line entries ≡ flat_map entry_line (take k entries) ++ flat_map entry_line (drop k entries)
 shown_split entries k = ap (flat_map entry_line) (sym (take-append-drop k entries)) ∙ flat_map-append entry_line (take k entries) (drop k entries)
 
--- one line more was put or waits
+-- One more line was put or waits.
 pub shows_next : (old mid new : Option (List ℕ)) (entries : List Entry) (k : ℕ) (e : Entry) (waiting before line rest : List ℕ) →
     k < length entries → e ≡ get_or entries k e → Sends old (flat_map entry_line (take k entries)) waiting mid → before ≡ [] →
     line ≡ before ++ entry_line e → Sends mid (waiting ++ line) rest new → Sends old (flat_map entry_line (take (k + 1) entries)) rest new
@@ -33,14 +33,14 @@ shows_next old mid new entries k e waiting before line rest within read sends no
     (sends_more old mid new (flat_map entry_line (take k entries)) waiting (entry_line e) (waiting ++ line) sent.sent rest sends
     (ap (λ x. waiting ++ x) same) sent.whole sent.put)
 
--- no line more is there, and the front of what waits was put
+-- No more line is there, and the front of what waits was put.
 pub stops_at : (old mid new : Option (List ℕ)) (entries : List Entry) (k : ℕ) (waiting lent : List ℕ) →
     Sends old (flat_map entry_line (take k entries)) waiting mid → lent ≡ waiting → PutPrefix mid lent new → PutPrefix old (flat_map entry_line entries) new
 stops_at old mid new entries k waiting lent sends same front =
     sends_front old mid new (flat_map entry_line (take k entries)) waiting lent (flat_map entry_line (drop k entries)) (flat_map entry_line entries) sends
     (shown_split entries k) same front
 
--- and the front of what waits and of one line more
+-- The front of what waits and of one more line was put.
 pub stops_after : (old mid new : Option (List ℕ)) (entries : List Entry) (k : ℕ) (e : Entry) (waiting before line : List ℕ) →
     k < length entries → e ≡ get_or entries k e → Sends old (flat_map entry_line (take k entries)) waiting mid → before ≡ [] →
     line ≡ before ++ entry_line e → PutPrefix mid (waiting ++ line) new → PutPrefix old (flat_map entry_line entries) new
@@ -53,7 +53,7 @@ stops_after old mid new entries k e waiting before line within read sends none i
     sends_then_front old mid new (flat_map entry_line (take k entries)) waiting line (flat_map entry_line (drop (k + 1) entries))
     (flat_map entry_line entries) sends whole front
 
--- what waited and a text behind it were put
+-- What waited and a text behind it were put.
 pub put_behind : (old mid new : Option (List ℕ)) (first before last line rest lent : List ℕ) → before ≡ [] → line ≡ before ++ last →
     Sends old (first ++ line) rest mid → lent ≡ rest → Put mid lent new → Put old (first ++ last) new
 put_behind old mid new first before last line rest lent none is sends same put =
@@ -66,7 +66,8 @@ front_behind old mid new first before last line rest lent none is sends same fro
     let whole : first ++ line ≡ first ++ last = ap (λ x. first ++ x) (is ∙ ap (λ x. x ++ last) none) in
     sends_front old mid new (first ++ line) rest lent [] (first ++ last) sends (sym whole ∙ sym (append-nil (first ++ line))) same front
 
--- the lines of entries were put or wait, and so was what waits with what stands behind the last
+-- The lines of entries were put or waited. What waited was then put, and so was what stands behind the last
+-- line.
 pub history_put : (old mid new : Option (List ℕ)) (entries lent : List Entry) (e : Exporter) (bytes waiting : List ℕ) → lent ≡ entries →
     bytes ≡ e.bytes → Sends old (flat_map entry_line lent) waiting mid → Put mid (waiting ++ last_lines (length lent) bytes) new →
     Put old (shared_text entries e) new

@@ -1,4 +1,4 @@
--- What is owed for the form that words ask for.
+-- What the program promises for the form that its words ask for.
 use Rattle.std.proofs.Common.{◌≡◌, ◌≢◌, ◌⊎◌, ℕ, Bool, true, false, cond, List, [], ◌∷◌, length, Option, Some, None, inl, inr, sym, ◌∙◌, ap, refl, subst, arith}
 use Rattle.std.specs.Prelude.{codes}
 use Rattle.std.specs.Str.{bytes_eq}
@@ -20,7 +20,7 @@ other_form asked f is none = let both : Some f ≡ None = sym is ∙ none in cc
 same_form : (asked : Option Form) (f other : Form) → asked ≡ Some f → asked ≡ Some other → f ≡ other
 same_form asked f other is so = let both : Some f ≡ Some other = sym is ∙ so in cc
 
--- words that ask for no form are refused, where that is all that was done
+-- Words that ask for no form are refused, if nothing else was done.
 pub serves_none : {S K : Type 0} (words : List (List ℕ)) (asked : Option Form) (bytes_left : S → Option (List ℕ)) (source_faults : S → ℕ) (bytes_held : K → Option (List ℕ))
     (sink_faults : K → ℕ) (source : S) (sink : K) → asked ≡ None →
     Serves words asked status.Usage bytes_left source_faults bytes_held sink_faults source source sink sink
@@ -32,7 +32,7 @@ serves_none words asked bytes_left source_faults bytes_held sink_faults source s
   served = λ f is. absurd (other_form asked f is none);
 }
 
--- so words are served for which there is no memory
+-- Words are served in the same way if there is no memory to read them.
 pub serves_unread : {S K : Type 0} (words : List (List ℕ)) (asked : Option Form) (bytes_left : S → Option (List ℕ)) (source_faults : S → ℕ)
     (bytes_held : K → Option (List ℕ)) (sink_faults : K → ℕ) (source : S) (sink : K) → take_memory words ≡ true → AskForData asked →
     Serves words asked status.NoMemory bytes_left source_faults bytes_held sink_faults source source sink sink
@@ -44,7 +44,7 @@ serves_unread words asked bytes_left source_faults bytes_held sink_faults source
   served = λ f is. no_memory_serves f bytes_left source_faults bytes_held sink_faults source sink (subst AskForData is asks);
 }
 
--- what asks for data does so where there is one thread
+-- Words that ask for data do so with one thread too.
 pub asks_alone : (asked : Option Form) → AskForData asked → AskForData (alone asked)
 asks_alone None asks = asks
 asks_alone (Some form.Run) asks = asks
@@ -54,8 +54,8 @@ asks_alone (Some (form.Array c)) asks = asks
 asks_alone (Some (form.Table l)) asks = asks
 asks_alone (Some (form.Nd s)) asks = asks
 
--- Words that ask for a form get what is owed for it. So an arm for a form has only that to show, and that it doesn't refuse
--- its words.
+-- Words that ask for a form get what is promised for it. So an arm for a form only has to show that, and that
+-- it doesn't refuse its words.
 pub serves_form : {S K : Type 0} (words : List (List ℕ)) (asked : Option Form) (f : Form) (result : Status)
     (bytes_left : S → Option (List ℕ)) (source_faults : S → ℕ) (bytes_held : K → Option (List ℕ)) (sink_faults : K → ℕ)
     (source_before source : S) (sink_before sink : K) → asked ≡ Some f → (result ≡ status.Usage → ⊥) →
@@ -71,14 +71,14 @@ serves_form words asked f result bytes_left source_faults bytes_held sink_faults
       (same_form asked f g is so) served;
 }
 
--- a script ends well, or for want of memory, where the sink doesn't fail
+-- A script ends well or for want of memory, if the sink doesn't fail.
 pub made_whole : (result : Status) (Writes : Type 0) → (result ≡ status.Done) ⊎ ((result ≡ status.NoMemory) ⊎ (result ≡ status.WriteFault)) →
     (result ≡ status.WriteFault → Writes) → ¬ Writes → (result ≡ status.Done) ⊎ (result ≡ status.NoMemory)
 made_whole result Writes (inl done) fault fine = inl done
 made_whole result Writes (inr (inl none)) fault fine = inr none
 made_whole result Writes (inr (inr failed)) fault fine = absurd (fine (fault failed))
 
--- a script has no other end
+-- A script ends with no other status.
 abbrev pub is_end_of_make : Status → Type 0
 is_end_of_make status.Done = Unit {0}
 is_end_of_make status.NoMemory = Unit {0}
@@ -91,7 +91,7 @@ made_ends_so result other (inl done) is = subst is_end_of_make (sym done ∙ is)
 made_ends_so result other (inr (inl none)) is = subst is_end_of_make (sym none ∙ is) tt
 made_ends_so result other (inr (inr failed)) is = subst is_end_of_make (sym failed ∙ is) tt
 
--- what is owed with one thread is what is owed, for words that don't ask for more
+-- For words that need only one thread, the promises with one thread are the promises.
 pub serves_as : {S K : Type 0} (words : List (List ℕ)) (asked other : Option Form) (result : Status)
     (bytes_left : S → Option (List ℕ)) (source_faults : S → ℕ) (bytes_held : K → Option (List ℕ)) (sink_faults : K → ℕ)
     (source_before source : S) (sink_before sink : K) → asked ≡ other →
@@ -100,7 +100,7 @@ pub serves_as : {S K : Type 0} (words : List (List ℕ)) (asked other : Option F
 serves_as words asked other result bytes_left source_faults bytes_held sink_faults source_before source sink_before sink same serves =
     subst (λ (x : Option Form). Serves words x result bytes_left source_faults bytes_held sink_faults source_before source sink_before sink) same serves
 
--- words that are refused have no other status
+-- Words that are refused end with no other status.
 abbrev is_refusal : Status → Type 0
 is_refusal status.Usage = Unit {0}
 is_refusal status.NoMemory = Unit {0}
@@ -111,7 +111,7 @@ refused_so : (words : List (List ℕ)) (result other : Status) → (result ≡ s
 refused_so words result other (inl usage) is = subst is_refusal (sym usage ∙ is) tt
 refused_so words result other (inr memory) is = subst is_refusal (sym memory.1 ∙ is) tt
 
--- a source that never fails is read, and a sink that never fails is written
+-- A source that never fails is read, and a sink that never fails is written.
 pub reads_well : {S K : Type 0} (words : List (List ℕ)) (asked : Option Form) (result : Status)
     (bytes_left : S → Option (List ℕ)) (source_faults : S → ℕ) (bytes_held : K → Option (List ℕ)) (sink_faults : K → ℕ)
     (source_before source : S) (sink_before sink : K) →
@@ -177,11 +177,11 @@ two_words false true table n (Some c) l is = cc
 two_words false true table n None l is = cc
 two_words false false table n c l is = more_words table l is
 
--- one word that isn't `share` asks for none
+-- A single word that isn't `share` doesn't ask for sessions.
 pub alone_one : (word : List ℕ) → bytes_eq word (codes "share") ≡ false → alone (form_of (word ∷ [])) ≡ form_of (word ∷ [])
 alone_one word other = alone_same (form_of (word ∷ [])) (one_word (bytes_eq word (codes "run")) (bytes_eq word (codes "share")) other)
 
--- nor does another number of words
+-- Another number of words doesn't ask for them either.
 pub alone_others : (words : List (List ℕ)) → length words ≢ 1 → alone (form_of words) ≡ form_of words
 alone_others [] other = refl
 alone_others (word ∷ []) other = absurd (other refl)
@@ -193,7 +193,7 @@ alone_others (word ∷ argument ∷ further ∷ more) other =
     alone_same (form_of (word ∷ argument ∷ further ∷ more))
     (three_words (bytes_eq word (codes "table")) (bytes_eq word (codes "nd")) (listing_in (argument ∷ further ∷ more)) (selection_in (argument ∷ further ∷ more)))
 
--- with one thread alone nobody disagrees
+-- With one thread, no run ends as a disagreement.
 pub agrees_alone : {S K : Type 0} (words : List (List ℕ)) (asked other : Option Form) (result : Status)
     (bytes_left : S → Option (List ℕ)) (source_faults : S → ℕ) (bytes_held : K → Option (List ℕ)) (sink_faults : K → ℕ)
     (source_before source : S) (sink_before sink : K) → other ≡ alone asked →
@@ -203,7 +203,7 @@ agrees_alone words asked None result bytes_left source_faults bytes_held sink_fa
 agrees_alone words asked (Some f) result bytes_left source_faults bytes_held sink_faults source_before source sink_before sink same serves is =
     no_sessions_alone asked (sym same ∙ ap Some ((serves.served f refl).disagree is))
 
--- what never fails counts no fault
+-- A device that never fails counts no fault.
 pub never_rose : (before after : ℕ) → before ≡ 0 → after ≡ 0 → Rose before after → ⊥
 never_rose before after none still (inl more) = omega (arith, none, still, more)
 never_rose before after none still (inr last) = omega (arith, still, last)

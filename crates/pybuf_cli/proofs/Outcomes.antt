@@ -1,4 +1,4 @@
--- What holds of one outcome holds with what follows from it.
+-- What holds of one outcome holds of it together with what follows from it.
 use Rattle.std.proofs.Common.{Result, Ok, Err, OnOk, OnErr, IfErr}
 
 pub on_err : {T E P : Type 0} (r : Result T E) → P → OnErr r P

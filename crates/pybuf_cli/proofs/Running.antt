@@ -1,4 +1,5 @@
--- Runs, line by line: what was put and what waits is the front of what is due, and what the lines that are left reply is the rest.
+-- Runs, line by line. What was put and what waits are the front of the text that is due, and the replies to the
+-- lines that are left are the rest.
 use Rattle.std.proofs.Common.{◌≡◌, ℕ, ◌+◌, List, [], ◌∷◌, ◌++◌, Option, Some, None, Result, Ok, Err, refl, sym, ◌∙◌, ap, subst}
 use Rattle.std.proofs.lemmas.List.{append_assoc, append-nil}
 use Rattle.pybuf_command.specs.declared.worlds.Command.{Command}
@@ -14,8 +15,8 @@ use Rattle.pybuf_cli.specs.Program.{program, due_for}
 use Rattle.pybuf_cli.specs.Running.{IsSpelled, AreSpelled, IsCarriedOut, IsAnswered}
 use Rattle.pybuf_cli.proofs.Sending.{put_both, put_then_front, sends_nothing, sends_more}
 
--- The lines that are left are commands. What they reply in this world comes behind a text, of which a part was put and the other
--- part waits, and both are what is due for the input.
+-- The lines that are left are commands. Their replies in this world come behind a text, part of which was put
+-- while the other part waits. Together these are the text that is due for the input.
 pub record IsRunning (input rest : List ℕ) (w : World) (old : Option (List ℕ)) (waiting : List ℕ) (held : Option (List ℕ)) : Type 0 where
   pub number : ℕ
   pub commands : List Command
@@ -51,7 +52,7 @@ cut_at rest line after number commands left cut =
     cut_before number line (lines after) commands (command_in handle_in line) (commands_from handle_in (number + 1) (lines after)) refl refl
     (sym (ap (commands_from handle_in number) cut) ∙ left)
 
--- a command that was carried out, by its step and what was added to the text
+-- a command that was carried out, by its step and by what was added to the text
 pub carried_out : (w next : World) (c : Command) (r : Reply) (text longer : List ℕ) → wstep w c ≡ (next, r) → longer ≡ text ++ reply_line handle_text r →
     IsCarriedOut w c text next longer
 carried_out w next c r text longer stepped pushed = (
@@ -59,14 +60,14 @@ carried_out w next c r text longer stepped pushed = (
   pushed ∙ ap (λ (p : World × Reply). text ++ reply_line handle_text p.1) (sym stepped),
 )
 
--- a reply that was written apart stands behind those that wait
+-- A reply that was written by itself stands behind the replies that wait.
 pub answered_behind : (w next : World) (line waiting before reply : List ℕ) → before ≡ [] → IsAnswered w line before next reply →
     IsAnswered w line waiting next (waiting ++ reply)
 answered_behind w next line waiting before reply none answered c is =
     let step = answered c is in
     (step.0, ap (λ (x : List ℕ). waiting ++ x) (step.1 ∙ ap (λ (x : List ℕ). x ++ reply_line handle_text (wstep w c).1) none))
 
--- the first line that is left is a command
+-- The first line that is left is a command.
 pub spelled_first : (input rest line after : List ℕ) (w : World) (old : Option (List ℕ)) (waiting : List ℕ) (held : Option (List ℕ)) →
     IsRunning input rest w old waiting held → lines rest ≡ line ∷ lines after → IsSpelled line
 spelled_first input rest line after w old waiting held so cut =
@@ -82,7 +83,7 @@ begins input w old spelled empty = record {
   sends = sends_nothing old;
 }
 
--- what is due with one line more put or waiting
+-- the text that is due, after one more line was put or waits
 due_after : (due text : List ℕ) (w next : World) (c : Command) (commands more : List Command) →
     due ≡ text ++ reply_lines handle_text (replies_of w commands) → commands ≡ c ∷ more → next ≡ (wstep w c).0 →
     due ≡ (text ++ reply_line handle_text (wstep w c).1) ++ reply_lines handle_text (replies_of next more)
@@ -93,7 +94,7 @@ due_after due text w next c commands more is whole stepped =
     ∙ (sym (append_assoc text line (reply_lines handle_text (replies_of (wstep w c).0 more)))
     ∙ ap (λ (x : World). (text ++ line) ++ reply_lines handle_text (replies_of x more)) (sym stepped)))
 
--- one line more was run, and its text put or left waiting
+-- One more line was run, and its text was put or still waits.
 pub goes_on : (input rest line after : List ℕ) (w next : World) (old mid new : Option (List ℕ)) (waiting longer left : List ℕ) →
     IsRunning input rest w old waiting mid → lines rest ≡ line ∷ lines after → IsAnswered w line waiting next longer → Sends mid longer left new →
     IsRunning input after next old left new
@@ -110,7 +111,7 @@ goes_on input rest line after w next old mid new waiting longer left so cut answ
       sends = sends_more old mid new so.text waiting shown longer sent.sent left so.sends step.1 sent.whole sent.put;
     }
 
--- a run that stops before a line, or while it is run, with the front of what waits put
+-- The run stops before a line, or while the line is run. The front of what waits was put.
 pub stops_before : (input rest : List ℕ) (w : World) (old mid new : Option (List ℕ)) (waiting lent : List ℕ) →
     IsRunning input rest w old waiting mid → lent ≡ waiting → PutPrefix mid lent new → PutPrefix old (due_for (commands_in handle_in input)) new
 stops_before input rest w old mid new waiting lent so same front =
@@ -119,7 +120,7 @@ stops_before input rest w old mid new waiting lent so same front =
     put_then_front old mid new (due_for (commands_in handle_in input)) so.sends.sent waiting others
     (so.due ∙ ap (λ (x : List ℕ). x ++ others) so.sends.whole) so.sends.put last
 
--- and one that stops where the text behind a line is put
+-- The run stops while the text behind a line is put.
 pub stops_behind : (input rest line after : List ℕ) (w next : World) (old mid new : Option (List ℕ)) (waiting longer : List ℕ) →
     IsRunning input rest w old waiting mid → lines rest ≡ line ∷ lines after → IsAnswered w line waiting next longer → PutPrefix mid longer new →
     PutPrefix old (due_for (commands_in handle_in input)) new
@@ -136,7 +137,7 @@ stops_behind input rest line after w next old mid new waiting longer so cut answ
     ∙ ap (λ (x : List ℕ). x ++ others) whole)
     so.sends.put front
 
--- with no line left, what was put and what waits is all that is due
+-- No line is left, so what was put and what waits are all that is due.
 all_due : (input rest : List ℕ) (w : World) (old : Option (List ℕ)) (waiting : List ℕ) (held : Option (List ℕ)) →
     (so : IsRunning input rest w old waiting held) → lines rest ≡ [] → due_for (commands_in handle_in input) ≡ so.sends.sent ++ waiting
 all_due input rest w old waiting held so none =
@@ -160,7 +161,7 @@ stops_at_end input rest w old mid new waiting lent so none same front =
     put_then_front old mid new (due_for (commands_in handle_in input)) so.sends.sent waiting []
     (all_due input rest w old waiting mid so none ∙ sym (append-nil (so.sends.sent ++ waiting))) so.sends.put last
 
--- what is due for lines that are commands is what the program writes for these
+-- The text that is due for lines that are commands is what the program writes for these commands.
 pub puts_program : (old new : Option (List ℕ)) (read : Result (List Command) ℕ) (commands : List Command) → read ≡ Ok commands →
     Put old (due_for read) new → Put old (program commands) new
 puts_program old new read commands is put = subst (λ (x : Result (List Command) ℕ). Put old (due_for x) new) is put

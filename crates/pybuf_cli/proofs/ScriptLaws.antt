@@ -1,4 +1,4 @@
--- Scripts, line by line: each line is one, and its command is the one of the script.
+-- Scripts, line by line: each line is one line, and spells the command of the script.
 use Rattle.std.proofs.Common.{◌≡◌, ◌==◌, ◌||◌, ℕ, zero, suc, ◌+◌, ◌*◌, ◌/◌, ◌%◌, ◌^◌, ◌<◌, ◌≤◌, Bool, true, false, cond, List, [], ◌∷◌, ◌++◌, refl, sym, ◌∙◌, ap, arith, codes}
 use Rattle.std.specs.Prelude.{Some, None, Ok, decimal}
 use Rattle.std.specs.List.{flat_map, range_with_len, list_any, onto_first}
@@ -27,7 +27,7 @@ or_false : (a b : Bool) → (a || b) ≡ false → (a ≡ false) × (b ≡ false
 or_false true b h = absurd (cc)
 or_false false b h = (refl, h)
 
--- a line and its line feed at the front of a text
+-- A line and its line feed stand at the front of a text.
 line_cut : (line rest : List ℕ) → IsOneLine line → parts_at 10 (line ++ 10 ∷ rest) ≡ line ∷ parts_at 10 rest
 line_cut [] rest single = slice_split-cons_yes (λ b. b == 10) 10 rest refl
 line_cut (b ∷ line) rest single =
@@ -36,7 +36,7 @@ line_cut (b ∷ line) rest single =
 
 -- ---- lines and their commands
 
--- these lines are one each, and these are their commands
+-- Each of these texts is one line, and these are the commands that they spell.
 abbrev Spell : List (List ℕ) → List Command → Type 0
 Spell [] [] = Unit {0}
 Spell (line ∷ more) (c ∷ cs) = IsOneLine line × (command_in handle_in line ≡ Some c) × Spell more cs
@@ -81,7 +81,7 @@ unfolding encode_with
 no_digits = refl
 
 module _ (reads : CommandsReadBack) (single : RepliesAreSingle handle_text) where
-  -- a number is written without a line feed
+  -- The text of a number has no line feed.
   decimal_single : (n : ℕ) → IsOneLine (decimal n)
   decimal_single n = single (reply.Handle n) (λ text shown. absurd (cc))
 

@@ -1,4 +1,4 @@
--- How long the text of a script is: no longer than an input may be.
+-- The text of a script is no longer than an input may be.
 use Rattle.std.proofs.Common.{◌≡◌, ◌==◌, ℕ, zero, suc, ◌+◌, ◌*◌, ◌/◌, ◌%◌, ◌<◌, ◌≤◌, Bool, true, false, cond, List, [], ◌∷◌, ◌++◌, length, ◌∙◌, ap, arith, tests, codes}
 use Rattle.std.specs.Prelude.{decimal, nat_lt}
 use Rattle.std.specs.List.{flat_map, range_with_len}
@@ -20,7 +20,7 @@ of_none : text_length [] ≤ 0
 unfolding text_length
 of_none = omega arith
 
--- a line, its line feed, and the others
+-- a line, its line feed, and the other lines
 of_line : (line : List ℕ) (rest : List (List ℕ)) (m k : ℕ) → length line ≤ m → text_length rest ≤ k → text_length (line ∷ rest) ≤ m + 1 + k
 unfolding text_length
 of_line line rest m k here there =

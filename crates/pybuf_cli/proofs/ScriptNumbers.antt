@@ -1,4 +1,4 @@
--- The number of a script, as it is read and as it is written.
+-- The number of a script, as a word writes it and as the code reads it.
 use Rattle.std.proofs.Common.{◌≡◌, ℕ, ◌≤◌, ◌<◌, ◌^◌, ◌==◌, ◌&&◌, Bool, true, false, cond, List, [], ◌∷◌, drop, Option, Some, None, refl, sym, ◌∙◌, ap, subst, arith, tests}
 use Rattle.std.specs.Prelude.{decimal, nat_le}
 use Rattle.std.specs.Char.{digit_value}
@@ -8,7 +8,7 @@ use Rattle.std.proofs.lemmas.Fmt.{decimal_is_IsNumeral}
 use Rattle.std.proofs.lemmas.Slice.Eq.{bytes_eq-Decides}
 use Rattle.pybuf_cli.specs.Program.{written_number, script_number_in}
 
--- a digit is no plus
+-- A digit is no plus.
 no_plus : (c : ℕ) → digit_value c < 10 → (c == 43) ≡ false
 no_plus c h = grind (arith, tests)
 
@@ -16,7 +16,7 @@ without_plus : (word : List ℕ) → IsNumeral 10 word → without_leading_plus 
 without_plus [] numeral = absurd (omega (arith, numeral.0))
 without_plus (c ∷ cs) numeral = ap (λ plus. drop (cond plus 1 0) (c ∷ cs)) (no_plus c numeral.1.0)
 
--- a number that is read from a word is one of a script, and the word writes it
+-- A number that was read from a word is that of a script, and the word writes it.
 pub record IsNumber (word : List ℕ) (n : ℕ) : Type 0 where
   pub low : 1 ≤ n
   pub high : n ≤ 4096
@@ -43,7 +43,7 @@ is_number word m is =
     let n = digits_value 10 word in
     by_tests word n m (nat_le 1 n) (nat_le n 4096) (bytes_eq word (decimal n)) refl refl refl is refl
 
--- it is the number that the word is parsed as
+-- The word is parsed as this number.
 record IsParsed (word : List ℕ) (m : ℕ) : Type 0 where
   numeral : IsNumeral 10 (without_leading_plus word)
   value : digits_value 10 (without_leading_plus word) ≡ m
@@ -61,7 +61,7 @@ no_number : (read : Option ℕ) → ((m : ℕ) → read ≡ Some m → ⊥) → 
 no_number None none = refl
 no_number (Some m) none = absurd (none m refl)
 
--- what is parsed, or not
+-- whether a word is parsed as a number, and as which
 abbrev pub Parses : List ℕ → Type 0
 Parses text = IsNumeral 10 (without_leading_plus text) × (digits_value 10 (without_leading_plus text) < 2 ^ 16)
 
@@ -72,7 +72,7 @@ none_unparsed word text same not =
     let p = parsed word m number in
     not (subst Parses (sym same) (p.numeral, omega (arith, p.value, number.high))))
 
--- of a number that is parsed
+-- what holds of a number that is parsed
 pub none_but : (word text : List ℕ) (n : ℕ) → text ≡ word → n ≡ digits_value 10 (without_leading_plus text) → (IsNumber word n → ⊥) →
     None ≡ script_number_in word
 none_but word text n same value not =
@@ -93,7 +93,7 @@ some_number word n low high same =
     ∙ (ap (λ x. cond (x && nat_le n 4096 && bytes_eq word (decimal n)) (Some n) None) first
     ∙ (ap (λ x. cond (x && bytes_eq word (decimal n)) (Some n) None) second ∙ ap (λ x. cond x (Some n) None) same)))
 
--- the word as it is lent, and the number as it is written
+-- The word is the one that was lent, and the number is the one that is written.
 pub same_written : (word lent written : List ℕ) (n : ℕ) → lent ≡ word → written ≡ decimal n → bytes_eq lent written ≡ true →
     bytes_eq word (decimal n) ≡ true
 same_written word lent written n same writes is = ap (λ x. bytes_eq x (decimal n)) (sym same) ∙ (ap (bytes_eq lent) (sym writes) ∙ is)

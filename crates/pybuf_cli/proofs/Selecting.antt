@@ -1,4 +1,4 @@
--- Bytes in a shape: what was read and put, where the source tells its bytes, and over bytes in memory.
+-- Bytes in a shape: what was read and put, if the source tells its bytes, and over bytes in memory.
 use Rattle.std.proofs.Common.{◌≡◌, ◌≢◌, ℕ, ◌≤◌, List, [], length, Option, Some, sym, ◌∙◌, ap, subst, arith}
 use Rattle.pybuf_nd_lines.specs.Selections.{Selection, bytes_due, selection_text}
 use Rattle.pybuf_nd_lines.specs.Texts.{misfit_text}

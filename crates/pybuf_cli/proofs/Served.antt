@@ -1,4 +1,4 @@
--- What was read and put, where the source tells its bytes.
+-- What was read and put, if the source tells its bytes.
 use Rattle.std.proofs.Common.{◌≡◌, ◌≢◌, ◌↔◌, ◌⊎◌, ℕ, suc, ◌<◌, ◌≤◌, List, [], ◌++◌, length, take, drop, Option, Some, Result, Ok, Err, inl, inr, refl, sym, ◌∙◌, ap, subst, arith}
 use Rattle.std.proofs.lemmas.List.{append-nil, nil_from_length, length-append, drop_at}
 use Rattle.pybuf_command.specs.declared.worlds.Command.{Command}
@@ -16,7 +16,7 @@ use Rattle.pybuf_line.specs.Replies.{bad_line_text}
 use Rattle.pybuf_cli.specs.Program.{most, program, ending_for, IsDone, IsBadLine, IsTooLong, TakesFront}
 use Rattle.pybuf_cli.specs.Serving.{IsDue, Ends}
 
--- what was taken up to the end is all that there was
+-- What was taken up to the end is all that there was.
 pub took_all : (old new : Option (List ℕ)) (input bytes : List ℕ) → Took old bytes new → AtEnd new → old ≡ Some input →
     (bytes ≡ input) × (new ≡ Some [])
 took_all old new input bytes took end told =
@@ -63,7 +63,7 @@ took_too_many old new input taken told =
       rest = t.2 ∙ ap Some (sym rest);
     }
 
--- a run whose bytes so far were taken
+-- The bytes that a run had so far were taken.
 pub took_so_far : (old new : Option (List ℕ)) (input bytes : List ℕ) (result : Status) → Took old bytes new → length bytes ≤ suc most →
     ((result ≡ status.TooLong) ↔ (length bytes ≡ suc most)) → old ≡ Some input → TakesFront input result new
 took_so_far old new input bytes result took few which told =
@@ -76,14 +76,14 @@ took_so_far old new input bytes result took few which told =
       too_long = which;
     }
 
--- one that took no byte too many, and doesn't say so
+-- No byte too many was taken, and the status doesn't say so.
 pub took_few : (old new : Option (List ℕ)) (input bytes : List ℕ) (result : Status) → Took old bytes new → length bytes ≤ most →
     (result ≡ status.TooLong → ⊥) → old ≡ Some input → TakesFront input result new
 took_few old new input bytes result took few other told =
     took_so_far old new input bytes result took (omega (arith, few))
     (λ long. absurd (other long), λ many. absurd (omega (arith, few, many))) told
 
--- and one that stopped before
+-- The run stopped before that.
 pub stopped_short : (old new : Option (List ℕ)) (input : List ℕ) (stop other : ReadStop) (result : Status) →
     (stop ≢ stops.TooLong → (bytes : List ℕ) × (length bytes ≤ 1048576) × Took old bytes new) → stop ≡ other → (other ≡ stops.TooLong → ⊥) →
     (result ≡ status.TooLong → ⊥) → old ≡ Some input → TakesFront input result new
@@ -103,13 +103,13 @@ no_memory_ends_short e = cc
 pub fault_ends_short : status.ReadFault ≡ status.TooLong → ⊥
 fault_ends_short e = cc
 
--- one that took a byte too many, and says so
+-- One byte too many was taken, and the status says so.
 pub took_one_more : (old new : Option (List ℕ)) (input : List ℕ) (result : Status) →
     ((bytes : List ℕ) × (length bytes ≡ 1048577) × Took old bytes new) → result ≡ status.TooLong → old ≡ Some input → TakesFront input result new
 took_one_more old new input result taken long told =
     took_so_far old new input taken.0 result taken.2 (omega (arith, taken.1)) (λ _. taken.1, λ _. long) told
 
--- an input that was read to its end was answered by no status for one that is too long
+-- If an input was read to its end, the status isn't the one for an input that is too long.
 pub answered_otherwise : {X : Type 0} (read : Result X ℕ) (result : Status) →
     (result ≡ ending_for read) ⊎ ((result ≡ status.NoMemory) ⊎ (result ≡ status.WriteFault)) → result ≡ status.TooLong → ⊥
 answered_otherwise (Ok all) result (inl done) long = let e : status.Done ≡ status.TooLong = sym done ∙ long in cc
@@ -117,11 +117,11 @@ answered_otherwise (Err line) result (inl bad) long = let e : status.BadLine ≡
 answered_otherwise read result (inr (inl none)) long = let e : status.NoMemory ≡ status.TooLong = sym none ∙ long in cc
 answered_otherwise read result (inr (inr failed)) long = let e : status.WriteFault ≡ status.TooLong = sym failed ∙ long in cc
 
--- at the end of the source nothing is left unread
+-- At the end of the source, nothing is left to read.
 pub none_unread : (left : Option (List ℕ)) (rest : List ℕ) → AtEnd left → left ≡ Some rest → 0 < length rest → ⊥
 none_unread left rest end told some = omega (arith, end rest told, some)
 
--- over an empty sink, what it holds is what was put
+-- If the sink was empty, its bytes are those that were put.
 pub held_is : (held_before held text : List ℕ) → held_before ≡ [] → Put (Some held_before) text (Some held) → held ≡ text
 held_is held_before held text empty put =
     let same : Some held ≡ Some (held_before ++ text) = put held_before refl in
@@ -152,7 +152,7 @@ quiet_front f input told held_before held out same empty kept put =
       kept ∙ held_is held_before held (take n put.text) empty put.front.2,
     )
 
--- how a form ended over the bytes of a source is how it ends over the same bytes
+-- How a form ended over the bytes of a source is how it ends over the same bytes.
 pub quiet_ends : (f : Form) (input told : List ℕ) (result : Status) → told ≡ input → (Ends f told result) ⊎ (result ≡ status.NoMemory) →
     (Ends f input result) ⊎ (result ≡ status.NoMemory)
 quiet_ends f input told result same ended = subst (λ (x : List ℕ). (Ends f x result) ⊎ (result ≡ status.NoMemory)) same ended

@@ -1,4 +1,4 @@
--- What sessions come to, and what was put of it.
+-- What the sessions come to, and what was put of that.
 use Rattle.std.proofs.Common.{◌≡◌, ◌⊎◌, ℕ, ◌<◌, ◌≤◌, Bool, true, false, List, [], length, nat_lt, Option, Some, Result, Ok, Err, inl, inr, refl, sym, ◌∙◌, ap, subst, arith}
 use Rattle.std.proofs.lemmas.Bool.{le-ltb, lt-ltb}
 use Rattle.pybuf_share.specs.declared.joined.Joined.{Joined}
@@ -16,7 +16,7 @@ use Rattle.pybuf_cli.specs.Sharing.{IsShared, IsOfSessions, IsDueOfLines, IsDueS
 use Rattle.pybuf_cli.proofs.Sending.{put_nothing, put_front}
 use Rattle.pybuf_cli.proofs.Served.{took_all}
 
--- the text of what was put together is that of a history of these sessions
+-- The text of the history that joins them is that of a history of these sessions.
 pub shared_of_run : (s : Sessions) (joined : Joined) → IsRun s.kind s.bytes s.scripts joined →
     IsShared s (shared_text joined.entries joined.state.exporter)
 shared_of_run s joined run = record {
@@ -32,7 +32,7 @@ pub puts_history : (s : Sessions) (joined : Joined) (old new : Option (List ℕ)
     Put old (shared_text joined.entries joined.state.exporter) new → PutsHistory s old new
 puts_history s joined old new run put = record { text = _; shared = shared_of_run s joined run; put = put }
 
--- what holds for the lines that were read holds for the input
+-- What holds for the lines that were read holds for the input.
 pub front_of_lines : (read : Result Sessions ℕ) (s : Sessions) (old new : Option (List ℕ)) → read ≡ Ok s →
     PutsFrontOf (λ text. IsOfSessions s text) old new → PutsFrontOf (λ text. IsDueOfLines false read text) old new
 front_of_lines read s old new is front =
@@ -42,7 +42,7 @@ front_of_lines read s old new is front =
 put_none : (old : Option (List ℕ)) (text : List ℕ) → PutPrefix old text old
 put_none old text = put_front old old text [] text refl (put_nothing old)
 
--- nothing is the front of any text
+-- The empty text is the front of every text.
 pub nothing_of_lines : (long : Bool) (read : Result Sessions ℕ) (old : Option (List ℕ)) → PutsFrontOf (λ text. IsDueOfLines long read text) old old
 nothing_of_lines true read old = record { text = []; due = refl; front = put_none old [] }
 nothing_of_lines false (Err line) old = record { text = bad_line_text line; due = refl; front = put_none old (bad_line_text line) }
@@ -52,7 +52,7 @@ nothing_of_lines false (Ok s) old =
 pub nothing_shared : (input : List ℕ) (old : Option (List ℕ)) → PutsFrontOf (λ text. IsDueShared input text) old old
 nothing_shared input old = nothing_of_lines (nat_lt most (length input)) (sessions_in input) old
 
--- the lines that were read are those of the input, which isn't too long
+-- The lines that were read are those of the input, which isn't too long.
 pub front_shared : (old new held_before held : Option (List ℕ)) (input bytes lent : List ℕ) → Took old bytes new → AtEnd new →
     length bytes ≤ most → lent ≡ bytes → PutsFrontOf (λ text. IsDueOfLines false (sessions_in lent) text) held_before held →
     old ≡ Some input → PutsFrontOf (λ text. IsDueShared input text) held_before held
@@ -105,7 +105,7 @@ bad_line_shared old new held_before held input bytes lent took end short same ba
       put = bad.2;
     }
 
--- an answer to the lines of an input has no other status
+-- A run for the lines of an input ends with no other status.
 abbrev pub is_answer : Status → Type 0
 is_answer status.Done = Unit {0}
 is_answer status.BadLine = Unit {0}
@@ -129,7 +129,7 @@ ends_or_fails read result Writes (inl ended) rose fine = inl ended
 ends_or_fails read result Writes (inr (inl none)) rose fine = inr none
 ends_or_fails read result Writes (inr (inr failed)) rose fine = absurd (fine (rose failed))
 
--- and where nothing fails it is one that the input calls for, or want of memory
+-- If nothing fails, the status is one that the input calls for, or want of memory.
 pub complete_shared : (old new : Option (List ℕ)) (input bytes lent : List ℕ) (result : Status) (Writes : Type 0) → Took old bytes new → AtEnd new →
     length bytes ≤ most → lent ≡ bytes →
     ((EndsOfLines false (sessions_in lent) result) ⊎ ((result ≡ status.NoMemory) ⊎ (result ≡ status.WriteFault))) →
@@ -143,12 +143,12 @@ complete_shared old new input bytes lent result Writes took end short same ended
     (subst (λ (long : Bool). (EndsOfLines long (sessions_in bytes) result) ⊎ (result ≡ status.NoMemory)) (sym fits)
     (subst (λ (x : List ℕ). (EndsOfLines false (sessions_in x) result) ⊎ (result ≡ status.NoMemory)) same so))
 
--- an input of which a byte too many was taken is too long
+-- If one byte too many of an input was taken, the input is too long.
 pub ends_too_long : (input : List ℕ) → most < length input → EndsShared input status.TooLong
 ends_too_long input long =
     subst (λ (b : Bool). EndsOfLines b (sessions_in input) status.TooLong) (sym (lt-ltb most (length input) long)) refl
 
--- what sessions end with is what their lines may end with
+-- The sessions end with a status with which their lines may end.
 pub ends_of_sessions : (read : Result Sessions ℕ) (s : Sessions) (result : Status) → read ≡ Ok s →
     ((result ≡ status.Done) ⊎ (result ≡ status.Disagree)) ⊎ ((result ≡ status.NoMemory) ⊎ (result ≡ status.WriteFault)) →
     (EndsOfLines false read result) ⊎ ((result ≡ status.NoMemory) ⊎ (result ≡ status.WriteFault))

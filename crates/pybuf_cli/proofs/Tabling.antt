@@ -1,4 +1,5 @@
--- Tables of records, record by record: what was put and what waits is the front of what is due, and the text of the records that are left is the rest.
+-- Tables of records, record by record. What was put and what waits are the front of the text that is due, and
+-- the text of the records that are left is the rest.
 use Rattle.std.proofs.Common.{◌≡◌, ◌⊎◌, ℕ, ◌<◌, ◌≤◌, ◌==◌, Bool, true, false, cond, List, [], ◌++◌, length, map, Option, Some, None, inl, inr, refl, sym, ◌∙◌, ap, subst, arith}
 use Rattle.std.specs.Prelude.{nat_lt}
 use Rattle.std.specs.List.{flat_map, filter, enumerate_from}
@@ -24,7 +25,7 @@ use Rattle.pybuf_cli.proofs.Served.{took_all, held_is}
 
 -- ---- the records
 
--- no bytes have no records
+-- An empty input has no records.
 none_listed : (f : Format) (query : Option Query) → rows_listed f query [] ≡ []
 none_listed f None = ap (λ (n : ℕ). rows_of f n []) (zero-div f.size)
 none_listed f (Some q) = ap (λ (n : ℕ). map (λ row. row.1) (filter (is_chosen q.field q.op (scalar.Int q.number)) (enumerate_from 0 (rows_of f n [])))) (zero-div f.size)
@@ -32,7 +33,7 @@ none_listed f (Some q) = ap (λ (n : ℕ). map (λ row. row.1) (filter (is_chose
 nothing_listed : (l : Listing) → listing_text l [] ≡ []
 nothing_listed l = ap (flat_map row_line) (none_listed l.records.format l.query)
 
--- what was put and what waits of the records before the rest
+-- what was put and what waits for the records before the rest
 pub record IsTabling (l : Listing) (input rest : List ℕ) (old : Option (List ℕ)) (waiting : List ℕ) (held : Option (List ℕ)) : Type 0 where
   pub text : List ℕ
   pub due : listing_text l input ≡ text ++ listing_text l rest
@@ -41,7 +42,7 @@ pub record IsTabling (l : Listing) (input rest : List ℕ) (old : Option (List �
 pub tabling_begins : (l : Listing) (input : List ℕ) (old : Option (List ℕ)) → IsTabling l input input old [] old
 tabling_begins l input old = record { text = []; due = refl; sends = sends_nothing old }
 
--- what is due, with the line of one record more
+-- the text that is due, with the line of one more record
 due_behind : (l : Listing) (input rest after text before line : List ℕ) → listing_text l input ≡ text ++ listing_text l rest → before ≡ [] →
     line ++ listing_text l after ≡ before ++ listing_text l rest → listing_text l input ≡ (text ++ line) ++ listing_text l after
 due_behind l input rest after text before line due none is =
@@ -58,7 +59,7 @@ tabling_goes_on l input rest after old mid new waiting before line left so none 
   sends = sends_more old mid new so.text waiting line (waiting ++ line) sent.sent left so.sends refl sent.whole sent.put;
 }
 
--- before a record for which there is no memory the front of what waits is put
+-- If there is no memory for a record, the front of what waits is put before it.
 pub tabling_stops_before : (l : Listing) (input rest : List ℕ) (old mid new : Option (List ℕ)) (waiting lent : List ℕ) →
     IsTabling l input rest old waiting mid → lent ≡ waiting → PutPrefix mid lent new → PutPrefix old (listing_text l input) new
 tabling_stops_before l input rest old mid new waiting lent so same front =
@@ -71,7 +72,7 @@ tabling_stops_behind l input rest after old mid new waiting before line so none 
     sends_then_front old mid new so.text waiting line (listing_text l after) (listing_text l input) so.sends
     (due_behind l input rest after so.text before line so.due none is) front
 
--- with no byte left, what was put and what waits is all that is due
+-- No byte is left, so what was put and what waits are all that is due.
 all_tabled : (l : Listing) (input rest text : List ℕ) → listing_text l input ≡ text ++ listing_text l rest → rest ≡ [] → text ≡ listing_text l input
 all_tabled l input rest text due none =
     sym (due ∙ (ap (λ (x : List ℕ). text ++ listing_text l x) none ∙ (ap (λ (x : List ℕ). text ++ x) (nothing_listed l) ∙ append-nil text)))
@@ -81,7 +82,7 @@ pub tabling_ends : (l : Listing) (input rest : List ℕ) (old mid new : Option (
 tabling_ends l input rest old mid new waiting lent so none same put =
     subst (λ (x : List ℕ). Put old x new) (all_tabled l input rest so.text so.due none) (sends_put old mid new so.text waiting lent so.sends same put)
 
--- ---- what was read and put, where the source tells its bytes
+-- ---- what was read and put, if the source tells its bytes
 
 pub listed_all : (l : Listing) (old new held_before held : Option (List ℕ)) (input bytes lent : List ℕ) → Took old bytes new → AtEnd new →
     length bytes ≤ most → lent ≡ bytes → ((left_over l lent ≡ 0) × Put held_before (listing_text l lent) held) →

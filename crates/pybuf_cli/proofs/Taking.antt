@@ -6,34 +6,34 @@ use Rattle.pybuf_cli.specs.Devices.{Took, AtEnd, Put, Counts}
 use Rattle.pybuf_cli.specs.declared.devices.PutFault.{PutFault}
 use Rattle.pybuf_cli.specs.declared.devices.PutFault.TheVariants as fault
 
--- what was moved is the front of what was left, and what is left now is the rest
+-- What was moved is the front of what was left, and what is left now is the rest.
 pub took_front : (left rest front : List ℕ) (count : ℕ) → front ≡ take count left → rest ≡ drop count left → Took (Some left) front (Some rest)
 took_front left rest front count moved stays l h =
     let here : l ≡ left = cc in
     (rest, here ∙ (sym (take-append-drop count left) ∙ (ap (λ x. x ++ drop count left) (sym moved) ∙ ap (λ x. front ++ x) (sym stays))), refl)
 
--- where nothing was moved though there was room, nothing was left
+-- If no byte was moved although there was room, none was left.
 pub none_left : (left rest : List ℕ) (room most count : ℕ) → count ≡ min (min (length left) room) most → rest ≡ drop count left →
     count ≡ 0 → 0 < room → 0 < most → AtEnd (Some rest)
 none_left left rest room most count is stays none some more r told =
     let same : r ≡ rest = cc in
     omega (arith, ap length same, ap length stays, length-drop count left, is, none, some, more)
 
--- a slice of the bytes from a place on is what is left there
+-- The slice of the bytes from a place on is what is left there.
 pub lent_rest : (left bytes lent : List ℕ) (taken : ℕ) → drop taken bytes ≡ left → lent ≡ bytes →
     take (length lent - taken) (drop taken lent) ≡ left
 lent_rest left bytes lent taken view same =
     ap (λ x. take (length x - taken) (drop taken x)) same ∙ (take_rest bytes taken ∙ view)
 
--- and what is left after more was moved
+-- what is left after more bytes were moved
 pub left_after : (left bytes : List ℕ) (taken count : ℕ) → drop taken bytes ≡ left → drop (taken + count) bytes ≡ drop count left
 left_after left bytes taken count view = sym (drop-drop count taken bytes) ∙ ap (drop count) view
 
--- a count that is shown, and what it came to
+-- the count that is shown before a call, and the count after it
 pub counted : (shown before after : ℕ) → before ≡ shown → before ≤ after → after < 2 ^ 64 → Counts shown after
 counted shown before after same later bounded = record { later = omega (arith, same, later); bounded = bounded }
 
--- a call that wasn't told to fail, and ended otherwise
+-- A call that wasn't told to fail ended in another way.
 didnt_fail : (asked told : Bool) (r : Result ℕ PutFault) → asked ≡ told → asked ≡ false → (r ≡ Err fault.Failed → ⊥) →
     (r ≡ Err fault.Failed → told ≡ true) × (told ≡ true → r ≡ Err fault.Failed)
 didnt_fail asked told r same off other = (λ e. absurd (other e), λ on. absurd (let bad : true ≡ false = sym on ∙ (sym same ∙ off) in cc))
@@ -48,22 +48,22 @@ pub found_no_memory : (asked told : Bool) (r : Result ℕ PutFault) → r ≡ Er
 found_no_memory asked told r is same off =
     didnt_fail asked told r same off (λ e. let bad : Err fault.NoMemory ≡ Err fault.Failed = sym is ∙ e in cc)
 
--- nothing was taken yet
+-- No byte was taken yet.
 pub took_nothing : (old : Option (List ℕ)) → Took old [] old
 took_nothing old left told = (left, refl, told)
 
--- and nothing more since
+-- No more bytes were taken since.
 pub took_still : (old mid new : Option (List ℕ)) (bytes : List ℕ) → new ≡ mid → Took old bytes mid → Took old bytes new
 took_still old mid new bytes same took = subst (λ (left : Option (List ℕ)). Took old bytes left) (sym same) took
 
--- the front of a text, and then the front of a piece of the rest
+-- The front of a text was taken, and then the front of a piece of the rest.
 pub take_further : (text : List ℕ) (at count room : ℕ) → count ≤ length (take room (drop at text)) →
     take at text ++ take count (take room (drop at text)) ≡ take (at + count) text
 take_further text at count room within =
     let less : count ≤ room = grind (arith, length-take room (drop at text)) in
     ap (λ x. take at text ++ x) (take-take count room (drop at text) less) ∙ sym (take-add at count text)
 
--- putting goes on
+-- More bytes were put.
 pub put_further : (old mid new : Option (List ℕ)) (text : List ℕ) (at count room : ℕ) → count ≤ length (take room (drop at text)) →
     Put old (take at text) mid → Put mid (take count (take room (drop at text))) new → Put old (take (at + count) text) new
 put_further old mid new text at count room within before after held h =

@@ -5,7 +5,7 @@ use Rattle.std.specs.Prelude.{slice_get}
 use Rattle.pybuf_command.specs.declared.loans.Loan.{Loan}
 use Rattle.pybuf_command.specs.Loans.{loan_of, are_placed_from}
 
--- one pair more
+-- one more pair
 pub placed_and_one : (n : ℕ) (pairs : List (ℕ × Loan)) (pair : ℕ × Loan) → are_placed_from n (pairs ++ pair ∷ []) ≡ are_placed_from n pairs && (pair.0 == n + length pairs)
 placed_and_one n [] pair = grind (arith)
 placed_and_one n (first ∷ pairs) pair = grind (arith, placed_and_one (suc n) pairs pair)
@@ -22,6 +22,6 @@ found_by_place pairs h placed = let start : h ≡ 0 + h = omega arith in ap (loa
 pub found_at_place : (pairs : List (ℕ × Loan)) (h : ℕ) (pair : ℕ × Loan) → are_placed_from 0 pairs ≡ true → slice_get pairs h ≡ Some pair → Some pair.1 ≡ loan_of pairs h
 found_at_place pairs h pair placed at = sym (found_by_place pairs h placed ∙ ap (option_map (λ (pair : ℕ × Loan). pair.1)) at)
 
--- and there is none where the list has no such place
+-- There is no loan if the list has no such place.
 pub none_past_places : (pairs : List (ℕ × Loan)) (h : ℕ) → are_placed_from 0 pairs ≡ true → slice_get pairs h ≡ None → None ≡ loan_of pairs h
 none_past_places pairs h placed past = sym (found_by_place pairs h placed ∙ ap (option_map (λ (pair : ℕ × Loan). pair.1)) past)

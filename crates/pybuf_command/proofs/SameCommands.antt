@@ -1,4 +1,4 @@
--- Rust's `==` of commands is being the same.
+-- Two commands are equal by Rust's `==` exactly if they are the same.
 use Rattle.std.proofs.Common.{◌≡◌, ℕ, Bool, true, false, ◌&&◌, List, Option, Some, None, refl, ap, ◌∙◌, subst}
 use Rattle.std.specs.Bool.{Decides}
 use Rattle.std.specs.Option.{option_eq}
@@ -52,7 +52,7 @@ and_decided a b d e = (λ h. (d.0 (both_parts a b h).0, e.0 (both_parts a b h).1
 
 -- ---- names
 
--- Where `==` holds of each value and itself, and of no two others, it decides.
+-- If `==` holds of each value and itself, and of no two others, it decides whether two are the same.
 decided : {A : Type 0} (E : A → A → Bool) → ((x : A) → E x x ≡ true) → ((x y : A) → E x y ≡ true → x ≡ y) → (x y : A) → Decides (E x y) (x ≡ y)
 decided E itself from x y = (from x y, λ p. subst (λ u. E x u ≡ true) p (itself x))
 
@@ -250,7 +250,7 @@ options_same : ValuesSame → (x y : ByteInnerNewOptions) → Decides (options_e
 options_same e x y = moved (by_options x y) (λ p. (ap (λ c. c.source) p, (ap (λ c. c.encoding) p, ap (λ c. c.errors) p)))
     (and_decided _ _ (maybes_same e x.source y.source) (and_decided _ _ (maybes_same e x.encoding y.encoding) (maybes_same e x.errors y.errors)))
 
--- ---- what is asked
+-- ---- what a command asks
 
 verb_itself : ValuesSame → (x : Verb) → verb_eq.eq-value.it x x ≡ true
 verb_itself e verb.View = refl

@@ -1,4 +1,4 @@
--- Rust's `==` of replies is being the same.
+-- Two replies are equal by Rust's `==` exactly if they are the same.
 use Rattle.std.proofs.Common.{◌≡◌, ℕ, ℤ, Bool, true, false, ◌&&◌, List, refl, ap, sym, ◌∙◌, subst}
 use Rattle.std.specs.Bool.{Decides}
 use Rattle.std.specs.Str.{bytes_eq}

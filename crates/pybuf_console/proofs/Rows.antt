@@ -1,4 +1,4 @@
--- A console's block, and its address, own what a box of a console owns.
+-- A console's block, and its address, own what a box of the console owns.
 use mathlib.Core.List.{[]}
 use mir.Syntax.{impl, tnil, dnil}
 use denote.Signature.{Slot, plain}

@@ -1,4 +1,4 @@
--- Items that are equal only where their bytes are the same.
+-- Items that are equal exactly if their bytes are the same.
 use Rattle.std.proofs.Common.{◌≡◌, ℕ, zero, suc, ◌+◌, ◌<◌, ◌≤◌, pos, Bool, true, false, true≢false, List, [], ◌∷◌, ◌++◌, length, map, ap, ap₂, sym, ◌∙◌, refl, subst, arith, get_or, Fits, w8}
 use Rattle.std.specs.Prelude.{All, ◌==◌, ◌&&◌, bytes_eq, Result, Ok, Err, if◌then◌else◌}
 use Rattle.std.specs.List.{list_all, AllByRecursion}
@@ -101,7 +101,7 @@ exact_codes (c ∷ codes) e =
     let unpadded : c.pre_padding ≡ 0 = eqb-true c.pre_padding 0 (first (c.pre_padding == 0) (is_exact c.code) here) in
     ((unpadded, second (c.pre_padding == 0) (is_exact c.code) here), exact_codes codes (second (is_exact_code c) (list_all is_exact_code codes) e))
 
--- ---- equal ones are the same
+-- ---- equal items are the same
 
 same_plain : (x y : Scalar) → IsPlain x → IsPlain y → same_scalar x y ≡ true → x ≡ y
 same_plain (scalar.Int m) (scalar.Int n) p q e = ap (λ z. scalar.Int z) ((Decides-int_eq m n).0 e)
@@ -174,7 +174,7 @@ reader_apart law reader.Byte text size xs ys spelled exact small others_small lo
 reader_apart law (reader.Fields f) text size xs ys spelled exact small others_small long other_long e = fields_apart law text f size xs ys spelled exact small others_small long other_long e
 reader_apart law reader.Nothing text size xs ys spelled exact small others_small long other_long e = absurd (true≢false (sym exact))
 
--- items are equal exactly where their bytes are the same
+-- Items are equal exactly if their bytes are the same.
 pub items_as_bytes : ItemEqualityIsEquivalence → WritesWhatWasRead → (r : ItemReader) (text : List ℕ) (size : ℕ) (xs ys : List ℕ) → IsSpelledBy text r → ReadsAs r text size → is_exact_reader r size ≡ true
     → AreBytes xs → AreBytes ys → length xs ≡ size → length ys ≡ size → same_item (item_by text xs) (item_by text ys) ≡ bytes_eq xs ys
 items_as_bytes law writes r text size xs ys spelled reads exact small others_small long other_long =
@@ -204,7 +204,7 @@ contents_as_bytes law writes r text size bytes other (s ∷ starts) (o ∷ other
     (contents_as_bytes law writes r text size bytes other starts others spelled reads exact small others_small fewer (All-tail (λ x. x + size ≤ length bytes) s starts inside) (All-tail (λ x. x + size ≤ length other) o others other_inside))
     ∙ sym (bytes_both (bytes_at bytes size s) (bytes_of_items bytes size starts) (bytes_at other size o) (bytes_of_items other size others) (long ∙ sym other_long))
 
--- two texts by which bytes of an item's size read alike
+-- Two texts read the bytes of an item alike, if these have the item's size.
 abbrev pub ReadAlike : List ℕ → List ℕ → ℕ → Type 0
 ReadAlike text other_text size = (bytes : List ℕ) → length bytes ≡ size → item_by text bytes ≡ item_by other_text bytes
 
@@ -228,11 +228,11 @@ exact_views law writes r bytes other layout other_layout spelled reads exact sma
     ∙ ap (same_items (items_of_layout bytes layout))
     (items_alike layout.format other_layout.format layout.itemsize other other_layout.starts alike there ∙ ap (λ (n : ℕ). items_from other_layout.format other n other_layout.starts) size)
 
--- one text reads as itself
+-- A text reads as itself.
 pub one_text : (text other_text : List ℕ) (size : ℕ) → text ≡ other_text → ReadAlike text other_text size
 one_text text other_text size same = λ bytes long. ap (λ (t : List ℕ). item_by t bytes) same
 
--- items that both texts read as numbers of one sign and size read alike
+-- Items that both texts read as numbers, with one sign and one size, read alike.
 abbrev ReadsNumbers : Bool → ItemReader → ℕ → Type 0
 ReadsNumbers signed r n = (bytes : List ℕ) → length bytes ≡ n → read_by r bytes ≡ item.One (scalar.Int (number false signed bytes))
 
@@ -243,6 +243,6 @@ numbers_alike r s text other_text size other_size n m signed other_signed reads 
     let there : length bytes ≡ m = here ∙ same in
     sym (reads bytes long) ∙ numbers bytes here ∙ ap (λ (b : Bool). item.One (scalar.Int (number false b bytes))) sign ∙ sym (other_numbers bytes there) ∙ other_reads bytes (there ∙ two)
 
--- the bytes that the code holds
+-- The bytes that the code has are bytes.
 pub are_bytes : (xs : List ℕ) → ((i : ℕ) → Fits w8 (get_or xs i 0)) → AreBytes xs
 are_bytes xs fit = All-from_get_or (λ b. b < 256) xs 0 (λ i below. omega (arith, fit i))

@@ -3,7 +3,7 @@ use Rattle.std.proofs.Common.{◌≡◌, ℕ, Bool, true, false, true≢false, s
 use Rattle.std.specs.Prelude.{◌&&◌, ◌||◌, ◌==◌, bytes_eq}
 use Rattle.std.specs.List.{list_all}
 
--- a list whose first element passes the test passes it where the others do
+-- A list whose first element passes the test passes it if the others do.
 pub tested_first : {X : Type 0} (p : X → Bool) (x : X) (xs rest : List X) (total : Bool) → xs ≡ x ∷ rest → p x ≡ true → list_all p xs ≡ total → list_all p rest ≡ total
 tested_first p x xs rest total same passes all = ap (λ (t : Bool). t && list_all p rest) (sym passes) ∙ ap (list_all p) (sym same) ∙ all
 

@@ -1,4 +1,4 @@
--- Layouts of bytes that are filled by their items.
+-- Layouts whose items fill their bytes.
 use Rattle.std.proofs.Common.{◌≡◌, ℕ, zero, suc, ◌+◌, ◌*◌, ◌<◌, ◌≤◌, ◌^◌, Bool, true, false, true≢false, List, [], ◌∷◌, ◌++◌, length, map, take, drop, ap, ap₂, sym, ◌∙◌, refl, subst, arith, drop-cons, get_or}
 use Rattle.std.specs.Prelude.{All, ◌==◌, ◌&&◌, ◌||◌, Result, Ok, Err, IfOk}
 use Rattle.std.specs.List.{range_with_len}
@@ -99,7 +99,7 @@ pub entries_some : (s : List ℕ) → has_zero_entry s ≡ false → All (λ n. 
 entries_some [] none = All-nil (λ n. 0 < n)
 entries_some (n ∷ s) none = All-cons (λ k. 0 < k) n s (some_of n (not_either (n == 0) (has_zero_entry s) none)) (entries_some s (neither (n == 0) (has_zero_entry s) none))
 
--- ---- equal to what has the same parts
+-- ---- equality with what has the same parts
 
 abbrev compared_with : Snap → List ℕ → List ℕ → ℕ → List ℕ → Bool
 compared_with s shape format size content = length s.shape == length shape && (shapes_agree s.shape shape && same_items (items_of_snap s) (items_cut format size (product shape) content))

@@ -1,4 +1,4 @@
--- What fits has all its items.
+-- A snap that fits has all its items.
 use Rattle.std.proofs.Common.{◌≡◌, ℕ, ◌*◌, ◌<◌, true, false, true≢false, List, [], ◌∷◌, length, ap, sym, ◌∙◌, refl, arith}
 use Rattle.std.specs.Prelude.{◌==◌, ◌&&◌, nat_lt, Result, Ok, Err}
 use Rattle.std.proofs.lemmas.Bool.{ltb-true, eqb-true}

@@ -13,11 +13,11 @@ use Rattle.pybuf_struct.specs.Formats.{Code, Format, Field, extent, fields, fiel
 use Rattle.pybuf_struct.specs.Table.{is_big, size_of}
 use Rattle.pybuf_struct.specs.Values.{value_of, value_in, values, unpacked_values}
 
--- a code's value is a whole number of a sign
+-- A value of the code is a whole number, with or without a sign.
 abbrev pub IsNumber : FormatType → Bool → Type 0
 IsNumber code signed = (o : Endianness) (bytes : List ℕ) → value_of o code bytes ≡ scalar.Int (number (is_big o) signed bytes)
 
--- one unit of a code is one field
+-- One unit of the code is one field.
 abbrev pub IsOneField : FormatType → Type 0
 IsOneField code = (size offset : ℕ) → fields_of_code code size offset 1 ≡ record { code = code; offset = offset; length = size } ∷ []
 

@@ -1,4 +1,4 @@
--- Two rows of ranges that are walked side by side.
+-- Two rows of ranges, walked side by side.
 use Rattle.std.proofs.Common.{◌≡◌, ℕ, zero, suc, ◌+◌, ◌-◌, ◌*◌, ◌<◌, ◌≤◌, Bool, true, false, true≢false, List, [], ◌∷◌, ◌++◌, length, map, take, drop, ap, ap₂, sym, ◌∙◌, refl, subst, arith}
 use Rattle.std.specs.Prelude.{All, ◌&&◌, bytes_eq}
 use Rattle.std.specs.List.{list_all, range_with_len, zip}
@@ -49,7 +49,7 @@ and_true false = refl
 abbrev Pair : Type 0
 Pair = Range ℕ × Range ℕ
 
--- all pairs of a row pass a test exactly where those of each number do
+-- All pairs of a row pass a test exactly if the pair of each number does.
 tested_row : (test : Pair → Bool) (pair : ℕ → Pair) (n : ℕ) → list_all test (map pair (range_with_len 0 n)) ≡ all_below (λ k. test (pair k)) n
 tested_row test pair zero = refl
 tested_row test pair (suc n) =
@@ -104,7 +104,7 @@ other_row_inside line other room other_room is as_many paired = record {
 pub with_size : (falls : Bool) (start step count size other_size room : ℕ) → size ≡ other_size → AreInside falls start step count other_size room → AreInside falls start step count size room
 with_size falls start step count size other_size room same inside = subst (λ (n : ℕ). AreInside falls start step count n room) (sym same) inside
 
--- ---- the sizes of their ranges
+-- ---- the sizes of the ranges
 
 pub as_wide : (line other : SegmentLine) → IsLine line → line.count ≡ other.count → AreAsLong (pairs_of_lines line other) → line.size ≡ other.size
 as_wide line other is as_many long =
@@ -161,13 +161,13 @@ rows_after P line other pairs others same all = λ k d below.
 split_tested : (test : Pair → Bool) (line other : SegmentLine) (pairs others : List Pair) → Split line other pairs others → list_all test pairs ≡ (list_all test (pairs_of_lines line other) && list_all test others)
 split_tested test line other pairs others same = ap (list_all test) same ∙ list_all-append test (pairs_of_lines line other) others
 
--- a row that passes is left behind
+-- A row that passes is left behind.
 pub row_passed : (test : Pair → Bool) (line other : SegmentLine) (pairs others : List Pair) (total : Bool) → Split line other pairs others
     → list_all test (pairs_of_lines line other) ≡ true → list_all test pairs ≡ total → list_all test others ≡ total
 row_passed test line other pairs others total same passes so_far =
     sym (split_tested test line other pairs others same ∙ ap (λ (b : Bool). b && list_all test others) passes) ∙ so_far
 
--- a row that fails decides
+-- A row that fails decides.
 pub row_failed : (test : Pair → Bool) (line other : SegmentLine) (pairs others : List Pair) (total : Bool) → Split line other pairs others
     → list_all test (pairs_of_lines line other) ≡ false → list_all test pairs ≡ total → false ≡ total
 row_failed test line other pairs others total same fails so_far =
@@ -197,7 +197,7 @@ single_same bytes other range other_range signed other_signed =
     let there : other_range.start + 0 * 0 ≡ other_range.start = omega arith in
     ap₂ (λ (p q : ℕ). int_eq (number false signed (take (range.end - range.start) (drop p bytes))) (number false other_signed (take (other_range.end - other_range.start) (drop q other)))) here there
 
--- ---- items of no bytes
+-- ---- items without bytes
 
 pub none_differ : (bytes other : List ℕ) (place other_place : ℕ → ℕ) (size n : ℕ) → size ≡ 0 → true ≡ all_below (same_piece bytes place other other_place size) n
 none_differ bytes other place other_place size zero none = refl

@@ -1,4 +1,4 @@
--- Shapes that agree, items that are the same, and the views that have them.
+-- Shapes that agree, items that are the same, and views that have such shapes and items.
 use Rattle.std.proofs.Common.{◌≡◌, ℕ, zero, suc, ◌*◌, Bool, true, false, true≢false, ℤ, List, [], ◌∷◌, length, ap, ap₂, sym, ◌∙◌, refl, subst, arith}
 use Rattle.std.specs.Prelude.{◌==◌, ◌&&◌}
 use Rattle.std.proofs.lemmas.Bool.{eq-eqb, eqb-true}
@@ -83,7 +83,7 @@ shapes_transitive (n ∷ s) (m ∷ o) (k ∷ p) e f =
 not_zero : (n : ℕ) → (suc n == 0) ≡ true → ⊥
 not_zero n e = let same : suc n ≡ 0 = eqb-true (suc n) 0 e in absurd (omega (arith, same))
 
--- shapes without an entry of 0 that agree are the same
+-- Shapes that agree and have no entry of 0 are the same.
 pub shapes_same : (s o : List ℕ) → shapes_agree s o ≡ true → has_zero_entry s ≡ false → s ≡ o
 shapes_same [] [] e none = refl
 shapes_same [] (m ∷ o) e none = absurd (true≢false (sym e))
@@ -93,7 +93,7 @@ shapes_same (suc n ∷ s) (m ∷ o) e none =
     ap₂ (λ (k : ℕ) (r : List ℕ). k ∷ r) (entry_same (suc n) m s o e)
     (shapes_same s o (second (suc n == m) (agree_after (suc n) (shapes_agree s o)) e) (neither (suc n == 0) (has_zero_entry s) none))
 
--- those with one have no items
+-- Shapes that have such an entry have no items.
 pub record HaveNoItems (s o : List ℕ) : Type 0 where
   pub one : product s ≡ 0
   pub other : product o ≡ 0

@@ -34,7 +34,7 @@ reads_char : (x : ℕ) → item_by (99 ∷ []) (x ∷ []) ≡ item.One (scalar.B
 unfolding codes_in layout_from format_after_prefix
 reads_char x = refl
 
--- ---- equal ones are one byte
+-- ---- equal items are the same byte
 
 top_or_not : (x : ℕ) (b : Bool) → has_top_bit 1 x ≡ b → signed_byte x ≡ (if b then pos x -ℤ pos 256 else pos x)
 top_or_not x b is = ap (λ (t : Bool). if t then pos x -ℤ pos 256 else pos x) is

@@ -9,7 +9,7 @@ use Rattle.pybuf_struct.specs.Digits.{little_endian}
 use Rattle.pybuf_equality.proofs.Apart.{AreBytes}
 use Rattle.pybuf_equality.proofs.Bools.{alike}
 
--- a digit later is worth 256 times as much
+-- A digit that comes later counts 256 times as much.
 later : (i : ℕ) (xs : List ℕ) → little_endian (suc i) xs ≡ 256 * little_endian i xs
 later i [] = refl
 later i (x ∷ xs) =
@@ -17,7 +17,7 @@ later i (x ∷ xs) =
     let here : x * 256 ^ suc i ≡ 256 * (x * 256 ^ i) = ap (λ (p : ℕ). x * p) more ∙ grind arith in
     ap₂ (λ (m n : ℕ). m + n) here (later (suc i) xs) ∙ (let sum : 256 * (x * 256 ^ i) + 256 * little_endian (suc i) xs ≡ 256 * (x * 256 ^ i + little_endian (suc i) xs) = grind arith in sum)
 
--- as many bytes that spell the same number are the same
+-- As many bytes that spell the same number are the same bytes.
 pub spelled_apart : (xs ys : List ℕ) → AreBytes xs → AreBytes ys → length xs ≡ length ys → little_endian 0 xs ≡ little_endian 0 ys → xs ≡ ys
 spelled_apart [] [] small others_small long same = refl
 spelled_apart [] (y ∷ ys) small others_small long same = absurd (omega (arith, long))
@@ -33,7 +33,7 @@ spelled_apart (x ∷ xs) (y ∷ ys) small others_small long same =
     ap₂ (λ (z : ℕ) (zs : List ℕ). z ∷ zs) first
     (spelled_apart xs ys (All-tail (λ b. b < 256) x xs small) (All-tail (λ b. b < 256) y ys others_small) fewer others)
 
--- the words of as many bytes are equal exactly where the bytes are
+-- The words of as many bytes are equal exactly if the bytes are.
 pub words_as_bytes : (a b : ℕ) (xs ys : List ℕ) → a ≡ little_endian 0 xs → b ≡ little_endian 0 ys → AreBytes xs → AreBytes ys → length xs ≡ length ys → (a == b) ≡ bytes_eq xs ys
 words_as_bytes a b xs ys one other small others_small long =
     alike (a == b) (bytes_eq xs ys)

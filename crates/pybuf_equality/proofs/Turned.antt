@@ -1,4 +1,4 @@
--- Items that lie one after the other, from the last on.
+-- Items that lie one after the other, from the last one on.
 use Rattle.std.proofs.Common.{◌≡◌, ℕ, zero, suc, ◌+◌, ◌-◌, ◌*◌, ◌<◌, ◌≤◌, Bool, true, false, List, ◌++◌, length, take, drop, ap, ap₂, sym, ◌∙◌, refl, subst, arith}
 use Rattle.std.specs.Prelude.{◌&&◌, bytes_eq}
 use Rattle.std.proofs.Math.Seq.{take-add}
@@ -15,7 +15,7 @@ either_way true false = refl
 either_way false true = refl
 either_way false false = refl
 
--- the bytes of an item and of those before it, which lie above it
+-- the bytes of an item and of the items before it, which lie above it
 abbrev run : List ℕ → ℕ → ℕ → ℕ → List ℕ
 run bytes start size n = take (n * size + size) (drop (start - n * size) bytes)
 
@@ -68,7 +68,7 @@ turned_run bytes other start other_start size count some_size some inside other_
 pub span_inside : (start size count room back : ℕ) → 0 < size → 0 < count → AreInside true start size count size room → back ≡ (count - 1) * size → (start - back) + (back + size) ≤ room
 span_inside start size count room back some_size some inside is = omega (arith, lowest start size count room some inside, highest start size count room some_size some inside, is)
 
--- ---- tracks that are turned
+-- ---- tracks in the other direction
 
 pub turned_inside : (falls : Bool) (start step size count room : ℕ) → falls ≡ true → step ≡ size → AreInside falls start step count size room → AreInside true start size count size room
 turned_inside falls start step size count room down as_wide inside =

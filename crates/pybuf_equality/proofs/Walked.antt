@@ -1,4 +1,4 @@
--- Two views that are walked side by side.
+-- Two views, walked side by side.
 use Rattle.std.proofs.Common.{◌≡◌, ℕ, zero, suc, ◌+◌, ◌*◌, ◌-◌, ◌≤◌, ℤ, pos, nat_abs, Bool, true, false, List, [], ◌∷◌, length, map, take, drop, ap, ap₂, sym, ◌∙◌, refl, subst, arith}
 use Rattle.std.specs.Prelude.{All, bytes_eq, min, ◌==◌, ◌&&◌, if◌then◌else◌}
 use Rattle.std.specs.List.{flat_map, list_all}
@@ -38,7 +38,7 @@ firsts pairs = map (λ pair. pair.0) pairs
 abbrev pub seconds : List (Range ℕ × Range ℕ) → List (Range ℕ)
 seconds pairs = map (λ pair. pair.1) pairs
 
--- ---- as many dimensions are joined on both sides as both tails have
+-- ---- both sides join as many dimensions, which both tails have
 
 least_left : (b : Bool) (m n : ℕ) → (if b then min m n else 0) ≤ m
 least_left true m n = min-le_left m n
@@ -86,7 +86,7 @@ are_paired d o start other_start joined other_joined room other_room pairs is ot
     (subst (All (IsPart room)) (sym is) (are_parts room (ranges_of d start joined) (forward_ranges d start joined) inside))
     (subst (All (IsPart other_room)) (sym other_is) (are_parts other_room (ranges_of o other_start other_joined) (forward_ranges o other_start other_joined) other_inside))
 
--- ---- ranges that are as long
+-- ---- ranges that are equally long
 
 abbrev width : Range ℕ → ℕ
 width range = range.end - range.start
@@ -123,7 +123,7 @@ ranges_alike d o start other_start joined pairs same_shape same_size is other_is
       subst (All (λ range. width range ≡ w)) (sym other_is) (subst (λ (k : ℕ). All (λ range. width range ≡ k) (ranges_of o other_start joined)) same (range_widths o other_start joined)),
     )
 
--- the ranges of each pair are as long where all on both sides are
+-- The ranges of each pair are equally long if all ranges on both sides are.
 pub pairs_as_long : (w : ℕ) (pairs : List (Range ℕ × Range ℕ)) → All (λ range. width range ≡ w) (firsts pairs) → All (λ range. width range ≡ w) (seconds pairs) → AreAsLong pairs
 pairs_as_long w pairs one other = λ k d below. let both = pair_up (λ range. width range ≡ w) (λ range. width range ≡ w) pairs one other k d below in both.0 ∙ sym both.1
 
@@ -148,7 +148,7 @@ ranges_compared bytes other w (pair ∷ pairs) are one two =
 
 -- ---- items, one by one
 
--- what bytes of an item's size are read as by the text of a format, however they are read
+-- The bytes of an item's size are read as the text of a format says, in whatever way the code reads them.
 abbrev pub IsReading : (List ℕ → Item) → List ℕ → ℕ → Type 0
 IsReading read format size = (bytes : List ℕ) → length bytes ≡ size → read bytes ≡ item_by format bytes
 
@@ -174,7 +174,7 @@ at_places : (size : ℕ) (starts : List ℕ) → map (range_at size) (map (λ x.
 at_places size [] = refl
 at_places size (s ∷ starts) = ap (λ (ranges : List (Range ℕ)). range_at size (pos s) ∷ ranges) (at_places size starts)
 
--- without joined rows there is a range for each item
+-- If no rows are joined, there is a range for each item.
 single_ranges : (d : Descriptor) (start : ℕ) (layout : Layout) → Stands d start layout → HasItemsOfItsShape layout → ranges_of d (pos start) 0 ≡ map (λ s. range_at d.itemsize (pos s)) layout.starts
 single_ranges d start layout stands counted =
     let n : ℕ = length d.dims - 0 in
@@ -267,7 +267,7 @@ gathered : RangesHaveTheContent → (d : Descriptor) (start : ℕ) (layout : Lay
 gathered law d start layout bytes joined ranges placed few stands is =
     ap (flat_map (λ (range : Range ℕ). bytes_in bytes range)) is ∙ law d start joined layout bytes placed few stands
 
--- two views with a descriptor and a start each, of one shape and with items of one size
+-- Two views have a descriptor and a start each. They have one shape, and items of one size.
 pub record AreWalked (d o : Descriptor) (start other_start : ℕ) (layout other_layout : Layout) (bytes other : List ℕ) : Type 0 where
   pub placed : IsPlaced d start
   pub other_placed : IsPlaced o other_start

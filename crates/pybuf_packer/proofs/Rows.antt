@@ -1,4 +1,4 @@
--- A packer's block, and its address, own what a box of a packer owns.
+-- A packer's block, and its address, own what a box of the packer owns.
 use mathlib.Core.List.{[]}
 use mir.Syntax.{impl, tnil, dnil}
 use denote.Signature.{Slot, plain}

@@ -5,14 +5,14 @@ use Rattle.std.proofs.lemmas.List.Sums.{sum-map}
 use Rattle.pybuf_share.specs.Sessions.{Asker}
 use Rattle.pybuf_share.specs.Finishing.{numbers_from, AreAll}
 
--- the numbers that f tells of sessions, where they are the same place by place
+-- what f tells of sessions, if it tells the same at each place
 map_kept : (f : Asker → ℕ) (xs ys : List Asker) → length ys ≡ length xs → ((i : ℕ) (d : Asker) → i < length xs → f (get_or ys i d) ≡ f (get_or xs i d)) → map f ys ≡ map f xs
 map_kept f [] [] len each = refl
 map_kept f [] (y ∷ ys) len each = absurd (omega (arith, len))
 map_kept f (x ∷ xs) [] len each = absurd (omega (arith, len))
 map_kept f (x ∷ xs) (y ∷ ys) len each = ap₂ (λ n ns. n ∷ ns) (each 0 x (omega arith)) (map_kept f xs ys (omega (arith, len)) (λ i d within. each (suc i) d (omega (arith, within))))
 
--- all sessions of an exporter are so afterwards, where each keeps its number and its parts
+-- If each session keeps its number and its parts, they are all sessions afterwards too.
 pub all_kept : (parts : ℕ) (xs ys : List Asker) → length ys ≡ length xs → ((i : ℕ) (d : Asker) → i < length xs → (get_or ys i d).number ≡ (get_or xs i d).number)
     → ((i : ℕ) (d : Asker) → i < length xs → (get_or ys i d).parts ≡ (get_or xs i d).parts) → AreAll parts xs → AreAll parts ys
 all_kept parts xs ys len numbers shares all = record {

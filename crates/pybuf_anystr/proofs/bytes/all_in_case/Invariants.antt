@@ -5,7 +5,7 @@ use Rattle.pybuf_letters.specs.Classes.{all_in_case}
 use Rattle.pybuf_anystr.specs.Cases.{IsTestOfByte, IsInCase}
 use Rattle.pybuf_anystr.proofs.bytes.all_in_case.Given as goal
 
--- What was found before, and the bytes that are left, decide as all the bytes do.
+-- What was found so far and the bytes that are left decide as all bytes do.
 abbrev pub invariant-loop-b : goal.invariant-loop-b
 invariant-loop-b g l =
     ((case_test opposite_test : ℕ → Bool) → IsTestOfByte (goal.F-post g l.is_case) case_test

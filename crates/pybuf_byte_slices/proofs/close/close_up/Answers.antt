@@ -1,4 +1,4 @@
--- What is off the indices is off the run from the least of them up.
+-- What is left without the indices is what is left without the run that goes up from the least of them.
 use Rattle.std.proofs.Common.{◌≡◌, ◌≢◌, ◌<◌, ℤ, pos, ℕ, arith, length, ap, sym, ◌∙◌, to_z, of_z}
 use Rattle.std.specs.Prelude.{FitsSigned, nat_abs}
 use Rattle.std.specs.Int.{w64}

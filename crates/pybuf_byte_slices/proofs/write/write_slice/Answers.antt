@@ -1,4 +1,4 @@
--- Bytes moved along the walk of a slice are set at its indices.
+-- Bytes that are moved along the walk of a slice are set at its indices.
 use Rattle.std.proofs.Common.{◌∙◌, length}
 use Rattle.pybuf_index.specs.Parts.{picks_of}
 use Rattle.pybuf_byte_slices.proofs.WriteLemmas.{slice_is_walk, are_inside, moved_is_set}

@@ -2,7 +2,7 @@ use Rattle.std.proofs.Common.{◌≤◌, ◌-◌, vec_len, vec_capacity}
 use Rattle.pybuf_cli.specs.Devices.{Took}
 use Rattle.pybuf_cli.proofs.loops.read_all.Given as goal
 
--- what was taken so far, how much, and that there is room for the rest
+-- the bytes that were taken so far, how many they are, and that there is room for the rest
 pub record Reads (Bytes Later Limit Room : Type 0) : Type 0 where
   pub bytes : Bytes
   pub later : Later

@@ -2,7 +2,7 @@ use Rattle.std.proofs.Common.{◌≤◌, ◌-◌, length, take}
 use Rattle.pybuf_cli.specs.Devices.{Put}
 use Rattle.pybuf_cli.proofs.loops.write_all.Given as goal
 
--- what was put so far
+-- the bytes that were put so far
 pub record Writes (Held Later Within : Type 0) : Type 0 where
   pub held : Held
   pub later : Later

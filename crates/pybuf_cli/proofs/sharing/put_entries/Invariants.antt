@@ -4,7 +4,7 @@ use Rattle.pybuf_histories.specs.Entries.{entry_line}
 use Rattle.pybuf_cli.specs.Devices.{Sends}
 use Rattle.pybuf_cli.proofs.sharing.put_entries.Given as goal
 
--- what was put or waits so far, and that no line stands apart
+-- what was put or waits so far, and that no line is kept apart
 pub record Shows (Lines Apart Later : Type 0) : Type 0 where
   pub lines : Lines
   pub apart : Apart

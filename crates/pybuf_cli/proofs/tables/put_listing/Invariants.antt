@@ -3,7 +3,7 @@ use Rattle.pybuf_table_lines.specs.Texts.{left_over}
 use Rattle.pybuf_cli.proofs.Tabling.{IsTabling}
 use Rattle.pybuf_cli.proofs.tables.put_listing.Given as goal
 
--- what was put or waits so far, that no line stands apart, and that whole records are left
+-- what was put or waits so far, that no line is kept apart, and that whole records are left
 pub record Lists (Lines Apart Whole Later : Type 0) : Type 0 where
   pub lines : Lines
   pub apart : Apart

@@ -3,7 +3,7 @@ use Rattle.pybuf_line.specs.Lines.{lines}
 use Rattle.pybuf_cli.proofs.Running.{IsRunning}
 use Rattle.pybuf_cli.proofs.writing.run_lines.Given as goal
 
--- what was run and put so far, and that no reply stands apart
+-- what was run and put so far, and that no reply is kept apart
 pub record Runs (Lines Apart Later : Type 0) : Type 0 where
   pub lines : Lines
   pub apart : Apart

@@ -1,4 +1,4 @@
--- The very items are added.
+-- The items that are added are the same items.
 use Rattle.pybuf_copy.proofs.Same.{each_itself}
 use Rattle.pybuf_copy.proofs.plain.append_block.Goals as goal
 

@@ -1,4 +1,4 @@
--- The places hold the very items.
+-- The places have the same items.
 use Rattle.pybuf_copy.proofs.Same.{each_equal}
 use Rattle.pybuf_copy.proofs.plain.write_block.Goals as goal
 

@@ -1,4 +1,4 @@
--- `empty` owns nothing but its allocator. Assumes `Logic`.
+-- `empty` owns nothing but its allocator. The proof assumes `Logic`.
 use Rattle.std.proofs.Common.{List, [], ◌∷◌, ◌++◌, refl, sym, subst, lit<, w64}
 use lib.Dec.{T}
 use mir.Val.{Val, vint, vstruct, vcons, vnil, has_ty, WT}

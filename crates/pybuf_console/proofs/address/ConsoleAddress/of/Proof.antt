@@ -1,4 +1,4 @@
--- `of` moves two fields, and what they own goes with them. Assumes `Logic`.
+-- `of` moves two fields, and what they own goes with them. The proof assumes `Logic`.
 use Rattle.std.proofs.Common.{List, [], ◌∷◌, ◌++◌, refl, sym, subst}
 use mir.Val.{Val}
 use base.Logic.{SProp, ent, emp, id⊢}

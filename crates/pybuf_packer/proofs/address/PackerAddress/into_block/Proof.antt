@@ -1,4 +1,4 @@
--- `into_block` moves two fields, and what they own goes with them. Assumes `Logic`.
+-- `into_block` moves two fields, and what they own goes with them. The proof assumes `Logic`.
 use Rattle.std.proofs.Common.{◌≡◌, List, [], ◌∷◌, ◌++◌, refl, sym, subst}
 use mir.Val.{Val}
 use base.Logic.{SProp, ent, id⊢}

@@ -1,4 +1,4 @@
--- `into_box` makes the box again. Assumes `Logic`.
+-- `into_box` makes the box again. The proof assumes `Logic`.
 use Rattle.std.proofs.Common.{◌≡◌, List, [], ◌∷◌, ◌++◌, refl, sym, ap, subst}
 use lib.Dec.{T}
 use mir.Syntax.{Args, Body, Fn, a_type, dcons, dnil}
