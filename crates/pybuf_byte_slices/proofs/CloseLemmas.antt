@@ -172,7 +172,7 @@ off_same : (items : List ℕ) (place : ℕ) (one other : List ℕ) → ((q : ℕ
 off_same [] place one other same = refl
 off_same (x ∷ items) place one other same = rw (same place (omega arith), off_same items (suc place) one other (λ q over. same q (omega arith))) refl
 
--- Without the least index, the byte there is gone.
+-- The byte at the least index is left out.
 off_first : (bytes : List ℕ) (p stride n : ℕ) → p < length bytes → off_from p (drop p bytes) (rising p stride (suc n)) ≡ off_from (suc p) (drop (suc p) bytes) (rising (p + stride) stride n)
 off_first bytes p stride n inside =
     let rest : List ℕ = rising (p + stride) stride n in

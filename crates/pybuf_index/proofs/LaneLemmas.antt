@@ -1,4 +1,4 @@
--- How lanes are told from the hash that they make.
+-- Lanes that differ make hashes that differ.
 use Rattle.std.proofs.Common.{◌≡◌, ◌≢◌, ◌⊎◌, inl, inr, refl, sym, ap, ◌∙◌, ℕ, ◌+◌, ◌-◌, ◌*◌, ◌/◌, ◌%◌, ◌^◌, ◌<◌, ℤ, pos, negsuc, Bool, true, false, cond, subst, mul_assoc, arith}
 use Rattle.std.specs.Prelude.{◌==◌}
 use Rattle.std.specs.Int.{w64, rotate_left, cast_signed, cast_unsigned}
@@ -11,7 +11,7 @@ use Rattle.std.proofs.lemmas.Bool.{eqb-true, eq-eqb, false≢true}
 use Rattle.pybuf_index.specs.Lanes.{wrapped, minus_one, mixed, other_than_minus_one, hash_of}
 use Rattle.pybuf_index.specs.LaneLaws.{IsWord, IsLane, DifferButForOne, EachLaneCounts, MixingLosesNothing, NoHashWhereALaneIsNone}
 
--- ---- numbers that wrap
+-- ---- numbers that wrap around
 
 word : (n : ℕ) → IsWord (wrapped n)
 word n = omega arith
@@ -19,7 +19,7 @@ word n = omega arith
 stays : (n : ℕ) → IsWord n → wrapped n ≡ n
 stays n small = omega arith
 
--- what was multiplied by a number that has an inverse comes back
+-- If a number is multiplied by one that has an inverse, it can be found again.
 back : (factor inverse m n : ℕ) → factor * inverse ≡ m * 2 ^ 64 + 1 → IsWord n → wrapped (wrapped (n * factor) * inverse) ≡ n
 back factor inverse m n one small =
     let apart : n * (m * 2 ^ 64 + 1) ≡ n + n * m * 2 ^ 64 = distribute n m (2 ^ 64) in
@@ -41,7 +41,7 @@ same_sum n other more small less fits same = omega arith
 same_addend : (n more other : ℕ) → IsWord n → IsWord more → IsWord other → wrapped (n + more) ≡ wrapped (n + other) → more ≡ other
 same_addend n more other small less fits same = omega arith
 
--- ---- bits that are turned
+-- ---- bits that rotate
 
 turned : (n : ℕ) → IsWord n → rotate_left w64 n 31 ≡ n % 2 ^ 33 * 2 ^ 31 + n / 2 ^ 33
 turned n small =
@@ -62,7 +62,7 @@ same_turned n other small less same =
 mixed_word : (hash lane : ℕ) → IsWord (mixed hash lane)
 mixed_word hash lane = word (rotate_left w64 (wrapped (hash + wrapped (lane * 14029467366897019727))) 31 * 11400714785074694791)
 
--- the sums before a step are the same where the numbers behind it are
+-- The sums before a step are the same if the numbers after it are.
 same_sums : (n other : ℕ) → IsWord n → IsWord other → wrapped (rotate_left w64 n 31 * 11400714785074694791) ≡ wrapped (rotate_left w64 other 31 * 11400714785074694791) → n ≡ other
 same_sums n other small less same =
     same_turned n other small less
@@ -110,7 +110,7 @@ never_minus_one n = by_test (n == minus_one) refl
     by_test true h e = absurd (omega arith)
     by_test false h e = absurd (false≢true (sym h ∙ eq-eqb n minus_one e))
 
--- the hash of a number behind the last step
+-- the hash of the number after the last step
 abbrev pub signed : ℕ → ℤ
 signed n = cast_signed w64 (other_than_minus_one n)
 
@@ -133,11 +133,11 @@ is_no_lane lane small = by_test (lane == minus_one) refl
     by_test true h = absurd (let same : lane ≡ minus_one = eqb-true lane minus_one h in omega arith)
     by_test false h = refl
 
--- the number behind the last step
+-- the number after the last step
 abbrev pub all_mixed : ℕ → ℕ → ℕ → ℕ
 all_mixed start stop step = mixed (mixed (mixed 2870177450012600261 start) stop) step
 
--- where a lane is -1, as tests
+-- whether lanes are -1, as tests
 abbrev pub by_lanes : Bool → Bool → Bool → ℤ → ℤ
 by_lanes first second third hash = cond first (negsuc 0) (cond second (negsuc 0) (cond third (negsuc 0) hash))
 
@@ -153,7 +153,7 @@ fits lane small = omega arith
 seed : IsWord 2870177450012600261
 seed = omega arith
 
--- hashes of lanes are told apart by the numbers behind the last step
+-- The numbers after the last step tell the hashes of lanes apart.
 told_apart : (a b c x y z : ℕ) → IsLane a → IsLane b → IsLane c → IsLane x → IsLane y → IsLane z → all_mixed a b c ≢ all_mixed x y z → DifferButForOne (hash_of a b c) (hash_of x y z)
 told_apart a b c x y z la lb lc lx ly lz differ same =
     let one = of_lanes a b c la lb lc in
@@ -177,7 +177,7 @@ counts lane other small less differ =
           (λ same. differ (same_lane (mixed (mixed 2870177450012600261 start) stop) lane other (mixed_word (mixed 2870177450012600261 start) stop) (fits lane small) (fits other less) same));
     }
 
--- ---- where there is no hash
+-- ---- when there is no hash
 
 no_hash : (start stop step : ℕ) → (hash_of start stop step ≡ negsuc 0) → (start ≡ minus_one) ⊎ (stop ≡ minus_one) ⊎ (step ≡ minus_one)
 no_hash start stop step none = by_tests (start == minus_one) (stop == minus_one) (step == minus_one) refl refl refl none

@@ -40,7 +40,7 @@ stop_clamped_down : (n t u : ℕ) (part : Option ℤ) → n < 2 ^ 63 → stop_of
 stop_clamped_down n t u None h = refl
 stop_clamped_down n t u (Some a) h = adjusted_clamped_down n t u a h
 
--- a stride that passes the end, and another one
+-- one stride that passes the end, and another
 one_step_up : (a b t u : ℕ) → b ≤ suc t → b ≤ suc u → rising a (suc t) (how_many a b (suc t)) ≡ rising a (suc u) (how_many a b (suc u))
 one_step_up a b t u h k =
     elim (cases_lt a b) [
@@ -100,7 +100,7 @@ same_when_clamped n start stop (negsuc t) moves h =
           ap (picks n (clamped_part start) (clamped_part stop)) e ∙ picks_clamped_down n (2 ^ 63 - 1) t start stop h (inr (omega arith, omega arith))
     ]
 
--- ---- which numbers
+-- ---- which numbers a run has
 
 pub how_many_below : (low high t k : ℕ) → k < how_many low high (suc t) → low + k * suc t < high
 how_many_below low high t k h =
@@ -124,7 +124,7 @@ falling_at zero top s i h = absurd (omega arith)
 falling_at (suc c) top s zero h = grind arith
 falling_at (suc c) top s (suc i) h = falling_at c (top - s) s i (omega arith) ∙ omega (arith, suc-mul i s)
 
--- the order along a step
+-- which place comes first along a step
 up_is : (i b t : ℕ) → i < b → IsTrue (comes_before (pos i) (pos b) (pos (suc t)))
 up_is i b t h = grind (arith, nat_tests)
 
@@ -139,7 +139,7 @@ down_was : (i b t : ℕ) → IsTrue (comes_before (pos i) (below b) (negsuc t)) 
 down_was i zero t h = omega arith
 down_was i (suc b) t h = grind (arith, nat_tests)
 
--- i in a list, by its place
+-- A list contains what stands at one of its places.
 contained : (xs : List ℕ) (i k : ℕ) → k < length xs → slice_index xs k ≡ i → Contains xs i
 contained xs i k h e = (k, h, get_or_default xs k i 0 h ∙ e)
 
@@ -162,7 +162,7 @@ members_up a b t i =
           contained (rising a (suc t) c) i m.0 (omega arith) (rising_at c a (suc t) m.0 inside ∙ sym at)),
     )
 
--- a place below the top, so many strides down
+-- a place that lies k strides below the top
 down_place : (top k s i : ℕ) → k * s < top → i ≡ top - 1 - k * s → pos i ≡ below top +ℤ neg_ℤ (pos (k * s))
 down_place top k s i h e = rw (e, ← below-is top) (omega (arith, ints))
 
@@ -253,7 +253,7 @@ picks_are n start stop (negsuc t) moves =
 
 -- ---- spans
 
--- the indices of a span lie in it
+-- The indices of a span lie in it.
 pub span_within : (low high : ℕ) (step : ℤ) → step ≢ pos 0 → All (λ i. (low ≤ i) × (i < high)) (picks_in_span low high step)
 span_within low high (pos zero) moves = absurd (moves refl)
 span_within low high (pos (suc t)) moves =
@@ -276,11 +276,11 @@ span_picks_are low high step moves =
       within = span_within low high step moves;
     }
 
--- between two places from 0 to n
+-- The bounds are two places from 0 to n.
 placed_up : (n a b : ℕ) (start stop : ℤ) → start ≡ pos a → stop ≡ pos b → a ≤ n → b ≤ n → (nat_abs start ≤ max (nat_abs start) (nat_abs stop)) × (max (nat_abs start) (nat_abs stop) ≤ n)
 placed_up n a b start stop p q from to = rw (p, q) (omega arith, omega (arith, from, to))
 
--- between the places that follow two from -1 to n - 1
+-- The bounds follow two places from -1 to n - 1.
 placed_down : (n a b : ℕ) (start stop : ℤ) → start ≡ below a → stop ≡ below b → a ≤ n → b ≤ n → (nat_abs (stop +ℤ pos 1) ≤ max (nat_abs (stop +ℤ pos 1)) (nat_abs (start +ℤ pos 1))) × (max (nat_abs (stop +ℤ pos 1)) (nat_abs (start +ℤ pos 1)) ≤ n)
 placed_down n a b start stop p q from to = rw (p, q, nat_abs_above a, nat_abs_above b) (omega arith, omega (arith, from, to))
 

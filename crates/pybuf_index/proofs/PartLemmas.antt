@@ -1,4 +1,4 @@
--- The parts of a slice, clamped and as they are.
+-- The parts of a slice, as they are and clamped.
 use Rattle.std.proofs.Common.{◌≡◌, ◌≢◌, ℕ, zero, suc, ◌<◌, ◌^◌, true, false, ℤ, pos, negsuc, sym, refl, ◌∙◌, Option, Result, Ok, Err, arith}
 use Rattle.std.specs.Prelude.{IfOk}
 use Rattle.std.proofs.lemmas.Int.{ints}

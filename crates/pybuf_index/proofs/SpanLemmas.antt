@@ -1,4 +1,4 @@
--- A slice's indices lie in its span, and are a run of numbers.
+-- A slice's indices lie in its span, and they are a run of numbers.
 use Rattle.std.proofs.Common.{◌≡◌, ◌≢◌, ℕ, zero, suc, ◌+◌, ◌-◌, ◌*◌, ◌/◌, ◌%◌, ◌<◌, ◌≤◌, Bool, true, false, [], ◌∷◌, ◌++◌, length, ℤ, pos, negsuc, refl, ap, sym, ◌∙◌, arith, reverse, inl, inr, Option, None, Some}
 use Rattle.std.specs.Prelude.{◌+ℤ◌, nat_abs, max, int_lt, slice_index}
 use Rattle.std.specs.List.Sorted.{IsStrictlyIncreasing}
@@ -103,7 +103,7 @@ falling_max low high t =
       | inr over ↦ rw (how_many_none low high (suc t) over) refl
     ]
 
--- the indices of a slice are those of its span
+-- The indices of a slice are those of its span.
 pub picks_span_at : (n : ℕ) (start stop : Option ℤ) (step : ℤ) → step ≢ pos 0 → picks_in_span (span_start n (record { start = start; stop = stop; step = step })) (span_end n (record { start = start; stop = stop; step = step })) step ≡ picks n start stop step
 picks_span_at n start stop (pos zero) h = absurd (h refl)
 picks_span_at n start stop (pos (suc t)) h =
@@ -130,7 +130,7 @@ length-picks_in_span low high (pos zero) h = absurd (h refl)
 length-picks_in_span low high (pos (suc t)) h = ap length (span_rises low high t) ∙ length-rising (how_many low high (suc t)) low (suc t)
 length-picks_in_span low high (negsuc t) h = ap length (span_falls low high t) ∙ length-falling (how_many low high (suc t)) high (suc t)
 
--- the span that the code computes, part by part
+-- the indices of the span that the code computes, part by part
 pub picks_of_span : (n : ℕ) (start stop : Option ℤ) (s step : ℤ) (low limit high : ℕ) → s ≢ pos 0 → step ≡ s → low ≡ span_start n (record { start = start; stop = stop; step = step }) → limit ≡ span_limit n (record { start = start; stop = stop; step = step }) → high ≡ max low limit → picks_in_span low high step ≡ picks n start stop s
 picks_of_span n start stop s step low limit high moves e a b h =
     rw (h, a, b, e) (picks_span_at n start stop s moves)
@@ -140,7 +140,7 @@ count_of_span n start stop s step low limit high stride count moves e a b h t c 
     let steps : step ≢ pos 0 = λ zero_step. moves (sym e ∙ zero_step) in
     c ∙ ap (how_many low high) t ∙ sym (length-picks_in_span low high step steps) ∙ ap length (picks_of_span n start stop s step low limit high moves e a b h)
 
--- the last of them is still below the end
+-- The last of them is still below the end.
 pub last_below : (low high t k : ℕ) → suc k ≡ how_many low high (suc t) → low + k * suc t < high
 last_below low high t k h =
     elim (cases_lt low high) [
@@ -151,7 +151,7 @@ last_below low high t k h =
       | inr over ↦ absurd (omega (arith, h ∙ how_many_none low high (suc t) over))
     ]
 
--- ---- a run for the indices of a span
+-- ---- the run of a span's indices
 
 pub run-span : (low high : ℕ) (step : ℤ) (count : ℕ) → step ≢ pos 0 → count ≡ length (picks_in_span low high step) → run_of (is_negative step) (run_low (is_negative step) low high (nat_abs step) count) (nat_abs step) count ≡ picks_in_span low high step
 run-span low high (pos zero) count h c = absurd (h refl)
@@ -174,7 +174,7 @@ nat_last : (low high t k : ℕ) → suc k ≡ how_many low high (suc t) → low 
 nat_last low high t k h =
     let one : suc k - 1 ≡ k = omega arith in rw one (last_below low high t k h)
 
--- the last of so many indices lies in the span
+-- The last of the indices lies in the span.
 pub last_in_span : (low high : ℕ) (step : ℤ) (count : ℕ) → step ≢ pos 0 → 0 < count → count ≡ length (picks_in_span low high step) → low + (count - 1) * nat_abs step < high
 last_in_span low high (pos zero) count moves some c = absurd (moves refl)
 last_in_span low high (pos (suc t)) zero moves some c = absurd (omega arith)
@@ -212,7 +212,7 @@ stride_fits low high (suc t) count some ordered c =
     let moves : pos (suc t) ≢ pos 0 = λ e. omega (arith, ints, e) in
     run_fits low high (pos (suc t)) count moves ordered (c ∙ sym (length-picks_in_span low high (pos (suc t)) moves))
 
--- ---- taking from a run
+-- ---- numbers that are taken from a run
 
 pub length-run : (falls : Bool) (low s k : ℕ) → length (run_of falls low s k) ≡ k
 length-run false low s k = length-rising k low s

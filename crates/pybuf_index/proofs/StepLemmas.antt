@@ -1,4 +1,4 @@
--- The steps of the slice rule are runs of numbers at one distance.
+-- The steps of the slice rule are runs of numbers that lie one distance apart.
 use Rattle.std.proofs.Common.{◌≡◌, ℕ, zero, suc, ◌+◌, ◌-◌, ◌*◌, ◌/◌, ◌<◌, ◌≤◌, true, false, List, [], ◌∷◌, ◌++◌, length, ℤ, pos, negsuc, refl, ap, sym, ◌∙◌, arith, reverse, inl, inr}
 use Rattle.std.specs.Prelude.{◌+ℤ◌, nat_abs}
 use Rattle.std.proofs.lemmas.Int.{ints}
@@ -9,7 +9,7 @@ use Rattle.std.proofs.Math.Nat.{add-div_right, div-eq_of_lt, suc-mul}
 use Rattle.pybuf_index.specs.Picks.{steps_to, comes_before}
 use Rattle.pybuf_index.specs.Runs.{rising, how_many}
 
--- from just below top down, one stride apart
+-- the numbers from just below the top down, one stride apart
 abbrev pub falling : ℕ → ℕ → ℕ → List ℕ
 falling top stride zero = []
 falling top stride (suc count) = (top - 1) ∷ falling (top - stride) stride count
@@ -60,7 +60,7 @@ steps_up (suc m) low high t h =
       | inr over ↦ steps_stop (suc m) (pos low) (pos high) (pos (suc t)) (up_past low high t over) ∙ sym (ap (rising low (suc t)) (how_many_none low high (suc t) over))
     ]
 
--- the number below, where that of 0 is -1
+-- the number below n, which is -1 for 0
 abbrev pub below : ℕ → ℤ
 below zero = negsuc 0
 below (suc n) = pos n
@@ -80,7 +80,7 @@ down_past zero (suc high) t h = absurd (omega arith)
 down_past (suc low) zero t h = refl
 down_past (suc low) (suc high) t h = grind (arith, nat_tests)
 
--- a step down that passes the stop
+-- A step down passes the stop.
 down_over : (low high t : ℕ) → 0 < high → high ≤ low + suc t → comes_before (below high +ℤ negsuc t) (below low) (negsuc t) ≡ false
 down_over low zero t p h = absurd (omega arith)
 down_over zero (suc high) t p h = grind (arith, ints)
@@ -127,7 +127,7 @@ steps_down (suc m) low high t h =
       | inr over ↦ steps_stop (suc m) (below high) (below low) (negsuc t) (down_past low high t over) ∙ sym (ap (falling high (suc t)) (how_many_none low high (suc t) over))
     ]
 
--- a run grows at its end
+-- A run grows at its end.
 pub rising_push : (k low s : ℕ) → rising low s (suc k) ≡ rising low s k ++ (low + k * s) ∷ []
 rising_push zero low s = grind arith
 rising_push (suc k) low s =

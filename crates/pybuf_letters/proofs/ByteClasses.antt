@@ -1,4 +1,4 @@
--- Classes of bytes, in the words of std and of `bstr` and in those of the definitions.
+-- Classes of bytes, as std and `bstr` name them and as the definitions do.
 use Rattle.std.proofs.Common.{◌≡◌, refl, ap, ◌∙◌, ℕ, List, [], ◌∷◌, Bool, false, arith}
 use Rattle.std.specs.Prelude.{◌&&◌, ◌==◌, not, length}
 use Rattle.std.specs.List.{list_any, list_all}

@@ -1,4 +1,4 @@
--- Bytes that are cut at their blanks a number of times at most.
+-- Bytes that are cut at their blanks, at most a number of times.
 use Rattle.std.proofs.Common.{◌≡◌, refl, sym, ap, ◌∙◌, ℕ, zero, suc, ◌-◌, ◌<◌, ◌≤◌, List, [], ◌∷◌, ◌++◌, true, false, not, length, filter, take, drop, reverse, get_or, arith, ℤ, pos, negsuc}
 use Rattle.std.specs.Prelude.{◌==◌, ◌<ℤ◌}
 use Rattle.std.specs.List.{AllPass, slice_split, prefix_len, position_or_len}
@@ -18,14 +18,14 @@ use Rattle.pybuf_letters.proofs.TurnedRuns.{turned, turned-append, length-turned
 
 -- ---- runs of bytes that are put together
 
--- blanks at the beginning end no run
+-- Blanks at the beginning end no run.
 runs-behind_blanks : (gap bytes : List ℕ) → AllPass is_blank gap → runs (gap ++ bytes) ≡ runs bytes
 runs-behind_blanks [] bytes blank = refl
 runs-behind_blanks (b ∷ gap) bytes blank =
     runs-blank b (gap ++ bytes) (All-head (λ c. is_blank c ≡ true) b gap blank)
     ∙ runs-behind_blanks gap bytes (All-tail (λ c. is_blank c ≡ true) b gap blank)
 
--- a run before bytes that begin with a blank
+-- a run in front of bytes that begin with a blank
 runs-run_before : (run bytes : List ℕ) → IsRun run → 0 < length bytes → is_blank (get_or bytes 0 0) ≡ true → runs (run ++ bytes) ≡ run ∷ runs bytes
 runs-run_before run [] is some blank = absurd (omega arith)
 runs-run_before run (b ∷ rest) is some blank =
@@ -58,7 +58,7 @@ after_runs-all (suc n) bytes few = by_next (after_runs-all n) (next_run bytes) r
         let some : 0 < length (next_run bytes) = rw is (omega arith) in
         later (next_blank (next_run bytes)) (omega (arith, ap length (runs-cut bytes some)))
 
--- ---- the rest after so many runs
+-- ---- the rest after n runs
 
 record IsSplit (n : ℕ) (bytes : List ℕ) : Type 0 where
   front : List ℕ
@@ -69,7 +69,7 @@ record IsSplit (n : ℕ) (bytes : List ℕ) : Type 0 where
   uncut : runs rest ≡ drop n (runs bytes)
   after : after_runs n bytes ≡ rest
 
--- what begins with a blank goes on with one where it is cut before another byte
+-- Bytes that begin with a blank still do so if they are cut before another byte.
 front_begins : (bytes front rest : List ℕ) → front ++ rest ≡ bytes → 0 < length bytes → is_blank (get_or bytes 0 0) ≡ true → FirstStays is_blank rest
     → (0 < length front) × (is_blank (get_or front 0 0) ≡ true)
 front_begins bytes [] rest whole some blank first =

@@ -1,4 +1,4 @@
--- Bytes as gaps and runs in turn.
+-- Bytes are gaps and runs in turn.
 use Rattle.std.proofs.Common.{◌≡◌, refl, sym, ap, ◌∙◌, subst, ℕ, zero, suc, ◌+◌, ◌<◌, ◌≤◌, List, [], ◌∷◌, ◌++◌, Bool, true, false, cond, length, take, get_or, arith}
 use Rattle.std.specs.List.{All, AllPass, prefix_len, position_or_len}
 use Rattle.std.proofs.lemmas.List.{take-append-drop, length-take, length-drop, get_or-take, get_or-drop}
@@ -19,14 +19,14 @@ lead-blank bytes k d below =
     let inside : k < prefix_len is_blank bytes = omega (arith, length-take (prefix_len is_blank bytes) bytes) in
     ap is_blank (get_or-take (prefix_len is_blank bytes) bytes k d inside) ∙ prefix_len_passes is_blank bytes k d inside
 
--- there are some where the first byte is a blank
+-- There are some blanks if the first byte is one.
 pub lead-some : (bytes : List ℕ) → 0 < length bytes → is_blank (get_or bytes 0 0) ≡ true → 0 < length (lead bytes)
 lead-some [] some blank = absurd (omega arith)
 lead-some (b ∷ rest) some blank =
     let one : prefix_len is_blank (b ∷ rest) ≡ 1 + prefix_len is_blank rest = ap (λ (t : Bool). cond t (1 + prefix_len is_blank rest) 0) blank in
     omega (arith, length-take (prefix_len is_blank (b ∷ rest)) (b ∷ rest))
 
--- a run up to the first blank
+-- The bytes up to the first blank are a run.
 pub run_is_run : (bytes : List ℕ) → AtRun bytes → 0 < length bytes → IsRun (take (position_or_len is_blank bytes) bytes)
 run_is_run bytes at some = record {
   some = omega (arith, length-take (position_or_len is_blank bytes) bytes, run_is_some bytes at some);
@@ -38,7 +38,7 @@ run_is_run bytes at some = record {
         let inside : k < position_or_len is_blank bytes = omega (arith, length-take (position_or_len is_blank bytes) bytes) in
         ap is_blank (get_or-take (position_or_len is_blank bytes) bytes k d inside) ∙ fails_before_first is_blank bytes k d inside
 
--- what stands behind a run begins with a blank
+-- What stands behind a run begins with a blank.
 pub behind-blank : (bytes : List ℕ) → 0 < length (next_blank bytes) → is_blank (get_or (next_blank bytes) 0 0) ≡ true
 behind-blank bytes some =
     let here : position_or_len is_blank bytes + 0 ≡ position_or_len is_blank bytes = omega arith in
@@ -49,7 +49,7 @@ pub bytes_of_some : (bytes : List ℕ) → 0 < length (runs bytes) → 0 < lengt
 bytes_of_some [] some = absurd (omega arith)
 bytes_of_some (b ∷ rest) some = omega arith
 
--- bytes as the blanks that they begin with, and runs with a gap behind each
+-- The bytes are the blanks that they begin with, and then runs with a gap behind each.
 record IsLaid (bytes : List ℕ) (given : List (List ℕ)) : Type 0 where
   gaps : List (List ℕ)
   count : length gaps ≡ length given
@@ -58,7 +58,7 @@ record IsLaid (bytes : List ℕ) (given : List (List ℕ)) : Type 0 where
   solid : All IsRun given
   between : (k : ℕ) → k + 1 < length given → 0 < length (get_or gaps k [])
 
--- bytes without a run
+-- The bytes have no run.
 none_laid : (bytes : List ℕ) → next_run bytes ≡ [] → IsLaid bytes []
 none_laid bytes none = record {
   gaps = [];
@@ -69,7 +69,7 @@ none_laid bytes none = record {
   between = λ k below. absurd (omega arith);
 }
 
--- a run before others
+-- There is a run in front of the others.
 more_laid : (bytes : List ℕ) → 0 < length (next_run bytes) → IsLaid (next_blank (next_run bytes)) (runs (next_blank (next_run bytes)))
     → IsLaid bytes (take (position_or_len is_blank (next_run bytes)) (next_run bytes) ∷ runs (next_blank (next_run bytes)))
 more_laid bytes some later =

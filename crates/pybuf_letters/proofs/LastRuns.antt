@@ -1,4 +1,4 @@
--- The same from the right: what is left is read from its end.
+-- The same lemmas from the right. What is left is read from its end.
 use Rattle.std.proofs.Common.{◌≡◌, refl, sym, ap, ◌∙◌, subst, ℕ, suc, ◌+◌, ◌-◌, ◌<◌, ◌≤◌, List, [], ◌∷◌, ◌++◌, Bool, not, length, take, drop, map, reverse, arith, ℤ, pos}
 use Rattle.std.specs.Prelude.{◌<ℤ◌}
 use Rattle.std.specs.List.{position_or_len, suffix_len}
@@ -9,7 +9,7 @@ use Rattle.pybuf_letters.specs.Strips.{stripped_left, stripped_right}
 use Rattle.pybuf_letters.specs.Blanks.{next_run, next_blank, part_if_any, runs_up_to, blank_parts_from_last}
 use Rattle.pybuf_letters.proofs.Runs.{AtRun, at-next_run, runs_up_to-next_run, runs_up_to-more, runs_up_to-nil, runs_up_to-zero, without_bound}
 
--- ---- the first and the last bytes, the other way round
+-- ---- the first bytes and the last bytes, in reverse
 
 last_reversed : (k : ℕ) (bytes : List ℕ) → k ≤ length bytes → length (reverse (drop (length bytes - k) bytes)) ≡ k
 last_reversed k bytes inside = length-reverse (drop (length bytes - k) bytes) ∙ omega (arith, length-drop (length bytes - k) bytes)
@@ -30,7 +30,7 @@ reverse-drop k bytes inside =
 pub reverse-stripped_right : (p : ℕ → Bool) (bytes : List ℕ) → reverse (stripped_right p bytes) ≡ stripped_left p (reverse bytes)
 reverse-stripped_right p bytes = reverse-take (suffix_len p bytes) bytes (suffix_len-le-length p bytes)
 
--- ---- a loop over the runs from the right: its parts, with what is cut from the rest, are the whole
+-- ---- a loop over the runs from the right: its parts and what is cut from the rest are the whole
 
 pub right_starts : (cuts : ℕ) (bytes rest : List ℕ) (parts : List (List ℕ)) → parts ≡ [] → rest ≡ stripped_right is_blank bytes
     → (parts ++ map reverse (runs_up_to (cuts - 0) (reverse rest)) ≡ map reverse (runs_up_to cuts (reverse bytes))) × AtRun (reverse rest)
@@ -69,7 +69,7 @@ right_goes_on cuts i rest next parts more whole below some so_far pushed is =
       subst (λ (r : List ℕ). AtRun r) (sym turned_next) (at-next_run (next_blank (reverse rest))),
     )
 
--- nothing is left
+-- No byte is left.
 pub right_is_done : (n : ℕ) (rest : List ℕ) (parts whole : List (List ℕ)) → length rest ≡ 0 → parts ++ map reverse (runs_up_to n (reverse rest)) ≡ whole → parts ≡ whole
 right_is_done n rest parts whole none so_far =
     sym (append-nil parts)
@@ -89,7 +89,7 @@ turned_part rest = by_turned (reverse rest) (reverse-reverse rest)
         shown [] none = absurd (omega arith)
         shown (c ∷ bytes) h = refl
 
--- all cuts are made
+-- All cuts are made.
 pub right_ends : (cuts i : ℕ) (rest : List ℕ) (parts whole : List (List ℕ)) → cuts ≤ i → (parts ++ map reverse (runs_up_to (cuts - i) (reverse rest)) ≡ whole) × AtRun (reverse rest) → parts ++ part_if_any rest ≡ whole
 right_ends cuts i rest parts whole past so_far =
     let none : cuts - i ≡ 0 = omega arith in

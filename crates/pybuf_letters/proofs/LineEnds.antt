@@ -1,4 +1,4 @@
--- How bytes that are cut into lines go on by one line.
+-- Bytes that are cut into lines, after one more line.
 use Rattle.std.proofs.Common.{◌≡◌, refl, sym, ap, ◌∙◌, ℕ, zero, suc, ◌+◌, ◌-◌, ◌<◌, ◌≤◌, List, [], ◌∷◌, Bool, true, false, cond, not, length, take, drop, get_or, subst, Some, None, arith}
 use Rattle.std.specs.Prelude.{◌==◌, ◌||◌, ◌&&◌}
 use Rattle.std.specs.List.{position_or_len, onto_first}
@@ -12,14 +12,14 @@ use Rattle.bstr.specs.Find.{IsFirstByte}
 use Rattle.pybuf_letters.proofs.ByteClasses.{is_in-line_breaks}
 use Rattle.pybuf_letters.proofs.Places.{Holds, inside, prefix_len-from_none, prefix_len-from_some}
 
--- where the end of the first line begins, and where it ends
+-- where the end of the first line begins
 abbrev pub bare : List ℕ → ℕ
 bare bytes = position_or_len is_line_break bytes
 
 abbrev pub size : List ℕ → ℕ
 size bytes = bare bytes + end_length (drop (bare bytes) bytes)
 
--- ---- one byte more
+-- ---- one more byte
 
 pub bare-break : (b : ℕ) (rest : List ℕ) → is_line_break b ≡ true → bare (b ∷ rest) ≡ 0
 bare-break b rest h = ap (λ (t : Bool). cond (not t) (1 + bare rest) 0) h
@@ -65,7 +65,7 @@ both_second false y h = absurd (cc)
 pub record IsLine (bytes : List ℕ) (n : ℕ) : Type 0 where
   pub line : whole_lines bytes ≡ take n bytes ∷ whole_lines (drop n bytes)
 
--- the lines by what the first byte is
+-- the lines, by what the first byte is
 lines-cons : (b : ℕ) (rest : List ℕ) (test : Bool) → ends_line b rest ≡ test → whole_lines (b ∷ rest) ≡ cond test ((b ∷ []) ∷ whole_lines rest) (onto_first b (whole_lines rest))
 lines-cons b rest test h = ap (λ (t : Bool). cond t ((b ∷ []) ∷ whole_lines rest) (onto_first b (whole_lines rest))) h
 
@@ -102,7 +102,7 @@ line-other b rest n h later = record {
   line = lines-cons b rest false (other (b == 10) (b == 13) (begins_with_feed rest) h) ∙ ap (onto_first b) later.line;
 }
 
--- the last byte of the last line, which has no end
+-- the last byte of a last line that has no end
 line-last : (b : ℕ) → is_line_break b ≡ false → IsLine (b ∷ []) 1
 line-last b h = record { line = lines-cons b [] false (other (b == 10) (b == 13) false h) }
 
@@ -135,7 +135,7 @@ bare_of_first bytes n inside =
 pub line-bare : (bytes : List ℕ) (n : ℕ) → bare bytes ≤ n → without_end (take n bytes) ≡ take (bare bytes) bytes
 line-bare bytes n inside = ap (λ m. take m (take n bytes)) (bare_of_first bytes n inside) ∙ take-take (bare bytes) n bytes inside
 
--- ---- the same by the place of the first line break
+-- ---- the same, by the place of the first line break
 
 breaks : Holds (10 ∷ 13 ∷ []) is_line_break
 breaks = record { holds = is_in-line_breaks }

@@ -1,4 +1,4 @@
--- What holds of lines.
+-- Laws of lines.
 use Rattle.std.proofs.Common.{◌≡◌, refl, ap, ◌∙◌, ℕ, ◌<◌, List, [], ◌∷◌, ◌++◌, Bool, true, false, cond, length, arith}
 use Rattle.std.specs.List.{All, concat, onto_first}
 use Rattle.std.proofs.lemmas.List.Elements.{All-nil, All-cons, All-tail}

@@ -9,14 +9,14 @@ use Rattle.pybuf_letters.specs.Laws.{EndsLine, StandsAsLine, LinesEndWhereEndsSt
 use Rattle.pybuf_letters.proofs.LineEnds.{bare-break, bare-other}
 use Rattle.pybuf_letters.proofs.LineLaws.{joined}
 
--- a line before the bytes behind it
+-- A line stands in front of the bytes behind it.
 pub record IsOneLine (line behind : List ℕ) : Type 0 where
   pub ending : List ℕ
   pub whole : line ≡ without_end line ++ ending
   pub unbroken : list_any is_line_break (without_end line) ≡ false
   pub ends : EndsLine (without_end line) ending behind
 
--- each of these lines is one before those after it
+-- Each of these lines stands in front of the lines after it.
 abbrev pub AreLines : List (List ℕ) → Type 0
 AreLines [] = Unit {0}
 AreLines (line ∷ more) = IsOneLine line (concat more) × AreLines more
@@ -36,7 +36,7 @@ unbroken-other b text h later = by_both (is_line_break b) (list_any is_line_brea
     by_both true y h g = absurd (cc)
     by_both false y h g = g
 
--- ---- a line that is its ending alone
+-- ---- a line that is only its end
 
 only_ending : (b : ℕ) (line behind : List ℕ) → is_line_break b ≡ true → EndsLine [] (b ∷ line) behind → IsOneLine (b ∷ line) behind
 only_ending b line behind h ends =
@@ -48,7 +48,7 @@ only_ending b line behind h ends =
       ends = subst (λ (t : List ℕ). EndsLine t (b ∷ line) behind) (sym none) ends;
     }
 
--- ---- one byte more of the text
+-- ---- one more byte of the text
 
 longer : (b : ℕ) (text ending behind : List ℕ) → EndsLine text ending behind → EndsLine (b ∷ text) ending behind
 longer b text ending behind (inl feed) = inl feed
@@ -89,7 +89,7 @@ feed_alone (c ∷ more) behind feed is = by_ends is.ends
 
 -- ---- all lines
 
--- what the tests of a byte say
+-- what the tests of a byte tell
 ends_alone : (b : ℕ) (rest : List ℕ) → ends_line b rest ≡ true → is_line_break b ≡ true
 ends_alone b rest h = by_tests (b == 10) (b == 13) (begins_with_feed rest) h
   where
@@ -107,7 +107,7 @@ which_end b rest h = by_tests (b == 10) (b == 13) (begins_with_feed rest) refl r
     by_tests false true true first second feed h = absurd (cc)
     by_tests false false f first second feed h = absurd (cc)
 
--- a byte that ends no line, and is a line break nevertheless, is a carriage return before a line feed
+-- If a byte ends no line although it is a line break, it is a carriage return in front of a line feed.
 return_before_feed : (b : ℕ) (rest : List ℕ) → ends_line b rest ≡ false → is_line_break b ≡ true → (b ≡ 13) × (begins_with_feed rest ≡ true)
 return_before_feed b rest h g = by_tests (b == 10) (b == 13) (begins_with_feed rest) refl refl h g
   where
@@ -136,7 +136,7 @@ first_feed : (line behind : List ℕ) → 0 < length line → begins_with_feed (
 first_feed [] behind some = absurd (omega arith)
 first_feed (c ∷ line) behind some = refl
 
--- a line has a byte, since nothing else would end it
+-- A line has a byte, since nothing else could end it.
 some_byte : (line behind : List ℕ) → IsOneLine line behind → 0 < length line
 some_byte [] behind is = by_ends is.ends
   where
@@ -171,7 +171,7 @@ lines_are (b ∷ rest) = by_end (lines_are rest) (ends_line b rest) refl
         (only_ending b [] (concat (whole_lines rest)) (ends_alone b rest h) (subst (EndsLine [] (b ∷ [])) (sym (joined rest)) (which_end b rest h)), later)
     by_end later false h = onto b rest (whole_lines rest) h (joined rest) later
 
--- ---- the line of a number
+-- ---- the line that has a number
 
 line_at : (lines : List (List ℕ)) (k : ℕ) → k < length lines → AreLines lines → IsOneLine (get_or lines k []) (concat (drop (suc k) lines))
 line_at [] k below are = absurd (omega arith)

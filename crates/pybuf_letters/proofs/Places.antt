@@ -1,4 +1,4 @@
--- The first and the last byte that a test passes, by the words of `memchr` and by those of std.
+-- The first and the last byte that pass a test, as `memchr` and as std name them.
 use Rattle.std.proofs.Common.{◌≡◌, ℕ, ◌+◌, ◌-◌, ◌<◌, ◌≤◌, Bool, true, false, not, List, [], length, get_or, take, drop, Option, Some, None, refl, sym, ◌∙◌, ap, arith, subst}
 use Rattle.std.proofs.lemmas.List.{take_rest}
 use Rattle.std.specs.List.{prefix_len, suffix_len}
@@ -7,7 +7,7 @@ use Rattle.bstr.specs.Bytes.{is_in, not_in}
 use Rattle.bstr.specs.Find.{IsFirstByte, IsLastByte}
 use Rattle.pybuf_letters.specs.Strips.{stripped_left, stripped_right}
 
--- a test that is denied where another passes
+-- A test fails exactly if another passes.
 pub record Denies (test p : ℕ → Bool) : Type 0 where
   pub denies : (b : ℕ) → test b ≡ not (p b)
 
@@ -44,9 +44,9 @@ suffix_len-from_some test p bytes i d h =
     let before : i + 1 - 1 ≡ i = omega arith in
     suffix_len_is p bytes (i + 1) 0 (omega arith) (λ k low below. passes d _ (h.0.after k low below)) (λ below. rw before (stops d _ h.1))
 
--- ---- where a set of bytes decides
+-- ---- a test that a set of bytes decides
 
--- the words of `bstr` for a byte that is in a set
+-- `bstr` tells by this whether a byte is in a set.
 pub record Holds (chars : List ℕ) (p : ℕ → Bool) : Type 0 where
   pub holds : (b : ℕ) → is_in chars b ≡ p b
 
@@ -60,7 +60,7 @@ inside {chars} {p} h = record { denies = λ b. h.holds b ∙ twice_denied (p b) 
     twice_denied true = refl
     twice_denied false = refl
 
--- ---- bytes without those at their ends that are in a set
+-- ---- bytes without those at their ends that a set has
 
 pub stripped_left-from_none : (chars : List ℕ) (p : ℕ → Bool) (bytes : List ℕ) → Holds chars p → IsFirstByte (not_in chars) bytes None → take (length bytes - length bytes) (drop (length bytes) bytes) ≡ stripped_left p bytes
 stripped_left-from_none chars p bytes h found =

@@ -1,4 +1,4 @@
--- What holds of runs between blanks.
+-- Laws of runs between blanks.
 use Rattle.std.proofs.Common.{◌≡◌, refl, sym, ap, ◌∙◌, subst, ℕ, zero, suc, ◌+◌, ◌-◌, ◌<◌, ◌≤◌, List, [], ◌∷◌, ◌++◌, Bool, true, false, cond, not, length, take, drop, filter, arith}
 use Rattle.std.specs.Prelude.{◌||◌, ◌==◌}
 use Rattle.std.specs.List.{All, concat, join_with_byte, list_any, slice_split, position_or_len, prefix_len}
@@ -36,7 +36,7 @@ runs-of_joined (run ∷ (next ∷ more)) all =
     ∙ (kept run (slice_split is_blank (join_with_byte 32 (next ∷ more))) is.some
     ∙ ap (λ (rs : List (List ℕ)). run ∷ rs) (runs-of_joined (next ∷ more) (All-tail IsRun run (next ∷ more) all)))
 
--- ---- what is kept of the bytes
+-- ---- which bytes are kept
 
 solid-next_run : (bytes : List ℕ) → filter (λ b. not (is_blank b)) (next_run bytes) ≡ filter (λ b. not (is_blank b)) bytes
 solid-next_run [] = refl

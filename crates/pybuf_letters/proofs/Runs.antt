@@ -1,4 +1,4 @@
--- How bytes that are cut at their blanks go on by one run, and what is left of them from the right.
+-- Bytes that are cut at their blanks, after one more run, and what is left of them from the right.
 use Rattle.std.proofs.Common.{◌≡◌, refl, sym, ap, ◌∙◌, subst, ℕ, zero, suc, ◌+◌, ◌-◌, ◌<◌, ◌≤◌, List, [], ◌∷◌, ◌++◌, Bool, true, false, cond, not, length, take, drop, map, reverse, get_or, filter, ⊎_elim, arith, ℤ, pos, negsuc}
 use Rattle.std.proofs.lemmas.Int.{ints}
 use Rattle.std.specs.Prelude.{◌==◌, ◌<ℤ◌}
@@ -11,13 +11,13 @@ use Rattle.std.proofs.lemmas.Bool.Decides.{nat_tests}
 use Rattle.pybuf_letters.specs.Classes.{is_blank}
 use Rattle.pybuf_letters.specs.Blanks.{runs, next_run, next_blank, after_runs, part_if_any, runs_up_to, blank_parts}
 
--- bytes that begin with a run, if there are any
+-- The bytes begin with a run, if there are any.
 pub record AtRun (bytes : List ℕ) : Type 0 where
   pub stays : next_run bytes ≡ bytes
 
 -- ---- the next run
 
--- a blank before other bytes ends no run
+-- A blank in front of other bytes ends no run.
 pub runs-blank : (b : ℕ) (rest : List ℕ) → is_blank b ≡ true → runs (b ∷ rest) ≡ runs rest
 runs-blank b rest h = ap (filter (λ run. not (length run == 0))) (slice_split-cons_yes is_blank b rest h)
 
@@ -81,7 +81,7 @@ runs-at_run bytes at some = ⊎_elim ends goes_on (cases_lt (position_or_len is_
         let nothing : next_blank bytes ≡ [] = drop_all (position_or_len is_blank bytes) bytes past in
         ap (filter (λ run. not (length run == 0))) whole ∙ (kept bytes [] some ∙ (ap (λ (r : List ℕ). r ∷ []) (sym run) ∙ ap (λ (r : List ℕ). take (position_or_len is_blank bytes) bytes ∷ runs r) (sym nothing)))
 
--- ---- so many runs, and the rest
+-- ---- n runs, and the rest
 
 after_runs-next_run : (n : ℕ) (bytes : List ℕ) → after_runs n (next_run bytes) ≡ after_runs n bytes
 after_runs-next_run zero bytes = (at-next_run bytes).stays
@@ -108,7 +108,7 @@ runs_up_to-nil (suc n) = ap part_if_any (after_runs-nil n)
 pub runs_up_to-zero : (bytes : List ℕ) → AtRun bytes → runs_up_to 0 bytes ≡ part_if_any bytes
 runs_up_to-zero bytes at = ap part_if_any at.stays
 
--- there are no more runs than bytes
+-- There are no more runs than bytes.
 pub runs_up_to-enough : (n : ℕ) (bytes : List ℕ) → length bytes ≤ n → runs_up_to n bytes ≡ runs bytes
 runs_up_to-enough zero [] enough = refl
 runs_up_to-enough zero (b ∷ rest) enough = absurd (omega arith)
@@ -126,7 +126,7 @@ runs_up_to-enough (suc n) bytes enough = by_next (runs_up_to-enough n) (next_run
         ∙ (ap (λ (more : List (List ℕ)). take (position_or_len is_blank (next_run bytes)) (next_run bytes) ∷ more) (later (next_blank (next_run bytes)) shorter)
         ∙ (sym (runs-at_run (next_run bytes) at some) ∙ runs-next_run bytes)))
 
--- ---- a loop over the runs from the left: its parts, with what is cut from the rest, are the whole
+-- ---- a loop over the runs from the left: its parts and what is cut from the rest are the whole
 
 pub left_starts : (cuts : ℕ) (bytes rest : List ℕ) (parts : List (List ℕ)) → parts ≡ [] → rest ≡ next_run bytes → (parts ++ runs_up_to (cuts - 0) rest ≡ runs_up_to cuts bytes) × AtRun rest
 left_starts cuts bytes rest parts none is =
@@ -150,12 +150,12 @@ left_goes_on cuts i rest next parts more whole below some so_far pushed is =
       subst (λ (r : List ℕ). AtRun r) (sym is) (at-next_run (next_blank rest)),
     )
 
--- nothing is left
+-- No byte is left.
 pub left_is_done : (n : ℕ) (rest : List ℕ) (parts whole : List (List ℕ)) → length rest ≡ 0 → parts ++ runs_up_to n rest ≡ whole → parts ≡ whole
 left_is_done n rest parts whole none so_far =
     sym (append-nil parts) ∙ (ap (λ (ps : List (List ℕ)). parts ++ ps) (sym (runs_up_to-nil n) ∙ ap (λ (r : List ℕ). runs_up_to n r) (sym (nil_from_length rest none))) ∙ so_far)
 
--- all cuts are made
+-- All cuts are made.
 pub left_ends : (cuts i : ℕ) (rest : List ℕ) (parts whole : List (List ℕ)) → cuts ≤ i → (parts ++ runs_up_to (cuts - i) rest ≡ whole) × AtRun rest → parts ++ part_if_any rest ≡ whole
 left_ends cuts i rest parts whole past so_far =
     let none : cuts - i ≡ 0 = omega arith in

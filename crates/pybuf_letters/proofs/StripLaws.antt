@@ -1,4 +1,4 @@
--- What holds of bytes without those at their ends that a test passes.
+-- Laws of bytes without those at their ends that pass a test.
 use Rattle.std.proofs.Common.{◌≡◌, sym, ap, ◌∙◌, ℕ, ◌+◌, ◌-◌, ◌<◌, List, ◌++◌, Bool, length, take, drop, reverse, get_or, Some, None, arith}
 use Rattle.std.specs.Prelude.{◌↔◌, ◌==◌, IsTrue, Contains}
 use Rattle.std.specs.List.{AllPass, list_any, prefix_len, suffix_len}
@@ -10,7 +10,7 @@ use Rattle.pybuf_letters.specs.Strips.{stripped_left, stripped_right, stripped, 
 use Rattle.pybuf_letters.specs.Laws.{the_blanks, FirstStays, LastStays, LosesFront, LosesBack, LosesEnds}
 use Rattle.pybuf_letters.proofs.ByteClasses.{is_in-list_any, is_in-blanks}
 
--- ---- the bytes that go
+-- ---- the bytes that are stripped
 
 front_passes : (p : ℕ → Bool) (bytes : List ℕ) → AllPass p (take (prefix_len p bytes) bytes)
 front_passes p bytes k d below =
@@ -28,7 +28,7 @@ back_passes p bytes k d below =
     ∙ (ap (λ i. get_or bytes i d) turned ∙ sym (get_or-reverse bytes j d (omega (arith, suffix_len-le-length p bytes)))) in
     ap p read ∙ prefix_len_passes p (reverse bytes) j d (omega arith)
 
--- ---- the bytes at the ends of what is kept
+-- ---- the bytes at the ends of those that are kept
 
 pub first_kept : (p : ℕ → Bool) (bytes : List ℕ) → FirstStays p (stripped_left p bytes)
 first_kept p bytes some =
@@ -46,7 +46,7 @@ last_kept p bytes some =
     ∙ (ap (λ i. get_or bytes i 0) (sym turned) ∙ sym (get_or-reverse bytes (suffix_len p bytes) 0 (omega arith))) in
     ap p read ∙ prefix_len_stops p (reverse bytes) 0 (omega (arith, length-reverse bytes))
 
--- ---- what is kept
+-- ---- the bytes that are kept
 
 pub loses_front : (p : ℕ → Bool) (bytes : List ℕ) → LosesFront p bytes (stripped_left p bytes)
 loses_front p bytes = record {
@@ -82,7 +82,7 @@ loses_ends p bytes =
       last = last_kept p rest;
     }
 
--- ---- which bytes go
+-- ---- which bytes are stripped
 
 pub goes-named : (chars : List ℕ) (b : ℕ) → IsTrue (goes (Some chars) b) ↔ Contains chars b
 goes-named chars b = (

@@ -5,7 +5,7 @@ use Rattle.std.proofs.lemmas.Bool.Decides.{nat_tests}
 use Rattle.pybuf_letters.specs.Cases.{title_byte, title_from, title}
 use Rattle.pybuf_letters.specs.Laws.{stands_after_letter, IsTitled, TitlesChangeLetters}
 
--- the byte before a place is a letter, where before the first one stands a letter or not
+-- Whether the byte before a place is a letter. A parameter says whether a letter stands before the first byte.
 abbrev pub letter_before : Bool → List ℕ → ℕ → Bool
 letter_before after bytes zero = after
 letter_before after bytes (suc place) = is_ascii_alphabetic (slice_index bytes place)

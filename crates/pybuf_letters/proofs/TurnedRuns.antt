@@ -1,4 +1,4 @@
--- The runs of bytes the other way round.
+-- The runs of bytes in reverse.
 use Rattle.std.proofs.Common.{◌≡◌, refl, sym, ap, ◌∙◌, ℕ, ◌<◌, List, [], ◌∷◌, ◌++◌, Bool, true, false, cond, not, length, map, reverse, filter, arith}
 use Rattle.std.specs.Prelude.{◌==◌}
 use Rattle.std.specs.List.{slice_split, onto_first}
@@ -8,7 +8,7 @@ use Rattle.std.proofs.lemmas.List.Splits.{length-slice_split}
 use Rattle.pybuf_letters.specs.Classes.{is_blank}
 use Rattle.pybuf_letters.specs.Blanks.{runs}
 
--- each part turned, and their order too
+-- Each part is reversed, and so is their order.
 abbrev pub turned : List (List ℕ) → List (List ℕ)
 turned parts = reverse (map reverse parts)
 
@@ -23,7 +23,7 @@ length-turned parts = length-reverse (map reverse parts) ∙ length-map parts re
 
 -- ---- one more byte at the end
 
--- the byte put behind the last part
+-- the parts after a byte is put behind the last one
 abbrev onto_last : ℕ → List (List ℕ) → List (List ℕ)
 onto_last b [] = (b ∷ []) ∷ []
 onto_last b (part ∷ []) = (part ++ b ∷ []) ∷ []

@@ -1,4 +1,4 @@
--- What an answer gives, where it is neither refused nor wanting memory.
+-- What an answer gives if it is no refusal and memory suffices.
 use Rattle.std.proofs.Common.{◌≡◌, Result, Ok, Err, ap, sym, subst}
 use Rattle.std.specs.Prelude.{IfOk, IfErr}
 use Rattle.pybuf_value.specs.declared.faults.Fault.{Fault}

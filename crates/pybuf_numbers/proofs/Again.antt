@@ -119,7 +119,7 @@ unfolding turned_none
 none_pieces zero = refl
 none_pieces (suc k) = none_pieces k
 
--- one byte turned round is as it was
+-- A single byte that is reversed stays as it is.
 pub ones_turned : (k : ℕ) (xs : List ℕ) → flat_map reverse (first_chunks 1 k xs) ++ drop k xs ≡ xs
 unfolding turned_none
 ones_turned zero xs = refl
@@ -146,7 +146,7 @@ got [] i d inside = absurd (omega arith)
 got (x ∷ xs) zero d inside = refl
 got (x ∷ xs) (suc i) d inside = got xs i d (omega arith)
 
--- the bytes of one number more
+-- the bytes of one more number
 pub bytes_more : (c : ArrayCode) (xs : List ℤ) (bytes new word : List ℕ) (i s : ℕ) (d : ℤ) → bytes ≡ bytes_of c (take i xs) → i < length xs → All (Fits c) xs → s ≡ size_of c
     → take (size_of c) word ≡ digits_of c (to_z w128 (of_z w128 (get_or xs i d))) → new ≡ bytes ++ take s word → new ≡ bytes_of c (take (i + 1) xs)
 bytes_more c xs bytes new word i s d before inside all size spelled is =

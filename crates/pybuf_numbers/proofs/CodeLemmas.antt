@@ -85,7 +85,7 @@ start_low c bytes place there =
 pub start_high : (c : ArrayCode) (bytes : List ℕ) (place : ℕ) → place < length (numbers_of c bytes) → size_of c * place + size_of c ≤ length bytes
 start_high c bytes place there = omega (arith, start_low c bytes (suc place) there, mul-suc (size_of c) place)
 
--- the number that is read of the bytes at a place
+-- the number that is read from the bytes at a place
 pub read_at : (c : ArrayCode) (bytes : List ℕ) (place at k : ℕ) (n : ℤ) → place < length (numbers_of c bytes) → at ≡ size_of c * place → k ≡ size_of c
     → n ≡ number_in c (take k (drop at bytes)) → slice_get (numbers_of c bytes) place ≡ Some n
 read_at c bytes place at k n there start long is =
@@ -94,7 +94,7 @@ read_at c bytes place at k n there start long is =
     ∙ ap (λ p. Some (number_in c (take k (drop p bytes)))) (sym start)
     ∙ ap Some (sym is)
 
--- ---- what becomes of the numbers
+-- ---- how the numbers change
 
 pub one_again : (c : ArrayCode) (n : ℤ) → holds c n ≡ true → numbers_of c (digits_of c n) ≡ n ∷ []
 one_again c n fits = spelled_one (number_in c) (size_of c) (some_size c) (digits_of c n) (length_digits c n) ∙ ap (λ m. m ∷ []) (number_again c n fits)
@@ -108,7 +108,7 @@ append_is c bytes others = spelled_append (number_in c) (size_of c) (some_size c
 pub append_whole : (c : ArrayCode) (bytes others : List ℕ) → is_whole c bytes ≡ true → is_whole c others ≡ true → is_whole c (bytes ++ others) ≡ true
 append_whole c bytes others = whole_append (number_in c) (size_of c) (some_size c) bytes others
 
--- a number more at the end
+-- one more number at the end
 pub push_is : (c : ArrayCode) (bytes digits : List ℕ) (n : ℤ) → is_whole c bytes ≡ true → holds c n ≡ true → digits ≡ digits_of c n → numbers_of c (bytes ++ digits) ≡ numbers_of c bytes ++ n ∷ []
 push_is c bytes digits n whole fits same =
     ap (λ d. numbers_of c (bytes ++ d)) same ∙ (append_is c bytes (digits_of c n) whole (one_whole c n) ∙ ap (λ ns. numbers_of c bytes ++ ns) (one_again c n fits))
@@ -142,7 +142,7 @@ put_is c bytes digits place at k n there whole fits same start long =
     ∙ (ap (λ ns. replaced_range (numbers_of c bytes) place (suc place) ns) (one_again c n fits)
     ∙ sym (set_split (numbers_of c bytes) place n there))))
 
--- a number more before the one at a place
+-- one more number before the one at a place
 pub insert_is : (c : ArrayCode) (bytes digits : List ℕ) (place at : ℕ) (n : ℤ) → place ≤ length (numbers_of c bytes) → is_whole c bytes ≡ true → holds c n ≡ true
     → digits ≡ digits_of c n → at ≡ size_of c * place → numbers_of c (replaced_range bytes at at digits) ≡ replaced_range (numbers_of c bytes) place place (n ∷ [])
 insert_is c bytes digits place at n there whole fits same start =
@@ -156,14 +156,14 @@ insert_whole c bytes digits place at n there whole same start =
     ap (λ d. is_whole c (replaced_range bytes at at d)) same
     ∙ edit_whole c bytes (digits_of c n) place place at at (omega arith) there whole (one_whole c n) start start
 
--- no numbers
+-- an array without numbers
 pub none_whole : (c : ArrayCode) → is_whole c [] ≡ true
 none_whole c = whole_from_length (size_of c) 0 0 (sym (mul-zero (size_of c)))
 
 pub none_is : (c : ArrayCode) → numbers_of c [] ≡ []
 none_is c = ap (λ n. map (number_in c) (first_chunks (size_of c) n [])) (count_from_length (size_of c) 0 0 (some_size c) (sym (mul-zero (size_of c))))
 
--- without the number at a place
+-- the numbers without the one at a place
 pub remove_is : (c : ArrayCode) (bytes : List ℕ) (place at to : ℕ) → place < length (numbers_of c bytes) → is_whole c bytes ≡ true → at ≡ size_of c * place → to ≡ at + size_of c
     → numbers_of c (replaced_range bytes at to []) ≡ replaced_range (numbers_of c bytes) place (suc place) []
 remove_is c bytes place at to there whole start end =

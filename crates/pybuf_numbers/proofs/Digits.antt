@@ -1,4 +1,4 @@
--- A number read from its own digits, and the digits of a number that was read.
+-- A number that is read from its own digits, and the digits of a number that was read.
 use Rattle.std.proofs.Common.{◌≡◌, ℕ, zero, suc, ◌+◌, ◌-◌, ◌*◌, ◌^◌, ◌<◌, ◌≤◌, Bool, true, false, leb, List, [], ◌∷◌, length, get_or, ℤ, pos, negsuc, ◌-ℤ◌, refl, sym, ap, subst, ◌∙◌, arith}
 use Rattle.std.specs.Prelude.{IsTrue}
 use Rattle.std.specs.Int.{w16, w32, from_le_bytes, from_be_bytes}
@@ -63,7 +63,7 @@ again_eight false n lt = sym (low_first_eight _ _ _ _ _ _ _ _) ∙ from_le_bytes
 pub digits_again : (size : ℕ) → IsTrue (is_width size) → (big : Bool) (n : ℕ) → n < 256 ^ size → unsigned_number big (digits_of big size n) ≡ n
 digits_again size w = by_width DigitsAgain again_one again_two again_four again_eight size w
 
--- ---- two's complement, where half of the numbers are signed
+-- ---- two's complement, in which half of the numbers are negative
 
 abbrev Halved : ℕ → Type 0
 Halved size = (h : ℕ) × (256 ^ size ≡ h + h)
@@ -131,7 +131,7 @@ back_eight big bytes len fits = rw (eight_items bytes len) (eight big (get_or by
 pub reads_back : (size : ℕ) → IsTrue (is_width size) → (big : Bool) (bytes : List ℕ) → length bytes ≡ size → IsBytes bytes → (digits_of big size (unsigned_number big bytes) ≡ bytes) × (unsigned_number big bytes < 256 ^ size)
 reads_back size w = by_width ReadsBack back_one back_two back_four back_eight size w
 
--- what is read in two's complement is in range, and stands so in its bytes
+-- A number that is read in two's complement is in range, and its bytes are those that were read.
 below_zero : (size n : ℕ) → n < 256 ^ size → pos n -ℤ pos (256 ^ size) ≡ negsuc (256 ^ size - suc n)
 below_zero size n lt = omega (arith, ints)
 

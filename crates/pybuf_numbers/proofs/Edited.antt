@@ -1,4 +1,4 @@
--- The numbers of bytes of which others took the place of some.
+-- The numbers of bytes, after other bytes replaced some of them.
 use Rattle.std.proofs.Common.{◌≡◌, ℕ, zero, suc, ◌+◌, ◌-◌, ◌*◌, ◌/◌, ◌%◌, ◌<◌, ◌≤◌, List, [], ◌∷◌, ◌++◌, length, take, drop, map, refl, sym, ap, ◌∙◌, arith, ℤ, slice_get, Some, length-append}
 use Rattle.std.specs.Prelude.{true, ◌==◌}
 use Rattle.std.specs.Simd.{first_chunks}
@@ -14,7 +14,7 @@ drop_past zero (x ∷ xs) past = absurd (omega arith)
 drop_past (suc n) [] past = refl
 drop_past (suc n) (x ∷ xs) past = drop_past n xs (omega arith)
 
--- numbers of a size, each by its bytes
+-- numbers that have one size, each by its bytes
 module _ (f : List ℕ → ℤ) (s : ℕ) (some : 0 < s) where
   abbrev pub spelled : List ℕ → List ℤ
   spelled xs = map f (first_chunks s (length xs / s) xs)

@@ -1,4 +1,4 @@
--- A number that is inserted by its bytes, of which copies are made.
+-- A number is inserted by its bytes, which are copied.
 use Rattle.std.proofs.Common.{◌≡◌, ℕ, ◌*◌, ◌≤◌, List, [], ◌∷◌, length, ap, ◌∙◌, ℤ}
 use Rattle.std.specs.Prelude.{true}
 use Rattle.pybuf_slice.specs.Edits.{replaced_range}

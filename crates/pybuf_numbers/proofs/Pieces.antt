@@ -1,4 +1,4 @@
--- Pieces of one size.
+-- Pieces that all have the same size.
 use Rattle.std.proofs.Common.{◌≡◌, ℕ, zero, suc, ◌+◌, ◌-◌, ◌*◌, ◌<◌, ◌≤◌, List, ◌∷◌, ◌++◌, length, take, drop, refl, sym, ap, ◌∙◌, arith, slice_get, Some, length-drop, length-append, zero-add, mul-zero}
 use Rattle.std.proofs.Math.Nat.{mul-suc, mul-le-mul_left, mul-add}
 use Rattle.std.proofs.lemmas.List.{drop-drop, take-append-le, drop-append-le, take_at, drop_at, take-append-drop, length-take-le}
@@ -8,7 +8,7 @@ pub length_pieces : (s k : ℕ) (xs : List ℕ) → length (first_chunks s k xs)
 length_pieces s zero xs = refl
 length_pieces s (suc k) xs = ap suc (length_pieces s k (drop s xs))
 
--- first so many, and then so many more
+-- the first i pieces, and then j more
 pub pieces_split : (s i j : ℕ) (xs : List ℕ) → first_chunks s (i + j) xs ≡ first_chunks s i xs ++ first_chunks s j (drop (s * i) xs)
 pieces_split s zero j xs =
     let none : s * 0 ≡ 0 = mul-zero s in
@@ -19,7 +19,7 @@ pieces_split s (suc i) j xs =
     let far : s * suc i ≡ s + s * i = omega (arith, mul-suc s i) in
     rw (more, far) (ap (λ rest. take s xs ∷ rest) (pieces_split s i j (drop s xs) ∙ ap (λ ys. first_chunks s i (drop s xs) ++ first_chunks s j ys) (drop-drop (s * i) s xs)))
 
--- what lies behind doesn't matter
+-- It doesn't matter what lies behind them.
 pub pieces_within : (s k : ℕ) (xs ys : List ℕ) → s * k ≤ length xs → first_chunks s k (xs ++ ys) ≡ first_chunks s k xs
 pieces_within s zero xs ys inside = refl
 pieces_within s (suc k) xs ys inside =
@@ -31,7 +31,7 @@ pieces_within s (suc k) xs ys inside =
     ∙ (ap (λ rest. take s xs ∷ first_chunks s k rest) after
     ∙ ap (λ rest. take s xs ∷ rest) (pieces_within s k (drop s xs) ys (omega (arith, length-drop s xs))))
 
--- those of a list's front
+-- the pieces of a list's front
 pub pieces_of_front : (s k n : ℕ) (xs : List ℕ) → s * k ≤ n → n ≤ length xs → first_chunks s k (take n xs) ≡ first_chunks s k xs
 pieces_of_front s k n xs inside near =
     sym (pieces_within s k (take n xs) (drop n xs) (omega (arith, length-take-le n xs near)))

@@ -1,4 +1,4 @@
--- Numbers in range fit 128 bits.
+-- Numbers in range fit into 128 bits.
 use Rattle.std.proofs.Common.{◌≡◌, arith, ℤ, pos, negsuc, SFits}
 use Rattle.std.specs.Prelude.{true}
 use Rattle.std.specs.Int.{w128}

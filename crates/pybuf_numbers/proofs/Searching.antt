@@ -1,10 +1,10 @@
--- The first place of a list that passes a test.
+-- The first place of a list at which a test passes.
 use Rattle.std.proofs.Common.{◌≡◌, ℕ, zero, suc, ◌+◌, ◌<◌, List, [], ◌∷◌, length, Bool, true, false, refl, ap, ◌∙◌, arith, slice_get, Some, sym, below_more}
 use Rattle.std.specs.Prelude.{None}
 use Rattle.std.specs.List.{position, position_or_len}
 use Rattle.std.proofs.lemmas.Bool.{lt-ltb, le-ltb}
 
--- none of the first so many passes
+-- None of the first elements passes.
 abbrev pub Passed : {X : Type 0} → (X → Bool) → List X → ℕ → Type 0
 Passed {X} p xs n = (k : ℕ) (x : X) → k < n → slice_get xs k ≡ Some x → p x ≡ false
 

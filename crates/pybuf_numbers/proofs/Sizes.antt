@@ -32,7 +32,7 @@ is_a_width code.ULong = refl
 is_a_width code.LongLong = refl
 is_a_width code.ULongLong = refl
 
--- so many of a size have this length, and no other number of them has
+-- If a length is k times a size, it has room for k of that size.
 pub count_from_length : (s k n : ℕ) → 0 < s → n ≡ s * k → n / s ≡ k
 count_from_length s k n some same = ap (λ m. m / s) same ∙ mul-div_cancel_left k some
 
@@ -42,7 +42,7 @@ whole_from_length s k n same = let none : n % s ≡ 0 = ap (λ m. m % s) same �
 pub length_from_whole : (s n : ℕ) → (n % s == 0) ≡ true → n ≡ s * (n / s)
 length_from_whole s n whole = let none : n % s ≡ 0 = grind (arith, nat_tests) in omega (arith, div-add-mod n s)
 
--- what lies at a place below the count lies within the length
+-- What lies at a place below the count lies within the length.
 pub place_within : (s place n : ℕ) → place < n / s → s * place + s ≤ n
 place_within s place n below = omega (arith, mul-suc s place, mul-le-mul_left s below, mul-div-le n s)
 

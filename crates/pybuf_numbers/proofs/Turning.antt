@@ -1,4 +1,4 @@
--- Pieces that are turned round, one after the other.
+-- Pieces that are reversed, one after the other.
 use Rattle.std.proofs.Common.{◌≡◌, ℕ, zero, suc, ◌+◌, ◌*◌, ◌≤◌, List, [], ◌++◌, length, take, drop, refl, sym, ap, ◌∙◌, arith, length-append, length-drop, append_assoc, mul-zero}
 use Rattle.std.specs.Prelude.{reverse}
 use Rattle.std.specs.List.{flat_map}
@@ -17,7 +17,7 @@ length_turned s (suc k) xs inside =
     let far : s * suc k ≡ s + s * k = omega (arith, mul-suc s k) in
     omega (arith, length-append (reverse (take s xs)) (flat_map reverse (first_chunks s k (drop s xs))), length-reverse (take s xs), length-take-le s xs (omega arith), length_turned s k (drop s xs) (omega (arith, length-drop s xs)))
 
--- one piece more is turned
+-- One more piece is reversed.
 pub turned_more : (s k at n : ℕ) (xs ys piece : List ℕ) → ys ≡ flat_map reverse (first_chunks s k xs) ++ drop (s * k) xs → s * k + s ≤ length xs → at ≡ s * k → n ≡ s
     → piece ≡ reverse (take n (drop at ys))
     → take at ys ++ (piece ++ drop n (drop at ys)) ≡ flat_map reverse (first_chunks s (k + 1) xs) ++ drop (s * (k + 1)) xs

@@ -1,4 +1,4 @@
--- Walks, and those of the places of another.
+-- Walks, and walks over the places of another walk.
 use Rattle.std.proofs.Common.{◌≡◌, ℕ, zero, suc, ◌+◌, ◌-◌, ◌*◌, ◌/◌, ◌<◌, ◌≤◌, Bool, true, false, List, [], ◌∷◌, ◌++◌, length, refl, sym, ap, subst, ◌∙◌, arith, slice_get, Some}
 use Rattle.std.specs.Prelude.{reverse, slice_index, ◌≢◌, ℤ, pos, negsuc, int_lt, nat_abs}
 use Rattle.std.proofs.Common.{ltb}
@@ -63,7 +63,7 @@ rest_below n false start stride count below =
     let more = one_more count stride some in
     omega (arith, last, more)
 
--- a fall doesn't go past 0
+-- A falling walk doesn't go past 0.
 falls_far : (n : ℕ) (start stride count k : ℕ) → WalksBelow n true start stride count → k < count → k * stride ≤ start
 falls_far n start stride count k below there = omega (arith, (below (omega arith)).1, mul-le-mul_right {m = k} {n = count - 1} stride (omega arith))
 
@@ -131,7 +131,7 @@ chosen_below true true A S C a s k n inside places =
     let least : (k - 1) * s * S ≤ a * S = mul-le-mul_right {m = (k - 1) * s} {n = a} S low in
     omega (arith, top, far, most, least, product S s k)
 
--- one index has neither stride nor direction
+-- A single index has neither a stride nor a direction.
 pub chosen_one : (F f : Bool) (A S C a s k n r : ℕ) → WalksBelow n F A S C → WalksBelow C f a s k → r ≡ place_of F A S a → k ≡ 1 → r ∷ [] ≡ elements_at (walk F A S C) (walk f a s k)
 chosen_one F f A S C a s k n r inside places is one =
     ap (λ (x : ℕ). x ∷ []) is ∙ sym (walk_chosen F f A S C a s k n inside places ∙ ap (λ m. walk (differ F f) (place_of F A S a) (S * s) m) one)
@@ -177,7 +177,7 @@ length_rising : (low stride count : ℕ) → length (rising low stride count) �
 length_rising low stride zero = refl
 length_rising low stride (suc count) = ap suc (length_rising (low + stride) stride count)
 
--- how far a span reaches
+-- how many indices a span has
 span_count : (low high stride : ℕ) (b : Bool) → ltb low high ≡ b → how_many low high stride ≢ 0 → (low < high) × (((how_many low high stride - 1) * stride ≤ high - low - 1) × (how_many low high stride ≤ high - low))
 span_count low high stride true e some =
     let count : how_many low high stride ≡ (high - low - 1) / stride + 1 = rw e refl in
@@ -220,7 +220,7 @@ slice_falls low high k n step list picks count span inside some sign =
       few = omega (arith, reach.1.1);
     }
 
--- ---- the same of a step that the code sees
+-- ---- the same for a step that the code sees
 
 negative_test : (z : ℤ) → int_lt z (pos 0) ≡ is_negative z
 negative_test (pos n) = le-ltb n 0 (omega arith)

@@ -1,4 +1,4 @@
--- What a test of the bytes between two bounds tells of an affix, and what a result tells of its outcome.
+-- What a test of the bytes between two bounds tells about an affix, and what a result tells about its outcome.
 use Rattle.std.proofs.Common.{◌≡◌, refl, ℕ, Bool, List, Option, Some, Result, Ok, Err, sym, subst}
 use Rattle.std.specs.Result.{IfOk}
 use Rattle.pybuf_value.specs.declared.faults.Fault.{Fault}
@@ -19,8 +19,8 @@ affix_decides test pairs affix asked part cut result same between told =
     subst (λ c. IfOk result (λ outcome. outcome ≡ outcome_of (test_in test pairs asked c))) (sym between)
     (subst (λ v. IfOk result (λ outcome. outcome ≡ outcome_of (single_or_any_of (test part) pairs v))) same told)
 
--- What holds of a result holds of the one that the outcome is of. Where memory runs out the outcome would be of each
--- result, and no outcome is of two.
+-- What holds of a result holds of the result that an outcome has. If memory ran out, the outcome would be that
+-- of every result, and no outcome is that of two.
 pub given_outcome : {E X : Type 0} (P : Result X Fault → Type 0) (answer : Result X Halt) (result : Result (Outcome X) E)
     → ((wanted : Result X Fault) → Gives wanted answer → IfOk result (λ outcome. outcome ≡ outcome_of wanted))
     → IfGiven P answer

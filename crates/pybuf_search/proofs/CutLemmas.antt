@@ -1,4 +1,4 @@
--- So many parts are those of one cut less.
+-- If the number of parts is limited, the number of cuts is limited to one less.
 use Rattle.std.proofs.Common.{◌≡◌, ℕ, zero, suc, ◌+◌, ◌-◌, ◌^◌, ◌<◌, ◌≤◌, List, [], ◌∷◌, length, take, Decides, refl, ap, ◌∙◌, arith, add-one, take_all}
 use Rattle.std.proofs.Common.{ℤ, pos, negsuc}
 use Rattle.std.proofs.lemmas.Bool.{and_from, and_parts, le-leb, leb-true}
@@ -31,7 +31,7 @@ module _ (bytes : List ℕ) (m : ℕ) where
   rsplitn_is zero last (place ∷ places) = refl
   rsplitn_is (suc n) last (place ∷ places) = ap (λ later. part (place + m) last bytes ∷ later) (rsplitn_is n place places)
 
-  -- as many parts as are allowed, of matches whose number is a machine word
+  -- as many parts as are allowed, if the number of matches is a machine word
   parts-allowed : (most : ℤ) (last : ℕ) (places : List ℕ) → length places ≤ 2 ^ 64 - 2 → splitn_at bytes m last places (parts_allowed most) ≡ split_at bytes m last (cuts most places)
   parts-allowed (pos n) last places few = ap (splitn_at bytes m last places) (add-one n) ∙ splitn_is n last places
   parts-allowed (negsuc n) last places few = splitn_is (2 ^ 64 - 2) last places ∙ ap (split_at bytes m last) (take_all (2 ^ 64 - 2) places few)

@@ -1,4 +1,4 @@
--- A prefix and what is left without it, put together, are the bytes, and so are what is left and a suffix.
+-- A prefix and what is left without it make up the bytes. So do what is left without a suffix and the suffix.
 use Rattle.std.proofs.Common.{◌≡◌, ℕ, ◌+◌, ◌-◌, ◌≤◌, true, List, [], ◌++◌, length, take, drop, sym, ap, ◌∙◌, arith, ⊎_elim, take-append-drop}
 use Rattle.std.proofs.lemmas.Bool.{cases_Bool, cond-true, cond-false}
 use Rattle.std.proofs.lemmas.List.{append-nil, length-append}
@@ -8,7 +8,7 @@ use Rattle.pybuf_search.specs.Ends.{begins_with, ends_with}
 use Rattle.pybuf_search.specs.Laws.{PrefixIsRemoved, SuffixIsRemoved}
 use Rattle.pybuf_search.proofs.CutLemmas.{Decides-ends_with}
 
--- bytes that begin with a prefix have it at place 0
+-- Bytes that begin with a prefix have it at place 0.
 begins : (bytes prefix rest : List ℕ) → bytes ≡ prefix ++ rest → begins_with bytes prefix ≡ true
 begins bytes prefix rest e =
     occurs_at-true bytes prefix 0 (record {
@@ -25,7 +25,7 @@ prefix_is_removed bytes prefix = record {
       (cases_Bool (begins_with bytes prefix));
 }
 
--- bytes that end with a suffix have it at their end
+-- Bytes that end with a suffix have it at their end.
 ends : (bytes suffix rest : List ℕ) → bytes ≡ rest ++ suffix → ends_with bytes suffix ≡ true
 ends bytes suffix rest e =
     let long : length suffix ≤ length bytes = omega (arith, ap length e, length-append rest suffix) in

@@ -1,4 +1,4 @@
--- What was cut, put together with the separator, is the bytes.
+-- The parts that a cut gives, joined by the separator, make up the bytes.
 use Rattle.std.proofs.Common.{◌≡◌, ℕ, zero, suc, ◌+◌, ◌-◌, ◌<◌, ◌≤◌, Bool, true, ℤ, pos, negsuc, List, [], ◌∷◌, ◌++◌, length, take, drop, reverse, All, sym, ap, ◌∙◌, arith, le_refl, take_all, append_assoc, take-append-drop, drop-drop}
 use Rattle.std.proofs.lemmas.List.{append-nil, take-take, drop-take, length-reverse, reverse-append}
 use Rattle.std.proofs.lemmas.List.Concat.{flat_map-append}
@@ -13,7 +13,7 @@ use Rattle.bstr.proofs.lemmas.MatchListLemmas.{matches-list, rmatches-list}
 use Rattle.bstr.proofs.lemmas.LengthLemmas.{length-rsplit_at}
 use Rattle.pybuf_search.specs.Parts.{split_parts, rsplit_parts, around, around_last, middle, partition_parts, rpartition_parts}
 
--- a first part of a list in two
+-- a front that is cut in two
 take-parts : {X : Type 0} (i j : ℕ) (xs : List X) → i ≤ j → j ≤ length xs → take i xs ++ take (j - i) (drop i xs) ≡ take j xs
 take-parts i j xs le fits =
     let shorter : take i (take j xs) ≡ take i xs = take-take i j xs le in
@@ -22,11 +22,11 @@ take-parts i j xs le fits =
     sym (ap (λ l. l ++ take (j - i) (drop i xs)) shorter) ∙ sym (ap (λ l. take i (take j xs) ++ l) rest) ∙ take-append-drop i (take j xs)
 
 module _ (separator : List ℕ) where
-  -- parts after a first one
+  -- the parts after a first part
   joined-cons : (part first : List ℕ) (parts : List (List ℕ)) → joined separator (part ∷ first ∷ parts) ≡ part ++ (separator ++ joined separator (first ∷ parts))
   joined-cons part first parts = ap (λ l. part ++ l) (append_assoc separator first (flat_map (λ it. separator ++ it) parts))
 
-  -- a part after the others
+  -- one more part behind the others
   joined-push : (parts : List (List ℕ)) (part : List ℕ) → 0 < length parts → joined separator (parts ++ part ∷ []) ≡ joined separator parts ++ (separator ++ part)
   joined-push [] part some = absurd (omega arith)
   joined-push (first ∷ parts) part some =
@@ -45,7 +45,7 @@ module _ (separator : List ℕ) where
     joined-split_at last place (next ∷ places) =
         joined-cons (part last place bytes) (part (place + length separator) next bytes) (split_at bytes (length separator) (next + length separator) places)
 
-    -- what is cut at the first matches of a list of them
+    -- the parts that are cut at the first matches of a list
     split-back : (n last : ℕ) (places : List ℕ) → MatchList bytes (length separator) last places → All (OccursAt bytes separator) places
         → joined separator (split_at bytes (length separator) last (take n places)) ≡ drop last bytes
     unfolding split_at MatchList
@@ -109,7 +109,7 @@ module _ (separator bytes : List ℕ) where
   abbrev in_order : List ℕ → Bool → List ℕ → List ℕ
   in_order front found back = concat (front ∷ middle separator found ∷ back ∷ [])
 
-  -- three parts at a place where the separator stands
+  -- the three parts at a place where the separator stands
   at_match : (place : ℕ) → OccursAt bytes separator place → in_order (take place bytes) true (drop (place + length separator) bytes) ≡ bytes
   at_match place stands =
       ap (λ l. take place bytes ++ (separator ++ l)) (append-nil (drop (place + length separator) bytes))

@@ -1,4 +1,4 @@
--- The lists of matches that the searches give are the least and the greatest places, one after another.
+-- The searches give lists of matches that are the least and the greatest places, one after another.
 use Rattle.std.proofs.Common.{◌≡◌, ℕ, zero, suc, ◌+◌, ◌-◌, ◌≤◌, List, [], ◌∷◌, length, Decides, subst, sym, arith, le_refl, ⊎_elim, ◌∙◌}
 use Rattle.std.proofs.lemmas.Bool.{cases_Bool, cases_eq, cases_lt, cond-true, cond-false, false≢true}
 use Rattle.memchr.specs.Find.{OccursAt, occurs_at, match_len, matches_from, rmatches_from}
@@ -10,7 +10,7 @@ pub Decides-occurs_at : (bytes needle : List ℕ) (k : ℕ) → Decides (occurs_
 Decides-occurs_at bytes needle k = (OccursAt-true bytes needle k, occurs_at-true bytes needle k)
 
 module _ (bytes needle : List ℕ) where
-  -- one place earlier, where the needle does not stand
+  -- The search begins one place earlier, and the needle doesn't stand there.
   earlier : (from : ℕ) (places : List ℕ) → ¬ OccursAt bytes needle from → AreFromLeft bytes needle (from + 1) places → AreFromLeft bytes needle from places
   unfolding AreFromLeft
   earlier from [] none h = λ k low. ⊎_elim (λ e. subst (λ p. ¬ OccursAt bytes needle p) (sym e) none) (λ ne. h k (omega arith)) (cases_eq k from)
@@ -52,7 +52,7 @@ module _ (bytes needle : List ℕ) where
       let zeros : 0 + 0 ≡ 0 = omega arith in
       subst (λ from. AreFromLeft bytes needle from (matches_from_left bytes needle)) zeros (from_left (length bytes + 1 - 0) 0 0 (omega arith))
 
-  -- a later end, where the needle stands at no place from the old one on
+  -- The search ends later, and the needle stands nowhere from the old end on.
   later : (end end' : ℕ) (places : List ℕ) → end ≤ end' → ((k : ℕ) → end ≤ k → ¬ OccursAt bytes needle k) → AreFromRight bytes needle end places → AreFromRight bytes needle end' places
   unfolding AreFromRight
   later end end' [] le none h = λ k below. ⊎_elim (λ low. h k low) (λ high. none k high) (cases_lt k end)
@@ -67,7 +67,7 @@ module _ (bytes needle : List ℕ) where
         h.1,
       )
 
-  -- the same of one place more, where the needle does not stand
+  -- the same for an end that is one place later
   one_later : (end : ℕ) (places : List ℕ) → ¬ OccursAt bytes needle end → AreFromRight bytes needle end places → AreFromRight bytes needle (suc end) places
   unfolding AreFromRight
   one_later end [] none h = λ k below. ⊎_elim (λ e. subst (λ p. ¬ OccursAt bytes needle p) (sym e) none) (λ ne. h k (omega arith)) (cases_eq k end)

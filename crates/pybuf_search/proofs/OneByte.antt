@@ -6,7 +6,7 @@ use Rattle.memchr.specs.Find.{OccursAt, occurs_at, is_byte, places_from, places,
 use Rattle.pybuf_search.specs.Places.{number_of_matches}
 use Rattle.pybuf_search.proofs.MatchLaws.{Decides-occurs_at}
 
--- one byte stands where the byte of that place is it
+-- A single byte stands at a place if that place has this byte.
 stands_by : (bytes : List ℕ) (b i : ℕ) → i < length bytes → slice_index bytes i ≡ b → OccursAt bytes (b ∷ []) i
 stands_by bytes b i inside same = record {
   fits = omega arith;

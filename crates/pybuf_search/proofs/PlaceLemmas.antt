@@ -1,4 +1,5 @@
--- A needle that is found fits where it stands, and one as long as the bytes stands there only as all of them.
+-- A needle that is found fits in where it stands. If it is as long as the bytes, it can stand there only as all
+-- of them.
 use Rattle.std.proofs.Common.{◌≡◌, refl, sym, ap, ◌∙◌, arith, eq-eqb, true, ◌==◌, ◌&&◌, [], ◌∷◌, ℕ, ◌+◌, ◌≤◌, List, length, slice_index, Option, Some, None}
 use Rattle.std.specs.Cmp.Lexicographic.{pointwise}
 use Rattle.std.proofs.lemmas.List.{ext_get_or}

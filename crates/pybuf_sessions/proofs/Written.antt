@@ -214,7 +214,7 @@ value_comes named all n (value.Slices slices) h k =
 
 -- ---- arguments
 
--- Words with a blank before each stand behind a piece, and so does nothing.
+-- Words with a blank before each may stand behind a piece, and so may nothing.
 rest_behind : (all : List (List ℕ)) (rest : List ℕ) → IsBehind rest → IsBehind (rest_text all ++ rest)
 rest_behind [] rest h = h
 rest_behind (word ∷ more) rest h = refl

@@ -1,4 +1,4 @@
--- The table of the values of digits is right at each byte.
+-- The table of the values of digits is right for each byte.
 use Rattle.std.proofs.Common.{◌≡◌, refl, sym, ap, ◌∙◌, ℕ, ◌<◌, List, [], ◌∷◌, Option, Some, None, Bool, true, false, get_or, slice_index, ◌==◌, arith}
 use Rattle.std.specs.List.{list_all, range_with_len}
 use Rattle.std.specs.Prelude.{nat_lt, not, ◌&&◌}
@@ -64,7 +64,7 @@ not_both true false apart is = refl
 not_both true true apart is = cc apart
 not_both false other apart is = cc is
 
--- a digit is no blank
+-- A digit is no blank.
 pub printed_digit : (digit : ℕ) → digit < 256 → slice_index values digit < 16 → is_blank digit ≡ false
 printed_digit digit small below =
     let place : get_or (range_with_len 0 256) digit 0 ≡ digit = get_or-range_with_len 0 256 digit 0 small ∙ omega arith in

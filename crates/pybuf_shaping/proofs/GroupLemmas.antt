@@ -1,4 +1,4 @@
--- Groups of bytes: how long their text is, and what they are counted from.
+-- Groups of bytes: how long their text is, and from which end they are counted.
 use Rattle.std.proofs.Common.{◌≡◌, ℕ, ◌+◌, ◌-◌, ◌*◌, ◌<◌, ◌≤◌, zero, suc, List, [], ◌∷◌, ◌++◌, length, take, drop, refl, ap, sym, ◌∙◌, subst, arith, min, true, false, ℤ, pos, negsuc, ◌≢◌, Ok, nat_abs}
 use Rattle.std.specs.Int.Signed.{lt_z}
 use Rattle.std.proofs.lemmas.Bool.{false≢true, lt-ltb}
@@ -19,7 +19,7 @@ use Rattle.hex.proofs.HexLemmas.{length-encode_with, IsAscii-encode_with}
 use Rattle.pybuf_shaping.specs.Laws.{AreFromRight, AreFromLeft}
 use Rattle.pybuf_shaping.specs.Digits.{groups_of, further, first_size, behind, separated, groups_from_left, groups_from_right, separator_in, text_by_groups}
 
--- ---- a group more
+-- ---- one more group
 
 pub one_more : (separator size n m room : ℕ) (rest out : List ℕ) → n ≡ suc m → room ≡ min size (length rest) →
     ((out ++ separator ∷ []) ++ encode_lower (take room rest)) ++ flat_map (behind separator) (groups_of size m (drop room rest))
@@ -52,7 +52,7 @@ length_of_text separator first size count bytes short =
     let both = length-append (encode_lower (take first bytes)) (flat_map (behind separator) (groups_of size count (drop first bytes))) in
     omega (arith, rest, front, both, length-take first bytes, length-drop first bytes)
 
--- ---- its bytes
+-- ---- the bytes of the text
 
 ascii_by_test : (text : List ℕ) → list_all (λ b. nat_lt b 128) text ≡ true → IsAscii text
 ascii_by_test [] h k = omega arith
@@ -77,7 +77,7 @@ text_utf8 separator (group ∷ groups) small =
     IsUtf8-from_ascii (separated separator (group ∷ groups))
     (IsAscii-append (encode_lower group) (flat_map (behind separator) groups) (digits_ascii group) (groups_ascii separator groups small))
 
--- ---- what they are counted from
+-- ---- from which end the groups are counted
 
 -- all groups but the last, and the last
 abbrev pub split_last : ℕ → ℕ → List ℕ → Type 0
@@ -106,7 +106,7 @@ full_groups size (suc count) rest long =
     let more : count * size ≤ length (drop size rest) = omega (arith, long, suc-mul count size, length-drop size rest) in
     All-cons (λ group. length group ≡ size) (take size rest) (groups_of size count (drop size rest)) here (full_groups size count (drop size rest) more)
 
--- as many further groups as there are lie within the bytes but for one, and one more group covers them
+-- All further groups but one byte's lie within the bytes, and one more group covers them.
 pub within : (size : ℕ) (bytes : List ℕ) → further size bytes * size ≤ length bytes - 1
 within size bytes = omega (arith, div-add-mod' (length bytes - 1) size)
 

@@ -1,4 +1,4 @@
--- Bytes that are filled up to a width stand whole between fill bytes, and have the width.
+-- Bytes that are filled up to a width stand unchanged between fill bytes, and the whole has that width.
 use Rattle.std.proofs.Common.{◌≡◌, ℕ, ◌+◌, ◌-◌, ◌/◌, ◌%◌, ◌≤◌, Bool, true, false, cond, eqb, ltb, ◌&&◌, ◌||◌, ℤ, pos, negsuc, List, [], ◌∷◌, ◌++◌, length, take, drop, replicate, refl, ap, sym, ◌∙◌, arith, take-append-drop}
 use Rattle.std.specs.Int.{int_max}
 use Rattle.std.proofs.lemmas.Bool.{cond_both, and_parts, eqb-true, ltb-true, ltb-false}
@@ -7,7 +7,7 @@ use Rattle.std.proofs.lemmas.List.Elements.{All-replicate}
 use Rattle.pybuf_shaping.specs.Padding.{missing, padded, left_share, sign_length, zero_filled}
 use Rattle.pybuf_shaping.specs.Laws.{AreFilledUp, AreZeroFilled, PaddingKeepsBytes, sign_of}
 
--- with so many bytes as are missing, the length is the greater of the width and the length
+-- With the bytes that are missing, the length is the greater of the width and the length.
 reaches : (width : ℤ) (bytes : List ℕ) (total : ℕ) → total ≡ length bytes + missing width bytes → pos total ≡ int_max width (pos (length bytes))
 reaches (pos w) bytes total h =
     cond_both (ltb (length bytes) w) (pos w) (pos (length bytes)) (λ z. pos total ≡ z)
@@ -29,7 +29,7 @@ between width fill left right bytes h = record {
   ));
 }
 
--- the share on the left is no more than all, and as much as the rest, or one more or less
+-- The share on the left is at most all, and it is as much as the rest, or one more or less.
 shares : (width : ℤ) (count : ℕ) →
     (left_share width count ≤ count) × (left_share width count ≤ count - left_share width count + 1) × (count - left_share width count ≤ left_share width count + 1)
 shares (pos w) count =
@@ -38,7 +38,7 @@ shares (pos w) count =
     (λ no. (omega arith, omega arith, omega arith))
 shares (negsuc w) count = (omega arith, omega arith, omega arith)
 
--- the first byte is the sign, where it is one
+-- The first byte is the sign, if it is one.
 by_sign : (signed : Bool) (b : ℕ) (bytes : List ℕ) → take (cond signed 1 0) (b ∷ bytes) ≡ cond signed (b ∷ []) []
 by_sign true b bytes = refl
 by_sign false b bytes = refl

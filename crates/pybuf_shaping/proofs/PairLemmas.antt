@@ -1,4 +1,4 @@
--- Texts that are read are pairs of digits with blanks around them.
+-- A text that can be read has pairs of digits with blanks around them.
 use Rattle.std.proofs.Common.{◌≡◌, ◌⊎◌, inl, inr, refl, sym, ap, ap₂, ◌∙◌, ℕ, ◌+◌, ◌*◌, List, [], ◌∷◌, ◌++◌, map, Result, Ok, Err, Option, Some, None, Bool, true, false, cond, subst, append_assoc, append-nil, arith}
 use Rattle.std.specs.Prelude.{◌↔◌, IsTrue, Contains, is_some}
 use Rattle.std.specs.List.{All, flat_map}
@@ -15,7 +15,7 @@ use Rattle.pybuf_shaping.specs.Digits.{byte_of_digits, bytes_of_hex}
 use Rattle.pybuf_shaping.specs.HexPairs.{Pair, IsPair, text_of_pair, value_or_0, byte_of_pair, SpellsBytes, LacksDigit, BreaksPair, IsBroken, HexIsReadInPairs}
 use Rattle.pybuf_shaping.proofs.ReadLemmas.{bytes_before, nothing_before, skip, pair, bad}
 
--- which bytes are blanks
+-- These bytes are blanks.
 abbrev pub NamesBlanks : Type 0
 NamesBlanks = (b : ℕ) → IsTrue (is_blank b) ↔ Contains the_blanks b
 
@@ -29,22 +29,22 @@ is_printed names b none = by_test (is_blank b) refl
 printed_is : NamesBlanks → (b : ℕ) → is_blank b ≡ false → ¬ Contains the_blanks b
 printed_is names b h some = false≢true (sym h ∙ (names b).1 some)
 
--- the byte of two digits
+-- the byte that two digits spell
 abbrev pub byte_of : ℕ → ℕ → ℕ
 byte_of c d = value_or_0 (hex_digit_value c) * 16 + value_or_0 (hex_digit_value d)
 
--- what is answered
+-- the answer when all is read
 abbrev pub done : List ℕ → Result (List ℕ) Fault
 done bytes = Ok bytes
 
 abbrev pub denied : Fault → Result (List ℕ) Fault
 denied f = Err f
 
--- what a last byte alone is read as
+-- what a last byte by itself is read as
 abbrev pub alone : Bool → Result (List ℕ) Fault
 alone blank = cond blank (Ok []) (Err fault.Value)
 
--- ---- one byte more in front, or one pair
+-- ---- one more byte or one more pair in front
 
 spells_nothing : SpellsBytes [] []
 spells_nothing = record { pairs = []; behind = []; whole = refl; are = All-nil IsPair; blank = All-nil (Contains the_blanks); values = refl }
@@ -86,9 +86,9 @@ pair_in_front c d text bytes high low spells =
       values = ap (λ (bs : List ℕ). byte_of c d ∷ bs) spells.values;
     }
 
--- ---- what is read is spelled
+-- ---- a text that can be read spells its bytes
 
--- the steps of reading two digits and what stands behind them
+-- reading two digits, and then what stands behind them
 abbrev pub behind_digits : Option ℕ → Option ℕ → Result (List ℕ) Fault → Result (List ℕ) Fault
 behind_digits high low rest = byte_of_digits high low >>= (λ byte. rest >>= (λ bytes. Ok (byte ∷ bytes)))
 
@@ -122,14 +122,14 @@ spelled names (c ∷ d ∷ text) bytes e = by_blank (spelled names (d ∷ text))
     by_blank next later true h e = blank_in_front c (d ∷ text) bytes ((names c).0 h) (next bytes e)
     by_blank next later false h e = spelled-pair c d text bytes later e
 
--- ---- what is spelled is read
+-- ---- a text that spells bytes can be read
 
 blanks_skipped : NamesBlanks → (blanks text : List ℕ) → All (Contains the_blanks) blanks → bytes_of_hex (blanks ++ text) ≡ bytes_of_hex text
 blanks_skipped names [] text all = refl
 blanks_skipped names (b ∷ blanks) text all =
     skip b (blanks ++ text) ((names b).1 (All-head (Contains the_blanks) b blanks all)) ∙ blanks_skipped names blanks text (All-tail (Contains the_blanks) b blanks all)
 
--- a digit is no blank
+-- A digit is no blank.
 digit_printed : (c : ℕ) → is_hex_digit c ≡ true → is_blank c ≡ false
 digit_printed c h = grind (arith, nat_tests)
 
@@ -159,7 +159,7 @@ pairs_read names (first ∷ more) text are =
     ap bytes_of_hex (append_assoc (text_of_pair first) (flat_map text_of_pair more) text)
     ∙ pair_read names first (flat_map text_of_pair more ++ text) (map byte_of_pair more) (bytes_of_hex text) (All-head IsPair first more are) (pairs_read names more text (All-tail IsPair first more are))
 
--- what stands behind a text that spells bytes is read behind them
+-- What stands behind a text that spells bytes is read behind those bytes.
 read_on : NamesBlanks → (text bytes rest : List ℕ) → SpellsBytes text bytes → bytes_of_hex (text ++ rest) ≡ bytes_before bytes (bytes_of_hex rest)
 read_on names text bytes rest spells =
     ap (λ (t : List ℕ). bytes_of_hex (t ++ rest)) (sym spells.whole)
@@ -170,7 +170,7 @@ read_on names text bytes rest spells =
 read : NamesBlanks → (text bytes : List ℕ) → SpellsBytes text bytes → bytes_of_hex text ≡ Ok bytes
 read names text bytes spells = ap bytes_of_hex (sym (append-nil text)) ∙ read_on names text bytes [] spells ∙ ap Ok (append-nil bytes)
 
--- ---- what is refused is broken
+-- ---- a text that is refused is broken
 
 broken_here : (text : List ℕ) → BreaksPair text → IsBroken text
 broken_here text breaks = record { front = []; rest = text; bytes = []; whole = refl; spells = spells_nothing; breaks = breaks }
@@ -239,7 +239,7 @@ is_broken names (c ∷ d ∷ text) f e = by_blank (is_broken names (d ∷ text))
     by_blank next later true h e = let found = next f e in (found.0, broken_behind_blank c (d ∷ text) ((names c).0 h) found.1)
     by_blank next later false h e = broken-pair names c d text f h later e
 
--- ---- what is broken is refused
+-- ---- a text that is broken is refused
 
 no_value : (c : ℕ) → is_hex_digit c ≡ false → hex_digit_value c ≡ None
 no_value c h = by_value (hex_digit_value c) refl h

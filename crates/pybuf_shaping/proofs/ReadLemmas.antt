@@ -1,4 +1,4 @@
--- Digits that are read, a pair at a time.
+-- Digits that are read pair by pair.
 use Rattle.std.proofs.Common.{◌≡◌, refl, sym, ap, ◌∙◌, ℕ, ◌<◌, ◌+◌, ◌*◌, ◌/◌, ◌%◌, List, [], ◌∷◌, ◌++◌, Result, Ok, Err, Some, None, Bool, true, false, not, cond, length, get_or, take, drop, eq-eqb, slice_index, inl, inr, ◌==◌, arith}
 use Rattle.std.specs.Prelude.{is_some}
 use Rattle.std.proofs.lemmas.Bool.{cases_eq, false≢true, lt-ltb, le-ltb}
@@ -16,41 +16,41 @@ use Rattle.pybuf_letters.specs.Classes.{is_blank}
 use Rattle.pybuf_shaping.specs.Digits.{byte_of_digits, bytes_of_hex, behind, value_below_16}
 use Rattle.pybuf_shaping.specs.Laws.{DigitsReadBack, SeparatorsLeftOut, without}
 
--- bytes that stand before those of what is left of a text
+-- bytes in front of those that what is left of a text gives
 abbrev pub bytes_before : List ℕ → Result (List ℕ) Fault → Result (List ℕ) Fault
 bytes_before bytes (Ok rest) = Ok (bytes ++ rest)
 bytes_before bytes (Err f) = Err f
 
--- no bytes before them
+-- no bytes in front of them
 pub nothing_before : (rest : Result (List ℕ) Fault) → bytes_before [] rest ≡ rest
 nothing_before (Ok rest) = refl
 nothing_before (Err f) = refl
 
--- a byte, and then the others
+-- one byte, and then the others
 pub one_more : (bytes : List ℕ) (byte : ℕ) (rest : Result (List ℕ) Fault) → bytes_before bytes (rest >>= (λ others. Ok (byte ∷ others))) ≡ bytes_before (bytes ++ byte ∷ []) rest
 one_more bytes byte (Ok rest) = ap Ok (sym (append_assoc bytes (byte ∷ []) rest))
 one_more bytes byte (Err f) = refl
 
--- a blank in front
+-- The text has a blank in front.
 pub skip : (c : ℕ) (text : List ℕ) → is_blank c ≡ true → bytes_of_hex (c ∷ text) ≡ bytes_of_hex text
 skip c [] blank = ap (λ t. cond t (Ok []) (Err fault.Value)) blank
 skip c (d ∷ text) blank = ap (λ t. cond t (bytes_of_hex (d ∷ text)) (byte_of_digits (hex_digit_value c) (hex_digit_value d) >>= (λ byte. bytes_of_hex text >>= (λ bytes. Ok (byte ∷ bytes))))) blank
 
--- a pair in front
+-- The text has a pair in front.
 pub pair : (c d byte : ℕ) (text : List ℕ) → is_blank c ≡ false → byte_of_digits (hex_digit_value c) (hex_digit_value d) ≡ Ok byte →
     bytes_of_hex (c ∷ d ∷ text) ≡ (bytes_of_hex text >>= (λ bytes. Ok (byte ∷ bytes)))
 pair c d byte text printed digits =
     ap (λ t. cond t (bytes_of_hex (d ∷ text)) (byte_of_digits (hex_digit_value c) (hex_digit_value d) >>= (λ byte. bytes_of_hex text >>= (λ bytes. Ok (byte ∷ bytes))))) printed
     ∙ ap (λ r. r >>= (λ byte. bytes_of_hex text >>= (λ bytes. Ok (byte ∷ bytes)))) digits
 
--- no pair in front
+-- The text has no pair in front.
 pub bad : (c : ℕ) (text : List ℕ) → is_blank c ≡ false → hex_digit_value c ≡ None → bytes_of_hex (c ∷ text) ≡ Err fault.Value
 bad c [] printed none = ap (λ t. cond t (Ok []) (Err fault.Value)) printed
 bad c (d ∷ text) printed none =
     ap (λ t. cond t (bytes_of_hex (d ∷ text)) (byte_of_digits (hex_digit_value c) (hex_digit_value d) >>= (λ byte. bytes_of_hex text >>= (λ bytes. Ok (byte ∷ bytes))))) printed
     ∙ ap (λ h. byte_of_digits h (hex_digit_value d) >>= (λ byte. bytes_of_hex text >>= (λ bytes. Ok (byte ∷ bytes)))) none
 
--- a number below 16 is the value of a digit, and no other is
+-- A number below 16 is the value of a digit, and no other number is.
 value_kept : (n : ℕ) → n < 16 → value_below_16 n ≡ Some n
 value_kept n small = ap (λ t. cond t (Some n) None) (lt-ltb n 16 small)
 
@@ -72,15 +72,15 @@ pair_step text bytes at byte inside printed digits =
     ∙ (one_more bytes byte (bytes_of_hex (drop (at + 1 + 1) text))
     ∙ ap (λ n. bytes_before (bytes ++ byte ∷ []) (bytes_of_hex (drop n text))) same)))
 
--- what is neither a blank nor a digit is refused
+-- A byte that is neither a blank nor a digit is refused.
 pub bad_step : (text : List ℕ) (at : ℕ) → at < length text → is_blank (get_or text at 0) ≡ false → hex_digit_value (get_or text at 0) ≡ None → bytes_of_hex (drop at text) ≡ Err fault.Value
 bad_step text at inside printed none = ap bytes_of_hex (drop_more text at 0 inside) ∙ bad (get_or text at 0) (drop (at + 1) text) printed none
 
--- a refusal behind some bytes is one of all
+-- A refusal behind some bytes is a refusal of the whole text.
 pub refused_behind : (bytes : List ℕ) (rest whole : Result (List ℕ) Fault) → bytes_before bytes rest ≡ whole → rest ≡ Err fault.Value → whole ≡ Err fault.Value
 refused_behind bytes rest whole same refused = sym same ∙ ap (bytes_before bytes) refused
 
--- two digits below 16 are a byte
+-- Two digits whose values are below 16 spell a byte.
 pub byte_of_values : (c d high low : ℕ) → hex_digit_value c ≡ value_below_16 high → hex_digit_value d ≡ value_below_16 low → high < 16 → low < 16 → byte_of_digits (hex_digit_value c) (hex_digit_value d) ≡ Ok (high * 16 + low)
 byte_of_values c d high low one other small less =
     let first : hex_digit_value c ≡ Some high = one ∙ value_kept high small in
@@ -112,7 +112,7 @@ read_back (b ∷ bytes) all =
     pair (slice_index lower_digits (b / 16)) (slice_index lower_digits (b % 16)) b (encode_lower bytes) (no_blank (b / 16) (omega arith)) (digits_of b small)
     ∙ ap (λ r. r >>= (λ others. Ok (b ∷ others))) (read_back bytes (All-tail (λ b. b < 256) b bytes all))
 
--- ---- separators left out
+-- ---- separators that are left out
 
 nothing : [] ≡ encode_lower []
 unfolding encode_with

@@ -1,4 +1,4 @@
--- Bytes with others in place of matches: as what stands between the matches, and how long they are.
+-- Bytes in which matches are replaced: they are what stands between the matches, and how long they are.
 use Rattle.std.proofs.Common.{◌≡◌, ℕ, zero, suc, ◌+◌, ◌-◌, ◌*◌, ◌^◌, ◌<◌, ◌≤◌, ℤ, pos, negsuc, List, [], ◌∷◌, ◌++◌, length, take, drop, get_or, refl, ap, sym, ◌∙◌, arith}
 use Rattle.std.specs.List.{flat_map}
 use Rattle.std.proofs.Math.Nat.{suc-mul, mul-le-mul_left}
@@ -13,7 +13,7 @@ use Rattle.pybuf_search.specs.Parts.{cuts}
 use Rattle.pybuf_shaping.specs.Replacing.{replaced, limit_of}
 
 module _ (bytes new : List ℕ) (width : ℕ) where
-  -- what stands between two matches, and the rest behind the others
+  -- what stands between two matches, and the rest behind the other matches
   joined-split_at : (last place : ℕ) (places : List ℕ) →
       joined new (split_at bytes width last (place ∷ places)) ≡ part last place bytes ++ (new ++ joined new (split_at bytes width (place + width) places))
   unfolding split_at

@@ -1,4 +1,4 @@
--- What one more byte adds to a text with its tabs as spaces.
+-- What one more byte adds to a text whose tabs become spaces.
 use Rattle.std.proofs.Common.{◌≡◌, ◌≢◌, ℕ, zero, suc, ◌+◌, ◌-◌, ◌*◌, ◌/◌, ◌%◌, ◌<◌, ◌≤◌, Bool, true, false, not, cond, eqb, ℤ, pos, negsuc, List, [], ◌∷◌, ◌++◌, reverse, replicate, refl, ap, sym, ◌∙◌, arith, ⊎_elim, append_assoc}
 use Rattle.std.specs.Prelude.{◌≤ℤ◌}
 use Rattle.std.specs.List.{prefix_len}
@@ -10,17 +10,17 @@ use Rattle.pybuf_letters.specs.Lines.{is_line_break}
 use Rattle.pybuf_shaping.specs.Tabs.{spaces_at, column_behind, expanded_from, tab_size}
 use Rattle.pybuf_shaping.specs.Laws.{column_of, LeadsToStop, TabsLeadToStops}
 
--- the column behind a text that stands from a column on
+-- the column behind a text that begins at a column
 abbrev column_after : ℕ → List ℕ → ℕ
 column_after column [] = column
 column_after column (b ∷ text) = column_after (column_behind column b) text
 
--- each space is one column
+-- Each space takes one column.
 after_spaces : (count column : ℕ) (rest : List ℕ) → column_after column (replicate count 32 ++ rest) ≡ column_after (column + count) rest
 after_spaces zero column rest = ap (λ c. column_after c rest) (omega arith)
 after_spaces (suc count) column rest = after_spaces count (column + 1) rest ∙ ap (λ c. column_after c rest) (omega arith)
 
--- the rest of a text stands from the column behind what its front became
+-- The rest of a text begins at the column behind what its front became.
 in_two : (size column : ℕ) (text rest : List ℕ) →
     expanded_from size column (text ++ rest) ≡ expanded_from size column text ++ expanded_from size (column_after column (expanded_from size column text)) rest
 in_two size column [] rest = refl
@@ -76,7 +76,7 @@ one_other : (size : ℕ) (text : List ℕ) (b : ℕ) → b ≢ 9 → expanded_fr
 one_other size text b other =
     in_two size 0 text (b ∷ []) ∙ ap (λ l. expanded_from size 0 text ++ l) (cond-false (eqb b 9) _ _ (ne_eqb b 9 other))
 
--- the spaces at a column lead to the next multiple of the size
+-- The spaces at a column lead to the next multiple of the size.
 to_stop : (size column : ℕ) → 0 < size → (0 < spaces_at size column) × (spaces_at size column ≤ size) × ((column + spaces_at size column) % size ≡ 0)
 to_stop zero column some = absurd (omega arith)
 to_stop (suc size) column some =

@@ -1,4 +1,4 @@
--- No tab is left where tabs are spaces, and without one nothing changes.
+-- If tabs become spaces, no tab is left, and a text without tabs stays.
 use Rattle.std.proofs.Common.{◌≡◌, ℕ, ◌+◌, ◌==◌, ◌||◌, zero, suc, Bool, true, false, cond, List, [], ◌∷◌, ◌++◌, replicate, refl, ap, sym, ◌∙◌}
 use Rattle.std.proofs.lemmas.List.Folds.{list_any-append}
 use Rattle.std.proofs.lemmas.Bool.{false≢true}
@@ -9,7 +9,7 @@ by_cond : (test : Bool) (s t : List ℕ) (G : List ℕ → Type 0) → (test ≡
 by_cond true s t G held failed = held refl
 by_cond false s t G held failed = failed refl
 
--- neither of two holds
+-- Neither of the two holds.
 neither : (x y : Bool) → (x || y) ≡ false → (x ≡ false) × (y ≡ false)
 neither true y h = absurd (false≢true (sym h))
 neither false y h = (refl, h)

@@ -1,4 +1,4 @@
--- Tables of all bytes, and bytes mapped by them.
+-- Tables of all bytes, and bytes that are mapped by them.
 use Rattle.std.proofs.Common.{◌≡◌, ℕ, ◌+◌, ◌<◌, ◌==◌, Bool, true, false, not, cond, Ok, Err, List, [], ◌∷◌, ◌++◌, length, map, slice_index, get_or, set, take, drop, refl, ap, sym, ◌∙◌, arith}
 use Rattle.std.specs.List.{All, range_with_len, filter}
 use Rattle.std.specs.Prelude.{IfOk}
@@ -42,11 +42,11 @@ range_more n =
     sym (map-id (range_with_len 0 (n + 1))) ∙ (map-range_with_len_more (λ x. x) 0 n n (omega arith)
     ∙ ap (λ t. t ++ n ∷ []) (map-id (range_with_len 0 n)))
 
--- behind the ends of both strings, each byte is its own counterpart
+-- Behind the ends of both strings, each byte is its own counterpart.
 pub own_counterpart : (from to : List ℕ) (b : ℕ) → counterpart (drop (length from) from) to b ≡ b
 own_counterpart from to b = ap (λ t. counterpart t to b) (drop_all (length from) from (omega arith))
 
--- nothing is left out where nothing is to be dropped
+-- If nothing is to be dropped, nothing is left out.
 pub none_dropped : (bytes : List ℕ) → filter (λ b. not (is_among [] b)) bytes ≡ bytes
 none_dropped [] = refl
 none_dropped (b ∷ bytes) = ap (λ t. b ∷ t) (none_dropped bytes)
@@ -66,7 +66,7 @@ by_test false from to bytes all = tt
 pub each_once : (from to bytes : List ℕ) → EachOnce from to bytes
 each_once from to bytes all = by_test (length from == length to) from to bytes all
 
--- one more byte is mapped in its place
+-- One more byte is mapped in its place.
 pub one_mapped : (f : ℕ → ℕ) (old now : List ℕ) (i : ℕ) → i < length old → now ≡ map f (take i old) ++ drop i old →
     set now i (f (get_or now i 0)) ≡ map f (take (i + 1) old) ++ drop (i + 1) old
 one_mapped f old now i inside is =

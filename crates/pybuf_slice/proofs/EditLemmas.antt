@@ -1,4 +1,4 @@
--- What stays off an index list, place by place.
+-- What is left without the places of an index list, place by place.
 use Rattle.std.proofs.Common.{◌≡◌, ◌≢◌, ℕ, zero, suc, ◌+◌, ◌-◌, ◌*◌, ◌<◌, ◌≤◌, true, false, List, [], ◌∷◌, ◌++◌, length, refl, ap, sym, ◌∙◌, arith, inl, inr, ◌⊎◌, ℤ, pos, negsuc, take, drop, set, get_or, append-nil, length-take, length-drop, length-set, take-append-drop}
 use Rattle.std.specs.Prelude.{Bool, All, reverse, if◌then◌else◌, ◌==◌}
 use Rattle.std.specs.List.Sorted.{IsStrictlyIncreasing}
@@ -58,7 +58,7 @@ has_before (i ∷ r) low end q within h =
     let other : i ≢ q = omega (arith, head.0) in
     has_other i r q other ∙ has_before r low end q (All-tail (λ i. (low ≤ i) × (i < end)) i r within) h
 
--- ---- what is off a list
+-- ---- what is left without the indices of a list
 
 pub off_none : {X : Type 0} (items : List X) (place : ℕ) (indices : List ℕ) → ((q : ℕ) → place ≤ q → q < place + length items → has indices q ≡ false) → off_from place items indices ≡ items
 off_none [] place indices none = refl
@@ -101,7 +101,7 @@ off_remove {X} (x ∷ items) place (suc i) at e h =
 
 -- ---- a loop that closes up a range
 
--- one more place, which is deleted
+-- One more place is deleted.
 deleted_by : {X : Type 0} (kept items : List X) (p : ℕ) (indices : List ℕ) (d : X) → p < length items → has indices p ≡ true → kept ≡ elements_off (take p items) indices → kept ≡ elements_off (take (p + 1) items) indices
 deleted_by {X} kept items p indices d h on e =
     let long : 0 + length (take p items) ≡ p = omega (arith, length-take p items) in
@@ -116,7 +116,7 @@ pub off_deleted : {X : Type 0} (kept items : List X) (p : ℕ) (indices : List �
 off_deleted kept [] p indices h on e = absurd (omega arith)
 off_deleted kept (x ∷ items) p indices h on e = deleted_by kept (x ∷ items) p indices x h on e
 
--- one more place, which stays
+-- One more place stays.
 off_stays : {X : Type 0} (kept new items : List X) (p : ℕ) (indices : List ℕ) (x : X) → p < length items → has indices p ≡ false → kept ≡ elements_off (take p items) indices → new ≡ kept ++ x ∷ [] → x ≡ get_or items p x → new ≡ elements_off (take (p + 1) items) indices
 off_stays {X} kept new items p indices x h off e pushed is =
     let long : 0 + length (take p items) ≡ p = omega (arith, length-take p items) in
@@ -128,7 +128,7 @@ off_stays {X} kept new items p indices x h off e pushed is =
     ∙ sym (off_append (take p items) (get_or items p x ∷ []) 0 indices)
     ∙ ap (λ (xs : List X). elements_off xs indices) (sym (take_more items p x h))
 
--- all places of the range are past
+-- All places of the range are done.
 pub off_ended : {X : Type 0} (now items : List X) (k low end : ℕ) (indices : List ℕ) → end ≤ length items → All (λ i. (low ≤ i) × (i < end)) indices → take k now ≡ elements_off (take end items) indices → drop end now ≡ drop end items → replaced_range now k end [] ≡ elements_off items indices
 off_ended {X} now items k low end indices h within kept rest =
     let long : 0 + length (take end items) ≡ end = omega (arith, length-take end items) in
@@ -138,12 +138,12 @@ off_ended {X} now items k low end indices h within kept rest =
     ∙ sym (off_append (take end items) (drop end items) 0 indices)
     ∙ ap (λ (xs : List X). elements_off xs indices) (take-append-drop end items)
 
--- before the range nothing is off
+-- Before the range, no element is deleted.
 pub off_starts : {X : Type 0} (items : List X) (low end : ℕ) (indices : List ℕ) → low ≤ length items → All (λ i. (low ≤ i) × (i < end)) indices → take low items ≡ elements_off (take low items) indices
 off_starts items low end indices h within =
     sym (off_none (take low items) 0 indices (λ q over under. has_before indices low end q within (omega (arith, length-take low items))))
 
--- an element that changes places with one further on
+-- An element changes places with one further on.
 swap_take : {X : Type 0} (items : List X) (k p : ℕ) (d : X) → k ≤ p → p < length items → take (k + 1) (swap items k p) ≡ take k items ++ get_or items p d ∷ []
 swap_take [] k p d h inside = absurd (omega arith)
 swap_take {X} (x ∷ ys) k p d h inside =
@@ -301,7 +301,7 @@ off_places items low high ordered inside =
     (λ q under. has_run_not (high - low) low q (inl under))
     (λ q over. has_run_not (high - low) low q (inr (omega arith)))
 
--- as many places, of which the last is that of the range, begin at its first
+-- As many places, the last of which is the range's last, begin at the range's first.
 from_the_last : (low high : ℕ) → low ≤ high → rising (high - 1 - (high - low - 1) * 1) 1 (high - low) ≡ rising low 1 (high - low)
 from_the_last low high ordered =
     elim (cases_lt low high) [
@@ -313,7 +313,7 @@ from_the_last low high ordered =
           ap (λ count. rising (high - 1 - (high - low - 1) * 1) 1 count) empty ∙ sym (ap (λ count. rising low 1 count) empty)
     ]
 
--- a step of -1 picks the places of a range, the last first
+-- A step of -1 picks the places of a range, from the last to the first.
 run_by_less_one : (spans : EachSpan SpanPicksAre) (low high : ℕ) (step : ℤ) → step ≡ negsuc 0 → low ≤ high → picks_in_span low high step ≡ reverse (rising low 1 (high - low))
 run_by_less_one spans low high step less_one ordered =
     let run : picks_in_span low high (negsuc 0) ≡ reverse (rising (high - 1 - (how_many low high 1 - 1) * 1) 1 (how_many low high 1)) = (spans low high (negsuc 0) (down_moves 0)).run in
@@ -322,7 +322,7 @@ run_by_less_one spans low high step less_one ordered =
     ∙ ap (λ count. reverse (rising (high - 1 - (count - 1) * 1) 1 count)) (how_many_one low high)
     ∙ ap reverse (from_the_last low high ordered)
 
--- a step of 1, up or down, picks the whole range
+-- A step of 1, up or down, picks the whole range.
 pub off_range : {X : Type 0} (spans : EachSpan SpanPicksAre) (items : List X) (low high : ℕ) (step : ℤ) → (step ≡ pos 1) ⊎ (step ≡ negsuc 0) → low ≤ high → high ≤ length items → replaced_range items low high [] ≡ elements_off items (picks_in_span low high step)
 off_range spans items low high step (inl up) ordered inside =
     off_places items low high ordered inside ∙ ap (elements_off items) (sym (run_by_one spans low high step up))

@@ -1,10 +1,10 @@
--- Bytes behind room, in the vector that has both.
+-- Bytes behind room, and the vector that has both.
 use Rattle.std.proofs.Common.{◌≡◌, ℕ, ◌+◌, ◌-◌, ◌≤◌, List, ◌++◌, length, refl, ap, sym, ◌∙◌, arith, take, drop, length-take, length-drop, length-append}
 use Rattle.std.proofs.lemmas.List.{drop-take, drop-drop, drop_at, drop-append-le, take-append-le, length-take-le}
 use Rattle.std.specs.Prelude.{slice_range}
 use Rattle.pybuf_slice.specs.Edits.{replaced_range}
 
--- what is written behind the room, seen without the room
+-- what is written behind the room, without the room
 pub write_behind : {X : Type 0} → (i n : ℕ) (xs ws : List X) → length xs ≡ n → i ≤ n
     → drop i (take n ((take i xs ++ (ws ++ drop (length ws) (drop i xs))) ++ drop (length (take i xs ++ (ws ++ drop (length ws) (drop i xs)))) xs))
     ≡ take (length (drop i xs)) (ws ++ drop (length ws) (drop i xs))
@@ -22,7 +22,7 @@ write_behind i n xs ws e l =
     let enough : length rest ≤ length over = omega (arith, length-append ws (drop (length ws) rest), length-drop (length ws) rest) in
     ap (λ k. drop i (take k all)) (sym whole) ∙ drop-take i (n - i) all ∙ ap (take (n - i)) early ∙ ap (λ k. take k (over ++ drop (length long) xs)) (sym count) ∙ take-append-le (length rest) over (drop (length long) xs) enough
 
--- a range behind the room is replaced, seen without the room
+-- A range behind the room is replaced, and this is what is there without the room.
 pub replaced_behind : {X : Type 0} → (i start end : ℕ) (xs ys : List X) → i + start ≤ length xs
     → drop i (replaced_range xs (i + start) (i + end) ys) ≡ replaced_range (drop i xs) start end ys
 replaced_behind i start end xs ys l =
@@ -32,7 +32,7 @@ replaced_behind i start end xs ys l =
     ∙ ap (λ k. k ++ tail) (drop-take i start xs)
     ∙ ap (λ k. take start (drop i xs) ++ (ys ++ k)) (sym (drop-drop end i xs))
 
--- what is written from a place behind the room on, seen without the room
+-- what is written from a place behind the room on, without the room
 pub write_within : {X : Type 0} → (r s n : ℕ) (xs ws : List X) → length xs ≡ n → r + s ≤ n
     → drop r (take n ((take (r + s) xs ++ (ws ++ drop (length ws) (drop (r + s) xs))) ++ drop (length (take (r + s) xs ++ (ws ++ drop (length ws) (drop (r + s) xs)))) xs))
     ≡ take (length (drop r xs))
@@ -57,7 +57,7 @@ write_within r s n xs ws e l =
     ∙ take-append-le (length rest) under (drop (length long) xs) enough
     ∙ sym (take-append-le (length rest) under (drop (length under) rest) enough)
 
--- a range behind the room, seen without the room
+-- a range behind the room, without the room
 pub between_behind : {X : Type 0} → (r start end : ℕ) (xs : List X) → slice_range xs (r + start) (r + end) ≡ slice_range (drop r xs) start end
 between_behind r start end xs =
     let count : (r + end) - (r + start) ≡ end - start = omega arith in

@@ -1,4 +1,4 @@
--- As many elements in place of those of a slice keep the length.
+-- If as many elements replace those of a slice, the length stays.
 use Rattle.std.proofs.Common.{◌≡◌, ℕ, ◌-◌, ◌≤◌, Bool, true, false, true≢false, List, [], ◌∷◌, ◌++◌, length, take, drop, refl, ap, sym, ◌∙◌, arith, ℤ, pos, negsuc, length-take, length-drop, length-set, length-append}
 use Rattle.std.specs.Prelude.{slice_set, if◌then◌else◌}
 use Rattle.std.proofs.lemmas.Bool.{eqb-true}

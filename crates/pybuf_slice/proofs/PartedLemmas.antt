@@ -1,4 +1,4 @@
--- A slice parts a list in two.
+-- A slice divides a list into two parts.
 use Rattle.std.proofs.Common.{◌≡◌, ◌≢◌, ℕ, zero, suc, ◌+◌, ◌-◌, ◌*◌, ◌<◌, ◌≤◌, false, List, [], ◌∷◌, ◌++◌, length, reverse, ℤ, pos, negsuc, Option, None, Some, refl, ap, sym, ◌∙◌, subst, arith, inl, inr, append-nil}
 use Rattle.std.specs.Prelude.{Bool, All, slice_get}
 use Rattle.std.specs.List.{cons_option, filter_map}
@@ -109,7 +109,7 @@ read_reverse {X} items (i ∷ indices) =
 rising_from_zero : (count low t : ℕ) → IsRisingFrom 0 (rising low (suc t) count)
 rising_from_zero count low t = rising_lower (rising low (suc t) count) low 0 (omega arith) (rising_is count low t)
 
--- indices that rise
+-- The indices rise.
 parted_rising : {X : Type 0} (items : List X) (low high t : ℕ) (indices : List ℕ) → IsRisingFrom 0 indices → All (λ i. (low ≤ i) × (i < high)) indices → high ≤ length items
     → AreParted items (elements_at items indices) (elements_off items indices) (pos (suc t))
 parted_rising items low high t indices rises within inside = record {
@@ -119,7 +119,7 @@ parted_rising items low high t indices rises within inside = record {
   stay_are = off_unmarked 0 items indices;
 }
 
--- the same indices, the last first
+-- The same indices stand in reverse.
 parted_falling : {X : Type 0} (items : List X) (low high t : ℕ) (indices : List ℕ) → IsRisingFrom 0 indices → All (λ i. (low ≤ i) × (i < high)) (reverse indices) → high ≤ length items
     → AreParted items (elements_at items (reverse indices)) (elements_off items (reverse indices)) (negsuc t)
 parted_falling {X} items low high t indices rises within inside =

@@ -1,4 +1,4 @@
--- Reading by indices, and what is read at those of a span.
+-- Reads by indices, and what is read at the indices of a span.
 use Rattle.std.proofs.Common.{◌≡◌, ◌≢◌, ℕ, zero, suc, ◌+◌, ◌-◌, ◌/◌, ◌^◌, ◌<◌, ◌≤◌, Bool, true, false, List, [], ◌∷◌, ◌++◌, length, ℤ, pos, negsuc, refl, ap, sym, ◌∙◌, arith, inl, inr, Option, Some, get_or, take, drop, append_assoc, of_z}
 use Rattle.std.specs.Prelude.{FitsSigned, slice_get, slice_range, All}
 use Rattle.std.specs.Int.{w64}
@@ -20,7 +20,7 @@ up_moves t = λ e. omega (arith, ints, e)
 pub down_moves : (t : ℕ) → negsuc t ≢ pos 0
 down_moves t = λ e. omega (arith, ints, e)
 
--- what lies below the end of a span is a place in the sequence
+-- What lies below the end of a span is a place in the sequence.
 pub below_end : (n low high : ℕ) (indices : List ℕ) → high ≤ n → All (λ i. (low ≤ i) × (i < high)) indices → All (λ i. i < n) indices
 below_end n low high indices inside within = All-weaker (λ i. (low ≤ i) × (i < high)) (λ i. i < n) (λ i p. omega (arith, p.1, inside)) indices within
 
@@ -44,7 +44,7 @@ how_many_one low high =
       | inr over ↦ rw (how_many_none low high 1 over) (omega arith)
     ]
 
--- it picks the places of the span, in order
+-- A step of 1 picks the places of the span, in order.
 pub run_by_one : (spans : EachSpan SpanPicksAre) (low high : ℕ) (step : ℤ) → step ≡ pos 1 → picks_in_span low high step ≡ rising low 1 (high - low)
 run_by_one spans low high step one =
     let run : picks_in_span low high (pos 1) ≡ rising low 1 (how_many low high 1) = (spans low high (pos 1) (up_moves 0)).run in
@@ -64,7 +64,7 @@ one_from_bits z fits e = omega (arith, ints, e)
 pub less_one_from_bits : (z : ℤ) → FitsSigned w64 z → of_z w64 z ≡ 2 ^ 64 - 1 → z ≡ negsuc 0
 less_one_from_bits z fits e = omega (arith, ints, e)
 
--- ---- reading
+-- ---- reads
 
 pub slice_get_read : {X : Type 0} (xs : List X) (i : ℕ) (x : X) → i < length xs → x ≡ get_or xs i x → slice_get xs i ≡ Some x
 slice_get_read [] i x h e = absurd (omega arith)
@@ -94,7 +94,7 @@ elements_rising {X} items (suc k) low h =
     ∙ ap (λ (xs : List X). s.0 ∷ xs) (ap (λ n. elements_at items (rising n 1 k)) next ∙ elements_rising items k (suc low) (omega arith))
     ∙ sym (ap (take (suc k)) s.2)
 
--- a step of 1 reads a range
+-- A step of 1 reads a range.
 pub elements_by_one : {X : Type 0} (spans : EachSpan SpanPicksAre) (items : List X) (low high : ℕ) (step : ℤ) → step ≡ pos 1 → low ≤ high → high ≤ length items → elements_at items (picks_in_span low high step) ≡ slice_range items low high
 elements_by_one spans items low high step one ordered inside =
     ap (elements_at items) (run_by_one spans low high step one) ∙ elements_rising items (high - low) low (omega arith)

@@ -1,10 +1,10 @@
--- What it costs to add bytes behind free room.
+-- What it costs to add bytes if there is free room in front of them.
 use Rattle.std.proofs.Common.{◌≡◌, ℕ, Bool, true, false, List, ◌++◌, length, refl, inl, inr, arith, length-append}
 use Rattle.std.specs.Prelude.{nat_lt, if◌then◌else◌}
 use Rattle.std.proofs.lemmas.Bool.{ltb-true, ltb-false}
 use Rattle.pybuf_slice.specs.FrontContent.{FrontContent, IsPaidByRoom, AddingIsPaidByRoom}
 
--- so it is whether the bytes are moved or not
+-- This holds whether the bytes are moved or not.
 paid_by : (f : FrontContent) (added : List ℕ) (b : Bool) → nat_lt f.room (length f.items) ≡ b
     → IsPaidByRoom f (record { items = f.items ++ added; room = if b then f.room else 0 }) (if b then 0 else length f.items)
 paid_by f added true test =

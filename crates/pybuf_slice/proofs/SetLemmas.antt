@@ -1,4 +1,4 @@
--- Elements in place of those of a slice.
+-- Elements that replace those of a slice.
 use Rattle.std.proofs.Common.{◌≡◌, ◌≢◌, ℕ, zero, suc, ◌+◌, ◌-◌, ◌<◌, ◌≤◌, Bool, true, false, List, [], ◌∷◌, ◌++◌, length, take, drop, refl, ap, sym, ◌∙◌, subst, arith, inl, inr, ℤ, pos, negsuc, Option, None, Some, get_or, append_assoc, take-append-drop, length-take, length-set}
 use Rattle.std.specs.Prelude.{All, AllPairs, Contains, IsTrue, slice_get, slice_set, nat_abs, ◌+ℤ◌, if◌then◌else◌}
 use Rattle.std.specs.List.{cons_option}
@@ -41,7 +41,7 @@ stays (i ∷ indices) items (x ∷ others) j off =
     stays indices (slice_set items i x) others j (All-tail (λ k. k ≢ j) i indices off)
     ∙ get_set_other items i j x (All-head (λ k. k ≢ j) i indices off)
 
--- indices of which no two are the same
+-- No two indices are the same.
 pub record AreApart (indices : List ℕ) : Type 0 where
   pub apart : AllPairs (λ i j. i ≢ j) indices
 
@@ -65,7 +65,7 @@ read_set {X} (i ∷ indices) items (x ∷ others) apart inside count =
     ap (λ (o : Option X). cons_option o (elements_at new indices)) first
     ∙ ap (λ (xs : List X). x ∷ xs) (read_set indices now others (rest_apart i indices apart) later (omega arith))
 
--- ---- a range in place of which as many stand
+-- ---- a range that as many elements replace
 
 replaced_is_set : {X : Type 0} (others items : List X) (low high : ℕ) → low ≤ high → high ≤ length items → high - low ≡ length others
     → replaced_range items low high others ≡ set_at items (rising low 1 (length others)) others
@@ -103,7 +103,7 @@ assigned_is_set {X} spans slices items parts others count =
 
 -- ---- as many elements
 
--- no index comes before itself
+-- No index comes before itself.
 apart_by_order : (i j : ℕ) (step : ℤ) → IsTrue (comes_before (pos i) (pos j) step) → i ≢ j
 apart_by_order i j (pos t) before = λ e. let less : i < j = grind (arith, nat_tests) in omega arith
 apart_by_order i j (negsuc t) before = λ e. let less : j < i = grind (arith, nat_tests) in omega arith
@@ -133,7 +133,7 @@ read_back {X} each spans slices items parts others moves count =
 
 -- ---- any number of elements, by a step of 1
 
--- a start is a place, or the length
+-- A start is a place, or the length.
 start_up : (n : ℕ) (part : Option ℤ) → (at : ℕ) × (start_of n part (pos 1) ≡ pos at)
 start_up n None = (0, refl)
 start_up n (Some (pos a)) = elim (cases_lt n a) [

@@ -22,7 +22,7 @@ zip_reverse {X} R (x ∷ xs) (y ∷ ys) all =
     (subst (λ (vs : List X). AllZip R (reverse xs ++ x ∷ []) vs) (sym (reverse-append (y ∷ []) ys))
     (zip_append R (reverse xs) (reverse ys) (x ∷ []) (y ∷ []) (zip_reverse R xs ys all.1) (all.0, tt)))
 
--- ---- a list so many times
+-- ---- a list that is repeated
 
 pub length-repeated_list : {X : Type 0} (n : ℕ) (items : List X) → length (repeated_list n items) ≡ n * length items
 length-repeated_list zero items = grind arith

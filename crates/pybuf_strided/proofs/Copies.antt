@@ -6,18 +6,18 @@ use Rattle.std.proofs.lemmas.List.{length-append, length-take-le, length-drop, a
 use Rattle.std.proofs.Math.Seq.{drop-append-add}
 use Rattle.pybuf_strided.specs.Apart.{place_of, with_piece, moved_at, pieces_at}
 
--- one more item is copied
+-- One more item is copied.
 pub next_moved : (bytes : List ℕ) (to : ℕ → ℕ) (source : List ℕ) (from : ℕ → ℕ) (size k : ℕ) (now more : List ℕ) → now ≡ moved_at bytes to source from size k
     → more ≡ with_piece now (to k) (take size (drop (from k) source)) → more ≡ moved_at bytes to source from size (k + 1)
 next_moved bytes to source from size k now more so_far copied =
     let next : suc k ≡ k + 1 = omega arith in
     copied ∙ ap (λ (xs : List ℕ). with_piece xs (to k) (take size (drop (from k) source))) so_far ∙ ap (moved_at bytes to source from size) next
 
--- the places of the item, as they were computed
+-- the places of the item, as the code computed them
 pub next_place : (bytes source : List ℕ) (size at there a t : ℕ) → at ≡ a → there ≡ t → with_piece bytes at (take size (drop there source)) ≡ with_piece bytes a (take size (drop t source))
 next_place bytes source size at there a t here from = ap₂ (λ (p q : ℕ). with_piece bytes p (take size (drop q source))) here from
 
--- ---- items of no bytes
+-- ---- items without bytes
 
 nothing_put : (bytes source : List ℕ) (place there : ℕ) → with_piece bytes place (take 0 (drop there source)) ≡ bytes
 nothing_put bytes source place there = grind (arith, common_steps)
@@ -36,7 +36,7 @@ piece_long source there (suc size) inside =
     let here : there + suc size ≤ length source = inside (let some : 0 < suc size = omega arith in some) in
     length-take-le (suc size) (drop there source) (let fits : suc size ≤ length (drop there source) = omega (arith, here, length-drop there source) in fits)
 
--- each of the first items lies inside the source
+-- Each of the first items lies inside the source.
 abbrev pub Lie : List ℕ → (ℕ → ℕ) → ℕ → ℕ → Type 0
 Lie source from size n = 0 < size → (k : ℕ) → k < n → from k + size ≤ length source
 
@@ -61,7 +61,7 @@ piece_after pieces item room a long =
     ap (λ (k : ℕ). drop (k + n) (pieces ++ drop a room)) (sym long) ∙ drop-append-add pieces (drop a room) n ∙ drop-drop n a room in
     ap₂ (λ (xs ys : List ℕ). xs ++ item ++ ys) (take_at pieces (drop a room) a long) rest
 
--- the first items are in the room, and behind them the room is as it was
+-- The first items are in the room, and the rest of the room is as it was.
 pub room_filled : (room source : List ℕ) (from : ℕ → ℕ) (size n : ℕ) → Lie source from size n
     → moved_at room (place_of false 0 size) source from size n ≡ pieces_at source from size n ++ drop (n * size) room
 room_filled room source from size zero all = let none : 0 * size ≡ 0 = zero-mul size in sym (ap (λ (k : ℕ). drop k room) none)
@@ -74,7 +74,7 @@ room_filled room source from size (suc n) all =
     ∙ piece_after pieces item room (n * size) (length-pieces source from size n (fewer source from size n all))
     ∙ ap (λ (k : ℕ). (pieces ++ item) ++ drop k room) whole
 
--- just the items are in a room of their length
+-- A room that is as long as the items has just these.
 pub all_filled : (room source : List ℕ) (from : ℕ → ℕ) (size n : ℕ) → Lie source from size n → length room ≡ size * n
     → moved_at room (place_of false 0 size) source from size n ≡ pieces_at source from size n
 all_filled room source from size n all long =
@@ -82,7 +82,7 @@ all_filled room source from size n all long =
     let nothing : drop (n * size) room ≡ [] = grind (arith, common_steps, past) in
     room_filled room source from size n all ∙ ap (λ (xs : List ℕ). pieces_at source from size n ++ xs) nothing ∙ append-nil (pieces_at source from size n)
 
--- the room for the items lies inside it
+-- The room for each item lies inside the whole room.
 pub room_inside : (size count len : ℕ) → len ≡ size * count → 0 < size → (k : ℕ) → k < count → place_of false 0 size k + size ≤ len
 room_inside size count len whole some k less =
     let up : suc k ≤ count = omega (arith, less) in

@@ -1,4 +1,4 @@
--- The texts of values have bytes of ASCII alone.
+-- The texts of values have only bytes of ASCII.
 use Rattle.std.proofs.Common.{◌≡◌, ℕ, ◌<◌, ◌/◌, ◌%◌, zero, suc, List, [], ◌∷◌, ◌++◌, slice_index, Bool, true, false, cond, ◌==◌, ◌&&◌, not, refl, ◌∙◌, ap, arith, ℤ, pos, negsuc}
 use Rattle.std.specs.Prelude.{nat_lt}
 use Rattle.std.specs.List.{flat_map, list_all, list_any}
@@ -95,7 +95,7 @@ quoted_utf8 bytes = IsUtf8-from_ascii (quoted_text bytes) (λ i. byte_ascii (quo
 pub utf8_from_ascii : (text : List ℕ) → is_ascii text ≡ true → IsUtf8 text
 utf8_from_ascii text h = IsUtf8-from_ascii text (λ i. byte_ascii text i h)
 
--- a quoted text after two texts and before another
+-- a quoted text behind two texts and in front of another
 pub between_utf8 : (name opening bytes closing : List ℕ) → IsUtf8 name → IsUtf8 opening → IsUtf8 closing → IsUtf8 (repr_of (name ++ opening) bytes closing)
 between_utf8 name opening bytes closing h k l =
     IsUtf8-append ((name ++ opening) ++ quoted_text bytes) closing

@@ -1,4 +1,4 @@
--- Equality of values is being the same where truth values are counted.
+-- Two values are equal exactly if they are the same after their truth values are counted.
 use Rattle.std.proofs.Common.{◌≡◌, Bool, true, false, List, [], ◌∷◌, ◌&&◌, map, refl, ap, sym, ◌∙◌, subst}
 use Rattle.std.specs.Bool.{Decides}
 use Rattle.std.proofs.lemmas.Bool.{false≢true}
@@ -72,7 +72,7 @@ items_decided (item.Many ss) (item.One t) = (λ h. absurd (false≢true h), λ p
 items_decided (item.Many ss) (item.Many ts) =
     (λ h. ap item.Many ((parts_decided ss ts).0 h), λ p. (parts_decided ss ts).1 (ap parts_of_item p))
 
--- ---- both
+-- ---- values and items
 
 pub equality_from : {A : Type 0} (count : A → A) (equal : A → A → Bool) → EqualWhereTheSame count equal → IsEquality equal
 equality_from count equal decided = record {

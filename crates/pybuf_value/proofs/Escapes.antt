@@ -1,4 +1,5 @@
--- Runs of bytes that stand between quotes as they are, for the proof of the code that copies them.
+-- Runs of bytes that stand between quotes as they are. The proof of the code that copies them uses these
+-- lemmas.
 use Rattle.std.proofs.Common.{◌≡◌, ◌<◌, ◌≤◌, ◌++◌, ◌+◌, ◌-◌, ℕ, List, [], ◌∷◌, true, length, take, drop, slice_index, arith, ap, sym, ◌∙◌}
 use Rattle.std.specs.List.{flat_map}
 use Rattle.std.proofs.Math.Seq.{take-add}
@@ -6,15 +7,15 @@ use Rattle.std.proofs.lemmas.Grind.{flat_map-append}
 use Rattle.std.proofs.lemmas.List.{take_more, get_or-drop, length-drop, append_assoc, append-nil}
 use Rattle.pybuf_value.specs.Quotes.{is_plain, escaped_byte}
 
--- such a byte is its own text
+-- Such a byte is its own text.
 pub plain_is_itself : (quote b : ℕ) → is_plain quote b ≡ true → escaped_byte quote b ≡ b ∷ []
 plain_is_itself quote b plain = grind (arith, plain)
 
--- what stands from one place up to another
+-- the bytes from one place up to another
 abbrev pub between : ℕ → ℕ → List ℕ → List ℕ
 between start i bytes = take (i - start) (drop start bytes)
 
--- one byte more of it
+-- one more byte of them
 pub between_more : (bytes : List ℕ) (start i : ℕ) → start ≤ i → i < length bytes →
     between start (i + 1) bytes ≡ between start i bytes ++ slice_index bytes i ∷ []
 between_more bytes start i le lt =
@@ -24,7 +25,7 @@ between_more bytes start i le lt =
     ap (λ n. take n (drop start bytes)) count ∙ take_more (drop start bytes) (i - start) 0 room
     ∙ ap (λ b. between start i bytes ++ b ∷ []) (get_or-drop start bytes (i - start) 0 ∙ ap (slice_index bytes) place)
 
--- up to its end the bytes are those before it and those of it
+-- The bytes up to the end of a run are those before it and its own.
 pub before_and_between : (bytes : List ℕ) (start i : ℕ) → start ≤ i → take i bytes ≡ take start bytes ++ between start i bytes
 before_and_between bytes start i le =
     let place : i ≡ start + (i - start) = omega (arith, le) in
@@ -34,7 +35,7 @@ before_and_between bytes start i le =
 text_of_one : (f : ℕ → List ℕ) (b : ℕ) → flat_map f (b ∷ []) ≡ f b
 text_of_one f b = append-nil (f b)
 
--- the run goes on by a byte that stands as it is
+-- The run goes on by a byte that stands as it is.
 pub run_goes_on : (quote start i : ℕ) (bytes : List ℕ) → start ≤ i → i < length bytes →
     flat_map (escaped_byte quote) (between start i bytes) ≡ between start i bytes →
     is_plain quote (slice_index bytes i) ≡ true →
@@ -46,11 +47,11 @@ run_goes_on quote start i bytes le lt run plain =
     ap (flat_map (escaped_byte quote)) more ∙ flat_map-append (escaped_byte quote) (between start i bytes) (b ∷ [])
     ∙ ap (λ front. front ++ flat_map (escaped_byte quote) (b ∷ [])) run ∙ ap (λ back. between start i bytes ++ back) text ∙ sym more
 
--- one list behind what is written
+-- One list stands behind what is written.
 onto_written : (old out front back whole : List ℕ) → out ≡ old ++ front → whole ≡ front ++ back → out ++ back ≡ old ++ whole
 onto_written old out front back whole written parts = ap (λ out. out ++ back) written ∙ append_assoc old front back ∙ ap (λ whole. old ++ whole) (sym parts)
 
--- a text by what is written of it, with the run behind it
+-- the text, by what is written of it and the run behind that
 pub written_with_run : (quote start i : ℕ) (bytes old out : List ℕ) → start ≤ i →
     out ≡ old ++ flat_map (escaped_byte quote) (take start bytes) →
     flat_map (escaped_byte quote) (between start i bytes) ≡ between start i bytes →
@@ -62,7 +63,7 @@ written_with_run quote start i bytes old out le written run =
     ∙ ap (λ back. flat_map (escaped_byte quote) (take start bytes) ++ back) run in
     onto_written old out (flat_map (escaped_byte quote) (take start bytes)) (between start i bytes) (flat_map (escaped_byte quote) (take i bytes)) written parts
 
--- a run and a byte behind it are written
+-- A run and the byte behind it are written.
 pub run_is_written : (quote start i : ℕ) (bytes old out : List ℕ) → start ≤ i → i < length bytes →
     out ≡ old ++ flat_map (escaped_byte quote) (take start bytes) →
     flat_map (escaped_byte quote) (between start i bytes) ≡ between start i bytes →
@@ -76,7 +77,7 @@ run_is_written quote start i bytes old out le lt written run =
     onto_written old (out ++ between start i bytes) (flat_map (escaped_byte quote) (take i bytes)) (escaped_byte quote b)
     (flat_map (escaped_byte quote) (take (i + 1) bytes)) front back
 
--- no run waits where the next one begins
+-- No run waits where the next one begins.
 pub no_run : (quote start i : ℕ) (bytes : List ℕ) → start ≡ i →
     flat_map (escaped_byte quote) (between start i bytes) ≡ between start i bytes
 no_run quote start i bytes same =

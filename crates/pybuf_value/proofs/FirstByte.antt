@@ -1,4 +1,4 @@
--- The first place of a byte, by the words of `bstr` and by those of std.
+-- The first place of a byte, as `bstr` and as std name it.
 use Rattle.std.proofs.Common.{◌≡◌, ℕ, ◌<◌, Bool, ◌==◌, List, length, Option, Some, None, arith, tests}
 use Rattle.std.specs.List.{position, position_or_len}
 use Rattle.std.proofs.lemmas.Bool.{false_from_ne_true}

@@ -1,4 +1,4 @@
--- Rust's `==` of values is being the same.
+-- Two values are equal by Rust's `==` exactly if they are the same.
 use Rattle.std.proofs.Common.{◌≡◌, ℕ, Bool, true, false, ◌&&◌, List, refl, ap, sym, ◌∙◌, subst}
 use Rattle.std.specs.Bool.{Decides}
 use Rattle.std.specs.Cmp.Lexicographic.{pointwise}

@@ -1,4 +1,4 @@
--- Reading back a text between quotes.
+-- A text between quotes is read back.
 use Rattle.std.proofs.Common.{◌≡◌, ℕ, ◌<◌, ◌+◌, ◌*◌, ◌/◌, ◌%◌, zero, suc, List, [], ◌∷◌, ◌++◌, slice_index, Bool, true, false, cond, ◌==◌, ◌&&◌, not, refl, ◌∙◌, ap, sym, subst, arith, append_assoc}
 use Rattle.std.specs.Prelude.{Some, None, nat_lt, nat_le}
 use Rattle.std.specs.List.{flat_map, list_any, All}
@@ -36,18 +36,18 @@ digit_read (suc (suc (suc (suc (suc (suc (suc (suc (suc (suc (suc (suc (suc (suc
 digit_read (suc (suc (suc (suc (suc (suc (suc (suc (suc (suc (suc (suc (suc (suc (suc zero))))))))))))))) h = refl
 digit_read (suc (suc (suc (suc (suc (suc (suc (suc (suc (suc (suc (suc (suc (suc (suc (suc k)))))))))))))))) h = absurd (omega (arith, h))
 
--- two tests that fail
+-- Two tests fail.
 third : {A : Type 0} (x y : Bool) (a b c : A) → x ≡ false → y ≡ false → cond x a (cond y b c) ≡ c
 third x y a b c h k = ap (λ t. cond t a (cond y b c)) h ∙ ap (λ t. cond t b c) k
 
 chosen : {A : Type 0} (x : Bool) (a b : A) → x ≡ true → cond x a b ≡ a
 chosen x a b h = ap (λ t. cond t a b) h
 
--- a byte that stands for itself
+-- A byte stands for itself.
 plain_read : (q b : ℕ) (text : List ℕ) → (b == q) ≡ false → (b == 92) ≡ false → read_from q before (b ∷ text) ≡ with_byte b (read_from q before text)
 plain_read q b text h k = third (b == q) (b == 92) (closed text) (read_from q backslash text) (with_byte b (read_from q before text)) h k
 
--- two digits behind `\x`, from their values on
+-- Two digits stand behind `\x`, and their values are known.
 digits_read : (q h l b : ℕ) (text : List ℕ) → digit_value h ≡ b / 16 → digit_value l ≡ b % 16 → b < 256 →
     read_from q hexadecimal (h ∷ l ∷ text) ≡ with_byte b (read_from q before text)
 digits_read q h l b text high low small =
@@ -61,7 +61,7 @@ byte_read q b text small =
     digits_read q (slice_index lower_digits (b / 16)) (slice_index lower_digits (b % 16)) b text
     (digit_read (b / 16) (omega arith)) (digit_read (b % 16) (omega arith)) small
 
--- the tail of the choices of `escaped_byte`
+-- the last choices of `escaped_byte`
 abbrev in_digits : ℕ → List ℕ
 in_digits b = 92 ∷ 120 ∷ slice_index lower_digits (b / 16) ∷ slice_index lower_digits (b % 16) ∷ []
 

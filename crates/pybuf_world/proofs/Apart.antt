@@ -12,7 +12,7 @@ use Rattle.pybuf_world.proofs.Lists.{All-slice_get}
 world_apart : LiveLayoutsLieApart → (w : World) → IsSoundWorld w → HasViewsOfItemsApart w
 world_apart apart w sound i k e layout at found = apart e k layout (All-slice_get IsSpaced w.exporters i e sound.items_lie_apart at) found
 
--- A whole run is the run of its first commands, as many as there are.
+-- The world after a whole run is sound, since the run is that of its first commands, as many as there are.
 whole_sound : RunsStaySound → (commands : List Command) → IsSoundWorld (world_after_all empty_world commands)
 whole_sound stays commands = subst (λ (cs : List Command). IsSoundWorld (world_after_all empty_world cs)) (take-length commands) (stays commands (length commands))
 

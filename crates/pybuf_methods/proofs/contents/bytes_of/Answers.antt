@@ -5,7 +5,7 @@ use Rattle.pybuf_value.specs.Lent.{Lends}
 use Rattle.pybuf_methods.specs.Lent.{Reads}
 use Rattle.pybuf_methods.proofs.contents.bytes_of.Goals as goal
 
--- the parts of a list or a tuple are no handles, so that what is named doesn't matter
+-- The parts of a list or a tuple aren't handles, so it doesn't matter what handles name.
 pub returns-in-Tuple : goal.returns-in-Tuple
 returns-in-Tuple g c =
     subst (λ (v : Value). Lends (bytes_in (g.N.Contents.pairs c.args.names.now) v) c.gathered.result) (sym c.in-Tuple.is)

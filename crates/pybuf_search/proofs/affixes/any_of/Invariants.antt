@@ -4,7 +4,7 @@ use Rattle.pybuf_value.specs.declared.faults.Fault.{Fault}
 use Rattle.pybuf_search.specs.Affixes.{any_of, IsTested, IsAnyOf}
 use Rattle.pybuf_search.proofs.affixes.any_of.Given as goal
 
--- The values that are left decide as all of them do.
+-- The values that are left decide as all values do.
 abbrev pub invariant-loop-part : goal.invariant-loop-part
 invariant-loop-part g l =
     ((test : List ℕ → Bool) → IsTested (goal.F-post g l.predicate) test

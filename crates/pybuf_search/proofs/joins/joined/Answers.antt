@@ -5,7 +5,7 @@ use Rattle.pybuf_value.specs.Halting.{outcome_of, items_of}
 use Rattle.pybuf_value.specs.Texts.{fitted}
 use Rattle.pybuf_search.proofs.joins.joined.Goals as goal
 
--- the bytes of each part are the part
+-- The bytes of each part are the part.
 pub returns : goal.returns
 returns c =
     subst (λ (parts : List (List ℕ)). IfOk c.joined_parts.result (λ outcome. items_of outcome ≡ outcome_of (fitted (owned.joined c.args.separator.now parts)))) (map-id c.args.parts.now) c.joined_parts.ensures

@@ -1,4 +1,4 @@
--- A step of 1, up or down, picks a whole range. The order of the indices changes nothing.
+-- A step of 1, up or down, picks a whole range. It doesn't matter in which order the indices stand.
 use Rattle.std.proofs.Common.{◌≡◌, ◌≢◌, ◌⊎◌, ◌<◌, ◌≤◌, pos, negsuc, length, ap, sym, ◌∙◌, inl, inr, of_z}
 use Rattle.std.specs.Prelude.{FitsSigned, reverse}
 use Rattle.std.proofs.lemmas.Int.{to_z-of_z}

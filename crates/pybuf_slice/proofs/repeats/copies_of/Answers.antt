@@ -1,4 +1,4 @@
--- No items are none, and each round adds the copies of one more list.
+-- If there are no items, there are no copies, and each round adds the copies of one more list.
 use Rattle.std.proofs.Common.{rules, ◌≡◌, ◌+◌, ◌≤◌, [], length, arith, vec_capacity}
 use Rattle.pybuf_slice.proofs.TwinLemmas.{none_repeated, once_more, room_for_more}
 use Rattle.pybuf_slice.proofs.repeats.copies_of.Goals as goal

@@ -1,4 +1,4 @@
--- The copies are turned round with their sources.
+-- The copies are reversed as their sources are.
 use Rattle.std.proofs.Common.{List, reverse, subst, sym}
 use Rattle.std.specs.Prelude.{slice_range}
 use Rattle.std.specs.List.{AllZip}

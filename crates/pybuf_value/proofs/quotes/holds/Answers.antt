@@ -6,7 +6,7 @@ use Rattle.std.proofs.lemmas.List.Folds.{list_any_none, list_any_at}
 use Rattle.std.proofs.lemmas.List.Sums.{passes_at_first, fails_before_first}
 use Rattle.pybuf_value.proofs.quotes.holds.Goals as goal
 
--- a byte is found where one of the bytes is it
+-- A byte is found if one of the bytes is it.
 found-list_any : (test : ℕ → Bool) (bytes : List ℕ) → is_some (position test bytes) ≡ list_any test bytes
 found-list_any test bytes = ⊎_elim there nowhere (cases_lt (position_or_len test bytes) (length bytes))
   where

@@ -1,4 +1,4 @@
--- Numbers at one positive distance rise.
+-- Numbers that lie one positive distance apart rise.
 use Rattle.pybuf_index.proofs.SpanLemmas.{rising-increases}
 use Rattle.pybuf_index.proofs.iter.SaturatedSliceIter.positive_order.Goals as goal
 

@@ -1,4 +1,4 @@
--- The span that the code finds is the slice's, whose indices are those of the slice.
+-- The span that the code finds is the slice's, and its indices are those of the slice.
 use Rattle.std.specs.Int.{w64}
 use Rattle.std.proofs.lemmas.Int.{to_z-of_z}
 use Rattle.pybuf_index.proofs.SpanLemmas.{picks_of_span, count_of_span}

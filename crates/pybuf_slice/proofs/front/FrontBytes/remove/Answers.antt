@@ -1,4 +1,4 @@
--- A range behind the room is taken out, seen without the room.
+-- A range behind the room is taken out.
 use Rattle.std.proofs.Common.{[], length, ap, ◌∙◌, arith, drop, length-drop}
 use Rattle.pybuf_slice.specs.Edits.{replaced_range}
 use Rattle.pybuf_slice.specs.FrontContent.{FrontContent}

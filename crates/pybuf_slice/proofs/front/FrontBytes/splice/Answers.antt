@@ -1,4 +1,4 @@
--- A range behind the room is replaced, seen without the room.
+-- A range behind the room is replaced.
 use Rattle.std.proofs.Common.{◌≡◌, ℕ, ◌+◌, List, length, ap, sym, ◌∙◌, arith, drop, length-drop}
 use Rattle.std.specs.List.{each_same}
 use Rattle.pybuf_slice.specs.Edits.{replaced_range}
