@@ -99,7 +99,7 @@ next_closed bytes now more low size k n to from inside less to_is from_is so_far
     ∙ append_assoc (take low bytes) (pieces_at bytes (run_place low size) size (suc k)) (drop (low + suc k * size) bytes)
     ∙ ap (closed_runs bytes low size) next
 
--- Runs without bytes stay.
+-- Runs without bytes, put end to end, are no bytes.
 no_pieces : (bytes : List ℕ) (from : ℕ → ℕ) (n : ℕ) → pieces_at bytes from 0 n ≡ []
 no_pieces bytes from zero = refl
 no_pieces bytes from (suc n) = append-nil (pieces_at bytes from 0 n) ∙ no_pieces bytes from n

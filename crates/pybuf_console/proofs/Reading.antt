@@ -9,7 +9,6 @@ abbrev pub behind : List Command → Result (List Command) ℕ → Result (List 
 behind read (Ok rest) = Ok (read ++ rest)
 behind read (Err n) = Err n
 
--- As many commands were read as lines. The commands of all lines are these, and then those of the lines that
--- are left.
+-- The commands of all lines are those that were read, and then those of the lines that are left.
 abbrev pub IsRead : List ℕ → List Command → List ℕ → Type 0
 IsRead input read rest = commands_in handle_in input ≡ behind read (commands_from handle_in (length read + 1) (lines rest))

@@ -232,7 +232,7 @@ exact_views law writes r bytes other layout other_layout spelled reads exact sma
 pub one_text : (text other_text : List ℕ) (size : ℕ) → text ≡ other_text → ReadAlike text other_text size
 one_text text other_text size same = λ bytes long. ap (λ (t : List ℕ). item_by t bytes) same
 
--- Items that both texts read as numbers, with one sign and one size, read alike.
+-- The reader reads items of this size as numbers, with or without a sign.
 abbrev ReadsNumbers : Bool → ItemReader → ℕ → Type 0
 ReadsNumbers signed r n = (bytes : List ℕ) → length bytes ≡ n → read_by r bytes ≡ item.One (scalar.Int (number false signed bytes))
 

@@ -40,7 +40,7 @@ stop_clamped_down : (n t u : ℕ) (part : Option ℤ) → n < 2 ^ 63 → stop_of
 stop_clamped_down n t u None h = refl
 stop_clamped_down n t u (Some a) h = adjusted_clamped_down n t u a h
 
--- one stride that passes the end, and another
+-- Two strides that both pass the end give the same run.
 one_step_up : (a b t u : ℕ) → b ≤ suc t → b ≤ suc u → rising a (suc t) (how_many a b (suc t)) ≡ rising a (suc u) (how_many a b (suc u))
 one_step_up a b t u h k =
     elim (cases_lt a b) [

@@ -136,7 +136,7 @@ sum_moves a b c = omega (arith, ints)
 zero_plus : (a : ℤ) → pos 0 +ℤ a ≡ a
 zero_plus a = omega (arith, ints)
 
--- Index i lies i steps after the first.
+-- Pick i lies i steps after the first, here times a stride.
 pub walk_line : (n : ℕ) (step before t : ℤ) (xs : List ℕ) (i : ℕ) → Walks n step before xs → i < length xs → pos i *ℤ (t *ℤ step) +ℤ (before +ℤ step) *ℤ t ≡ pos (get_or xs i 0) *ℤ t
 walk_line n step before t [] i w h = absurd (omega arith)
 walk_line n step before t (x ∷ xs) zero w h =
@@ -151,7 +151,7 @@ pub walk_first : (n : ℕ) (step before : ℤ) (xs : List ℕ) → Walks n step 
 walk_first n step before [] w h = absurd (omega arith)
 walk_first n step before (x ∷ xs) w h = w.1
 
--- If there are two picks, the stride times the step leads no further than from one entry to another.
+-- The second pick lies one step after the first.
 pub walk_two : (n : ℕ) (step before : ℤ) (xs : List ℕ) → Walks n step before xs → 1 < length xs → pos (get_or xs 1 0) ≡ pos (get_or xs 0 0) +ℤ step
 walk_two n step before [] w h = absurd (omega arith)
 walk_two n step before (x ∷ []) w h = absurd (omega arith)

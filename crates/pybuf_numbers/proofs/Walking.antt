@@ -177,7 +177,7 @@ length_rising : (low stride count : ℕ) → length (rising low stride count) �
 length_rising low stride zero = refl
 length_rising low stride (suc count) = ap suc (length_rising (low + stride) stride count)
 
--- how many indices a span has
+-- A span that has indices reaches as far as they do, and has as many places.
 span_count : (low high stride : ℕ) (b : Bool) → ltb low high ≡ b → how_many low high stride ≢ 0 → (low < high) × (((how_many low high stride - 1) * stride ≤ high - low - 1) × (how_many low high stride ≤ high - low))
 span_count low high stride true e some =
     let count : how_many low high stride ≡ (high - low - 1) / stride + 1 = rw e refl in

@@ -15,7 +15,7 @@ use Rattle.pybuf_shaping.specs.Digits.{byte_of_digits, bytes_of_hex}
 use Rattle.pybuf_shaping.specs.HexPairs.{Pair, IsPair, text_of_pair, value_or_0, byte_of_pair, SpellsBytes, LacksDigit, BreaksPair, IsBroken, HexIsReadInPairs}
 use Rattle.pybuf_shaping.proofs.ReadLemmas.{bytes_before, nothing_before, skip, pair, bad}
 
--- These bytes are blanks.
+-- A byte is a blank exactly if the list has it.
 abbrev pub NamesBlanks : Type 0
 NamesBlanks = (b : ℕ) → IsTrue (is_blank b) ↔ Contains the_blanks b
 

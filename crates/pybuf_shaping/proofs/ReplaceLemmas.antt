@@ -1,4 +1,5 @@
--- Bytes in which matches are replaced: they are what stands between the matches, and how long they are.
+-- Bytes in which matches are replaced: what stands between the matches, joined by the new bytes, and how long
+-- that is.
 use Rattle.std.proofs.Common.{◌≡◌, ℕ, zero, suc, ◌+◌, ◌-◌, ◌*◌, ◌^◌, ◌<◌, ◌≤◌, ℤ, pos, negsuc, List, [], ◌∷◌, ◌++◌, length, take, drop, get_or, refl, ap, sym, ◌∙◌, arith}
 use Rattle.std.specs.List.{flat_map}
 use Rattle.std.proofs.Math.Nat.{suc-mul, mul-le-mul_left}

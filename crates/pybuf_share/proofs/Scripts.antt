@@ -23,7 +23,7 @@ all_counted : (h : List Entry) (n : ℕ) → All (λ x. x.session < n) h → man
 all_counted [] n known = many_none (numbers_from 0 n)
 all_counted (x ∷ h) n known = all_counted_by x h n (All-head (λ y. y.session < n) x h known) (all_counted h n (All-tail (λ y. y.session < n) x h known)) (many_more x h 0 n)
 
--- If the sessions have as many entries as their scripts have commands, the sums are the same.
+-- If each session has as many entries as its script has commands, the sums are the same.
 sum_counted : (k : ℕ) (scripts : List (List LocalCommand)) (entries : List Entry) → ((i : ℕ) (script : List LocalCommand) → slice_get scripts i ≡ Some script → length (entries_of (k + i) entries) ≡ length script)
     → many_of entries (numbers_from k (length scripts)) ≡ sum_by length scripts
 sum_counted k [] entries each = refl

@@ -53,7 +53,7 @@ first_of x y xs ys e = ap (λ l. get_or l 0 x) e
 rest_of : {X : Type 0} (x y : X) (xs ys : List X) → x ∷ xs ≡ y ∷ ys → xs ≡ ys
 rest_of x y xs ys e = ap (λ l. drop 1 l) e
 
--- If x is the first of what is left from a place on, it stands at that place.
+-- x stands at a place of the list, and the rest is what is left behind it.
 pub record IsHere {X : Type 0} (xs : List X) (i : ℕ) (x : X) (rest : List X) : Type 0 where
   pub within : i < length xs
   pub read : x ≡ get_or xs i x

@@ -19,7 +19,7 @@ use Rattle.pybuf_table.specs.Chosen.{field_in, has_bytes, has_order, chosen, sel
 use Rattle.pybuf_table_lines.specs.declared.queries.Query.{Query}
 use Rattle.pybuf_table_lines.specs.Queries.{may_compare, may_be_asked}
 
--- the answer for whole records, by whether the query asks for an order of a field of bytes
+-- the answer for whole records, by whether the query may be asked
 abbrev answer_by : Bool → List (ℕ × List Scalar) → Result (List (ℕ × List Scalar)) Fault
 answer_by true rows = Ok rows
 answer_by false rows = Err fault.Kind

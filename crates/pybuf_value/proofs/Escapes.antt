@@ -77,7 +77,7 @@ run_is_written quote start i bytes old out le lt written run =
     onto_written old (out ++ between start i bytes) (flat_map (escaped_byte quote) (take i bytes)) (escaped_byte quote b)
     (flat_map (escaped_byte quote) (take (i + 1) bytes)) front back
 
--- No run waits where the next one begins.
+-- A run that begins here is still empty, so nothing of it waits.
 pub no_run : (quote start i : ℕ) (bytes : List ℕ) → start ≡ i →
     flat_map (escaped_byte quote) (between start i bytes) ≡ between start i bytes
 no_run quote start i bytes same =

@@ -248,7 +248,7 @@ hashed_snap w other bytes h =
 abbrev lent_other : ℕ → Option Loan → Snap → List Lent
 lent_other other o snap = record { handle = other; subject = subject_in o; snap = snap } ∷ []
 
--- What is lent is the other subject.
+-- For the other handle, just what it names is lent.
 all_lent : (w : World) (e : Exporter) (i other : ℕ) (snap : Snap) → slice_get w.exporters i ≡ Some e → snap_for w other ≡ Some snap
     → lents_by e (names_of (loans_for w i other)) (other ∷ []) ≡ lent_other other (names_of (loans_for w i other) other) snap
 all_lent w e i other snap found is =
