@@ -106,7 +106,7 @@ full_groups size (suc count) rest long =
     let more : count * size ≤ length (drop size rest) = omega (arith, long, suc-mul count size, length-drop size rest) in
     All-cons (λ group. length group ≡ size) (take size rest) (groups_of size count (drop size rest)) here (full_groups size count (drop size rest) more)
 
--- All further groups but one byte's lie within the bytes, and one more group covers them.
+-- The further groups have at most all bytes but one, and with one more group they cover the bytes.
 pub within : (size : ℕ) (bytes : List ℕ) → further size bytes * size ≤ length bytes - 1
 within size bytes = omega (arith, div-add-mod' (length bytes - 1) size)
 
