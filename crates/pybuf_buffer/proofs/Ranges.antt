@@ -51,7 +51,7 @@ ranges_are_counted d start layout placed stands =
     ∙ ap (λ (shape : List ℕ). if product shape == 0 then 0 else product (take (length shape - tail_of_strides d.itemsize shape (strides_of d.dims)) shape)) stands.shape
     ∙ ap₂ (λ (size : ℕ) (strides : List ℤ). if product layout.shape == 0 then 0 else product (take (length layout.shape - tail_of_strides size layout.shape strides) layout.shape)) stands.itemsize stands.strides
 
--- ---- where they lie
+-- ---- where
 
 at_in_order : (size : ℕ) (p : ℤ) → (range_at size p).start ≤ (range_at size p).end
 at_in_order size p = omega arith
@@ -63,7 +63,7 @@ if_in_order false size ps = All-map (λ (range : Range ℕ). range.start ≤ ran
 pub ranges_in_order : (d : Descriptor) (start : ℤ) (joined : ℕ) → All (λ (range : Range ℕ). range.start ≤ range.end) (ranges_of d start joined)
 ranges_in_order d start joined = if_in_order (product (shape_of d.dims) == 0) (product (shape_of (joined_dims joined d.dims)) * d.itemsize) (places (outer_dims joined d.dims) start)
 
--- ---- no range is empty
+-- ---- that none is empty
 
 factor : (a b : ℕ) → 0 < a * b → 0 < b
 factor a zero some = absurd (omega (arith, some))

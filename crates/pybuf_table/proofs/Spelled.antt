@@ -126,7 +126,7 @@ codes_allowed o offset (item ∷ items) l are is =
     codes_by o (code_at o offset item) (ltb (offset_after o offset (code_at o offset item)) (2 ^ 63)) (layout_from o (offset_after o offset (code_at o offset item)) items) l are.0
     (λ k e. codes_allowed o (offset_after o offset (code_at o offset item)) items k are.1 e) is
 
--- Each field of a code has that code.
+-- a field of a code has it
 in_row : (c : FormatType) (size offset count k : ℕ) (place : Field) → slice_get (fields_in_row c size offset count) k ≡ Some place → place.code ≡ c
 in_row c size offset zero k place is = absurd cc
 in_row c size offset (suc count) zero place is = let same : record { code = c; offset = offset; length = size } ≡ place = cc in ap (λ (f : Field). f.code) (sym same)
