@@ -60,7 +60,7 @@ class World:
         except NoName:
             return "! NameError"
         except FAULTS as fault:
-            # the class that others stand under is found: a `UnicodeEncodeError` is a `ValueError`
+            # the reply names the kind that the exception falls under: a `UnicodeEncodeError` is a `ValueError`
             return f"! {next(kind for kind in FAULTS if isinstance(fault, kind)).__name__}"
 
     def answer(self, words):
@@ -307,7 +307,7 @@ class AsWritten(World):
 
 
 def as_bytes(found):
-    """The bytes that a value stands for. A view stands for its bytes if it separates two parts."""
+    """A bytearray or a view as bytes, and any other value as it is. So a view that separates two parts stands for its bytes."""
     return bytes(found) if isinstance(found, (bytearray, memoryview)) else found
 
 
@@ -323,7 +323,7 @@ def written(found):
 
 
 def without_address(shown):
-    """A text without its address, which is another one in each run."""
+    """A text with `..` in place of an address, which is another one in each run."""
     return re.sub("(?<= at )0x[0-9a-f]+", "..", shown)
 
 

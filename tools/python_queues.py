@@ -38,8 +38,8 @@ class Queue:
         self.queues, self.live = [], []
 
     def ask(self, line):
-        """Carries a line out. One on which we differ, since it is refused while a view lives and asks for no other
-        length in Python, changes nothing and isn't kept."""
+        """Carries a line out. We differ on a line that is refused here while a view lives, though it asks for no other
+        length in Python. Such a line changes nothing and isn't kept."""
         reply = self.python.reply(line)
         if self.plain is self.python or self.plain.reply(line) == reply:
             self.lines.append(line)

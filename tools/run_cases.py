@@ -53,13 +53,13 @@ LIMIT = 1_048_576
 # This is many times what the program needs for any input here, and less than three dozen lists of a million places take.
 ADDRESS_SPACE = 256 * 1024 * 1024
 DONE, BAD_LINE, NO_MEMORY, USAGE, TOO_LONG, BAD_DATA = 0, 2, 3, 6, 7, 9
-# In the first commands the third one finds no memory, and in the second ones the reply to the third finds none.
+# In both inputs only the third command runs out of memory. In the first it finds none, in the second its reply does.
 GREATER = b"new bytearray x61\nget h0 0\ncall h0 mul 60000000000\nget h0 0\n"
 LONGER = b"new bytearray 15000000\nget h0 0\nbytes h0\nget h0 0\n"
 
 # `address_space` is how many bytes the process may map, or None for no such limit.
-# `written` is None where only the checker of sessions says what may come.
-# `complaint` is what has to come on standard error, or None where tools/complaints.py says it.
+# `written` is None if only the checker of sessions says what may come.
+# `complaint` is what has to come on standard error, or None if tools/complaints.py says it.
 Case = collections.namedtuple("Case", "name given written status words address_space complaint", defaults=((), None, None))
 # `faults` are what is wrong with the folder itself.
 Folder = collections.namedtuple("Folder", "name cases faults")
