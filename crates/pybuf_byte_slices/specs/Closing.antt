@@ -6,7 +6,7 @@ use Rattle.pybuf_strided.specs.Apart.{pieces_at}
 abbrev pub run_place : ℕ → ℕ → ℕ → ℕ
 run_place low size k = suc low + k * suc size
 
--- The bytes after so many runs of one size, each behind one byte that is to be taken out, have moved down to a place,
--- one run after the other. The bytes behind the moved runs are as they were.
+-- The bytes after this many runs of one size have moved down to a place, one run after the other. Before each run stood
+-- one byte that is to be taken out. The bytes behind the moved runs are as they were.
 abbrev pub closed_runs : List ℕ → ℕ → ℕ → ℕ → List ℕ
 closed_runs bytes low size count = take low bytes ++ (pieces_at bytes (run_place low size) size count ++ drop (low + count * size) bytes)

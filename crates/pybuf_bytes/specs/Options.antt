@@ -13,7 +13,7 @@ use Rattle.pybuf_value.specs.Snaps.{bytes_in}
 
 -- ---- a source alone
 
--- a size is at least 0, and asks for so many zero bytes
+-- a size is at least 0, and asks for this many zero bytes
 abbrev pub zeros_of : ℤ → Result (List ℕ) Fault
 zeros_of (pos n) = Ok (replicate n 0)
 zeros_of (negsuc n) = Err fault.Value

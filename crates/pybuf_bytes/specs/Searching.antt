@@ -102,7 +102,7 @@ concat_of pairs other bytes = do
   operand ← operand_in pairs other
   fitted (bytes ++ operand)
 
--- the bytes, repeated so many times
+-- the bytes, repeated this many times
 abbrev pub repeated_of : ℤ → List ℕ → Result (List ℕ) Fault
 repeated_of n bytes = fitted (repeated (times n) bytes)
 

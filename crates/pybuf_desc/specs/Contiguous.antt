@@ -3,7 +3,7 @@ use Rattle.std.specs.Prelude.{ℕ, ◌+◌, ◌*◌, Bool, List, [], ◌∷◌, 
 use Rattle.std.specs.List.{range_with_len}
 use Rattle.pybuf_desc.specs.Layouts.{Layout}
 
--- so many places from the first of the given ones on, each `size` after the one before it; none if none is given
+-- this many places from the first of the given ones on, each `size` after the one before it; none if none is given
 abbrev pub starts_from : List ℕ → ℕ → ℕ → List ℕ
 starts_from [] size count = []
 starts_from (first ∷ starts) size count = map (λ k. first + k * size) (range_with_len 0 count)

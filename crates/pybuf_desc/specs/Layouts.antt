@@ -50,6 +50,6 @@ bytes_layout count readonly =
       readonly = readonly;
     }
 
--- one dimension of so many bytes from a place on
+-- one dimension of this many bytes from a place on
 abbrev pub bytes_layout_from : ℕ → ℕ → Bool → Layout
 bytes_layout_from start count readonly = record (bytes_layout count readonly) { starts = range_with_len start count }

@@ -5,7 +5,7 @@ use Rattle.std.specs.declared.ops.Range.{Range}
 use Rattle.pybuf_strided.specs.Apart.{place_of}
 use Rattle.pybuf_desc.specs.declared.line.SegmentLine.{SegmentLine}
 
--- range k of a line: it has so many bytes, and lies k steps above the start or below it
+-- range k of a line: it has this many bytes, and lies k steps above the start or below it
 abbrev pub range_on : Bool → ℕ → ℕ → ℕ → ℕ → Range ℕ
 range_on falls start step size k = record { start = place_of falls start step k; end = place_of falls start step k + size }
 

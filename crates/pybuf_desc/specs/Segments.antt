@@ -9,7 +9,7 @@ use Rattle.pybuf_desc.specs.Places.{places}
 use Rattle.pybuf_desc.specs.Positions.{offset_of, number_of_item}
 use Rattle.pybuf_desc.specs.Valid.{IsInside}
 
--- the range of so many bytes from a place on
+-- the range of this many bytes from a place on
 abbrev pub range_at : ℕ → ℤ → Range ℕ
 range_at size place = record { start = nat_abs place; end = nat_abs place + size }
 
@@ -17,14 +17,14 @@ range_at size place = record { start = nat_abs place; end = nat_abs place + size
 abbrev pub joined_count : Descriptor → Bool → ℕ
 joined_count d join = if join then tail_of d else 0
 
--- so many of the last dimensions; the outer dimensions are those before them
+-- this many of the last dimensions; the outer dimensions are those before them
 abbrev pub joined_dims : ℕ → List (ℕ × ℤ × ℤ) → List (ℕ × ℤ × ℤ)
 joined_dims joined dims = drop (length dims - joined) dims
 
 abbrev pub outer_dims : ℕ → List (ℕ × ℤ × ℤ) → List (ℕ × ℤ × ℤ)
 outer_dims joined dims = take (length dims - joined) dims
 
--- The ranges of a walk that joins so many of the last dimensions. There is one for each place of the dimensions before
+-- The ranges of a walk that joins this many of the last dimensions. There is one for each place of the dimensions before
 -- them, row-major. It has as many bytes as the items of the joined dimensions have. Without items there is no range.
 abbrev pub ranges_of : Descriptor → ℤ → ℕ → List (Range ℕ)
 ranges_of d start joined =

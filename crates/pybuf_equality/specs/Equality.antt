@@ -10,7 +10,7 @@ use Rattle.pybuf_memoryview.specs.Items.{item_by}
 
 -- ---- the items of what a handle names
 
--- the items that content is read as, in order: so many of them, of one format and its size
+-- the items that content is read as, in order: this many of them, of one format and its size
 abbrev pub items_cut : List ℕ → ℕ → ℕ → List ℕ → List Item
 items_cut format size zero content = []
 items_cut format size (suc n) content = item_by format (take size content) ∷ items_cut format size n (drop size content)

@@ -11,7 +11,7 @@ use Rattle.pybuf_desc.specs.SegmentLines.{ranges_of_line}
 use Rattle.pybuf_memoryview.specs.Readers.{read_by}
 use Rattle.pybuf_memoryview.specs.declared.readers.ItemReader.{ItemReader}
 
--- a range lies among so many bytes
+-- a range lies among this many bytes
 pub record IsPart (room : ℕ) (range : Range ℕ) : Type 0 where
   pub forward : range.start ≤ range.end
   pub inside : range.end ≤ room

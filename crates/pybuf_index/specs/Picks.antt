@@ -36,7 +36,7 @@ stop_of n (Some part) step = adjusted_part n step part
 abbrev pub comes_before : ℤ → ℤ → ℤ → Bool
 comes_before index stop step = if is_negative step then int_lt stop index else int_lt index stop
 
--- the index, the index plus the step, and so on, as long as they come before the stop; at most so many
+-- the index, the index plus the step, and so on, as long as they come before the stop; at most this many
 abbrev pub steps_to : ℕ → ℤ → ℤ → ℤ → List ℕ
 steps_to zero index stop step = []
 steps_to (suc most) index stop step =

@@ -3,7 +3,7 @@ use Rattle.std.specs.Prelude.{ℕ, zero, suc, ◌+◌, ◌-◌, ◌*◌, ◌/◌
 use Rattle.pybuf_index.specs.Picks.{is_negative, start_of, stop_of, steps_to}
 use Rattle.pybuf_index.specs.Parts.{SliceParts}
 
--- so many numbers, from the lowest up, one stride apart
+-- this many numbers, from the lowest up, one stride apart
 abbrev pub rising : ℕ → ℕ → ℕ → List ℕ
 rising low stride zero = []
 rising low stride (suc count) = low ∷ rising (low + stride) stride count
@@ -43,7 +43,7 @@ picks_in_span low high step =
     then steps_to (high - low) (pos high +ℤ negsuc 0) (pos low +ℤ negsuc 0) step
     else steps_to (high - low) (pos low) (pos high) step
 
--- the least number of a run of so many indices in a span: where they fall, the last of them
+-- the least number of a run of this many indices in a span; if they fall, it is the last of them
 abbrev pub run_low : Bool → ℕ → ℕ → ℕ → ℕ → ℕ
 run_low falls low high stride count = if falls then high - 1 - (count - 1) * stride else low
 

@@ -16,7 +16,7 @@ next_run bytes = stripped_left is_blank bytes
 abbrev pub next_blank : List ℕ → List ℕ
 next_blank bytes = drop (position_or_len is_blank bytes) bytes
 
--- what stands behind the first so many runs, from the next run on
+-- what stands behind this many runs at the front, from the next run on
 abbrev pub after_runs : ℕ → List ℕ → List ℕ
 after_runs zero bytes = next_run bytes
 after_runs (suc n) bytes = after_runs n (next_blank (next_run bytes))
@@ -26,11 +26,11 @@ abbrev pub part_if_any : List ℕ → List (List ℕ)
 part_if_any [] = []
 part_if_any (b ∷ rest) = (b ∷ rest) ∷ []
 
--- the first so many runs, and then the rest of the bytes as the last part
+-- this many runs from the front, and then the rest of the bytes as the last part
 abbrev pub runs_up_to : ℕ → List ℕ → List (List ℕ)
 runs_up_to n bytes = take n (runs bytes) ++ part_if_any (after_runs n bytes)
 
--- the parts if bytes are cut from the left, at most so many times; a negative number is no bound
+-- the parts if bytes are cut from the left, at most this many times; a negative number is no bound
 abbrev pub blank_parts : ℤ → List ℕ → List (List ℕ)
 blank_parts (pos n) bytes = runs_up_to n bytes
 blank_parts (negsuc n) bytes = runs bytes

@@ -12,7 +12,7 @@ abbrev pub is_byte_format : List ℕ → Bool
 is_byte_format (b ∷ []) = b == byte "B"
 is_byte_format _ = false
 
--- whether a shape is one dimension of so many entries
+-- whether a shape is one dimension of this many entries
 abbrev pub is_row_of : ℕ → List ℕ → Bool
 is_row_of count (n ∷ []) = n == count
 is_row_of count _ = false

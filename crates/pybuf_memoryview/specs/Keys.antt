@@ -27,7 +27,7 @@ part_number part = result_unwrap_or (number_in part) (pos 0)
 abbrev pub fits_word : Scalar → Bool
 fits_word part = is_word (part_number part)
 
--- The number of the item at these indices, of which each dimension has one. Each entry counts as many items as the
+-- The number of the item at these indices, with one index for each dimension. Each entry counts as many items as the
 -- later dimensions have.
 abbrev pub item_at_indices : List ℕ → List ℤ → Result ℕ Fault
 item_at_indices (n ∷ shape) (index ∷ indices) = do

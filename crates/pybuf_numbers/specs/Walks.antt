@@ -7,7 +7,7 @@ abbrev pub next_of : Bool → ℕ → ℕ → ℕ
 next_of true start stride = start - stride
 next_of false start stride = start + stride
 
--- so many indices, from the first one on
+-- this many indices, from the first one on
 abbrev pub walk : Bool → ℕ → ℕ → ℕ → List ℕ
 walk falls start stride zero = []
 walk falls start stride (suc count) = start ∷ walk falls (next_of falls start stride) stride count

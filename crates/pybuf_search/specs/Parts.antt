@@ -4,7 +4,7 @@ use Rattle.bstr.specs.Text.{split_at, rsplit_at}
 use Rattle.pybuf_search.specs.Matches.{matches_from_left, matches_from_right}
 use Rattle.pybuf_search.specs.Places.{first_place, last_place}
 
--- the matches at which bytes are cut: so many of them, and all if the greatest number is negative
+-- the matches at which bytes are cut: this many of them, and all of them if the number is negative
 abbrev pub cuts : ℤ → List ℕ → List ℕ
 cuts (pos most) matches = take most matches
 cuts (negsuc _) matches = matches

@@ -10,7 +10,7 @@ use Rattle.pybuf_letters.specs.Classes.{is_blank}
 
 -- ---- groups
 
--- so many groups of one size, one after another
+-- this many groups of one size, one after another
 abbrev pub groups_of : ℕ → ℕ → List ℕ → List (List ℕ)
 groups_of size zero bytes = []
 groups_of size (suc count) bytes = take size bytes ∷ groups_of size count (drop size bytes)

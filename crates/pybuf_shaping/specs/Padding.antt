@@ -7,7 +7,7 @@ abbrev pub missing : ℤ → List ℕ → ℕ
 missing (pos width) bytes = width - length bytes
 missing (negsuc _) bytes = 0
 
--- bytes between fill bytes, so many on each side
+-- bytes between fill bytes, this many on each side
 abbrev pub padded : ℕ → ℕ → ℕ → List ℕ → List ℕ
 padded left right fill bytes = replicate left fill ++ bytes ++ replicate right fill
 

@@ -39,7 +39,7 @@ abbrev pub IsRisingFrom : ℕ → List ℕ → Type 0
 IsRisingFrom n [] = ⊤
 IsRisingFrom n (i ∷ indices) = (n ≤ i) × IsRisingFrom (suc i) indices
 
--- the list, repeated so many times
+-- the list, repeated this many times
 abbrev pub repeated_list : {X : Type 0} → ℕ → List X → List X
 repeated_list zero items = []
 repeated_list (suc n) items = items ++ repeated_list n items
@@ -94,7 +94,7 @@ times_that_fit length n = if nat_lt (length * times n) (2 ^ 63) then Some (times
 abbrev pub fits_answer : ℕ → Outcome (Unit {0})
 fits_answer total = if nat_lt total (2 ^ 63) then outcome.Done tt else outcome.Refused fault.Overflow
 
--- the list, repeated so many times; refused if it would be longer than `isize::MAX`
+-- the list, repeated this many times; refused if it would be longer than `isize::MAX`
 abbrev pub repeat_answer : {X : Type 0} → List X → ℤ → Outcome (List X)
 repeat_answer items n = if nat_lt (length items * times n) (2 ^ 63) then outcome.Done (repeated_list (times n) items) else outcome.Refused fault.Overflow
 

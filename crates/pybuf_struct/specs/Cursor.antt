@@ -6,7 +6,7 @@ use Rattle.pybuf_struct.specs.declared.cursor.Cursor.{Cursor}
 use Rattle.pybuf_struct.specs.declared.cursor.FieldPlace.{FieldPlace}
 use Rattle.pybuf_struct.specs.Formats.{Code, Field, extent, fields_in_row, fields_from}
 
--- so many fields of one code, and then the fields of further codes
+-- this many fields of one code, and then the fields of further codes
 abbrev pub fields_left : Endianness → FormatType → ℕ → ℕ → ℕ → List Code → List Field
 fields_left o code length left offset codes = fields_in_row code length offset left ++ fields_from o (offset + left * length) codes
 

@@ -16,11 +16,11 @@ abbrev pub unsigned_number : Bool → List ℕ → ℕ
 unsigned_number true bytes = big_endian bytes
 unsigned_number false bytes = little_endian 0 bytes
 
--- whether n, as a number of so many bytes, has 1 as its first binary digit
+-- whether n, as a number of this many bytes, has 1 as its first binary digit
 abbrev pub has_top_bit : ℕ → ℕ → Bool
 has_top_bit len n = nat_le (256 ^ len) (2 * n)
 
--- n as a number of so many bytes, which is in two's complement if it is signed
+-- n as a number of this many bytes, which is in two's complement if it is signed
 abbrev pub signed_as : Bool → ℕ → ℕ → ℤ
 signed_as signed len n = if signed && has_top_bit len n then pos n -ℤ pos (256 ^ len) else pos n
 

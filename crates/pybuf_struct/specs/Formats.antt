@@ -126,7 +126,7 @@ format_after_prefix o text = do
   layout ← layout_from o 0 items
   Some (record { order = o; codes = layout.0; size = layout.1 })
 
--- the format that a text spells; `StructError` where it spells none
+-- the format that a text spells; a text that spells none is refused with `StructError`
 abbrev pub format_of : List ℕ → Result Format Fault
 format_of text = ok_or (format_after_prefix (prefix_of text).0 (prefix_of text).1) fault.Struct
 
@@ -138,7 +138,7 @@ pub record Field : Type 0 where
   pub offset : ℕ
   pub length : ℕ
 
--- so many fields of one size, one after another
+-- this many fields of one size, one after another
 abbrev pub fields_in_row : FormatType → ℕ → ℕ → ℕ → List Field
 fields_in_row c size offset zero = []
 fields_in_row c size offset (suc n) = record { code = c; offset = offset; length = size } ∷ fields_in_row c size (offset + size) n

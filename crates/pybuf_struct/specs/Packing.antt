@@ -17,19 +17,19 @@ use Rattle.pybuf_struct.specs.Formats.{Format, Field, fields}
 
 -- ---- numbers
 
--- whether a number fits in so many bytes, either signed or not
+-- whether a number fits in this many bytes, either signed or not
 abbrev pub is_in_range : Bool → ℕ → ℤ → Bool
 is_in_range true size (pos n) = nat_lt (2 * n) (256 ^ size)
 is_in_range true size (negsuc n) = nat_lt (2 * n) (256 ^ size)
 is_in_range false size (pos n) = nat_lt n (256 ^ size)
 is_in_range false size (negsuc n) = false
 
--- a number as it stands in so many bytes; a negative one is in two's complement
+-- a number as it stands in this many bytes; a negative one is in two's complement
 abbrev pub complement_of : ℕ → ℤ → ℕ
 complement_of size (pos n) = n
 complement_of size (negsuc n) = 256 ^ size - suc n
 
--- the digits of a number in base 256, so many of them, either big-endian or little-endian
+-- the digits of a number in base 256, this many of them, either big-endian or little-endian
 abbrev pub digits_of : Bool → ℕ → ℕ → List ℕ
 digits_of true size n = bytes_high_first size n
 digits_of false size n = bytes_low_first 0 size n
@@ -49,7 +49,7 @@ truth_byte (scalar.Int (pos zero)) = Ok 0
 truth_byte (scalar.Int _) = Ok 1
 truth_byte _ = Err fault.Kind
 
--- so many bytes: the first ones, or all of them and then zeros
+-- this many bytes: the first ones, or all of them and then zeros
 abbrev pub fitted_to : ℕ → List ℕ → List ℕ
 fitted_to n bytes = take n bytes ++ replicate (n - length bytes) 0
 

@@ -49,7 +49,7 @@ numeric_alone None = None
 abbrev pub numeric_code : List ℕ → Option FormatType
 numeric_code text = numeric_alone (single_code text)
 
--- whether there is such a code, and its values take so many bytes
+-- whether there is such a code, and its values take this many bytes
 abbrev pub is_as_long : Option FormatType → ℕ → Bool
 is_as_long (Some c) n = n == size_of order.Native c
 is_as_long None n = false

@@ -35,8 +35,8 @@ is_order op.Eq = false
 is_order op.Ne = false
 is_order _ = true
 
--- The order of two values without parts. Two numbers have one, where a truth value counts as 0 or 1, and so have two
--- bytes values and two texts. No other two values have one.
+-- The order of two values without parts. Two numbers have one, and a truth value counts as the number 0 or 1. Two bytes
+-- values have one, and so have two texts. No other two values have one.
 abbrev pub order_of_scalars : Scalar → Scalar → Result Ordering Fault
 order_of_scalars (scalar.Text left) (scalar.Text right) = Ok (order_of left right)
 order_of_scalars (scalar.Bytes left) (scalar.Bytes right) = Ok (order_of left right)
